@@ -36,7 +36,8 @@ pub fn escapes_agree()
         unescaped (92 ∷ (d ∷ (ds ++ rest))) ≡ escape_value (Octal d ds) ∷ unescaped rest }
     ensures letters { (c : ℕ) (byte : ℕ) (rest : List ℕ) → letter_escape c ≡ Some byte →
         (unescaped (92 ∷ (c ∷ rest)) ≡ byte ∷ unescaped rest) × (escape_value (Letter c) ≡ byte) }
-    ensures others { (c : ℕ) (rest : List ℕ) → letter_escape c ≡ None → is_octal c ≡ false → c ≢ 10 →
+    ensures others { (c : ℕ) (rest : List ℕ)
+        → letter_escape c ≡ None → is_octal c ≡ false → c ≢ 10 →
         (unescaped (92 ∷ (c ∷ rest)) ≡ 92 ∷ (c ∷ unescaped rest)) × (escape_value (Letter c) ≡ c) }
 {}
 

@@ -75,6 +75,10 @@ item_depth (When p ss) = max (pattern_depth p) (stmts_depth ss)
 item_depth (Lone p) = pattern_depth p
 item_depth Nothing = 0
 
+-- a script that is read has at most this depth
+abbrev pub most_depth : ℕ
+most_depth = 1000
+
 abbrev pub script_depth : List Item → ℕ
 script_depth [] = 0
 script_depth (i ∷ is) = max (item_depth i) (script_depth is)

@@ -15,6 +15,6 @@ pub use shape::{
     level, may_begin, suits, takes,
 };
 pub use tree::{
-    AssignOp, BinaryOp, Builtin, Expr, Item, Jump, Leaving, Pattern, PrintArgs, PrintTarget,
-    PrintWord, Script, SimpleStmt, StepOp, Stmt, UnaryOp,
+    AssignOp, BinaryOp, Builtin, Expr, Item, Jump, Leaving, MAX_DEPTH, Pattern, PrintArgs,
+    PrintTarget, PrintWord, Script, SimpleStmt, StepOp, Stmt, UnaryOp,
 };

@@ -181,6 +181,9 @@ pub enum Item {
     Empty,
 }
 
+/// How deep a script is at most that is read.
+pub const MAX_DEPTH: u32 = 1_000;
+
 /// A script: its items in order.
 #[derive(Drop)]
 pub struct Script {

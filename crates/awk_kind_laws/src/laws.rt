@@ -13,8 +13,9 @@ pub fn one_set()
 
 /// Whatever sets are the least of both kinds: a script is refused, and its names have their kinds, by these.
 pub fn kinds_are_sets()
-    ensures refusal { (script : List Item) (arrays scalars : Key → Bool) → AreUsedAs Array script arrays → AreUsedAs Scalar script scalars →
-        refusal script ≡ refusal_by arrays scalars script }
+    ensures refusal { (script : List Item) (arrays scalars : Key → Bool)
+        → AreUsedAs Array script arrays → AreUsedAs Scalar script scalars
+        → refusal script ≡ refusal_by arrays scalars script }
     ensures names { (script : List Item) (arrays : Key → Bool) → AreUsedAs Array script arrays
         → resolved script ≡ names_by arrays script }
 {}

@@ -137,10 +137,17 @@ abbrev pub first : (Mark → Option (List ℕ)) → List Mark → Option (List �
 first p [] = None
 first p (m ∷ ms) = or_else (p m) (first p ms)
 
--- a function after 1,000 others, or one of more than 100 parameters; so many stand before
+-- so many functions a script has at most, and so many parameters a function
+abbrev pub most_functions : ℕ
+most_functions = 1000
+
+abbrev pub most_parameters : ℕ
+most_parameters = 100
+
+-- a function after the most there may be, or one of too many parameters; so many stand before
 abbrev pub too_many : (before : ℕ) → List Head → Option (List ℕ)
 too_many n [] = None
-too_many n (h ∷ hs) = or_else (only_if (nat_le 1000 n || nat_lt 100 (length h.parameters)) h.name) (too_many (n + 1) hs)
+too_many n (h ∷ hs) = or_else (only_if (nat_le most_functions n || nat_lt most_parameters (length h.parameters)) h.name) (too_many (n + 1) hs)
 
 -- A name stands for two things: two functions, two parameters of a function, a special variable and a function or parameter, or a function and a
 -- parameter or variable.

@@ -1,7 +1,7 @@
 -- What the parser answers.
 use Rattle.std.specs.Prelude.{◌≡◌, ℕ, ◌≤◌, Option, Some, None, List}
 use Rattle.awk_tokens.specs.Cutting.{Spelled}
-use Rattle.awk_grammar.specs.Item.{Item, script_depth}
+use Rattle.awk_grammar.specs.Item.{Item, most_depth, script_depth}
 use Rattle.awk_grammar.specs.TreeOf.{IsTreeOf}
 use Rattle.awk_parse.specs.Scan.{scan}
 use Rattle.awk_parse.specs.Jumps.{script_jumps, jump_lines, first_misplaced}
@@ -12,10 +12,10 @@ use Rattle.awk_parse.specs.declared.fault.ParseFault.TheVariants.{LeftOut, NotWh
 abbrev pub misplaced : List Item → List Spelled → Option ℕ
 misplaced script tokens = first_misplaced (script_jumps script) (jump_lines tokens)
 
--- the tokens are those of this well-formed script, of depth at most 1,000
+-- the tokens are those of this well-formed script, which is not too deep
 pub record IsRead (tokens : List Spelled) (script : List Item) : Type 0 where
   pub tree : IsTreeOf tokens script
-  pub small : script_depth script ≤ 1000
+  pub small : script_depth script ≤ most_depth
 
 -- the script that the tokens have, where nothing is wrong with them
 pub record IsParsed (tokens : List Spelled) (script : List Item) : Type 0 where
@@ -28,7 +28,7 @@ pub record HasNoTree (tokens : List Spelled) : Type 0 where
   pub whole : scan tokens ≡ None
   pub none : (script : List Item) → IsTreeOf tokens script → ⊥
 
--- the tokens have no script of depth at most 1,000
+-- the tokens have no script that is not too deep
 pub record HasNoSmallTree (tokens : List Spelled) : Type 0 where
   pub whole : scan tokens ≡ None
   pub none : (script : List Item) → IsRead tokens script → ⊥

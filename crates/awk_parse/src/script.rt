@@ -2,7 +2,7 @@
 
 ghost use Rattle.std.specs.Prelude.{◌≡◌, IfOk, IfErr, IfSome, MatchResult, List, map};
 ghost use Rattle.awk_tokens.specs.Views.{spelled};
-ghost use Rattle.awk_grammar.specs.Item.{Item};
+ghost use Rattle.awk_grammar.specs.Item.{Item, most_depth};
 ghost use Rattle.awk_grammar.specs.ReadItem.{script_at};
 ghost use Rattle.awk_grammar.specs.ViewStmt.{view_script};
 ghost use Rattle.awk_expressions.specs.Seen.{seen, Gives};
@@ -20,7 +20,7 @@ use std::alloc::Global;
 
 /// The tree of a script, jumps aside.
 fn tree(alloc: Global, tokens: &[Token<'_>]) -> Result<Script, Refusal>
-    ensures { Gives view_script result (script_at 1000 (seen tokens.now)) }
+    ensures { Gives view_script result (script_at most_depth (seen tokens.now)) }
 {
     Ok(Script {
         items: items(alloc, tokens)?,
@@ -45,7 +45,8 @@ fn line_at(place: Option<usize>, tokens: &[Token<'_>]) -> usize
 /// In this order: the first token, by its place, that begins something left out ([`ParseFault::LeftOut`]) or is a number that is not whole
 /// (`NotWhole`) or outside -2^53 to 2^53 (`ConstantRange`); `Syntax` where the tokens have no script at all, `TooDeep` where they have none
 /// within the depth, each with the line of the token at which reading stopped, or of the last; `Misplaced`, with the line of the first `next` or
-/// `nextfile` in `BEGIN` or `END`, `break` or `continue` outside a loop, or `return` outside a function; `NoMemory` at any point, and only where memory was refused.
+/// `nextfile` in `BEGIN` or `END`, `break` or `continue` outside a loop, or `return` outside a function; `NoMemory` at any point, and only where memory was
+/// refused.
 #[tactic(auto, using(crate::proofs::Parsing::refused_by_scan, crate::proofs::Parsing::parsed_of, crate::proofs::Parsing::same_script, crate::proofs::Parsing::no_tree, crate::proofs::Parsing::no_small_tree, crate::proofs::Parsing::is_misplaced, crate::proofs::Parsing::not_parsed, crate::proofs::Parsing::not_scanned, crate::proofs::Parsing::not_placed))]
 pub fn parse(alloc: Global, tokens: &[Token<'_>]) -> Result<Script, ParseFault>
     ensures parsed { IfOk result (λ s. IsParsed (map spelled tokens.now) (view_script s)) }

@@ -52,7 +52,8 @@ impl fmt::Display for Name {
     }
 }
 
-/// Why a script is refused for its names. It is shown as its name and the name that it carries, as `KindClash x`. Each refusal is for the first place in the script, and comes only where none before it in this list does.
+/// Why a script is refused for its names. It is shown as its name and the name that it carries, as `KindClash x`. Each refusal is for the first place in the
+/// script, and comes only where none before it in this list does.
 #[derive(Debug, Drop, Error)]
 pub enum ResolveFault {
     /// A function after 1,000 others, or one of more than 100 parameters.

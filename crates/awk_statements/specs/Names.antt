@@ -1,7 +1,7 @@
 -- Parameters and items that were read, and the tokens behind them.
 use Rattle.std.specs.Prelude.{ℕ, List, [], ◌∷◌, ◌++◌, Result, Ok}
 use Rattle.awk_grammar.specs.Token.{Token}
-use Rattle.awk_grammar.specs.Item.{Item, Function}
+use Rattle.awk_grammar.specs.Item.{Item, Function, most_depth}
 use Rattle.awk_grammar.specs.Reading.{◌>>=◌, close_at, name_at}
 use Rattle.awk_grammar.specs.ReadStmt.{Read}
 use Rattle.awk_grammar.specs.ReadItem.{body_at, item_at}
@@ -23,11 +23,11 @@ one_name front ts = name_at ts >>= λ x. Ok (front ++ (x.0 ∷ []), x.1)
 
 -- a function, from behind its parameters
 abbrev pub defined_at : List ℕ → List (List ℕ) → List Token → Read Item
-defined_at n ps ts = close_at ts >>= λ us. body_at 1000 us >>= λ x. Ok (Function n ps x.0, x.1)
+defined_at n ps ts = close_at ts >>= λ us. body_at most_depth us >>= λ x. Ok (Function n ps x.0, x.1)
 
 abbrev pub seen_items : ItemsRead → List Item × List Token
 seen_items x = (view_items x.items.items, seen x.rest.now)
 
 -- items and one more
 abbrev pub one_item : List Item → List Token → Read (List Item)
-one_item front ts = item_at 1000 ts >>= λ x. Ok (front ++ (x.0 ∷ []), x.1)
+one_item front ts = item_at most_depth ts >>= λ x. Ok (front ++ (x.0 ∷ []), x.1)

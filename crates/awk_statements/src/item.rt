@@ -2,6 +2,7 @@
 
 ghost use Rattle.std.specs.Prelude.{◌≡◌, ◌∷◌, [], Ok, true, length, map};
 ghost use Rattle.awk_tokens.specs.Views.{spelled};
+ghost use Rattle.awk_grammar.specs.Item.{most_depth};
 ghost use Rattle.awk_grammar.specs.Lexeme.{spoken_after};
 ghost use Rattle.awk_grammar.specs.ReadItem.{body_at, names_at, params_at, function_at, function_by, pattern_at, action_at, rule_at, item_at, script_at};
 ghost use Rattle.awk_grammar.specs.ViewStmt.{view_names, view_pattern, view_item, view_items};
@@ -13,17 +14,14 @@ use crate::flow::{Body, statements};
 use crate::held::{beside, pushed};
 use crate::peek::{after_name, after_semicolon, open};
 use awk_expressions::{Mode, Refusal, after_comma, close, expression, name, stopped};
-use awk_grammar::{Item, Pattern};
+use awk_grammar::{Item, MAX_DEPTH, Pattern};
 use awk_tokens::{Keyword, Punctuator, Token, TokenKind};
 use std::alloc::Global;
-
-/// The greatest depth of a script.
-pub(crate) const LIMIT: u32 = 1000;
 
 /// Statements in braces.
 #[tactic(auto, using(awk_expressions::proofs::Binds::fails_bind))]
 fn body<'a>(alloc: Global, tokens: &'a [Token<'a>]) -> Result<Body<'a>, Refusal>
-    ensures { Gives seen_body result (body_at 1000 (seen tokens.now)) }
+    ensures { Gives seen_body result (body_at most_depth (seen tokens.now)) }
 {
     match tokens {
         [
@@ -32,7 +30,7 @@ fn body<'a>(alloc: Global, tokens: &'a [Token<'a>]) -> Result<Body<'a>, Refusal>
                 ..
             },
             rest @ ..,
-        ] => statements(alloc, LIMIT, rest),
+        ] => statements(alloc, MAX_DEPTH, rest),
         _ => Err(stopped(tokens)),
     }
 }
@@ -111,7 +109,7 @@ fn function<'a>(
     tokens: &'a [Token<'a>],
 ) -> Result<(Item, &'a [Token<'a>]), Refusal>
     ensures { Gives (λ x. (view_item x.0, seen x.1.now)) result
-        (function_by 1000 text.now (seen tokens.now)) }
+        (function_by most_depth text.now (seen tokens.now)) }
 {
     let behind = open(tokens)?;
     let parameters = params(alloc, behind)?;
@@ -143,7 +141,7 @@ fn named_function<'a>(
     tokens: &'a [Token<'a>],
 ) -> Result<(Item, &'a [Token<'a>]), Refusal>
     ensures { Gives (λ x. (view_item x.0, seen x.1.now)) result
-        (function_at 1000 (spoken_after true (map spelled tokens.now))) }
+        (function_at most_depth (spoken_after true (map spelled tokens.now))) }
 {
     match tokens {
         [
@@ -165,20 +163,21 @@ fn pattern<'a>(
     tokens: &'a [Token<'a>],
 ) -> Result<(Pattern, &'a [Token<'a>]), Refusal>
     ensures { Gives (λ x. (view_pattern x.0, seen x.1.now)) result
-        (pattern_at 1000 (seen tokens.now)) }
+        (pattern_at most_depth (seen tokens.now)) }
 {
-    let first = expression(alloc, LIMIT, true, Mode::Whole, tokens)?;
+    let first = expression(alloc, MAX_DEPTH, true, Mode::Whole, tokens)?;
     let Some(behind) = after_comma(first.rest) else {
         return Ok((Pattern::One(first.tree), first.rest));
     };
-    let last = expression(alloc, LIMIT, true, Mode::Whole, behind);
+    let last = expression(alloc, MAX_DEPTH, true, Mode::Whole, behind);
     let (first, last) = beside(first.tree, last)?;
     Ok((Pattern::Range(first, last.tree), last.rest))
 }
 
 /// A pattern, and its action or a `;`.
 fn rule<'a>(alloc: Global, tokens: &'a [Token<'a>]) -> Result<(Item, &'a [Token<'a>]), Refusal>
-    ensures { Gives (λ x. (view_item x.0, seen x.1.now)) result (rule_at 1000 (seen tokens.now)) }
+    ensures { Gives (λ x. (view_item x.0, seen x.1.now)) result
+        (rule_at most_depth (seen tokens.now)) }
 {
     let (condition, behind) = pattern(alloc, tokens)?;
     action(alloc, condition, behind)
@@ -191,7 +190,7 @@ fn action<'a>(
     tokens: &'a [Token<'a>],
 ) -> Result<(Item, &'a [Token<'a>]), Refusal>
     ensures { Gives (λ x. (view_item x.0, seen x.1.now)) result
-        (action_at 1000 (view_pattern condition) (seen tokens.now)) }
+        (action_at most_depth (view_pattern condition) (seen tokens.now)) }
 {
     match after_semicolon(tokens) {
         Some(rest) => Ok((Item::PatternOnly(condition), rest)),
@@ -205,7 +204,8 @@ fn action<'a>(
 /// An item.
 #[tactic(auto, using(awk_expressions::proofs::Binds::fails_bind))]
 fn item<'a>(alloc: Global, tokens: &'a [Token<'a>]) -> Result<(Item, &'a [Token<'a>]), Refusal>
-    ensures { Gives (λ x. (view_item x.0, seen x.1.now)) result (item_at 1000 (seen tokens.now)) }
+    ensures { Gives (λ x. (view_item x.0, seen x.1.now)) result
+        (item_at most_depth (seen tokens.now)) }
 {
     let [first, rest @ ..] = tokens else {
         return rule(alloc, tokens);
@@ -249,7 +249,7 @@ fn with_item<'a>(alloc: Global, front: ItemsRead<'a>) -> Result<ItemsRead<'a>, R
 
 /// The items of a script.
 pub fn items<'a>(alloc: Global, tokens: &'a [Token<'a>]) -> Result<Vec<Item>, Refusal>
-    ensures { Gives (λ x. view_items x.items) result (script_at 1000 (seen tokens.now)) }
+    ensures { Gives (λ x. view_items x.items) result (script_at most_depth (seen tokens.now)) }
 {
     let turns = tokens.len() + 1;
     let mut read = ItemsRead {

@@ -1,7 +1,7 @@
 -- The number, the text and the truth of a value.
 use Rattle.std.specs.Prelude.{ℕ, Bool, false, not, ◌==◌, if◌then◌else◌, Result, Ok, Err, List, [], length, ℤ, pos}
 use Rattle.std.specs.Fmt.{signed_decimal}
-use Rattle.awk_text.specs.Number.{is_nonzero_text, looks_numeric_text, number_of_text}
+use Rattle.awk_text.specs.Number.{is_nonzero_text, looks_numeric_text, number_of_text, truncated_of_text}
 use Rattle.awk_text.specs.declared.number.NumberFault.{NumberFault}
 use Rattle.awk_text.specs.declared.number.NumberFault.TheVariants as number
 use Rattle.awk_values.specs.Operators.{Outcome, is_zero}
@@ -19,6 +19,13 @@ number_of_value Uninit = Ok (pos 0)
 number_of_value (Num n) = Ok n
 number_of_value (Text text) = as_fault (number_of_text text)
 number_of_value (StrNum text) = as_fault (number_of_text text)
+
+-- the number of a text is truncated towards 0
+abbrev pub truncated_of_value : Value → Outcome
+truncated_of_value Uninit = Ok (pos 0)
+truncated_of_value (Num n) = Ok n
+truncated_of_value (Text text) = as_fault (truncated_of_text text)
+truncated_of_value (StrNum text) = as_fault (truncated_of_text text)
 
 abbrev pub text_of_value : Value → List ℕ
 text_of_value Uninit = []

@@ -11,4 +11,4 @@ pub use bytes::Bytes;
 pub use comparison::{CompareOp, compare};
 pub use fault::{Fault, Stop};
 pub use operators::{add, div, int_div, mul, pow, rem, sub};
-pub use value::{Value, to_number, to_text, truth};
+pub use value::{Value, to_number, to_text, truncated, truth};

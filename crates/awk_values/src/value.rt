@@ -1,10 +1,10 @@
 //! Values, and their number, text and truth.
 ghost use Rattle.std.specs.Prelude.{◌≡◌, IfOk, IfErr};
 ghost use Rattle.awk_text.specs.Number.{number_of_text};
-ghost use Rattle.awk_values.specs.Values.{as_fault, number_of_value, text_of_value, truth_of_value};
+ghost use Rattle.awk_values.specs.Values.{as_fault, number_of_value, text_of_value, truncated_of_value, truth_of_value};
 
 use crate::{Bytes, Fault, Stop};
-use awk_text::{NumberFault, is_nonzero, looks_numeric, number_of, text_of};
+use awk_text::{NumberFault, is_nonzero, looks_numeric, number_of, text_of, truncated_of};
 use std::alloc::{AllocError, Global};
 
 /// A value of a script (POSIX.1-2017 awk, "Expressions in awk"). A number lies from -2^53 to 2^53.
@@ -66,6 +66,21 @@ pub fn to_number(value: &Value) -> Result<i64, Fault>
         Value::Uninit => Ok(0),
         Value::Num(number) => Ok(*number),
         Value::Text(text) | Value::StrNum(text) => number_of_text(text.as_slice()),
+    }
+}
+
+/// The number of a value, that of a text truncated towards 0.
+///
+/// # Errors
+///
+/// [`Fault::Fraction`] and [`Fault::Range`] as [`truncated_of`] tells them.
+pub fn truncated(value: &Value) -> Result<i64, Fault>
+    ensures { result ≡ truncated_of_value value.now }
+{
+    match value {
+        Value::Uninit => Ok(0),
+        Value::Num(whole) => Ok(*whole),
+        Value::Text(text) | Value::StrNum(text) => as_fault(truncated_of(text.as_slice())),
     }
 }
 

@@ -62,7 +62,8 @@ fn push_separators(
     words: &[&str],
 ) -> Result<(), AllocError>
     ensures { OnOk result
-        (map pair_of pairs.new.items ≡ map pair_of pairs.old.items ++ map separator (texts words.now)) }
+        (map pair_of pairs.new.items
+        ≡ map pair_of pairs.old.items ++ map separator (texts words.now)) }
 {
     for word in words {
         pairs.push(named_text(alloc, "FS", word)?)?;
@@ -91,7 +92,8 @@ pub(crate) fn job_on(
 /// The pairs, in order, as bytes.
 fn named_texts(alloc: Global, pairs: &[(String, String)]) -> Result<Vec<NamedText>, AllocError>
     ensures { IfOk result
-        (λ texts. map pair_of texts.items ≡ map (λ pair. (string_bytes pair.0, string_bytes pair.1)) pairs.now) }
+        (λ texts. map pair_of texts.items
+        ≡ map (λ pair. (string_bytes pair.0, string_bytes pair.1)) pairs.now) }
 {
     let mut texts = Vec::new(alloc);
     for (name, text) in pairs {

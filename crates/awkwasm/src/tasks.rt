@@ -17,20 +17,22 @@ use awk_run::{CompileFault, Refusal, RunEnd, compile, run_module, run_script};
 use command_line::{Request, Task};
 use host_calls::NamedText;
 use run_report::{FileFault, fault_text, no_memory_text, status_of, topic_named};
+use script_code::MAX_SCRIPT_BYTES;
 use std::alloc::Global;
 use std::hash::RandomState;
 use std::io::{Print, Read};
 use std::rt::Files;
 use std::{fs, io};
+use wasm_types::MAX_MODULE_BYTES;
 use world_core::World;
 use world_fenced::{FencedWorld, FileFence};
 use world_os::OsWorld;
 
 /// How many bytes of a script's file are read at most: one past the greatest length of a script.
-const SCRIPT_LIMIT: u64 = (1 << 20) + 1;
+const SCRIPT_LIMIT: u64 = MAX_SCRIPT_BYTES as u64 + 1;
 
 /// How many bytes of a module's file are read at most: one past the greatest length of a module.
-const MODULE_LIMIT: u64 = (1 << 24) + 1;
+const MODULE_LIMIT: u64 = MAX_MODULE_BYTES as u64 + 1;
 
 /// The first bytes of a file, so many at most.
 fn read_file<R: Files>(alloc: Global, files: &R, path: &str, limit: u64) -> io::Result<Vec<u8>> {
@@ -57,8 +59,8 @@ fn module_on<W: World>(
     state: RandomState,
     world: W,
 ) -> (RunEnd, W)
-    ensures { Answers W.tells bytes.now (job_of_task task.now (map pair_of environment.items)) task.now.steps
-        (W.state world) result.0 (W.state result.1) }
+    ensures { Answers W.tells bytes.now (job_of_task task.now (map pair_of environment.items))
+        task.now.steps (W.state world) result.0 (W.state result.1) }
 {
     match job_on(alloc, task, environment) {
         Ok(job) => run_module(alloc, bytes, &job, state, world, task.steps),
@@ -75,8 +77,9 @@ fn script_on<W: World>(
     state: RandomState,
     world: W,
 ) -> (RunEnd, W)
-    ensures { ScriptAnswers W.tells script.now (job_of_task task.now (map pair_of environment.items)) task.now.steps
-        (W.state world) result.0 (W.state result.1) }
+    ensures { ScriptAnswers W.tells script.now
+        (job_of_task task.now (map pair_of environment.items))
+        task.now.steps (W.state world) result.0 (W.state result.1) }
 {
     match job_on(alloc, task, environment) {
         Ok(job) => run_script(alloc, script, &job, state, world, task.steps),

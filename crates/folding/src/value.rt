@@ -11,10 +11,10 @@ ghost use Rattle.mid_program.specs.ViewCode.{view, views};
 use awk_text::MAX_NUMBER;
 use awk_values::{Fault, add, div, int_div, mul, pow, rem, sub};
 use mid_program::{Arithmetic, Code, Operand, Operation};
-use sem_primitives::Primitive;
+use sem_primitives::{MAX_FIELDS, Primitive};
 
 /// The greatest number of a field.
-const LAST_FIELD: i64 = 1 << 20;
+const LAST_FIELD: i64 = MAX_FIELDS as i64;
 
 /// The number, where it is in range.
 fn in_range(number: i64) -> Option<i64>

@@ -19,7 +19,8 @@ pub(crate) struct Held {
 
 /// An array. Contracts see the list of its pairs, in the order of insertion.
 ///
-/// The map finds a key's value. A key that is deleted leaves a hole in the order, so that the others need not move; where more than half are holes, they are closed.
+/// The map finds a key's value. A key that is deleted leaves a hole in the order, so that the others need not move; where more than half are holes, they are
+/// closed.
 #[derive(Drop)]
 pub(crate) struct Array {
     pairs: IndexMap<Bytes, Held, RandomState>,

@@ -1,19 +1,18 @@
 //! The arrays by number.
 ghost use Rattle.std.specs.Prelude.{◌≡◌, ◌≤ℤ◌, ◌<ℤ◌, pos, [], None, is_some, option_copied, true, OnOk, OnErr, IfOk, IfErr};
 ghost use Rattle.std.specs.FinMap as map;
+ghost use Rattle.host_slots.specs.Tables.{most_slots};
 ghost use Rattle.std.specs.Map.{keys_of};
 ghost use Rattle.std.specs.Borrow.{Lends, sem};
 ghost use Rattle.host_arrays.specs.Pairs.{Pairs, get_pair, set_pair, delete_pair, pairs_at, created, first_arrays, value_or_uninit};
 
 use crate::array::Array;
 use awk_values::{Bytes, Value};
+use host_slots::MAX_SLOTS;
 use slab::Slab;
 use std::alloc::{AllocError, Global};
 use std::hash::RandomState;
 use std::marker::Model;
-
-/// How many numbers are given at most: the greatest number below 2^31 is never given, so that one is always free.
-const LIMIT: usize = (1 << 31) - 1;
 
 /// Arrays, each under a number from 0 to 2^31 - 2 (POSIX.1-2017 awk, "Variables and Special Variables").
 ///
@@ -103,12 +102,12 @@ impl Arrays {
     pub fn new_array(&mut self) -> Result<i32, AllocError>
         ensures free { IfOk result (λ number. map.get self.old number ≡ None) }
         ensures from_zero { IfOk result (λ number. pos 0 ≤ℤ number) }
-        ensures below { IfOk result (λ number. number <ℤ pos 2147483647) }
+        ensures below { IfOk result (λ number. number <ℤ pos most_slots) }
         ensures added { IfOk result (λ number. self.new ≡ map.insert self.old number []) }
         ensures refused { OnErr result (self.new ≡ self.old) }
     {
         let slab = &mut self.slab;
-        if slab.vacant_key() >= LIMIT {
+        if slab.vacant_key() >= MAX_SLOTS {
             return Err(AllocError);
         }
         let Ok(key) = slab.insert(Array::new(self.alloc, self.state)) else {

@@ -2,15 +2,14 @@
 ghost use Rattle.std.specs.Prelude.{◌≡◌, ◌≢◌, ◌≤ℤ◌, ◌<ℤ◌, ◌∷◌, [], pos, true, List, ℕ, None, Some, IfOk, OnOk, OnErr};
 ghost use Rattle.std.specs.Borrow.{Lends, sem};
 ghost use Rattle.std.specs.FinMap as map;
+ghost use Rattle.host_slots.specs.Tables.{most_slots};
 ghost use Rattle.host_elements.specs.Turns.{first_key, keys_at, other_keys};
 
 use awk_values::Bytes;
+use host_slots::MAX_SLOTS;
 use slab::Slab;
 use std::alloc::{AllocError, Global};
 use std::marker::Model;
-
-/// How many numbers are given at most: the greatest number below 2^31 is never given, so that one is always free.
-const LIMIT: usize = (1 << 31) - 1;
 
 /// The keys of an array as they were at one time, and how many were visited. Contracts see those that are left.
 #[derive(Drop)]
@@ -91,12 +90,12 @@ impl Iterators {
     pub fn add(&mut self, keys: Vec<Bytes>) -> Result<i32, AllocError>
         ensures free { IfOk result (λ number. map.get self.old number ≡ None) }
         ensures from_zero { IfOk result (λ number. pos 0 ≤ℤ number) }
-        ensures below { IfOk result (λ number. number <ℤ pos 2147483647) }
+        ensures below { IfOk result (λ number. number <ℤ pos most_slots) }
         ensures added { IfOk result (λ number. self.new ≡ map.insert self.old number keys.items) }
         ensures refused { OnErr result (self.new ≡ self.old) }
     {
         let slab = &mut self.slab;
-        if slab.vacant_key() >= LIMIT {
+        if slab.vacant_key() >= MAX_SLOTS {
             return Err(AllocError);
         }
         let Ok(key) = slab.insert(Visit { keys, visited: 0 }) else {

@@ -1,27 +1,26 @@
 //! The text of a record that is made of its fields.
-ghost use Rattle.std.specs.Prelude.{◌≡◌, ◌++◌, ◌^◌, ◌≤◌, IfErr, IfOk, OnOk, length};
+ghost use Rattle.std.specs.Prelude.{◌≡◌, ◌++◌, ◌≤◌, IfErr, IfOk, OnOk, length};
 ghost use Rattle.awk_values.specs.Values.{text_of_value};
 ghost use Rattle.sem_primitives.specs.FieldMeaning.{joined};
+ghost use Rattle.sem_primitives.specs.Limits.{most_text};
 ghost use Rattle.host_format.specs.Outcomes.{IsPast};
 
 use awk_text::text_of;
 use awk_values::{Bytes, Fault, Stop, Value};
+use sem_primitives::MAX_TEXT;
 use std::alloc::Global;
-
-/// The most bytes of a text.
-const LIMIT: usize = 1 << 26;
 
 /// The most bytes of a number's text.
 const NUMBER: usize = 20;
 
 /// Adds bytes to a text that is not whole yet.
 fn put(out: &mut Vec<u8>, bytes: &[u8]) -> Result<(), Stop>
-    requires { length out.old.items ≤ 2 ^ 26 }
+    requires { length out.old.items ≤ most_text }
     ensures ok { OnOk result (out.new.items ≡ out.old.items ++ bytes.now) }
-    ensures within { OnOk result (length out.new.items ≤ 2 ^ 26) }
+    ensures within { OnOk result (length out.new.items ≤ most_text) }
     ensures err { IfErr result (IsPast (out.old.items ++ bytes.now)) }
 {
-    if bytes.len() > LIMIT - out.len() {
+    if bytes.len() > MAX_TEXT - out.len() {
         return Err(Stop::Fault(Fault::TextLimit));
     }
     out.extend_from_slice(bytes)?;
@@ -30,9 +29,9 @@ fn put(out: &mut Vec<u8>, bytes: &[u8]) -> Result<(), Stop>
 
 /// Adds the text of a value.
 fn put_value(out: &mut Vec<u8>, value: &Value) -> Result<(), Stop>
-    requires { length out.old.items ≤ 2 ^ 26 }
+    requires { length out.old.items ≤ most_text }
     ensures ok { OnOk result (out.new.items ≡ out.old.items ++ text_of_value value.now) }
-    ensures within { OnOk result (length out.new.items ≤ 2 ^ 26) }
+    ensures within { OnOk result (length out.new.items ≤ most_text) }
     ensures err { IfErr result (IsPast (out.old.items ++ text_of_value value.now)) }
 {
     match value {
@@ -57,7 +56,7 @@ fn room_for(values: &[Value], between: usize) -> usize {
     for value in values {
         room = room.saturating_add(between).saturating_add(room_of(value));
     }
-    room.min(LIMIT)
+    room.min(MAX_TEXT)
 }
 
 /// The texts of values with another text between them.
@@ -67,7 +66,7 @@ fn room_for(values: &[Value], between: usize) -> usize {
 /// `TextLimit` where the text is past 67,108,864 bytes, and [`Stop::NoMemory`].
 pub(crate) fn joined(alloc: Global, values: &[Value], between: &[u8]) -> Result<Bytes, Stop>
     ensures ok { IfOk result (λ text. text ≡ joined between.now values.now) }
-    ensures within { IfOk result (λ text. length text ≤ 2 ^ 26) }
+    ensures within { IfOk result (λ text. length text ≤ most_text) }
     ensures err { IfErr result (IsPast (joined between.now values.now)) }
 {
     let mut out = Vec::with_capacity(alloc, room_for(values, between.len()))?;

@@ -3,9 +3,7 @@ ghost use Rattle.std.specs.Prelude.{◌≡◌};
 ghost use Rattle.sem_primitives.specs.FieldMeaning.{field_number};
 
 use awk_values::Fault;
-
-/// The most fields of a record.
-pub(crate) const MOST: usize = 1 << 20;
+use sem_primitives::MAX_FIELDS;
 
 /// The number of a field, or a count of fields.
 pub(crate) fn field_number(n: i64) -> Result<usize, Fault>
@@ -13,7 +11,7 @@ pub(crate) fn field_number(n: i64) -> Result<usize, Fault>
 {
     match usize::try_from(n) {
         Ok(number) => {
-            if number > MOST {
+            if number > MAX_FIELDS {
                 return Err(Fault::FieldNumber);
             }
             Ok(number)

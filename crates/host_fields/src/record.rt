@@ -8,10 +8,11 @@ ghost use Rattle.host_fields.specs.Calls.{IsRecordOf, IsStopOfChange, IsStopOfRe
 
 use crate::fields::{Form, count_fields, part_of, to_own, to_split};
 use crate::joined::joined;
-use crate::number::{MOST, field_number};
+use crate::number::field_number;
 use crate::splitter::{LastSep, split};
 use awk_values::{Bytes, Fault, Stop, Value};
 use host_format::{Plain, Span};
+use sem_primitives::MAX_FIELDS;
 use std::alloc::{AllocError, Global};
 use std::marker::Model;
 use std::mem::{replace, swap};
@@ -92,7 +93,7 @@ impl Record {
     {
         let newlines = do_newlines_separate(fs, rs);
         if let Some(by) = Plain::of(fs) {
-            if text.len() < MOST {
+            if text.len() < MAX_FIELDS {
                 self.own.clear();
                 self.form = Form::Later(by, newlines);
                 self.whole = Value::StrNum(text);
@@ -106,7 +107,7 @@ impl Record {
             fs,
             newlines,
         )?;
-        if self.spare.len() > MOST {
+        if self.spare.len() > MAX_FIELDS {
             return Err(Stop::Fault(Fault::FieldNumber));
         }
         swap(&mut self.spans, &mut self.spare);

@@ -1,8 +1,9 @@
 -- Substitution (POSIX.1-2017 awk, "String Functions", sub and gsub).
-use Rattle.std.specs.Prelude.{◌≡◌, ℕ, ◌+◌, ◌^◌, ◌≤◌, Bool, List, [], ◌∷◌, Option, Some, None, Result, Ok, length}
+use Rattle.std.specs.Prelude.{◌≡◌, ℕ, ◌+◌, ◌≤◌, Bool, List, [], ◌∷◌, Option, Some, None, Result, Ok, length}
 use Rattle.awk_values.specs.declared.fault.Fault.{Fault}
 use Rattle.ere_syntax.specs.Tree.{Tree}
 use Rattle.sem_primitives.specs.FirstMatch.{first_match}
+use Rattle.sem_primitives.specs.Limits.{most_text}
 use Rattle.sem_primitives.specs.SharedState.{◌>>=◌}
 use Rattle.sem_primitives.specs.Texts.{limited}
 use Rattle.sem_primitives.specs.TextMeaning.{behind, places, places_of, replaced}
@@ -21,4 +22,4 @@ IsNextPlace t text at last (Some p) = (n : ℕ) → length text + 1 ≤ n + at �
 pub record IsReplaced (t : Tree) (by text : List ℕ) (all : Bool) (count : ℕ) (new : List ℕ) : Type 0 where
   pub counted : length (places_of t text all) ≡ count
   pub text_is : replaced text by 0 (places_of t text all) ≡ new
-  pub within : length new ≤ 2 ^ 26
+  pub within : length new ≤ most_text

@@ -2,20 +2,20 @@
 ghost use Rattle.std.specs.Prelude.{◌≡◌, ◌+◌, ◌^◌, ◌++◌, ◌<◌, ◌≤◌, IfErr, OnOk, length, replicate};
 ghost use Rattle.awk_values.specs.declared.fault.Fault.TheVariants.{TextLimit};
 ghost use Rattle.awk_values.specs.declared.fault.Stop.TheVariants as stops;
+ghost use Rattle.sem_primitives.specs.Limits.{most_text};
 ghost use Rattle.host_format.specs.Outcomes.{Adds, IsPast};
 
 use awk_values::{Fault, Stop};
+use sem_primitives::MAX_TEXT;
 use std::alloc::AllocError;
-
-/// The most bytes of a text.
-const LIMIT: usize = 1 << 26;
 
 /// Whether so many bytes more are within the limit.
 pub(crate) fn room(before: usize, more: usize) -> Result<(), Stop>
-    ensures ok { OnOk result (before + more ≤ 2 ^ 26) }
-    ensures err { IfErr result (λ stop. (stop ≡ stops.Fault TextLimit) × (2 ^ 26 < before + more)) }
+    ensures ok { OnOk result (before + more ≤ most_text) }
+    ensures err { IfErr result
+        (λ stop. (stop ≡ stops.Fault TextLimit) × (most_text < before + more)) }
 {
-    if before > LIMIT || more > LIMIT - before {
+    if before > MAX_TEXT || more > MAX_TEXT - before {
         return Err(Stop::Fault(Fault::TextLimit));
     }
     Ok(())
@@ -24,7 +24,7 @@ pub(crate) fn room(before: usize, more: usize) -> Result<(), Stop>
 /// Adds bytes.
 pub(crate) fn put(out: &mut Vec<u8>, bytes: &[u8]) -> Result<(), Stop>
     ensures ok { OnOk result (out.new.items ≡ out.old.items ++ bytes.now) }
-    ensures within { OnOk result (length out.new.items ≤ 2 ^ 26) }
+    ensures within { OnOk result (length out.new.items ≤ most_text) }
     ensures err { IfErr result (IsPast (out.old.items ++ bytes.now)) }
 {
     room(out.len(), bytes.len())?;

@@ -1,14 +1,13 @@
 //! The table of values by handle.
 ghost use Rattle.std.specs.Prelude.{◌≡◌, ◌≤ℤ◌, ◌<ℤ◌, pos, IfOk, IfErr, IfSome, IfNone, OnErr, None, option_copied};
 ghost use Rattle.std.specs.FinMap as map;
+ghost use Rattle.host_slots.specs.Tables.{most_slots};
 
 use awk_values::Value;
+use host_slots::MAX_SLOTS;
 use slab::Slab;
 use std::alloc::Global;
 use std::marker::Model;
-
-/// How many handles are given at most: the greatest number below 2^31 is never given, so that one is always free.
-const LIMIT: usize = (1 << 31) - 1;
 
 /// Values, each under a handle: a number from 0 to 2^31 - 2. Contracts see a finite map from handles to values.
 #[derive(Drop)]
@@ -62,13 +61,13 @@ impl Handles {
     pub fn put(&mut self, value: Value) -> Result<i32, Value>
         ensures free { IfOk result (λ handle. map.get self.old handle ≡ None) }
         ensures from_zero { IfOk result (λ handle. pos 0 ≤ℤ handle) }
-        ensures below { IfOk result (λ handle. handle <ℤ pos 2147483647) }
+        ensures below { IfOk result (λ handle. handle <ℤ pos most_slots) }
         ensures stored { IfOk result (λ handle. self.new ≡ map.insert self.old handle value) }
         ensures refused { OnErr result (self.new ≡ self.old) }
         ensures handed_back { IfErr result (λ v. v ≡ value) }
     {
         let slab = &mut self.slab;
-        if slab.vacant_key() >= LIMIT {
+        if slab.vacant_key() >= MAX_SLOTS {
             return Err(value);
         }
         let key = match slab.insert(value) {

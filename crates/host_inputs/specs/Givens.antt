@@ -1,5 +1,5 @@
 -- What reading comes to, by what the definition gives.
-use Rattle.std.specs.Prelude.{◌≡◌, ◌≢◌, ℕ, ◌+◌, ◌*◌, ◌-◌, ◌^◌, ◌<◌, List, Bool, false, Option, Some, None, Result, Ok, Err}
+use Rattle.std.specs.Prelude.{◌≡◌, ◌≢◌, ℕ, ◌+◌, ◌*◌, ◌-◌, ◌<◌, List, Bool, false, Option, Some, None, Result, Ok, Err}
 use Rattle.awk_values.specs.declared.fault.Fault.{Fault}
 use Rattle.awk_values.specs.declared.fault.Fault.TheVariants.{OpenInput, ReadFailed}
 use Rattle.awk_values.specs.declared.fault.Stop.{Stop}
@@ -7,6 +7,7 @@ use Rattle.awk_values.specs.declared.fault.Stop.TheVariants.{Fault as IsFault, N
 use Rattle.world_core.specs.WorldState.{Outside}
 use Rattle.sem_primitives.specs.InputMeaning.{Main, as_line, as_record, getline_line_file_row, getline_file_row, getline_line_row, getline_of, getline_row, main_input, next_main_row, next_of, operand_text}
 use Rattle.sem_primitives.specs.InputMeaning as definition
+use Rattle.sem_primitives.specs.Limits.{most_operands}
 use Rattle.sem_primitives.specs.SharedState.{Inner}
 use Rattle.sem_primitives.specs.declared.answers.InputAnswer.{InputAnswer}
 use Rattle.sem_primitives.specs.declared.answers.InputAnswer.TheVariants as input
@@ -67,7 +68,7 @@ may_follow found.NoFile = 1
 may_follow found.SomeFile = 1
 
 abbrev pub left_to_open : Mains → ℕ
-left_to_open m = 2 * (2 ^ 20 + 1 - m.next) + may_follow m.found
+left_to_open m = 2 * (most_operands + 1 - m.next) + may_follow m.found
 
 -- an operand that is told has less after it
 abbrev pub NextPasses : Mains → Result MainNext Stop → Mains → Type 0

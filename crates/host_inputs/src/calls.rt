@@ -8,7 +8,6 @@ ghost use Rattle.host_imports.specs.declared.import.Import.{Import};
 ghost use Rattle.host_streams.specs.OpenFiles.{WritersGo};
 ghost use Rattle.host_texts.specs.declared.texts.Texts.{Texts as AnyTexts};
 ghost use Rattle.host_values.specs.Calls.{spare};
-ghost use Rattle.host_values.specs.Singles.{lent_only, only_handle};
 ghost use Rattle.host_elements.specs.Calls.{IsTableCall};
 ghost use Rattle.host_elements.specs.Forms.{HostForm};
 ghost use Rattle.host_meaning.specs.WorldCalls.{IsCalled};
@@ -20,11 +19,11 @@ ghost use Rattle.host_inputs.specs.States.{HoldsInput, over_world};
 use crate::argv::Argv;
 use crate::input::{Input, Keep, MainRead};
 use crate::{files, main_record};
-use awk_values::{Stop, Value, to_text};
+use awk_values::{Stop, to_text};
 use host_arrays::Arrays;
 use host_handles::Handles;
 use host_texts::Texts;
-use host_values::{Refusal, Reply, ends, give, value_front};
+use host_values::{Refusal, Reply, ends, give, only_handle};
 use sem_primitives::InputAnswer;
 use std::alloc::Global;
 use wasm_store::{TrapKind, Word};
@@ -91,15 +90,6 @@ pub fn read_main<W: World>(
     answered(main_record::read(alloc, world, &argv, texts, input, how))
 }
 
-/// The one handle that words name, and its value.
-fn only_value<'a>(handles: &'a Handles, words: &[Word]) -> Result<(i32, &'a Value), TrapKind>
-    ensures { lent_only result ≡ only_handle handles.now words.now }
-{
-    let (handle, value, rest) = value_front(handles, words)?;
-    ends(rest)?;
-    Ok((handle, value))
-}
-
 /// Reads a file (`getline_file`, `getline_var_file`), where no fault is kept.
 ///
 /// # Errors
@@ -127,7 +117,7 @@ pub fn read_file<W: World>(
         result (with_values handles.old (over_world texts.old input.old (W.state world.old) f))
         (with_values handles.new (over_world texts.new input.new (W.state world.new) f))) [] }
 {
-    let (handle, value) = match only_value(handles, words) {
+    let (handle, value) = match only_handle(handles, words) {
         Ok(read) => read,
         Err(kind) => return Err(Refusal::Trap(kind)),
     };

@@ -40,20 +40,24 @@ pub fn table_calls<W: World>()
         → (before after : HostForm) (r : Result (Option Word) Refusal) → Fits i r
         → after.shared.outside ≡ before.shared.outside → after.shared.output ≡ before.shared.output
         → TableCalls i before words memory r after
-        → FormMeans W.tells (Some i) before words memory (answer_of_call i r) (left_by_call r after) [] }
+        → FormMeans W.tells (Some i) before words memory (answer_of_call i r)
+        (left_by_call r after) [] }
     ensures unfit { (i : Import) (words : List Word) (memory : List ℕ) → reads i ≡ false
         → (before after : HostForm) (w : Option Word) → (Fits i (Ok w) → ⊥)
         → after.shared.output ≡ before.shared.output
         → TableCalls i before words memory (Ok w) after
-        → FormMeans W.tells (Some i) before words memory (HostAnswer.Trap TrapKind.BadArgument) after [] }
+        → FormMeans W.tells (Some i) before words memory
+        (HostAnswer.Trap TrapKind.BadArgument) after [] }
     ensures plain { (i : Import) (before after : HostForm) (words : List Word) (memory : List ℕ)
         (r : Result (Option Word) Refusal) → before.fault ≡ None
         → ((so_far : List Action) → IsTableCall i (form_with_output so_far before) words memory r
         (form_with_output so_far after))
         → TableCalls i before words memory r after }
-    ensures refused { (i : Import) (f : HostForm) (words : List Word) (memory : List ℕ) (fault : Fault)
+    ensures refused { (i : Import) (f : HostForm) (words : List Word) (memory : List ℕ)
+        (fault : Fault)
         → f.fault ≡ Some fault → lets_go i ≡ false
-        → FormCalled W.tells (Some i) f words memory (HostAnswer.Done (refusal (import_answer i))) f [] }
+        → FormCalled W.tells (Some i) f words memory
+        (HostAnswer.Done (refusal (import_answer i))) f [] }
     ensures unknown { (f : HostForm) (words : List Word) (memory : List ℕ)
         → FormCalled W.tells None f words memory (HostAnswer.Trap TrapKind.BadArgument) f [] }
 {}
@@ -61,19 +65,23 @@ pub fn table_calls<W: World>()
 /// A call on tables over a world, where no fault is kept, means what it is told as; an answer of another type is given nowhere.
 pub fn world_calls<W: World>()
     ensures called { (i : Import) (words : List Word) (memory : List ℕ) (before : HostForm)
-        → before.fault ≡ None → (after : HostForm) (output : List Action) (r : Result (Option Word) Refusal)
+        → before.fault ≡ None → (after : HostForm) (output : List Action)
+        (r : Result (Option Word) Refusal)
         → Fits i r → IsCalled W.tells i before words memory r after output
-        → FormMeans W.tells (Some i) before words memory (answer_of_call i r) (left_by_call r after) output }
+        → FormMeans W.tells (Some i) before words memory (answer_of_call i r)
+        (left_by_call r after) output }
     ensures unfit { (i : Import) (words : List Word) (memory : List ℕ) (before : HostForm)
         → before.fault ≡ None → (after : HostForm) (output : List Action) (w : Option Word)
         → (Fits i (Ok w) → ⊥) → IsCalled W.tells i before words memory (Ok w) after output
-        → FormMeans W.tells (Some i) before words memory (HostAnswer.Trap TrapKind.BadArgument) after output }
+        → FormMeans W.tells (Some i) before words memory
+        (HostAnswer.Trap TrapKind.BadArgument) after output }
 {}
 
 /// At a fault it is enough to tell tables that share what is looked at from then on: of the others a call may have changed any.
 pub fn faulted_calls<W: World>()
     ensures { (import : Option Import) (before f g : HostForm) (words : List Word) (memory : List ℕ)
-        (a : HostAnswer) (output : List Action) (fault : Fault) → f.fault ≡ Some fault → SharesTables f g
+        (a : HostAnswer) (output : List Action) (fault : Fault) → f.fault ≡ Some fault
+        → SharesTables f g
         → FormCalled W.tells import before words memory a f output
         → FormCalled W.tells import before words memory a g output }
 {}

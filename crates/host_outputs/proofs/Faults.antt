@@ -3,7 +3,7 @@ use Rattle.std.proofs.Common.{ℕ, ℤ, Bool, true, false, if◌then◌else◌, 
 use Rattle.awk_text.specs.Number.{looks_numeric_text, number_of_text, truncated_of_text}
 use Rattle.awk_text.specs.declared.number.NumberFault.{NumberFault}
 use Rattle.awk_text.specs.declared.number.NumberFault.TheVariants as number
-use Rattle.awk_values.specs.Values.{as_fault, number_of_value, text_of_value}
+use Rattle.awk_values.specs.Values.{as_fault, number_of_value, text_of_value, truncated_of_value}
 use Rattle.awk_values.specs.declared.fault.Fault.{Fault}
 use Rattle.awk_values.specs.declared.fault.Fault.TheVariants.{OpenOutput, TextLimit, WriteFailed}
 use Rattle.awk_values.specs.declared.fault.Stop.{Stop}
@@ -13,7 +13,6 @@ use Rattle.awk_values.specs.declared.value.Value.TheVariants.{Num, StrNum, Text,
 use Rattle.sem_primitives.specs.Formats.{Conversion, Converts, Fixed, Char, Specifier, Signed, String, LowerHex, Malformed, Octal, Ordinary, Piece, Unsigned, UpperHex, byte_of_number, char_of, converted, formatted_from, pieces_of, sized, then_text}
 use Rattle.sem_primitives.specs.OutputMeaning.{formatted_values}
 use Rattle.sem_primitives.specs.SharedState.{◌>>=◌}
-use Rattle.sem_primitives.specs.ValueMeaning.{truncated}
 use Rattle.host_format.specs.Outcomes.{IsStopOf}
 use Rattle.host_streams.specs.Puts.{PutCounts}
 use Rattle.host_outputs.specs.Calls.{FailsBy, answer_of}
@@ -36,7 +35,7 @@ number_others (Ok n) = tt
 number_others (Err number.Range) = tt
 number_others (Err number.Fraction) = tt
 
-truncated_others : (v : Value) → Others (truncated v)
+truncated_others : (v : Value) → Others (truncated_of_value v)
 truncated_others Uninit = tt
 truncated_others (Num n) = tt
 truncated_others (Text text) = number_others (truncated_of_text text)
@@ -53,7 +52,7 @@ char_by true x y h k = h
 char_by false x y h k = k
 
 byte_others : (v : Value) → Others (byte_of_number v)
-byte_others v = then_others (truncated v) _ (truncated_others v) (λ z. tt)
+byte_others v = then_others (truncated_of_value v) _ (truncated_others v) (λ z. tt)
 
 char_others : (v : Value) → Others (char_of v)
 char_others Uninit = tt
@@ -62,11 +61,11 @@ char_others (Text text) = tt
 char_others (StrNum text) = char_by (looks_numeric_text text) _ _ (byte_others (StrNum text)) tt
 
 converted_others : (d : Conversion) (s : Specifier) (v : Value) → Others (converted d s v)
-converted_others d Signed v = then_others (truncated v) _ (truncated_others v) (λ z. tt)
-converted_others d Octal v = then_others (truncated v) _ (truncated_others v) (λ z. tt)
-converted_others d Unsigned v = then_others (truncated v) _ (truncated_others v) (λ z. tt)
-converted_others d LowerHex v = then_others (truncated v) _ (truncated_others v) (λ z. tt)
-converted_others d UpperHex v = then_others (truncated v) _ (truncated_others v) (λ z. tt)
+converted_others d Signed v = then_others (truncated_of_value v) _ (truncated_others v) (λ z. tt)
+converted_others d Octal v = then_others (truncated_of_value v) _ (truncated_others v) (λ z. tt)
+converted_others d Unsigned v = then_others (truncated_of_value v) _ (truncated_others v) (λ z. tt)
+converted_others d LowerHex v = then_others (truncated_of_value v) _ (truncated_others v) (λ z. tt)
+converted_others d UpperHex v = then_others (truncated_of_value v) _ (truncated_others v) (λ z. tt)
 converted_others d Fixed v = then_others (number_of_value v) _ (value_others v) (λ z. tt)
 converted_others d String v = tt
 converted_others d Char v = then_others (char_of v) _ (char_others v) (λ text. tt)

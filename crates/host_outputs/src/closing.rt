@@ -7,30 +7,16 @@ ghost use Rattle.host_imports.specs.declared.import.Import.{Import};
 ghost use Rattle.host_elements.specs.Forms.{HostForm};
 ghost use Rattle.host_streams.specs.OpenFiles.{HoldsOpen, OthersKeep, OthersStay, WritersGo, readers_beside};
 ghost use Rattle.host_values.specs.Calls.{spare};
-ghost use Rattle.host_values.specs.Fronts.{lent_handle};
-ghost use Rattle.host_values.specs.Singles.{lent_only, only_handle};
 ghost use Rattle.host_meaning.specs.WorldCalls.{IsCalled};
 ghost use Rattle.host_outputs.specs.Forms.{closing, closed_code};
 
-use awk_values::{Value, to_text};
+use awk_values::to_text;
 use host_handles::Handles;
 use host_streams::Streams;
-use host_values::{Refusal, ends, value_front};
+use host_values::{Refusal, only_handle};
 use std::alloc::Global;
-use wasm_store::{TrapKind, Word};
+use wasm_store::Word;
 use world_core::World;
-
-/// The one value that words name, with its handle.
-pub(crate) fn only_value<'a>(
-    handles: &'a Handles,
-    words: &[Word],
-) -> Result<(i32, &'a Value), TrapKind>
-    ensures { lent_only result ≡ only_handle handles.now words.now }
-{
-    let (handle, value, rest) = value_front(handles, words)?;
-    ends(rest)?;
-    Ok((handle, value))
-}
 
 /// The answer by whether there was a file to close, or to flush.
 pub(crate) fn code(done: bool) -> Word
@@ -65,7 +51,7 @@ pub fn close<W: World>(
     ensures places { W.tells
         → OthersKeep streams.old (W.kinds world.old) (W.state world.old) (W.state world.new) }
 {
-    let (handle, value) = match only_value(handles, words) {
+    let (handle, value) = match only_handle(handles, words) {
         Ok(read) => read,
         Err(kind) => return Err(Refusal::Trap(kind)),
     };

@@ -9,7 +9,7 @@ ghost use Rattle.host_elements.specs.Forms.{HostForm};
 ghost use Rattle.host_values.specs.Calls.{spare};
 ghost use Rattle.host_outputs.specs.Forms.{closing};
 
-use crate::closing::{code, only_value};
+use crate::closing::code;
 use awk_values::to_text;
 use host_handles::Handles;
 use host_streams::Streams;
@@ -34,7 +34,7 @@ pub fn flush(
         memory result (closing handles.new streams.now state f) }
     ensures spare { map.get handles.old spare ≡ None → map.get handles.new spare ≡ None }
 {
-    let (handle, value) = match only_value(handles, words) {
+    let (handle, value) = match only_handle(handles, words) {
         Ok(read) => read,
         Err(kind) => return Err(Refusal::Trap(kind)),
     };

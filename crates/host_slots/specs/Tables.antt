@@ -13,6 +13,10 @@ entries_from key (Some v ∷ rest) = (pos key, v) ∷ entries_from (key + 1) res
 abbrev pub table : {V : Type 0} → List (Option V) → FinMap int_cmp V
 table slots = map.from_entries (entries_from 0 slots)
 
+-- so many slots are filled at most: 2^31 - 1, so that a number below 2^31 is always free
+abbrev pub most_slots : ℕ
+most_slots = 2147483647
+
 -- one slot is written, and every other holds what it held; past the end of a list there is nothing
 pub record Writes {V : Type 0} (key : ℕ) (slot : Option V) (old new : List (Option V)) : Type 0 where
   pub written : get_or new key None ≡ slot

@@ -1,7 +1,8 @@
 -- What the bytes that were read so far tell of the first record, whatever follows them.
-use Rattle.std.specs.Prelude.{◌≡◌, ℕ, suc, ◌+◌, ◌^◌, ◌==◌, ◌≤◌, List, [], ◌∷◌, ◌++◌, length, take, drop, cond, Option, Some, None, Ok, Err, slice_range}
+use Rattle.std.specs.Prelude.{◌≡◌, ℕ, suc, ◌+◌, ◌==◌, ◌≤◌, List, [], ◌∷◌, ◌++◌, length, take, drop, cond, Option, Some, None, Ok, Err, slice_range}
 use Rattle.awk_values.specs.declared.fault.Fault.TheVariants.{TextLimit}
 use Rattle.world_core.specs.declared.world.Ending.{Ending}
+use Rattle.sem_primitives.specs.Limits.{most_text}
 use Rattle.sem_primitives.specs.Records.{first_record, of_rest, cut, width, skipped}
 use Rattle.sem_primitives.specs.Records.{Record as IsRecord}
 use Rattle.host_streams.specs.declared.look.Known.{Known}
@@ -50,7 +51,7 @@ IsLong rs bytes = (more : List ℕ) (ending : Ending) → first_record rs (recor
 pub record IsOpen (rs : Option ℕ) (bytes : List ℕ) (from to : ℕ) (k : Known) : Type 0 where
   pub order : from ≤ to
   pub within : to ≤ length bytes
-  pub short : length bytes ≤ 2 ^ 26 + 1
+  pub short : length bytes ≤ most_text + 1
   pub rest : (ending : Ending) → first_record rs (record { rest = bytes; ending = ending }) ≡ Ok (of_rest ending (slice_range bytes from to))
   pub known : IsScanned rs bytes k
 

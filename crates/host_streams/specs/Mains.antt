@@ -11,6 +11,7 @@ use Rattle.world_core.specs.Calls.{Kind, Closed, Reading as IsReading}
 use Rattle.sem_primitives.specs.Assignments.{assigned, assignment_of, begins_name}
 use Rattle.sem_primitives.specs.FieldMeaning.{special_text}
 use Rattle.sem_primitives.specs.InputMeaning.{Main, Taken, Over, NotOpened, Failed as ReadingFailed, main_input, is_below, made, next_file_row, operand_text, reach, taken}
+use Rattle.sem_primitives.specs.Limits.{most_operands}
 use Rattle.sem_primitives.specs.Records.{record_separator}
 use Rattle.sem_primitives.specs.SharedState.{Inner, MainInput, MainReader, Standard, File, Operands, NoFile, SomeFile, NoneLeft, ◌>>=◌, with_special}
 use Rattle.sem_primitives.specs.declared.constants.Special.TheVariants.{Argc, Filename, Fnr, Rs}
@@ -153,7 +154,7 @@ pub record IsOffered (argc : Value) (texts : ℕ → List ℕ) (inner : Inner) :
 
 -- whether there may be an operand of this number, where this is ARGC's number
 abbrev pub has_operand : ℕ → Result ℤ Fault → Result Bool Fault
-has_operand n (Ok count) = Ok (nat_le n (2 ^ 20) && is_below n count)
+has_operand n (Ok count) = Ok (nat_le n most_operands && is_below n count)
 has_operand n (Err fault) = Err fault
 
 -- whether bytes that may stand in a name are one
@@ -176,7 +177,7 @@ begun name inner = with_special Fnr (Num (pos 0)) (with_special Filename (StrNum
 
 -- what is given after the operand at hand
 abbrev pub rest_of : MainInput → Outside → Inner → Result (Inner × Main) Fault
-rest_of m outside inner = reach (2 ^ 20 + 1 - m.next) outside inner
+rest_of m outside inner = reach (most_operands + 1 - m.next) outside inner
 
 -- an operand is passed, or nothing is read any more
 abbrev pub passed : MainInput → MainInput
@@ -212,7 +213,7 @@ busy reading.Standard = 1
 busy (reading.File r) = 1
 
 abbrev pub work : Mains → ℕ
-work m = 2 * (2 ^ 20 + 1 - m.next) + busy m.reading
+work m = 2 * (most_operands + 1 - m.next) + busy m.reading
 
 abbrev pub GoesOn : Result (Option MainNext) Stop → Mains → Mains → Type 0
 GoesOn (Ok None) old new = work new < work old

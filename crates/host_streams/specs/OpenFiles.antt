@@ -5,6 +5,7 @@ use Rattle.awk_values.specs.declared.fault.Stop.{Stop}
 use Rattle.awk_values.specs.declared.fault.Stop.TheVariants.{Fault as IsFault, NoMemory}
 use Rattle.world_core.specs.WorldState.{State, Source, Named, Entry}
 use Rattle.world_core.specs.Calls.{Kind, Closed, Reading, Writing}
+use Rattle.sem_primitives.specs.Limits.{most_streams}
 use Rattle.sem_primitives.specs.Texts.{same_text}
 use Rattle.sem_primitives.specs.InputMeaning.{reader_named, with_reader, source_of}
 use Rattle.sem_primitives.specs.OutputMeaning.{is_writing}
@@ -99,7 +100,7 @@ writers_beside name writers = filter (λ w. not (is_writer name w)) writers
 
 -- one more may be opened
 abbrev pub has_room : Streams → Bool
-has_room s = nat_lt (length s.readers.items + length s.writers.items) 256
+has_room s = nat_lt (length s.readers.items + length s.writers.items) most_streams
 
 -- a file is opened, or there is no room for it, or it does not open
 abbrev pub OpensFile : List ℕ → Bool → State → List (List ℕ × Source) → Result (Option ℕ) Stop → List (List ℕ × Source) → Type 0

@@ -7,6 +7,7 @@ use Rattle.world_core.specs.declared.world.Ending.TheVariants.{End as IsEnd, Fai
 use Rattle.world_core.specs.declared.world.WorldFault.{WorldFault}
 use Rattle.world_core.specs.declared.world.WorldFault.TheVariants.{Failed as DeviceFailed, NoMemory}
 use Rattle.world_core.specs.WorldState.{State, Source}
+use Rattle.sem_primitives.specs.Limits.{most_text}
 use Rattle.sem_primitives.specs.Records.{first_record}
 use Rattle.sem_primitives.specs.Records.{Record as GotRecord, AtEnd as GotEnd, Broken as GotFailure}
 use Rattle.host_streams.specs.Looks.{IsScanned}
@@ -111,7 +112,7 @@ EndStays old new = old ≡ Ended → new ≡ Ended
 
 -- how much there is left to do
 abbrev pub work_in : Phase → ℕ → ℕ
-work_in Open n = 2 ^ 26 + 4 - n
+work_in Open n = most_text + 4 - n
 work_in Ended n = 0
 work_in Broken n = 0
 

@@ -5,9 +5,7 @@ ghost use Rattle.sem_primitives.specs.Records.{begins, is_newline, skipped, trim
 ghost use Rattle.host_streams.specs.Looks.{FindsCut, HasNoneBefore, IsScanned, Looks, searched};
 
 use memchr::memchr;
-
-/// The most bytes of a text.
-const LIMIT: usize = 67_108_864;
+use sem_primitives::MAX_TEXT;
 
 /// What is known of the bytes at a record's front: so many newlines are skipped, and so many bytes after them begin no separator.
 #[derive(Clone, Copy, Drop)]
@@ -163,14 +161,14 @@ pub(crate) fn seen(bytes: &[u8], rs: Option<u8>, known: Known) -> Look
     match find(body, rs, known.searched) {
         Some(len) => {
             let to = from + len;
-            if to > LIMIT {
+            if to > MAX_TEXT {
                 return Look::Long;
             }
             Look::Record(from, to, to + width(rs))
         }
         None => {
             let to = from + trimmed(body, rs);
-            if to > LIMIT {
+            if to > MAX_TEXT {
                 return Look::Long;
             }
             Look::More(from, to, searched(body, rs))

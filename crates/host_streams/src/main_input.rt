@@ -1,11 +1,12 @@
 //! The main input: the files that the operands name, or else the standard input (POSIX.1-2017 awk, "OPERANDS", "INPUT FILES").
-ghost use Rattle.std.specs.Prelude.{◌≡◌, ◌≢◌, ◌≤◌, ◌^◌, ℕ, ℤ, Result, List, [], None, Some, false, length, IfErr, IfOk, OnErr};
+ghost use Rattle.std.specs.Prelude.{◌≡◌, ◌≢◌, ◌≤◌, ℕ, ℤ, Result, List, [], None, Some, false, length, IfErr, IfOk, OnErr};
 ghost use Rattle.std.specs.List.{prefix_len};
 ghost use Rattle.world_core.specs.WorldState.{State};
 ghost use Rattle.world_core.specs.Calls.{Kind};
 ghost use Rattle.awk_values.specs.Values.{number_of_value};
 ghost use Rattle.sem_primitives.specs.Assignments.{assignment_of, continues_name};
 ghost use Rattle.sem_primitives.specs.InputMeaning.{follows, reader_of};
+ghost use Rattle.sem_primitives.specs.Limits.{most_operands};
 ghost use Rattle.sem_primitives.specs.Records.{record_separator};
 ghost use Rattle.sem_primitives.specs.SharedState.{Inner};
 ghost use Rattle.host_streams.specs.declared.reader.Phase.TheVariants.{Broken, Open};
@@ -16,11 +17,9 @@ ghost use Rattle.host_streams.specs.Passing.{AreThere, FollowsAll, HandsAt, Hand
 use crate::reader::{FileNext, Reader};
 use crate::streams::first_byte;
 use awk_values::{Bytes, Fault, Stop, Value, to_number};
+use sem_primitives::MAX_OPERANDS;
 use std::alloc::{AllocError, Global};
 use world_core::{World, WorldFault};
-
-/// The greatest number of an operand.
-const LAST: u32 = 1_048_576;
 
 /// The operands as they are now: the elements of ARGV, by their numbers.
 pub trait Operands {
@@ -163,7 +162,7 @@ fn has_operand(number: u32, argc: &Value) -> Result<bool, Fault>
     ensures own { IfErr result (λ fault. IsOfNumber fault) }
 {
     match to_number(argc) {
-        Ok(count) => Ok(number <= LAST && i64::from(number) < count),
+        Ok(count) => Ok(number <= MAX_OPERANDS && i64::from(number) < count),
         Err(fault) => Err(fault),
     }
 }
@@ -312,7 +311,7 @@ impl MainInput {
     fn open<W: World>(&mut self, world: &mut W, name: Bytes) -> Result<Option<MainNext>, Stop>
         requires idle { self.old.reading ≡ Reading.Nothing }
         requires live { self.old.ended ≡ false }
-        requires next { self.old.next ≤ 2 ^ 20 }
+        requires next { self.old.next ≤ most_operands }
         requires held { HoldsMain self.old (W.kinds world.old) }
         requires plain { name ≢ [] }
         requires file { assignment_of name ≡ None }
@@ -355,7 +354,7 @@ impl MainInput {
         requires idle { self.old.reading ≡ Reading.Nothing }
         requires live { self.old.ended ≡ false }
         requires name { NameLen text.now (Some len) }
-        requires next { self.old.next ≤ 2 ^ 20 }
+        requires next { self.old.next ≤ most_operands }
         requires left { self.old.found ≢ Found.NoneLeft }
         ensures standard { self.new.standard ≡ self.old.standard }
         ensures reading { self.new.reading ≡ self.old.reading }
@@ -389,7 +388,7 @@ impl MainInput {
     ) -> Result<Option<MainNext>, Stop>
         requires idle { self.old.reading ≡ Reading.Nothing }
         requires live { self.old.ended ≡ false }
-        requires next { self.old.next ≤ 2 ^ 20 }
+        requires next { self.old.next ≤ most_operands }
         requires left { self.old.found ≢ Found.NoneLeft }
         requires held { HoldsMain self.old (W.kinds world.old) }
         ensures held { HoldsMain self.new (W.kinds world.new) }

@@ -9,8 +9,9 @@ ghost use Rattle.host_streams.specs.Outputs.{BeginsPutTo, EndsPutTo, IsOf, PutsT
 ghost use Rattle.host_streams.specs.Puts.{BeginsBy, EndsPut, IsOver, OpensOr, PutCounts, PutsBy, Spares};
 
 use crate::put::put_open;
-use crate::streams::{NamedWriter, STREAMS, Streams};
+use crate::streams::{NamedWriter, Streams};
 use awk_values::{Bytes, Fault, Stop};
+use sem_primitives::MAX_STREAMS;
 use world_core::{World, WorldFault};
 
 /// Where a text goes.
@@ -116,7 +117,7 @@ impl Streams {
             → PutsBy (written_by false name.now append text.now shared) result (W.state world.old)
             (W.state world.new) }
     {
-        if self.readers.as_slice().len() + self.writers.as_slice().len() >= STREAMS {
+        if self.readers.as_slice().len() + self.writers.as_slice().len() >= MAX_STREAMS {
             return Err(Stop::Fault(Fault::TooManyStreams));
         }
         let own = Bytes::from_slice(self.alloc, name)?;

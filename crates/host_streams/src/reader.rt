@@ -1,6 +1,7 @@
 //! Records of an open stream.
-ghost use Rattle.std.specs.Prelude.{◌≡◌, ◌≢◌, ◌+◌, ◌<◌, ◌≤◌, ◌^◌, ◌++◌, [], length, take, drop, IfOk, OnErr, OnOk, IsTrue, IsFalse, slice_range, vec_capacity, vec_len};
+ghost use Rattle.std.specs.Prelude.{◌≡◌, ◌≢◌, ◌+◌, ◌<◌, ◌≤◌, ◌++◌, [], length, take, drop, IfOk, OnErr, OnOk, IsTrue, IsFalse, slice_range, vec_capacity, vec_len};
 ghost use Rattle.awk_values.specs.declared.fault.Stop.TheVariants.{NoMemory};
+ghost use Rattle.sem_primitives.specs.Limits.{most_text};
 ghost use Rattle.sem_primitives.specs.Records.{record_separator};
 ghost use Rattle.world_core.specs.Calls.{Reading, next_count};
 ghost use Rattle.host_streams.specs.Looks.{IsOpen, IsScanned};
@@ -190,7 +191,7 @@ impl Reader {
     /// Reads a piece more. Where that fails, it answers false, and the reader is broken from then on.
     fn more<W: World>(&mut self, alloc: Global, world: &mut W) -> Result<bool, Stop>
         requires reading { W.kinds world.old self.old.id ≡ Reading }
-        requires short { length (unread self.old) ≤ 2 ^ 26 + 1 }
+        requires short { length (unread self.old) ≤ most_text + 1 }
         requires live { self.old.phase ≡ Phase.Open }
         ensures id { self.new.id ≡ self.old.id }
         ensures kinds { W.kinds world.new ≡ W.kinds world.old }

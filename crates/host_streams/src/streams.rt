@@ -13,11 +13,9 @@ ghost use Rattle.host_streams.specs.Readers.{HandsOver, NextCounts, NextPhase, O
 use crate::FileNext;
 use crate::reader::Reader;
 use awk_values::{Bytes, Fault, Stop};
+use sem_primitives::MAX_STREAMS;
 use std::alloc::Global;
 use world_core::{World, WorldFault};
-
-/// How many streams may be open.
-pub(crate) const STREAMS: usize = 256;
 
 #[derive(Drop)]
 pub(crate) struct NamedReader {
@@ -97,7 +95,7 @@ impl Streams {
         ensures places { W.tells
             → OthersKeep self.old (W.kinds world.old) (W.state world.old) (W.state world.new) }
     {
-        if self.readers.as_slice().len() + self.writers.as_slice().len() >= STREAMS {
+        if self.readers.as_slice().len() + self.writers.as_slice().len() >= MAX_STREAMS {
             return Err(Stop::Fault(Fault::TooManyStreams));
         }
         let at = self.readers.as_slice().len();

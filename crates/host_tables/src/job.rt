@@ -6,10 +6,8 @@ ghost use Rattle.host_tables.specs.Starts.{empty_job, is_long_pair, job_of};
 
 use awk_values::{Bytes, Fault};
 use host_names::NamedText;
+use sem_primitives::MAX_TEXT;
 use std::alloc::Global;
-
-/// The greatest length of a text.
-const TEXT_LIMIT: usize = 1 << 26;
 
 /// What a run is started with (POSIX.1-2017 awk, "Operands", "Options" and "Environment variables").
 #[derive(Drop)]
@@ -38,7 +36,7 @@ impl Job {
 fn is_long(text: &Bytes) -> bool
     ensures { result ≡ is_long text.now }
 {
-    text.len() > TEXT_LIMIT
+    text.len() > MAX_TEXT
 }
 
 fn is_long_pair(pair: &NamedText) -> bool

@@ -1,5 +1,5 @@
 //! Primitives on texts that change nothing but handles.
-ghost use Rattle.std.specs.Prelude.{◌≡◌, IfOk, length};
+ghost use Rattle.std.specs.Prelude.{◌≡◌, IfOk};
 ghost use Rattle.awk_values.specs.Values.{text_of_value};
 ghost use Rattle.host_step.specs.HostState.{HostState};
 ghost use Rattle.host_format.specs.Parts.{part};
@@ -15,24 +15,12 @@ use crate::record::{field, get_special, set_field, set_special};
 use crate::reply::{Evaluated, Reply, counted};
 use crate::spent::Spent;
 use crate::texts::Texts;
-use awk_text::text_of;
 use awk_values::{Bytes, Value};
 use host_format::{index_of, lower, substr, upper};
 use host_handles::Handles;
-use host_values::{Refusal, ends, number_front, value_after, value_front, value_text};
+use host_values::{Refusal, ends, number_front, text_len, value_after, value_front, value_text};
 use std::alloc::{AllocError, Global};
 use wasm_store::Word;
-
-/// The length of a value's text.
-fn text_len(value: &Value) -> usize
-    ensures { result ≡ length (text_of_value value.now) }
-{
-    match value {
-        Value::Uninit => 0,
-        Value::Num(number) => text_of(*number).as_bytes().len(),
-        Value::Text(text) | Value::StrNum(text) => text.len(),
-    }
-}
 
 #[inline(always)]
 fn length(handles: &Handles, words: &[Word]) -> Result<Evaluated, Refusal>

@@ -1,5 +1,6 @@
 //! Two parts of a key.
-ghost use Rattle.std.specs.Prelude.{◌≡◌, ◌+◌, ◌++◌, ◌^◌, IfOk, nat_le};
+ghost use Rattle.std.specs.Prelude.{◌≡◌, ◌+◌, ◌++◌, IfOk, nat_le};
+ghost use Rattle.sem_primitives.specs.Limits.{most_text};
 ghost use Rattle.sem_primitives.specs.ValueMeaning.{within_limit};
 ghost use Rattle.sem_primitives.specs.declared.constants.Special.{Special as AnySpecial};
 ghost use Rattle.awk_values.specs.Values.{text_of_value};
@@ -14,21 +15,18 @@ use crate::texts::Texts;
 use awk_values::{Bytes, Fault, Value};
 use host_handles::Handles;
 use host_values::{Refusal, ends, push_text, text_len, value_after, value_front};
-use sem_primitives::Special;
+use sem_primitives::{MAX_TEXT, Special};
 use std::alloc::{AllocError, Global};
 use wasm_store::Word;
 
-/// The greatest length of a text.
-const TEXT_LIMIT: usize = 1 << 26;
-
 /// Whether three texts are within the limit together.
 fn fits(left: usize, between: usize, right: usize) -> bool
-    ensures { result ≡ nat_le (left + (between + right)) (2 ^ 26) }
+    ensures { result ≡ nat_le (left + (between + right)) most_text }
 {
-    left <= TEXT_LIMIT
-        && between <= TEXT_LIMIT
-        && right <= TEXT_LIMIT
-        && left + (between + right) <= TEXT_LIMIT
+    left <= MAX_TEXT
+        && between <= MAX_TEXT
+        && right <= MAX_TEXT
+        && left + (between + right) <= MAX_TEXT
 }
 
 /// The texts of two values with another between them.

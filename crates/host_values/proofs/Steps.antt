@@ -5,14 +5,14 @@ use Rattle.std.specs.Int.{w64, cast_unsigned}
 use Rattle.std.specs.FinMap as map
 use Rattle.awk_values.specs.Comparison.{comparison}
 use Rattle.awk_values.specs.Operators.{power}
-use Rattle.awk_values.specs.Values.{number_of_value, text_of_value, truth_of_value}
+use Rattle.awk_values.specs.Values.{number_of_value, text_of_value, truth_of_value, truncated_of_value}
 use Rattle.awk_values.specs.declared.fault.Fault.{Fault}
 use Rattle.awk_values.specs.declared.value.Value.{Value as AnyValue}
 use Rattle.sem_primitives.specs.Constants.{flag_number}
 use Rattle.sem_primitives.specs.SharedState.{Shared, gives}
 use Rattle.sem_primitives.specs.Sorts.{InAnswer}
 use Rattle.sem_primitives.specs.Table.{answer_of}
-use Rattle.sem_primitives.specs.ValueMeaning.{truncated, within_limit}
+use Rattle.sem_primitives.specs.ValueMeaning.{within_limit}
 use Rattle.sem_primitives.specs.declared.sorts.Answer.{Answer}
 use Rattle.sem_primitives.specs.declared.sorts.Answer.TheVariants as answer
 use Rattle.sem_primitives.specs.declared.sorts.Argument.TheVariants as argument
@@ -52,7 +52,7 @@ matching Lit s m words memory = other (answer_of row.Lit) s (place_front memory 
 matching Uninit s m words memory = stop (answer_of row.Uninit) s words (names_with m s) _ m _ (refl, record { added = refl; inner = refl; arguments = refl; fits = refl })
 matching Dup s m words memory = looked (answer_of row.Dup) s [] (spends (Of row.Dup)) memory refl m words _ _ (λ h v rest. stop (answer_of row.Dup) s rest (names_with m s) _ m _ (refl, record { added = refl; inner = refl; arguments = refl; fits = refl }))
 matching ToNum s m words memory = taken (answer_of row.ToNum) s [] (spends (Of row.ToNum)) memory refl m words _ _ (λ v left rest. stop (answer_of row.ToNum) s rest (names_with left s) _ left _ (refl, record { added = refl; inner = refl; arguments = refl; fits = fits_number (number_of_value v) }))
-matching IntOf s m words memory = taken (answer_of row.IntOf) s [] (spends (Of row.IntOf)) memory refl m words _ _ (λ v left rest. stop (answer_of row.IntOf) s rest (names_with left s) _ left _ (refl, record { added = refl; inner = refl; arguments = refl; fits = fits_number (truncated v) }))
+matching IntOf s m words memory = taken (answer_of row.IntOf) s [] (spends (Of row.IntOf)) memory refl m words _ _ (λ v left rest. stop (answer_of row.IntOf) s rest (names_with left s) _ left _ (refl, record { added = refl; inner = refl; arguments = refl; fits = fits_number (truncated_of_value v) }))
 matching Truth s m words memory = taken (answer_of row.Truth) s [] (spends (Of row.Truth)) memory refl m words _ _ (λ v left rest. stop (answer_of row.Truth) s rest (names_with left s) _ left (Ok (reply.Truth (truth_of_value v))) (refl, record { added = refl; inner = refl; arguments = refl; fits = refl }))
 matching Compare s m words memory =
     other (answer_of row.Compare) s (constant_front constant.Comparison words) (λ rest. decode (spends (Of row.Compare)) memory (names_with m s) (argument.Of sort.Value ∷ argument.Of sort.Value ∷ []) rest) _ _ (λ op behind_op.

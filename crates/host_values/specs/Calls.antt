@@ -4,6 +4,7 @@ use Rattle.std.specs.Int.{w64, cast_unsigned}
 use Rattle.std.specs.FinMap as map
 use Rattle.awk_values.specs.declared.value.Value.{Value as AnyValue}
 use Rattle.sem_primitives.specs.Constants.{flag_number}
+use Rattle.host_slots.specs.Tables.{most_slots}
 use Rattle.wasm_model.specs.declared.host.HostAnswer.{HostAnswer}
 use Rattle.wasm_model.specs.declared.host.HostAnswer.TheVariants as told
 use Rattle.wasm_store.specs.declared.word.Word.{Word}
@@ -21,7 +22,7 @@ use Rattle.host_values.specs.declared.reply.Refusal.TheVariants as refusal
 
 -- the number that is never a handle
 abbrev pub spare : ℤ
-spare = pos 2147483647
+spare = pos most_slots
 
 -- tables, and a state, with these values
 abbrev pub names_with : Values → HostState → Names

@@ -5,12 +5,12 @@ use Rattle.std.specs.FinMap as map
 use Rattle.std.specs.FinMap.{FinMap}
 use Rattle.awk_values.specs.Comparison.{comparison}
 use Rattle.awk_values.specs.Operators.{Outcome, checked, power}
-use Rattle.awk_values.specs.Values.{number_of_value, text_of_value, truth_of_value}
+use Rattle.awk_values.specs.Values.{number_of_value, text_of_value, truth_of_value, truncated_of_value}
 use Rattle.awk_values.specs.declared.fault.Fault.{Fault}
 use Rattle.awk_values.specs.declared.value.Value.{Value as AnyValue}
 use Rattle.awk_values.specs.declared.value.Value.TheVariants as value
 use Rattle.sem_primitives.specs.Constants.{InConstant}
-use Rattle.sem_primitives.specs.ValueMeaning.{truncated, within_limit}
+use Rattle.sem_primitives.specs.ValueMeaning.{within_limit}
 use Rattle.sem_primitives.specs.declared.sorts.Constant.{Constant}
 use Rattle.sem_primitives.specs.declared.sorts.Constant.TheVariants as constant
 use Rattle.wasm_store.specs.declared.trap.TrapKind.{TrapKind}
@@ -80,7 +80,7 @@ evaluation Lit values memory words = front_then (place_front memory words) (λ t
 evaluation Uninit values memory words = ends_then (no_more words) values (Ok (reply.Value value.Uninit))
 evaluation Dup values memory words = handle_then (handle_front values words) (λ h v rest. ends_then (no_more rest) values (Ok (reply.Value v)))
 evaluation ToNum values memory words = value_then values words (λ v left rest. ends_then (no_more rest) left (number_reply (number_of_value v)))
-evaluation IntOf values memory words = value_then values words (λ v left rest. ends_then (no_more rest) left (number_reply (truncated v)))
+evaluation IntOf values memory words = value_then values words (λ v left rest. ends_then (no_more rest) left (number_reply (truncated_of_value v)))
 evaluation Truth values memory words = value_then values words (λ v left rest. ends_then (no_more rest) left (Ok (reply.Truth (truth_of_value v))))
 evaluation Compare values memory words =
     constant_then constant.Comparison words (λ op behind_op. value_then values behind_op

@@ -1,11 +1,11 @@
 //! Primitives on values.
-ghost use Rattle.std.specs.Prelude.{◌≡◌, ◌+◌, ◌++◌, ◌^◌, ◌≤◌, [], IfOk, OnOk, length, nat_le, true};
-ghost use Rattle.sem_primitives.specs.ValueMeaning.{truncated, within_limit};
+ghost use Rattle.std.specs.Prelude.{◌≡◌, ◌+◌, ◌++◌, ◌≤◌, [], IfOk, OnOk, length, nat_le, true};
+ghost use Rattle.sem_primitives.specs.Limits.{most_text};
+ghost use Rattle.sem_primitives.specs.ValueMeaning.{within_limit};
 ghost use Rattle.host_values.specs.declared.primitive.ValuePrimitive.{ValuePrimitive};
 ghost use Rattle.std.specs.Ordering.{int_cmp};
 ghost use Rattle.awk_values.specs.Comparison.{comparison, holds};
-ghost use Rattle.awk_values.specs.Values.{as_fault, text_of_value};
-ghost use Rattle.awk_text.specs.Number.{truncated_of_text};
+ghost use Rattle.awk_values.specs.Values.{text_of_value};
 ghost use Rattle.host_values.specs.declared.spent.Spent.{Spent};
 ghost use Rattle.host_values.specs.Evaluations.{Evaluates, Values, evaluation, value_reply};
 
@@ -16,14 +16,12 @@ use crate::spent::Spent;
 use crate::words::{
     comparison_front, ends, fault_front, number_front, place_front, value_after, value_front,
 };
-use awk_text::{NumberFault, text_of, truncated_of};
-use awk_values::{Bytes, CompareOp, Fault, Value, compare, pow, to_number, truth};
+use awk_text::text_of;
+use awk_values::{Bytes, CompareOp, Fault, Value, compare, pow, to_number, truncated, truth};
 use host_handles::Handles;
+use sem_primitives::MAX_TEXT;
 use std::alloc::{AllocError, Global};
 use wasm_store::Word;
-
-/// The greatest length of a text.
-const TEXT_LIMIT: usize = 1 << 26;
 
 /// An outcome of a call that spends nothing.
 #[inline(always)]
@@ -100,29 +98,6 @@ fn to_num(handles: &Handles, words: &[Word]) -> Result<Evaluated, Refusal>
         spent: Spent::One(handle),
         outcome: number_reply(to_number(value)),
     })
-}
-
-/// The truncated number of a text.
-fn truncated_text(text: &[u8]) -> Result<i64, Fault>
-    ensures { result ≡ as_fault (truncated_of_text text.now) }
-{
-    match truncated_of(text) {
-        Ok(number) => Ok(number),
-        Err(NumberFault::Range) => Err(Fault::Range),
-        Err(NumberFault::Fraction) => Err(Fault::Fraction),
-    }
-}
-
-/// The number of a value, truncated towards 0.
-#[inline(always)]
-fn truncated(value: &Value) -> Result<i64, Fault>
-    ensures { result ≡ truncated value.now }
-{
-    match value {
-        Value::Uninit => Ok(0),
-        Value::Num(number) => Ok(*number),
-        Value::Text(text) | Value::StrNum(text) => truncated_text(text.as_slice()),
-    }
 }
 
 #[inline(always)]
@@ -230,10 +205,10 @@ fn joined(alloc: Global, room: usize, left: &Value, right: &Value) -> Result<Byt
 
 /// Whether two texts are within the limit together.
 fn fits(left: usize, right: usize) -> bool
-    ensures value { result ≡ nat_le (left + right) (2 ^ 26) }
-    ensures within { result ≡ true → left + right ≤ 2 ^ 26 }
+    ensures value { result ≡ nat_le (left + right) most_text }
+    ensures within { result ≡ true → left + right ≤ most_text }
 {
-    left <= TEXT_LIMIT && right <= TEXT_LIMIT && left + right <= TEXT_LIMIT
+    left <= MAX_TEXT && right <= MAX_TEXT && left + right <= MAX_TEXT
 }
 
 /// The texts of two values as one, where that is within the limit.

@@ -16,6 +16,6 @@ pub use evaluate::{push_text, text_len};
 pub use literals::Literals;
 pub use primitive::ValuePrimitive;
 pub use reply::{Refusal, Reply};
-pub use single::{append, release};
+pub use single::{append, only_handle, release};
 pub use text::{ValueText, shared_text, value_text};
-pub use words::{ends, number_front, value_after, value_front};
+pub use words::{ends, number_front, place_front, value_after, value_front};

@@ -8,8 +8,8 @@ use std::marker::Model;
 /// How many are kept.
 const MANY: usize = 64;
 
-/// Texts that a module had in its memory when it asked for them last, by their places. They change no answer, so a clause sees nothing of them: what is kept is given
-/// only where the memory has the same bytes still.
+/// Texts that a module had in its memory when it asked for them last, by their places. They change no answer, so a clause sees nothing of them: what is kept is
+/// given only where the memory has the same bytes still.
 #[derive(Drop)]
 pub struct Literals {
     kept: Vec<Option<Bytes>>,

@@ -13,8 +13,12 @@ use smallvec::SmallVec;
 use wasm_store::{TrapKind, Word};
 
 /// The one handle that words name, with its value.
+///
+/// # Errors
+///
+/// The trap of words that name no handle, or more than one.
 #[inline(always)]
-fn only_handle<'a>(handles: &'a Handles, words: &[Word]) -> Result<(i32, &'a Value), TrapKind>
+pub fn only_handle<'a>(handles: &'a Handles, words: &[Word]) -> Result<(i32, &'a Value), TrapKind>
     ensures { lent_only result ≡ only_handle handles.now words.now }
 {
     let (handle, value, rest) = value_front(handles, words)?;

@@ -185,8 +185,12 @@ fn text_at(memory: &[u8], place: u32, size: u32) -> Option<&[u8]>
     Some(&memory[from..end])
 }
 
-/// A text in memory, by its place and its length.
-pub(crate) fn place_front<'a>(
+/// A text in memory, by its place and its length, and the words behind it.
+///
+/// # Errors
+///
+/// The trap of words that name no place, or one that is not within the memory.
+pub fn place_front<'a>(
     memory: &'a [u8],
     words: &'a [Word],
 ) -> Result<(&'a [u8], &'a [Word]), TrapKind>

@@ -1,6 +1,7 @@
 -- Where the texts and the arrays of a script stand, and which scripts are small enough.
 use Rattle.std.specs.Prelude.{ℕ, suc, ◌+◌, ◌++◌, ◌≡◌, ◌≤◌, ◌<◌, ◌^◌, List, [], ◌∷◌, length, map}
 use Rattle.mid_program.specs.Mid.{Kind, Boxed, Declared, Many, Program, Routine, Unboxed}
+use Rattle.wasm_types.specs.Profile.{most_module_bytes}
 use Rattle.lower_model.specs.Places.{memory_of}
 use Rattle.lower_model.specs.Functions.{texts_of}
 use Rattle.lower_layout.specs.declared.spans.Span.{Span}
@@ -23,9 +24,9 @@ arrays_from at (Many ∷ ks) = at ∷ arrays_from (suc at) ks
 arrays_from at (Boxed ∷ ks) = arrays_from (suc at) ks
 arrays_from at (Unboxed ∷ ks) = arrays_from (suc at) ks
 
--- more names or ranges a script does not have
+-- more names or ranges a script does not have: each takes a byte of the module
 abbrev pub most_names : ℕ
-most_names = 2 ^ 24
+most_names = most_module_bytes
 
 -- few enough names and ranges, and texts that fit in memory
 abbrev pub IsSmall : Program → Type 0

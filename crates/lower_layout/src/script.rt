@@ -9,9 +9,10 @@ use crate::places::Layout;
 use crate::spans::{place_globals, place_routines, place_texts};
 use mid_program::{Declared, Kind, Mid};
 use std::alloc::{AllocError, Global};
+use wasm_types::MAX_MODULE_BYTES;
 
-/// More names or ranges a script does not have.
-const MOST_NAMES: usize = 1 << 24;
+/// More names or ranges a script does not have: each takes a byte of the module.
+const MOST_NAMES: usize = MAX_MODULE_BYTES;
 
 /// Which of the names are arrays.
 fn array_names(alloc: Global, names: &[Declared]) -> Result<Vec<usize>, AllocError>
@@ -31,8 +32,8 @@ fn array_names(alloc: Global, names: &[Declared]) -> Result<Vec<usize>, AllocErr
 ///
 /// # Errors
 ///
-/// [`LowerFault::TooLarge`] where it has more than 16,777,216 names or ranges, or where its texts and names take 2^32 bytes or more, and nowhere else; and
-/// [`LowerFault::NoMemory`].
+/// [`LowerFault::TooLarge`] where it has more names or ranges than a module has bytes, or where its texts and names take 2^32 bytes or more, and nowhere else;
+/// and [`LowerFault::NoMemory`].
 pub fn layout(alloc: Global, mid: &Mid) -> Result<Layout<'_>, LowerFault>
     ensures layout { IfOk result (λ made. made.program.now ≡ mid.now) }
     ensures too_large { IfErr result

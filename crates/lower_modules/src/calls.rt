@@ -14,7 +14,7 @@ use wasm_types::{Instr, Simple};
 
 /// Notes what an instruction calls, if that is an import.
 fn note_simple(called: &mut Vec<bool>, simple: Simple)
-    ensures { called.new.items ≡ noted (λ i. is_call i simple) called.old.items }
+    ensures { called.new.items ≡ noted (λ import. is_call import simple) called.old.items }
 {
     match simple {
         Simple::Call(number) => {
@@ -30,7 +30,8 @@ fn note_simple(called: &mut Vec<bool>, simple: Simple)
 /// Notes which imports an instruction calls.
 #[cycle(calls)]
 fn note_calls_by(called: &mut Vec<bool>, instr: &Instr)
-    ensures { called.new.items ≡ noted (λ i. calls_by i (view instr.now)) called.old.items }
+    ensures { called.new.items ≡
+        noted (λ import. calls_by import (view instr.now)) called.old.items }
 {
     match instr {
         Instr::Plain(simple) => note_simple(called, *simple),
@@ -47,7 +48,8 @@ fn note_calls_by(called: &mut Vec<bool>, instr: &Instr)
 /// Notes which imports code calls.
 #[cycle(calls)]
 fn note_calls_in(called: &mut Vec<bool>, code: &[Instr])
-    ensures { called.new.items ≡ noted (λ i. calls_in i (views code.now)) called.old.items }
+    ensures { called.new.items ≡
+        noted (λ import. calls_in import (views code.now)) called.old.items }
 {
     for instr in code {
         note_calls_by(called, instr);
@@ -55,12 +57,13 @@ fn note_calls_in(called: &mut Vec<bool>, code: &[Instr])
 }
 
 /// For each import, whether it is called: one walk over the code finds all of them.
-pub(crate) fn called_imports(alloc: Global, fs: &[Function]) -> Result<Vec<bool>, AllocError>
-    ensures { IfOk result (λ bs. bs.items ≡ called_from 0 imports (view_functions fs.now)) }
+pub(crate) fn called_imports(alloc: Global, functions: &[Function]) -> Result<Vec<bool>, AllocError>
+    ensures { IfOk result
+        (λ called. called.items ≡ called_from 0 imports (view_functions functions.now)) }
 {
     let mut called = vec![in alloc; false; IMPORT_COUNT]?;
-    for f in fs {
-        note_calls_in(&mut called, &f.body);
+    for function in functions {
+        note_calls_in(&mut called, &function.body);
     }
     Ok(called)
 }
@@ -72,9 +75,9 @@ pub(crate) fn chosen(alloc: Global, called: &[bool]) -> Result<Vec<Import>, Allo
     ensures few { IfOk result (λ used. length used.items ≤ length imports) }
 {
     let mut used = Vec::new(alloc);
-    for i in 0..IMPORT_COUNT {
-        if called[i] {
-            used.push(IMPORTS[i])?;
+    for place in 0..IMPORT_COUNT {
+        if called[place] {
+            used.push(IMPORTS[place])?;
         }
     }
     Ok(used)
@@ -111,7 +114,7 @@ fn renumbered_simple(called: &[bool], simple: Simple) -> Simple
 /// An instruction whose calls have the new numbers.
 #[cycle(renumbering)]
 fn renumbered_one(alloc: Global, called: &[bool], instr: &Instr) -> Result<Instr, AllocError>
-    ensures { IfOk result (λ r. view r ≡ renumbered_one called.now (view instr.now)) }
+    ensures { IfOk result (λ made. view made ≡ renumbered_one called.now (view instr.now)) }
 {
     match instr {
         Instr::Plain(simple) => Ok(Instr::Plain(renumbered_simple(called, *simple))),

@@ -71,12 +71,12 @@ pub fn least_in(code: &[Instr]) -> u64
 }
 
 /// What the code of functions takes at least.
-pub(crate) fn least_among(fs: &[Function]) -> u64
-    ensures { result ≤ least_among (view_functions fs.now) }
+pub(crate) fn least_among(functions: &[Function]) -> u64
+    ensures { result ≤ least_among (view_functions functions.now) }
 {
     let mut bytes: u64 = 0;
-    for f in fs {
-        bytes = bytes.saturating_add(least_in(&f.body));
+    for function in functions {
+        bytes = bytes.saturating_add(least_in(&function.body));
     }
     bytes
 }

@@ -5,7 +5,7 @@ mod calls;
 mod function;
 mod lengths;
 mod module;
-mod parts;
+mod sections;
 mod types;
 
 pub use function::Function;

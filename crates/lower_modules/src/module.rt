@@ -12,7 +12,7 @@ ghost use Rattle.wasm_types.specs.View.{signature_of, view_module};
 use crate::calls::{called_imports, chosen};
 use crate::function::Function;
 use crate::lengths::least_among;
-use crate::parts::{
+use crate::sections::{
     function_forms, globals, import_forms, main_export, memory, memory_for, text_segment,
 };
 use crate::types::{function_types, import_types};
@@ -20,19 +20,20 @@ use host_imports::Import;
 use lower_layout::LowerFault;
 use mid_program::Mid;
 use std::alloc::{AllocError, Global};
-use wasm_types::{FuncType, Module};
-
-/// The most bytes of a module.
-const MOST_BYTES: usize = 16_777_216;
+use wasm_types::{FuncType, MAX_MODULE_BYTES, Module};
 
 /// The types of imports, and those of functions.
-fn types(alloc: Global, used: &[Import], fs: &[Function]) -> Result<Vec<FuncType>, AllocError>
+fn types(
+    alloc: Global,
+    used: &[Import],
+    functions: &[Function],
+) -> Result<Vec<FuncType>, AllocError>
     ensures { IfOk result
         (λ all. map signature_of all.items
-        ≡ map import_type used.now ++ map callee_type (view_functions fs.now)) }
+        ≡ map import_type used.now ++ map callee_type (view_functions functions.now)) }
 {
     let mut all = import_types(alloc, used)?;
-    let mut others = function_types(alloc, fs)?;
+    let mut others = function_types(alloc, functions)?;
     all.append(&mut others)?;
     Ok(all)
 }
@@ -45,11 +46,11 @@ fn small_memory(alloc: Global, mid: &Mid) -> Result<Vec<u8>, LowerFault>
     ensures too_large { IfErr result
         (λ fault. fault ≡ LowerFault.TooLarge → IsTooLarge (view_mid mid.now)) }
 {
-    if mid.routines.len() > MOST_BYTES {
+    if mid.routines.len() > MAX_MODULE_BYTES {
         return Err(LowerFault::TooLarge);
     }
     let bytes = memory(alloc, mid)?;
-    if bytes.len() > MOST_BYTES {
+    if bytes.len() > MAX_MODULE_BYTES {
         return Err(LowerFault::TooLarge);
     }
     Ok(bytes)
@@ -61,28 +62,28 @@ fn small_memory(alloc: Global, mid: &Mid) -> Result<Vec<u8>, LowerFault>
 ///
 /// [`LowerFault::TooLarge`] where texts and names take more than 16,777,216 bytes, or there are more functions than that, or the code takes more at least,
 /// which is told before any more is made of it; and [`LowerFault::NoMemory`].
-pub fn module_for(alloc: Global, mid: &Mid, fs: &[Function]) -> Result<Module, LowerFault>
-    requires { view_functions fs.now ≡ all_callees (view_mid mid.now) }
-    ensures module { IfOk result (λ m. view_module m ≡ module_of (view_mid mid.now)) }
+pub fn module_for(alloc: Global, mid: &Mid, functions: &[Function]) -> Result<Module, LowerFault>
+    requires { view_functions functions.now ≡ all_callees (view_mid mid.now) }
+    ensures module { IfOk result (λ made. view_module made ≡ module_of (view_mid mid.now)) }
     ensures small { IfOk result
-        (λ m. (length (memory_of (texts_of (view_mid mid.now))) ≤ most_bytes)
+        (λ made. (length (memory_of (texts_of (view_mid mid.now))) ≤ most_bytes)
         × (length (view_mid mid.now).routines ≤ most_bytes)) }
     ensures too_large { IfErr result
         (λ fault. fault ≡ LowerFault.TooLarge → IsTooLarge (view_mid mid.now)) }
 {
-    if least_among(fs) > MOST_BYTES as u64 {
+    if least_among(functions) > MAX_MODULE_BYTES as u64 {
         return Err(LowerFault::TooLarge);
     }
     let bytes = small_memory(alloc, mid)?;
-    let called = called_imports(alloc, fs)?;
+    let called = called_imports(alloc, functions)?;
     let used = chosen(alloc, &called)?;
     let first = used.len() as u32;
     let size = bytes.len() as u32;
     let main = first + mid.routines.len() as u32;
     Ok(Module {
-        types: types(alloc, &used, fs)?,
+        types: types(alloc, &used, functions)?,
         imports: import_forms(alloc, &used)?,
-        funcs: function_forms(alloc, &called, first, fs)?,
+        funcs: function_forms(alloc, &called, first, functions)?,
         tables: Vec::new(alloc),
         memories: vec![in alloc; memory_for(size)]?,
         globals: globals(alloc, mid)?,

@@ -34,11 +34,11 @@ fn kind_types(alloc: Global, kinds: &[Kind]) -> Result<Vec<ValType>, AllocError>
 }
 
 /// The type of a function: its parameters, and whether it ended.
-fn function_type(alloc: Global, f: &Function) -> Result<FuncType, AllocError>
-    ensures { IfOk result (λ ty. signature_of ty ≡ callee_type (view_function f.now)) }
+fn function_type(alloc: Global, function: &Function) -> Result<FuncType, AllocError>
+    ensures { IfOk result (λ made. signature_of made ≡ callee_type (view_function function.now)) }
 {
     Ok(FuncType {
-        params: kind_types(alloc, &f.kinds)?,
+        params: kind_types(alloc, &function.kinds)?,
         result: Some(ValType::I32),
     })
 }
@@ -55,13 +55,16 @@ pub(crate) fn import_types(alloc: Global, used: &[Import]) -> Result<Vec<FuncTyp
 }
 
 /// The types of functions.
-pub(crate) fn function_types(alloc: Global, fs: &[Function]) -> Result<Vec<FuncType>, AllocError>
+pub(crate) fn function_types(
+    alloc: Global,
+    functions: &[Function],
+) -> Result<Vec<FuncType>, AllocError>
     ensures { IfOk result
-        (λ all. map signature_of all.items ≡ map callee_type (map view_function fs.now)) }
+        (λ all. map signature_of all.items ≡ map callee_type (map view_function functions.now)) }
 {
     let mut types = Vec::new(alloc);
-    for f in fs {
-        types.push(function_type(alloc, f)?)?;
+    for function in functions {
+        types.push(function_type(alloc, function)?)?;
     }
     Ok(types)
 }

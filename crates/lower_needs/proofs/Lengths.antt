@@ -4,7 +4,8 @@ use Rattle.wasm_types.specs.declared.types.ValType.{ValType}
 use Rattle.wasm_types.specs.declared.types.ValType.TheVariants.{I32, I64}
 use Rattle.lower_model.specs.Places.{Bases, handle_types, local_types, temporary_types}
 use Rattle.lower_needs.specs.Counted.{counted}
-use Rattle.lower_needs.specs.Fits.{most_locals, most_parameters, view_needs, FewLocals, IsFew, IsNeeds}
+use Rattle.wasm_types.specs.Profile.{most_locals}
+use Rattle.lower_needs.specs.Fits.{most_parameters, view_needs, FewLocals, IsFew, IsNeeds}
 use Rattle.lower_needs.specs.declared.needs.Needs.{Needs}
 
 handle_count : (n : ℕ) → length (handle_types n) ≡ n

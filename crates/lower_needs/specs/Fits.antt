@@ -1,14 +1,12 @@
 -- Which functions have few enough locals.
-use Rattle.std.specs.Prelude.{◌≡◌, ℕ, ◌<◌, ◌≤◌, ◌^◌, length, Option, MatchOption}
+use Rattle.std.specs.Prelude.{◌≡◌, ℕ, ◌<◌, ◌≤◌, length, Option, MatchOption}
+use Rattle.wasm_types.specs.Profile.{most_locals, most_module_bytes}
 use Rattle.lower_model.specs.Places.{Bases, local_types}
 use Rattle.lower_needs.specs.declared.needs.Needs.{Needs}
 
--- of a module's function, parameters aside
-abbrev pub most_locals : ℕ
-most_locals = 50000
-
+-- a function does not have more parameters: each takes a byte of the module
 abbrev pub most_parameters : ℕ
-most_parameters = 2 ^ 24
+most_parameters = most_module_bytes
 
 pub record FewLocals (b : Bases) : Type 0 where
   pub parameters : b.parameters ≤ most_parameters

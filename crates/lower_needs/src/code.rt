@@ -11,7 +11,7 @@ use mid_program::{Code, Operand, Operation};
 
 /// How many temporaries an operation needs at least.
 fn least_room(operation: Operation) -> u32
-    ensures { (es : Codes) → max result (rooms es) ≡ room (Do operation es) }
+    ensures { (operands : Codes) → max result (rooms operands) ≡ room (Do operation operands) }
 {
     match operation {
         Operation::Inline(_) => 3,
@@ -45,9 +45,9 @@ pub(crate) fn counts_in(code: &Code) -> Counts
         }
         Code::Over(_, operands) => at_least(1, counts_among(operands)),
         Code::Call(_, operands) => at_least(1, counts_among(operands)),
-        Code::Compare(_, a, b) => both(counts_in(a), later(counts_in(b))),
-        Code::Let(a, b) => both(counts_in(a), later(counts_in(b))),
-        Code::Seq(a, b) => both(counts_in(a), counts_in(b)),
+        Code::Compare(_, left, right) => both(counts_in(left), later(counts_in(right))),
+        Code::Let(value, rest) => both(counts_in(value), later(counts_in(rest))),
+        Code::Seq(first, second) => both(counts_in(first), counts_in(second)),
         Code::AskLine(store) => stored(counts_in(store)),
         Code::FileLine(name, store) => both(counts_in(name), stored(counts_in(store))),
         Code::Replace(_, operands, store) => both(
@@ -55,8 +55,11 @@ pub(crate) fn counts_in(code: &Code) -> Counts
             stored(counts_in(store)),
         ),
         Code::Set(_, value) => counts_in(value),
-        Code::Choose(_, test, a, b) => {
-            both(counts_in(test), inside(both(counts_in(a), counts_in(b)), 1))
+        Code::Choose(_, test, yes, no) => {
+            both(
+                counts_in(test),
+                inside(both(counts_in(yes), counts_in(no)), 1),
+            )
         }
         Code::Ask => only(2),
         Code::Number(_)
@@ -96,10 +99,10 @@ fn counts_among(operands: &[Operand]) -> Counts
     ensures labels { result.labels ≡ counted (labels_among (views operands.now)) }
 {
     let mut needed = only(0);
-    let mut i = operands.len();
-    while i > 0 {
-        i -= 1;
-        needed = operand_counts(&operands[i], needed);
+    let mut left = operands.len();
+    while left > 0 {
+        left -= 1;
+        needed = operand_counts(&operands[left], needed);
     }
     needed
 }
@@ -107,19 +110,19 @@ fn counts_among(operands: &[Operand]) -> Counts
 /// What the last of some subscripts needs, after those before it.
 #[cycle(counts)]
 fn joined_counts(others: &[Code], last: Counts) -> Counts
-    ensures temporaries { (z : Plain) → last.temporaries ≡ counted (room z)
-        → result.temporaries ≡ counted (room (joined (map view others.now) z)) }
-    ensures arrays { (z : Plain) → last.arrays ≡ counted (arrays_in z)
-        → result.arrays ≡ counted (arrays_in (joined (map view others.now) z)) }
+    ensures temporaries { (code : Plain) → last.temporaries ≡ counted (room code)
+        → result.temporaries ≡ counted (room (joined (map view others.now) code)) }
+    ensures arrays { (code : Plain) → last.arrays ≡ counted (arrays_in code)
+        → result.arrays ≡ counted (arrays_in (joined (map view others.now) code)) }
     ensures iterators { last.iterators ≡ 0 → result.iterators ≡ 0 }
-    ensures labels { (z : Plain) → last.labels ≡ counted (labels_in z)
-        → result.labels ≡ counted (labels_in (joined (map view others.now) z)) }
+    ensures labels { (code : Plain) → last.labels ≡ counted (labels_in code)
+        → result.labels ≡ counted (labels_in (joined (map view others.now) code)) }
 {
     let mut needed = last;
-    let mut i = others.len();
-    while i > 0 {
-        i -= 1;
-        needed = both(counts_in(&others[i]), later(needed));
+    let mut left = others.len();
+    while left > 0 {
+        left -= 1;
+        needed = both(counts_in(&others[left]), later(needed));
     }
     needed
 }

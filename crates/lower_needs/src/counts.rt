@@ -3,17 +3,17 @@ ghost use Rattle.std.specs.Prelude.{◌≡◌, ◌+◌, max, suc};
 ghost use Rattle.lower_needs.specs.Counted.{counted};
 
 /// The larger of two.
-pub(crate) fn larger(a: u32, b: u32) -> u32
-    ensures { result ≡ max a b }
+pub(crate) fn larger(one: u32, other: u32) -> u32
+    ensures { result ≡ max one other }
 {
-    if a < b { b } else { a }
+    if one < other { other } else { one }
 }
 
 /// One more.
-fn next(n: u32) -> u32
-    ensures { result ≡ counted (suc n) }
+fn next(count: u32) -> u32
+    ensures { result ≡ counted (suc count) }
 {
-    n.saturating_add(1)
+    count.saturating_add(1)
 }
 
 /// How many temporaries, arrays of calls and iterators code needs at once, and how many labels stand around its parts.
@@ -38,17 +38,17 @@ pub(crate) fn only(temporaries: u32) -> Counts
 }
 
 /// The larger ones.
-pub(crate) fn both(a: Counts, b: Counts) -> Counts
-    ensures temporaries { result.temporaries ≡ max a.temporaries b.temporaries }
-    ensures arrays { result.arrays ≡ max a.arrays b.arrays }
-    ensures iterators { result.iterators ≡ max a.iterators b.iterators }
-    ensures labels { result.labels ≡ max a.labels b.labels }
+pub(crate) fn both(one: Counts, other: Counts) -> Counts
+    ensures temporaries { result.temporaries ≡ max one.temporaries other.temporaries }
+    ensures arrays { result.arrays ≡ max one.arrays other.arrays }
+    ensures iterators { result.iterators ≡ max one.iterators other.iterators }
+    ensures labels { result.labels ≡ max one.labels other.labels }
 {
     Counts {
-        temporaries: larger(a.temporaries, b.temporaries),
-        arrays: larger(a.arrays, b.arrays),
-        iterators: larger(a.iterators, b.iterators),
-        labels: larger(a.labels, b.labels),
+        temporaries: larger(one.temporaries, other.temporaries),
+        arrays: larger(one.arrays, other.arrays),
+        iterators: larger(one.iterators, other.iterators),
+        labels: larger(one.labels, other.labels),
     }
 }
 

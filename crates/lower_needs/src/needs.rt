@@ -11,13 +11,13 @@ use crate::counts::{both, larger};
 use crate::steps::steps_counts;
 use mid_program::{Kind, Mid, Step};
 use std::alloc::{AllocError, Global};
-use wasm_types::ValType;
+use wasm_types::{MAX_LOCALS, MAX_MODULE_BYTES, ValType};
 
-/// The most parameters of a function.
-const MOST_PARAMETERS: usize = 1 << 24;
+/// The most parameters of a function: each takes a byte of the module.
+const MOST_PARAMETERS: usize = MAX_MODULE_BYTES;
 
 /// The most locals of a function, parameters aside.
-const MOST_LOCALS: u64 = 50_000;
+const MOST_LOCALS: u64 = MAX_LOCALS as u64;
 
 /// How many parameters a function has, and how many temporaries, iterators and arrays of calls its code needs at once.
 #[derive(Clone, Copy, Debug, PartialEq, Eq, Drop)]
@@ -90,7 +90,7 @@ pub fn main_needs(mid: &Mid) -> Option<Needs>
 fn put_handles(types: &mut Vec<ValType>, count: u32) -> Result<(), AllocError>
     ensures { OnOk result (types.new.items ≡ types.old.items ++ handle_types count) }
 {
-    for _i in 0..count {
+    for _done in 0..count {
         types.push(ValType::I32)?;
     }
     Ok(())
@@ -100,7 +100,7 @@ fn put_handles(types: &mut Vec<ValType>, count: u32) -> Result<(), AllocError>
 fn put_temporaries(types: &mut Vec<ValType>, count: u32) -> Result<(), AllocError>
     ensures { OnOk result (types.new.items ≡ types.old.items ++ temporary_types count) }
 {
-    for _i in 0..count {
+    for _done in 0..count {
         types.push(ValType::I32)?;
         types.push(ValType::I64)?;
     }

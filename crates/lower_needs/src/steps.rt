@@ -16,8 +16,8 @@ fn more_if(more: bool, counts: Counts) -> Counts
     ensures temporaries { result.temporaries ≡ counts.temporaries }
     ensures arrays { result.arrays ≡ counts.arrays }
     ensures iterators { result.iterators ≡ counts.iterators }
-    ensures labels { (n : ℕ) → counts.labels ≡ counted n → result.labels
-        ≡ counted (more_if more n) }
+    ensures labels { (labels : ℕ) → counts.labels ≡ counted labels → result.labels
+        ≡ counted (more_if more labels) }
 {
     if more { inside(counts, 1) } else { counts }
 }
@@ -39,8 +39,9 @@ fn choice_counts(quick: bool, test: Counts, yes: Counts, no: Counts) -> Counts
         ≡ max test.temporaries (max yes.temporaries no.temporaries) }
     ensures arrays { result.arrays ≡ max test.arrays (max yes.arrays no.arrays) }
     ensures iterators { result.iterators ≡ max test.iterators (max yes.iterators no.iterators) }
-    ensures labels { (t a b : ℕ) → test.labels ≡ counted t → yes.labels ≡ counted a → no.labels ≡ counted b
-        → result.labels ≡ counted (choice_labels quick t a b) }
+    ensures labels { (tested taken other : ℕ) → test.labels ≡ counted tested
+        → yes.labels ≡ counted taken → no.labels ≡ counted other
+        → result.labels ≡ counted (choice_labels quick tested taken other) }
 {
     if quick {
         both(inside(test, 3), inside(both(inside(yes, 1), no), 1))
@@ -55,8 +56,9 @@ fn loop_counts(test: Counts, body: Counts, last: Counts) -> Counts
         ≡ max test.temporaries (max body.temporaries last.temporaries) }
     ensures arrays { result.arrays ≡ max test.arrays (max body.arrays last.arrays) }
     ensures iterators { result.iterators ≡ max test.iterators (max body.iterators last.iterators) }
-    ensures labels { (t a b : ℕ) → test.labels ≡ counted t → body.labels ≡ counted a → last.labels ≡ counted b
-        → result.labels ≡ counted (loop_labels t a b) }
+    ensures labels { (tested within behind : ℕ) → test.labels ≡ counted tested
+        → body.labels ≡ counted within → last.labels ≡ counted behind
+        → result.labels ≡ counted (loop_labels tested within behind) }
 {
     both(inside(test, 2), both(inside(body, 2), inside(last, 2)))
 }

@@ -1,4 +1,4 @@
 pub mod Emits
 pub mod Bounds
 pub mod Forms
-pub mod Told
+pub mod Fragments

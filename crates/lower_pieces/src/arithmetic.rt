@@ -1,4 +1,4 @@
-//! Arithmetic that the module carries out itself. Operands stand in temporaries t and t + 1; the result goes to t.
+//! Arithmetic that the module carries out itself. Operands stand in temporaries `temporary` and the one behind it; the result goes to the first.
 ghost use Rattle.std.specs.Prelude.{suc, ◌≤◌, OnOk};
 ghost use Rattle.lower_model.specs.Arithmetic.{calculated, divided, factors_differ, field_checked, out_of_range, ranged, times, two_numbers, unless_broken, unless_zero};
 ghost use Rattle.lower_pieces.specs.Bounds.{most_labels, most_places};
@@ -10,6 +10,7 @@ use crate::faults::fail_if;
 use awk_text::MAX_NUMBER;
 use awk_values::Fault;
 use mid_program::Arithmetic;
+use sem_primitives::MAX_FIELDS;
 use std::alloc::{AllocError, Global};
 use wasm_types::{CvtOp, IBinOp, IRelOp, ITestOp, Instr, Simple, ValType};
 
@@ -28,12 +29,12 @@ fn out_of_range(out: &mut Vec<Instr>, local: u32) -> Result<(), AllocError>
 }
 
 /// Adds an operation on the numbers of two locals.
-fn two_numbers(out: &mut Vec<Instr>, x: u32, y: u32, op: IBinOp) -> Result<(), AllocError>
-    ensures { OnOk result (Emits out.old.items out.new.items (two_numbers x y op)) }
+fn two_numbers(out: &mut Vec<Instr>, left: u32, right: u32, op: IBinOp) -> Result<(), AllocError>
+    ensures { OnOk result (Emits out.old.items out.new.items (two_numbers left right op)) }
 {
     let all = [
-        Simple::LocalGet(x),
-        Simple::LocalGet(y),
+        Simple::LocalGet(left),
+        Simple::LocalGet(right),
         Simple::Binary(ValType::I64, op),
     ];
     does_all(out, &all)
@@ -44,34 +45,39 @@ fn ranged(
     alloc: Global,
     out: &mut Vec<Instr>,
     op: IBinOp,
-    x: u32,
-    y: u32,
+    left: u32,
+    right: u32,
     exit: u32,
 ) -> Result<(), AllocError>
     requires { exit ≤ most_labels }
-    ensures { OnOk result (Emits out.old.items out.new.items (ranged op x y exit)) }
+    ensures { OnOk result (Emits out.old.items out.new.items (ranged op left right exit)) }
 {
-    two_numbers(out, x, y, op)?;
-    does(out, Simple::LocalSet(x))?;
-    out_of_range(out, x)?;
+    two_numbers(out, left, right, op)?;
+    does(out, Simple::LocalSet(left))?;
+    out_of_range(out, left)?;
     fail_if(alloc, out, Fault::Range, exit)
 }
 
 /// Adds the test whether a product passed 64 bits.
-fn factors_differ(out: &mut Vec<Instr>, p: u32, x: u32, y: u32) -> Result<(), AllocError>
-    ensures { OnOk result (Emits out.old.items out.new.items (factors_differ p x y)) }
+fn factors_differ(
+    out: &mut Vec<Instr>,
+    product: u32,
+    left: u32,
+    right: u32,
+) -> Result<(), AllocError>
+    ensures { OnOk result (Emits out.old.items out.new.items (factors_differ product left right)) }
 {
     let all = [
-        Simple::LocalGet(p),
-        Simple::LocalGet(x),
-        Simple::LocalGet(x),
+        Simple::LocalGet(product),
+        Simple::LocalGet(left),
+        Simple::LocalGet(left),
         Simple::Test(ValType::I64, ITestOp::Eqz),
         Simple::Convert(CvtOp::I64ExtendI32U),
         Simple::Binary(ValType::I64, IBinOp::Add),
         Simple::Binary(ValType::I64, IBinOp::DivS),
-        Simple::LocalGet(y),
+        Simple::LocalGet(right),
         Simple::Compare(ValType::I64, IRelOp::Ne),
-        Simple::LocalGet(x),
+        Simple::LocalGet(left),
         Simple::I64Const(0),
         Simple::Compare(ValType::I64, IRelOp::Ne),
         Simple::Binary(ValType::I32, IBinOp::And),
@@ -79,34 +85,34 @@ fn factors_differ(out: &mut Vec<Instr>, p: u32, x: u32, y: u32) -> Result<(), Al
     does_all(out, &all)
 }
 
-/// Adds a product, which stands in `p` until it is known to be in range.
+/// Adds a product, which stands in `product` until it is known to be in range.
 fn times(
     alloc: Global,
     out: &mut Vec<Instr>,
-    x: u32,
-    y: u32,
-    p: u32,
+    left: u32,
+    right: u32,
+    product: u32,
     exit: u32,
 ) -> Result<(), AllocError>
     requires { exit ≤ most_labels }
-    ensures { OnOk result (Emits out.old.items out.new.items (times x y p exit)) }
+    ensures { OnOk result (Emits out.old.items out.new.items (times left right product exit)) }
 {
-    two_numbers(out, x, y, IBinOp::Mul)?;
-    does(out, Simple::LocalSet(p))?;
-    factors_differ(out, p, x, y)?;
-    out_of_range(out, p)?;
+    two_numbers(out, left, right, IBinOp::Mul)?;
+    does(out, Simple::LocalSet(product))?;
+    factors_differ(out, product, left, right)?;
+    out_of_range(out, product)?;
     does(out, Simple::Binary(ValType::I32, IBinOp::Or))?;
     fail_if(alloc, out, Fault::Range, exit)?;
-    does_all(out, &[Simple::LocalGet(p), Simple::LocalSet(x)])
+    does_all(out, &[Simple::LocalGet(product), Simple::LocalSet(left)])
 }
 
 /// Leaves where a divisor is 0.
-fn unless_zero(alloc: Global, out: &mut Vec<Instr>, y: u32, exit: u32) -> Result<(), AllocError>
+fn unless_zero(alloc: Global, out: &mut Vec<Instr>, right: u32, exit: u32) -> Result<(), AllocError>
     requires { exit ≤ most_labels }
-    ensures { OnOk result (Emits out.old.items out.new.items (unless_zero y exit)) }
+    ensures { OnOk result (Emits out.old.items out.new.items (unless_zero right exit)) }
 {
     let all = [
-        Simple::LocalGet(y),
+        Simple::LocalGet(right),
         Simple::Test(ValType::I64, ITestOp::Eqz),
     ];
     does_all(out, &all)?;
@@ -114,25 +120,25 @@ fn unless_zero(alloc: Global, out: &mut Vec<Instr>, y: u32, exit: u32) -> Result
 }
 
 /// Adds a quotient or a remainder.
-fn divided(out: &mut Vec<Instr>, op: IBinOp, x: u32, y: u32) -> Result<(), AllocError>
-    ensures { OnOk result (Emits out.old.items out.new.items (divided op x y)) }
+fn divided(out: &mut Vec<Instr>, op: IBinOp, left: u32, right: u32) -> Result<(), AllocError>
+    ensures { OnOk result (Emits out.old.items out.new.items (divided op left right)) }
 {
-    two_numbers(out, x, y, op)?;
-    does(out, Simple::LocalSet(x))
+    two_numbers(out, left, right, op)?;
+    does(out, Simple::LocalSet(left))
 }
 
 /// Leaves where a quotient is not whole.
 fn unless_broken(
     alloc: Global,
     out: &mut Vec<Instr>,
-    x: u32,
-    y: u32,
+    left: u32,
+    right: u32,
     exit: u32,
 ) -> Result<(), AllocError>
     requires { exit ≤ most_labels }
-    ensures { OnOk result (Emits out.old.items out.new.items (unless_broken x y exit)) }
+    ensures { OnOk result (Emits out.old.items out.new.items (unless_broken left right exit)) }
 {
-    two_numbers(out, x, y, IBinOp::RemS)?;
+    two_numbers(out, left, right, IBinOp::RemS)?;
     let all = [
         Simple::I64Const(0),
         Simple::Compare(ValType::I64, IRelOp::Ne),
@@ -144,34 +150,35 @@ fn unless_broken(
 /// Adds an operator of arithmetic with its checks.
 pub fn calculated(
     alloc: Global,
-    b: &Bases,
+    bases: &Bases,
     out: &mut Vec<Instr>,
     operator: Arithmetic,
-    t: u32,
+    temporary: u32,
     exit: u32,
 ) -> Result<(), AllocError>
-    requires places { suc (suc t) ≤ most_places }
+    requires places { suc (suc temporary) ≤ most_places }
     requires labels { exit ≤ most_labels }
-    ensures { OnOk result (Emits out.old.items out.new.items (calculated b.now operator t exit)) }
+    ensures { OnOk result
+        (Emits out.old.items out.new.items (calculated bases.now operator temporary exit)) }
 {
-    let x = b.number(t);
-    let y = b.number(t + 1);
+    let left = bases.number(temporary);
+    let right = bases.number(temporary + 1);
     match operator {
-        Arithmetic::Plus => ranged(alloc, out, IBinOp::Add, x, y, exit),
-        Arithmetic::Minus => ranged(alloc, out, IBinOp::Sub, x, y, exit),
-        Arithmetic::Times => times(alloc, out, x, y, b.number(t + 2), exit),
+        Arithmetic::Plus => ranged(alloc, out, IBinOp::Add, left, right, exit),
+        Arithmetic::Minus => ranged(alloc, out, IBinOp::Sub, left, right, exit),
+        Arithmetic::Times => times(alloc, out, left, right, bases.number(temporary + 2), exit),
         Arithmetic::Over => {
-            unless_zero(alloc, out, y, exit)?;
-            unless_broken(alloc, out, x, y, exit)?;
-            divided(out, IBinOp::DivS, x, y)
+            unless_zero(alloc, out, right, exit)?;
+            unless_broken(alloc, out, left, right, exit)?;
+            divided(out, IBinOp::DivS, left, right)
         }
         Arithmetic::Modulo => {
-            unless_zero(alloc, out, y, exit)?;
-            divided(out, IBinOp::RemS, x, y)
+            unless_zero(alloc, out, right, exit)?;
+            divided(out, IBinOp::RemS, left, right)
         }
         Arithmetic::Truncated => {
-            unless_zero(alloc, out, y, exit)?;
-            divided(out, IBinOp::DivS, x, y)
+            unless_zero(alloc, out, right, exit)?;
+            divided(out, IBinOp::DivS, left, right)
         }
     }
 }
@@ -179,18 +186,19 @@ pub fn calculated(
 /// Leaves where a temporary's number is no field's.
 pub fn field_checked(
     alloc: Global,
-    b: &Bases,
+    bases: &Bases,
     out: &mut Vec<Instr>,
-    t: u32,
+    temporary: u32,
     exit: u32,
 ) -> Result<(), AllocError>
-    requires places { t ≤ most_places }
+    requires places { temporary ≤ most_places }
     requires labels { exit ≤ most_labels }
-    ensures { OnOk result (Emits out.old.items out.new.items (field_checked b.now t exit)) }
+    ensures { OnOk result
+        (Emits out.old.items out.new.items (field_checked bases.now temporary exit)) }
 {
     let all = [
-        Simple::LocalGet(b.number(t)),
-        Simple::I64Const(1 << 20),
+        Simple::LocalGet(bases.number(temporary)),
+        Simple::I64Const(MAX_FIELDS as u64),
         Simple::Compare(ValType::I64, IRelOp::GtU),
     ];
     does_all(out, &all)?;

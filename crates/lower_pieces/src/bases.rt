@@ -22,9 +22,10 @@ impl Model for Bases {
 
     ghost Value = { PlainBases };
 
-    ghost view = { λ b. record { parameters = b.parameters; temporaries = b.temporaries; iterators = b.iterators; arrays = b.arrays } };
+    ghost view = { λ bases. record { parameters = bases.parameters; temporaries = bases.temporaries; iterators = bases.iterators; arrays = bases.arrays } };
 
-    ghost invariant = { λ b. (b.parameters ≤ most_places) × (b.temporaries ≤ most_places) × (b.iterators ≤ most_places) × (b.arrays ≤ most_places) };
+    ghost invariant = { λ bases. (bases.parameters ≤ most_places) × (bases.temporaries ≤ most_places)
+        × (bases.iterators ≤ most_places) × (bases.arrays ≤ most_places) };
 }
 
 impl Bases {

@@ -20,17 +20,17 @@ use wasm_types::{Instr, Simple};
 pub const TEXT_BESIDE: u64 = LEAST + 1;
 
 /// Boxes the number of a temporary.
-pub fn boxed_number(b: &Bases, out: &mut Vec<Instr>, t: u32) -> Result<(), AllocError>
-    requires { t ≤ most_places }
-    ensures { OnOk result (Emits out.old.items out.new.items (boxed_number b.now t)) }
+pub fn boxed_number(bases: &Bases, out: &mut Vec<Instr>, temporary: u32) -> Result<(), AllocError>
+    requires { temporary ≤ most_places }
+    ensures { OnOk result (Emits out.old.items out.new.items (boxed_number bases.now temporary)) }
 {
-    does(out, Simple::LocalGet(b.number(t)))?;
+    does(out, Simple::LocalGet(bases.number(temporary)))?;
     ask_row(out, Primitive::Num)
 }
 
 /// What puts the uninitialised value.
 fn uninit_put(alloc: Global, put: Simple) -> Result<Vec<Instr>, AllocError>
-    ensures { IfOk result (λ v. Emits [] v.items (λ k. ask_row Uninit (does put k))) }
+    ensures { IfOk result (λ code. Emits [] code.items (λ after. ask_row Uninit (does put after))) }
 {
     let mut code = Vec::new(alloc);
     ask_row(&mut code, Primitive::Uninit)?;
@@ -39,12 +39,18 @@ fn uninit_put(alloc: Global, put: Simple) -> Result<Vec<Instr>, AllocError>
 }
 
 /// What boxes the number of a temporary and puts it.
-fn number_put(alloc: Global, b: &Bases, t: u32, put: Simple) -> Result<Vec<Instr>, AllocError>
-    requires { t ≤ most_places }
-    ensures { IfOk result (λ v. Emits [] v.items (λ k. boxed_number b.now t (does put k))) }
+fn number_put(
+    alloc: Global,
+    bases: &Bases,
+    temporary: u32,
+    put: Simple,
+) -> Result<Vec<Instr>, AllocError>
+    requires { temporary ≤ most_places }
+    ensures { IfOk result
+        (λ code. Emits [] code.items (λ after. boxed_number bases.now temporary (does put after))) }
 {
     let mut code = Vec::new(alloc);
-    boxed_number(b, &mut code, t)?;
+    boxed_number(bases, &mut code, temporary)?;
     does(&mut code, put)?;
     Ok(code)
 }
@@ -52,15 +58,16 @@ fn number_put(alloc: Global, b: &Bases, t: u32, put: Simple) -> Result<Vec<Instr
 /// Puts a number, or that there is none yet, as a value.
 pub fn boxed_perhaps(
     alloc: Global,
-    b: &Bases,
+    bases: &Bases,
     out: &mut Vec<Instr>,
-    t: u32,
+    temporary: u32,
     put: Simple,
 ) -> Result<(), AllocError>
-    requires { t ≤ most_places }
-    ensures { OnOk result (Emits out.old.items out.new.items (boxed_perhaps b.now t put)) }
+    requires { temporary ≤ most_places }
+    ensures { OnOk result
+        (Emits out.old.items out.new.items (boxed_perhaps bases.now temporary put)) }
 {
-    number_is(out, b.number(t), LEAST)?;
+    number_is(out, bases.number(temporary), LEAST)?;
     let none = uninit_put(alloc, put)?;
-    either(alloc, out, none, number_put(alloc, b, t, put)?)
+    either(alloc, out, none, number_put(alloc, bases, temporary, put)?)
 }

@@ -5,7 +5,7 @@ ghost use Rattle.lower_model.specs.Arithmetic.{bare_compared, compared, is_value
 ghost use Rattle.lower_pieces.specs.Bounds.{most_labels, most_places};
 ghost use Rattle.lower_pieces.specs.Emits.{Emits};
 ghost use Rattle.lower_pieces.specs.Forms.{view_form};
-ghost use Rattle.lower_pieces.specs.Told.{host_compared, parted};
+ghost use Rattle.lower_pieces.specs.Fragments.{host_compared, parted};
 
 use crate::bases::Bases;
 use crate::boxing::TEXT_BESIDE;
@@ -73,55 +73,57 @@ fn may_be_text(form: Form) -> bool
 
 /// Asks the host for a comparison of two values.
 fn host_compared(
-    b: &Bases,
+    bases: &Bases,
     out: &mut Vec<Instr>,
     op: CompareOp,
-    t: u32,
+    temporary: u32,
     exit: u32,
 ) -> Result<(), AllocError>
-    requires { suc t ≤ most_places }
-    ensures { OnOk result (Emits out.old.items out.new.items (host_compared b.now op t exit)) }
+    requires { suc temporary ≤ most_places }
+    ensures { OnOk result
+        (Emits out.old.items out.new.items (host_compared bases.now op temporary exit)) }
 {
     does(out, Simple::I32Const(comparison_number(op)))?;
-    moved_out(out, b.handle(t))?;
-    moved_out(out, b.handle(t + 1))?;
+    moved_out(out, bases.handle(temporary))?;
+    moved_out(out, bases.handle(temporary + 1))?;
     ask_row(out, Primitive::Compare)?;
-    kept_code(b, out, true, t, exit)
+    kept_code(bases, out, true, temporary, exit)
 }
 
 /// Adds the host's comparison.
 fn values_compared(
     alloc: Global,
-    b: &Bases,
+    bases: &Bases,
     out: &mut Vec<Instr>,
     op: CompareOp,
     left: Form,
     right: Form,
-    t: u32,
+    temporary: u32,
     exit: u32,
 ) -> Result<(), AllocError>
-    requires { suc t ≤ most_places }
+    requires { suc temporary ≤ most_places }
     ensures { OnOk result (Emits out.old.items out.new.items
-        (values_compared b.now op (view_form left) (view_form right) t exit)) }
+        (values_compared bases.now op (view_form left) (view_form right) temporary exit)) }
 {
-    to_value(alloc, b, out, left, t)?;
-    to_value(alloc, b, out, right, t + 1)?;
-    host_compared(b, out, op, t, exit)
+    to_value(alloc, bases, out, left, temporary)?;
+    to_value(alloc, bases, out, right, temporary + 1)?;
+    host_compared(bases, out, op, temporary, exit)
 }
 
 /// Makes 0 of a number that may not be there yet.
 fn zeroed_if(
     alloc: Global,
-    b: &Bases,
+    bases: &Bases,
     out: &mut Vec<Instr>,
     form: Form,
-    t: u32,
+    temporary: u32,
 ) -> Result<(), AllocError>
-    requires { t ≤ most_places }
-    ensures { OnOk result (Emits out.old.items out.new.items (zeroed_if b.now (view_form form) t)) }
+    requires { temporary ≤ most_places }
+    ensures { OnOk result
+        (Emits out.old.items out.new.items (zeroed_if bases.now (view_form form) temporary)) }
 {
     match form {
-        Form::Bare | Form::Perhaps => zeroed(alloc, b, out, t),
+        Form::Bare | Form::Perhaps => zeroed(alloc, bases, out, temporary),
         Form::Answered(_) => Ok(()),
     }
 }
@@ -129,43 +131,43 @@ fn zeroed_if(
 /// Adds a comparison of numbers.
 fn numbers_compared(
     alloc: Global,
-    b: &Bases,
+    bases: &Bases,
     out: &mut Vec<Instr>,
     op: CompareOp,
     left: Form,
     right: Form,
-    t: u32,
+    temporary: u32,
 ) -> Result<(), AllocError>
-    requires { suc t ≤ most_places }
+    requires { suc temporary ≤ most_places }
     ensures { OnOk result (Emits out.old.items out.new.items
-        (numbers_compared b.now op (view_form left) (view_form right) t)) }
+        (numbers_compared bases.now op (view_form left) (view_form right) temporary)) }
 {
-    zeroed_if(alloc, b, out, left, t)?;
-    zeroed_if(alloc, b, out, right, t + 1)?;
+    zeroed_if(alloc, bases, out, left, temporary)?;
+    zeroed_if(alloc, bases, out, right, temporary + 1)?;
     let all = [
-        Simple::LocalGet(b.number(t)),
-        Simple::LocalGet(b.number(t + 1)),
+        Simple::LocalGet(bases.number(temporary)),
+        Simple::LocalGet(bases.number(temporary + 1)),
         Simple::Compare(ValType::I64, relation(op)),
         Simple::Convert(CvtOp::I64ExtendI32U),
-        Simple::LocalSet(b.number(t)),
+        Simple::LocalSet(bases.number(temporary)),
     ];
     does_all(out, &all)
 }
 
 /// Adds the test whether a text stands beside one of the two.
 fn texts_beside(
-    b: &Bases,
+    bases: &Bases,
     out: &mut Vec<Instr>,
     left: Form,
     right: Form,
-    t: u32,
+    temporary: u32,
 ) -> Result<(), AllocError>
-    requires { suc t ≤ most_places }
+    requires { suc temporary ≤ most_places }
     ensures { OnOk result (Emits out.old.items out.new.items
-        (texts_beside b.now (view_form left) (view_form right) t)) }
+        (texts_beside bases.now (view_form left) (view_form right) temporary)) }
 {
-    let first = b.number(t);
-    let second = b.number(t + 1);
+    let first = bases.number(temporary);
+    let second = bases.number(temporary + 1);
     match (left, right) {
         (Form::Bare, Form::Bare) => {
             number_is(out, first, TEXT_BESIDE)?;
@@ -180,104 +182,114 @@ fn texts_beside(
 /// The host's comparison, from within one label more.
 fn values_code(
     alloc: Global,
-    b: &Bases,
+    bases: &Bases,
     op: CompareOp,
     left: Form,
     right: Form,
-    t: u32,
+    temporary: u32,
     exit: u32,
 ) -> Result<Vec<Instr>, AllocError>
-    requires places { suc t ≤ most_places }
+    requires places { suc temporary ≤ most_places }
     requires labels { exit ≤ most_labels }
-    ensures { IfOk result (λ v. Emits [] v.items
-        (values_compared b.now op (view_form left) (view_form right) t (suc exit))) }
+    ensures { IfOk result (λ code. Emits [] code.items
+        (values_compared bases.now op (view_form left) (view_form right) temporary (suc exit))) }
 {
     let mut code = Vec::new(alloc);
-    values_compared(alloc, b, &mut code, op, left, right, t, exit + 1)?;
+    values_compared(
+        alloc,
+        bases,
+        &mut code,
+        op,
+        left,
+        right,
+        temporary,
+        exit + 1,
+    )?;
     Ok(code)
 }
 
 fn numbers_code(
     alloc: Global,
-    b: &Bases,
+    bases: &Bases,
     op: CompareOp,
     left: Form,
     right: Form,
-    t: u32,
+    temporary: u32,
 ) -> Result<Vec<Instr>, AllocError>
-    requires { suc t ≤ most_places }
+    requires { suc temporary ≤ most_places }
     ensures { IfOk result
-        (λ v. Emits [] v.items (numbers_compared b.now op (view_form left) (view_form right) t)) }
+        (λ code. Emits [] code.items
+        (numbers_compared bases.now op (view_form left) (view_form right) temporary)) }
 {
     let mut code = Vec::new(alloc);
-    numbers_compared(alloc, b, &mut code, op, left, right, t)?;
+    numbers_compared(alloc, bases, &mut code, op, left, right, temporary)?;
     Ok(code)
 }
 
 /// Adds both comparisons, and the test which of them is made.
 fn parted(
     alloc: Global,
-    b: &Bases,
+    bases: &Bases,
     out: &mut Vec<Instr>,
     op: CompareOp,
     left: Form,
     right: Form,
-    t: u32,
+    temporary: u32,
     exit: u32,
 ) -> Result<(), AllocError>
-    requires places { suc t ≤ most_places }
+    requires places { suc temporary ≤ most_places }
     requires labels { exit ≤ most_labels }
     ensures { OnOk result (Emits out.old.items out.new.items
-        (parted b.now op (view_form left) (view_form right) t exit)) }
+        (parted bases.now op (view_form left) (view_form right) temporary exit)) }
 {
-    texts_beside(b, out, left, right, t)?;
-    let values = values_code(alloc, b, op, left, right, t, exit)?;
-    let numbers = numbers_code(alloc, b, op, left, right, t)?;
+    texts_beside(bases, out, left, right, temporary)?;
+    let values = values_code(alloc, bases, op, left, right, temporary, exit)?;
+    let numbers = numbers_code(alloc, bases, op, left, right, temporary)?;
     either(alloc, out, values, numbers)
 }
 
 /// Adds a comparison of two numbers, beside which texts may stand.
 fn bare_compared(
     alloc: Global,
-    b: &Bases,
+    bases: &Bases,
     out: &mut Vec<Instr>,
     op: CompareOp,
     left: Form,
     right: Form,
-    t: u32,
+    temporary: u32,
     exit: u32,
 ) -> Result<(), AllocError>
-    requires places { suc t ≤ most_places }
+    requires places { suc temporary ≤ most_places }
     requires labels { exit ≤ most_labels }
     ensures { OnOk result (Emits out.old.items out.new.items
-        (bare_compared b.now op (view_form left) (view_form right) t exit)) }
+        (bare_compared bases.now op (view_form left) (view_form right) temporary exit)) }
 {
     if may_be_text(left) || may_be_text(right) {
-        parted(alloc, b, out, op, left, right, t, exit)
+        parted(alloc, bases, out, op, left, right, temporary, exit)
     } else {
-        numbers_compared(alloc, b, out, op, left, right, t)
+        numbers_compared(alloc, bases, out, op, left, right, temporary)
     }
 }
 
 /// Adds a comparison of what stands in two temporaries.
 pub fn compared(
     alloc: Global,
-    b: &Bases,
+    bases: &Bases,
     out: &mut Vec<Instr>,
     op: CompareOp,
     left: Form,
     right: Form,
-    t: u32,
+    temporary: u32,
     exit: u32,
 ) -> Result<(), AllocError>
-    requires places { suc t ≤ most_places }
+    requires places { suc temporary ≤ most_places }
     requires labels { exit ≤ most_labels }
     ensures { OnOk result (Emits out.old.items out.new.items
-        (compared b.now op (view_form left) (view_form right) t exit)) }
+        (compared bases.now op (view_form left) (view_form right) temporary exit)) }
 {
     if is_value(left) || is_value(right) {
-        values_compared(alloc, b, out, op, left, right, t, exit)
+        values_compared(alloc, bases, out, op, left, right, temporary, exit)
     } else {
-        bare_compared(alloc, b, out, op, left, right, t, exit)
+        bare_compared(alloc, bases, out, op, left, right, temporary, exit)
     }
 }

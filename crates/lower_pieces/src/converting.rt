@@ -17,45 +17,59 @@ use std::alloc::{AllocError, Global};
 use wasm_types::{Instr, Simple};
 
 /// What boxes a number, or that there is none yet, in its temporary.
-fn perhaps_code(alloc: Global, b: &Bases, t: u32) -> Result<Vec<Instr>, AllocError>
-    requires { t ≤ most_places }
-    ensures { IfOk result (λ v. Emits [] v.items (boxed_perhaps b.now t (LocalSet (h b.now t)))) }
+fn perhaps_code(alloc: Global, bases: &Bases, temporary: u32) -> Result<Vec<Instr>, AllocError>
+    requires { temporary ≤ most_places }
+    ensures { IfOk result
+        (λ code. Emits [] code.items
+        (boxed_perhaps bases.now temporary (LocalSet (h bases.now temporary)))) }
 {
     let mut code = Vec::new(alloc);
-    boxed_perhaps(alloc, b, &mut code, t, Simple::LocalSet(b.handle(t)))?;
+    boxed_perhaps(
+        alloc,
+        bases,
+        &mut code,
+        temporary,
+        Simple::LocalSet(bases.handle(temporary)),
+    )?;
     Ok(code)
 }
 
 /// Boxes what an unboxed name has, unless a text stands beside it.
-fn bare_value(alloc: Global, b: &Bases, out: &mut Vec<Instr>, t: u32) -> Result<(), AllocError>
-    requires { t ≤ most_places }
-    ensures { OnOk result (Emits out.old.items out.new.items (to_value b.now Bare t)) }
+fn bare_value(
+    alloc: Global,
+    bases: &Bases,
+    out: &mut Vec<Instr>,
+    temporary: u32,
+) -> Result<(), AllocError>
+    requires { temporary ≤ most_places }
+    ensures { OnOk result (Emits out.old.items out.new.items (to_value bases.now Bare temporary)) }
 {
-    number_is(out, b.number(t), TEXT_BESIDE)?;
+    number_is(out, bases.number(temporary), TEXT_BESIDE)?;
     let nothing = Vec::new(alloc);
-    either(alloc, out, nothing, perhaps_code(alloc, b, t)?)
+    either(alloc, out, nothing, perhaps_code(alloc, bases, temporary)?)
 }
 
 /// Makes a value of what stands in a temporary.
 pub fn to_value(
     alloc: Global,
-    b: &Bases,
+    bases: &Bases,
     out: &mut Vec<Instr>,
     form: Form,
-    t: u32,
+    temporary: u32,
 ) -> Result<(), AllocError>
-    requires { t ≤ most_places }
-    ensures { OnOk result (Emits out.old.items out.new.items (to_value b.now (view_form form) t)) }
+    requires { temporary ≤ most_places }
+    ensures { OnOk result
+        (Emits out.old.items out.new.items (to_value bases.now (view_form form) temporary)) }
 {
-    let local = b.handle(t);
+    let local = bases.handle(temporary);
     match form {
         Form::Answered(Answer::Of(Sort::Value)) => Ok(()),
         Form::Answered(Answer::Of(Sort::Number) | Answer::Truth) => {
-            boxed_number(b, out, t)?;
+            boxed_number(bases, out, temporary)?;
             does(out, Simple::LocalSet(local))
         }
-        Form::Bare => bare_value(alloc, b, out, t),
-        Form::Perhaps => boxed_perhaps(alloc, b, out, t, Simple::LocalSet(local)),
+        Form::Bare => bare_value(alloc, bases, out, temporary),
+        Form::Perhaps => boxed_perhaps(alloc, bases, out, temporary, Simple::LocalSet(local)),
         Form::Answered(_) => {
             ask_row(out, Primitive::Uninit)?;
             does(out, Simple::LocalSet(local))

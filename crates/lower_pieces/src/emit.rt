@@ -59,8 +59,9 @@ pub fn either(
     yes: Vec<Instr>,
     no: Vec<Instr>,
 ) -> Result<(), AllocError>
-    ensures { (a b : Instructions → Instructions) → Emits [] yes.items a → Emits [] no.items b
-        → OnOk result (Emits out.old.items out.new.items (either (a Done) (b Done))) }
+    ensures { (one other : Instructions → Instructions)
+        → Emits [] yes.items one → Emits [] no.items other
+        → OnOk result (Emits out.old.items out.new.items (either (one Done) (other Done))) }
 {
     let yes = enclosed(alloc, yes)?;
     let no = enclosed(alloc, no)?;
@@ -70,16 +71,16 @@ pub fn either(
 
 /// Adds what is done where the topmost operand is not 0.
 pub fn when(alloc: Global, out: &mut Vec<Instr>, yes: Vec<Instr>) -> Result<(), AllocError>
-    ensures { (a : Instructions → Instructions) → Emits [] yes.items a
-        → OnOk result (Emits out.old.items out.new.items (when (a Done))) }
+    ensures { (inside : Instructions → Instructions) → Emits [] yes.items inside
+        → OnOk result (Emits out.old.items out.new.items (when (inside Done))) }
 {
     either(alloc, out, yes, Vec::new(alloc))
 }
 
 /// Adds a block.
 pub fn block(alloc: Global, out: &mut Vec<Instr>, code: Vec<Instr>) -> Result<(), AllocError>
-    ensures { (a : Instructions → Instructions) → Emits [] code.items a
-        → OnOk result (Emits out.old.items out.new.items (block (a Done))) }
+    ensures { (inside : Instructions → Instructions) → Emits [] code.items inside
+        → OnOk result (Emits out.old.items out.new.items (block (inside Done))) }
 {
     let code = enclosed(alloc, code)?;
     out.push(Instr::Block(None, code))?;
@@ -88,8 +89,8 @@ pub fn block(alloc: Global, out: &mut Vec<Instr>, code: Vec<Instr>) -> Result<()
 
 /// Adds a loop.
 pub fn again(alloc: Global, out: &mut Vec<Instr>, code: Vec<Instr>) -> Result<(), AllocError>
-    ensures { (a : Instructions → Instructions) → Emits [] code.items a
-        → OnOk result (Emits out.old.items out.new.items (again (a Done))) }
+    ensures { (inside : Instructions → Instructions) → Emits [] code.items inside
+        → OnOk result (Emits out.old.items out.new.items (again (inside Done))) }
 {
     let code = enclosed(alloc, code)?;
     out.push(Instr::Loop(None, code))?;

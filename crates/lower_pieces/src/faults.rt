@@ -16,8 +16,9 @@ use wasm_types::{IRelOp, Instr, Simple, ValType};
 /// What keeps a fault and leaves the function, from within one label more.
 fn failing(alloc: Global, fault: Fault, exit: u32) -> Result<Vec<Instr>, AllocError>
     requires { exit ≤ most_labels }
-    ensures { IfOk result (λ v. Emits [] v.items
-        (λ k. does (I32Const (fault_number fault)) (ask_row Fail (does (Br (suc exit)) k)))) }
+    ensures { IfOk result (λ code. Emits [] code.items
+        (λ after. does (I32Const (fault_number fault))
+        (ask_row Fail (does (Br (suc exit)) after)))) }
 {
     let mut code = Vec::new(alloc);
     does(&mut code, Simple::I32Const(u32::from(fault.number())))?;

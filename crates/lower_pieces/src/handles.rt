@@ -56,7 +56,8 @@ fn has_handle(out: &mut Vec<Instr>, local: u32) -> Result<(), AllocError>
 
 /// What lets go of what a local has.
 pub fn going(alloc: Global, import: Import, local: u32) -> Result<Vec<Instr>, AllocError>
-    ensures { IfOk result (λ v. Emits [] v.items (λ k. moved_out local (ask import k))) }
+    ensures { IfOk result
+        (λ code. Emits [] code.items (λ after. moved_out local (ask import after))) }
 {
     let mut code = Vec::new(alloc);
     moved_out(&mut code, local)?;
@@ -96,7 +97,7 @@ pub fn copied_by(out: &mut Vec<Instr>, get: Simple, set: Simple, to: u32) -> Res
 
 /// What copies the handle that a local has just got.
 fn copy_back(alloc: Global, set: Simple, to: u32) -> Result<Vec<Instr>, AllocError>
-    ensures { IfOk result (λ v. Emits [] v.items (copied (LocalGet to) set to)) }
+    ensures { IfOk result (λ code. Emits [] code.items (copied (LocalGet to) set to)) }
 {
     let mut code = Vec::new(alloc);
     copied_by(&mut code, Simple::LocalGet(to), set, to)?;

@@ -17,16 +17,17 @@ pub const LEAST: u64 = 1 << 63;
 
 /// Keeps a code, as a number.
 pub fn kept_code(
-    b: &Bases,
+    bases: &Bases,
     out: &mut Vec<Instr>,
     faults: bool,
-    t: u32,
+    temporary: u32,
     exit: u32,
 ) -> Result<(), AllocError>
-    requires { t ≤ most_places }
-    ensures { OnOk result (Emits out.old.items out.new.items (kept_code b.now faults t exit)) }
+    requires { temporary ≤ most_places }
+    ensures { OnOk result
+        (Emits out.old.items out.new.items (kept_code bases.now faults temporary exit)) }
 {
-    let local = b.number(t);
+    let local = bases.number(temporary);
     if faults {
         let all = [
             Simple::Convert(CvtOp::I64ExtendI32S),
@@ -47,16 +48,17 @@ pub fn kept_code(
 
 /// Keeps a value's handle.
 pub fn kept_value(
-    b: &Bases,
+    bases: &Bases,
     out: &mut Vec<Instr>,
     faults: bool,
-    t: u32,
+    temporary: u32,
     exit: u32,
 ) -> Result<(), AllocError>
-    requires { t ≤ most_places }
-    ensures { OnOk result (Emits out.old.items out.new.items (kept_value b.now faults t exit)) }
+    requires { temporary ≤ most_places }
+    ensures { OnOk result
+        (Emits out.old.items out.new.items (kept_value bases.now faults temporary exit)) }
 {
-    let local = b.handle(t);
+    let local = bases.handle(temporary);
     if faults {
         let all = [
             Simple::LocalTee(local),
@@ -72,16 +74,17 @@ pub fn kept_value(
 
 /// Keeps a number.
 pub fn kept_number(
-    b: &Bases,
+    bases: &Bases,
     out: &mut Vec<Instr>,
     faults: bool,
-    t: u32,
+    temporary: u32,
     exit: u32,
 ) -> Result<(), AllocError>
-    requires { t ≤ most_places }
-    ensures { OnOk result (Emits out.old.items out.new.items (kept_number b.now faults t exit)) }
+    requires { temporary ≤ most_places }
+    ensures { OnOk result
+        (Emits out.old.items out.new.items (kept_number bases.now faults temporary exit)) }
 {
-    let local = b.number(t);
+    let local = bases.number(temporary);
     if faults {
         let all = [
             Simple::LocalTee(local),
@@ -97,8 +100,8 @@ pub fn kept_number(
 
 /// Takes the answer that something is done.
 fn kept_done(out: &mut Vec<Instr>, faults: bool, exit: u32) -> Result<(), AllocError>
-    ensures { (b : PlainBases)
-        → OnOk result (Emits out.old.items out.new.items (kept_done b faults exit)) }
+    ensures { (bases : PlainBases)
+        → OnOk result (Emits out.old.items out.new.items (kept_done bases faults exit)) }
 {
     if faults {
         let all = [
@@ -114,21 +117,22 @@ fn kept_done(out: &mut Vec<Instr>, faults: bool, exit: u32) -> Result<(), AllocE
 
 /// Keeps an answer.
 pub fn kept(
-    b: &Bases,
+    bases: &Bases,
     out: &mut Vec<Instr>,
     faults: bool,
     answer: Answer,
-    t: u32,
+    temporary: u32,
     exit: u32,
 ) -> Result<(), AllocError>
-    requires { t ≤ most_places }
-    ensures { OnOk result (Emits out.old.items out.new.items (kept b.now faults answer t exit)) }
+    requires { temporary ≤ most_places }
+    ensures { OnOk result
+        (Emits out.old.items out.new.items (kept bases.now faults answer temporary exit)) }
 {
     match answer {
-        Answer::Of(Sort::Value) => kept_value(b, out, faults, t, exit),
-        Answer::Of(Sort::Number) => kept_number(b, out, faults, t, exit),
+        Answer::Of(Sort::Value) => kept_value(bases, out, faults, temporary, exit),
+        Answer::Of(Sort::Number) => kept_number(bases, out, faults, temporary, exit),
         Answer::Truth | Answer::Input | Answer::Assign | Answer::Stream => {
-            kept_code(b, out, faults, t, exit)
+            kept_code(bases, out, faults, temporary, exit)
         }
         Answer::Done => kept_done(out, faults, exit),
         Answer::Of(Sort::Array | Sort::Iterator)

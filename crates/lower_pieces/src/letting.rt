@@ -18,15 +18,16 @@ use wasm_types::{Instr, Simple};
 /// Drops what is not used.
 pub fn unused(
     alloc: Global,
-    b: &Bases,
+    bases: &Bases,
     out: &mut Vec<Instr>,
     form: Form,
-    t: u32,
+    temporary: u32,
 ) -> Result<(), AllocError>
-    requires { t ≤ most_places }
-    ensures { OnOk result (Emits out.old.items out.new.items (unused b.now (view_form form) t)) }
+    requires { temporary ≤ most_places }
+    ensures { OnOk result
+        (Emits out.old.items out.new.items (unused bases.now (view_form form) temporary)) }
 {
-    let local = b.handle(t);
+    let local = bases.handle(temporary);
     match form {
         Form::Answered(Answer::Of(Sort::Value)) => {
             moved_out(out, local)?;
@@ -40,15 +41,16 @@ pub fn unused(
 /// Drops what was kept, unless it was moved away.
 pub fn released(
     alloc: Global,
-    b: &Bases,
+    bases: &Bases,
     out: &mut Vec<Instr>,
     form: Form,
-    t: u32,
+    temporary: u32,
 ) -> Result<(), AllocError>
-    requires { t ≤ most_places }
-    ensures { OnOk result (Emits out.old.items out.new.items (released b.now (view_form form) t)) }
+    requires { temporary ≤ most_places }
+    ensures { OnOk result
+        (Emits out.old.items out.new.items (released bases.now (view_form form) temporary)) }
 {
-    let local = b.handle(t);
+    let local = bases.handle(temporary);
     match form {
         Form::Answered(Answer::Of(Sort::Value)) | Form::Bare => {
             let_go(alloc, out, Import::Drop, local)
@@ -58,21 +60,21 @@ pub fn released(
 }
 
 /// Copies a number.
-fn number_copied(b: &Bases, out: &mut Vec<Instr>, from: u32, to: u32) -> Result<(), AllocError>
+fn number_copied(bases: &Bases, out: &mut Vec<Instr>, from: u32, to: u32) -> Result<(), AllocError>
     requires first { from ≤ most_places }
     requires second { to ≤ most_places }
-    ensures { OnOk result (Emits out.old.items out.new.items (number_copied b.now from to)) }
+    ensures { OnOk result (Emits out.old.items out.new.items (number_copied bases.now from to)) }
 {
     let all = [
-        Simple::LocalGet(b.number(from)),
-        Simple::LocalSet(b.number(to)),
+        Simple::LocalGet(bases.number(from)),
+        Simple::LocalSet(bases.number(to)),
     ];
     does_all(out, &all)
 }
 
 /// Moves what is in a temporary to another one.
 pub fn moved_from(
-    b: &Bases,
+    bases: &Bases,
     out: &mut Vec<Instr>,
     form: Form,
     from: u32,
@@ -81,40 +83,40 @@ pub fn moved_from(
     requires first { from ≤ most_places }
     requires second { to ≤ most_places }
     ensures { OnOk result
-        (Emits out.old.items out.new.items (moved_from b.now (view_form form) from to)) }
+        (Emits out.old.items out.new.items (moved_from bases.now (view_form form) from to)) }
 {
     match form {
-        Form::Answered(Answer::Of(Sort::Value)) => moved(out, b.handle(from), b.handle(to)),
+        Form::Answered(Answer::Of(Sort::Value)) => moved(out, bases.handle(from), bases.handle(to)),
         Form::Bare => {
-            number_copied(b, out, from, to)?;
-            moved(out, b.handle(from), b.handle(to))
+            number_copied(bases, out, from, to)?;
+            moved(out, bases.handle(from), bases.handle(to))
         }
-        Form::Perhaps | Form::Answered(_) => number_copied(b, out, from, to),
+        Form::Perhaps | Form::Answered(_) => number_copied(bases, out, from, to),
     }
 }
 
 /// Copies what an unboxed name had.
 fn bare_copied(
     alloc: Global,
-    b: &Bases,
+    bases: &Bases,
     out: &mut Vec<Instr>,
     from: u32,
     to: u32,
 ) -> Result<(), AllocError>
     requires first { from ≤ most_places }
     requires second { to ≤ most_places }
-    ensures { OnOk result (Emits out.old.items out.new.items (copied_from b.now Bare from to)) }
+    ensures { OnOk result (Emits out.old.items out.new.items (copied_from bases.now Bare from to)) }
 {
-    number_copied(b, out, from, to)?;
-    let local = b.handle(from);
+    number_copied(bases, out, from, to)?;
+    let local = bases.handle(from);
     let get = Simple::LocalGet(local);
-    copied_if_any(alloc, out, get, Simple::LocalSet(local), b.handle(to))
+    copied_if_any(alloc, out, get, Simple::LocalSet(local), bases.handle(to))
 }
 
 /// Copies what is in a temporary to another one.
 fn copied_from(
     alloc: Global,
-    b: &Bases,
+    bases: &Bases,
     out: &mut Vec<Instr>,
     form: Form,
     from: u32,
@@ -123,19 +125,23 @@ fn copied_from(
     requires first { from ≤ most_places }
     requires second { to ≤ most_places }
     ensures { OnOk result
-        (Emits out.old.items out.new.items (copied_from b.now (view_form form) from to)) }
+        (Emits out.old.items out.new.items (copied_from bases.now (view_form form) from to)) }
 {
     match form {
-        Form::Answered(Answer::Of(Sort::Value)) => copied(out, b.handle(from), b.handle(to)),
-        Form::Bare => bare_copied(alloc, b, out, from, to),
-        Form::Perhaps | Form::Answered(_) => number_copied(b, out, from, to),
+        Form::Answered(Answer::Of(Sort::Value)) => copied(
+            out,
+            bases.handle(from),
+            bases.handle(to),
+        ),
+        Form::Bare => bare_copied(alloc, bases, out, from, to),
+        Form::Perhaps | Form::Answered(_) => number_copied(bases, out, from, to),
     }
 }
 
 /// Moves or copies what is in a temporary to another one.
 pub fn bound_from(
     alloc: Global,
-    b: &Bases,
+    bases: &Bases,
     out: &mut Vec<Instr>,
     moves: bool,
     form: Form,
@@ -145,11 +151,11 @@ pub fn bound_from(
     requires first { from ≤ most_places }
     requires second { to ≤ most_places }
     ensures { OnOk result
-        (Emits out.old.items out.new.items (bound_from b.now moves (view_form form) from to)) }
+        (Emits out.old.items out.new.items (bound_from bases.now moves (view_form form) from to)) }
 {
     if moves {
-        moved_from(b, out, form, from, to)
+        moved_from(bases, out, form, from, to)
     } else {
-        copied_from(alloc, b, out, form, from, to)
+        copied_from(alloc, bases, out, form, from, to)
     }
 }

@@ -24,7 +24,7 @@ use wasm_types::{CvtOp, IBinOp, IRelOp, Instr, Simple, ValType};
 /// What puts 0 into a local.
 fn zero_put(alloc: Global, local: u32) -> Result<Vec<Instr>, AllocError>
     ensures { IfOk result
-        (λ v. Emits [] v.items (λ k. does (I64Const 0) (does (LocalSet local) k))) }
+        (λ code. Emits [] code.items (λ after. does (I64Const 0) (does (LocalSet local) after))) }
 {
     let mut code = Vec::new(alloc);
     does_all(&mut code, &[Simple::I64Const(0), Simple::LocalSet(local)])?;
@@ -32,21 +32,26 @@ fn zero_put(alloc: Global, local: u32) -> Result<Vec<Instr>, AllocError>
 }
 
 /// Makes 0 of what is no number yet.
-pub fn zeroed(alloc: Global, b: &Bases, out: &mut Vec<Instr>, t: u32) -> Result<(), AllocError>
-    requires { t ≤ most_places }
-    ensures { OnOk result (Emits out.old.items out.new.items (zeroed b.now t)) }
+pub fn zeroed(
+    alloc: Global,
+    bases: &Bases,
+    out: &mut Vec<Instr>,
+    temporary: u32,
+) -> Result<(), AllocError>
+    requires { temporary ≤ most_places }
+    ensures { OnOk result (Emits out.old.items out.new.items (zeroed bases.now temporary)) }
 {
-    let local = b.number(t);
+    let local = bases.number(temporary);
     number_is(out, local, LEAST)?;
     when(alloc, out, zero_put(alloc, local)?)
 }
 
 /// Makes the number of a code: 1 stays, 3 is -1, and all else is 0.
-pub fn code_number(b: &Bases, out: &mut Vec<Instr>, t: u32) -> Result<(), AllocError>
-    requires { t ≤ most_places }
-    ensures { OnOk result (Emits out.old.items out.new.items (code_number b.now t)) }
+pub fn code_number(bases: &Bases, out: &mut Vec<Instr>, temporary: u32) -> Result<(), AllocError>
+    requires { temporary ≤ most_places }
+    ensures { OnOk result (Emits out.old.items out.new.items (code_number bases.now temporary)) }
 {
-    let local = b.number(t);
+    let local = bases.number(temporary);
     number_is(out, local, 1)?;
     number_is(out, local, 3)?;
     let all = [
@@ -58,46 +63,67 @@ pub fn code_number(b: &Bases, out: &mut Vec<Instr>, t: u32) -> Result<(), AllocE
 }
 
 /// Asks for a value's number.
-fn number_of_value(b: &Bases, out: &mut Vec<Instr>, t: u32, exit: u32) -> Result<(), AllocError>
-    requires { t ≤ most_places }
-    ensures { OnOk result (Emits out.old.items out.new.items (number_of_value b.now t exit)) }
+fn number_of_value(
+    bases: &Bases,
+    out: &mut Vec<Instr>,
+    temporary: u32,
+    exit: u32,
+) -> Result<(), AllocError>
+    requires { temporary ≤ most_places }
+    ensures { OnOk result
+        (Emits out.old.items out.new.items (number_of_value bases.now temporary exit)) }
 {
-    moved_out(out, b.handle(t))?;
+    moved_out(out, bases.handle(temporary))?;
     ask_row(out, Primitive::ToNum)?;
-    kept_number(b, out, true, t, exit)
+    kept_number(bases, out, true, temporary, exit)
 }
 
 /// What asks for a value's number, from within two labels more.
-fn value_number(alloc: Global, b: &Bases, t: u32, exit: u32) -> Result<Vec<Instr>, AllocError>
-    requires places { t ≤ most_places }
+fn value_number(
+    alloc: Global,
+    bases: &Bases,
+    temporary: u32,
+    exit: u32,
+) -> Result<Vec<Instr>, AllocError>
+    requires places { temporary ≤ most_places }
     requires labels { exit ≤ most_labels }
-    ensures { IfOk result (λ v. Emits [] v.items (number_of_value b.now t (suc (suc exit)))) }
+    ensures { IfOk result
+        (λ code. Emits [] code.items (number_of_value bases.now temporary (suc (suc exit)))) }
 {
     let mut code = Vec::new(alloc);
-    number_of_value(b, &mut code, t, exit + 2)?;
+    number_of_value(bases, &mut code, temporary, exit + 2)?;
     Ok(code)
 }
 
 /// What makes 0 of what is no number yet.
-pub(crate) fn zeroed_code(alloc: Global, b: &Bases, t: u32) -> Result<Vec<Instr>, AllocError>
-    requires { t ≤ most_places }
-    ensures { IfOk result (λ v. Emits [] v.items (zeroed b.now t)) }
+pub(crate) fn zeroed_code(
+    alloc: Global,
+    bases: &Bases,
+    temporary: u32,
+) -> Result<Vec<Instr>, AllocError>
+    requires { temporary ≤ most_places }
+    ensures { IfOk result (λ code. Emits [] code.items (zeroed bases.now temporary)) }
 {
     let mut code = Vec::new(alloc);
-    zeroed(alloc, b, &mut code, t)?;
+    zeroed(alloc, bases, &mut code, temporary)?;
     Ok(code)
 }
 
 /// What makes the number of a text beside, and 0 where there is no number yet, from within one label more.
-fn number_made(alloc: Global, b: &Bases, t: u32, exit: u32) -> Result<Vec<Instr>, AllocError>
-    requires places { t ≤ most_places }
+fn number_made(
+    alloc: Global,
+    bases: &Bases,
+    temporary: u32,
+    exit: u32,
+) -> Result<Vec<Instr>, AllocError>
+    requires places { temporary ≤ most_places }
     requires labels { exit ≤ most_labels }
-    ensures { IfOk result (λ v. Emits [] v.items (number_made b.now t exit)) }
+    ensures { IfOk result (λ code. Emits [] code.items (number_made bases.now temporary exit)) }
 {
-    let local = b.number(t);
+    let local = bases.number(temporary);
     let mut code = Vec::new(alloc);
     number_is(&mut code, local, TEXT_BESIDE)?;
-    let some = value_number(alloc, b, t, exit)?;
+    let some = value_number(alloc, bases, temporary, exit)?;
     either(alloc, &mut code, some, zero_put(alloc, local)?)?;
     Ok(code)
 }
@@ -105,43 +131,44 @@ fn number_made(alloc: Global, b: &Bases, t: u32, exit: u32) -> Result<Vec<Instr>
 /// Makes a number of what an unboxed name has.
 fn bare_number(
     alloc: Global,
-    b: &Bases,
+    bases: &Bases,
     out: &mut Vec<Instr>,
-    t: u32,
+    temporary: u32,
     exit: u32,
 ) -> Result<(), AllocError>
-    requires places { t ≤ most_places }
+    requires places { temporary ≤ most_places }
     requires labels { exit ≤ most_labels }
-    ensures { OnOk result (Emits out.old.items out.new.items (to_number b.now Bare t exit)) }
+    ensures { OnOk result
+        (Emits out.old.items out.new.items (to_number bases.now Bare temporary exit)) }
 {
     let all = [
-        Simple::LocalGet(b.number(t)),
+        Simple::LocalGet(bases.number(temporary)),
         Simple::I64Const(TEXT_BESIDE),
         Simple::Compare(ValType::I64, IRelOp::LeS),
     ];
     does_all(out, &all)?;
-    when(alloc, out, number_made(alloc, b, t, exit)?)
+    when(alloc, out, number_made(alloc, bases, temporary, exit)?)
 }
 
 /// Makes a number of what stands in a temporary.
 pub fn to_number(
     alloc: Global,
-    b: &Bases,
+    bases: &Bases,
     out: &mut Vec<Instr>,
     form: Form,
-    t: u32,
+    temporary: u32,
     exit: u32,
 ) -> Result<(), AllocError>
-    requires places { t ≤ most_places }
+    requires places { temporary ≤ most_places }
     requires labels { exit ≤ most_labels }
     ensures { OnOk result
-        (Emits out.old.items out.new.items (to_number b.now (view_form form) t exit)) }
+        (Emits out.old.items out.new.items (to_number bases.now (view_form form) temporary exit)) }
 {
     match form {
-        Form::Answered(Answer::Of(Sort::Value)) => number_of_value(b, out, t, exit),
-        Form::Answered(Answer::Input | Answer::Stream) => code_number(b, out, t),
-        Form::Bare => bare_number(alloc, b, out, t, exit),
-        Form::Perhaps => zeroed(alloc, b, out, t),
+        Form::Answered(Answer::Of(Sort::Value)) => number_of_value(bases, out, temporary, exit),
+        Form::Answered(Answer::Input | Answer::Stream) => code_number(bases, out, temporary),
+        Form::Bare => bare_number(alloc, bases, out, temporary, exit),
+        Form::Perhaps => zeroed(alloc, bases, out, temporary),
         Form::Answered(_) => Ok(()),
     }
 }
@@ -149,21 +176,22 @@ pub fn to_number(
 /// Makes of what stands in a temporary what is wanted.
 pub fn converted(
     alloc: Global,
-    b: &Bases,
+    bases: &Bases,
     out: &mut Vec<Instr>,
     form: Form,
     sort: Sort,
-    t: u32,
+    temporary: u32,
     exit: u32,
 ) -> Result<(), AllocError>
-    requires places { t ≤ most_places }
+    requires places { temporary ≤ most_places }
     requires labels { exit ≤ most_labels }
     ensures { OnOk result
-        (Emits out.old.items out.new.items (converted b.now (view_form form) sort t exit)) }
+        (Emits out.old.items out.new.items
+        (converted bases.now (view_form form) sort temporary exit)) }
 {
     match sort {
-        Sort::Value => to_value(alloc, b, out, form, t),
-        Sort::Number => to_number(alloc, b, out, form, t, exit),
+        Sort::Value => to_value(alloc, bases, out, form, temporary),
+        Sort::Number => to_number(alloc, bases, out, form, temporary, exit),
         Sort::Array | Sort::Iterator => Ok(()),
     }
 }

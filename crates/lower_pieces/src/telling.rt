@@ -8,7 +8,7 @@ ghost use Rattle.lower_model.specs.Small.{ask_row, does, h, moved_out, n, not_ze
 ghost use Rattle.lower_pieces.specs.Bounds.{most_places};
 ghost use Rattle.lower_pieces.specs.Emits.{Emits};
 ghost use Rattle.lower_pieces.specs.Forms.{view_form};
-ghost use Rattle.lower_pieces.specs.Told.{told};
+ghost use Rattle.lower_pieces.specs.Fragments.{told};
 
 use crate::bases::Bases;
 use crate::boxing::TEXT_BESIDE;
@@ -22,12 +22,12 @@ use std::alloc::{AllocError, Global};
 use wasm_types::{CvtOp, ITestOp, Instr, Simple, ValType};
 
 /// Adds the test whether a temporary's number is not 0.
-fn not_zero(b: &Bases, out: &mut Vec<Instr>, t: u32) -> Result<(), AllocError>
-    requires { t ≤ most_places }
-    ensures { OnOk result (Emits out.old.items out.new.items (not_zero b.now t)) }
+fn not_zero(bases: &Bases, out: &mut Vec<Instr>, temporary: u32) -> Result<(), AllocError>
+    requires { temporary ≤ most_places }
+    ensures { OnOk result (Emits out.old.items out.new.items (not_zero bases.now temporary)) }
 {
     let all = [
-        Simple::LocalGet(b.number(t)),
+        Simple::LocalGet(bases.number(temporary)),
         Simple::Test(ValType::I64, ITestOp::Eqz),
         Simple::Test(ValType::I32, ITestOp::Eqz),
     ];
@@ -35,56 +35,63 @@ fn not_zero(b: &Bases, out: &mut Vec<Instr>, t: u32) -> Result<(), AllocError>
 }
 
 /// What puts a value's truth in the place of the number.
-fn truth_put(alloc: Global, b: &Bases, t: u32) -> Result<Vec<Instr>, AllocError>
-    requires { t ≤ most_places }
-    ensures { IfOk result (λ v. Emits [] v.items (λ k. moved_out (h b.now t)
-        (ask_row Truth (does (Convert I64ExtendI32U) (does (LocalSet (n b.now t)) k))))) }
+fn truth_put(alloc: Global, bases: &Bases, temporary: u32) -> Result<Vec<Instr>, AllocError>
+    requires { temporary ≤ most_places }
+    ensures { IfOk result (λ code. Emits [] code.items (λ after. moved_out (h bases.now temporary)
+        (ask_row Truth (does (Convert I64ExtendI32U)
+        (does (LocalSet (n bases.now temporary)) after))))) }
 {
     let mut code = Vec::new(alloc);
-    moved_out(&mut code, b.handle(t))?;
+    moved_out(&mut code, bases.handle(temporary))?;
     ask_row(&mut code, Primitive::Truth)?;
     let all = [
         Simple::Convert(CvtOp::I64ExtendI32U),
-        Simple::LocalSet(b.number(t)),
+        Simple::LocalSet(bases.number(temporary)),
     ];
     does_all(&mut code, &all)?;
     Ok(code)
 }
 
 /// Makes a number of what an unboxed name has, by its truth.
-fn bare_told(alloc: Global, b: &Bases, out: &mut Vec<Instr>, t: u32) -> Result<(), AllocError>
-    requires { t ≤ most_places }
-    ensures { OnOk result (Emits out.old.items out.new.items (told b.now t)) }
+fn bare_told(
+    alloc: Global,
+    bases: &Bases,
+    out: &mut Vec<Instr>,
+    temporary: u32,
+) -> Result<(), AllocError>
+    requires { temporary ≤ most_places }
+    ensures { OnOk result (Emits out.old.items out.new.items (told bases.now temporary)) }
 {
-    number_is(out, b.number(t), TEXT_BESIDE)?;
-    let some = truth_put(alloc, b, t)?;
-    either(alloc, out, some, zeroed_code(alloc, b, t)?)
+    number_is(out, bases.number(temporary), TEXT_BESIDE)?;
+    let some = truth_put(alloc, bases, temporary)?;
+    either(alloc, out, some, zeroed_code(alloc, bases, temporary)?)
 }
 
 /// Adds the truth of what stands in a temporary.
 pub fn truth(
     alloc: Global,
-    b: &Bases,
+    bases: &Bases,
     out: &mut Vec<Instr>,
     form: Form,
-    t: u32,
+    temporary: u32,
 ) -> Result<(), AllocError>
-    requires { t ≤ most_places }
-    ensures { OnOk result (Emits out.old.items out.new.items (truth b.now (view_form form) t)) }
+    requires { temporary ≤ most_places }
+    ensures { OnOk result
+        (Emits out.old.items out.new.items (truth bases.now (view_form form) temporary)) }
 {
     match form {
         Form::Answered(Answer::Of(Sort::Value)) => {
-            moved_out(out, b.handle(t))?;
+            moved_out(out, bases.handle(temporary))?;
             ask_row(out, Primitive::Truth)
         }
         Form::Bare => {
-            bare_told(alloc, b, out, t)?;
-            not_zero(b, out, t)
+            bare_told(alloc, bases, out, temporary)?;
+            not_zero(bases, out, temporary)
         }
         Form::Perhaps => {
-            zeroed(alloc, b, out, t)?;
-            not_zero(b, out, t)
+            zeroed(alloc, bases, out, temporary)?;
+            not_zero(bases, out, temporary)
         }
-        Form::Answered(_) => not_zero(b, out, t),
+        Form::Answered(_) => not_zero(bases, out, temporary),
     }
 }

@@ -13,13 +13,13 @@ ghost use Rattle.mid_code.specs.ViewScope.{scope_of, texts_of};
 ghost use Rattle.mid_code.specs.ViewTarget.{sub_or_gsub, view_kept};
 
 use crate::build::{boxed, called, chosen, number, over, variable};
-use crate::operators::{combined, constant, host, inline, prefixed};
-use crate::parts::{
+use crate::compound::{
     apply_none, assign_place, field_number, field_separator, file_line_into, host_array,
     host_number, host_one, joined, key_of, line_into, missing, part_of, passed, record_length,
     record_matches, split_into, step_place, step_place_after, string, substitute_place,
     substitute_record,
 };
+use crate::operators::{combined, constant, host, inline, prefixed};
 use crate::peek::{bare_name, ere_in, is_ere, is_match, is_quotient};
 use crate::scope::Scope;
 use awk_grammar::{BinaryOp, Builtin, Expr, StepOp};

@@ -14,8 +14,8 @@ ghost use Rattle.mid_program.specs.ViewCode.{view, view_array, view_step, view_s
 ghost use Rattle.mid_code.specs.ViewScope.{scope_of, texts_of};
 
 use crate::build::{applied, over, record, store_variable};
+use crate::compound::{host_array, host_whole};
 use crate::expression::{code, key, push_operands};
-use crate::parts::{host_array, host_whole};
 use crate::scope::Scope;
 use awk_grammar::{Expr, Jump, Leaving, PrintArgs, PrintTarget, PrintWord, SimpleStmt, Stmt};
 use mid_program::{ArrayName, Code, Operand, Operation, Step};
@@ -270,8 +270,9 @@ fn for_each(
 
 /// The rest of what is being read is given up, and then the record is left.
 fn next_file(alloc: Global) -> Result<Box<Step>, AllocError>
-    ensures { IfOk result (λ step. view_step step.value ≡ plain.Block (plain.Then (plain.Eval (plain.Do
-        (Operation.Host row.NextFile) plain.End)) (plain.Then plain.Next plain.NoStep))) }
+    ensures { IfOk result (λ step. view_step step.value
+        ≡ plain.Block (plain.Then (plain.Eval (plain.Do (Operation.Host row.NextFile) plain.End))
+        (plain.Then plain.Next plain.NoStep))) }
 {
     let rest = applied(Operation::Host(Primitive::NextFile), Vec::new(alloc));
     let given_up = evaluated(alloc, rest)?;

@@ -8,7 +8,8 @@ ghost use Rattle.mid_number_names.specs.Unboxed.{UnboxesNumbers};
 
 use value_kinds::laws::numbers_are_unboxed;
 
-/// Each scalar into which a script stores numbers alone, as arguments too, is unboxed in its code, once constants are computed and the names of numbers are found.
+/// Each scalar into which a script stores numbers alone, as arguments too, is unboxed in its code, once constants are computed and the names of numbers are
+/// found.
 pub fn names_of_numbers_are_unboxed()
     ensures { (script : Resolved) → UnboxesNumbers script
         (apply (infer (fold (program_of script))) (fold (program_of script))) }

@@ -17,7 +17,7 @@ use Rattle.wasm_types.specs.Syntax.{Instruction, Instructions, Done, Then}
 use Rattle.std.proofs.Common.{map}
 use Rattle.wasm_types.specs.Syntax.{FuncForm}
 use Rattle.wasm_types.specs.ModuleGrammar.{joined}
-use Rattle.module_decoder.specs.declared.parts.Code.{Code}
+use Rattle.module_decoder.specs.declared.entry_kinds.Code.{Code}
 use Rattle.module_decoder.specs.View.{view_code}
 use Rattle.wasm_types.specs.View.{view, views}
 use Rattle.wasm_types.proofs.Views.{followed_by, view_block, view_loop, view_if}

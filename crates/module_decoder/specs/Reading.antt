@@ -1,5 +1,5 @@
 -- Reading a module from the left; the first fault is the answer.
-use Rattle.std.specs.Prelude.{ℕ, zero, suc, ◌+◌, ◌-◌, ◌^◌, List, [], ◌∷◌, ◌++◌, length, take, drop, replicate, Option, Some, None, Result, Ok, Err, Bool, true, false, nat_lt, nat_le, ◌==◌, if◌then◌else◌}
+use Rattle.std.specs.Prelude.{ℕ, zero, suc, ◌+◌, ◌-◌, List, [], ◌∷◌, ◌++◌, length, take, drop, replicate, Option, Some, None, Result, Ok, Err, Bool, true, false, nat_lt, nat_le, ◌==◌, if◌then◌else◌}
 use Rattle.std.specs.Str.{is_utf8}
 use Rattle.wasm_types.specs.declared.types.ValType.{ValType}
 use Rattle.wasm_types.specs.declared.types.ValType.TheVariants.{I32, I64}
@@ -17,6 +17,7 @@ use Rattle.wasm_types.specs.Syntax.{Instruction, Plain, BrTable, Block, Loop, If
 use Rattle.wasm_types.specs.Opcodes.{lead_at, indexed}
 use Rattle.wasm_types.specs.Leb128.{u32_at}
 use Rattle.wasm_types.specs.ModuleGrammar.{CodeForm, Parts, no_parts, number, module_of, header}
+use Rattle.wasm_types.specs.Profile.{most_elements, most_locals, most_module_bytes, most_nesting, most_pages}
 use Rattle.module_decoder.specs.declared.fault.DecodeFault.{DecodeFault}
 use Rattle.module_decoder.specs.declared.fault.DecodeFault.TheVariants.{BadHeader, Truncated, BadSection, BadInteger, BadOpcode, Float, TooLarge}
 use Rattle.module_decoder.specs.declared.basics.Span.{Span}
@@ -26,8 +27,8 @@ use Rattle.module_decoder.specs.declared.body.Opener.{Opener}
 use Rattle.module_decoder.specs.declared.body.Opener.TheVariants as opener
 use Rattle.module_decoder.specs.declared.body.Step.{Step}
 use Rattle.module_decoder.specs.declared.body.Step.TheVariants.{Ends, Opens}
-use Rattle.module_decoder.specs.declared.parts.Limited.{Limited}
-use Rattle.module_decoder.specs.declared.parts.Limited.TheVariants as limited
+use Rattle.module_decoder.specs.declared.entry_kinds.Limited.{Limited}
+use Rattle.module_decoder.specs.declared.entry_kinds.Limited.TheVariants as limited
 use Rattle.module_decoder.specs.Readers.{◌>>=◌, Read, both_at, mapped, malformed, place, unfinished, index_at, bits32_at, bits64_at, vec_at, option_at, tagged_at, whole, bytes_at}
 
 -- ---- types
@@ -148,7 +149,7 @@ abbrev pub same : {A : Type 0} → A → A
 same x = x
 
 abbrev pub expr_at : Span → List ℕ → Read Instructions
-expr_at c bytes = body_at c 4001 bytes >>= by_end c same
+expr_at c bytes = body_at c (most_nesting + 1) bytes >>= by_end c same
 
 -- ---- parts
 
@@ -184,12 +185,12 @@ limits_at c most [] = malformed c
 limits_at c most (b ∷ bytes) = limits_by c most b bytes
 
 abbrev pub table_type_at : Span → List ℕ → Read Limits
-table_type_at c = tagged_at c 0x70 (limits_at c 65536)
+table_type_at c = tagged_at c 0x70 (limits_at c most_elements)
 
 -- the type of a table or of a memory
 abbrev pub limited_at : Limited → Span → List ℕ → Read Limits
 limited_at limited.Table c = table_type_at c
-limited_at limited.Memory c = limits_at c 256
+limited_at limited.Memory c = limits_at c most_pages
 
 abbrev pub mut_at : Span → List ℕ → Read Bool
 mut_at c [] = malformed c
@@ -230,7 +231,7 @@ runs_at c zero left bytes = Ok ([], bytes)
 runs_at c (suc n) left bytes = index_at c bytes >>= run_by c (runs_at c n) left
 
 abbrev pub locals_at : Span → List ℕ → Read (List ValType)
-locals_at c bytes = index_at c bytes >>= λ n. runs_at c n.0 50000 n.1
+locals_at c bytes = index_at c bytes >>= λ n. runs_at c n.0 most_locals n.1
 
 abbrev pub code_parts_at : Span → List ℕ → Read CodeForm
 code_parts_at c = mapped (λ x. record { locals = x.0; body = x.1 }) (both_at (locals_at c) (expr_at c))
@@ -269,7 +270,7 @@ part_at c section.Type p bytes = whole c (vec_at c (func_type_at c)) bytes >>= �
 part_at c section.Import p bytes = whole c (vec_at c (import_at c)) bytes >>= λ xs. Ok (record p { imports = xs })
 part_at c section.Function p bytes = whole c (vec_at c (index_at c)) bytes >>= λ xs. Ok (record p { type_indices = xs })
 part_at c section.Table p bytes = whole c (vec_at c (table_type_at c)) bytes >>= λ xs. Ok (record p { tables = xs })
-part_at c section.Memory p bytes = whole c (vec_at c (limits_at c 256)) bytes >>= λ xs. Ok (record p { memories = xs })
+part_at c section.Memory p bytes = whole c (vec_at c (limits_at c most_pages)) bytes >>= λ xs. Ok (record p { memories = xs })
 part_at c section.Global p bytes = whole c (vec_at c (global_at c)) bytes >>= λ xs. Ok (record p { globals = xs })
 part_at c section.Export p bytes = whole c (vec_at c (export_at c)) bytes >>= λ xs. Ok (record p { exports = xs })
 part_at c section.Start p bytes = whole c (index_at c) bytes >>= λ x. Ok (record p { start = Some x })
@@ -350,7 +351,7 @@ after_header total (h ∷ hs) [] = Err (Truncated total)
 after_header total (h ∷ hs) (b ∷ bytes) = if b == h then after_header total hs bytes else Err BadHeader
 
 abbrev pub contents_at : ℕ → List ℕ → Result ModuleForm DecodeFault
-contents_at total rest = if nat_le total (2 ^ 24) then (sections_at total (length rest) no_progress rest >>= finished) else Err TooLarge
+contents_at total rest = if nat_le total most_module_bytes then (sections_at total (length rest) no_progress rest >>= finished) else Err TooLarge
 
 abbrev pub module_at : List ℕ → Result ModuleForm DecodeFault
 module_at bytes = after_header (length bytes) header bytes >>= contents_at (length bytes)

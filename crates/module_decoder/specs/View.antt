@@ -2,7 +2,7 @@
 use Rattle.std.specs.Prelude.{map}
 use Rattle.wasm_types.specs.View.{views, signature_of, view_import, view_global, view_export, view_elem, view_data}
 use Rattle.wasm_types.specs.ModuleGrammar as grammar
-use Rattle.module_decoder.specs.declared.parts.Code.{Code}
+use Rattle.module_decoder.specs.declared.entry_kinds.Code.{Code}
 use Rattle.module_decoder.specs.declared.sections.Parts.{Parts}
 use Rattle.module_decoder.specs.declared.sections.Progress.{Progress}
 use Rattle.module_decoder.specs.Reading as reading

@@ -13,10 +13,7 @@ use crate::entries::entries;
 use crate::fault::DecodeFault;
 use std::alloc::Global;
 use std::rc::Rc;
-use wasm_types::{BlockType, IndexOp, Instr, Lead, LoadOp, Simple, StoreOp, lead_of};
-
-/// How deep bodies may be nested.
-const MAX_NESTING: u32 = 4000;
+use wasm_types::{BlockType, IndexOp, Instr, Lead, LoadOp, MAX_NESTING, Simple, StoreOp, lead_of};
 
 /// What ends instructions.
 #[derive(Clone, Copy)]

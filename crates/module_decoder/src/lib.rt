@@ -4,9 +4,9 @@
 mod basics;
 mod body;
 mod entries;
+mod entry_kinds;
 mod fault;
 pub mod laws;
-mod parts;
 mod sections;
 
 pub use fault::DecodeFault;

@@ -6,24 +6,25 @@ ghost use Rattle.wasm_types.specs.Instructions.{depths};
 ghost use Rattle.wasm_types.specs.Syntax.{ModuleForm};
 ghost use Rattle.wasm_types.specs.View.{view_func, view_module};
 ghost use Rattle.wasm_types.specs.declared.module.SectionId.TheVariants as section_id;
-ghost use Rattle.wasm_types.specs.ModuleGrammar.{number, no_parts, joined, module_of, IsModule};
+ghost use Rattle.wasm_types.specs.ModuleGrammar.{no_parts, joined, module_of, IsModule};
+ghost use Rattle.wasm_types.specs.Profile.{most_nesting};
 ghost use Rattle.module_decoder.specs.View.{view_code, view_parts, view_progress};
 ghost use Rattle.module_decoder.specs.Readers.{Gives, Fails, ended};
 ghost use Rattle.module_decoder.specs.Reading.{made_frame, section_by, part_at, Frame, frame_at, section_at, sections_at, no_progress, custom_at, known_by, finished_by, after_header, module_at};
 
 use crate::basics::{Span, ended, index, name, unfinished};
 use crate::entries::fill;
+use crate::entry_kinds::{Code, Limited, fill_limited};
 use crate::fault::DecodeFault;
-use crate::parts::{Code, Limited, fill_limited};
 use std::alloc::{AllocError, Global};
 use std::rc::Rc;
-use wasm_types::{Data, Elem, Export, Func, FuncType, Import, Limits, Module, SectionId, take_u32};
+use wasm_types::{
+    Data, Elem, Export, Func, FuncType, Import, Limits, MAX_MODULE_BYTES, Module, SectionId,
+    take_u32,
+};
 
 /// "\0asm" and version 1.
 const HEADER: [u8; 8] = [0x00, 0x61, 0x73, 0x6d, 0x01, 0x00, 0x00, 0x00];
-
-/// How many bytes a module may have.
-const MAX_SIZE: usize = 16777216;
 
 /// What sections have given so far.
 #[derive(Drop)]
@@ -68,24 +69,6 @@ fn section_by(id: u8) -> Option<SectionId>
     }
 }
 
-fn number(id: SectionId) -> u8
-    ensures { result ≡ number id }
-{
-    match id {
-        SectionId::Type => 1,
-        SectionId::Import => 2,
-        SectionId::Function => 3,
-        SectionId::Table => 4,
-        SectionId::Memory => 5,
-        SectionId::Global => 6,
-        SectionId::Export => 7,
-        SectionId::Start => 8,
-        SectionId::Element => 9,
-        SectionId::Code => 10,
-        SectionId::Data => 11,
-    }
-}
-
 // What was read, if nothing is left behind it.
 fn whole<T: Drop>(c: Span, read: Result<(T, &[u8]), DecodeFault>) -> Result<T, DecodeFault>
     ensures { MatchResult read.entry (λ x. Gives (λ y. y) result (ended c (x.0, x.1.now)))
@@ -127,7 +110,8 @@ impl Parts {
     // Takes the codes, of which there are as many as functions. Their number stands before them, so it is told first where it differs.
     fn take_codes(&mut self, alloc: Global, c: Span, bytes: &[u8]) -> Result<(), DecodeFault>
         ensures { MatchResult result
-            (λ _. part_at c section_id.Code (view_parts self.old) bytes.now ≡ Ok (view_parts self.new))
+            (λ _. part_at c section_id.Code (view_parts self.old) bytes.now
+            ≡ Ok (view_parts self.new))
             (λ e. Fails e (part_at c section_id.Code (view_parts self.old) bytes.now)) }
     {
         let (count, _) = index(c, bytes)?;
@@ -221,7 +205,7 @@ impl Progress {
             bytes.now ≡ Ok (view_progress self.new, x.now))
             (λ e. Fails e (known_by total at (Some id) (view_progress self.old) bytes.now)) }
     {
-        if number(id) <= self.last {
+        if id.number() <= self.last {
             return Err(DecodeFault::BadSection(at));
         }
         let (contents, after) = frame(total, bytes)?;
@@ -230,7 +214,7 @@ impl Progress {
             end: total.saturating_sub(after.len()),
         };
         self.parts.take(alloc, c, id, contents)?;
-        self.last = number(id);
+        self.last = id.number();
         if id == SectionId::Function {
             self.functions = at;
         }
@@ -381,7 +365,8 @@ fn after_header<'a>(total: usize, header: &[u8], bytes: &'a [u8]) -> Result<&'a 
 pub fn decode(alloc: Global, bytes: &[u8]) -> Result<Module, DecodeFault>
     ensures read { Gives view_module result (module_at bytes.now) }
     ensures found { IfOk result (λ m. IsModule bytes.now (view_module m)) }
-    ensures nested { IfOk result (λ m. All (λ f. depths f.body ≤ 4000) (view_module m).funcs) }
+    ensures nested { IfOk result
+        (λ m. All (λ f. depths f.body ≤ most_nesting) (view_module m).funcs) }
     ensures only { (m : ModuleForm) → IsModule bytes.now m → Gives view_module result (Ok m) }
 {
     read_module(alloc, bytes)
@@ -392,7 +377,7 @@ fn read_module(alloc: Global, bytes: &[u8]) -> Result<Module, DecodeFault>
 {
     let total = bytes.len();
     let rest = after_header(total, &HEADER, bytes)?;
-    if total > MAX_SIZE {
+    if total > MAX_MODULE_BYTES {
         return Err(DecodeFault::TooLarge);
     }
     let progress = sections(alloc, total, rest)?;

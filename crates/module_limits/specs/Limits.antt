@@ -8,6 +8,7 @@ use Rattle.wasm_types.specs.declared.module.ExportDesc.TheVariants as export
 use Rattle.wasm_types.specs.Syntax.{Instruction, Plain, BrTable, Block, Loop, If, Instructions, Done, Then, ImportForm, FuncForm, GlobalForm, ExportForm, ElemForm, DataForm, ModuleForm}
 use Rattle.wasm_types.specs.Opcodes.{Immediates, Nothing, Index, Memory, Bits32, Bits64, IndexReserved, Reserved, immediates}
 use Rattle.wasm_types.specs.Instructions.{depths}
+use Rattle.wasm_types.specs.Profile.{most_elements, most_locals, most_module_bytes, most_nesting, most_pages}
 use Rattle.module_limits.specs.Size.{module_size}
 
 -- ---- what has to fit its width
@@ -50,14 +51,14 @@ pub record HoldsWords (m : ModuleForm) : Type 0 where
 
 -- ---- limits
 
--- A module passes a limit: it has more than 16 MiB of bytes, a function with more than 50,000 locals or with more than 4,000 blocks in one another, a
--- table of more than 65,536 elements, or a memory of more than 256 pages at first.
+-- A module passes a limit: it has too many bytes, a function with too many locals or with too many blocks in one another, or a table with too many elements
+-- or a memory with too many pages at first.
 pub data PassesALimit (m : ModuleForm) : Type 0 where
-  bytes : 2 ^ 24 < module_size m → PassesALimit m
-  locals : (f : FuncForm) → Contains m.funcs f → 50000 < length f.locals → PassesALimit m
-  blocks : (f : FuncForm) → Contains m.funcs f → 4000 < depths f.body → PassesALimit m
-  elements : (l : Limits) → Contains m.tables l → 65536 < l.min → PassesALimit m
-  pages : (l : Limits) → Contains m.memories l → 256 < l.min → PassesALimit m
+  bytes : most_module_bytes < module_size m → PassesALimit m
+  locals : (f : FuncForm) → Contains m.funcs f → most_locals < length f.locals → PassesALimit m
+  blocks : (f : FuncForm) → Contains m.funcs f → most_nesting < depths f.body → PassesALimit m
+  elements : (l : Limits) → Contains m.tables l → most_elements < l.min → PassesALimit m
+  pages : (l : Limits) → Contains m.memories l → most_pages < l.min → PassesALimit m
 
 -- The rest serves proofs: the same of every number.
 
@@ -105,14 +106,14 @@ pub record IsSpellable (m : ModuleForm) : Type 0 where
   pub data_segments : AllByRecursion (λ (d : DataForm). IsIndexed d.memory × HaveNumbers d.offset) m.data_segments
 
 abbrev pub IsShallow : Instructions → Type 0
-IsShallow is = depths is ≤ 4000
+IsShallow is = depths is ≤ most_nesting
 
 pub record IsWithinLimits (m : ModuleForm) : Type 0 where
-  pub size : module_size m ≤ 2 ^ 24
-  pub locals : AllByRecursion (λ (f : FuncForm). length f.locals ≤ 50000) m.funcs
+  pub size : module_size m ≤ most_module_bytes
+  pub locals : AllByRecursion (λ (f : FuncForm). length f.locals ≤ most_locals) m.funcs
   pub bodies : AllByRecursion (λ (f : FuncForm). IsShallow f.body) m.funcs
   pub globals : AllByRecursion (λ (g : GlobalForm). IsShallow g.init) m.globals
   pub elems : AllByRecursion (λ (e : ElemForm). IsShallow e.offset) m.elems
   pub data_segments : AllByRecursion (λ (d : DataForm). IsShallow d.offset) m.data_segments
-  pub tables : AllByRecursion (λ (l : Limits). l.min ≤ 65536) m.tables
-  pub memories : AllByRecursion (λ (l : Limits). l.min ≤ 256) m.memories
+  pub tables : AllByRecursion (λ (l : Limits). l.min ≤ most_elements) m.tables
+  pub memories : AllByRecursion (λ (l : Limits). l.min ≤ most_pages) m.memories

@@ -4,6 +4,7 @@ ghost use Rattle.std.specs.List.{list_any};
 ghost use Rattle.module_validator.specs.Checks.{context_of};
 ghost use Rattle.module_validator.specs.Faults.{any_in, any_of, faulty, lacks, named, overaligned};
 ghost use Rattle.wasm_types.specs.Instructions.{depth, depths};
+ghost use Rattle.wasm_types.specs.Profile.{most_nesting};
 ghost use Rattle.wasm_types.specs.Syntax.{BrTable, Plain};
 ghost use Rattle.wasm_types.specs.View.{view, views};
 
@@ -78,7 +79,7 @@ impl<'a> Scope<'a> {
     // Whether an instruction is faulty so, or one in its bodies.
     #[cycle(search)]
     fn is_at_fault(&self, sought: Cause, labels: u32, i: &Instr) -> bool
-        requires { labels + depth (view i.now) ≤ 4001 }
+        requires { labels + depth (view i.now) ≤ most_nesting + 1 }
         ensures { result ≡ any_of (faulty (context_of self.now) sought) labels (view i.now) }
     {
         match i {
@@ -94,7 +95,7 @@ impl<'a> Scope<'a> {
 
     #[cycle(search)]
     fn has(&self, sought: Cause, labels: u32, code: &[Instr]) -> bool
-        requires { labels + depths (views code.now) ≤ 4001 }
+        requires { labels + depths (views code.now) ≤ most_nesting + 1 }
         ensures { result ≡ any_in (faulty (context_of self.now) sought) labels (views code.now) }
     {
         for i in code {
@@ -107,7 +108,7 @@ impl<'a> Scope<'a> {
 
     /// What is told of the function with this body.
     pub(crate) fn name(&self, function: usize, code: &[Instr]) -> InvalidFault
-        requires { depths (views code.now) ≤ 4000 }
+        requires { depths (views code.now) ≤ most_nesting }
         ensures { result
             ≡ named (any_in (faulty (context_of self.now) Cause.Index) 1 (views code.now))
             (any_in (faulty (context_of self.now) Cause.Align) 1 (views code.now)) function }

@@ -3,6 +3,7 @@ ghost use Rattle.std.specs.Prelude.{◌≡◌, ◌++◌, ◌⊎◌, ◌-◌, ◌
 ghost use Rattle.std.specs.List.{All};
 ghost use Rattle.module_validator.specs.Faults.{Refuses, Untypes};
 ghost use Rattle.wasm_types.specs.Instructions.{depths};
+ghost use Rattle.wasm_types.specs.Profile.{most_nesting};
 ghost use Rattle.wasm_types.specs.Typing.{FuncOk, ModuleOk};
 ghost use Rattle.wasm_types.specs.View.{view_func, view_module};
 
@@ -43,6 +44,7 @@ pub struct ValidModule {
 
 impl Model for ValidModule {
     ghost use Rattle.std.specs.Coded.{codes};
+    ghost use Rattle.wasm_types.specs.Profile.{most_nesting};
     ghost use Rattle.wasm_types.specs.Typing.{ModuleOk};
     ghost use Rattle.wasm_types.specs.View.{view_module};
     ghost use Rattle.wasm_types.specs.contracts.instr.Instr as instr;
@@ -85,7 +87,7 @@ fn locals_of(alloc: Global, t: &FuncType, f: &Func) -> Result<Vec<ValType>, Allo
 }
 
 fn check_func(alloc: Global, m: &Module, f: &Func, function: usize) -> Result<(), InvalidFault>
-    requires { depths (view_func f.now).body ≤ 4000 }
+    requires { depths (view_func f.now).body ≤ most_nesting }
     ensures { MatchResult result (λ _. FuncOk (view_module m.now) (view_func f.now))
         (Untypes (view_module m.now) (view_func f.now) function) }
 {
@@ -111,7 +113,7 @@ fn check_func(alloc: Global, m: &Module, f: &Func, function: usize) -> Result<()
 /// Checks the functions of a module, one after the other.
 fn check_funcs(alloc: Global, m: &Module, imports: usize) -> Result<(), InvalidFault>
     requires imports { imports ≡ length (view_module m.now).imports }
-    requires nested { All (λ f. depths f.body ≤ 4000) (view_module m.now).funcs }
+    requires nested { All (λ f. depths f.body ≤ most_nesting) (view_module m.now).funcs }
     ensures { MatchResult result (λ _. All (FuncOk (view_module m.now)) (view_module m.now).funcs)
         (Refuses (view_module m.now)) }
 {
@@ -122,7 +124,7 @@ fn check_funcs(alloc: Global, m: &Module, imports: usize) -> Result<(), InvalidF
 }
 
 fn check(alloc: Global, m: &Module) -> Result<(), InvalidFault>
-    requires { All (λ f. depths f.body ≤ 4000) (view_module m.now).funcs }
+    requires { All (λ f. depths f.body ≤ most_nesting) (view_module m.now).funcs }
     ensures { MatchResult result (λ _. ModuleOk (view_module m.now)) (Refuses (view_module m.now)) }
 {
     match level_ok(alloc, m) {
@@ -141,7 +143,7 @@ fn check(alloc: Global, m: &Module) -> Result<(), InvalidFault>
 ///
 /// Bodies are to be nested at most 4,000 deep, as those of a decoded module are, so that the native stack suffices.
 pub fn validate(alloc: Global, m: Module) -> Result<ValidModule, (Module, InvalidFault)>
-    requires nested { All (λ f. depths f.body ≤ 4000) (view_module m).funcs }
+    requires nested { All (λ f. depths f.body ≤ most_nesting) (view_module m).funcs }
     ensures ok { IfOk result (λ v. v ≡ m) }
     ensures valid { OnOk result (ModuleOk (view_module m)) }
     ensures handed_back { IfErr result (λ e. e.0 ≡ m) }

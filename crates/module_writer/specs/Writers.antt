@@ -6,6 +6,7 @@ use Rattle.std.specs.declared.alloc.Global.{Global}
 use Rattle.module_writer.specs.declared.fault.WriteFault.{WriteFault}
 use Rattle.module_writer.specs.declared.fault.WriteFault.TheVariants.{TooLarge, NoMemory}
 use Rattle.wasm_types.specs.Leb128.{and_then, u32_text, s32_text, s64_text}
+use Rattle.wasm_types.specs.Profile.{most_module_bytes}
 
 -- all bytes then; None where a limit is passed
 abbrev pub Written : Type 0
@@ -28,7 +29,7 @@ Gives (Err e) all = Fails e all
 
 -- no byte goes past 16 MiB
 abbrev pub byte_to : ℕ → List ℕ → Written
-byte_to b out = if nat_lt (length out) (2 ^ 24) then Some (out ++ b ∷ []) else None
+byte_to b out = if nat_lt (length out) most_module_bytes then Some (out ++ b ∷ []) else None
 
 unfoldable pub index_to : ℕ → List ℕ → Written
 index_to n out = if nat_lt n (2 ^ 32) then Some (out ++ u32_text n) else None

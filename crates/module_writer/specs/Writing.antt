@@ -1,5 +1,5 @@
 -- Writing a module in the fewest bytes.
-use Rattle.std.specs.Prelude.{ℕ, ◌+◌, ◌-◌, ◌^◌, ◌==◌, List, [], ◌∷◌, length, Option, Some, None, Bool, true, false, nat_le, if◌then◌else◌}
+use Rattle.std.specs.Prelude.{ℕ, ◌+◌, ◌-◌, ◌==◌, List, [], ◌∷◌, length, Option, Some, None, Bool, true, false, nat_le, if◌then◌else◌}
 use Rattle.wasm_types.specs.declared.types.ValType.{ValType}
 use Rattle.wasm_types.specs.declared.types.ValType.TheVariants.{I32, I64}
 use Rattle.wasm_types.specs.declared.types.Limits.{Limits}
@@ -14,6 +14,7 @@ use Rattle.wasm_types.specs.Opcodes.{opcode, Immediates, Nothing, Index, Memory,
 use Rattle.wasm_types.specs.Leb128.{and_then}
 use Rattle.wasm_types.specs.Instructions.{val_code, block_code}
 use Rattle.wasm_types.specs.ModuleGrammar.{mut_code, number, header}
+use Rattle.wasm_types.specs.Profile.{most_elements, most_locals, most_module_bytes, most_nesting, most_pages}
 use Rattle.module_writer.specs.Writers.{Written, byte_to, index_to, bits32_to, bits64_to, both_to, vec_to, option_to, tagged_to, bytes_to, sized_to, name_to}
 
 -- ---- types
@@ -68,7 +69,7 @@ abbrev mutual
   instrs_to d (Then i is) out = and_then (instr_to d i out) (instrs_to d is)
 
 abbrev pub expr_to : Instructions → List ℕ → Written
-expr_to is out = and_then (instrs_to 4000 is out) (byte_to 0x0b)
+expr_to is out = and_then (instrs_to most_nesting is out) (byte_to 0x0b)
 
 -- ---- parts
 
@@ -86,7 +87,7 @@ abbrev pub limits_to : ℕ → Limits → List ℕ → Written
 limits_to most l out = if nat_le l.min most then limits_by l.min l.max out else None
 
 abbrev pub table_type_to : Limits → List ℕ → Written
-table_type_to l out = tagged_to 0x70 (limits_to 65536) l out
+table_type_to l out = tagged_to 0x70 (limits_to most_elements) l out
 
 abbrev pub global_to : GlobalForm → List ℕ → Written
 global_to g out = and_then (val_type_to g.ty.value out) (λ o. and_then (byte_to (mut_code g.ty.mutable) o) (expr_to g.init))
@@ -123,7 +124,7 @@ runs_of [] = []
 runs_of (t ∷ ts) = runs_from 1 t ts
 
 abbrev pub locals_to : List ValType → List ℕ → Written
-locals_to ts out = if nat_le (length ts) 50000 then vec_to (both_to index_to val_type_to) (runs_of ts) out else None
+locals_to ts out = if nat_le (length ts) most_locals then vec_to (both_to index_to val_type_to) (runs_of ts) out else None
 
 abbrev pub code_parts_to : FuncForm → List ℕ → Written
 code_parts_to f out = and_then (locals_to f.locals out) (expr_to f.body)
@@ -168,7 +169,7 @@ abbrev pub from_globals_to : ModuleForm → List ℕ → Written
 from_globals_to m out = and_then (vec_section_to section.Global global_to m.globals out) (from_exports_to m)
 
 abbrev pub from_memory_to : ModuleForm → List ℕ → Written
-from_memory_to m out = and_then (vec_section_to section.Memory (limits_to 256) m.memories out) (from_globals_to m)
+from_memory_to m out = and_then (vec_section_to section.Memory (limits_to most_pages) m.memories out) (from_globals_to m)
 
 abbrev pub from_table_to : ModuleForm → List ℕ → Written
 from_table_to m out = and_then (vec_section_to section.Table table_type_to m.tables out) (from_memory_to m)
@@ -184,7 +185,7 @@ from_types_to m out = and_then (vec_section_to section.Type func_type_to m.types
 
 -- bytes that are not too many
 abbrev pub fit : List ℕ → Written
-fit out = if nat_le (length out) (2 ^ 24) then Some out else None
+fit out = if nat_le (length out) most_module_bytes then Some out else None
 
 abbrev pub module_to : ModuleForm → Written
 module_to m = and_then (from_types_to m header) fit

@@ -7,16 +7,13 @@ ghost use Rattle.module_writer.specs.Writers.{Puts, byte_to, index_to, bits32_to
 ghost use Rattle.module_writer.specs.Writing.{val_type_to, mem_arg_to};
 
 use crate::fault::WriteFault;
-use wasm_types::{BlockType, MemArg, ValType, push_s32, push_s64, push_u32};
-
-/// How many bytes a module may have.
-pub(crate) const MAX_SIZE: usize = 16777216;
+use wasm_types::{BlockType, MAX_MODULE_BYTES, MemArg, ValType, push_s32, push_s64, push_u32};
 
 /// A byte. What is too large already is not written on, so that no part grows far past the limit.
 pub(crate) fn byte(out: &mut Vec<u8>, b: u8) -> Result<(), WriteFault>
     ensures { Puts result (byte_to b out.old.items) out.new.items }
 {
-    if out.len() >= MAX_SIZE {
+    if out.len() >= MAX_MODULE_BYTES {
         return Err(WriteFault::TooLarge);
     }
     out.push(b)?;

@@ -9,10 +9,7 @@ ghost use Rattle.module_writer.specs.Writing.{immediates_to, simple_to, table_to
 
 use crate::basics::{bits32, bits64, block_code, byte, index, indices, mem_arg};
 use crate::fault::WriteFault;
-use wasm_types::{BlockType, Instr, Simple, opcode};
-
-/// How deep bodies may be nested.
-const MAX_NESTING: u32 = 4000;
+use wasm_types::{BlockType, Instr, MAX_NESTING, Simple, opcode};
 
 // What stands behind an opcode.
 fn immediates(out: &mut Vec<u8>, instr: Simple) -> Result<(), WriteFault>

@@ -3,8 +3,8 @@
 
 mod basics;
 mod body;
+mod entries;
 mod fault;
-mod parts;
 mod sections;
 
 pub use fault::WriteFault;

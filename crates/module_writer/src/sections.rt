@@ -3,45 +3,30 @@
 ghost use Rattle.std.specs.Prelude.{◌≡◌, ◌≤◌, List, ℕ, length, map, Some, IfOk, IfErr};
 ghost use Rattle.wasm_types.specs.declared.module.SectionId.TheVariants as section;
 ghost use Rattle.wasm_types.specs.View.{signature_of, view_import, view_func, view_global, view_export, view_elem, view_data, view_module};
-ghost use Rattle.wasm_types.specs.ModuleGrammar.{number, IsModule};
+ghost use Rattle.wasm_types.specs.ModuleGrammar.{IsModule};
+ghost use Rattle.wasm_types.specs.Profile.{most_pages};
 ghost use Rattle.module_writer.specs.declared.fault.WriteFault.TheVariants.{TooLarge};
 ghost use Rattle.module_writer.specs.Writers.{Puts, Gives};
 ghost use Rattle.module_writer.specs.Writing.{func_type_to, import_to, type_index_to, table_type_to, limits_to, global_to, export_to, elem_to, code_to, data_to, section_to, vec_section_to, start_to, from_types_to, module_to};
 
-use crate::basics::{MAX_SIZE, byte, counted, index};
-use crate::fault::WriteFault;
-use crate::parts::{
+use crate::basics::{byte, counted, index};
+use crate::entries::{
     codes, elems, exports, func_types, globals, imports, memories, segments, tables, type_indices,
 };
+use crate::fault::WriteFault;
 use std::alloc;
-use wasm_types::{Data, Elem, Export, Func, FuncType, Global, Import, Limits, Module, SectionId};
+use wasm_types::{
+    Data, Elem, Export, Func, FuncType, Global, Import, Limits, MAX_MODULE_BYTES, Module, SectionId,
+};
 
 /// "\0asm" and version 1.
 const HEADER: [u8; 8] = [0x00, 0x61, 0x73, 0x6d, 0x01, 0x00, 0x00, 0x00];
-
-fn number(id: SectionId) -> u8
-    ensures { result ≡ number id }
-{
-    match id {
-        SectionId::Type => 1,
-        SectionId::Import => 2,
-        SectionId::Function => 3,
-        SectionId::Table => 4,
-        SectionId::Memory => 5,
-        SectionId::Global => 6,
-        SectionId::Export => 7,
-        SectionId::Start => 8,
-        SectionId::Element => 9,
-        SectionId::Code => 10,
-        SectionId::Data => 11,
-    }
-}
 
 // A section with these contents: they were written on their own, since their size stands before them.
 fn section(out: &mut Vec<u8>, id: SectionId, contents: &[u8]) -> Result<(), WriteFault>
     ensures { Puts result (section_to id (Some contents.now) out.old.items) out.new.items }
 {
-    byte(out, number(id))?;
+    byte(out, id.number())?;
     counted(out, contents)
 }
 
@@ -103,7 +88,7 @@ fn table_section(alloc: alloc::Global, out: &mut Vec<u8>, all: &[Limits]) -> Res
 
 fn memory_section(alloc: alloc::Global, out: &mut Vec<u8>, all: &[Limits]) -> Result<(), WriteFault>
     ensures { Puts result
-        (vec_section_to section.Memory (limits_to 256) all.now out.old.items) out.new.items }
+        (vec_section_to section.Memory (limits_to most_pages) all.now out.old.items) out.new.items }
 {
     match all {
         [] => Ok(()),
@@ -238,7 +223,7 @@ fn write_module(alloc: alloc::Global, m: &Module) -> Result<Vec<u8>, WriteFault>
 {
     let mut out = Vec::from_slice(alloc, &HEADER)?;
     sections(alloc, &mut out, m)?;
-    if out.len() > MAX_SIZE {
+    if out.len() > MAX_MODULE_BYTES {
         return Err(WriteFault::TooLarge);
     }
     Ok(out)

@@ -33,9 +33,13 @@ pub record IsCodeOf (tokens : List Spelled) (p : Program) : Type 0 where
   pub same : EndsAs p (resolved script)
   pub sorted : IsSorted p
 
--- the bytes are at most 2^20, and this is said of their tokens
+-- a script has at most so many bytes: 1 MiB
+abbrev pub most_script_bytes : ℕ
+most_script_bytes = 2 ^ 20
+
+-- the bytes are not too many, and this is said of their tokens
 pub record HasTokens (bytes : List ℕ) (Says : List Spelled → Type 0) : Type 0 where
-  pub short : length bytes ≤ 2 ^ 20
+  pub short : length bytes ≤ most_script_bytes
   pub tokens : List Spelled
   pub cut : IsTokens bytes (Ok tokens)
   pub said : Says tokens

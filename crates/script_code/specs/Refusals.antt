@@ -1,5 +1,5 @@
 -- Why a script has no code.
-use Rattle.std.specs.Prelude.{◌≡◌, ◌≢◌, ◌<◌, ◌≤◌, ◌^◌, ℕ, List, Err, length}
+use Rattle.std.specs.Prelude.{◌≡◌, ◌≢◌, ◌<◌, ◌≤◌, ℕ, List, Err, length}
 use Rattle.awk_tokens.specs.Cutting.{IsTokens, Spelled}
 use Rattle.awk_tokens.specs.declared.token.TokenFault.{TokenFault}
 use Rattle.awk_tokens.specs.declared.token.TokenFault.TheVariants as cutting
@@ -12,7 +12,7 @@ use Rattle.awk_resolve.specs.ViewResolved.{IsCause}
 use Rattle.awk_resolve.specs.declared.fault.ResolveFault.{ResolveFault}
 use Rattle.awk_resolve.specs.declared.fault.ResolveFault.TheVariants as resolving
 use Rattle.ere_syntax.specs.declared.fault.EreFault.{EreFault}
-use Rattle.script_code.specs.Coded.{HasTokens}
+use Rattle.script_code.specs.Coded.{HasTokens, most_script_bytes}
 use Rattle.script_code.specs.Expressions.{AreFine, IsFirstBad}
 use Rattle.script_code.specs.declared.fault.CompileFault.{CompileFault}
 use Rattle.script_code.specs.declared.fault.CompileFault.TheVariants.{TooLarge, Token, Parse, Ere, Resolve, NoMemory}
@@ -21,7 +21,7 @@ use Rattle.script_code.specs.declared.fault.CompileFault.TheVariants.{TooLarge, 
 
 -- the bytes are not cut into tokens
 pub record HasNoTokens (bytes : List ℕ) (fault : TokenFault) : Type 0 where
-  pub short : length bytes ≤ 2 ^ 20
+  pub short : length bytes ≤ most_script_bytes
   pub named : fault ≢ cutting.NoMemory
   pub cause : IsTokens bytes (Err fault)
 
@@ -46,7 +46,7 @@ pub record HasBadName (tokens : List Spelled) (fault : ResolveFault) : Type 0 wh
 
 -- why a script has no code
 abbrev pub IsNotCoded : List ℕ → CompileFault → Type 0
-IsNotCoded bytes TooLarge = 2 ^ 20 < length bytes
+IsNotCoded bytes TooLarge = most_script_bytes < length bytes
 IsNotCoded bytes (Token fault) = HasNoTokens bytes fault
 IsNotCoded bytes (Parse fault) = HasTokens bytes (λ tokens. HasNoScript tokens fault)
 IsNotCoded bytes (Ere line fault) = HasTokens bytes (λ tokens. HasBadExpression tokens line fault)

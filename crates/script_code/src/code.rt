@@ -20,8 +20,8 @@ use std::alloc::Global;
 use value_kinds::laws::found_lanes_leave_sorted;
 use value_kinds::{apply, infer};
 
-/// The greatest length of a script.
-const MOST_BYTES: usize = 1 << 20;
+/// How many bytes a script has at most.
+pub const MAX_SCRIPT_BYTES: usize = 1 << 20;
 
 /// The code of a script as it is written.
 fn plain_code(alloc: Global, tokens: &[Token<'_>], script: &Script) -> Result<Mid, CompileFault>
@@ -82,7 +82,7 @@ pub fn code_of(alloc: Global, script: &[u8]) -> Result<Mid, CompileFault>
         (λ mid. HasTokens script.now (λ tokens. IsCodeOf tokens (view_mid mid))) }
     ensures refused { IfErr result (IsNotCoded script.now) }
 {
-    if script.len() > MOST_BYTES {
+    if script.len() > MAX_SCRIPT_BYTES {
         return Err(CompileFault::TooLarge);
     }
     let tokens = tokens(alloc, script)?;

@@ -6,5 +6,5 @@ mod expressions;
 mod fault;
 mod tree;
 
-pub use code::code_of;
+pub use code::{MAX_SCRIPT_BYTES, code_of};
 pub use fault::CompileFault;

@@ -1,5 +1,5 @@
 -- What a script is compiled to, whichever it is.
-use Rattle.std.specs.Prelude.{◌≡◌, ◌⊎◌, ◌≤◌, ◌^◌, ℕ, List, Ok, Some, false, length, map, true}
+use Rattle.std.specs.Prelude.{◌≡◌, ◌⊎◌, ◌≤◌, ℕ, List, Ok, Some, false, length, map, true}
 use Rattle.sem_primitives.specs.Jobs.{JobForm}
 use Rattle.awk_tokens.specs.Cutting.{IsTokens, Spelled}
 use Rattle.awk_grammar.specs.Item.{Item}
@@ -37,7 +37,7 @@ use Rattle.agree_quiet.specs.Sums.{AtFault}
 use Rattle.agree_job_words.specs.Naming.{program_names}
 use Rattle.agree_job_words.specs.Words.{AssignsName}
 use Rattle.mid_number_names.specs.Unboxed.{UnboxesNumbers}
-use Rattle.script_code.specs.Coded.{IsSound, unboxed}
+use Rattle.script_code.specs.Coded.{IsSound, most_script_bytes, unboxed}
 
 -- a module that links with the host
 pub record Links (m : ModuleForm) : Type 0 where
@@ -88,7 +88,7 @@ pub record HasPlaces (code : Program) : Type 0 where
 -- executes them. It is the module of the script's code, so that a script has one module; in this code a scalar into which the script stores numbers
 -- alone is unboxed.
 pub record IsCompiled (bytes : List ℕ) (compiled : List ℕ) : Type 0 where
-  pub short : length bytes ≤ 2 ^ 20
+  pub short : length bytes ≤ most_script_bytes
   pub tokens : List Spelled
   pub cut : IsTokens bytes (Ok tokens)
   pub script : List Item

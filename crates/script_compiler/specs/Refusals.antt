@@ -1,5 +1,5 @@
 -- Why a script is not compiled.
-use Rattle.std.specs.Prelude.{◌⊎◌, ◌<◌, ◌^◌, ℕ, List, length}
+use Rattle.std.specs.Prelude.{◌⊎◌, ◌<◌, ℕ, List, length}
 use Rattle.awk_tokens.specs.Cutting.{Spelled}
 use Rattle.mid_program.specs.Mid.{Program}
 use Rattle.wasm_types.specs.ModuleGrammar.{IsModule}
@@ -8,7 +8,7 @@ use Rattle.agree_sizes.specs.Past.{IsPast}
 use Rattle.lower_layout.specs.Spans.{IsSmall}
 use Rattle.lower_modules.specs.Limits.{IsTooLarge}
 use Rattle.lowering.specs.Limits.{AreSmallEnough}
-use Rattle.script_code.specs.Coded.{HasTokens, IsCodeOf}
+use Rattle.script_code.specs.Coded.{HasTokens, IsCodeOf, most_script_bytes}
 use Rattle.script_code.specs.Refusals.{IsNotCoded}
 use Rattle.script_code.specs.declared.fault.CompileFault.{CompileFault}
 use Rattle.script_code.specs.declared.fault.CompileFault.TheVariants.{TooLarge, NoMemory}
@@ -17,8 +17,8 @@ use Rattle.script_code.specs.declared.fault.CompileFault.TheVariants.{TooLarge, 
 abbrev pub IsPastLimits : Program → Type 0
 IsPastLimits p = (bytes : List ℕ) → IsModule bytes (module_of p) → ⊥
 
--- No bytes are the module of the script's code, and why: it has more than 16 MiB of them, a function with more than 50,000 locals, or one with more
--- than 4,000 blocks in one another. Nothing else makes it too large.
+-- No bytes are the module of the script's code, and why: it would have too many of them, a function with too many locals, or one with too many blocks in
+-- one another. Nothing else makes it too large.
 pub record HasLargeCode (tokens : List Spelled) : Type 0 where
   pub code : Program
   pub is_code : IsCodeOf tokens code
@@ -26,7 +26,7 @@ pub record HasLargeCode (tokens : List Spelled) : Type 0 where
   pub past : IsPast (module_of code)
 
 abbrev pub IsNotCompiled : List ℕ → CompileFault → Type 0
-IsNotCompiled bytes TooLarge = (2 ^ 20 < length bytes) ⊎ HasTokens bytes HasLargeCode
+IsNotCompiled bytes TooLarge = (most_script_bytes < length bytes) ⊎ HasTokens bytes HasLargeCode
 IsNotCompiled bytes fault = IsNotCoded bytes fault
 
 -- The rest serves contracts inside the crate.

@@ -55,14 +55,14 @@ fn bytes_of(alloc: Global, mid: &Mid) -> Result<Vec<u8>, CompileFault>
 
 /// The bytes of a module that does what a script does (POSIX.1-2017 awk, in the profile of this project), in every job, and in every world that tells
 /// what it holds, over a host of the table of imports. It keeps nothing from one statement to the next but what names, calls and loops over keys hold, and a
-/// statement on unboxed numbers calls no import, unless a word of the job assigns to one of its names, or the script names ARGV. A run passes the place of a statement as often as the script executes the statement, and in the same
-/// order, and each step of the script's code has a place of its own. A scalar into which the script stores numbers alone is unboxed.
+/// statement on unboxed numbers calls no import, unless a word of the job assigns to one of its names, or the script names ARGV. A run passes the place of a
+/// statement as often as the script executes the statement, and in the same order, and each step of the script's code has a place of its own. A scalar into
+/// which the script stores numbers alone is unboxed.
 ///
 /// # Errors
 ///
-/// The first of these that there is: those of [`code_of`]; then [`CompileFault::TooLarge`] where the module passes 16 MiB, 50,000 locals of a function, or 4,000
-/// blocks in one another, and nowhere else.
-/// [`CompileFault::NoMemory`] where memory was wanting, in place of any answer.
+/// The first of these that there is: those of [`code_of`]; then [`CompileFault::TooLarge`] where the module passes 16 MiB, 50,000 locals of a function, or
+/// 4,000 blocks in one another, and nowhere else. [`CompileFault::NoMemory`] where memory was wanting, in place of any answer.
 pub fn compile(alloc: Global, script: &[u8]) -> Result<Vec<u8>, CompileFault>
     ensures compiled { IfOk result (λ v. IsCompiled script.now v.items) }
     ensures refused { IfErr result (IsNotCompiled script.now) }

@@ -1,8 +1,9 @@
 -- What the main input gives (POSIX.1-2017 awk, "INPUT FILES" and "OPERANDS"), as one walk over the reader at hand and the operands.
-use Rattle.std.specs.Prelude.{◌≡◌, ◌≢◌, ◌⊎◌, ℕ, suc, ◌<◌, ◌≤◌, ◌^◌, true, false, List, [], ◌∷◌, Some, None, Result, Ok, Err, ℤ}
+use Rattle.std.specs.Prelude.{◌≡◌, ◌≢◌, ◌⊎◌, ℕ, suc, ◌<◌, ◌≤◌, true, false, List, [], ◌∷◌, Some, None, Result, Ok, Err, ℤ}
 use Rattle.awk_values.specs.Values.{number_of_value}
 use Rattle.awk_values.specs.declared.fault.Fault.{Fault}
 use Rattle.world_core.specs.WorldState.{Outside, Source}
+use Rattle.sem_primitives.specs.Limits.{most_operands}
 use Rattle.sem_primitives.specs.SharedState.{Inner, MainReader, Standard, NoFile, SomeFile, NoneLeft, special_of}
 use Rattle.sem_primitives.specs.Assignments.{assignment_of, assigned}
 use Rattle.sem_primitives.specs.Records.{Record, AtEnd, Broken}
@@ -26,12 +27,12 @@ ends inner = record inner { main = record inner.main { ended = true } }
 pub record IsPast (inner : Inner) : Type 0 where
   pub argc : ℤ
   pub count : number_of_value (special_of inner Argc) ≡ Ok argc
-  pub past : (2 ^ 20 < inner.main.next) ⊎ (is_below inner.main.next argc ≡ false)
+  pub past : (most_operands < inner.main.next) ⊎ (is_below inner.main.next argc ≡ false)
 
 -- this is the text of the next operand; one that is missing is empty
 pub record IsNext (inner : Inner) (text : List ℕ) : Type 0 where
   pub looked : inner.main.operands ≢ NoneLeft
-  pub within : inner.main.next ≤ 2 ^ 20
+  pub within : inner.main.next ≤ most_operands
   pub argc : ℤ
   pub count : number_of_value (special_of inner Argc) ≡ Ok argc
   pub below : is_below inner.main.next argc ≡ true

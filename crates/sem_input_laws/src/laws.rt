@@ -13,11 +13,13 @@ ghost use Rattle.sem_input_laws.specs.Assignments.{Makes};
 /// operands.
 pub fn main_input_is_walked()
     ensures { (outside : Outside) (inner : Inner) (given : Given) (made : ℕ) →
-        ((main_input outside inner ≡ given) × (carried_main outside inner ≡ made)) ↔ GivesNext outside inner given made }
+        ((main_input outside inner ≡ given) × (carried_main outside inner ≡ made))
+        ↔ GivesNext outside inner given made }
 {}
 
 /// What a call before BEGIN answers, and how many assignments it carries out itself, are told by one walk over those that are left.
 pub fn assignments_are_made()
     ensures { (inner : Inner) (answer : Result (Inner × AssignAnswer) Fault) (made : ℕ) →
-        ((start_assign_row inner ≡ answer) × (carried_from inner.assigns inner ≡ made)) ↔ Makes inner.assigns inner answer made }
+        ((start_assign_row inner ≡ answer) × (carried_from inner.assigns inner ≡ made))
+        ↔ Makes inner.assigns inner answer made }
 {}

@@ -1,10 +1,11 @@
 -- The assignments of the command line that a call carries out itself: those to special variables, and those to names that the script does
 -- not have. (One to a variable of the script is left pending.) Each assignment of the command line costs the script a turn, these too; one
 -- that faults is counted as well, since it was reached.
-use Rattle.std.specs.Prelude.{ℕ, zero, suc, ◌-◌, ◌+◌, ◌^◌, Bool, true, false, List, [], ◌∷◌, Option, Some, None, Result, Ok, Err, ℤ}
+use Rattle.std.specs.Prelude.{ℕ, zero, suc, ◌-◌, ◌+◌, Bool, true, false, List, [], ◌∷◌, Option, Some, None, Result, Ok, Err, ℤ}
 use Rattle.awk_values.specs.Values.{number_of_value}
 use Rattle.awk_values.specs.declared.fault.Fault.{Fault}
 use Rattle.world_core.specs.WorldState.{Outside, Source}
+use Rattle.sem_primitives.specs.Limits.{most_operands}
 use Rattle.sem_primitives.specs.SharedState.{Inner, Shared, MainReader, Operands, NoFile, SomeFile, NoneLeft, special_of}
 use Rattle.sem_primitives.specs.Assignments.{assignment_of, assigned}
 use Rattle.sem_primitives.specs.Records.{Got, Record, AtEnd, Broken}
@@ -59,7 +60,7 @@ carried_reach (suc n) outside inner = carried_reached (carried_reach n outside) 
 
 abbrev pub carried_by : Operands → Outside → Inner → ℕ
 carried_by NoneLeft outside inner = 0
-carried_by _ outside inner = carried_reach (2 ^ 20 + 1 - inner.main.next) outside inner
+carried_by _ outside inner = carried_reach (most_operands + 1 - inner.main.next) outside inner
 
 abbrev pub carried_next : Outside → Inner → ℕ
 carried_next outside inner = carried_by inner.main.operands outside inner

@@ -1,10 +1,11 @@
 -- What primitives on special variables, the record and its fields mean (POSIX.1-2017 awk, "Variables and Special Variables").
-use Rattle.std.specs.Prelude.{ℕ, zero, suc, ◌-◌, ◌^◌, nat_le, if◌then◌else◌, List, [], ◌∷◌, ◌++◌, map, length, take, get_or, replicate, slice_set, Result, Ok, Err, ℤ, pos, negsuc}
+use Rattle.std.specs.Prelude.{ℕ, zero, suc, ◌-◌, nat_le, if◌then◌else◌, List, [], ◌∷◌, ◌++◌, map, length, take, get_or, replicate, slice_set, Result, Ok, Err, ℤ, pos, negsuc}
 use Rattle.awk_values.specs.Values.{number_of_value, text_of_value}
 use Rattle.awk_values.specs.declared.fault.Fault.{Fault}
 use Rattle.awk_values.specs.declared.fault.Fault.TheVariants.{FieldNumber}
 use Rattle.awk_values.specs.declared.value.Value.{Value}
 use Rattle.awk_values.specs.declared.value.Value.TheVariants.{Uninit, StrNum}
+use Rattle.sem_primitives.specs.Limits.{most_fields}
 use Rattle.sem_primitives.specs.Numbers.{Number}
 use Rattle.sem_primitives.specs.SharedState.{Inner, ◌>>=◌, special_of, with_special}
 use Rattle.sem_primitives.specs.Texts.{limited}
@@ -21,9 +22,9 @@ joined between (v ∷ w ∷ rest) = text_of_value v ++ (between ++ joined betwee
 abbrev pub special_text : Special → Inner → List ℕ
 special_text s inner = text_of_value (special_of inner s)
 
--- the number of a field, or a count of fields, is from 0 to 1,048,576
+-- the number of a field, or a count of fields, is from 0 to that of the last one
 abbrev pub field_number : ℤ → Result ℕ Fault
-field_number (pos n) = if nat_le n (2 ^ 20) then Ok n else Err FieldNumber
+field_number (pos n) = if nat_le n most_fields then Ok n else Err FieldNumber
 field_number (negsuc n) = Err FieldNumber
 
 -- the record is set and its fields are split at once

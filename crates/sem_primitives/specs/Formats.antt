@@ -5,14 +5,14 @@ use Rattle.std.specs.Int.{w64, cast_unsigned}
 use Rattle.awk_text.specs.Bytes.{space, hash, percent, plus, minus, point, digit_zero, upper_x, lower_c, lower_d, lower_f, lower_i, lower_o, lower_s, lower_u, lower_x}
 use Rattle.awk_text.specs.Reading.{digits_at}
 use Rattle.awk_text.specs.Number.{value_after, looks_numeric_text}
-use Rattle.awk_values.specs.Values.{number_of_value, text_of_value}
+use Rattle.awk_values.specs.Values.{number_of_value, text_of_value, truncated_of_value}
 use Rattle.awk_values.specs.declared.fault.Fault.{Fault}
 use Rattle.awk_values.specs.declared.fault.Fault.TheVariants.{Format, TextLimit}
 use Rattle.awk_values.specs.declared.value.Value.{Value}
 use Rattle.awk_values.specs.declared.value.Value.TheVariants.{Uninit, Num, Text, StrNum}
+use Rattle.sem_primitives.specs.Limits.{most_text}
 use Rattle.sem_primitives.specs.SharedState.{◌>>=◌}
 use Rattle.sem_primitives.specs.Texts.{has}
-use Rattle.sem_primitives.specs.ValueMeaning.{truncated}
 
 -- what the specifier of a conversion asks for
 pub data Specifier : Type 0 where
@@ -172,7 +172,7 @@ unsigned z = cast_unsigned w64 z
 
 -- the byte of a number, or the first byte of a text
 abbrev pub byte_of_number : Value → Result (List ℕ) Fault
-byte_of_number v = truncated v >>= λ z. Ok ((unsigned z % 256) ∷ [])
+byte_of_number v = truncated_of_value v >>= λ z. Ok ((unsigned z % 256) ∷ [])
 
 abbrev pub char_of : Value → Result (List ℕ) Fault
 char_of Uninit = Ok []
@@ -181,12 +181,12 @@ char_of (Text text) = Ok (take 1 text)
 char_of (StrNum text) = elim (looks_numeric_text text) [ true ↦ byte_of_number (StrNum text) | false ↦ Ok (take 1 text) ]
 
 abbrev pub converted : Conversion → Specifier → Value → Result (List ℕ) Fault
-converted d Signed v = truncated v >>= λ z. Ok (integer_text d (unsigned_abs z) (sign_of d z) (decimal (unsigned_abs z)))
+converted d Signed v = truncated_of_value v >>= λ z. Ok (integer_text d (unsigned_abs z) (sign_of d z) (decimal (unsigned_abs z)))
 converted d Octal v =
-    truncated v >>= λ z. Ok (number_text d d.precision [] (octal_mark d (with_precision d.precision (unsigned z) (digits 8 false (unsigned z)))))
-converted d Unsigned v = truncated v >>= λ z. Ok (integer_text d (unsigned z) [] (decimal (unsigned z)))
-converted d LowerHex v = truncated v >>= λ z. Ok (integer_text d (unsigned z) (hex_mark d (unsigned z) (codes "0x")) (digits 16 false (unsigned z)))
-converted d UpperHex v = truncated v >>= λ z. Ok (integer_text d (unsigned z) (hex_mark d (unsigned z) (codes "0X")) (digits 16 true (unsigned z)))
+    truncated_of_value v >>= λ z. Ok (number_text d d.precision [] (octal_mark d (with_precision d.precision (unsigned z) (digits 8 false (unsigned z)))))
+converted d Unsigned v = truncated_of_value v >>= λ z. Ok (integer_text d (unsigned z) [] (decimal (unsigned z)))
+converted d LowerHex v = truncated_of_value v >>= λ z. Ok (integer_text d (unsigned z) (hex_mark d (unsigned z) (codes "0x")) (digits 16 false (unsigned z)))
+converted d UpperHex v = truncated_of_value v >>= λ z. Ok (integer_text d (unsigned z) (hex_mark d (unsigned z) (codes "0X")) (digits 16 true (unsigned z)))
 converted d Fixed v = number_of_value v >>= λ z. Ok (number_text d None (sign_of d z) (decimal (unsigned_abs z) ++ fraction_text d d.precision))
 converted d String v = Ok (padded d (first_bytes d.precision (text_of_value v)))
 converted d Char v = char_of v >>= λ text. Ok (padded d text)
@@ -194,7 +194,7 @@ converted d Char v = char_of v >>= λ text. Ok (padded d text)
 -- Formatting: the faults come in the order of the format. So many bytes stand before.
 
 abbrev pub sized : ℕ → List ℕ → Result ℕ Fault
-sized before text = if nat_le (before + length text) (2 ^ 26) then Ok (before + length text) else Err TextLimit
+sized before text = if nat_le (before + length text) most_text then Ok (before + length text) else Err TextLimit
 
 abbrev pub then_text : ℕ → List ℕ → (ℕ → Result (List ℕ) Fault) → Result (List ℕ) Fault
 then_text before text go = sized before text >>= λ n. go n >>= λ rest. Ok (text ++ rest)

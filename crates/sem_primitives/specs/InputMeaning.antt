@@ -1,5 +1,5 @@
 -- What primitives of the input mean (POSIX.1-2017 awk, "INPUT FILES"; "Input Functions and Statements", getline, close).
-use Rattle.std.specs.Prelude.{ℕ, zero, suc, ◌+◌, ◌^◌, ◌||◌, nat_le, Bool, true, false, if◌then◌else◌, List, [], ◌∷◌, ◌++◌, codes, filter, not, Option, Some, None, Result, Ok, Err, ℤ, pos, negsuc, ◌-◌, decimal}
+use Rattle.std.specs.Prelude.{ℕ, zero, suc, ◌+◌, ◌||◌, nat_le, Bool, true, false, if◌then◌else◌, List, [], ◌∷◌, ◌++◌, codes, filter, not, Option, Some, None, Result, Ok, Err, ℤ, pos, negsuc, ◌-◌, decimal}
 use Rattle.awk_values.specs.Operators.{sum}
 use Rattle.awk_values.specs.Values.{number_of_value, text_of_value}
 use Rattle.awk_values.specs.declared.fault.Fault.{Fault}
@@ -8,6 +8,7 @@ use Rattle.awk_values.specs.declared.value.Value.{Value}
 use Rattle.awk_values.specs.declared.value.Value.TheVariants.{Num, StrNum}
 use Rattle.world_core.specs.declared.world.Ending.TheVariants.{End}
 use Rattle.world_core.specs.WorldState.{Outside, Entry, Named, Source}
+use Rattle.sem_primitives.specs.Limits.{most_operands}
 use Rattle.sem_primitives.specs.SharedState.{Inner, MainReader, Standard, File, Operands, NoFile, SomeFile, NoneLeft, ◌>>=◌, special_of, with_special}
 use Rattle.sem_primitives.specs.Texts.{same_text}
 use Rattle.sem_primitives.specs.Records.{Got, Record, AtEnd, Broken, record_separator, first_record}
@@ -142,10 +143,10 @@ abbrev pub reach : ℕ → Outside → Inner → Result (Inner × Main) Fault
 reach zero outside inner = with_argc inner (λ argc. follows inner.main.operands inner)
 reach (suc n) outside inner = with_argc inner (reached (reach n outside) outside inner)
 
--- the last operand has at most the number 1,048,576
+-- no operand behind the last one by number is reached
 abbrev pub reach_by : Operands → Outside → Inner → Result (Inner × Main) Fault
 reach_by NoneLeft outside inner = over inner
-reach_by _ outside inner = reach (2 ^ 20 + 1 - inner.main.next) outside inner
+reach_by _ outside inner = reach (most_operands + 1 - inner.main.next) outside inner
 
 abbrev pub next_operand : Outside → Inner → Result (Inner × Main) Fault
 next_operand outside inner = reach_by inner.main.operands outside inner

@@ -1,9 +1,10 @@
 -- The job of a script: its operands, the assignments of the command line, its environment; and the state before it runs.
-use Rattle.std.specs.Prelude.{ℕ, ◌+◌, ◌^◌, Bool, false, not, ◌||◌, nat_le, if◌then◌else◌, List, [], ◌∷◌, length, codes, decimal, Option, Some, None}
+use Rattle.std.specs.Prelude.{ℕ, ◌+◌, Bool, false, not, ◌||◌, nat_le, if◌then◌else◌, List, [], ◌∷◌, length, codes, decimal, Option, Some, None}
 use Rattle.awk_values.specs.declared.fault.Fault.{Fault}
 use Rattle.awk_values.specs.declared.fault.Fault.TheVariants.{TextLimit}
 use Rattle.awk_values.specs.declared.value.Value.TheVariants.{Uninit, StrNum}
 use Rattle.world_core.specs.WorldState.{Outside, Source}
+use Rattle.sem_primitives.specs.Limits.{most_text}
 use Rattle.sem_primitives.specs.SharedState.{Pairs, Shared, NoFile, specials_at_start}
 use Rattle.sem_primitives.specs.ArrayMeaning.{stored}
 
@@ -12,9 +13,9 @@ pub record JobForm : Type 0 where
   pub assigns : List (List ℕ × List ℕ)
   pub environment : List (List ℕ × List ℕ)
 
--- a text is past the limit of 67,108,864 bytes
+-- a text is past the limit
 abbrev pub is_long : List ℕ → Bool
-is_long text = not (nat_le (length text) (2 ^ 26))
+is_long text = not (nat_le (length text) most_text)
 
 abbrev pub any_long : List (List ℕ) → Bool
 any_long [] = false

@@ -1,4 +1,5 @@
 pub mod Numbers
+pub mod Limits
 pub mod Constants
 pub mod Sorts
 pub mod SharedState

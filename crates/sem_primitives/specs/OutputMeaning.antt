@@ -6,6 +6,7 @@ use Rattle.awk_values.specs.declared.fault.Fault.TheVariants.{OpenOutput, TooMan
 use Rattle.awk_values.specs.declared.value.Value.{Value}
 use Rattle.awk_values.specs.declared.value.Value.TheVariants.{Text}
 use Rattle.world_core.specs.WorldState.{Target, Standard, Named, Action, Open, after, free, puts}
+use Rattle.sem_primitives.specs.Limits.{most_streams}
 use Rattle.sem_primitives.specs.SharedState.{Inner, Shared, Does, ◌>>=◌}
 use Rattle.sem_primitives.specs.Texts.{same_text}
 use Rattle.sem_primitives.specs.FieldMeaning.{joined, special_text}
@@ -35,7 +36,7 @@ written target text state = record {
   answer = cond (all_fits (free (state.outside target)) text) (Ok tt) (Err WriteFailed);
 }
 
--- Streams that are open by their names; there are at most 256.
+-- Streams that are open by their names; their number is limited.
 
 abbrev pub is_writing : List ℕ → List (List ℕ) → Bool
 is_writing name [] = false
@@ -45,7 +46,7 @@ abbrev pub streams : Inner → ℕ
 streams inner = length inner.readers + length inner.writers
 
 abbrev pub has_room : Inner → Bool
-has_room inner = nat_le (streams inner + 1) 256
+has_room inner = nat_le (streams inner + 1) most_streams
 
 abbrev pub refused : Fault → Shared → Does (Result (Unit {0}) Fault)
 refused fault state = record { added = []; inner = state.inner; answer = Err fault }

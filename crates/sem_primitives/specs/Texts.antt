@@ -1,11 +1,12 @@
 -- Small words on texts, and the numbers that count in them.
-use Rattle.std.specs.Prelude.{ℕ, ◌^◌, ◌==◌, ◌&&◌, ◌||◌, nat_le, Bool, true, false, if◌then◌else◌, List, [], ◌∷◌, length, Option, Some, None, Result, Ok, Err, pos}
+use Rattle.std.specs.Prelude.{ℕ, ◌==◌, ◌&&◌, ◌||◌, nat_le, Bool, true, false, if◌then◌else◌, List, [], ◌∷◌, length, Option, Some, None, Result, Ok, Err, pos}
 use Rattle.std.specs.Cmp.Lexicographic.{pointwise}
 use Rattle.awk_text.specs.Number as numbers
 use Rattle.awk_values.specs.declared.fault.Fault.{Fault}
 use Rattle.awk_values.specs.declared.fault.Fault.TheVariants.{TextLimit}
 use Rattle.awk_values.specs.declared.value.Value.{Value}
 use Rattle.awk_values.specs.declared.value.Value.TheVariants.{Num}
+use Rattle.sem_primitives.specs.Limits.{most_text}
 use Rattle.sem_primitives.specs.Numbers.{Number, number_of}
 
 abbrev pub same_text : List ℕ → List ℕ → Bool
@@ -25,9 +26,9 @@ begins_with [] text = true
 begins_with (c ∷ cs) [] = false
 begins_with (c ∷ cs) (d ∷ ds) = (c == d) && begins_with cs ds
 
--- a text, if it is within the limit of 67,108,864 bytes
+-- a text, if it is within the limit
 abbrev pub limited : List ℕ → Result (List ℕ) Fault
-limited text = if nat_le (length text) (2 ^ 26) then Ok text else Err TextLimit
+limited text = if nat_le (length text) most_text then Ok text else Err TextLimit
 
 abbrev pub largest : Number
 largest = record { number = pos numbers.largest; in_range = tt }

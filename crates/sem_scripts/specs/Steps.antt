@@ -1,5 +1,5 @@
 -- What the parts of an expression do once their operands are evaluated.
-use Rattle.std.specs.Prelude.{ℕ, ◌^◌, Bool, true, false, nat_le, if◌then◌else◌, List, [], ◌∷◌, Result, Ok, Err, ℤ, pos, neg_ℤ}
+use Rattle.std.specs.Prelude.{ℕ, Bool, true, false, nat_le, if◌then◌else◌, List, [], ◌∷◌, Result, Ok, Err, ℤ, pos, neg_ℤ}
 use Rattle.awk_text.specs.Escapes.{between}
 use Rattle.awk_text.specs.Number.{number_of_text}
 use Rattle.awk_values.specs.Comparison.{comparison}
@@ -11,6 +11,7 @@ use Rattle.awk_values.specs.declared.fault.Fault.{Fault}
 use Rattle.awk_values.specs.declared.fault.Fault.TheVariants.{FieldNumber}
 use Rattle.awk_values.specs.declared.value.Value.{Value}
 use Rattle.awk_values.specs.declared.value.Value.TheVariants as value
+use Rattle.sem_primitives.specs.Limits.{most_fields}
 use Rattle.sem_primitives.specs.Numbers.{Number, outcome_of}
 use Rattle.sem_primitives.specs.ValueMeaning.{number_of_row}
 use Rattle.sem_primitives.specs.declared.answers.InputAnswer.{InputAnswer}
@@ -117,9 +118,9 @@ store_variable (Global i) v = change (with_global i v)
 store_variable (Parameter i) v = change (with_local i v)
 store_variable (Reserved special) v = does SetSpecial (special, (v, tt))
 
--- a field's number is from 0 to 1,048,576
+-- a field's number is from 0 to that of the last one
 abbrev pub is_field_number : ℤ → Bool
-is_field_number (pos n) = nat_le n (2 ^ 20)
+is_field_number (pos n) = nat_le n most_fields
 is_field_number z = is_zero z
 
 abbrev pub field_checked : Number → Result Number Fault

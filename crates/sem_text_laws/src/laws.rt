@@ -29,6 +29,8 @@ pub fn fields_are_parted()
     ensures pieces { (separator : Separator) (newlines : Bool) (text : List ℕ)
         (fields : List (List ℕ))
         → AreFields separator newlines text fields ↔ (fields ≡ pieces_of separator newlines text) }
-    ensures of_record { (fs rs text : List ℕ) (separator : Separator) (fields : List (List ℕ)) → separator_of fs ≡ Ok separator
-        → AreFields separator (is_empty rs && not (is_empty fs)) text fields ↔ (fields_of fs rs text ≡ Ok fields) }
+    ensures of_record { (fs rs text : List ℕ) (separator : Separator) (fields : List (List ℕ))
+        → separator_of fs ≡ Ok separator
+        → AreFields separator (is_empty rs && not (is_empty fs)) text fields
+        ↔ (fields_of fs rs text ≡ Ok fields) }
 {}

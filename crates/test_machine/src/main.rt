@@ -6,7 +6,7 @@
 #![tactic(auto)]
 
 ghost use Rattle.std.specs.Prelude.{IfOk};
-ghost use Rattle.test_machine.specs.Small.{small_types};
+ghost use Rattle.test_machine.specs.SmallHost.{small_types};
 ghost use Rattle.wasm_model.specs.Typed.{Linked};
 
 mod small_host;

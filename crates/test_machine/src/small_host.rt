@@ -1,6 +1,6 @@
 //! A small host, for modules that are run to see how they end.
 ghost use Rattle.std.specs.Prelude.{◌≡◌};
-ghost use Rattle.test_machine.specs.Small.{answers, gives, takes};
+ghost use Rattle.test_machine.specs.SmallHost.{answers, gives, takes};
 ghost use Rattle.wasm_types.specs.View.{signature_of};
 
 use std::alloc::{AllocError, Global};
@@ -21,7 +21,7 @@ pub(crate) struct SmallHost {
 
 impl Model for SmallHost {
     ghost use Rattle.std.specs.Prelude.{ℕ, ◌≡◌};
-    ghost use Rattle.test_machine.specs.Small.{answers, gives, takes};
+    ghost use Rattle.test_machine.specs.SmallHost.{answers, gives, takes};
     ghost use Rattle.wasm_types.specs.View.{signature_of};
 
     ghost Value = { ℕ };
@@ -62,7 +62,7 @@ impl SmallHost {
 
 impl HostCalls for SmallHost {
     ghost use Rattle.std.specs.Prelude.{ℕ};
-    ghost use Rattle.test_machine.specs.Small.{small_finds, small_found, small_meaning, small_refused, small_typed, small_types};
+    ghost use Rattle.test_machine.specs.SmallHost.{small_finds, small_found, small_meaning, small_refused, small_typed, small_types};
 
     ghost Output = { ℕ };
 

@@ -3,6 +3,7 @@
 ghost use Rattle.std.specs.Prelude.{◌≤◌};
 ghost use Rattle.std.specs.List.{All};
 ghost use Rattle.wasm_types.specs.Instructions.{depths};
+ghost use Rattle.wasm_types.specs.Profile.{most_nesting};
 ghost use Rattle.wasm_types.specs.View.{view_module};
 
 use module_decoder::{DecodeFault, decode};
@@ -40,7 +41,7 @@ fn nested(alloc: Global, opener: u8, depth: u32) -> Result<Vec<u8>, AllocError> 
 
 /// Whether a module is written as these bytes, and valid.
 fn is_again(alloc: Global, whole: Module, bytes: &[u8]) -> bool
-    requires { All (λ f. depths f.body ≤ 4000) (view_module whole).funcs }
+    requires { All (λ f. depths f.body ≤ most_nesting) (view_module whole).funcs }
 {
     match write(alloc, &whole) {
         Ok(again) => again.as_slice() == bytes && validate(alloc, whole).is_ok(),

@@ -7,6 +7,7 @@
 ghost use Rattle.std.specs.Prelude.{◌≤◌};
 ghost use Rattle.std.specs.List.{All};
 ghost use Rattle.wasm_types.specs.Instructions.{depths};
+ghost use Rattle.wasm_types.specs.Profile.{most_nesting};
 ghost use Rattle.wasm_types.specs.View.{view_module};
 
 mod round_trip;
@@ -58,7 +59,7 @@ fn text_of(alloc: Global, bytes: &[u8]) -> Result<String, AllocError> {
 
 /// What the validator says of a module.
 fn verdict(alloc: Global, whole: Module) -> Result<String, AllocError>
-    requires { All (λ f. depths f.body ≤ 4000) (view_module whole).funcs }
+    requires { All (λ f. depths f.body ≤ most_nesting) (view_module whole).funcs }
 {
     match validate(alloc, whole) {
         Ok(_) => format!(in alloc; "valid"),

@@ -3,6 +3,7 @@
 ghost use Rattle.std.specs.Prelude.{◌≡◌, ◌≤◌, ℕ, List, IfOk, IfErr, MatchResult};
 ghost use Rattle.std.specs.List.{All};
 ghost use Rattle.wasm_types.specs.Instructions.{depths};
+ghost use Rattle.wasm_types.specs.Profile.{most_nesting};
 ghost use Rattle.wasm_types.specs.View.{view_module};
 ghost use Rattle.wasm_types.specs.ModuleGrammar.{IsModule};
 ghost use Rattle.module_decoder.specs.declared.fault.DecodeFault.TheVariants.{NoMemory};
@@ -19,7 +20,7 @@ pub fn decode_written(alloc: Global, m: &Module) -> Result<Result<Module, Decode
     ensures again { IfOk result
         (λ r. MatchResult r (λ again. view_module again ≡ view_module m.now) (λ e. e ≡ NoMemory)) }
     ensures nested { IfOk result
-        (λ r. IfOk r (λ again. All (λ f. depths f.body ≤ 4000) (view_module again).funcs)) }
+        (λ r. IfOk r (λ again. All (λ f. depths f.body ≤ most_nesting) (view_module again).funcs)) }
     ensures refused { IfErr result
         (λ e. e ≡ TooLarge → (bytes : List ℕ) → IsModule bytes (view_module m.now) → ⊥) }
 {

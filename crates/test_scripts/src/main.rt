@@ -22,19 +22,19 @@
 
 mod answer;
 mod beginnings;
+mod command_lines;
 mod fence;
 mod field;
 mod outside;
 mod row;
 mod run;
 pub mod scripts;
-mod words;
 
 use answer::answer_to_row;
+use command_lines::answer_to_words;
 use std::alloc::{AllocError, Global};
 use std::hash::RandomState;
 use std::io;
-use words::answer_to_words;
 
 /// The lines that answer a line.
 fn answer_to(alloc: Global, state: RandomState, line: &str) -> Result<String, AllocError> {

@@ -8,13 +8,10 @@ use crate::word::Word;
 use byteorder::{ByteOrder, LittleEndian};
 use std::alloc::{AllocError, Global};
 use std::marker::Model;
-use wasm_types::{Limits, LoadOp, StoreOp};
+use wasm_types::{Limits, LoadOp, MAX_PAGES, StoreOp};
 
 /// How many bytes a page has.
 const PAGE: usize = 65536;
-
-/// How many pages a memory grows to at most.
-const MOST: u32 = 256;
 
 /// A memory of whole pages. A contract sees its bytes and how many pages it may have.
 #[derive(Drop)]
@@ -252,7 +249,7 @@ impl Memory {
         self.bytes[at..at + bytes.len()].copy_from_slice(bytes);
     }
 
-    /// Adds pages of zeros, and gives how many pages there were. None past 256 pages or the memory's own maximum, and nothing changes.
+    /// Adds pages of zeros, and gives how many pages there were. None past [`MAX_PAGES`] or the memory's own maximum, and nothing changes.
     ///
     /// # Errors
     ///
@@ -262,7 +259,7 @@ impl Memory {
         ensures err { OnErr result (self.new ≡ self.old) }
     {
         let old = self.size();
-        if more > MOST || old + more > self.most || old + more > MOST {
+        if more > MAX_PAGES || old + more > self.most || old + more > MAX_PAGES {
             return Ok(None);
         }
         self.bytes.resize((old + more) as usize * PAGE, 0)?;

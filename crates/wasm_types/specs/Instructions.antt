@@ -5,6 +5,7 @@ use Rattle.wasm_types.specs.declared.types.ValType.TheVariants.{I32, I64}
 use Rattle.wasm_types.specs.Syntax.{Instruction, Plain, BrTable, Block, Loop, If, Instructions, Done, Then}
 use Rattle.wasm_types.specs.Opcodes.{opcode, Immediates, Nothing, Index, Memory, Bits32, Bits64, IndexReserved, Reserved, immediates}
 use Rattle.wasm_types.specs.Leb128.{IsU32, IsS32, IsS64}
+use Rattle.wasm_types.specs.Profile.{most_nesting}
 
 -- one form, and behind it another
 abbrev pub Both : {A B : Type 0} → (A → List ℕ → Type 0) → (B → List ℕ → Type 0) → A × B → List ℕ → Type 0
@@ -74,6 +75,6 @@ abbrev mutual
   depths Done = 0
   depths (Then i is) = max (depth i) (depths is)
 
--- an expression: instructions and their end, nested at most 4,000 deep
+-- an expression: instructions and their end, not nested too deep
 abbrev pub IsExpr : Instructions → List ℕ → Type 0
-IsExpr is text = (a : List ℕ) × SpellAll is a × (depths is ≤ 4000) × (text ≡ a ++ 0x0b ∷ [])
+IsExpr is text = (a : List ℕ) × SpellAll is a × (depths is ≤ most_nesting) × (text ≡ a ++ 0x0b ∷ [])

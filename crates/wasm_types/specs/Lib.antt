@@ -2,6 +2,7 @@ pub mod Syntax
 pub mod View
 pub mod Opcodes
 pub mod Leb128
+pub mod Profile
 pub mod Instructions
 pub mod ModuleGrammar
 pub mod Typing

@@ -1,5 +1,5 @@
 -- The bytes of modules (Core 1.0, section 5.5), within the limits of the profile.
-use Rattle.std.specs.Prelude.{◌≡◌, ℕ, ◌<◌, ◌≤◌, ◌^◌, List, [], ◌∷◌, ◌++◌, length, replicate, Option, Some, None, option_to_list, Bool, true, false}
+use Rattle.std.specs.Prelude.{◌≡◌, ℕ, ◌<◌, ◌≤◌, List, [], ◌∷◌, ◌++◌, length, replicate, Option, Some, None, option_to_list, Bool, true, false}
 use Rattle.std.specs.Str.{IsUtf8}
 use Rattle.wasm_types.specs.declared.types.ValType.{ValType}
 use Rattle.wasm_types.specs.declared.types.Limits.{Limits}
@@ -10,6 +10,7 @@ use Rattle.wasm_types.specs.declared.module.SectionId.{SectionId}
 use Rattle.wasm_types.specs.declared.module.SectionId.TheVariants as section
 use Rattle.wasm_types.specs.Syntax.{Instructions, Signature, ImportForm, FuncForm, GlobalForm, ExportForm, ElemForm, DataForm, ModuleForm}
 use Rattle.wasm_types.specs.Leb128.{IsU32}
+use Rattle.wasm_types.specs.Profile.{most_elements, most_locals, most_module_bytes, most_pages}
 use Rattle.wasm_types.specs.Instructions.{Both, IsVec, Tagged, IsIndex, val_code, IsValType, IsExpr}
 
 -- bytes with their number before them
@@ -37,12 +38,12 @@ limits_text l (Some n) text = Tagged 0x01 (Both IsIndex IsIndex) (l.min, n) text
 abbrev pub IsLimits : ℕ → Limits → List ℕ → Type 0
 IsLimits most l text = (l.min ≤ most) × limits_text l l.max text
 
--- a table has at most 65,536 elements at first, a memory 256 pages
+-- the size of a table at first, and that of a memory, are limited
 abbrev pub IsTable : Limits → List ℕ → Type 0
-IsTable l text = Tagged 0x70 (IsLimits 65536) l text
+IsTable l text = Tagged 0x70 (IsLimits most_elements) l text
 
 abbrev pub IsMemory : Limits → List ℕ → Type 0
-IsMemory l text = IsLimits 256 l text
+IsMemory l text = IsLimits most_pages l text
 
 abbrev pub mut_code : Bool → ℕ
 mut_code false = 0x00
@@ -69,13 +70,13 @@ IsElem e text = Both IsIndex (Both IsExpr (IsVec IsIndex)) (e.table, (e.offset, 
 abbrev pub IsData : DataForm → List ℕ → Type 0
 IsData d text = Both IsIndex (Both IsExpr IsBytes) (d.memory, (d.offset, d.init)) text
 
--- locals are spelled as runs of one type; at most 50,000 in all
+-- locals are spelled as runs of one type; in all there are not too many
 abbrev pub expanded : List (ℕ × ValType) → List ValType
 expanded [] = []
 expanded (r ∷ rs) = replicate r.0 r.1 ++ expanded rs
 
 abbrev pub IsLocals : List ValType → List ℕ → Type 0
-IsLocals ts text = (runs : List (ℕ × ValType)) × IsVec (Both IsIndex IsValType) runs text × (ts ≡ expanded runs) × (length ts ≤ 50000)
+IsLocals ts text = (runs : List (ℕ × ValType)) × IsVec (Both IsIndex IsValType) runs text × (ts ≡ expanded runs) × (length ts ≤ most_locals)
 
 pub record CodeForm : Type 0 where
   pub locals : List ValType
@@ -197,13 +198,13 @@ module_of p = record {
 abbrev pub header : List ℕ
 header = 0x00 ∷ 0x61 ∷ 0x73 ∷ 0x6d ∷ 0x01 ∷ 0x00 ∷ 0x00 ∷ 0x00 ∷ []
 
--- the bytes, at most 16 MiB, are those of the module
+-- the bytes, which are not too many, are those of the module
 pub record IsModule (bytes : List ℕ) (m : ModuleForm) : Type 0 where
   pub sections : List Section
   pub rest : List ℕ
   pub parts : Parts
   pub begins : bytes ≡ header ++ rest
-  pub size : length bytes ≤ 2 ^ 24
+  pub size : length bytes ≤ most_module_bytes
   pub spelled : AreSections sections rest
   pub gives : Give sections 0 no_parts parts
   pub counts : length parts.type_indices ≡ length parts.codes

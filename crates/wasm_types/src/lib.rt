@@ -6,6 +6,7 @@ pub mod laws;
 mod leb128;
 mod module;
 mod opcodes;
+mod profile;
 mod types;
 
 pub use instr::{
@@ -17,4 +18,5 @@ pub use leb128::{
 };
 pub use module::{Data, Elem, Export, ExportDesc, Func, Global, Import, Module, SectionId};
 pub use opcodes::{IndexOp, Lead, lead_of, opcode};
+pub use profile::{MAX_ELEMENTS, MAX_LOCALS, MAX_MODULE_BYTES, MAX_NESTING, MAX_PAGES};
 pub use types::{FuncType, GlobalType, Limits, ValType};

@@ -1,4 +1,6 @@
 //! Modules (Core 1.0, section 2.5).
+ghost use Rattle.std.specs.Prelude.{◌≡◌};
+ghost use Rattle.wasm_types.specs.ModuleGrammar.{number};
 
 use crate::instr::Instr;
 use crate::types::{FuncType, GlobalType, Limits, ValType};
@@ -58,6 +60,27 @@ pub enum SectionId {
     Element,
     Code,
     Data,
+}
+
+impl SectionId {
+    /// The number that a section begins with.
+    pub fn number(self) -> u8
+        ensures { result ≡ number self }
+    {
+        match self {
+            SectionId::Type => 1,
+            SectionId::Import => 2,
+            SectionId::Function => 3,
+            SectionId::Table => 4,
+            SectionId::Memory => 5,
+            SectionId::Global => 6,
+            SectionId::Export => 7,
+            SectionId::Start => 8,
+            SectionId::Element => 9,
+            SectionId::Code => 10,
+            SectionId::Data => 11,
+        }
+    }
 }
 
 /// An export.

@@ -96,7 +96,8 @@ impl<W: World> World for FaultyWorld<W> {
         ensures counted_inside { calls_left self.old ≢ 1
             → W.count (inside self.new) ≡ next_count result (W.count (inside self.old)) }
         ensures handed_on { calls_left self.old ≢ 1 → W.tells
-            → OpensToWrite name.now append (W.state (inside self.old)) result (W.state (inside self.new)) }
+            → OpensToWrite name.now append (W.state (inside self.old)) result
+            (W.state (inside self.new)) }
         ensures same { calls_left self.old ≢ 1 → failed_here self.new ≡ failed_here self.old }
     {
         if self.fails_now() {
@@ -116,7 +117,8 @@ impl<W: World> World for FaultyWorld<W> {
         ensures counted_inside { calls_left self.old ≢ 1
             → W.count (inside self.new) ≡ next_count result (W.count (inside self.old)) }
         ensures handed_on { calls_left self.old ≢ 1 → W.tells
-            → Reads id (W.state (inside self.old)) buffer.old result buffer.new (W.state (inside self.new)) }
+            → Reads id (W.state (inside self.old)) buffer.old result buffer.new
+            (W.state (inside self.new)) }
         ensures same { calls_left self.old ≢ 1 → failed_here self.new ≡ failed_here self.old }
     {
         if self.fails_now() {

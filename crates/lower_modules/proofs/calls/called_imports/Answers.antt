@@ -10,20 +10,20 @@ use Rattle.lower_modules.specs.declared.function.Function.{Function}
 use Rattle.lower_modules.proofs.Noted.{noted_both, noted_none}
 use Rattle.lower_modules.proofs.calls.called_imports.Goals as goal
 
-pub loop-f-preserved : goal.loop-f-preserved
-loop-f-preserved c =
-    let fs = c.args.fs.now in
-    let at = c.loop-f.f-index in
-    let bs = c.loop-f.called.items in
-    let f : ℕ → Bool = λ i. calls_in i (views c.f-item.result.body.items) in
+pub loop-function-preserved : goal.loop-function-preserved
+loop-function-preserved c =
+    let fs = c.args.functions.now in
+    let at = c.loop-function.function-index in
+    let bs = c.loop-function.called.items in
+    let f : ℕ → Bool = λ i. calls_in i (views c.function-item.result.body.items) in
     let g : ℕ → Bool = λ i. any_calls i (view_functions (drop (at + 1) fs)) in
     ap (noted g) (c.note_calls_in.ensures ∙ ap (λ (is : List Instr). noted (λ i. calls_in i (views is)) bs) c.deref.ensures.value) ∙ noted_both f g bs
-    ∙ sym (ap (λ (xs : List Function). noted (λ i. any_calls i (view_functions xs)) bs) (drop_at fs at c.f-item.result c.loop-f-test.true c.f-item.is))
-    ∙ c.loop-f.invariant
+    ∙ sym (ap (λ (xs : List Function). noted (λ i. any_calls i (view_functions xs)) bs) (drop_at fs at c.function-item.result c.loop-function-test.true c.function-item.is))
+    ∙ c.loop-function.invariant
 
 pub returns : goal.returns
 returns c =
-    let bs = c.loop-f.called.items in
+    let bs = c.loop-function.called.items in
     sym (noted_none bs)
-    ∙ sym (at_drop_all (λ (xs : List Function). noted (λ i. any_calls i (view_functions xs)) bs) c.args.fs.now c.loop-f.f-index c.loop-f-test.false)
-    ∙ c.loop-f.invariant
+    ∙ sym (at_drop_all (λ (xs : List Function). noted (λ i. any_calls i (view_functions xs)) bs) c.args.functions.now c.loop-function.function-index c.loop-function-test.false)
+    ∙ c.loop-function.invariant

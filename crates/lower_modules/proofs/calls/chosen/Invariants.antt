@@ -3,8 +3,8 @@ use Rattle.host_imports.specs.Imports.{imports}
 use Rattle.lower_model.specs.Modules.{chosen}
 use Rattle.lower_modules.proofs.calls.chosen.Given as goal
 
-abbrev pub invariant-loop-i : goal.invariant-loop-i
-invariant-loop-i l = record {
-  chosen : l.used.items ++ chosen (drop l.i l.called) (drop l.i imports) ≡ chosen l.called imports;
-  few : length l.used.items ≤ l.i;
+abbrev pub invariant-loop-place : goal.invariant-loop-place
+invariant-loop-place l = record {
+  chosen : l.used.items ++ chosen (drop l.place l.called) (drop l.place imports) ≡ chosen l.called imports;
+  few : length l.used.items ≤ l.place;
 }

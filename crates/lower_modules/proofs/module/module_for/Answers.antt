@@ -29,7 +29,7 @@ text_form bytes = record { memory = 0; offset = does (I32Const 0) Done; init = b
 pub returns-clause-module : goal.returns-clause-module
 returns-clause-module c =
     let p = view_mid c.args.mid.now in
-    let fs = view_functions c.args.fs.now in
+    let fs = view_functions c.args.functions.now in
     let bytes = c.in_ok-bytes.ensures.bytes in
     let called : c.in_ok-called.called.items ≡ called_imports p = c.in_ok-called.ensures ∙ ap (called_from 0 imports) c.requires in
     let used : c.in_ok-used.used.items ≡ imports_of p = c.in_ok-used.ensures.chosen ∙ ap (λ (bs : List Bool). chosen bs imports) (c.deref.ensures.value ∙ called) in

@@ -4,5 +4,5 @@ use Rattle.lower_model.specs.Modules.{callee_type}
 use Rattle.lower_modules.specs.View.{view_function}
 use Rattle.lower_modules.proofs.types.function_types.Given as goal
 
-abbrev pub invariant-loop-f : goal.invariant-loop-f
-invariant-loop-f l = map signature_of l.types.items ≡ map callee_type (map view_function (take l.f-index l.fs))
+abbrev pub invariant-loop-function : goal.invariant-loop-function
+invariant-loop-function l = map signature_of l.types.items ≡ map callee_type (map view_function (take l.function-index l.functions))

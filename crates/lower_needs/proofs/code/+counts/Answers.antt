@@ -66,35 +66,35 @@ counts_in-returns-in-Joined-clause-labels t c =
     c.both.ensures.labels ∙ (λ i. max (a i) (k i)) ∙ labels_joined e es last
     ∙ sym (ap (λ (x : plain.Code). counted (labels_in x)) (ap view c.in-Joined.is ∙ view_joined c.in-Joined.first c.in-Joined.others c.in-Joined.last))
 
-pub joined_counts-loop-i-preserved : goal.joined_counts-loop-i-preserved
-joined_counts-loop-i-preserved t c = record {
-  temporaries = λ z h. let k = c.later.ensures.temporaries ∙ ap (λ (n : ℕ). counted (suc n)) (c.loop-i.invariant.temporaries z h) in
-      c.both-needed.ensures.temporaries ∙ (λ i. max (c.counts_in.ensures.temporaries i) (k i)) ∙ room_joined (view c.index-others-i.result) (map view (drop c.loop-i.i c.args.others.now)) z
-      ∙ ap (λ (x : plain.Code). counted (room x)) (one_more c.args.others.now c.loop-i.i (c.loop-i.i - 1) c.index-others-i.result z (omega arith) c.loop-i.invariant.inside c.index-others-i.is);
-  arrays = λ z h. let k = c.later.ensures.arrays ∙ c.loop-i.invariant.arrays z h in
-      c.both-needed.ensures.arrays ∙ (λ i. max (c.counts_in.ensures.arrays i) (k i)) ∙ arrays_joined (view c.index-others-i.result) (map view (drop c.loop-i.i c.args.others.now)) z
-      ∙ ap (λ (x : plain.Code). counted (arrays_in x)) (one_more c.args.others.now c.loop-i.i (c.loop-i.i - 1) c.index-others-i.result z (omega arith) c.loop-i.invariant.inside c.index-others-i.is);
-  iterators = λ h. c.both-needed.ensures.iterators ∙ (λ i. max (c.counts_in.ensures.iterators i) ((c.later.ensures.iterators ∙ c.loop-i.invariant.iterators h) i));
-  labels = λ z h. let k = c.later.ensures.labels ∙ c.loop-i.invariant.labels z h in
-      c.both-needed.ensures.labels ∙ (λ i. max (c.counts_in.ensures.labels i) (k i)) ∙ labels_joined (view c.index-others-i.result) (map view (drop c.loop-i.i c.args.others.now)) z
-      ∙ ap (λ (x : plain.Code). counted (labels_in x)) (one_more c.args.others.now c.loop-i.i (c.loop-i.i - 1) c.index-others-i.result z (omega arith) c.loop-i.invariant.inside c.index-others-i.is);
+pub joined_counts-loop-left-preserved : goal.joined_counts-loop-left-preserved
+joined_counts-loop-left-preserved t c = record {
+  temporaries = λ z h. let k = c.later.ensures.temporaries ∙ ap (λ (n : ℕ). counted (suc n)) (c.loop-left.invariant.temporaries z h) in
+      c.both-needed.ensures.temporaries ∙ (λ i. max (c.counts_in.ensures.temporaries i) (k i)) ∙ room_joined (view c.index-others-left.result) (map view (drop c.loop-left.left c.args.others.now)) z
+      ∙ ap (λ (x : plain.Code). counted (room x)) (one_more c.args.others.now c.loop-left.left (c.loop-left.left - 1) c.index-others-left.result z (omega arith) c.loop-left.invariant.inside c.index-others-left.is);
+  arrays = λ z h. let k = c.later.ensures.arrays ∙ c.loop-left.invariant.arrays z h in
+      c.both-needed.ensures.arrays ∙ (λ i. max (c.counts_in.ensures.arrays i) (k i)) ∙ arrays_joined (view c.index-others-left.result) (map view (drop c.loop-left.left c.args.others.now)) z
+      ∙ ap (λ (x : plain.Code). counted (arrays_in x)) (one_more c.args.others.now c.loop-left.left (c.loop-left.left - 1) c.index-others-left.result z (omega arith) c.loop-left.invariant.inside c.index-others-left.is);
+  iterators = λ h. c.both-needed.ensures.iterators ∙ (λ i. max (c.counts_in.ensures.iterators i) ((c.later.ensures.iterators ∙ c.loop-left.invariant.iterators h) i));
+  labels = λ z h. let k = c.later.ensures.labels ∙ c.loop-left.invariant.labels z h in
+      c.both-needed.ensures.labels ∙ (λ i. max (c.counts_in.ensures.labels i) (k i)) ∙ labels_joined (view c.index-others-left.result) (map view (drop c.loop-left.left c.args.others.now)) z
+      ∙ ap (λ (x : plain.Code). counted (labels_in x)) (one_more c.args.others.now c.loop-left.left (c.loop-left.left - 1) c.index-others-left.result z (omega arith) c.loop-left.invariant.inside c.index-others-left.is);
   inside = omega arith;
 }
 
 pub joined_counts-returns-clause-temporaries : goal.joined_counts-returns-clause-temporaries
 joined_counts-returns-clause-temporaries t c = λ z h.
-    let first : c.loop-i.i ≡ 0 = omega arith in
-    c.loop-i.invariant.temporaries z h ∙ ap (λ (n : ℕ). counted (room (joined (map view (drop n c.args.others.now)) z))) first
+    let first : c.loop-left.left ≡ 0 = omega arith in
+    c.loop-left.invariant.temporaries z h ∙ ap (λ (n : ℕ). counted (room (joined (map view (drop n c.args.others.now)) z))) first
 
 pub joined_counts-returns-clause-arrays : goal.joined_counts-returns-clause-arrays
 joined_counts-returns-clause-arrays t c = λ z h.
-    let first : c.loop-i.i ≡ 0 = omega arith in
-    c.loop-i.invariant.arrays z h ∙ ap (λ (n : ℕ). counted (arrays_in (joined (map view (drop n c.args.others.now)) z))) first
+    let first : c.loop-left.left ≡ 0 = omega arith in
+    c.loop-left.invariant.arrays z h ∙ ap (λ (n : ℕ). counted (arrays_in (joined (map view (drop n c.args.others.now)) z))) first
 
 pub joined_counts-returns-clause-labels : goal.joined_counts-returns-clause-labels
 joined_counts-returns-clause-labels t c = λ z h.
-    let first : c.loop-i.i ≡ 0 = omega arith in
-    c.loop-i.invariant.labels z h ∙ ap (λ (n : ℕ). counted (labels_in (joined (map view (drop n c.args.others.now)) z))) first
+    let first : c.loop-left.left ≡ 0 = omega arith in
+    c.loop-left.invariant.labels z h ∙ ap (λ (n : ℕ). counted (labels_in (joined (map view (drop n c.args.others.now)) z))) first
 
 pub counts_in-returns-in-Over-clause-temporaries : goal.counts_in-returns-in-Over-clause-temporaries
 counts_in-returns-in-Over-clause-temporaries t c =

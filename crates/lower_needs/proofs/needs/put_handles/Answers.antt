@@ -5,8 +5,8 @@ use Rattle.lower_model.specs.Places.{handle_types}
 use Rattle.lower_needs.proofs.Lengths.{handles_more}
 use Rattle.lower_needs.proofs.needs.put_handles.Goals as goal
 
-pub loop-i-preserved : goal.loop-i-preserved
-loop-i-preserved c =
+pub loop-done-preserved : goal.loop-done-preserved
+loop-done-preserved c =
     let old = c.args.types.now.items in
-    c.in_ok-push.ensures.items ∙ ap (λ (ts : List ValType). ts ++ I32 ∷ []) c.loop-i.invariant ∙ append_assoc old (handle_types c.loop-i._i) (I32 ∷ [])
-    ∙ ap (λ (ts : List ValType). old ++ ts) (handles_more c.loop-i._i)
+    c.in_ok-push.ensures.items ∙ ap (λ (ts : List ValType). ts ++ I32 ∷ []) c.loop-done.invariant ∙ append_assoc old (handle_types c.loop-done._done) (I32 ∷ [])
+    ∙ ap (λ (ts : List ValType). old ++ ts) (handles_more c.loop-done._done)

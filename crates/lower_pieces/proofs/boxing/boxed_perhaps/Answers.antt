@@ -8,7 +8,7 @@ use Rattle.lower_pieces.proofs.boxing.boxed_perhaps.Goals as goal
 pub returns : goal.returns
 returns c =
     let none : Instructions → Instructions = λ k. ask_row Uninit (does c.args.put k) in
-    let some : Instructions → Instructions = λ k. boxed_number c.args.b.now c.args.t (does c.args.put k) in
+    let some : Instructions → Instructions = λ k. boxed_number c.args.bases.now c.args.temporary (does c.args.put k) in
     on_ok_weaker c.either.result
-    (emits_then (number_is (n c.args.b.now c.args.t) least) (either (none Done) (some Done)) _ _ _ (rw c.number.ensures at c.in_ok-number_is.ensures))
+    (emits_then (number_is (n c.args.bases.now c.args.temporary) least) (either (none Done) (some Done)) _ _ _ (rw c.number.ensures at c.in_ok-number_is.ensures))
     (c.either.ensures none some c.in_ok-none.ensures c.in_ok-number_put.ensures)

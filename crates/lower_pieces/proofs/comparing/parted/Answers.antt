@@ -11,8 +11,8 @@ pub returns : goal.returns
 returns c =
     let left = view_form c.args.left in
     let right = view_form c.args.right in
-    let values : Instructions → Instructions = values_compared c.args.b.now c.args.op left right c.args.t (suc c.args.exit) in
-    let numbers : Instructions → Instructions = numbers_compared c.args.b.now c.args.op left right c.args.t in
+    let values : Instructions → Instructions = values_compared c.args.bases.now c.args.op left right c.args.temporary (suc c.args.exit) in
+    let numbers : Instructions → Instructions = numbers_compared c.args.bases.now c.args.op left right c.args.temporary in
     on_ok_weaker c.either.result
-    (emits_then (texts_beside c.args.b.now left right c.args.t) (either (values Done) (numbers Done)) _ _ _ c.in_ok-texts_beside.ensures)
+    (emits_then (texts_beside c.args.bases.now left right c.args.temporary) (either (values Done) (numbers Done)) _ _ _ c.in_ok-texts_beside.ensures)
     (c.either.ensures values numbers c.in_ok-values.ensures c.in_ok-numbers.ensures)

@@ -8,7 +8,7 @@ use Rattle.lower_pieces.proofs.converting.bare_value.Goals as goal
 
 pub returns : goal.returns
 returns c =
-    let some : Instructions → Instructions = boxed_perhaps c.args.b.now c.args.t (LocalSet (h c.args.b.now c.args.t)) in
+    let some : Instructions → Instructions = boxed_perhaps c.args.bases.now c.args.temporary (LocalSet (h c.args.bases.now c.args.temporary)) in
     on_ok_weaker c.either.result
-    (emits_then (number_is (n c.args.b.now c.args.t) text_beside) (either Done (some Done)) _ _ _ (rw c.number.ensures at c.in_ok-number_is.ensures))
+    (emits_then (number_is (n c.args.bases.now c.args.temporary) text_beside) (either Done (some Done)) _ _ _ (rw c.number.ensures at c.in_ok-number_is.ensures))
     (c.either.ensures (λ k. k) some (emits_none [] c.new-nothing.result.items c.new-nothing.ensures.items) c.in_ok-perhaps_code.ensures)

@@ -5,4 +5,4 @@ use Rattle.lower_pieces.specs.Emits.{Emits}
 use Rattle.lower_pieces.proofs.keeping.kept.Goals as goal
 
 pub returns-in-Done : goal.returns-in-Done
-returns-in-Done c = subst (λ (a : Answer). OnOk c.kept_done.result (Emits c.args.out.now.items c.kept_done.new.out.items (kept c.args.b.now c.args.faults a c.args.t c.args.exit))) (sym c.in-Done.is) (c.kept_done.ensures c.args.b.now)
+returns-in-Done c = subst (λ (a : Answer). OnOk c.kept_done.result (Emits c.args.out.now.items c.kept_done.new.out.items (kept c.args.bases.now c.args.faults a c.args.temporary c.args.exit))) (sym c.in-Done.is) (c.kept_done.ensures c.args.bases.now)

@@ -7,8 +7,8 @@ use Rattle.lower_pieces.proofs.numbers.number_made.Goals as goal
 
 pub returns : goal.returns
 returns c =
-    let x = n c.args.b.now c.args.t in
-    let some : Instructions → Instructions = number_of_value c.args.b.now c.args.t (suc (suc c.args.exit)) in
+    let x = n c.args.bases.now c.args.temporary in
+    let some : Instructions → Instructions = number_of_value c.args.bases.now c.args.temporary (suc (suc c.args.exit)) in
     let none : Instructions → Instructions = λ k. does (I64Const 0) (does (LocalSet x) k) in
     emits_then (number_is x text_beside) (either (some Done) (none Done)) [] c.number_is.new.out.items c.either.new.out.items
     (rw (c.new-code.ensures.items, c.number-local.ensures) at c.in_ok-number_is.ensures)

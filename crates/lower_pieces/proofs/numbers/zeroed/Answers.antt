@@ -7,7 +7,7 @@ use Rattle.lower_pieces.proofs.numbers.zeroed.Goals as goal
 
 pub returns : goal.returns
 returns c =
-    let code : Instructions → Instructions = λ k. does (I64Const 0) (does (LocalSet (n c.args.b.now c.args.t)) k) in
+    let code : Instructions → Instructions = λ k. does (I64Const 0) (does (LocalSet (n c.args.bases.now c.args.temporary)) k) in
     on_ok_weaker c.when.result
-    (emits_then (number_is (n c.args.b.now c.args.t) least) (when (code Done)) _ _ _ (rw c.number-local.ensures at c.in_ok-number_is.ensures))
+    (emits_then (number_is (n c.args.bases.now c.args.temporary) least) (when (code Done)) _ _ _ (rw c.number-local.ensures at c.in_ok-number_is.ensures))
     (c.when.ensures code (rw c.number-local.ensures at c.in_ok-zero_put.ensures))

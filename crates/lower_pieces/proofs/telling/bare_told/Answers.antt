@@ -9,8 +9,8 @@ use Rattle.lower_pieces.proofs.telling.bare_told.Goals as goal
 
 pub returns : goal.returns
 returns c =
-    let some : Instructions → Instructions = λ k. moved_out (h c.args.b.now c.args.t) (ask_row Truth (does (Convert I64ExtendI32U) (does (LocalSet (n c.args.b.now c.args.t)) k))) in
-    let none : Instructions → Instructions = zeroed c.args.b.now c.args.t in
+    let some : Instructions → Instructions = λ k. moved_out (h c.args.bases.now c.args.temporary) (ask_row Truth (does (Convert I64ExtendI32U) (does (LocalSet (n c.args.bases.now c.args.temporary)) k))) in
+    let none : Instructions → Instructions = zeroed c.args.bases.now c.args.temporary in
     on_ok_weaker c.either.result
-    (emits_then (number_is (n c.args.b.now c.args.t) text_beside) (either (some Done) (none Done)) _ _ _ (rw c.number.ensures at c.in_ok-number_is.ensures))
+    (emits_then (number_is (n c.args.bases.now c.args.temporary) text_beside) (either (some Done) (none Done)) _ _ _ (rw c.number.ensures at c.in_ok-number_is.ensures))
     (c.either.ensures some none c.in_ok-some.ensures c.in_ok-zeroed_code.ensures)

@@ -5,5 +5,5 @@ use Rattle.module_decoder.proofs.sections.read_module.Goals as goal
 
 pub returns : goal.returns
 returns c =
-    let small : nat_le (length c.args.bytes.now) 16777216 ≡ true = le-leb (length c.args.bytes.now) 16777216 c.if-total-gt-MAX_SIZE.false in
+    let small : nat_le (length c.args.bytes.now) 16777216 ≡ true = le-leb (length c.args.bytes.now) 16777216 c.if-total-gt-MAX_MODULE_BYTES.false in
     rw (c.in_ok-rest.ensures, small, c.in_ok-progress.ensures) c.finish.ensures

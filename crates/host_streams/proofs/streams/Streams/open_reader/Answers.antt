@@ -35,7 +35,7 @@ returns-in-Ok-clause-told g c = λ tells.
     let id = c.new-reader.ensures.id in
     let readers : length c.as_slice.result.now ≡ length c.args.self.now.readers.items = ap length c.as_slice.ensures.value in
     let writers : length c.as_slice-2.result.now ≡ length c.args.self.now.writers.items = ap length c.as_slice-2.ensures.value in
-    let few : length c.args.self.now.readers.items + length c.args.self.now.writers.items < 256 = (let below = c.if-as_slice-ge-STREAMS.false in omega arith) in (
+    let few : length c.args.self.now.readers.items + length c.args.self.now.writers.items < 256 = (let below = c.if-as_slice-ge-MAX_STREAMS.false in omega arith) in (
       lt-ltb (length c.args.self.now.readers.items + length c.args.self.now.writers.items) 256 few,
       (g.W.World.state c.open_read.new.self).readers c.in-Ok.id,
       source_opened _ _ told.opens told.bytes told.ending,
@@ -72,7 +72,7 @@ returns-in-Ok-clause-readers g c =
     let items = c.push_reserved.ensures.items ∙ ap (λ xs. xs ++ r ∷ []) c.reserve.ensures.items in
     let readers : length c.as_slice.result.now ≡ length c.args.self.now.readers.items = ap length c.as_slice.ensures.value in
     let writers : length c.as_slice-2.result.now ≡ length c.args.self.now.writers.items = ap length c.as_slice-2.ensures.value in
-    let few : length c.args.self.now.readers.items + length c.args.self.now.writers.items < 256 = (let below = c.if-as_slice-ge-STREAMS.false in omega arith) in (
+    let few : length c.args.self.now.readers.items + length c.args.self.now.writers.items < 256 = (let below = c.if-as_slice-ge-MAX_STREAMS.false in omega arith) in (
       lt-ltb (length c.args.self.now.readers.items + length c.args.self.now.writers.items) 256 few,
       subst (λ (xs : List NamedReader). IsAdded c.args.name.now c.args.self.now.readers.items xs) (sym items) (added_last c.args.name.now c.args.self.now.readers.items r c.in_ok-own.ensures),
     )

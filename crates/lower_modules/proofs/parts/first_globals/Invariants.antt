@@ -1,7 +1,0 @@
-use Rattle.std.proofs.Common.{◌≡◌, ◌∷◌, map, replicate}
-use Rattle.wasm_types.specs.View.{view_global}
-use Rattle.lower_model.specs.Modules.{long_global, word_global}
-use Rattle.lower_modules.proofs.parts.first_globals.Given as goal
-
-abbrev pub invariant-loop-i : goal.invariant-loop-i
-invariant-loop-i l = map view_global l.all.items ≡ word_global 0 ∷ (long_global 0 ∷ replicate l._i (word_global 0))

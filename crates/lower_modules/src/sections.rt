@@ -1,0 +1,227 @@
+//! The parts of a module.
+ghost use Rattle.std.specs.Prelude.{◌≡◌, ◌+◌, ◌*◌, ◌≤◌, ◌++◌, ◌∷◌, length, map, codes, replicate, IfOk, OnOk};
+ghost use Rattle.mid_program.specs.Sorted.{announced_names, kinds_of};
+ghost use Rattle.mid_program.specs.View.{view_declared, view_mid, view_routine, view_texts};
+ghost use Rattle.lower_modules.specs.Limits.{most_bytes};
+ghost use Rattle.lower_modules.specs.View.{view_function, view_functions};
+ghost use Rattle.lower_model.specs.Functions.{texts_of};
+ghost use Rattle.host_imports.specs.Imports.{import_name, imports, module_name};
+ghost use Rattle.lower_model.specs.Modules.{functions_from, globals_of, imported_from, long_global, memory_for, name_globals, renumbered, word_global};
+ghost use Rattle.lower_model.specs.Places.{memory_of};
+ghost use Rattle.lower_model.specs.Small.{does};
+ghost use Rattle.wasm_types.specs.Syntax.{Done};
+ghost use Rattle.wasm_types.specs.View.{view_data, view_export, view_func, view_global, view_import, views};
+ghost use Rattle.wasm_types.specs.declared.instr.Simple.TheVariants.{I32Const};
+ghost use Rattle.wasm_types.specs.declared.module.ExportDesc.TheVariants as desc;
+
+use crate::calls::renumbered;
+use crate::function::Function;
+use host_imports::Import;
+use mid_program::{Declared, Kind, Mid, Routine};
+use std::alloc::{AllocError, Global};
+use std::rc::Rc;
+use wasm_types::{Data, Export, ExportDesc, Func, GlobalType, Instr, Limits, Simple, ValType};
+
+fn import_form(alloc: Global, import: Import, ty: u32) -> Result<wasm_types::Import, AllocError>
+    ensures { IfOk result
+        (λ made. view_import made
+        ≡ record { from = module_name; name = import_name import; ty = ty }) }
+{
+    Ok(wasm_types::Import {
+        module: String::from_str(alloc, "awk2")?,
+        name: String::from_str(alloc, import.name())?,
+        ty,
+    })
+}
+
+/// Imports, each of the type of its place.
+pub(crate) fn import_forms(
+    alloc: Global,
+    used: &[Import],
+) -> Result<Vec<wasm_types::Import>, AllocError>
+    requires { length used.now ≤ length imports }
+    ensures { IfOk result (λ all. map view_import all.items ≡ imported_from 0 used.now) }
+{
+    let mut all = Vec::new(alloc);
+    let mut ty = 0;
+    for import in used {
+        all.push(import_form(alloc, *import, ty)?)?;
+        ty += 1;
+    }
+    Ok(all)
+}
+
+fn function_form(
+    alloc: Global,
+    called: &[bool],
+    ty: u32,
+    function: &Function,
+) -> Result<Func, AllocError>
+    ensures { IfOk result (λ made. view_func made ≡ record {
+      ty = ty;
+      locals = function.now.locals.items;
+      body =
+          renumbered called.now (views function.now.body.items);
+    }) }
+{
+    let body = renumbered(alloc, called, &function.body)?;
+    Ok(Func {
+        ty,
+        locals: function.locals.as_slice().to_vec(alloc)?,
+        body: Rc::new(alloc, body)?,
+    })
+}
+
+/// Functions, each of a type of its own; the first has this number.
+pub(crate) fn function_forms(
+    alloc: Global,
+    called: &[bool],
+    first: u32,
+    functions: &[Function],
+) -> Result<Vec<Func>, AllocError>
+    requires { first + length functions.now ≤ 2 * most_bytes }
+    ensures { IfOk result
+        (λ all. map view_func all.items
+        ≡ functions_from called.now first (view_functions functions.now)) }
+{
+    let mut all = Vec::new(alloc);
+    let mut ty = first;
+    for function in functions {
+        all.push(function_form(alloc, called, ty, function)?)?;
+        ty += 1;
+    }
+    Ok(all)
+}
+
+fn constant(alloc: Global, simple: Simple) -> Result<Vec<Instr>, AllocError>
+    ensures { IfOk result (λ code. views code.items ≡ does simple Done) }
+{
+    Ok(vec![in alloc; Instr::Plain(simple)]?)
+}
+
+/// A global of 32 bits.
+fn word_global(alloc: Global, number: u32) -> Result<wasm_types::Global, AllocError>
+    ensures { IfOk result (λ made. view_global made ≡ word_global number) }
+{
+    Ok(wasm_types::Global {
+        ty: GlobalType {
+            value: ValType::I32,
+            mutable: true,
+        },
+        init: constant(alloc, Simple::I32Const(number))?,
+    })
+}
+
+/// A global of 64 bits.
+fn long_global(alloc: Global, number: u64) -> Result<wasm_types::Global, AllocError>
+    ensures { IfOk result (λ made. view_global made ≡ long_global number) }
+{
+    Ok(wasm_types::Global {
+        ty: GlobalType {
+            value: ValType::I64,
+            mutable: true,
+        },
+        init: constant(alloc, Simple::I64Const(number))?,
+    })
+}
+
+/// The module's own globals, and one for each range.
+fn first_globals(alloc: Global, ranges: usize) -> Result<Vec<wasm_types::Global>, AllocError>
+    ensures { IfOk result (λ all. map view_global all.items
+        ≡ word_global 0 ∷ (long_global 0 ∷ replicate ranges (word_global 0))) }
+{
+    let mut all = vec![in alloc; word_global(alloc, 0)?, long_global(alloc, 0)?]?;
+    for _done in 0..ranges {
+        all.push(word_global(alloc, 0)?)?;
+    }
+    Ok(all)
+}
+
+/// The globals of a module: for each name two, which have nothing yet.
+pub(crate) fn globals(alloc: Global, mid: &Mid) -> Result<Vec<wasm_types::Global>, AllocError>
+    ensures { IfOk result (λ all. map view_global all.items ≡ globals_of (view_mid mid.now)) }
+{
+    let mut all = first_globals(alloc, mid.ranges)?;
+    for _name in &mid.globals {
+        all.push(word_global(alloc, u32::MAX)?)?;
+        all.push(long_global(alloc, 1 << 63)?)?;
+    }
+    Ok(all)
+}
+
+fn text_bytes(alloc: Global, texts: &[Vec<u8>]) -> Result<Vec<u8>, AllocError>
+    ensures { IfOk result (λ bytes. bytes.items ≡ memory_of (view_texts texts.now)) }
+{
+    let mut bytes = Vec::new(alloc);
+    for text in texts {
+        bytes.extend_from_slice(text)?;
+    }
+    Ok(bytes)
+}
+
+fn put_names(bytes: &mut Vec<u8>, globals: &[Declared]) -> Result<(), AllocError>
+    ensures { OnOk result
+        (bytes.new.items ≡ bytes.old.items
+        ++ memory_of (map (λ declared. declared.name.items) globals.now)) }
+{
+    for declared in globals {
+        bytes.extend_from_slice(&declared.name)?;
+    }
+    Ok(())
+}
+
+fn put_routine_names(bytes: &mut Vec<u8>, routines: &[Routine]) -> Result<(), AllocError>
+    ensures { OnOk result
+        (bytes.new.items ≡ bytes.old.items
+        ++ memory_of (map (λ routine. routine.name.items) routines.now)) }
+{
+    for routine in routines {
+        bytes.extend_from_slice(&routine.name)?;
+    }
+    Ok(())
+}
+
+/// The texts of a script, and the names that it announces, one after the other.
+pub(crate) fn memory(alloc: Global, mid: &Mid) -> Result<Vec<u8>, AllocError>
+    ensures { IfOk result (λ bytes. bytes.items ≡ memory_of (texts_of (view_mid mid.now))) }
+{
+    let mut bytes = text_bytes(alloc, mid.texts.as_slice())?;
+    put_names(&mut bytes, &mid.globals)?;
+    put_routine_names(&mut bytes, &mid.routines)?;
+    Ok(bytes)
+}
+
+/// A memory of as many pages as the bytes take, which does not grow.
+pub(crate) fn memory_for(bytes: u32) -> Limits
+    requires { bytes ≤ most_bytes }
+    ensures { result ≡ memory_for bytes }
+{
+    let pages = (bytes + 65535) / 65536;
+    Limits {
+        min: pages,
+        max: Some(pages),
+    }
+}
+
+/// The texts at address 0.
+pub(crate) fn text_segment(alloc: Global, memory: Vec<u8>) -> Result<Data, AllocError>
+    ensures { IfOk result (λ made. view_data made
+        ≡ record { memory = 0; offset = does (I32Const 0) Done; init = memory.items }) }
+{
+    Ok(Data {
+        memory: 0,
+        offset: constant(alloc, Simple::I32Const(0))?,
+        init: memory,
+    })
+}
+
+/// The export of `main`.
+pub(crate) fn main_export(alloc: Global, number: u32) -> Result<Export, AllocError>
+    ensures { IfOk result
+        (λ made. view_export made ≡ record { name = codes "main"; desc = desc.Func number }) }
+{
+    Ok(Export {
+        name: String::from_str(alloc, "main")?,
+        desc: ExportDesc::Func(number),
+    })
+}
