@@ -24,7 +24,7 @@ use Rattle.host_step.specs.HostState.{HostState}
 use Rattle.host_imports.specs.Imports.{host_finds}
 use Rattle.host_step.specs.Starts.{state_at_start}
 use Rattle.mid_program.specs.Mid.{Kind, Program, Routine, parameters_at}
-use Rattle.sem_scripts.specs.ScriptRun.{Setting}
+use Rattle.sem_scripts.specs.ScriptRun.{Setting, setting_of}
 use Rattle.mid_program.specs.Sorted.{Context, IsSorted, all_differ, announced_names, context_of, is_sorted, kinds_of, parts_sorted, routines_sorted, steps_sorted}
 use Rattle.lower_model.specs.Cells.{cell_at}
 use Rattle.lower_model.specs.Emission.{Layout}
@@ -41,7 +41,6 @@ use Rattle.agree_refined.proofs.Beginning.{begins, begun_as, in_main, taken_firs
 use Rattle.agree_refined.proofs.Growing.{arrays_grow}
 use Rattle.agree_refined.proofs.Links.{linked, program_is, stays}
 use Rattle.agree_refined.proofs.Running.{steps_as}
-use Rattle.agree_modules.specs.Agreement.{setting_of}
 use Rattle.agree_modules.specs.ValueAgreement.{ValueAgreement}
 use Rattle.agree_modules.proofs.Stores.{InStore, store_there}
 use Rattle.agree_places.specs.Assigned.{IsAssigned, IsOperand, IsOption, IsWord, Somewhere}

@@ -2,8 +2,8 @@
 use Rattle.std.proofs.Common.{◌≡◌, ℕ, sym, ◌∙◌, subst}
 use Rattle.wasm_types.specs.Syntax.{ModuleForm}
 use Rattle.sem_scripts.specs.Kept.{Grows, output_of}
-use Rattle.sem_scripts.specs.ScriptRun.{Setting, Ending}
-use Rattle.agree_modules.specs.Agreement.{Agreement, output_in, setting_of}
+use Rattle.sem_scripts.specs.ScriptRun.{Setting, Ending, setting_of}
+use Rattle.agree_modules.specs.Agreement.{Agreement, output_in}
 
 -- two that do the same agree with the same modules
 pub agreement_as : (f g : Setting → ℕ → Ending) (m : ModuleForm) → ((s : Setting) (turns : ℕ) → f s turns ≡ g s turns) → Agreement f m → Agreement g m

@@ -22,7 +22,7 @@ use Rattle.host_step.specs.Starts.{state_at_start}
 use Rattle.sem_scripts.specs.Kept.{Grows, output_of}
 use Rattle.mid_program.specs.Mid.{Program}
 use Rattle.mid_program.specs.MidMeaning.{mid_run_in}
-use Rattle.sem_scripts.specs.ScriptRun.{Setting, Ending, Ended, FaultedBy, GoesOn, Exhausted}
+use Rattle.sem_scripts.specs.ScriptRun.{Setting, Ending, Ended, FaultedBy, GoesOn, Exhausted, setting_of}
 use Rattle.lower_model.specs.Cells.{Cell, Bits, Held, LentArray, OwnedArray, IteratorOf, Gone}
 use Rattle.lower_model.specs.Machine.{Conf, Run, Look, Over, Deep, Store, Stuck, ending_at, go, status_of}
 use Rattle.lower_model.specs.Modules.{module_of}
@@ -35,7 +35,7 @@ use Rattle.agree_refined.proofs.Growing.{arrays_grow}
 use Rattle.agree_refined.proofs.Links.{linked, program, program_is}
 use Rattle.agree_refined.proofs.Outputs.{run_adds}
 use Rattle.agree_refined.proofs.Telling.{tells_as}
-use Rattle.agree_modules.specs.Agreement.{Agreement, Like, MayEnd, ModuleEnding, Trapped, ended_with, ending_told, output_in, setting_of}
+use Rattle.agree_modules.specs.Agreement.{Agreement, Like, MayEnd, ModuleEnding, Trapped, ended_with, ending_told, output_in}
 use Rattle.agree_modules.specs.ValueAgreement.{IsOver, ValueAgreement}
 
 -- the low bits of a word are its number's remainder

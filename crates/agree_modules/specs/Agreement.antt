@@ -16,13 +16,9 @@ use Rattle.host_step.specs.HostState.{HostState}
 use Rattle.host_imports.specs.Imports.{host_finds}
 use Rattle.host_step.specs.Starts.{state_at_start}
 use Rattle.sem_scripts.specs.Kept.{Grows, output_of}
-use Rattle.sem_scripts.specs.ScriptRun.{Setting, Ending, Ended, FaultedBy, GoesOn, Exhausted}
+use Rattle.sem_scripts.specs.ScriptRun.{Setting, Ending, Ended, FaultedBy, GoesOn, Exhausted, setting_of}
 use Rattle.agree_refined.specs.Refined.{table_meaning}
 use Rattle.agree_modules.specs.ValueAgreement.{IsOver}
-
--- a job over a world, where 9,999 calls may wait
-abbrev pub setting_of : JobForm → Source → Outside → Setting
-setting_of job input outside = record { job = job; input = input; outside = outside; deepest = 9999 }
 
 -- a run ends as a script's may, or traps
 pub data ModuleEnding : Type 0 where

@@ -18,7 +18,7 @@ use Rattle.host_step.specs.Worlds.{with_output}
 use Rattle.sem_scripts.specs.Kept.{Grows, output_of}
 use Rattle.mid_program.specs.Mid.{Program}
 use Rattle.mid_program.specs.MidMeaning.{mid_run_in}
-use Rattle.sem_scripts.specs.ScriptRun.{Ending, Setting, Ended, FaultedBy, Exhausted}
+use Rattle.sem_scripts.specs.ScriptRun.{Ending, Setting, Ended, FaultedBy, Exhausted, setting_of}
 use Rattle.mid_program.specs.Sorted.{IsSorted}
 use Rattle.lower_model.specs.Cells.{Cell, Bits, Held, LentArray, OwnedArray, IteratorOf, Gone}
 use Rattle.lower_model.specs.Follows.{FollowsNoted}
@@ -34,7 +34,6 @@ use Rattle.agree_refined.proofs.Beginning.{begins, begun_as, in_main}
 use Rattle.agree_refined.proofs.Growing.{arrays_grow}
 use Rattle.agree_refined.proofs.Links.{linked, program, program_is, stays}
 use Rattle.agree_refined.proofs.Stepping.{step_as}
-use Rattle.agree_modules.specs.Agreement.{setting_of}
 use Rattle.agree_modules.specs.ValueAgreement.{IsOver, AgreesWith}
 use Rattle.agree_modules.proofs.Agreeing.{agreement_with}
 use Rattle.agree_modules.proofs.Growing.{shows_put, put_at}

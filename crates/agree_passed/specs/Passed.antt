@@ -17,12 +17,11 @@ use Rattle.host_imports.specs.Imports.{host_finds}
 use Rattle.host_step.specs.Starts.{state_at_start}
 use Rattle.sem_scripts.specs.Kept.{Grows, output_of}
 use Rattle.mid_program.specs.Mid.{Program}
-use Rattle.sem_scripts.specs.ScriptRun.{Ending, Setting}
+use Rattle.sem_scripts.specs.ScriptRun.{Ending, Setting, setting_of}
 use Rattle.lower_model.specs.Machine.{Notes}
 use Rattle.lower_model.specs.Modules.{called_imports, renumbered}
 use Rattle.lower_model.specs.Noted.{noted_run_in}
 use Rattle.agree_refined.specs.Refined.{table_meaning}
-use Rattle.agree_modules.specs.Agreement.{setting_of}
 use Rattle.agree_modules.specs.ValueAgreement.{IsOver}
 
 -- what is added where a place is passed, by the code of the place

@@ -11,7 +11,7 @@ use Rattle.wasm_model.specs.Runs.{MachineForm, Steps}
 use Rattle.host_step.specs.HostState.{HostState}
 use Rattle.host_step.specs.Starts.{state_at_start}
 use Rattle.mid_program.specs.Mid.{Program}
-use Rattle.sem_scripts.specs.ScriptRun.{Setting}
+use Rattle.sem_scripts.specs.ScriptRun.{Setting, setting_of}
 use Rattle.sem_primitives.specs.SharedState.{Inner}
 use Rattle.lower_model.specs.Functions.{main_callee}
 use Rattle.lower_model.specs.Machine.{Code, Conf, Deep, Look, Over, Run, Store, Stuck, assigning_after, ending_at, go, step, zeros}
@@ -25,7 +25,6 @@ use Rattle.agree_refined.proofs.Beginning.{begins, begun_as, in_main, taken_firs
 use Rattle.agree_refined.proofs.Growing.{arrays_grow}
 use Rattle.agree_refined.proofs.Links.{linked, program_is, stays}
 use Rattle.agree_refined.proofs.Running.{taken_as}
-use Rattle.agree_modules.specs.Agreement.{setting_of}
 use Rattle.agree_modules.specs.ValueAgreement.{ValueAgreement}
 use Rattle.agree_modules.proofs.Stores.{InStore, Leads, step_in, store_there}
 use Rattle.agree_places.specs.Assigned.{HasWord, IsAssigned, IsPending, IsWord, Somewhere}

@@ -12,7 +12,7 @@ use Rattle.wasm_model.specs.Runs.{MachineForm, Steps}
 use Rattle.host_step.specs.HostState.{HostState, Names}
 use Rattle.host_step.specs.Starts.{state_at_start}
 use Rattle.mid_program.specs.Mid.{Kind, Boxed, Unboxed, Many, Program}
-use Rattle.sem_scripts.specs.ScriptRun.{Setting}
+use Rattle.sem_scripts.specs.ScriptRun.{Setting, setting_of}
 use Rattle.mid_program.specs.Sorted.{has_kind, kinds_of}
 use Rattle.lower_model.specs.Cells.{Cell, Bits, Held, IteratorOf, OwnedArray, LentArray, Gone, cell_at, globals_by, is_bare, is_bare_handle, is_word, iterators_in, mark_fits, marks_fit, tidy_locals, tidy_name}
 use Rattle.lower_model.specs.Functions.{main_callee}
@@ -28,7 +28,6 @@ use Rattle.agree_refined.proofs.Beginning.{begins, begun_as, in_main, taken_firs
 use Rattle.agree_refined.proofs.Growing.{arrays_grow}
 use Rattle.agree_refined.proofs.Links.{linked, program_is, stays}
 use Rattle.agree_refined.proofs.Running.{steps_as, taken_as}
-use Rattle.agree_modules.specs.Agreement.{setting_of}
 use Rattle.agree_modules.specs.ValueAgreement.{ValueAgreement}
 use Rattle.agree_modules.proofs.Stores.{InStore, store_there}
 use Rattle.agree_places.specs.Assigned.{IsAssigned, IsPending, Somewhere}

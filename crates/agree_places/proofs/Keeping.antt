@@ -19,7 +19,7 @@ use Rattle.wasm_model.specs.declared.ends.End.TheVariants as ends
 use Rattle.host_step.specs.HostState.{HostState, Names}
 use Rattle.host_step.specs.Starts.{state_at_start}
 use Rattle.mid_program.specs.Mid.{Kind, Program}
-use Rattle.sem_scripts.specs.ScriptRun.{Setting}
+use Rattle.sem_scripts.specs.ScriptRun.{Setting, setting_of}
 use Rattle.lower_model.specs.Cells.{Cell, globals_by, iterators_in, marks_fit, tidy_locals, tidy_name}
 use Rattle.lower_model.specs.Machine.{Code, Conf, Deep, Frame, Label, Look, Over, Run, Store, Stuck, at, ending_at, go, guarded, is_empty, loops_walked, noted, step, tidy, ending_name}
 use Rattle.lower_model.specs.Modules.{all_callees, called_imports, globals_of, module_of, renumbered, renumbered_simple}
@@ -34,7 +34,6 @@ use Rattle.agree_refined.proofs.Links.{linked, program, program_is, stays}
 use Rattle.agree_refined.proofs.Room.{total}
 use Rattle.agree_refined.proofs.Running.{steps_as}
 use Rattle.agree_refined.proofs.Stepping.{step_as}
-use Rattle.agree_modules.specs.Agreement.{setting_of}
 use Rattle.agree_modules.specs.ValueAgreement.{ValueAgreement}
 use Rattle.agree_places.specs.Kept.{AtReturn, AtStatement, BareParameters, CallersWait, LocalsHold, Reached, begins_statement, boxed}
 use Rattle.agree_places.proofs.Begun.{OfFunction, fits_on, some_within}

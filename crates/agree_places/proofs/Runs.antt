@@ -22,7 +22,7 @@ use Rattle.host_step.specs.HostState.{HostState}
 use Rattle.host_imports.specs.Imports.{host_finds, host_types, import_at}
 use Rattle.host_step.specs.Starts.{first_names, state_at_start}
 use Rattle.mid_program.specs.Mid.{Program}
-use Rattle.sem_scripts.specs.ScriptRun.{GoesOn, Exhausted}
+use Rattle.sem_scripts.specs.ScriptRun.{GoesOn, Exhausted, setting_of}
 use Rattle.mid_program.specs.Sorted.{IsSorted}
 use Rattle.lower_model.specs.Machine.{Stuck, ending_at, go}
 use Rattle.lower_model.specs.Modules.{module_of}
@@ -34,7 +34,7 @@ use Rattle.agree_refined.proofs.Beginning.{begins, in_main, main_number, steps_a
 use Rattle.agree_refined.proofs.Existing.{FreeFrom, HasRun, runs}
 use Rattle.agree_refined.proofs.Links.{numbers_are, program}
 use Rattle.agree_refined.proofs.Room.{HasFree}
-use Rattle.agree_modules.specs.Agreement.{Like, MayEnd, ModuleEnding, Trapped, ended_with, ending_told, setting_of}
+use Rattle.agree_modules.specs.Agreement.{Like, MayEnd, ModuleEnding, Trapped, ended_with, ending_told}
 use Rattle.agree_modules.specs.ValueAgreement.{ValueAgreement}
 use Rattle.agree_places.specs.Existence.{HasRuns}
 use Rattle.agree_places.specs.Places.{IsSmall}

@@ -12,7 +12,7 @@ use Rattle.wasm_store.specs.declared.trap.TrapKind.{TrapKind}
 use Rattle.wasm_store.specs.declared.word.Word.{Word}
 use Rattle.wasm_store.specs.declared.word.Word.TheVariants.{I32, I64}
 use Rattle.wasm_store.specs.Words.{binary_of, compare_of, converted, test_of}
-use Rattle.wasm_model.specs.Frames.{FrameForm, LabelForm, Local, chosen, local_step, local_set, local_tee, pushed, pushed_or, with_values}
+use Rattle.wasm_model.specs.Frames.{FrameForm, LabelForm, Local, local_step, pushed, pushed_or, with_values}
 use Rattle.wasm_model.specs.Frames as form
 use Rattle.wasm_model.specs.Machines.{Conf, Ends, Goes, ProgramForm, Turn, turn, turn_by, with_frame, with_value}
 use Rattle.wasm_model.specs.declared.ends.End.TheVariants as ends

@@ -1,6 +1,6 @@
 -- A number statement, from its beginning: its expression comes to its temporary, each name's number converted,
 -- and the target takes it. No call is reached but the one that keeps a fault.
-use Rattle.std.proofs.Common.{◌≡◌, ◌≢◌, ℕ, zero, suc, ◌<◌, ◌≤◌, Bool, true, false, List, [], ◌∷◌, length, Some, refl, sym, ap, ◌∙◌, subst, arith}
+use Rattle.std.proofs.Common.{◌≡◌, ◌≢◌, ℕ, zero, suc, ◌<◌, ◌≤◌, Bool, true, false, List, [], ◌∷◌, length, Some, refl, sym, ap, ◌∙◌, arith}
 use Rattle.std.specs.Prelude.{nat_lt, slice_get, slice_set}
 use Rattle.std.proofs.lemmas.Bool.{ltb-true}
 use Rattle.sem_primitives.specs.declared.sorts.Sort.TheVariants as sort
@@ -8,7 +8,7 @@ use Rattle.sem_primitives.specs.declared.sorts.Answer.TheVariants as answer
 use Rattle.wasm_types.specs.Syntax.{Instructions}
 use Rattle.wasm_types.specs.declared.instr.IBinOp.TheVariants.{Add, Sub}
 use Rattle.wasm_store.specs.declared.word.Word.{Word}
-use Rattle.wasm_store.specs.declared.word.Word.TheVariants.{I32, I64}
+use Rattle.wasm_store.specs.declared.word.Word.TheVariants.{I64}
 use Rattle.wasm_model.specs.Frames.{LabelForm}
 use Rattle.wasm_model.specs.Machines.{Conf, ProgramForm}
 use Rattle.mid_program.specs.declared.mid.Arithmetic.{Arithmetic}

@@ -24,7 +24,8 @@ ghost use Rattle.agree_quiet.specs.Sums.{AtFault, AtNext, AtSum};
 /// of the names.
 pub fn numbers_are_quiet()
     ensures { (p : Program) → IsSorted p → ModuleOk (module_of p)
-        → (job : JobForm) (input : Source) (outside : Outside) (m : MachineForm) (c : Conf) (s : HostState)
+        → (job : JobForm) (input : Source) (outside : Outside)
+        (m : MachineForm) (c : Conf) (s : HostState)
         → Reached (module_of p) job input outside m c s → (a : AtSum p c)
         → Quietly m.program c (λ there. AtNext p c a there ⊎ AtFault p c there) }
 {}
@@ -33,23 +34,30 @@ pub fn numbers_are_quiet()
 /// parameter never has a text beside it.
 pub fn lanes_are_quiet()
     ensures { (p : Program) → IsSorted p → ModuleOk (module_of p)
-        → (job : JobForm) (input : Source) (outside : Outside) (m : MachineForm) (c : Conf) (s : HostState)
-        → (reached : Reached (module_of p) job input outside m c s) → (here : AtStatement p c s) → (a : AtLaned p c s here (IsAssigned reached))
-        → Quietly m.program c (λ there. IsNext p c a.bases (Then a.next a.further) a.iterators a.out a.breaking a.continuing a.after there ⊎ AtFault p c there) }
+        → (job : JobForm) (input : Source) (outside : Outside)
+        (m : MachineForm) (c : Conf) (s : HostState)
+        → (reached : Reached (module_of p) job input outside m c s)
+        → (here : AtStatement p c s) → (a : AtLaned p c s here (IsAssigned reached))
+        → Quietly m.program c (λ there. IsNext p c a.bases (Then a.next a.further)
+        a.iterators a.out a.breaking a.continuing a.after there ⊎ AtFault p c there) }
 {}
 
 /// So is a statement of a script, `name = Expr` with number constants, names, groups, signs, `+`, `-` and `*` in Expr, whose names are such.
 pub fn statements_are_quiet()
     ensures { (p : Program) → IsSorted p → ModuleOk (module_of p)
-        → (job : JobForm) (input : Source) (outside : Outside) (m : MachineForm) (c : Conf) (s : HostState)
-        → (reached : Reached (module_of p) job input outside m c s) → (here : AtStatement p c s) → (a : AtNumeric p c s here (IsAssigned reached))
-        → Quietly m.program c (λ there. IsNext p c a.bases (Then a.next a.further) a.iterators a.out a.breaking a.continuing a.after there ⊎ AtFault p c there) }
+        → (job : JobForm) (input : Source) (outside : Outside)
+        (m : MachineForm) (c : Conf) (s : HostState)
+        → (reached : Reached (module_of p) job input outside m c s)
+        → (here : AtStatement p c s) → (a : AtNumeric p c s here (IsAssigned reached))
+        → Quietly m.program c (λ there. IsNext p c a.bases (Then a.next a.further)
+        a.iterators a.out a.breaking a.continuing a.after there ⊎ AtFault p c there) }
 {}
 
 /// The code of such a statement of a script is one: an assignment of a sum, with constants computed and names in the lanes that they are given. Its names
 /// are the statement's.
 pub fn assignments_are_sums()
-    ensures { (names : List Slot) (texts : List (List ℕ)) (scope : Scope) (globals parameters : List Kind)
+    ensures { (names : List Slot) (texts : List (List ℕ)) (scope : Scope)
+        (globals parameters : List Kind)
         → (x : List ℕ) (t : Tree) → IsSo (Contains names) globals parameters (variable_of scope x)
         → IsNumeric (IsSo (Contains names) globals parameters) scope t
         → IsSumStep (Contains names) (assignment texts scope globals parameters x t) }

@@ -8,9 +8,9 @@ use Rattle.wasm_model.specs.declared.ends.MachineEnd.{MachineEnd}
 use Rattle.wasm_model.specs.declared.ends.MachineEnd.TheVariants as machine
 use Rattle.host_elements.specs.Forms.{HostForm}
 use Rattle.sem_scripts.specs.Kept.{Grows, output_of}
-use Rattle.sem_scripts.specs.ScriptRun.{Ending, Exhausted, GoesOn, Setting}
-use Rattle.agree_modules.specs.Agreement.{Agreement, Like, MayEnd, ModuleEnding, Trapped, ended_with, ending_told, setting_of}
-use Rattle.agree_runs.specs.ToldRuns.{DoesSo, Says, Tells, TellsEnding, ToldRun}
+use Rattle.sem_scripts.specs.ScriptRun.{Ending, Exhausted, GoesOn, Setting, setting_of}
+use Rattle.agree_modules.specs.Agreement.{Agreement, Like, MayEnd, ModuleEnding, Trapped, ended_with, ending_told}
+use Rattle.agree_runs.specs.ToldRuns.{DoesSo, Says, Tells, TellsEnding, ToldRun, told_by}
 
 -- what grows from more grows from less
 grows_less : (a b xs : List Action) → Grows (a ++ b) xs → Grows a xs
@@ -18,7 +18,7 @@ grows_less a b xs g = (b ++ g.0, g.1 ∙ append_assoc a b g.0)
 
 module _ (script : Setting → ℕ → Ending) (m : ModuleForm) (agree : Agreement script m) (job : JobForm) (input : Source) (outside : Outside) (steps : ℕ) where
   abbrev Does : Option Fault → MachineEnd → List Action → Type 0
-  Does kept e output = (turns : ℕ) × Says kept e output (script (setting_of job input outside) turns)
+  Does kept e output = (turns : ℕ) × Says (told_by kept e) output (script (setting_of job input outside) turns)
 
   -- the ending that is told
   the_ending : (kept : Option Fault) (e : MachineEnd) (output : List Action) (d : ModuleEnding) → ending_told kept e output ≡ Some d → TellsEnding m job input outside steps kept e output
@@ -38,5 +38,5 @@ module _ (script : Setting → ℕ → Ending) (m : ModuleForm) (agree : Agreeme
       let g = agree.output_module job input outside t.0 t.2 t.5 in
       (g.0, grows_less output t.3 _ (subst (λ (o : List Action). Grows o (output_of (script (setting_of job input outside) g.0))) t.4 g.1))
 
-  pub does_so : (e : MachineEnd) (f : HostForm) → ToldRun m job input outside steps e f → DoesSo script job input outside e f
+  pub does_so : (e : MachineEnd) (f : HostForm) → ToldRun m job input outside steps e f → DoesSo script job input outside (told_by f.fault e) f.shared.outside
   does_so e f r = let d = does f.fault e r.output r.tells in record { turns = d.0; output = r.output; says = d.1; applied = r.applied }

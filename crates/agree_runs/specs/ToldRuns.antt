@@ -14,8 +14,8 @@ use Rattle.host_elements.specs.Forms.{HostForm}
 use Rattle.host_meaning.specs.Shown.{Shown}
 use Rattle.host_step.specs.Worlds.{anyhow_meaning}
 use Rattle.sem_scripts.specs.Kept.{Grows, output_of}
-use Rattle.sem_scripts.specs.ScriptRun.{Ending, Exhausted, Setting}
-use Rattle.agree_modules.specs.Agreement.{MayEnd, ModuleEnding, ended_with, ending_told, output_in, setting_of}
+use Rattle.sem_scripts.specs.ScriptRun.{Ending, Exhausted, Setting, setting_of}
+use Rattle.agree_modules.specs.Agreement.{MayEnd, ModuleEnding, ended_with, ending_told, output_in}
 
 -- what was told, with this fault kept and this output, is how the module may end
 abbrev pub TellsEnding : ModuleForm → JobForm → Source → Outside → ℕ → Option Fault → MachineEnd → List Action → Type 0
@@ -42,18 +42,29 @@ pub record AnyhowRun (m : ProgramForm) (steps : ℕ) (conf : Conf) (state : Host
   pub shown : Shown after-run state'
   pub ran : Ran anyhow_meaning m steps conf state output e conf' state'
 
--- What an end that is told, with this fault kept and after this output, says of how a script ends: the same, or, where steps or memory did not suffice, that it
--- has put out so much at least. A script never traps.
-abbrev pub Says : Option Fault → MachineEnd → List Action → Ending → Type 0
-Says kept (machine.Returned n) output ending = ending ≡ ended_with kept n output
-Says kept machine.Exhausted output ending = ending ≡ Exhausted output
-Says kept machine.OutOfSteps output ending = Grows output (output_of ending)
-Says kept machine.NoMemory output ending = Grows output (output_of ending)
-Says kept (machine.Trapped kind) output ending = ⊥
+-- What is told of a script: how it ends; that it puts something out, where steps or memory did not suffice; or what no script does.
+pub data Told : Type 0 where
+  Ends : (List Action → Ending) → Told
+  PutsOut : Told
+  Never : Told
 
--- The script does so within some number of turns, and the names outside hold what this output makes of them.
-pub record DoesSo (script : Setting → ℕ → Ending) (job : JobForm) (input : Source) (outside : Outside) (e : MachineEnd) (after-run : HostForm) : Type 0 where
+-- what that says of how the script ends, after this output: so; or that it has put out so much at least
+abbrev pub Says : Told → List Action → Ending → Type 0
+Says (Ends how) output ending = ending ≡ how output
+Says PutsOut output ending = Grows output (output_of ending)
+Says Never output ending = ⊥
+
+-- The script does so, in this job, over this input and what the names outside hold, within some number of turns; and they hold then what this output makes of it.
+pub record DoesSo (script : Setting → ℕ → Ending) (job : JobForm) (input : Source) (outside : Outside) (told : Told) (held : Outside) : Type 0 where
   pub turns : ℕ
   pub output : List Action
-  pub says : Says after-run.fault e output (script (setting_of job input outside) turns)
-  pub applied : after-run.shared.outside ≡ outside_after output outside
+  pub says : Says told output (script (setting_of job input outside) turns)
+  pub applied : held ≡ outside_after output outside
+
+-- what a machine's end tells, with this fault kept; a script never traps
+abbrev pub told_by : Option Fault → MachineEnd → Told
+told_by kept (machine.Returned n) = Ends (ended_with kept n)
+told_by kept machine.Exhausted = Ends Exhausted
+told_by kept machine.OutOfSteps = PutsOut
+told_by kept machine.NoMemory = PutsOut
+told_by kept (machine.Trapped kind) = Never

@@ -17,7 +17,7 @@ ghost use Rattle.host_meaning.specs.FormMeaning.{FormState, form_meaning};
 ghost use Rattle.host_meaning.specs.Shown.{Shown};
 ghost use Rattle.sem_scripts.specs.ScriptRun.{Ending, Setting};
 ghost use Rattle.agree_modules.specs.Agreement.{Agreement};
-ghost use Rattle.agree_runs.specs.ToldRuns.{AnyhowRun, DoesSo, ToldRun};
+ghost use Rattle.agree_runs.specs.ToldRuns.{AnyhowRun, DoesSo, ToldRun, told_by};
 
 use world_core::World;
 
@@ -29,21 +29,23 @@ pub fn did<W: World>()
         → (job : JobForm) (input : Source) (outside : Outside)
         → (f : HostForm) → Shown f (state_at_start job input outside)
         → (steps : ℕ) (e : MachineEnd) (c : Conf) (g : HostForm)
-        → Did (form_meaning W.tells) a.program steps a.conf (FormState.Told f) e c (FormState.Told g)
+        → Did (form_meaning W.tells) a.program steps a.conf (FormState.Told f) e c
+        (FormState.Told g)
         → ToldRun m job input outside steps e g }
 {}
 
 /// Where a script and the module agree, the script does what was told.
 pub fn does_so()
     ensures { (script : Setting → ℕ → Ending) (m : ModuleForm) → Agreement script m
-        → (job : JobForm) (input : Source) (outside : Outside) (steps : ℕ) (e : MachineEnd) (f : HostForm)
-        → ToldRun m job input outside steps e f → DoesSo script job input outside e f }
+        → (job : JobForm) (input : Source) (outside : Outside)
+        → (steps : ℕ) (e : MachineEnd) (f : HostForm) → ToldRun m job input outside steps e f
+        → DoesSo script job input outside (told_by f.fault e) f.shared.outside }
 {}
 
 /// Over any world, each call of a run that did not want memory is as it is said of every world.
 pub fn anyhow<W: World>()
-    ensures { (m : ProgramForm) (steps : ℕ) (c : Conf) (f : HostForm) (output : List Action) (e : RunEnd)
-        (c' : Conf) (g : HostForm) (s : HostState) → Shown f s → e ≢ RunEnd.NoMemory
+    ensures { (m : ProgramForm) (steps : ℕ) (c : Conf) (f : HostForm) (output : List Action)
+        (e : RunEnd) (c' : Conf) (g : HostForm) (s : HostState) → Shown f s → e ≢ RunEnd.NoMemory
         → Ran (form_meaning W.tells) m steps c (FormState.Told f) output e c' (FormState.Told g)
         → AnyhowRun m steps c s output e c' g }
 {}

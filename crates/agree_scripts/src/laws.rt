@@ -25,7 +25,8 @@ use mid_sorted::laws::parsed_scripts_are_placed;
 /// whatever the outside is, what one does the other does, faults and too many nested calls included; the module never traps, and its work for each
 /// turn is bounded.
 pub fn scripts_agree()
-    ensures { (tokens : List Spelled) (items : List Item) → IsParsed tokens items → refusal items ≡ None
+    ensures { (tokens : List Spelled) (items : List Item)
+        → IsParsed tokens items → refusal items ≡ None
         → Agreement (resolved_run (resolved items)) (module_of (program_of (resolved items))) }
 {
     same_meaning();
@@ -45,8 +46,10 @@ pub fn rewritten_scripts_agree()
 
 /// The typing rules allow that module, where the texts of the script and the names that it announces take at most 4 GiB.
 pub fn modules_are_typed()
-    ensures { (tokens : List Spelled) (items : List Item) → IsParsed tokens items → refusal items ≡ None
-        → length (memory_of (texts_of (program_of (resolved items)))) ≤ 2 ^ 32 → ModuleOk (module_of (program_of (resolved items))) }
+    ensures { (tokens : List Spelled) (items : List Item)
+        → IsParsed tokens items → refusal items ≡ None
+        → length (memory_of (texts_of (program_of (resolved items)))) ≤ 2 ^ 32
+        → ModuleOk (module_of (program_of (resolved items))) }
 {
     parsed_scripts_are_placed();
     agree_typed::laws::typed();

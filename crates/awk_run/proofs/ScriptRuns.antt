@@ -15,18 +15,18 @@ use Rattle.wasm_model.specs.declared.fault.LinkFault.TheVariants as link
 use Rattle.wasm_model.specs.declared.ends.MachineEnd.{MachineEnd}
 use Rattle.wasm_model.specs.declared.ends.MachineEnd.TheVariants as machine
 use Rattle.module_decoder.proofs.CompleteModule.{one_module}
-use Rattle.agree_runs.specs.ToldRuns as told_runs
+use Rattle.agree_runs.specs.ToldRuns.{DoesSo, Says, told_by}
 use Rattle.agree_runs.proofs.Agreeing.{does_so}
 use Rattle.script_compiler.specs.Compiled.{IsCompiled, Links}
 use Rattle.awk_run.specs.ModuleRun.{Answers, HasRun, IsRunOf, IsUnlinked, RunAnswers, run_end}
-use Rattle.awk_run.specs.ScriptRuns.{DoesSo, IsScriptRun, Says, ScriptAnswers}
+use Rattle.awk_run.specs.ScriptRuns.{IsScriptRun, ScriptAnswers, told_of}
 use Rattle.awk_run.specs.declared.end.Refusal.TheVariants.{Compile, Decode, Invalid, Link}
 use Rattle.awk_run.specs.declared.end.RunEnd.{RunEnd}
 use Rattle.awk_run.specs.declared.end.RunEnd.TheVariants as run
 
 -- what a machine's end says of a script, its answer says
-says : (kept : Option Fault) (t : MachineEnd) (output : List Action) (ending : Ending) → told_runs.Says kept t output ending
-    → Says (run_end kept t) output ending
+says : (kept : Option Fault) (t : MachineEnd) (output : List Action) (ending : Ending) → Says (told_by kept t) output ending
+    → Says (told_of (run_end kept t)) output ending
 says (Some f) (machine.Returned n) output ending h = h
 says None (machine.Returned n) output ending h = h
 says kept machine.Exhausted output ending h = h
@@ -34,17 +34,21 @@ says kept machine.OutOfSteps output ending h = h
 says kept machine.NoMemory output ending h = h
 says kept (machine.Trapped kind) output ending h = absurd h
 
+-- what an answer says of the script and of the world
+abbrev Does : {bytes v : List ℕ} → IsCompiled bytes v → JobForm → State → RunEnd → State → Type 0
+Does c job before e after = DoesSo (resolved_run (resolved c.script)) job (before.readers 0) before.outside (told_of e) after.outside
+
 -- a run of the module, as the script's
 did : (tells : Type 0) (bytes v : List ℕ) (c : IsCompiled bytes v) (job : JobForm) (steps : ℕ) (before after : State) (e : RunEnd)
-    → IsRunOf tells c.whole job steps before e after → tells → DoesSo c.script job before e after
+    → IsRunOf tells c.whole job steps before e after → tells → Does c job before e after
 did tells bytes v c job steps before after e r t =
     let d = does_so (resolved_run (resolved c.script)) c.whole c.agreement job (before.readers 0) before.outside steps r.told r.left (r.over_table t) in
     record {
       turns = d.turns;
       output = d.output;
-      says = subst (λ (x : RunEnd). Says x d.output (run_of c.script job (before.readers 0) before.outside d.turns)) (sym r.answered)
+      says = subst (λ (x : RunEnd). Says (told_of x) d.output (run_of c.script job (before.readers 0) before.outside d.turns)) (sym r.answered)
           (says r.left.fault r.told d.output _ d.says);
-      outside = r.outside ∙ d.applied;
+      applied = r.outside ∙ d.applied;
     }
 
 -- Refusals that a compiled script does not meet.
@@ -66,19 +70,19 @@ module _ (tells : Type 0) (bytes v : List ℕ) (job : JobForm) (steps : ℕ) (be
   same h r = one_module v h c.whole r c.spelled
 
   -- nothing was done yet
-  unbegun : after ≡ before → DoesSo c.script job before run.NoMemory after
+  unbegun : after ≡ before → Does c job before run.NoMemory after
   unbegun e = record {
     turns = 0;
     output = [];
     says = (output_of (run_of c.script job (before.readers 0) before.outside 0), refl);
-    outside = ap (λ (s : State). s.outside) e;
+    applied = ap (λ (s : State). s.outside) e;
   }
 
   module _ (e : RunEnd) (h : HasRun tells v job steps before e after) where
-    as_run : IsRunOf tells h.whole job steps before e after → tells → DoesSo c.script job before e after
+    as_run : IsRunOf tells h.whole job steps before e after → tells → Does c job before e after
     as_run r = did tells bytes v c job steps before after e (subst (λ (w : ModuleForm). IsRunOf tells w job steps before e after) (same h.whole h.read) r)
 
-    script_run : (tells → DoesSo c.script job before e after) → IsScriptRun tells bytes job steps before e after
+    script_run : (tells → Does c job before e after) → IsScriptRun tells bytes job steps before e after
     script_run d = record { compiled = v; is_compiled = c; run = h; does = d }
 
   wanting_run : (h : HasRun tells v job steps before run.NoMemory after) → RunAnswers tells h.whole job steps before run.NoMemory after

@@ -6,7 +6,8 @@ use Rattle.wasm_model.specs.declared.ends.MachineEnd.TheVariants as machine
 use Rattle.wasm_store.specs.declared.trap.TrapKind.TheVariants.{BadHandle}
 use Rattle.sem_scripts.specs.ScriptRun.{Ended, Exhausted, FaultedBy, GoesOn}
 use Rattle.awk_run.specs.ModuleRun.{run_end}
-use Rattle.awk_run.specs.ScriptRuns.{Says}
+use Rattle.agree_runs.specs.ToldRuns.{Says}
+use Rattle.awk_run.specs.ScriptRuns.{told_of}
 use Rattle.awk_run.specs.declared.end.RunEnd.TheVariants as run
 
 -- a status is taken modulo 256; a fault that is kept comes before it
@@ -28,22 +29,22 @@ steps = refl
 
 module _ (output more : List Action) where
   -- a status, a fault, too many nested calls
-  pub ended : Says (run.Ended 3) output (Ended 3 output)
+  pub ended : Says (told_of (run.Ended 3)) output (Ended 3 output)
   ended = refl
 
-  pub faulted : Says (run.Faulted TextLimit) output (FaultedBy TextLimit output)
+  pub faulted : Says (told_of (run.Faulted TextLimit)) output (FaultedBy TextLimit output)
   faulted = refl
 
-  pub exhausted : Says run.Exhausted output (Exhausted output)
+  pub exhausted : Says (told_of run.Exhausted) output (Exhausted output)
   exhausted = refl
 
   -- where steps or memory did not suffice, the script has put out more, however it ends
-  pub goes_on : Says run.OutOfSteps output (GoesOn (output ++ more))
+  pub goes_on : Says (told_of run.OutOfSteps) output (GoesOn (output ++ more))
   goes_on = (more, refl)
 
-  pub wanting : Says run.NoMemory output (Ended 0 (output ++ more))
+  pub wanting : Says (told_of run.NoMemory) output (Ended 0 (output ++ more))
   wanting = (more, refl)
 
   -- it never traps
-  pub never_trapped : Says (run.Trapped BadHandle) output (Ended 0 output) → ⊥
+  pub never_trapped : Says (told_of (run.Trapped BadHandle)) output (Ended 0 output) → ⊥
   never_trapped says = says

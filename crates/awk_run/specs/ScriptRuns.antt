@@ -1,10 +1,10 @@
 -- What running a script answers: why it is not run, or what it did.
 use Rattle.std.specs.Prelude.{◌≡◌, ◌≢◌, ◌⊎◌, ℕ, List}
 use Rattle.sem_primitives.specs.Jobs.{JobForm}
-use Rattle.awk_grammar.specs.Item.{Item}
-use Rattle.world_core.specs.WorldState.{Action, State, after as outside_after}
-use Rattle.sem_scripts.specs.Kept.{Grows, output_of}
-use Rattle.sem_scripts.specs.ScriptRun.{Ending, Ended, FaultedBy, Exhausted, run_of}
+use Rattle.world_core.specs.WorldState.{State}
+use Rattle.sem_scripts.specs.Kinds.{resolved}
+use Rattle.sem_scripts.specs.ScriptRun.{Ended, FaultedBy, Exhausted, resolved_run}
+use Rattle.agree_runs.specs.ToldRuns.{DoesSo, Told, Ends, PutsOut, Never}
 use Rattle.script_code.specs.declared.fault.CompileFault.TheVariants as compile
 use Rattle.script_compiler.specs.Compiled.{IsCompiled}
 use Rattle.script_compiler.specs.Refusals.{IsNotCompiled}
@@ -13,31 +13,22 @@ use Rattle.awk_run.specs.declared.end.Refusal.TheVariants.{Compile}
 use Rattle.awk_run.specs.declared.end.RunEnd.{RunEnd}
 use Rattle.awk_run.specs.declared.end.RunEnd.TheVariants as run
 
--- What an end that is told, after this output, says of how the script ends: the same; or, where its steps or memory did not suffice, that it has put
--- out so much at least. A script never traps.
-abbrev pub Says : RunEnd → List Action → Ending → Type 0
-Says (run.Ended status) output ending = ending ≡ Ended status output
-Says (run.Faulted fault) output ending = ending ≡ FaultedBy fault output
-Says run.Exhausted output ending = ending ≡ Exhausted output
-Says run.OutOfSteps output ending = Grows output (output_of ending)
-Says run.NoMemory output ending = Grows output (output_of ending)
-Says (run.Refused cause) output ending = ⊥
-Says (run.Trapped kind) output ending = ⊥
-
--- The script does so within some number of turns, in this job, over the standard input and what the names hold; and they hold then what this output
--- makes of it.
-pub record DoesSo (script : List Item) (job : JobForm) (before : State) (e : RunEnd) (after : State) : Type 0 where
-  pub turns : ℕ
-  pub output : List Action
-  pub says : Says e output (run_of script job (before.readers 0) before.outside turns)
-  pub outside : after.outside ≡ outside_after output before.outside
+-- what an answer tells of how the script ends; a script never traps
+abbrev pub told_of : RunEnd → Told
+told_of (run.Ended status) = Ends (Ended status)
+told_of (run.Faulted fault) = Ends (FaultedBy fault)
+told_of run.Exhausted = Ends Exhausted
+told_of run.OutOfSteps = PutsOut
+told_of run.NoMemory = PutsOut
+told_of (run.Refused cause) = Never
+told_of (run.Trapped kind) = Never
 
 -- The script is compiled, and its module is run so. In a world that tells what it holds the script does so too.
 pub record IsScriptRun (tells : Type 0) (bytes : List ℕ) (job : JobForm) (steps : ℕ) (before : State) (e : RunEnd) (after : State) : Type 0 where
   pub compiled : List ℕ
   pub is_compiled : IsCompiled bytes compiled
   pub run : HasRun tells compiled job steps before e after
-  pub does : tells → DoesSo is_compiled.script job before e after
+  pub does : tells → DoesSo (resolved_run (resolved is_compiled.script)) job (before.readers 0) before.outside (told_of e) after.outside
 
 -- what an answer says of the script and of the world
 abbrev pub ScriptAnswers : (tells : Type 0) → List ℕ → JobForm → ℕ → State → RunEnd → State → Type 0

@@ -1,4 +1,4 @@
-//! Arithmetic that the module carries out itself. Operands stand in temporaries `temporary` and the one behind it; the result goes to the first.
+//! Arithmetic that the module carries out itself. Operands stand in a temporary and in the one behind it; the result goes to the first.
 ghost use Rattle.std.specs.Prelude.{suc, ◌≤◌, OnOk};
 ghost use Rattle.lower_model.specs.Arithmetic.{calculated, divided, factors_differ, field_checked, out_of_range, ranged, times, two_numbers, unless_broken, unless_zero};
 ghost use Rattle.lower_pieces.specs.Bounds.{most_labels, most_places};

@@ -8,7 +8,6 @@ use Rattle.awk_tokens.specs.Words.{keywords, builtins, left_out_words}
 use Rattle.ere_syntax.specs.Scan.{table, sign_of}
 use Rattle.awk_values.specs.declared.fault.Fault.TheVariants.{Range, Fraction, Inexact, FieldNumber, Format, BadEre, ReadFailed, WriteFailed, NextOutside, BadAssignment}
 use Rattle.world_core.specs.WorldState.{Standard, Named, Open, puts}
-use Rattle.world_core.specs.declared.world.Ending.{Ending}
 use Rattle.world_core.specs.declared.world.Ending.TheVariants.{End, Fails}
 use Rattle.sem_scripts.specs.ScriptState.{spend_all}
 use Rattle.awk_kinds.specs.Kinds.{special_arrays, special_scalars}

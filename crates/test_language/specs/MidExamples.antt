@@ -8,7 +8,6 @@ use Rattle.awk_tokens.specs.Words.{keywords, builtins, left_out_words}
 use Rattle.ere_syntax.specs.Scan.{table, sign_of}
 use Rattle.awk_values.specs.declared.fault.Fault.TheVariants.{Range, Fraction, Inexact, FieldNumber, Format, BadEre, ReadFailed, WriteFailed, NextOutside, BadAssignment}
 use Rattle.world_core.specs.WorldState.{Standard, Named, Open, puts}
-use Rattle.world_core.specs.declared.world.Ending.{Ending}
 use Rattle.world_core.specs.declared.world.Ending.TheVariants.{End, Fails}
 use Rattle.sem_scripts.specs.ScriptState.{spend_all}
 use Rattle.awk_kinds.specs.Kinds.{special_arrays, special_scalars}
@@ -16,7 +15,6 @@ use Rattle.sem_scripts.specs.Kinds.{resolved}
 use Rattle.sem_scripts.specs.Meaning.{asked}
 use Rattle.sem_scripts.specs.Statements.{loop, over_keys}
 use Rattle.sem_scripts.specs.ScriptRun.{first_assigned, records_done, Ended, FaultedBy, GoesOn, setting_of}
-use Rattle.mid_program.specs.Sorted.{sorted, all_sorted, step_sorted, steps_sorted, is_sorted}
 use Rattle.mid_program.specs.MidMeaning.{evaluated, all_evaluated, stepped, all_stepped, mid_called, mid_run_in}
 use Rattle.mid_program.specs.Texts.{texts_in, all_texts, stmt_texts, stmts_texts}
 use Rattle.mid_program.specs.Translation.{code_of, codes_of, key_code, kept_code, argument_codes, truncated_code, applied_code, step_code, steps_code, program_of}

@@ -1,5 +1,5 @@
 -- More of the same runs.
-use Rattle.std.specs.Prelude.{◌≡◌, true, [], ◌∷◌, ◌++◌, codes, refl}
+use Rattle.std.specs.Prelude.{◌≡◌, true, [], ◌∷◌, codes, refl}
 use Rattle.std.specs.Fmt.{digits}
 use Rattle.awk_text.specs.Reading.{numeral_at, sign_at, fraction_at, exponent_at}
 use Rattle.awk_text.specs.Number.{numerator, denominator}
@@ -8,7 +8,6 @@ use Rattle.awk_tokens.specs.Words.{keywords, builtins, left_out_words}
 use Rattle.ere_syntax.specs.Scan.{table, sign_of}
 use Rattle.awk_values.specs.declared.fault.Fault.TheVariants.{Range}
 use Rattle.world_core.specs.WorldState.{Standard, puts}
-use Rattle.world_core.specs.declared.world.Ending.{Ending}
 use Rattle.world_core.specs.declared.world.Ending.TheVariants.{End}
 use Rattle.sem_scripts.specs.ScriptState.{spend_all}
 use Rattle.awk_kinds.specs.Kinds.{special_arrays, special_scalars}

@@ -1,5 +1,5 @@
 -- Runs of modules on the machine over values: of scripts with no turn, with one and with two.
-use Rattle.std.specs.Prelude.{ℕ, true, false, List, [], ◌∷◌, codes, Some, None, refl}
+use Rattle.std.specs.Prelude.{ℕ, true, false, List, [], codes, Some, None, refl}
 use Rattle.std.specs.Fmt.{digits}
 use Rattle.awk_text.specs.Reading.{numeral_at, sign_at, fraction_at, exponent_at}
 use Rattle.awk_text.specs.Number.{numerator, denominator}

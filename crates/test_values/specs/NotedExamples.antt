@@ -1,6 +1,6 @@
 -- Places that runs pass, computed: at each place the number of places from there to the end of its block is put out, by the machine over values and
 -- by the mid code.
-use Rattle.std.specs.Prelude.{◌≡◌, ℕ, ◌+◌, List, [], ◌∷◌, ◌++◌, codes, Some, refl}
+use Rattle.std.specs.Prelude.{◌≡◌, ◌+◌, [], ◌∷◌, ◌++◌, codes, Some, refl}
 use Rattle.std.specs.Fmt.{digits}
 use Rattle.awk_text.specs.Reading.{numeral_at, sign_at, fraction_at, exponent_at}
 use Rattle.awk_text.specs.Number.{numerator, denominator}

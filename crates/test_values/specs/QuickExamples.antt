@@ -1,5 +1,5 @@
 -- Which statements and tests have a quick way, and between which bounds.
-use Rattle.std.specs.Prelude.{◌≡◌, ℕ, ◌+◌, ◌-◌, ◌^◌, Bool, true, false, List, [], ◌∷◌, Some, None, ℤ, pos, negsuc, refl}
+use Rattle.std.specs.Prelude.{◌≡◌, ℕ, ◌+◌, ◌-◌, ◌^◌, Bool, true, false, [], ◌∷◌, Some, None, pos, negsuc, refl}
 use Rattle.awk_values.specs.declared.comparison.CompareOp.TheVariants.{Equal, Less, LessOrEqual}
 use Rattle.sem_primitives.specs.declared.table.Primitive.TheVariants.{Elem, Field, GetSpecial, SetElem}
 use Rattle.mid_program.specs.declared.mid.Arithmetic.{Arithmetic}
