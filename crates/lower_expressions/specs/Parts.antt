@@ -1,6 +1,7 @@
 -- Parts of the definitions, which are added by functions of their own. `after` is the code that comes after; t, w and d are as in the definitions (lower_model,
 -- `Emission`): the temporary that the value goes to, how many arrays of calls are in use, how many labels further out the exit is.
-use Rattle.std.specs.Prelude.{ℕ, zero, suc, ◌+◌, Bool, true, false, List, [], ◌∷◌, length}
+use Rattle.std.specs.Prelude.{ℕ, zero, suc, ◌+◌, Bool, true, false, List, [], ◌∷◌, length, ℤ}
+use Rattle.std.specs.Int.{w64, cast_unsigned}
 use Rattle.sem_primitives.specs.Constants.{flag_number}
 use Rattle.sem_primitives.specs.Table.{arguments_of, answer_of, can_fault}
 use Rattle.sem_primitives.specs.declared.sorts.Argument.{Argument}
@@ -15,7 +16,7 @@ use Rattle.wasm_types.specs.declared.types.ValType.TheVariants.{I64}
 use Rattle.wasm_types.specs.declared.instr.ITestOp.TheVariants.{Eqz}
 use Rattle.mid_program.specs.MidMeaning.{three_values}
 use Rattle.wasm_types.specs.Syntax.{Instructions, Done}
-use Rattle.wasm_types.specs.declared.instr.Simple.TheVariants.{Br, Call as CallOf, GlobalGet, GlobalSet, I32Const, LocalGet, LocalTee, Test}
+use Rattle.wasm_types.specs.declared.instr.Simple.TheVariants.{Br, Call as CallOf, GlobalGet, GlobalSet, I32Const, I64Const, LocalGet, LocalTee, Test}
 use Rattle.mid_program.specs.Mid as plain
 use Rattle.mid_program.specs.declared.mid.Operation.{Operation}
 use Rattle.mid_program.specs.declared.mid.Operation.TheVariants.{Host}
@@ -24,6 +25,10 @@ use Rattle.lower_model.specs.Places.{Bases, array_local, made_in}
 use Rattle.lower_model.specs.Small.{ask, ask_row, does, h, kept, kept_code, kept_value, minus_one, moved_out, n, number_is, to_value, converted, when}
 use Rattle.lower_model.specs.Emission.{Layout, all_pushed, emitted, text_kept, text_let_go, assigned, function_number, global_handle, global_number, listed_asked, one_given, pending_assigned, performed, text_dropped}
 use Rattle.host_imports.specs.declared.import.Import.TheVariants.{Arg, Drop, FreeArray}
+
+-- a constant, and the value that a row has of it
+abbrev pub constant_asked : ℤ → Primitive → Instructions → Instructions
+constant_asked z p after = does (I64Const (cast_unsigned w64 z)) (ask_row p after)
 
 -- the text beside an unboxed name is dropped
 abbrev pub handle_dropped : Layout → ℕ → Instructions → Instructions
