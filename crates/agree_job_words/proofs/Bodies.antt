@@ -185,10 +185,20 @@ module _ (tells : Bool) (y : Layout) (sizes : ℕ → Option ℕ) (whole : Progr
         let e1 : s ≡ added_code x = (added_is s x h).0 in
         let a1 = let_sorted c x.added _ (subst (λ z. sorted c [] z ≡ true) e1 o) in
         let a2 = (or_none (names_argv x.added) false (subst (λ z. names_argv z ≡ false) e1 q)).0 in
-        emitted_spares tells y sizes c sized same (name_spares (to_number_spares tells y sizes added (form_of [] x.added) zero d) x.name 1 d) false [] [] x.added zero zero d none_kept a1 a2
+        by a1 a2 (field_at x.added)
       where
+        taken : So e (sum_taken y (sum_op x.op) x.target zero d k)
+        taken = sum_spares r (sum_op x.op) x.target zero d
+
         added : So e (does (LocalGet (number_local b 1)) (does (LocalGet (number_local b zero)) (sum_taken y (sum_op x.op) x.target zero d k)))
-        added = record { so = λ A. (sum_spares r (sum_op x.op) x.target zero d).so (true ∷ (true ∷ A)) }
+        added = record { so = λ A. taken.so (true ∷ (true ∷ A)) }
+
+        field : (z : ℤ) → So e (does (LocalGet (number_local b zero)) (field_numbered y z (sum_taken y (sum_op x.op) x.target zero d k)))
+        field z = record { so = λ A. (refl, (refl, taken.so (true ∷ (true ∷ A)))) }
+
+        by : sorted c [] x.added ≡ true → names_argv x.added ≡ false → (o : Option ℤ) → So e (both_asked y o x d (sum_taken y (sum_op x.op) x.target zero d k))
+        by a1 a2 (Some z) = name_spares (field z) x.name zero d
+        by a1 a2 None = emitted_spares tells y sizes c sized same (name_spares (to_number_spares tells y sizes added (form_of [] x.added) zero d) x.name 1 d) false [] [] x.added zero zero d none_kept a1 a2
 
   module _ {e : Bool} {k : Instructions} (r : So e k) where
     quick_spares : (o : Option Sum) (s : Code) (d : ℕ) → sorted c [] s ≡ true → names_argv s ≡ false → So e (quickly_dropped y o s d k)

@@ -152,8 +152,13 @@ module _ (y : Layout) (asks : Bool) (most : ℕ) where
   module _ {k : Instructions} {m : List Instructions} where
     plainly_nops : (o : Option Update) (e : Code) (d : ℕ) → update_in e ≡ o → (asks ≡ true → Few most zero e) → Nops l k m → Nops l (plainly_dropped y o e d k) m
     plainly_nops None e d h lo r = barely_nops (tally_in e) e d refl lo r
-    plainly_nops (Some q) e d h lo r =
-        emitted_nops y asks most false [] [] q.added zero zero d (λ z. added_few most e q h (lo z)) (name_nops q.name 1 d (to_number_nops b (form_of [] q.added) zero d (plain _ refl (plain _ refl (sum_nops (sum_op q.op) q.target zero d r)))))
+    plainly_nops (Some q) e d h lo r = by (field_at q.added)
+      where
+        by : (o : Option ℤ) → Nops l (both_asked y o q d (sum_taken y (sum_op q.op) q.target zero d k)) m
+        by (Some z) = name_nops q.name zero d (plain _ refl (plain _ refl (plain _ refl (plain _ refl (sum_nops (sum_op q.op) q.target zero d r)))))
+        by None =
+            emitted_nops y asks most false [] [] q.added zero zero d (λ z. added_few most e q h (lo z))
+            (name_nops q.name 1 d (to_number_nops b (form_of [] q.added) zero d (plain _ refl (plain _ refl (sum_nops (sum_op q.op) q.target zero d r)))))
 
     quick_nops : (o : Option Sum) (e : Code) (d : ℕ) → (asks ≡ true → Few most zero e) → Nops l k m → Nops l (quickly_dropped y o e d k) m
     quick_nops None e d lo r = plainly_nops (update_in e) e d refl lo r

@@ -220,8 +220,17 @@ module _ (y : Layout) (names : length y.names ≤ 2 ^ 24) (memory : length (memo
   module _ {k : Instructions} where
     plainly_fits : (o : Option Update) (e : Code) (d : ℕ) → update_in e ≡ o → Small e → Fits k → Fits (plainly_dropped y o e d k)
     plainly_fits None e d h s r = barely_fits (tally_in e) e d refl s r
-    plainly_fits (Some q) e d h s r =
-        emitted_fits y names memory false [] [] q.added zero zero d (subst Small (added_is e q h).0 s).0 (name_fits q.name 1 d (to_number_fits b (form_of [] q.added) zero d (plain _ refl (plain _ refl (taking_fits (sum_op q.op) q.target zero d r)))))
+    plainly_fits (Some q) e d h s r = by (field_at q.added) (field_at_small q.added added)
+      where
+        added : Small q.added
+        added = (subst Small (added_is e q h).0 s).0
+
+        by : (o : Option ℤ) → FieldSmall o → Fits (both_asked y o q d (sum_taken y (sum_op q.op) q.target zero d k))
+        by (Some z) f =
+            name_fits q.name zero d (plain _ refl (plain (I64Const (cast_unsigned w64 z)) (long_fits (cast_unsigned w64 z) (number_small z f)) (plain _ refl (plain _ refl (taking_fits (sum_op q.op) q.target zero d r)))))
+        by None f =
+            emitted_fits y names memory false [] [] q.added zero zero d added
+            (name_fits q.name 1 d (to_number_fits b (form_of [] q.added) zero d (plain _ refl (plain _ refl (taking_fits (sum_op q.op) q.target zero d r)))))
 
     quick_fits : (o : Option Sum) (e : Code) (d : ℕ) → sum_in e ≡ o → Small e → Fits k → Fits (quickly_dropped y o e d k)
     quick_fits None e d q s r = plainly_fits (update_in e) e d refl s r

@@ -37,7 +37,7 @@ use Rattle.lower_model.specs.Places.{Bases, room, arrays_in}
 use Rattle.lower_model.specs.Quick.{Update, is_sum, sum_op, name_in, update_of, kept_update, set_update, let_update, update_in}
 use Rattle.lower_model.specs.Small.{does, ask_row, fail_if}
 use Rattle.lower_model.specs.Small
-use Rattle.lower_model.specs.Statements.{name_number, name_numbered, field_numbered, sum_taken, updated_by, updated}
+use Rattle.lower_model.specs.Statements.{name_number, name_numbered, field_numbered, sum_taken, both_asked, updated}
 use Rattle.lower_model.proofs.Watch.{Watch}
 use Rattle.lower_model.proofs.Runs.{then_goes, goes_to, goes_from, same_goes, by_steps, first, weaker, then_on, then_settled, there, faulted, stays}
 use Rattle.lower_model.proofs.Locals.{Locals, Number as NumberAt, with_at, laid}
@@ -185,7 +185,7 @@ module _ (p : Program) (deepest : Watch) (ks : List Kind) (F : List Frame) (b : 
       (added_ok p deepest ks F b M n q.op q.target m z u d k K l2 τ so parts.kind (omega (arith, lt)) (fit_less p deepest ks F 1 u 0 l2 τ (a2.keeps.hands 1 (λ e. omega (arith, e)) ∙ a1.holds.0) a2.fit) a2.holds.0)))))
 
   plainly_updated_ok : (q : Update) → ExprOk p deepest ks F b M n q.added → (lo : Bool) (u d bk ct : ℕ) (k : Instructions) (K : List Label) (l : Locals) (σ : State) → sorted (context p deepest ks F b M n) [] (added_code q) ≡ true → is_sum q.op ≡ true → room (added_code q) ≤ b.temporaries → arrays_in (added_code q) ≤ b.arrays → Starts p deepest ks F b M n u K l σ →
-      Reached p deepest ks F b M (work_of q.added + 70) σ.turns (at ks [] K (laid b l) F (updated_by (layout p deepest ks F b M n) None q d k) (beside_state p deepest ks F σ)) (StepDone p deepest ks F b M n lo u bk ct k K l) (Away p deepest ks F b d K) (plain_meant p deepest ks F b M n (Eval (added_code q)) σ)
+      Reached p deepest ks F b M (work_of q.added + 70) σ.turns (at ks [] K (laid b l) F (both_asked (layout p deepest ks F b M n) None q d (sum_taken (layout p deepest ks F b M n) (sum_op q.op) q.target zero d k)) (beside_state p deepest ks F σ)) (StepDone p deepest ks F b M n lo u bk ct k K l) (Away p deepest ks F b d K) (plain_meant p deepest ks F b M n (Eval (added_code q)) σ)
   unfolding stepped evaluated all_evaluated
   plainly_updated_ok q ok lo u d bk ct k K l σ so sm rm ar s =
       let mach = machine p deepest ks F in
@@ -246,7 +246,7 @@ module _ (p : Program) (deepest : Watch) (ks : List Kind) (F : List Frame) (b : 
   with_field q z = with_added q (field_code z)
 
   field_updated_ok : (q : Update) (z : ℤ) → is_field_number z ≡ true → (lo : Bool) (u d bk ct : ℕ) (k : Instructions) (K : List Label) (l : Locals) (σ : State) → sorted (context p deepest ks F b M n) [] (added_code (with_field q z)) ≡ true → is_sum q.op ≡ true → room (added_code (with_field q z)) ≤ b.temporaries → Starts p deepest ks F b M n u K l σ →
-      Reached p deepest ks F b M (work_of (field_code z) + 70) σ.turns (at ks [] K (laid b l) F (updated_by (layout p deepest ks F b M n) (Some z) (with_field q z) d k) (beside_state p deepest ks F σ)) (StepDone p deepest ks F b M n lo u bk ct k K l) (Away p deepest ks F b d K) (plain_meant p deepest ks F b M n (Eval (added_code (with_field q z))) σ)
+      Reached p deepest ks F b M (work_of (field_code z) + 70) σ.turns (at ks [] K (laid b l) F (both_asked (layout p deepest ks F b M n) (Some z) (with_field q z) d (sum_taken (layout p deepest ks F b M n) (sum_op q.op) q.target zero d k)) (beside_state p deepest ks F σ)) (StepDone p deepest ks F b M n lo u bk ct k K l) (Away p deepest ks F b d K) (plain_meant p deepest ks F b M n (Eval (added_code (with_field q z))) σ)
   unfolding stepped evaluated all_evaluated
   field_updated_ok q z is lo u d bk ct k K l σ so sm rm s =
       let mach = machine p deepest ks F in
@@ -287,10 +287,10 @@ module _ (p : Program) (deepest : Watch) (ks : List Kind) (F : List Frame) (b : 
       Reached p deepest ks F b M (work_of q.added + 70) σ.turns (at ks [] K (laid b l) F (updated (layout p deepest ks F b M n) q d k) (beside_state p deepest ks F σ)) (StepDone p deepest ks F b M n lo u bk ct k K l) (Away p deepest ks F b d K) (plain_meant p deepest ks F b M n (Eval (added_code q)) σ)
   updated_ok q ok lo u d bk ct k K l σ so sm rm ar s = by (field_at q.added) refl
     where
-      by : (o : Option ℤ) → field_at q.added ≡ o → Reached p deepest ks F b M (work_of q.added + 70) σ.turns (at ks [] K (laid b l) F (updated_by (layout p deepest ks F b M n) o q d k) (beside_state p deepest ks F σ)) (StepDone p deepest ks F b M n lo u bk ct k K l) (Away p deepest ks F b d K) (plain_meant p deepest ks F b M n (Eval (added_code q)) σ)
+      by : (o : Option ℤ) → field_at q.added ≡ o → Reached p deepest ks F b M (work_of q.added + 70) σ.turns (at ks [] K (laid b l) F (both_asked (layout p deepest ks F b M n) o q d (sum_taken (layout p deepest ks F b M n) (sum_op q.op) q.target zero d k)) (beside_state p deepest ks F σ)) (StepDone p deepest ks F b M n lo u bk ct k K l) (Away p deepest ks F b d K) (plain_meant p deepest ks F b M n (Eval (added_code q)) σ)
       by None e = plainly_updated_ok q ok lo u d bk ct k K l σ so sm rm ar s
       by (Some z) e =
           let r = field_at_is q.added z e in
           subst (λ (a : Code). sorted (context p deepest ks F b M n) [] (added_code (with_added q a)) ≡ true → room (added_code (with_added q a)) ≤ b.temporaries →
-              Reached p deepest ks F b M (work_of a + 70) σ.turns (at ks [] K (laid b l) F (updated_by (layout p deepest ks F b M n) (Some z) (with_added q a) d k) (beside_state p deepest ks F σ)) (StepDone p deepest ks F b M n lo u bk ct k K l) (Away p deepest ks F b d K) (plain_meant p deepest ks F b M n (Eval (added_code (with_added q a))) σ)) (sym r.0)
+              Reached p deepest ks F b M (work_of a + 70) σ.turns (at ks [] K (laid b l) F (both_asked (layout p deepest ks F b M n) (Some z) (with_added q a) d (sum_taken (layout p deepest ks F b M n) (sum_op q.op) q.target zero d k)) (beside_state p deepest ks F σ)) (StepDone p deepest ks F b M n lo u bk ct k K l) (Away p deepest ks F b d K) (plain_meant p deepest ks F b M n (Eval (added_code (with_added q a))) σ)) (sym r.0)
           (λ so1 rm1. field_updated_ok q z r.1 lo u d bk ct k K l σ so1 sm rm1 s) so rm

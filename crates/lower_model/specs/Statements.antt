@@ -122,16 +122,16 @@ module _ (y : Layout) where
   abbrev pub field_numbered : ℤ → Instructions → Instructions
   field_numbered z k = does (I64Const (cast_unsigned w64 z)) (ask_row row.Field (ask_row row.ToNum k))
 
-  -- what is added stands in temporary 0, the name's number in the next one; a field that a constant gives needs neither
-  abbrev pub updated_by : Option ℤ → Update → ℕ → Instructions → Instructions
-  updated_by (Some z) q d k =
-      name_numbered q.name zero d (does (LocalGet (n b zero)) (field_numbered z (sum_taken (sum_op q.op) q.target zero d k)))
-  updated_by None q d k =
+  -- The number of a name and that of what is added, on the stack. What is added stands in temporary 0, the name's number in the next one; a field that
+  -- a constant gives needs no temporary.
+  abbrev pub both_asked : Option ℤ → Update → ℕ → Instructions → Instructions
+  both_asked (Some z) q d k = name_numbered q.name zero d (does (LocalGet (n b zero)) (field_numbered z k))
+  both_asked None q d k =
       emitted y false [] [] q.added zero zero d (name_numbered q.name 1 d (to_number b (form_of [] q.added) zero d
-      (does (LocalGet (n b 1)) (does (LocalGet (n b zero)) (sum_taken (sum_op q.op) q.target zero d k)))))
+      (does (LocalGet (n b 1)) (does (LocalGet (n b zero)) k))))
 
   abbrev pub updated : Update → ℕ → Instructions → Instructions
-  updated q d k = updated_by (field_at q.added) q d k
+  updated q d k = both_asked (field_at q.added) q d (sum_taken (sum_op q.op) q.target zero d k)
 
   -- Counters in arrays: the key stands in temporary 0, what is added in the next one, and the element's number comes to the one after.
 
