@@ -550,9 +550,9 @@ module _ (tells : Bool) (y : Layout) (sizes : ℕ → Option ℕ) where
     field_spares_or None t q = q
 
     immediate_spares_or : {other : Instructions} (c : CompareOp) (f : Form) (o : Option Immediate) (t d : ℕ) → Always e other → Always e (immediate_or y c f o t d k other)
-    immediate_spares_or c f (Some (FieldOf z)) t d q = to_value_spares (record { so = λ A. (refl, (refl, (refl, r.so A))) }) f t
-    immediate_spares_or c f (Some (TextOf i)) t d q = to_value_spares (record { so = λ A. (refl, (refl, (refl, r.so A))) }) f t
-    immediate_spares_or c f (Some (NumberOf z)) t d q = to_value_spares (record { so = λ A. (refl, (refl, (refl, r.so A))) }) f t
+    immediate_spares_or c f (Some (FieldOf z)) t d q = to_value_spares (record { so = λ A. (refl, (refl, r.so A)) }) f t
+    immediate_spares_or c f (Some (TextOf i)) t d q = to_value_spares (record { so = λ A. (refl, (refl, r.so A)) }) f t
+    immediate_spares_or c f (Some (NumberOf z)) t d q = to_value_spares (record { so = λ A. (refl, (refl, r.so A)) }) f t
     immediate_spares_or c f None t d q = q
 
     bound_read_spares : (v z : Bool) (f : Form) (s t : ℕ) → Always e (bound_read y v z f s t k)

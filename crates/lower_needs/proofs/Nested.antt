@@ -1,6 +1,7 @@
 -- Code is nested as deep as its labels are counted.
 use Rattle.std.proofs.Common.{◌≡◌, ◌≤◌, ◌+◌, ℕ, zero, suc, Bool, true, false, List, [], ◌∷◌, length, max, refl, ap, arith}
 use Rattle.std.specs.Prelude.{if◌then◌else◌, Option, Some, None, is_some, ℤ}
+use Rattle.awk_values.specs.declared.comparison.CompareOp.{CompareOp}
 use Rattle.sem_primitives.specs.declared.sorts.Answer.TheVariants as answer
 use Rattle.sem_primitives.specs.declared.sorts.Sort.TheVariants as sort
 use Rattle.sem_primitives.specs.declared.table.Primitive.{Primitive}
@@ -24,9 +25,9 @@ use Rattle.lower_model.specs.Functions.{layout_of, main_bases, main_callee, rout
 use Rattle.lower_model.specs.Places.{Bases}
 use Rattle.lower_model.specs.Quick.{Within, test_within, joined, all_unsure, Source, source_in, Sum, sum_names, sum_op, sum_in, sum_of, two_sum, set_sum, kept_sum, update_sum, old_source, stored_name, new_sum, let_sum, Update, update_in, Tally, tally_in, Remainder, remainder_in, remainder_names, Counted, counted_in, Pair, pair_names, pair_in, step_jumps, is_nothing}
 use Rattle.lower_model.specs.Small.{does, either}
-use Rattle.lower_model.specs.Statements.{name_read, name_numbered, sum_kept, sum_taken, element_numbered, element_given, remainder_dropped, barely_dropped, plainly_dropped, quickly_dropped, left_unless_counted, left_unless_pair, left_unless, again, all_emptied, arrays_emptied, before_parts, block, iterator_left, iterators_emptied, key_stored, left_by, names_declared, names_made, part_done, record_done, records_read, routines_declared, step_emitted, steps_emitted, temporaries_emptied}
+use Rattle.lower_model.specs.Statements.{name_read, name_numbered, sum_kept, sum_taken, both_asked, element_numbered, element_given, remainder_dropped, barely_dropped, plainly_dropped, quickly_dropped, left_unless_counted, left_unless_pair, left_unless, again, all_emptied, arrays_emptied, before_parts, block, iterator_left, iterators_emptied, key_stored, left_by, names_declared, names_made, part_done, record_done, records_read, routines_declared, step_emitted, steps_emitted, temporaries_emptied}
 use Rattle.lower_model.proofs.Tallies.{Shape, Updating, Following, Leading, tally_code, tally_is}
-use Rattle.lower_model.proofs.Updating.{added_is}
+use Rattle.lower_model.proofs.Updating.{added_code, added_is}
 use Rattle.lower_needs.specs.Labels.{choice_labels, labels_among, labels_in, more_if, step_labels, steps_labels}
 use Rattle.lower_needs.proofs.Depths.{Deep, array_deep, asked_deep, converts_deep, dropped_deep, emitted_deep, emits_deep, kept_code_deep, kept_deep, kept_number_deep, left_deep, pushes_deep, tested_deep, to_number_deep, to_value_deep, truth_deep}
 
