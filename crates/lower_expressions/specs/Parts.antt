@@ -1,7 +1,6 @@
 -- Parts of the definitions, which are added by functions of their own. `after` is the code that comes after; t, w and d are as in the definitions (lower_model,
 -- `Emission`): the temporary that the value goes to, how many arrays of calls are in use, how many labels further out the exit is.
-use Rattle.std.specs.Prelude.{ℕ, zero, suc, ◌+◌, Bool, true, false, List, [], ◌∷◌, length, ℤ}
-use Rattle.std.specs.Int.{w64, cast_unsigned}
+use Rattle.std.specs.Prelude.{ℕ, zero, suc, ◌+◌, Bool, true, false, List, [], ◌∷◌, length}
 use Rattle.sem_primitives.specs.Constants.{flag_number}
 use Rattle.sem_primitives.specs.Table.{arguments_of, answer_of, can_fault}
 use Rattle.sem_primitives.specs.declared.sorts.Argument.{Argument}
@@ -27,8 +26,8 @@ use Rattle.lower_model.specs.Emission.{Layout, all_pushed, emitted, text_kept, t
 use Rattle.host_imports.specs.declared.import.Import.TheVariants.{Arg, Drop, FreeArray}
 
 -- a constant, and the value that a row has of it
-abbrev pub constant_asked : ℤ → Primitive → Instructions → Instructions
-constant_asked z p after = does (I64Const (cast_unsigned w64 z)) (ask_row p after)
+abbrev pub constant_asked : (bits : ℕ) → Primitive → Instructions → Instructions
+constant_asked bits p after = does (I64Const bits) (ask_row p after)
 
 -- the text beside an unboxed name is dropped
 abbrev pub handle_dropped : Layout → ℕ → Instructions → Instructions

@@ -235,8 +235,7 @@ fn comparison(
     let first = expression(y, kept, out, false, left, at)?;
     let t = at.temporary;
     if let Some(operand) = immediate_in(is_value(first), right) {
-        immediately_compared(y, out, op, first, operand, t, at.exit)?;
-        return Ok(Form::Answered(Answer::Truth));
+        return immediately_compared(y, out, op, first, operand, t, at.exit);
     }
     let second = expression(y, kept, out, false, right, next(at))?;
     compared(y.alloc, y.bases, out, op, first, second, t, at.exit)?;

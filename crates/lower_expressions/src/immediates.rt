@@ -1,6 +1,8 @@
 //! Operands that are immediate: what they give is put on the stack where it is asked for.
 ghost use Rattle.std.specs.Option.{option_map};
-ghost use Rattle.std.specs.Prelude.{◌≡◌, ◌≤◌, OnOk, suc};
+ghost use Rattle.std.specs.Prelude.{◌≡◌, ◌≤◌, IfOk, OnOk, suc};
+ghost use Rattle.sem_primitives.specs.declared.sorts.Answer.TheVariants.{Truth};
+ghost use Rattle.mid_program.specs.Mid.{Answered};
 ghost use Rattle.mid_program.specs.ViewCode.{view, views};
 ghost use Rattle.lower_model.specs.Emission.{immediate_field, immediate_in, immediate_pushed, immediately_compared};
 ghost use Rattle.lower_pieces.specs.Bounds.{most_places};
@@ -16,7 +18,7 @@ use crate::places::text_pushed;
 use awk_values::CompareOp;
 use lower_pieces::{Form, ask_row, comparison_number, does, kept_code, moved_out, to_value};
 use mid_program::Code;
-use sem_primitives::Primitive;
+use sem_primitives::{Answer, Primitive};
 use std::alloc::AllocError;
 use wasm_types::{Instr, Simple};
 
@@ -58,16 +60,15 @@ pub(crate) fn immediate_in(valued: bool, code: &Code) -> Option<Immediate>
     }
 }
 
-/// Adds a constant, and asks for the value that a row has of it.
+/// Adds a constant, by its bits, and asks for the value that a row has of it.
 fn constant_asked(
     out: &mut Vec<Instr>,
-    number: i64,
+    bits: u64,
     primitive: Primitive,
 ) -> Result<(), AllocError>
-    ensures { OnOk result
-        (Emits out.old.items out.new.items (constant_asked number primitive)) }
+    ensures { OnOk result (Emits out.old.items out.new.items (constant_asked bits primitive)) }
 {
-    does(out, Simple::I64Const(number.cast_unsigned()))?;
+    does(out, Simple::I64Const(bits))?;
     ask_row(out, primitive)
 }
 
@@ -82,12 +83,12 @@ fn immediate_pushed(
         (immediate_pushed (view_layout y.now) (view_immediate operand))) }
 {
     match operand {
-        Immediate::Field(number) => constant_asked(out, number, Primitive::Field),
+        Immediate::Field(number) => constant_asked(out, number.cast_unsigned(), Primitive::Field),
         Immediate::Text(text) => {
             text_pushed(y, out, text)?;
             ask_row(out, Primitive::Lit)
         }
-        Immediate::Number(number) => constant_asked(out, number, Primitive::Num),
+        Immediate::Number(number) => constant_asked(out, number.cast_unsigned(), Primitive::Num),
     }
 }
 
@@ -100,10 +101,11 @@ pub(crate) fn immediately_compared(
     operand: Immediate,
     t: u32,
     exit: u32,
-) -> Result<(), AllocError>
+) -> Result<Form, AllocError>
     requires places { suc t ≤ most_places }
     requires operand { ImmediateFits (view_layout y.now) (view_immediate operand) }
-    ensures { OnOk result (Emits out.old.items out.new.items (immediately_compared (view_layout
+    ensures form { IfOk result (λ form. view_form form ≡ Answered Truth) }
+    ensures emits { OnOk result (Emits out.old.items out.new.items (immediately_compared (view_layout
         y.now) op (view_form form) (view_immediate operand) t exit)) }
 {
     to_value(y.alloc, y.bases, out, form, t)?;
@@ -111,5 +113,6 @@ pub(crate) fn immediately_compared(
     moved_out(out, y.bases.handle(t))?;
     immediate_pushed(y, out, operand)?;
     ask_row(out, Primitive::Compare)?;
-    kept_code(y.bases, out, true, t, exit)
+    kept_code(y.bases, out, true, t, exit)?;
+    Ok(Form::Answered(Answer::Truth))
 }

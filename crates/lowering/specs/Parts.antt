@@ -1,6 +1,6 @@
 -- Parts of the definitions, which are added by functions of their own. `after` is the code that comes after; t, w and d are as in the definitions (lower_model,
 -- `Emission`): the temporary that the value goes to, how many arrays of calls are in use, how many labels further out the exit is; u counts iterators.
-use Rattle.std.specs.Prelude.{ℕ, zero, suc, ◌+◌, Bool, true, false, if◌then◌else◌, List, [], ◌∷◌, length, Some, is_some, ℤ, pos, ◌^◌}
+use Rattle.std.specs.Prelude.{ℕ, zero, suc, ◌+◌, Bool, true, false, if◌then◌else◌, List, [], ◌∷◌, length, Some, is_some, pos, ◌^◌}
 use Rattle.awk_values.specs.declared.fault.Fault.TheVariants.{NextOutside}
 use Rattle.sem_primitives.specs.declared.table.Primitive.TheVariants as row
 use Rattle.wasm_types.specs.Syntax.{Instructions, Done}
@@ -15,7 +15,7 @@ use Rattle.lower_model.specs.Emission.{Layout, array_pushed, emitted, pending_as
 use Rattle.lower_model.specs.Quick.{Counted, Pair, Remainder, Sum, all_unsure, sum_names, sum_op, Tally, Within, is_nothing, pair_in, step_jumps, test_within}
 use Rattle.lower_model.specs.Places.{Bases, answer_local, handle_global, iterator_local, status_global, way_global}
 use Rattle.lower_model.specs.Small.{ask, ask_row, does, either, end_code, fail_if, h, kept_code, moved_out, n, number_is, text_beside, to_number, to_value, when}
-use Rattle.lower_model.specs.Statements.{again, all_emptied, before_parts, block, field_numbered, first_part, goes_on, iterator_left, key_stored, last_part, left_by, left_unless, left_unless_counted, left_unless_pair, name_numbered, name_read, names_declared, parameters_dropped, part_done, record_done, records_read, routines_declared, step_emitted, steps_emitted, sum_kept, element_given, remainder_dropped, summed, summed_anyway, swept, way_exit, way_next}
+use Rattle.lower_model.specs.Statements.{again, all_emptied, before_parts, block, first_part, goes_on, iterator_left, key_stored, last_part, left_by, left_unless, left_unless_counted, left_unless_pair, name_numbered, name_read, names_declared, parameters_dropped, part_done, record_done, records_read, routines_declared, step_emitted, steps_emitted, sum_kept, element_given, remainder_dropped, summed, summed_anyway, swept, way_exit, way_next}
 use Rattle.host_imports.specs.declared.import.Import.TheVariants.{Drop}
 use Rattle.lowering.specs.declared.around.Around.{Around}
 
@@ -75,9 +75,10 @@ abbrev pub number_asked : Layout → ℕ → Form → ℕ → Instructions → I
 number_asked layout i f d after =
     name_numbered layout i 1 d (to_number layout.bases f zero d (does (LocalGet (n layout.bases 1)) (does (LocalGet (n layout.bases zero)) after)))
 
--- the numbers of a name and of a field that a constant gives, on the stack
-abbrev pub field_asked : Layout → ℕ → ℤ → ℕ → Instructions → Instructions
-field_asked layout i z d after = name_numbered layout i zero d (does (LocalGet (n layout.bases zero)) (field_numbered layout z after))
+-- the numbers of a name and of the field that a constant gives, by its bits, on the stack
+abbrev pub field_asked : Layout → ℕ → (bits : ℕ) → ℕ → Instructions → Instructions
+field_asked layout i bits d after =
+    name_numbered layout i zero d (does (LocalGet (n layout.bases zero)) (does (I64Const bits) (ask_row row.Field (ask_row row.ToNum after))))
 
 -- a counter's key, and what is added
 abbrev pub tally_evaluated : Layout → Tally → ℕ → Instructions → Instructions

@@ -247,24 +247,21 @@ fn number_asked(
     does_all(out, &all)
 }
 
-/// Asks for the number of a name, and for that of a field, which a constant gives; both are put on the stack.
+/// Asks for the number of a name, and for that of the field that a constant gives, by its bits; both are put on the stack.
 fn field_asked(
     y: &FunctionLayout<'_>,
     out: &mut Vec<Instr>,
     name: usize,
-    number: i64,
+    bits: u64,
     exit: u32,
 ) -> Result<(), AllocError>
     requires name { name ≤ most_places }
     requires labels { suc (suc exit) ≤ most_labels }
     ensures { OnOk result
-        (Emits out.old.items out.new.items (field_asked (view_layout y.now) name number exit)) }
+        (Emits out.old.items out.new.items (field_asked (view_layout y.now) name bits exit)) }
 {
     name_numbered(y, out, name, 0, exit)?;
-    let all = [
-        Simple::LocalGet(y.bases.number(0)),
-        Simple::I64Const(number.cast_unsigned()),
-    ];
+    let all = [Simple::LocalGet(y.bases.number(0)), Simple::I64Const(bits)];
     does_all(out, &all)?;
     ask_row(out, Primitive::Field)?;
     ask_row(out, Primitive::ToNum)
@@ -301,7 +298,7 @@ fn both_asked(
         (field_at (view update.added.now)) (view_update update.entry) exit)) }
 {
     match field_at(update.added) {
-        Some(number) => field_asked(y, out, update.name, number, exit),
+        Some(number) => field_asked(y, out, update.name, number.cast_unsigned(), exit),
         None => added_asked(y, out, update, exit),
     }
 }

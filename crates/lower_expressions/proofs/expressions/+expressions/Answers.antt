@@ -516,11 +516,11 @@ comparison-immediately_compared-requires-clause-operand t c =
     c.requires.1.1
 
 pub comparison-returns-in-Some-clause-emits : goal.comparison-returns-in-Some-clause-emits
-comparison-returns-in-Some-clause-emits t c = λ v. immediate_emitted (view_layout c.args.y.now) v c.args.kept.now.forms c.args.kept.now.temporaries c.args.op
+comparison-returns-in-Some-clause-emits t c = λ v. on_ok_weaker c.immediately_compared.result (immediate_emitted (view_layout c.args.y.now) v c.args.kept.now.forms c.args.kept.now.temporaries c.args.op
     (view c.args.left.now) (view c.args.right.now) (view_form c.in_ok-first.first) (view_immediate c.in-Some.operand) c.args.at.temporary
     c.args.at.arrays c.args.at.exit c.args.out.now.items c.expression.new.out.items c.immediately_compared.new.out.items c.in_ok-first.ensures.form
     (ap (λ v. immediate_in v (view c.args.right.now)) (sym c.is_value.ensures) ∙ sym c.immediate_in.ensures ∙ ap (option_map view_immediate) c.in-Some.is)
-    c.in_ok-first.ensures.emits c.in_ok-immediately_compared.ensures
+    c.in_ok-first.ensures.emits) c.immediately_compared.ensures.emits
 
 pub comparison-returns-clause-emits : goal.comparison-returns-clause-emits
 comparison-returns-clause-emits t c = λ v. comparison_emitted (view_layout c.args.y.now) v c.args.kept.now.forms c.args.kept.now.temporaries c.args.op
