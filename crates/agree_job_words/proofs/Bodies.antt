@@ -16,13 +16,13 @@ use Rattle.sem_scripts.specs.Names.{ArrayName}
 use Rattle.mid_program.specs.Mid.{Kind, Boxed, Unboxed, Many, Code, Let, Step, Eval, Block as Steps_, If as Either, Loop, Each, Break, Continue, Next, Exit, ExitWith, Return, Mark, Steps, NoStep, Then as AndThen, Program, a_value, form_of, parameters_at}
 use Rattle.mid_program.specs.Sorted.{Context, all_sorted, calls_of, context_of, fits, is_array_place, is_dropped, is_kept, is_tested, keeps_well, sorted, step_sorted, steps_sorted, stores_well, test_sorted}
 use Rattle.lower_model.specs.Cells.{cell_at}
-use Rattle.lower_model.specs.Emission.{Layout, asked, dropped, tested}
+use Rattle.lower_model.specs.Emission.{Layout, asked, dropped, field_at, tested}
 use Rattle.lower_model.specs.Machine.{zeros}
 use Rattle.wasm_types.specs.declared.types.ValType.{ValType}
 use Rattle.lower_model.specs.Places.{Bases, answer_local, array_local, handle_local, handle_types, iterator_local, local_types, number_global, number_local, status_global, temporary_types, way_global}
 use Rattle.lower_model.specs.Quick.{Within, test_within, Source, Named, Constant, joined, all_unsure, Sum, sum_names, sum_op, sum_in, Update, update_in, Tally, tally_in, Remainder, remainder_in, remainder_names, multiplied, Counted, counted_in, Pair, pair_names, pair_in, step_jumps, is_nothing}
 use Rattle.lower_model.specs.Small.{ask_row, does, either, moved_out}
-use Rattle.lower_model.specs.Statements.{again, left_by, pair_left, summed, way_exit, way_next, name_read, source_pushed, name_numbered, source_numbered, source_taken, sum_kept, sum_taken, summed_anyway, element_numbered, element_given, remainder_taken, remainder_dropped, barely_dropped, plainly_dropped, quickly_dropped, left_unless_counted, left_unless_pair, left_unless, all_emptied, arrays_emptied, arrays_swept, block, first_part, goes_on, has_functions, iterator_left, iterators_emptied, iterators_swept, key_stored, last_part, left_swept, main_body, names_declared, names_made, parameters_dropped, part_done, record_done, records_read, routine_body, routines_declared, step_emitted, steps_emitted, swept, temporaries_emptied, temporaries_swept}
+use Rattle.lower_model.specs.Statements.{again, left_by, pair_left, summed, way_exit, way_next, name_read, source_pushed, name_numbered, source_numbered, source_taken, sum_kept, sum_taken, summed_anyway, field_numbered, both_asked, element_numbered, element_given, remainder_taken, remainder_dropped, barely_dropped, plainly_dropped, quickly_dropped, left_unless_counted, left_unless_pair, left_unless, all_emptied, arrays_emptied, arrays_swept, block, first_part, goes_on, has_functions, iterator_left, iterators_emptied, iterators_swept, key_stored, last_part, left_swept, main_body, names_declared, names_made, parameters_dropped, part_done, record_done, records_read, routine_body, routines_declared, step_emitted, steps_emitted, swept, temporaries_emptied, temporaries_swept}
 use Rattle.lower_model.proofs.Tallies.{Shape, Updating, Following, Leading, tally_code, tally_is, tally_sorted}
 use Rattle.lower_model.proofs.Updating.{added_code, added_is}
 use Rattle.agree_job_words.specs.Naming.{is_argv, names_argv, step_names, steps_name}
@@ -185,10 +185,20 @@ module _ (tells : Bool) (y : Layout) (sizes : ℕ → Option ℕ) (whole : Progr
         let e1 : s ≡ added_code x = (added_is s x h).0 in
         let a1 = let_sorted c x.added _ (subst (λ z. sorted c [] z ≡ true) e1 o) in
         let a2 = (or_none (names_argv x.added) false (subst (λ z. names_argv z ≡ false) e1 q)).0 in
-        emitted_spares tells y sizes c sized same (name_spares (to_number_spares tells y sizes added (form_of [] x.added) zero d) x.name 1 d) false [] [] x.added zero zero d none_kept a1 a2
+        by a1 a2 (field_at x.added)
       where
+        taken : So e (sum_taken y (sum_op x.op) x.target zero d k)
+        taken = sum_spares r (sum_op x.op) x.target zero d
+
         added : So e (does (LocalGet (number_local b 1)) (does (LocalGet (number_local b zero)) (sum_taken y (sum_op x.op) x.target zero d k)))
-        added = record { so = λ A. (sum_spares r (sum_op x.op) x.target zero d).so (true ∷ (true ∷ A)) }
+        added = record { so = λ A. taken.so (true ∷ (true ∷ A)) }
+
+        field : (z : ℤ) → So e (does (LocalGet (number_local b zero)) (field_numbered y z (sum_taken y (sum_op x.op) x.target zero d k)))
+        field z = record { so = λ A. (refl, (refl, taken.so _)) }
+
+        by : sorted c [] x.added ≡ true → names_argv x.added ≡ false → (o : Option ℤ) → So e (both_asked y o x d (sum_taken y (sum_op x.op) x.target zero d k))
+        by a1 a2 (Some z) = name_spares (field z) x.name zero d
+        by a1 a2 None = emitted_spares tells y sizes c sized same (name_spares (to_number_spares tells y sizes added (form_of [] x.added) zero d) x.name 1 d) false [] [] x.added zero zero d none_kept a1 a2
 
   module _ {e : Bool} {k : Instructions} (r : So e k) where
     quick_spares : (o : Option Sum) (s : Code) (d : ℕ) → sorted c [] s ≡ true → names_argv s ≡ false → So e (quickly_dropped y o s d k)

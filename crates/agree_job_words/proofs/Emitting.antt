@@ -27,7 +27,7 @@ use Rattle.sem_scripts.specs.Names.{ArrayName, Numbered, Given}
 use Rattle.mid_program.specs.Mid.{Kind, Boxed, Unboxed, Many, Slot, Global, Parameter, Code, Do, Over, Compare, Call, Ask, AskLine, FileLine, Replace, Number, Text, Unset, Get, Set, Array, IsOpen, Choose, Seq, Let, Bound, Codes, End, At, Fixed, Fresh, Form, Answered, Bare, Perhaps, a_value, arguments, form_at, form_of, parameters_at}
 use Rattle.mid_program.specs.Sorted.{Context, all_sorted, all_values, are_enough, are_missing, count_of, fit_call, fit_row, fits, is_chosen, is_constant, is_done_here, is_dropped, is_given, is_kept, is_number, is_operation, is_slot, is_tested, keeps_well, sorted, stores_well, takes}
 use Rattle.lower_model.specs.Arithmetic.{calculated, compared, field_checked, is_value, may_be_text, numbers_compared, texts_beside, values_compared, zeroed_if}
-use Rattle.lower_model.specs.Emission.{Layout, all_appended, all_boxed, all_converted, all_emitted, all_freed, all_given, all_given_pushed, all_pushed, array_meant, array_pushed, asked as asked_until, assigned, assigned_by_number, bound_read, dropped, emitted, field_in, field_or, function_number, handle_stored, keeping_closed, left_over, listed_asked, pending_assigned, performed, sequence_closed, slot_read, slot_set, tested, text_dropped, text_let_go, value_stored}
+use Rattle.lower_model.specs.Emission.{Layout, Immediate, FieldOf, TextOf, NumberOf, immediate_in, immediate_or, all_appended, all_boxed, all_converted, all_emitted, all_freed, all_given, all_given_pushed, all_pushed, array_meant, array_pushed, asked as asked_until, assigned, assigned_by_number, bound_read, dropped, emitted, field_in, field_or, function_number, handle_stored, keeping_closed, left_over, listed_asked, pending_assigned, performed, sequence_closed, slot_read, slot_set, tested, text_dropped, text_let_go, value_stored}
 use Rattle.host_imports.specs.Imports.{import_answer, import_at, import_count, import_number, imports}
 use Rattle.lower_model.specs.Machine.{width}
 use Rattle.lower_model.specs.Places.{Bases, array_name, handle_global, made_in, number_global}
@@ -549,6 +549,12 @@ module _ (tells : Bool) (y : Layout) (sizes : ℕ → Option ℕ) where
     field_spares_or (Some z) t q = record { so = λ A. (refl, r.so A) }
     field_spares_or None t q = q
 
+    immediate_spares_or : {other : Instructions} (c : CompareOp) (f : Form) (o : Option Immediate) (t d : ℕ) → Always e other → Always e (immediate_or y c f o t d k other)
+    immediate_spares_or c f (Some (FieldOf z)) t d q = to_value_spares (record { so = λ A. (refl, (refl, r.so A)) }) f t
+    immediate_spares_or c f (Some (TextOf i)) t d q = to_value_spares (record { so = λ A. (refl, (refl, r.so A)) }) f t
+    immediate_spares_or c f (Some (NumberOf z)) t d q = to_value_spares (record { so = λ A. (refl, (refl, r.so A)) }) f t
+    immediate_spares_or c f None t d q = q
+
     bound_read_spares : (v z : Bool) (f : Form) (s t : ℕ) → Always e (bound_read y v z f s t k)
     bound_read_spares true z f s t = r
     bound_read_spares false z f s t = bound_spares r z f s t
@@ -598,7 +604,8 @@ module _ (tells : Bool) (y : Layout) (sizes : ℕ → Option ℕ) where
           let z = sorted c fs f in
           let s2 = and_parts a z (and_parts (fits (form_of fs f) sort.Value) (a && z) (and_parts (fits (form_of fs e) sort.Value) (fits (form_of fs f) sort.Value && (a && z)) s).1).1 in
           let p = or_none (names_argv e) (names_argv f) q in
-          emitted_spares (emitted_spares (compared_spares r o (form_of fs e) (form_of fs f) t d) false fs ts f (suc t) w d n s2.1 p.1) false fs ts e t w d n s2.0 p.0
+          emitted_spares (immediate_spares_or r o (form_of fs e) (immediate_in (is_value (form_of fs e)) f) t d
+          (emitted_spares (compared_spares r o (form_of fs e) (form_of fs f) t d) false fs ts f (suc t) w d n s2.1 p.1)) false fs ts e t w d n s2.0 p.0
       emitted_spares {l = l} {k = k} r v fs ts (Call f es) t w d n s q =
           let js = parameters_at c.calls f in
           let s1 = and_parts (nat_lt f (length c.calls)) (fit_call fs js es && all_sorted c fs es) s in

@@ -28,7 +28,7 @@ use Rattle.mid_program.specs.Mid.{Kind, Boxed, Unboxed, Many, Slot, Global, Para
 use Rattle.mid_program.specs.Sorted.{count_of}
 use Rattle.lower_model.specs.Arithmetic.{calculated, compared, field_checked, is_value, may_be_text, numbers_compared, texts_beside, values_compared, zeroed_if}
 use Rattle.lower_model.specs.Boundaries.{is_nop}
-use Rattle.lower_model.specs.Emission.{Layout, all_appended, all_boxed, all_converted, all_emitted, all_freed, all_given, all_given_pushed, all_pushed, array_meant, array_pushed, asked, assigned, assigned_by_number, bound_read, dropped, emitted, field_in, field_or, function_number, handle_stored, keeping_closed, left_over, listed_asked, one_given, one_pushed, pending_assigned, performed, sequence_closed, slot_read, slot_set, tested, text_kept, text_let_go, value_stored}
+use Rattle.lower_model.specs.Emission.{Layout, Immediate, FieldOf, TextOf, NumberOf, immediate_in, immediate_or, immediate_pushed, all_appended, all_boxed, all_converted, all_emitted, all_freed, all_given, all_given_pushed, all_pushed, array_meant, array_pushed, asked, assigned, assigned_by_number, bound_read, dropped, emitted, field_in, field_or, function_number, handle_stored, keeping_closed, left_over, listed_asked, one_given, one_pushed, pending_assigned, performed, sequence_closed, slot_read, slot_set, tested, text_kept, text_let_go, value_stored}
 use Rattle.host_imports.specs.Imports.{import_count, import_number, imports}
 use Rattle.lower_model.specs.Machine.{answers_to}
 use Rattle.lower_model.specs.Places.{Bases, made_in}
@@ -316,11 +316,20 @@ module _ (y : Layout) (asks : Bool) (most : ℕ) where
     field_or_nops (Some z) t r q = record { are = r.are; calls = r.calls }
     field_or_nops None t r q = q
 
+    pushed_value_nops : (i : Immediate) → Nops l k m → Nops l (immediate_pushed y i k) m
+    pushed_value_nops (FieldOf z) r = record { are = r.are; calls = r.calls }
+    pushed_value_nops (TextOf i) r = record { are = r.are; calls = r.calls }
+    pushed_value_nops (NumberOf z) r = record { are = r.are; calls = r.calls }
+
     bound_read_nops : (v z : Bool) (f : Form) (s t : ℕ) → Nops l k m → Nops l (bound_read y v z f s t k) m
     bound_read_nops true z f s t r = r
     bound_read_nops false z f s t r = bound_nops b z f s t r
 
   module _ {k : Instructions} {m : List Instructions} where
+    immediate_nops : {other : Instructions} (c : CompareOp) (f : Form) (o : Option Immediate) (t d : ℕ) → Nops l k m → Nops l other m → Nops l (immediate_or y c f o t d k other) m
+    immediate_nops c f (Some i) t d r q = to_value_nops b f t (plain _ refl (plain _ refl (plain _ refl (plain _ refl (pushed_value_nops i (record { are = r.are; calls = r.calls }))))))
+    immediate_nops c f None t d r q = q
+
     sequence_nops : (v : Bool) (e : Code) (f : Form) (t : ℕ) → Nops l k m → Nops l (sequence_closed y v e f t k) m
     sequence_nops true e f t r = left_nops e f t r
     sequence_nops false e f t r = r
@@ -354,7 +363,8 @@ module _ (y : Layout) (asks : Bool) (most : ℕ) where
     emitted_nops v fs ts (Do o es) t w d lo r = field_or_nops (field_in o es) t r (emits_nops fs ts es t w d lo (converts_nops fs (arguments o) es t d (performed_nops o es t d r)))
     emitted_nops v fs ts (Over x es) t w d lo r = emits_nops fs ts es t w d lo (boxes_nops fs es t (appends_nops es t (listed_nops x (count_of es) t d r)))
     emitted_nops v fs ts (Compare c e f) t w d lo r =
-        emitted_nops false fs ts e t w d (λ z. (lo z).0) (emitted_nops false fs ts f (suc t) w d (λ z. (lo z).1) (compared_nops b c (form_of fs e) (form_of fs f) t d r))
+        emitted_nops false fs ts e t w d (λ z. (lo z).0) (immediate_nops c (form_of fs e) (immediate_in (is_value (form_of fs e)) f) t d r
+        (emitted_nops false fs ts f (suc t) w d (λ z. (lo z).1) (compared_nops b c (form_of fs e) (form_of fs f) t d r)))
     emitted_nops v fs ts (Call f es) t w d lo r =
         emits_nops fs ts es t w d (λ z. (lo z).1) (given_nops fs (parameters_at y.calls f) es t (given_pushed_nops (parameters_at y.calls f) es t w
         (function_nops f t d (λ z. (lo z).0) (freed_nops w (made_in es) r))))

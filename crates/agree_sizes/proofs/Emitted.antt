@@ -31,7 +31,7 @@ use Rattle.mid_program.specs.Mid.{Kind, Boxed, Unboxed, Many, Slot, Global, Para
 use Rattle.mid_program.specs.Sorted.{count_of}
 use Rattle.sem_scripts.specs.Steps.{is_field_number}
 use Rattle.lower_model.specs.Arithmetic.{calculated, compared, field_checked, is_value, may_be_text, numbers_compared, texts_beside, values_compared, zeroed_if}
-use Rattle.lower_model.specs.Emission.{Layout, all_appended, all_boxed, all_converted, all_emitted, all_freed, all_given, all_given_pushed, all_pushed, array_meant, array_pushed, asked, assigned, assigned_by_number, bound_read, constant_field, dropped, emitted, field_in, field_or, handle_stored, keeping_closed, left_over, listed_asked, one_field, one_given, one_pushed, pending_assigned, performed, sequence_closed, slot_read, slot_set, tested, text_kept, text_let_go, text_pushed, value_stored, values_counted}
+use Rattle.lower_model.specs.Emission.{Layout, Immediate, FieldOf, TextOf, NumberOf, field_at, immediate_field, immediate_in, immediate_or, immediate_pushed, all_appended, all_boxed, all_converted, all_emitted, all_freed, all_given, all_given_pushed, all_pushed, array_meant, array_pushed, asked, assigned, assigned_by_number, bound_read, constant_field, dropped, emitted, field_in, field_or, handle_stored, keeping_closed, left_over, listed_asked, one_field, one_given, one_pushed, pending_assigned, performed, sequence_closed, slot_read, slot_set, tested, text_kept, text_let_go, text_pushed, value_stored, values_counted}
 use Rattle.lower_model.specs.Places.{Bases, made_in, memory_of, place_of}
 use Rattle.lower_model.specs.Small.{boxed_perhaps, bound_from, code_number, converted, kept, kept_code, kept_done, kept_number, kept_value, moved_from, released, to_number, to_value, truth, unused}
 use Rattle.agree_sizes.proofs.Fits.{Fits, choice, fits_simple, in_loop, long_fits, none, place_within, plain, text_within, word_fits}
@@ -68,7 +68,7 @@ number_small (negsuc n) h = omega arith
 
 -- a field whose number is a constant
 
-abbrev FieldSmall : Option ℤ → Type 0
+abbrev pub FieldSmall : Option ℤ → Type 0
 FieldSmall None = Unit {0}
 FieldSmall (Some z) = unsigned_abs z ≤ 2 ^ 53
 
@@ -87,6 +87,28 @@ one_small es s = tt
 field_small : (o : Operation) (es : Codes) → AllSmall es → FieldSmall (field_in o es)
 field_small (Host row.Field) es s = one_small es s
 field_small o es s = tt
+
+pub field_at_small : (e : Code) → Small e → FieldSmall (field_at e)
+field_at_small (Do o es) s = field_small o es s
+field_at_small e s = tt
+
+-- an immediate operand
+
+abbrev ImmediateSmall : Option Immediate → Type 0
+ImmediateSmall None = Unit {0}
+ImmediateSmall (Some (FieldOf z)) = unsigned_abs z ≤ 2 ^ 53
+ImmediateSmall (Some (TextOf i)) = Unit {0}
+ImmediateSmall (Some (NumberOf z)) = unsigned_abs z ≤ 2 ^ 53
+
+as_immediate_small : (o : Option ℤ) → FieldSmall o → ImmediateSmall (immediate_field o)
+as_immediate_small (Some z) s = s
+as_immediate_small None s = tt
+
+immediate_small : (v : Bool) (e : Code) → Small e → ImmediateSmall (immediate_in v e)
+immediate_small v (Do o es) s = as_immediate_small (field_in o es) (field_small o es s)
+immediate_small v (Text i) s = tt
+immediate_small true (Number z) s = s
+immediate_small v e s = tt
 
 -- ---- small pieces
 
@@ -344,11 +366,22 @@ module _ (y : Layout) (names : length y.names ≤ 2 ^ 24) (memory : length (memo
     read_or_fits (Some z) t s r q = plain (I64Const (cast_unsigned w64 z)) (long_fits (cast_unsigned w64 z) (number_small z s)) (plain _ refl (plain _ refl r))
     read_or_fits None t s r q = q
 
+    pushed_value_fits : (i : Immediate) → ImmediateSmall (Some i) → Fits k → Fits (immediate_pushed y i k)
+    pushed_value_fits (FieldOf z) s r = plain (I64Const (cast_unsigned w64 z)) (long_fits (cast_unsigned w64 z) (number_small z s)) (plain _ refl r)
+    pushed_value_fits (TextOf i) s r = text_fits_there i (plain _ refl r)
+    pushed_value_fits (NumberOf z) s r = plain (I64Const (cast_unsigned w64 z)) (long_fits (cast_unsigned w64 z) (number_small z s)) (plain _ refl r)
+
     bound_read_fits : (v m : Bool) (f : Form) (s t : ℕ) → Fits k → Fits (bound_read y v m f s t k)
     bound_read_fits true m f s t r = r
     bound_read_fits false m f s t r = bound_fits b m f s t r
 
   module _ {k : Instructions} where
+    immediate_fits : {other : Instructions} (c : CompareOp) (f : Form) (o : Option Immediate) (t d : ℕ) → ImmediateSmall o → Fits k → Fits other → Fits (immediate_or y c f o t d k other)
+    immediate_fits c f (Some i) t d s r q =
+        to_value_fits b f t (plain (I32Const (comparison_number c)) (comparison_fits c) (plain _ refl (plain _ refl (plain _ refl
+        (pushed_value_fits i s (plain _ refl (kept_code_fits b true t d r)))))))
+    immediate_fits c f None t d s r q = q
+
     sequence_fits : (v : Bool) (e : Code) (f : Form) (t : ℕ) → Fits k → Fits (sequence_closed y v e f t k)
     sequence_fits true e f t r = left_fits e f t r
     sequence_fits false e f t r = r
@@ -376,7 +409,8 @@ module _ (y : Layout) (names : length y.names ≤ 2 ^ 24) (memory : length (memo
         (emits_fits fs ts es t w d s (converts_fits fs (arguments o) es t d (performed_fits o es t d s r)))
     emitted_fits v fs ts (Over l es) t w d s r = emits_fits fs ts es t w d s.1 (boxes_fits fs es t (appends_fits es t (listed_fits l (count_of es) t d s.0 r)))
     emitted_fits v fs ts (Compare c e f) t w d s r =
-        emitted_fits false fs ts e t w d s.0 (emitted_fits false fs ts f (suc t) w d s.1 (compared_fits b c (form_of fs e) (form_of fs f) t d r))
+        emitted_fits false fs ts e t w d s.0 (immediate_fits c (form_of fs e) (immediate_in (is_value (form_of fs e)) f) t d (immediate_small (is_value (form_of fs e)) f s.1) r
+        (emitted_fits false fs ts f (suc t) w d s.1 (compared_fits b c (form_of fs e) (form_of fs f) t d r)))
     emitted_fits v fs ts (Call f es) t w d s r =
         emits_fits fs ts es t w d s (given_fits fs (parameters_at y.calls f) es t (given_pushed_fits (parameters_at y.calls f) es t w
         (plain _ refl (kept_value_fits b true t d (freed_fits w (made_in es) r)))))

@@ -15,17 +15,17 @@ use Rattle.mid_program.specs.declared.mid.Arithmetic.{Arithmetic}
 use Rattle.mid_program.specs.declared.mid.Operation.TheVariants.{Inline}
 use Rattle.mid_program.specs.Mid.{Kind, Boxed, Unboxed, Many, Global, Code, Do, Compare, Number, Set, Let, Bound, Codes, End, At, Step, Eval, Block as Steps_, If as Either, Loop, Each, Break, Continue, Next, Exit, ExitWith, Return, Mark, Steps, NoStep, Then as AndThen, Program, a_value, form_of}
 use Rattle.sem_scripts.specs.Names.{ArrayName}
-use Rattle.lower_model.specs.Emission.{Layout}
+use Rattle.lower_model.specs.Emission.{Layout, field_at}
 use Rattle.lower_model.specs.Places.{Bases, memory_of}
 use Rattle.lower_model.specs.Quick.{Within, test_within, both_within, compared_within, constant_in, first_ones, name_in, joined, all_unsure, Source, Named, Constant, source_in, Sum, sum_names, sum_op, sum_in, Update, update_in, Tally, tally_in, Remainder, remainder_in, remainder_names, most_multiplied, multiplied, Counted, counted_in, sum_of, two_sum, set_sum, kept_sum, update_sum, old_source, stored_name, new_sum, let_sum, is_near, Pair, pair_names, pair_in, pair_of, step_jumps, is_nothing}
-use Rattle.lower_model.specs.Statements.{name_read, source_pushed, summed, name_numbered, source_numbered, source_taken, sum_kept, sum_taken, summed_anyway, element_numbered, element_given, remainder_taken, remainder_dropped, barely_dropped, plainly_dropped, quickly_dropped, left_unless_counted, pair_left, left_unless_pair, left_unless, all_emptied, arrays_emptied, arrays_swept, before_parts, declared, goes_on, iterator_left, iterators_emptied, iterators_swept, key_stored, left_by, main_body, names_declared, names_made, parameters_dropped, part_done, record_done, records_read, routine_body, routines_declared, step_emitted, steps_emitted, swept, temporaries_emptied, temporaries_swept, has_functions, left_swept}
+use Rattle.lower_model.specs.Statements.{name_read, source_pushed, summed, name_numbered, source_numbered, source_taken, sum_kept, sum_taken, summed_anyway, both_asked, element_numbered, element_given, remainder_taken, remainder_dropped, barely_dropped, plainly_dropped, quickly_dropped, left_unless_counted, pair_left, left_unless_pair, left_unless, all_emptied, arrays_emptied, arrays_swept, before_parts, declared, goes_on, iterator_left, iterators_emptied, iterators_swept, key_stored, left_by, main_body, names_declared, names_made, parameters_dropped, part_done, record_done, records_read, routine_body, routines_declared, step_emitted, steps_emitted, swept, temporaries_emptied, temporaries_swept, has_functions, left_swept}
 use Rattle.std.proofs.lemmas.Bool.{leb-true}
 use Rattle.lower_model.proofs.Quick.{constant_is, shift_pos}
 use Rattle.lower_model.proofs.QuickNames.{near_sum, some_is, source_code, source_is}
 use Rattle.lower_model.proofs.Tallies.{Shape, Updating, Following, Leading, tally_code, tally_is}
 use Rattle.lower_model.proofs.Remainders.{factored_code, most_few, remainder_code, remainder_is}
 use Rattle.lower_model.proofs.Updating.{added_is}
-use Rattle.agree_sizes.proofs.Emitted.{array_fits, asked_fits, dropped_fits, emitted_fits, flag_fits, kept_code_fits, kept_number_fits, number_small, pending_fits, tested_fits, text_fits_there, to_number_fits, to_value_fits, whichever}
+use Rattle.agree_sizes.proofs.Emitted.{FieldSmall, field_at_small, array_fits, asked_fits, dropped_fits, emitted_fits, flag_fits, kept_code_fits, kept_number_fits, number_small, pending_fits, tested_fits, text_fits_there, to_number_fits, to_value_fits, whichever}
 use Rattle.agree_sizes.proofs.Fits.{Fits, choice, fits_simple, in_block, in_loop, long_fits, none, plain}
 use Rattle.agree_sizes.proofs.Small.{Small, SmallStep, SmallSteps}
 
@@ -220,8 +220,17 @@ module _ (y : Layout) (names : length y.names ≤ 2 ^ 24) (memory : length (memo
   module _ {k : Instructions} where
     plainly_fits : (o : Option Update) (e : Code) (d : ℕ) → update_in e ≡ o → Small e → Fits k → Fits (plainly_dropped y o e d k)
     plainly_fits None e d h s r = barely_fits (tally_in e) e d refl s r
-    plainly_fits (Some q) e d h s r =
-        emitted_fits y names memory false [] [] q.added zero zero d (subst Small (added_is e q h).0 s).0 (name_fits q.name 1 d (to_number_fits b (form_of [] q.added) zero d (plain _ refl (plain _ refl (taking_fits (sum_op q.op) q.target zero d r)))))
+    plainly_fits (Some q) e d h s r = by (field_at q.added) (field_at_small q.added added)
+      where
+        added : Small q.added
+        added = (subst Small (added_is e q h).0 s).0
+
+        by : (o : Option ℤ) → FieldSmall o → Fits (both_asked y o q d (sum_taken y (sum_op q.op) q.target zero d k))
+        by (Some z) f =
+            name_fits q.name zero d (plain _ refl (plain (I64Const (cast_unsigned w64 z)) (long_fits (cast_unsigned w64 z) (number_small z f)) (plain _ refl (plain _ refl (taking_fits (sum_op q.op) q.target zero d r)))))
+        by None f =
+            emitted_fits y names memory false [] [] q.added zero zero d added
+            (name_fits q.name 1 d (to_number_fits b (form_of [] q.added) zero d (plain _ refl (plain _ refl (taking_fits (sum_op q.op) q.target zero d r)))))
 
     quick_fits : (o : Option Sum) (e : Code) (d : ℕ) → sum_in e ≡ o → Small e → Fits k → Fits (quickly_dropped y o e d k)
     quick_fits None e d q s r = plainly_fits (update_in e) e d refl s r

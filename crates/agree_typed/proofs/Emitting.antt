@@ -2,17 +2,20 @@
 use Rattle.std.proofs.Common.{◌≡◌, ℕ, zero, suc, ◌+◌, ◌<◌, ◌≤◌, Bool, true, false, List, [], ◌∷◌, length, Option, Some, None, ℤ, arith}
 use Rattle.std.specs.Prelude.{◌&&◌, get_or, nat_lt}
 use Rattle.std.proofs.lemmas.Bool.{and_parts, ltb-true}
+use Rattle.awk_values.specs.declared.comparison.CompareOp.{CompareOp}
 use Rattle.sem_primitives.specs.Table.{arguments_of, answer_of, can_fault}
 use Rattle.sem_primitives.specs.declared.sorts.Sort.TheVariants as sort
 use Rattle.sem_primitives.specs.declared.table.Primitive.TheVariants as row
 use Rattle.wasm_types.specs.Syntax.{Instructions}
+use Rattle.wasm_types.specs.declared.types.ValType.TheVariants.{I32}
 use Rattle.wasm_types.specs.Typing.{Context, CodeOk, done}
 use Rattle.mid_program.specs.declared.mid.Operation.{Operation}
 use Rattle.mid_program.specs.declared.mid.Operation.TheVariants.{Host, Inline, AsNumber, FieldNumber}
 use Rattle.mid_program.specs.MidMeaning.{three_values}
 use Rattle.mid_program.specs.Mid.{Kind, Program, Code, Do, Over, Compare, Call, Ask, AskLine, FileLine, Replace, Number, Text, Unset, Get, Set, Array, IsOpen, Choose, Seq, Let, Bound, Codes, End, At, Fixed, Fresh, Form, a_value, form_of, form_at, arguments, parameters_at}
 use Rattle.mid_program.specs.Sorted.{context_of, calls_of, fits, fit_row, fit_call, all_values, are_enough, count_of, is_slot, takes, is_chosen, is_tested, is_dropped, is_kept, is_done_here, keeps_well, stores_well, are_missing, sorted, all_sorted}
-use Rattle.lower_model.specs.Emission.{emitted, all_emitted, performed, field_in, field_or, left_over, sequence_closed, keeping_closed, bound_read, text_let_go}
+use Rattle.lower_model.specs.Arithmetic.{is_value}
+use Rattle.lower_model.specs.Emission.{Immediate, FieldOf, TextOf, NumberOf, immediate_in, immediate_pushed, immediate_or, emitted, all_emitted, performed, field_in, field_or, left_over, sequence_closed, keeping_closed, bound_read, text_let_go}
 use Rattle.lower_model.specs.Functions.{layout_of}
 use Rattle.lower_model.specs.Places.{Bases, room, rooms, arrays_in, arrays_among, made_in}
 use Rattle.host_imports.specs.declared.import.Import.TheVariants.{Of, Drop}
@@ -61,11 +64,22 @@ module _ {p : Program} {ks : List Kind} {b : Bases} {C : Context} (at : Stands p
     field_or_ok {t = t} (Some z) lt r q = long (called ps (at.imported (Of row.Field)) (put (at.handle t lt) r))
     field_or_ok None lt r q = q
 
+    immediate_pushed_ok : (i : Immediate) → CodeOk C L k (I32 ∷ ps) rs → CodeOk C L (immediate_pushed (layout_of p b) i k) ps rs
+    immediate_pushed_ok (FieldOf z) r = long (called ps (at.imported (Of row.Field)) r)
+    immediate_pushed_ok (TextOf i) r = word (word (called ps (at.imported (Of row.Lit)) r))
+    immediate_pushed_ok (NumberOf z) r = long (called ps (at.imported (Of row.Num)) r)
+
     bound_read_ok : {s t : ℕ} (v m : Bool) (f : Form) → s < b.temporaries → t < b.temporaries → CodeOk C L k ps rs → CodeOk C L (bound_read (layout_of p b) v m f s t k) ps rs
     bound_read_ok true m f ls lt r = r
     bound_read_ok false m f ls lt r = bound_from_ok at m f ls lt r
 
   module _ {L : Labels} {k : Instructions} {ps rs : Stack} where
+    immediate_or_ok : {other : Instructions} {d t : ℕ} (c : CompareOp) (f : Form) (o : Option Immediate) → t < b.temporaries → Exit L d → CodeOk C L k ps rs → CodeOk C L other ps rs →
+        CodeOk C L (immediate_or (layout_of p b) c f o t d k other) ps rs
+    immediate_or_ok {t = t} c f (Some i) lt x r q =
+        to_value_ok at f lt (word (moved_out_ok at (at.handle t lt) (immediate_pushed_ok i (called ps (at.imported (Of row.Compare)) (kept_code_ok at true lt x r)))))
+    immediate_or_ok c f None lt x r q = q
+
     sequence_closed_ok : (v : Bool) (e : Code) (f : Form) {t : ℕ} → t < b.temporaries → CodeOk C L k ps rs → CodeOk C L (sequence_closed (layout_of p b) v e f t k) ps rs
     sequence_closed_ok true e f lt r = left_over_ok e f lt r
     sequence_closed_ok false e f lt r = r
@@ -108,8 +122,9 @@ module _ {p : Program} {ks : List Kind} {b : Bases} {C : Context} (at : Stands p
         let s2 = and_parts a z (and_parts (fits (form_of fs f) sort.Value) (a && z) s1.1).1 in
         let hf = room_there f in
         code_ok false fs ts e t w d q s2.0 (omega (arith, h)) (omega (arith, g)) x
+        (immediate_or_ok c (form_of fs e) (immediate_in (is_value (form_of fs e)) f) (omega (arith, h, hf)) x r
         (code_ok false fs ts f (suc t) w d q s2.1 (omega (arith, h)) (omega (arith, g)) x
-        (compared_ok at x c (form_of fs e) (form_of fs f) (omega (arith, h, hf)) r))
+        (compared_ok at x c (form_of fs e) (form_of fs f) (omega (arith, h, hf)) r)))
     code_ok {ps = ps} v fs ts (Call f es) t w d q s h g x r =
         let js = parameters_at (calls_of p) f in
         let s1 = and_parts (nat_lt f (length (calls_of p))) (fit_call fs js es && all_sorted (context_of p ks) fs es) s in

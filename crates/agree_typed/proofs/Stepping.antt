@@ -13,7 +13,7 @@ use Rattle.wasm_types.specs.declared.instr.Simple.TheVariants.{GlobalGet}
 use Rattle.mid_program.specs.Mid.{Kind, Unboxed, Program, Code, Step, Eval, Block, If, Loop, Each, Break, Continue, Next, Exit as ExitStep, ExitWith, Return, Mark, Steps, NoStep, Then, Form, a_value, form_of}
 use Rattle.sem_scripts.specs.Names.{ArrayName}
 use Rattle.mid_program.specs.Sorted.{context_of, kinds_of, is_array_place, fits, is_tested, is_dropped, stores_well, sorted, test_sorted, step_sorted, steps_sorted}
-use Rattle.lower_model.specs.Emission.{dropped, tested}
+use Rattle.lower_model.specs.Emission.{dropped, field_at, tested}
 use Rattle.lower_model.specs.Functions.{layout_of}
 use Rattle.lower_model.specs.Places.{Bases, room, arrays_in, step_room, steps_room, step_arrays, steps_arrays, step_iterators, steps_iterators}
 use Rattle.lower_model.specs.Quick.{Within, unsure, test_within, Source, Named, Constant, joined, all_unsure, Sum, sum_names, sum_op, sum_in, Update, update_in, Tally, tally_in, Remainder, remainder_in, remainder_names, most_multiplied, multiplied, Counted, counted_in, Pair, pair_names, pair_in, step_jumps, is_nothing}
@@ -23,9 +23,9 @@ use Rattle.lower_model.proofs.Remainders.{remainder_is, remainder_sorted, remain
 use Rattle.lower_model.proofs.QuickSteps.{SourceFits, near_source, test_is, sum_is, sum_unboxed, pair_is, pair_unboxed, counted_is}
 use Rattle.lower_model.proofs.Summing.{IsSource}
 use Rattle.lower_model.proofs.Tallies.{Shape, tally_code, IsAdded, tally_is, tally_room, tally_sorted}
-use Rattle.lower_model.proofs.Updating.{added_code, added_is, added_sorted}
+use Rattle.lower_model.proofs.Updating.{UpdateParts, added_code, added_is, added_sorted}
 use Rattle.lower_model.proofs.Watch.{Watch}
-use Rattle.lower_model.specs.Statements.{name_read, source_pushed, name_numbered, source_numbered, source_taken, sum_kept, sum_taken, summed_anyway, updated, element_numbered, element_given, tallied, remainder_taken, remainder_dropped, barely_dropped, plainly_dropped, quickly_dropped, left_unless_counted, left_unless_pair, left_unless, left_by, key_stored, iterator_left, step_emitted, steps_emitted}
+use Rattle.lower_model.specs.Statements.{name_read, source_pushed, name_numbered, source_numbered, source_taken, sum_kept, sum_taken, summed_anyway, both_asked, updated, element_numbered, element_given, tallied, remainder_taken, remainder_dropped, barely_dropped, plainly_dropped, quickly_dropped, left_unless_counted, left_unless_pair, left_unless, left_by, key_stored, iterator_left, step_emitted, steps_emitted}
 use Rattle.host_imports.specs.declared.import.Import.TheVariants.{Of, Drop, IterFree}
 use Rattle.agree_typed.proofs.Singles.{Stack, Labels, Exit, inner, nearest, reads_global, writes_global, nothing, called, get, put, tee, read, write, word, long, binary, variable, compare, test, discard, leave, leave_if, blocked, looped, branched}
 use Rattle.agree_typed.proofs.Standing.{Stands, kind_below}
@@ -115,13 +115,31 @@ module _ {p : Program} {ks : List Kind} {b : Bases} {C : Context} (at : Stands p
 
     updated_ok : {d : ℕ} (q : Update) → sorted (context_of p ks) [] (added_code q) ≡ true → room (added_code q) ≤ b.temporaries →
         arrays_in (added_code q) ≤ b.arrays → Exit L d → CodeOk C L k [] rs → CodeOk C L (updated (layout_of p b) q d k) [] rs
-    updated_ok {d = d} q s h g x r =
-        let he = room_there q.added in
-        let t = added_sorted p unwatched ks [] b 0 0 q s in
-        code_ok at false [] [] q.added 0 0 d (none_below b.temporaries (omega (arith, h, he))) t.added (omega (arith, h)) (omega (arith, g)) x
-        (name_numbered_ok {t = 1} (kind_below (kinds_of p.globals) q.name Unboxed t.name) (omega (arith, h, he)) x
-        (to_number_ok at (form_of [] q.added) (omega (arith, h, he)) x (get (at.number 1 (omega (arith, h, he))) (get (at.number 0 (omega (arith, h, he)))
-        (sum_taken_ok {t = 0} (sum_op q.op) q.target (kind_below (kinds_of p.globals) q.target Unboxed t.kind) (omega (arith, h, he)) x r)))))
+    updated_ok {d = d} q s h g x r = by (field_at q.added)
+      where
+        there : 1 < b.temporaries
+        there = let he = room_there q.added in omega (arith, h, he)
+
+        first : 0 < b.temporaries
+        first = let two = there in omega (arith, two)
+
+        parts : UpdateParts p unwatched ks [] b 0 0 q
+        parts = added_sorted p unwatched ks [] b 0 0 q s
+
+        name : q.name < length (kinds_of p.globals)
+        name = kind_below (kinds_of p.globals) q.name Unboxed parts.name
+
+        taken : CodeOk C L (sum_taken (layout_of p b) (sum_op q.op) q.target 0 d k) (I64 ∷ (I64 ∷ [])) rs
+        taken = sum_taken_ok {t = 0} (sum_op q.op) q.target (kind_below (kinds_of p.globals) q.target Unboxed parts.kind) first x r
+
+        by : (o : Option ℤ) → CodeOk C L (both_asked (layout_of p b) o q d (sum_taken (layout_of p b) (sum_op q.op) q.target 0 d k)) [] rs
+        by (Some z) =
+            name_numbered_ok {t = 0} name first x (get (at.number 0 first)
+            (long (called (I64 ∷ []) (at.imported (Of row.Field)) (called (I64 ∷ []) (at.imported (Of row.ToNum)) taken))))
+        by None =
+            code_ok at false [] [] q.added 0 0 d (none_below b.temporaries first) parts.added (omega (arith, h)) (omega (arith, g)) x
+            (name_numbered_ok {t = 1} name there x
+            (to_number_ok at (form_of [] q.added) first x (get (at.number 1 there) (get (at.number 0 first) taken))))
 
   -- counters in arrays
   module _ {L : Labels} {k : Instructions} {rs : Stack} where

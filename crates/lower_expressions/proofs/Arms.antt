@@ -15,8 +15,8 @@ use Rattle.mid_program.specs.Sorted.{count_of}
 use Rattle.mid_program.specs.ViewCode.{before, views}
 use Rattle.mid_program.specs.declared.code.Operand.{Operand}
 use Rattle.mid_program.specs.declared.mid.Operation.{Operation}
-use Rattle.lower_model.specs.Arithmetic.{compared}
-use Rattle.lower_model.specs.Emission.{Layout, all_appended, all_boxed, all_converted, all_emitted, all_freed, all_given, all_given_pushed, asked, emitted, field_in, field_or, field_read, function_number, keeping_closed, left_over, listed_asked, performed, sequence_closed, slot_set}
+use Rattle.lower_model.specs.Arithmetic.{compared, is_value}
+use Rattle.lower_model.specs.Emission.{Layout, Immediate, immediate_in, immediate_or, immediately_compared, all_appended, all_boxed, all_converted, all_emitted, all_freed, all_given, all_given_pushed, asked, emitted, field_in, field_or, field_read, function_number, keeping_closed, left_over, listed_asked, performed, sequence_closed, slot_set}
 use Rattle.lower_model.specs.Places.{made_in, array_local}
 use Rattle.lower_model.specs.Small.{ask_row, code_number, converted, does, either, h, kept_value, let_go, truth}
 use Rattle.host_imports.specs.declared.import.Import.TheVariants.{Drop}
@@ -121,11 +121,21 @@ replace_emitted y v fs gs ts every es s t w d a b c z e p q r k =
 
 -- Expressions of other ones.
 
-pub comparison_emitted : (y : Layout) (v : Bool) (fs : List plain.Form) (ts : List ℕ) (op : CompareOp) (l r : Code) (f g : plain.Form) (t w d : ℕ) (a b c z : List Instr) → f ≡ form_of fs l → g ≡ form_of fs r
+pub comparison_emitted : (y : Layout) (v : Bool) (fs : List plain.Form) (ts : List ℕ) (op : CompareOp) (l r : Code) (f g : plain.Form) (t w d : ℕ) (a b c z : List Instr) → f ≡ form_of fs l → g ≡ form_of fs r → immediate_in (is_value f) r ≡ None
     → Emits a b (emitted y false fs ts l t w d) → Emits b c (emitted y false fs ts r (suc t) w d) → Emits c z (compared y.bases op f g t d) → Emits a z (emitted y v fs ts (plain.Compare op l r) t w d)
 unfolding emitted all_emitted
-comparison_emitted y v fs ts op l r f g t w d a b c z e h p q s k =
-    s k ∙ ap (λ (x : plain.Form). followed c (compared y.bases op x g t d k)) e ∙ ap (λ (x : plain.Form). followed c (compared y.bases op (form_of fs l) x t d k)) h ∙ q _ ∙ p _
+comparison_emitted y v fs ts op l r f g t w d a b c z e h none p q s k =
+    let k1 = emitted y false fs ts r (suc t) w d (compared y.bases op (form_of fs l) (form_of fs r) t d k) in
+    s k ∙ ap (λ (x : plain.Form). followed c (compared y.bases op x g t d k)) e ∙ ap (λ (x : plain.Form). followed c (compared y.bases op (form_of fs l) x t d k)) h ∙ q _
+    ∙ ap (λ (x : Option Immediate). followed b (immediate_or y op (form_of fs l) x t d k k1)) (sym (ap (λ (x : plain.Form). immediate_in (is_value x) r) (sym e) ∙ none)) ∙ p _
+
+pub immediate_emitted : (y : Layout) (v : Bool) (fs : List plain.Form) (ts : List ℕ) (op : CompareOp) (l r : Code) (f : plain.Form) (i : Immediate) (t w d : ℕ) (a b z : List Instr) → f ≡ form_of fs l → immediate_in (is_value f) r ≡ Some i
+    → Emits a b (emitted y false fs ts l t w d) → Emits b z (immediately_compared y op f i t d) → Emits a z (emitted y v fs ts (plain.Compare op l r) t w d)
+unfolding emitted all_emitted
+immediate_emitted y v fs ts op l r f i t w d a b z e some p q k =
+    let k1 = emitted y false fs ts r (suc t) w d (compared y.bases op (form_of fs l) (form_of fs r) t d k) in
+    q k ∙ ap (λ (x : plain.Form). followed b (immediately_compared y op x i t d k)) e
+    ∙ ap (λ (x : Option Immediate). followed b (immediate_or y op (form_of fs l) x t d k k1)) (sym (ap (λ (x : plain.Form). immediate_in (is_value x) r) (sym e) ∙ some)) ∙ p _
 
 pub line_emitted : (y : Layout) (v : Bool) (fs : List plain.Form) (ts : List ℕ) (s : Code) (t w d : ℕ) (a b c z : List Instr)
     → Emits a b (asked y row.GetlineVar t d) → Emits b c (stored_when y.bases (stored_with y fs ts row.Line s t w d Done) t) → Emits c z (code_number y.bases t) → Emits a z (emitted y v fs ts (plain.AskLine s) t w d)

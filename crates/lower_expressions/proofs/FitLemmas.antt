@@ -1,10 +1,10 @@
 -- Code that fits has places, labels and arrays that do.
-use Rattle.std.proofs.Common.{ℕ, suc, ◌+◌, ◌≤◌, arith}
+use Rattle.std.proofs.Common.{◌≡◌, ℕ, suc, ◌+◌, ◌≤◌, Bool, true, Option, Some, None, ℤ, ap, subst, arith}
 use Rattle.mid_program.specs.Mid.{Code, Do, Over, Compare, Call, Ask, AskLine, FileLine, Replace, Number, Text, Unset, Get, Set, Array, IsOpen, Choose, Seq, Let, Bound, Codes, End, At, Fixed, Fresh}
 use Rattle.mid_program.specs.Sorted.{count_of}
-use Rattle.lower_model.specs.Emission.{Layout, array_meant}
+use Rattle.lower_model.specs.Emission.{Layout, Immediate, FieldOf, TextOf, NumberOf, immediate_field, immediate_in, field_in, array_meant}
 use Rattle.lower_pieces.specs.Bounds.{most_places}
-use Rattle.lower_expressions.specs.Fits.{AllFit, ArrayFits, ArraysFit, Fits, Within}
+use Rattle.lower_expressions.specs.Fits.{AllFit, ArrayFits, ArraysFit, Fits, ImmediateFits, Within}
 
 pub all_places : (y : Layout) (es : Codes) (t w d : ℕ) → AllFit y es t w d → suc (suc (t + count_of es)) ≤ most_places
 all_places y End t w d q = let a = q.0 in omega (arith, a)
@@ -44,3 +44,16 @@ arrays_fit y End t w d q = tt
 arrays_fit y (At e es) t w d q = (meant_fits y e t w d q.1.0, arrays_fit y es (suc t) w d q.1.1)
 arrays_fit y (Fixed m es) t w d q = arrays_fit y es t w d q
 arrays_fit y (Fresh es) t w d q = arrays_fit y es t (suc w) d q.1
+
+same_some : (x i : Immediate) → Some x ≡ Some i → x ≡ i
+same_some x i e = ap (λ (o : Option Immediate). elim o [ Some z ↦ z | None ↦ x ]) e
+
+field_fits : (y : Layout) (o : Option ℤ) (i : Immediate) → immediate_field o ≡ Some i → ImmediateFits y i
+field_fits y (Some z) i e = subst (ImmediateFits y) (same_some (FieldOf z) i e) tt
+field_fits y None i e = cc
+
+pub immediate_fits : (y : Layout) (v : Bool) (e : Code) (i : Immediate) (t w d : ℕ) → immediate_in v e ≡ Some i → Fits y e t w d → ImmediateFits y i
+immediate_fits y v (Do o es) i t w d e q = field_fits y (field_in o es) i e
+immediate_fits y v (Text j) i t w d e q = subst (ImmediateFits y) (same_some (TextOf j) i e) q.1
+immediate_fits y true (Number z) i t w d e q = subst (ImmediateFits y) (same_some (NumberOf z) i e) tt
+immediate_fits y v _ i t w d e q = cc

@@ -3,7 +3,7 @@ use Rattle.std.specs.Prelude.{ℕ, suc, ◌+◌, ◌≤◌, ◌<◌, List, [], �
 use Rattle.sem_scripts.specs.Names.{ArrayName, Numbered, Given}
 use Rattle.mid_program.specs.Mid.{Kind, Many, Slot, Global, Parameter, Code, Do, Over, Compare, Call, Ask, AskLine, FileLine, Replace, Number, Text, Unset, Get, Set, Array, IsOpen, Choose, Seq, Let, Bound, Codes, End, At, Fixed, Fresh, parameters_at}
 use Rattle.lower_pieces.specs.Bounds.{most_places, most_labels}
-use Rattle.lower_model.specs.Emission.{Layout, array_meant}
+use Rattle.lower_model.specs.Emission.{Layout, Immediate, FieldOf, TextOf, NumberOf, array_meant}
 use Rattle.lower_model.specs.Places.{made_in}
 
 -- two more temporaries and two more labels are there
@@ -17,6 +17,12 @@ SlotFits (Parameter u i) = i ≤ most_places
 abbrev pub ArrayFits : ArrayName → Type 0
 ArrayFits (Numbered i) = Unit {0}
 ArrayFits (Given i) = i ≤ most_places
+
+-- the text of an immediate operand is there
+abbrev pub ImmediateFits : Layout → Immediate → Type 0
+ImmediateFits layout (FieldOf z) = Unit {0}
+ImmediateFits layout (TextOf i) = i < length layout.texts
+ImmediateFits layout (NumberOf z) = Unit {0}
 
 -- operands that are arrays
 abbrev pub ArraysFit : Codes → Type 0

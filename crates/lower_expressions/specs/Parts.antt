@@ -15,7 +15,7 @@ use Rattle.wasm_types.specs.declared.types.ValType.TheVariants.{I64}
 use Rattle.wasm_types.specs.declared.instr.ITestOp.TheVariants.{Eqz}
 use Rattle.mid_program.specs.MidMeaning.{three_values}
 use Rattle.wasm_types.specs.Syntax.{Instructions, Done}
-use Rattle.wasm_types.specs.declared.instr.Simple.TheVariants.{Br, Call as CallOf, GlobalGet, GlobalSet, I32Const, LocalGet, LocalTee, Test}
+use Rattle.wasm_types.specs.declared.instr.Simple.TheVariants.{Br, Call as CallOf, GlobalGet, GlobalSet, I32Const, I64Const, LocalGet, LocalTee, Test}
 use Rattle.mid_program.specs.Mid as plain
 use Rattle.mid_program.specs.declared.mid.Operation.{Operation}
 use Rattle.mid_program.specs.declared.mid.Operation.TheVariants.{Host}
@@ -24,6 +24,10 @@ use Rattle.lower_model.specs.Places.{Bases, array_local, made_in}
 use Rattle.lower_model.specs.Small.{ask, ask_row, does, h, kept, kept_code, kept_value, minus_one, moved_out, n, number_is, to_value, converted, when}
 use Rattle.lower_model.specs.Emission.{Layout, all_pushed, emitted, text_kept, text_let_go, assigned, function_number, global_handle, global_number, listed_asked, one_given, pending_assigned, performed, text_dropped}
 use Rattle.host_imports.specs.declared.import.Import.TheVariants.{Arg, Drop, FreeArray}
+
+-- a constant, and the value that a row has of it
+abbrev pub constant_asked : (bits : ℕ) → Primitive → Instructions → Instructions
+constant_asked bits p after = does (I64Const bits) (ask_row p after)
 
 -- the text beside an unboxed name is dropped
 abbrev pub handle_dropped : Layout → ℕ → Instructions → Instructions

@@ -2,7 +2,14 @@
 use Rattle.mid_program.specs.View.{view_mid}
 use Rattle.lower_model.specs.Emission as plain
 use Rattle.lower_model.specs.Functions.{layout_of}
+use Rattle.lower_expressions.specs.declared.immediates.Immediate.{Immediate}
+use Rattle.lower_expressions.specs.declared.immediates.Immediate.TheVariants.{Field, Text, Number}
 use Rattle.lower_expressions.specs.declared.function_layout.FunctionLayout.{FunctionLayout}
 
 abbrev pub view_layout : FunctionLayout → plain.Layout
 view_layout layout = layout_of (view_mid layout.script.now.program.now) layout.bases.now
+
+abbrev pub view_immediate : Immediate → plain.Immediate
+view_immediate (Field z) = plain.FieldOf z
+view_immediate (Text i) = plain.TextOf i
+view_immediate (Number z) = plain.NumberOf z

@@ -14,6 +14,7 @@ use crate::at::{At, after_array, inner_at, next, stored_at};
 use crate::calls::called;
 use crate::fields::{field_in, field_read};
 use crate::function_layout::FunctionLayout;
+use crate::immediates::{immediate_in, immediately_compared};
 use crate::kept::Kept;
 use crate::leaves::{bound, constant, is_open, line, text, unset, variable};
 use crate::lists::listed;
@@ -26,7 +27,7 @@ use crate::storing::{
 };
 use awk_values::CompareOp;
 use host_imports::Import;
-use lower_pieces::{Form, code_number, compared, converted, either, let_go, truth};
+use lower_pieces::{Form, code_number, compared, converted, either, is_value, let_go, truth};
 use mid_program::{Code, Operand, Operation, Slot};
 use sem_primitives::{Answer, Listed, Primitive, Sort};
 use std::alloc::AllocError;
@@ -232,8 +233,11 @@ fn comparison(
     ensures kept { OnOk result (kept.new ≡ kept.old) }
 {
     let first = expression(y, kept, out, false, left, at)?;
-    let second = expression(y, kept, out, false, right, next(at))?;
     let t = at.temporary;
+    if let Some(operand) = immediate_in(is_value(first), right) {
+        return immediately_compared(y, out, op, first, operand, t, at.exit);
+    }
+    let second = expression(y, kept, out, false, right, next(at))?;
     compared(y.alloc, y.bases, out, op, first, second, t, at.exit)?;
     Ok(Form::Answered(Answer::Truth))
 }

@@ -2,7 +2,7 @@
 ghost use Rattle.std.specs.Prelude.{◌≡◌, ◌≤◌, IfOk, OnOk};
 ghost use Rattle.mid_program.specs.Mid.{a_value};
 ghost use Rattle.mid_program.specs.ViewCode.{view, views};
-ghost use Rattle.lower_model.specs.Emission.{constant_field, field_in, field_read, one_field};
+ghost use Rattle.lower_model.specs.Emission.{constant_field, field_at, field_in, field_read, one_field};
 ghost use Rattle.lower_pieces.specs.Bounds.{most_places};
 ghost use Rattle.lower_pieces.specs.Emits.{Emits};
 ghost use Rattle.lower_pieces.specs.Forms.{view_form};
@@ -70,6 +70,16 @@ pub(crate) fn field_in(operation: Operation, operands: &[Operand]) -> Option<i64
         Operation::Host(Primitive::Field) => one_field(operands),
         Operation::Host(_) | Operation::Inline(_) | Operation::AsNumber | Operation::FieldNumber =>
             None,
+    }
+}
+
+/// The number of the field that code is, where it is a constant.
+pub fn field_at(code: &Code) -> Option<i64>
+    ensures { result ≡ field_at (view code.now) }
+{
+    match code {
+        Code::Do(operation, operands) => field_in(*operation, operands),
+        _ => None,
     }
 }
 

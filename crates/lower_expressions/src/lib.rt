@@ -6,6 +6,7 @@ mod calls;
 mod expressions;
 mod fields;
 mod function_layout;
+mod immediates;
 mod kept;
 mod leaves;
 mod lists;
@@ -18,6 +19,7 @@ mod walks;
 
 pub use at::At;
 pub use expressions::expression;
+pub use fields::field_at;
 pub use function_layout::FunctionLayout;
 pub use kept::Kept;
 pub use pending::{asked, pending_assigned, pending_code};

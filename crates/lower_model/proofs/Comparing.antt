@@ -21,17 +21,17 @@ use Rattle.wasm_types.specs.declared.instr.Simple.TheVariants.{LocalGet, LocalSe
 use Rattle.wasm_store.specs.Words.{flag}
 use Rattle.wasm_store.specs.declared.word.Word.TheVariants.{I32, I64}
 use Rattle.mid_program.specs.Mid.{Kind, Program, Form, Answered, Bare, Perhaps, a_value, Code, Compare, Codes, At, End, form_of}
-use Rattle.mid_program.specs.MidMeaning.{Holds, evaluated, all_evaluated, boxed}
+use Rattle.mid_program.specs.MidMeaning.{Holds, Env, evaluated, all_evaluated, boxed}
 use Rattle.sem_scripts.specs.Steps.{zero_number, truth_number}
 use Rattle.sem_scripts.specs.ScriptState.{State, Outcome, Gives, Stops, Doing, go_on, give, settled}
-use Rattle.mid_program.specs.Sorted.{sorted, all_sorted, fits}
+use Rattle.mid_program.specs.Sorted.{Held as Standing, sorted, all_sorted, held_after, fits}
 use Rattle.lower_model.specs.Arithmetic.{relation, is_value, may_be_text, values_compared, numbers_compared, texts_beside, zeroed_if, bare_compared, compared}
 use Rattle.lower_model.specs.Cells.{Bits, Held}
 use Rattle.lower_model.specs.Emission.{emitted, all_emitted}
 use Rattle.lower_model.specs.ImportCalls.{with_some, and_rest, row_in}
 use Rattle.lower_model.specs.Machine
-use Rattle.lower_model.specs.Machine.{Conf, Label, Frame, at, label}
-use Rattle.lower_model.specs.Places.{Bases}
+use Rattle.lower_model.specs.Machine.{Conf, Label, Frame, at, label, loops_walked}
+use Rattle.lower_model.specs.Places.{Bases, room, arrays_in}
 use Rattle.lower_model.specs.Small.{does, ask_row, text_beside, moved_out, kept_code, to_value, h}
 use Rattle.lower_model.specs.Small
 use Rattle.lower_model.proofs.Watch.{Watch}
@@ -49,7 +49,7 @@ use Rattle.lower_model.proofs.Operands.{holds_same, codes_at, codes_end}
 use Rattle.lower_model.proofs.Arguments.{under_same, under_keeps}
 use Rattle.lower_model.proofs.Orders.{words_compared}
 use Rattle.lower_model.proofs.Expressions.{put_done}
-use Rattle.lower_model.proofs.Simulation.{work_of, works_of, layout, context, meant, all_meant, room_one, Done, ExprOk, AllDone}
+use Rattle.lower_model.proofs.Simulation.{work_of, works_of, layout, context, meant, all_meant, room_one, Ready, WellUsed, Done, ExprOk, AllDone}
 
 flag_numbered : (t : Bool) → (if t then 1 else 0) ≡ flag_number t
 flag_numbered true = refl
@@ -295,9 +295,16 @@ module _ (p : Program) (deepest : Watch) (ks : List Kind) (F : List Frame) (b : 
       by (Gives w τ) = refl
       by (Stops why τ) = refl
 
-  pub compare_expr : (c : CompareOp) (a e : Code) → ExprOk p deepest ks F b M n a → ExprOk p deepest ks F b M n e → ExprOk p deepest ks F b M n (Compare c a e)
+  -- a comparison does what it means, where this is the code after that of the first operand
+  abbrev pub CompareOk : CompareOp → (a e : Code) → (List Form → List ℕ → (t w d : ℕ) → Instructions → Instructions) → Type 0
+  CompareOk c a e rest = (v : Bool) (fs : List Form) (env : Env fs) (ts : List ℕ) (st : ℕ → Standing) (t u w d : ℕ) (k : Instructions) (K : List Label) (l : Locals) (σ : State) →
+      sorted (context p deepest ks F b M n) fs (Compare c a e) ≡ true → WellUsed p deepest ks F b M n fs (λ i. held_after i (Compare c a e) (st i)) → t + room (Compare c a e) ≤ b.temporaries → w + arrays_in (Compare c a e) ≤ b.arrays → Ready p deepest ks F b M n fs env ts st t u w (loops_walked K) l σ →
+      Reached p deepest ks F b M (work_of (Compare c a e)) σ.turns (at ks [] K (laid b l) F (emitted (layout p deepest ks F b M n) false fs ts a t w d (rest fs ts t w d k)) (beside_state p deepest ks F σ)) (Done p deepest ks F b M n v (Compare c a e) fs env ts st t u w k K l σ) (Away p deepest ks F b d K) (meant p deepest ks F b M n fs env (Compare c a e) σ)
+
+  -- both operands are evaluated into temporaries
+  pub compare_both : (c : CompareOp) (a e : Code) → ExprOk p deepest ks F b M n a → ExprOk p deepest ks F b M n e → CompareOk c a e (λ fs ts t w d k. emitted (layout p deepest ks F b M n) false fs ts e (suc t) w d (compared b c (form_of fs a) (form_of fs e) t d k))
   unfolding emitted all_emitted evaluated all_evaluated sorted all_sorted
-  compare_expr c a e oka oke v fs env ts st t u w d k K l σ so us rm ar rd =
+  compare_both c a e oka oke v fs env ts st t u w d k K l σ so us rm ar rd =
       let mach = machine p deepest ks F in
       let ctx = context p deepest ks F b M n in
       let Q = Away p deepest ks F b d K in

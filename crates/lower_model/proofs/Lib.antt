@@ -58,6 +58,7 @@ pub mod Storing
 pub mod SettingNames
 pub mod Orders
 pub mod Comparing
+pub mod Immediates
 pub mod Products
 pub mod Inlining
 pub mod Returning

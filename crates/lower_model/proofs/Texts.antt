@@ -1,6 +1,6 @@
 -- Texts of the script, where they lie in memory; and names that are unboxed.
 use Rattle.std.proofs.Common.{◌≡◌, inr, ℕ, zero, suc, ◌+◌, ◌<◌, ◌≤◌, true, false, List, [], ◌∷◌, ◌++◌, length, Some, None, refl, sym, ap, ◌∙◌, arith}
-use Rattle.std.specs.Prelude.{get_or, take, drop, nat_eq, if◌then◌else◌}
+use Rattle.std.specs.Prelude.{get_or, take, drop, nat_eq, nat_lt, if◌then◌else◌}
 use Rattle.std.proofs.lemmas.Bool.{ltb-true, le-leb}
 use Rattle.std.proofs.lemmas.List.{take_at, drop_at, drop-drop, length-append, get_or_append_left}
 use Rattle.awk_values.specs.declared.value.Value.{Value}
@@ -14,13 +14,13 @@ use Rattle.mid_program.specs.Mid.{Kind, Unboxed, Program, Global, Parameter, Bar
 use Rattle.mid_program.specs.MidMeaning.{evaluated, all_evaluated}
 use Rattle.sem_scripts.specs.ScriptState.{State, global_value, local_value}
 use Rattle.mid_program.specs.Sorted.{sorted, all_sorted, kinds_of, announced_names}
-use Rattle.lower_model.specs.Cells.{Bits, Held, is_owned}
-use Rattle.lower_model.specs.Emission.{emitted, all_emitted, slot_read}
+use Rattle.lower_model.specs.Cells.{Cell, Bits, Held, is_owned}
+use Rattle.lower_model.specs.Emission.{emitted, all_emitted, slot_read, text_pushed}
 use Rattle.lower_model.specs.Functions.{texts_of}
 use Rattle.lower_model.specs.ImportCalls.{with_some, and_rest, row_in, text_at}
 use Rattle.lower_model.specs.Machine.{Conf, Label, Frame, at}
 use Rattle.lower_model.specs.Places.{Bases, place_of, memory_of}
-use Rattle.lower_model.specs.Small.{does, when, copied, text_beside, h}
+use Rattle.lower_model.specs.Small.{does, ask_row, when, copied, text_beside, h}
 use Rattle.lower_model.proofs.Watch.{Watch}
 use Rattle.lower_model.proofs.Runs.{Goes, then_goes, goes_to, by_steps, there}
 use Rattle.lower_model.proofs.Regions.{upd_same}
@@ -58,21 +58,25 @@ text_placed ts i =
     ∙ ap Some (text_read ts i)
 
 module _ (p : Program) (deepest : Watch) (ks : List Kind) (F : List Frame) (b : Bases) (M n : ℕ) where
-  pub text_expr : (i : ℕ) → ExprOk p deepest ks F b M n (Text i)
-  unfolding emitted all_emitted evaluated all_evaluated sorted all_sorted
-  text_expr i v fs env ts st t u w d k K l σ so us rm ar rd =
+  -- a text comes onto the stack, whatever lies there
+  pub text_found : (i : ℕ) (σ : State) (vs : List Cell) (K : List Label) (L : List Cell) (k : Instructions) → nat_lt i (length p.texts) ≡ true →
+      Goes (machine p deepest ks F) 1 (at ks vs K L F (text_pushed (layout p deepest ks F b M n) i (ask_row row.Lit k)) (beside_state p deepest ks F σ)) (at ks (Held (value.Text (get_or p.texts i [])) ∷ vs) K L F k (beside_state p deepest ks F σ))
+  text_found i σ vs K L k so =
       let mach = machine p deepest ks F in
-      let S = beside_state p deepest ks F σ in
       let all = texts_of p in
       let s = get_or all i [] in
       let e : s ≡ get_or p.texts i [] = get_or_append_left p.texts (announced_names p) [] i (ltb-true i (length p.texts) so) in
+      goes_to
+      (row_called p deepest ks F row.Lit (s, tt) (Bits (I32 (place_of all i)) ∷ (Bits (I32 (length s)) ∷ [])) vs σ refl refl refl (ap (λ o. with_some (and_rest o []) (λ z. with_some (row_in mach.memory [] z.1) (λ rest. Some (z.0, rest)))) (text_placed all i)) refl)
+      (ap (λ τ. at ks (Held (value.Text s) ∷ vs) K L F k (beside_state p deepest ks F τ)) (same_state σ (value.Text s))
+      ∙ ap (λ z. at ks (Held (value.Text z) ∷ vs) K L F k (beside_state p deepest ks F σ)) e)
+
+  pub text_expr : (i : ℕ) → ExprOk p deepest ks F b M n (Text i)
+  unfolding emitted all_emitted evaluated all_evaluated sorted all_sorted
+  text_expr i v fs env ts st t u w d k K l σ so us rm ar rd =
       let x : Value = value.Text (get_or p.texts i []) in
-      there mach M 2 2 _ _ x σ (Done p deepest ks F b M n v (Text i) fs env ts st t u w k K l σ) (Away p deepest ks F b d K)
-      (then_goes
-      (goes_to
-      (row_called p deepest ks F row.Lit (s, tt) (Bits (I32 (place_of all i)) ∷ (Bits (I32 (length s)) ∷ [])) [] σ refl refl refl (ap (λ o. with_some (and_rest o []) (λ z. with_some (row_in mach.memory [] z.1) (λ rest. Some (z.0, rest)))) (text_placed all i)) refl)
-      (ap (λ τ. at ks (Held (value.Text s) ∷ []) K (laid b l) F (does (LocalSet (h b t)) k) (beside_state p deepest ks F τ)) (same_state σ (value.Text s))
-      ∙ ap (λ z. at ks (Held (value.Text z) ∷ []) K (laid b l) F (does (LocalSet (h b t)) k) S) e))
+      there (machine p deepest ks F) M 2 2 _ _ x σ (Done p deepest ks F b M n v (Text i) fs env ts st t u w k K l σ) (Away p deepest ks F b d K)
+      (then_goes (text_found i σ [] K (laid b l) (does (LocalSet (h b t)) k) so)
       (set_ok b l (Hand t) (Held x) (omega (arith, rm)) (ap is_owned (rd.fit.free t (omega arith))))) (omega arith)
       (put_done p deepest ks F b M n (Text i) v fs env ts st t u w k K l l σ σ x _ rd.below (same_self ts t w l) (λ j q. refl) rd.kept refl tt (put_value p deepest ks F b M t u w k K l x σ rd.fit))
 

@@ -1,37 +1,57 @@
 -- `n += e`: what is added is evaluated first, the name's number is asked then, and the sum goes to the name.
-use Rattle.std.proofs.Common.{◌≡◌, ℕ, zero, ◌+◌, ◌<◌, ◌≤◌, Bool, true, false, List, [], ◌∷◌, Some, None, Option, Ok, Err, Result, refl, sym, ap, ◌∙◌, subst, arith, if◌then◌else◌}
+use Rattle.std.proofs.Common.{◌≡◌, ℕ, zero, suc, ◌+◌, ◌-◌, ◌%◌, ◌^◌, ◌<◌, ◌≤◌, Bool, true, false, List, [], ◌∷◌, Some, None, Option, Ok, Err, Result, ℤ, pos, negsuc, unsigned_abs, w64, refl, sym, ap, ◌∙◌, subst, arith, if◌then◌else◌}
 use Rattle.std.specs.Prelude.{◌&&◌}
-use Rattle.std.proofs.lemmas.Bool.{and_parts}
+use Rattle.std.proofs.lemmas.Bool.{and_parts, lt-ltb}
+use Rattle.awk_values.specs.Faults.{fault_number}
 use Rattle.awk_values.specs.declared.fault.Fault.{Fault}
+use Rattle.awk_values.specs.declared.fault.Fault.TheVariants.{Range}
+use Rattle.awk_values.specs.declared.value.Value.{Value}
 use Rattle.awk_values.specs.declared.value.Value.TheVariants as value
-use Rattle.sem_primitives.specs.Numbers.{Number as AnyNumber, number_word, outcome_of}
+use Rattle.sem_primitives.specs.Numbers.{Number as AnyNumber, faulted_word, number_word, outcome_of}
 use Rattle.sem_primitives.specs.ValueMeaning.{number_of_row}
+use Rattle.sem_primitives.specs.declared.sorts.Answer.TheVariants as answer
 use Rattle.sem_primitives.specs.declared.sorts.Sort.TheVariants as sort
-use Rattle.wasm_types.specs.Syntax.{Instructions}
-use Rattle.wasm_types.specs.declared.instr.Simple.TheVariants.{LocalGet}
-use Rattle.wasm_store.specs.declared.word.Word.TheVariants.{I64}
+use Rattle.sem_primitives.specs.declared.table.Primitive.TheVariants as row
+use Rattle.sem_primitives.proofs.Words.{small}
+use Rattle.sem_scripts.specs.Steps.{is_field_number}
+use Rattle.wasm_types.specs.Syntax.{Instructions, Done as NoMore}
+use Rattle.wasm_types.specs.declared.types.ValType.TheVariants as ty
+use Rattle.wasm_types.specs.declared.instr.IBinOp.TheVariants as bin
+use Rattle.wasm_types.specs.declared.instr.IRelOp.TheVariants.{GtU}
+use Rattle.wasm_types.specs.declared.instr.Simple.TheVariants.{Br, LocalGet, LocalTee, GlobalSet, I32Const, I64Const, Binary, Compare as Comparing}
+use Rattle.wasm_store.specs.Integers.{binary_at}
+use Rattle.wasm_store.specs.Words.{flag, given_by}
+use Rattle.wasm_store.specs.declared.word.Word.TheVariants.{I32, I64}
 use Rattle.mid_program.specs.declared.mid.Arithmetic.{Arithmetic}
+use Rattle.mid_program.specs.declared.mid.Arithmetic.TheVariants as inline
 use Rattle.mid_program.specs.declared.mid.Operation.TheVariants.{Inline}
-use Rattle.mid_program.specs.Mid.{Kind, Unboxed, Program, Global, Code, Do, Get, Set, Let, Bound, Codes, End, At, Eval, a_number, form_of}
+use Rattle.mid_program.specs.Mid.{Kind, Unboxed, Program, Global, Code, Do, Get, Set, Let, Bound, Codes, End, At, Eval, a_number, a_value, form_of}
 use Rattle.mid_program.specs.MidMeaning.{Holds, converted, evaluated, all_evaluated, stepped, then_row, arithmetic_of, store_slot}
-use Rattle.sem_scripts.specs.ScriptState.{State, Outcome, ◌>>◌, give, go_on, settled, global_value}
+use Rattle.sem_scripts.specs.ScriptState.{State, Faulted, Outcome, ◌>>◌, give, go_on, settled, global_value}
 use Rattle.mid_program.specs.Sorted.{There, has_kind, kinds_of, sorted, all_sorted, is_kept, keeps_well, fits as fits_sort}
 use Rattle.sem_scripts.specs.Statements.{Normal}
 use Rattle.lower_model.specs.Cells.{Bits}
-use Rattle.lower_model.specs.Machine.{Conf, Label, Frame, at}
+use Rattle.lower_model.specs.Emission.{field_at, text_dropped}
+use Rattle.lower_model.specs.Machine.{Conf, Label, Frame, at, with_operands, push_result}
 use Rattle.lower_model.specs.Places.{Bases, room, arrays_in}
 use Rattle.lower_model.specs.Quick.{Update, is_sum, sum_op, name_in, update_of, kept_update, set_update, let_update, update_in}
-use Rattle.lower_model.specs.Small.{does}
+use Rattle.lower_model.specs.Small.{does, ask_row, fail_if}
 use Rattle.lower_model.specs.Small
-use Rattle.lower_model.specs.Statements.{name_numbered, sum_taken, updated}
+use Rattle.lower_model.specs.Statements.{name_number, name_numbered, field_numbered, sum_taken, both_asked, updated}
 use Rattle.lower_model.proofs.Watch.{Watch}
-use Rattle.lower_model.proofs.Runs.{then_goes, goes_from, same_goes, first, weaker, then_on, then_settled, there, stays}
-use Rattle.lower_model.proofs.Locals.{Locals, Number as NumberAt, laid}
-use Rattle.lower_model.proofs.Steps.{get_copied}
+use Rattle.lower_model.proofs.Runs.{then_goes, goes_to, goes_from, same_goes, by_steps, first, weaker, then_on, then_settled, there, faulted, stays}
+use Rattle.lower_model.proofs.Locals.{Locals, Number as NumberAt, with_at, laid}
+use Rattle.lower_model.proofs.Steps.{empty, get_copied, tee_ok}
+use Rattle.lower_model.proofs.Calls.{called}
+use Rattle.lower_model.proofs.Pieces.{chooses}
 use Rattle.lower_model.proofs.Relation.{HoldsAt, Fit, fit_less, fit_more, Away}
-use Rattle.lower_model.proofs.Answers.{machine, beside_state, Reached}
+use Rattle.lower_model.proofs.Answers.{machine, beside_state, left_beside, reply, after_reply, away_with, Reached}
+use Rattle.lower_model.proofs.Conversions.{ask_to_num}
 use Rattle.lower_model.proofs.Converting.{Converted, converted_ok}
 use Rattle.lower_model.proofs.Operands.{holds_same}
+use Rattle.lower_model.proofs.Fields.{field_code, field_at_is, field_found}
+use Rattle.lower_model.proofs.Products.{word, is_out, mod_small, mod_once}
+use Rattle.host_imports.specs.declared.import.Import.TheVariants.{Of}
 use Rattle.lower_model.proofs.Quick.{name_is}
 use Rattle.lower_model.proofs.QuickNames.{some_is}
 use Rattle.lower_model.proofs.Simulation.{work_of, context, layout, meant, Done, ExprOk, room_one, still_stands}
@@ -68,6 +88,26 @@ added_is (Let a c) q e = let_is a c q e
     let_is a (Set (Global true i) c) q e = set_is i a c q e
     let_is a c q e = cc
 added_is e q eq = cc
+
+-- a number with what stands for a fault has no sum in range
+
+fault_far : (z : ℤ) → unsigned_abs z ≤ 2 ^ 53 → is_out ((word z + 2 ^ 63) % 2 ^ 64) ≡ true
+fault_far (pos j) h =
+    let e = mod_small (j + 2 ^ 63) (omega (arith, h)) in
+    let s = mod_small (j + 2 ^ 63 + 2 ^ 53) (omega (arith, h)) in
+    ap is_out e ∙ lt-ltb (2 ^ 54) ((j + 2 ^ 63 + 2 ^ 53) % 2 ^ 64) (omega (arith, s))
+fault_far (negsuc j) h =
+    let e = mod_once (2 ^ 64 - suc j + 2 ^ 63) (2 ^ 63 - suc j) (omega (arith, h)) (omega arith) in
+    let s = mod_small (2 ^ 63 - suc j + 2 ^ 53) (omega (arith, h)) in
+    ap is_out e ∙ lt-ltb (2 ^ 54) ((2 ^ 63 - suc j + 2 ^ 53) % 2 ^ 64) (omega (arith, s, h))
+
+left_out : (m : AnyNumber) → is_out ((number_word m + 2 ^ 63) % 2 ^ 64) ≡ true
+left_out m = fault_far m.number (small m)
+
+fault_summed : (o : Arithmetic) (m : AnyNumber) → is_sum o ≡ true → binary_at w64 (sum_op o) (number_word m) faulted_word ≡ Ok ((number_word m + 2 ^ 63) % 2 ^ 64)
+fault_summed inline.Plus m e = refl
+fault_summed inline.Minus m e = refl
+fault_summed o m e = cc
 
 module _ (p : Program) (deepest : Watch) (ks : List Kind) (F : List Frame) (b : Bases) (M n : ℕ) where
   abbrev kinds : List Kind
@@ -144,10 +184,10 @@ module _ (p : Program) (deepest : Watch) (ks : List Kind) (F : List Frame) (b : 
       (goes_from a2.comes (then_goes (get_copied b l2 (NumberAt 1) (Bits (I64 (number_word m))) lt (a2.keeps.numbers 1 (λ e. omega (arith, e)) ∙ a1.holds.1) refl) (get_copied b l2 (NumberAt 0) (Bits (I64 (number_word z))) (omega (arith, lt)) a2.holds.1 refl))) (omega arith)
       (added_ok p deepest ks F b M n q.op q.target m z u d k K l2 τ so parts.kind (omega (arith, lt)) (fit_less p deepest ks F 1 u 0 l2 τ (a2.keeps.hands 1 (λ e. omega (arith, e)) ∙ a1.holds.0) a2.fit) a2.holds.0)))))
 
-  pub updated_ok : (q : Update) → ExprOk p deepest ks F b M n q.added → (lo : Bool) (u d bk ct : ℕ) (k : Instructions) (K : List Label) (l : Locals) (σ : State) → sorted (context p deepest ks F b M n) [] (added_code q) ≡ true → is_sum q.op ≡ true → room (added_code q) ≤ b.temporaries → arrays_in (added_code q) ≤ b.arrays → Starts p deepest ks F b M n u K l σ →
-      Reached p deepest ks F b M (work_of q.added + 70) σ.turns (at ks [] K (laid b l) F (updated (layout p deepest ks F b M n) q d k) (beside_state p deepest ks F σ)) (StepDone p deepest ks F b M n lo u bk ct k K l) (Away p deepest ks F b d K) (plain_meant p deepest ks F b M n (Eval (added_code q)) σ)
+  plainly_updated_ok : (q : Update) → ExprOk p deepest ks F b M n q.added → (lo : Bool) (u d bk ct : ℕ) (k : Instructions) (K : List Label) (l : Locals) (σ : State) → sorted (context p deepest ks F b M n) [] (added_code q) ≡ true → is_sum q.op ≡ true → room (added_code q) ≤ b.temporaries → arrays_in (added_code q) ≤ b.arrays → Starts p deepest ks F b M n u K l σ →
+      Reached p deepest ks F b M (work_of q.added + 70) σ.turns (at ks [] K (laid b l) F (both_asked (layout p deepest ks F b M n) None q d (sum_taken (layout p deepest ks F b M n) (sum_op q.op) q.target zero d k)) (beside_state p deepest ks F σ)) (StepDone p deepest ks F b M n lo u bk ct k K l) (Away p deepest ks F b d K) (plain_meant p deepest ks F b M n (Eval (added_code q)) σ)
   unfolding stepped evaluated all_evaluated
-  updated_ok q ok lo u d bk ct k K l σ so sm rm ar s =
+  plainly_updated_ok q ok lo u d bk ct k K l σ so sm rm ar s =
       let mach = machine p deepest ks F in
       let y = layout p deepest ks F b M n in
       let g = form_of [] q.added in
@@ -170,3 +210,87 @@ module _ (p : Program) (deepest : Watch) (ks : List Kind) (F : List Frame) (b : 
       (λ w τ c1 le h.
       there mach M 0 0 c1 c1 Normal τ P Q stays (omega arith)
       (record { next = h.next; comes = h.comes; starts = starts_after p deepest ks F b M n u K K l h.next σ τ s refl le h.iterators h.fit; iterators = h.iterators; flows = flows_on lo }))
+
+  -- `n += $2`: the field's number comes onto the stack, or what stands for a fault.
+
+  -- the sum with what stands for a fault is out of range, so the function is left; the fault is kept already
+  fault_found : (f : Fault) (o : Arithmetic) (m : AnyNumber) (i u d : ℕ) (k : Instructions) (K : List Label) (l : Locals) (σ : State) → is_sum o ≡ true → 0 < b.temporaries → Fit p deepest ks F 1 u 0 l σ → l.hand 0 ≡ empty → Reached p deepest ks F b M 30 σ.turns (at ks (Bits (I64 faulted_word) ∷ (Bits (I64 (number_word m)) ∷ [])) K (laid b l) F (sum_taken (layout p deepest ks F b M n) (sum_op o) i zero d k) (left_beside p deepest ks F (Faulted f) σ)) (λ a. Summed p deepest ks F b M n u k K l) (Away p deepest ks F b d K) (sum_given p deepest ks F b M n i σ (Err f))
+  fault_found f o m i u d k K l σ so lt ft he =
+      let mach = machine p deepest ks F in
+      let G = left_beside p deepest ks F (Faulted f) σ in
+      let w = (number_word m + 2 ^ 63) % 2 ^ 64 in
+      let c = Bits (I64 w) in
+      let l1 = with_at l (NumberAt 0) c in
+      let k2 = text_dropped (layout p deepest ks F b M n) i (does (LocalGet (Small.n b zero)) (does (GlobalSet (name_number (layout p deepest ks F b M n) i)) k)) in
+      let k1 = does (I64Const (2 ^ 53)) (does (Binary ty.I64 bin.Add) (does (I64Const (2 ^ 54)) (does (Comparing ty.I64 GtU) (fail_if Range d k2)))) in
+      let P : AnyNumber → State → Conf → Type 0 = λ a. Summed p deepest ks F b M n u k K l in
+      faulted mach M 30 7 _ _ f σ P (Away p deepest ks F b d K)
+      (then_goes (by_steps 1 (ap (λ r. with_operands (push_result [] (Some (given_by I64 r))) ks K (laid b l) F (does (LocalTee (Small.n b zero)) k1) G) (fault_summed o m so)))
+      (then_goes (tee_ok b l (NumberAt 0) c lt (ft.numbers 0))
+      (then_goes (goes_to (by_steps 2 refl) (ap (λ t. at ks (Bits (flag t) ∷ []) K (laid b l1) F (fail_if Range d k2) G) (left_out m)))
+      (then_goes (chooses (does (I32Const (fault_number Range)) (ask_row row.Fail (does (Br (suc d)) NoMore))) NoMore 1)
+      (then_goes (called (Of row.Fail) (Bits (I32 (fault_number Range)) ∷ []) [] G None G.host refl refl refl)
+      (by_steps 1 refl)))))) (omega arith)
+      (away_with p deepest ks F b M 0 u 0 d w K l σ f (fit_less p deepest ks F 0 u 0 l σ he ft))
+
+  -- the name takes the sum with the field's number, if there is one
+  field_adds : (r : Result AnyNumber Fault) (o : Arithmetic) (m : AnyNumber) (i u d : ℕ) (k : Instructions) (K : List Label) (l : Locals) (σ : State) → is_sum o ≡ true → has_kind kinds i Unboxed ≡ true → 0 < b.temporaries → Fit p deepest ks F 1 u 0 l σ → l.hand 0 ≡ empty →
+      Reached p deepest ks F b M 30 σ.turns (at ks (reply (answer.Of sort.Number) r (Bits (I64 (number_word m)) ∷ [])) K (laid b l) F (sum_taken (layout p deepest ks F b M n) (sum_op o) i zero d k) (after_reply p deepest ks F r σ)) (λ a. Summed p deepest ks F b M n u k K l) (Away p deepest ks F b d K) (go_on (settled r σ) (λ z σ1. sum_given p deepest ks F b M n i σ1 (outcome_of (arithmetic_of o m.number z.number))))
+  field_adds (Ok z) o m i u d k K l σ so hk lt ft he = added_ok p deepest ks F b M n o i m z u d k K l σ so hk lt ft he
+  field_adds (Err f) o m i u d k K l σ so hk lt ft he = fault_found f o m i u d k K l σ so lt ft he
+
+  abbrev with_added : Update → Code → Update
+  with_added q a = record { target = q.target; op = q.op; name = q.name; added = a }
+
+  abbrev with_field : Update → ℤ → Update
+  with_field q z = with_added q (field_code z)
+
+  field_updated_ok : (q : Update) (z : ℤ) → is_field_number z ≡ true → (lo : Bool) (u d bk ct : ℕ) (k : Instructions) (K : List Label) (l : Locals) (σ : State) → sorted (context p deepest ks F b M n) [] (added_code (with_field q z)) ≡ true → is_sum q.op ≡ true → room (added_code (with_field q z)) ≤ b.temporaries → Starts p deepest ks F b M n u K l σ →
+      Reached p deepest ks F b M (work_of (field_code z) + 70) σ.turns (at ks [] K (laid b l) F (both_asked (layout p deepest ks F b M n) (Some z) (with_field q z) d (sum_taken (layout p deepest ks F b M n) (sum_op q.op) q.target zero d k)) (beside_state p deepest ks F σ)) (StepDone p deepest ks F b M n lo u bk ct k K l) (Away p deepest ks F b d K) (plain_meant p deepest ks F b M n (Eval (added_code (with_field q z))) σ)
+  unfolding stepped evaluated all_evaluated
+  field_updated_ok q z is lo u d bk ct k K l σ so sm rm s =
+      let mach = machine p deepest ks F in
+      let y = layout p deepest ks F b M n in
+      let q1 = with_field q z in
+      let parts = added_sorted q1 so in
+      let found = field_found p deepest ks F b M n z σ is in
+      let a = found.value in
+      let W = work_of (field_code z) + 70 in
+      let Q = Away p deepest ks F b d K in
+      let P0 : AnyNumber → State → Conf → Type 0 = λ x. Summed p deepest ks F b M n u k K l in
+      let P = StepDone p deepest ks F b M n lo u bk ct k K l in
+      let k3 = sum_taken y (sum_op q.op) q.target zero d k in
+      let k1 = does (LocalGet (Small.n b zero)) (field_numbered y z k3) in
+      let own = number_of_row (global_value q.name σ) in
+      let ft = (ready p deepest ks F b M n u K l σ s).fit in
+      let lt : 0 < b.temporaries = omega (arith, rm) in
+      let start = at ks [] K (laid b l) F (name_numbered y q.name zero d k1) (beside_state p deepest ks F σ) in
+      let sum : (m : AnyNumber) → AnyNumber → State → Outcome AnyNumber = λ m x σ1. sum_given p deepest ks F b M n q.target σ1 (outcome_of (arithmetic_of q.op m.number x.number)) in
+      then_on mach M W 0 W σ.turns _ P0 P Q (meant p deepest ks F b M n [] tt (added_code q1) σ) _ (omega arith)
+      (subst (λ (r : Outcome Value). Reached p deepest ks F b M W σ.turns start P0 Q (go_on r (λ x τ. meant p deepest ks F b M n (a_value ∷ []) (x, tt) (Set (Global true q.target) (Do (Inline q.op) (At (Get (Global true q.name)) (At (Bound true zero) End)))) τ))) (sym found.means)
+      (subst (λ r. Reached p deepest ks F b M W σ.turns start P0 Q r) (sym (stored_means q1 a σ))
+      (then_settled mach M 22 34 W _ σ (Converted p deepest ks F b M 1 u 0 0 a_number k1 K l) P0 Q own (λ m σ1. go_on (settled (number_of_row a) σ1) (sum m)) (omega arith)
+      (name_numbered_ok p deepest ks F b M n q.name 1 u 0 0 d k1 K l σ parts.name (omega arith) lt (fit_more p deepest ks F 0 u 0 l σ ft) (ft.free 0 (omega arith)))
+      (λ m c1 e1 a1.
+      let l1 = a1.next in
+      let r = go_on (settled (number_of_row a) σ) (sum m) in
+      weaker mach M 34 σ.turns c1 (λ x. Summed p deepest ks F b M n u k K l1) P0 Q Q r (λ w τ c e. summed_since p deepest ks F b M n u k K l l1 τ c (λ v. a1.keeps.iterators v) e) (λ why τ c e. e)
+      (first mach M 3 30 34 σ.turns c1 _ (λ x. Summed p deepest ks F b M n u k K l1) Q r
+      (goes_from a1.comes (then_goes (get_copied b l1 (NumberAt 0) (Bits (I64 (number_word m))) lt a1.holds.1 refl)
+      (then_goes (found.pushes (Bits (I64 (number_word m)) ∷ []) K (laid b l1) (ask_row row.ToNum k3)) (ask_to_num p deepest ks F (Bits (I64 (number_word m)) ∷ []) σ a)))) (omega arith)
+      (field_adds (number_of_row a) q.op m q.target u d k K l1 σ sm parts.kind lt a1.fit a1.holds.0))))))
+      (λ w τ c1 le h.
+      there mach M 0 0 c1 c1 Normal τ P Q stays (omega arith)
+      (record { next = h.next; comes = h.comes; starts = starts_after p deepest ks F b M n u K K l h.next σ τ s refl le h.iterators h.fit; iterators = h.iterators; flows = flows_on lo }))
+
+  pub updated_ok : (q : Update) → ExprOk p deepest ks F b M n q.added → (lo : Bool) (u d bk ct : ℕ) (k : Instructions) (K : List Label) (l : Locals) (σ : State) → sorted (context p deepest ks F b M n) [] (added_code q) ≡ true → is_sum q.op ≡ true → room (added_code q) ≤ b.temporaries → arrays_in (added_code q) ≤ b.arrays → Starts p deepest ks F b M n u K l σ →
+      Reached p deepest ks F b M (work_of q.added + 70) σ.turns (at ks [] K (laid b l) F (updated (layout p deepest ks F b M n) q d k) (beside_state p deepest ks F σ)) (StepDone p deepest ks F b M n lo u bk ct k K l) (Away p deepest ks F b d K) (plain_meant p deepest ks F b M n (Eval (added_code q)) σ)
+  updated_ok q ok lo u d bk ct k K l σ so sm rm ar s = by (field_at q.added) refl
+    where
+      by : (o : Option ℤ) → field_at q.added ≡ o → Reached p deepest ks F b M (work_of q.added + 70) σ.turns (at ks [] K (laid b l) F (both_asked (layout p deepest ks F b M n) o q d (sum_taken (layout p deepest ks F b M n) (sum_op q.op) q.target zero d k)) (beside_state p deepest ks F σ)) (StepDone p deepest ks F b M n lo u bk ct k K l) (Away p deepest ks F b d K) (plain_meant p deepest ks F b M n (Eval (added_code q)) σ)
+      by None e = plainly_updated_ok q ok lo u d bk ct k K l σ so sm rm ar s
+      by (Some z) e =
+          let r = field_at_is q.added z e in
+          subst (λ (a : Code). sorted (context p deepest ks F b M n) [] (added_code (with_added q a)) ≡ true → room (added_code (with_added q a)) ≤ b.temporaries →
+              Reached p deepest ks F b M (work_of a + 70) σ.turns (at ks [] K (laid b l) F (both_asked (layout p deepest ks F b M n) (Some z) (with_added q a) d (sum_taken (layout p deepest ks F b M n) (sum_op q.op) q.target zero d k)) (beside_state p deepest ks F σ)) (StepDone p deepest ks F b M n lo u bk ct k K l) (Away p deepest ks F b d K) (plain_meant p deepest ks F b M n (Eval (added_code (with_added q a))) σ)) (sym r.0)
+          (λ so1 rm1. field_updated_ok q z r.1 lo u d bk ct k K l σ so1 sm rm1 s) so rm

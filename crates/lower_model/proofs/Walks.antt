@@ -21,7 +21,7 @@ use Rattle.mid_program.specs.MidMeaning.{three_values}
 use Rattle.sem_scripts.specs.Names.{ArrayName, Numbered, Given}
 use Rattle.mid_program.specs.Sorted.{count_of}
 use Rattle.lower_model.specs.Arithmetic.{calculated, compared, values_compared, numbers_compared, bare_compared, texts_beside, zeroed_if, is_value, may_be_text}
-use Rattle.lower_model.specs.Emission.{Layout, emitted, all_emitted, all_converted, all_pushed, array_pushed, performed, all_boxed, all_appended, listed_asked, all_given, all_given_pushed, slot_read, slot_set, field_in, field_or, left_over, sequence_closed, keeping_closed, bound_read, tested}
+use Rattle.lower_model.specs.Emission.{Layout, emitted, all_emitted, all_converted, all_pushed, array_pushed, performed, all_boxed, all_appended, listed_asked, all_given, all_given_pushed, slot_read, slot_set, field_in, field_or, Immediate, immediate_in, immediate_or, left_over, sequence_closed, keeping_closed, bound_read, tested}
 use Rattle.lower_model.specs.Machine.{is_walk}
 use Rattle.lower_model.specs.Places.{Bases, number_local}
 use Rattle.lower_model.specs.Small.{does, converted, to_value, to_number, truth, unused, released, moved_from, bound_from, copied_from}
@@ -198,6 +198,10 @@ module _ (y : Layout) where
   field_stern (Some z) t k other h = (refl, refl)
   field_stern None t k other h = h
 
+  immediate_stern : (c : CompareOp) (f : Form) (o : Option Immediate) (t d : ℕ) (k other : Instructions) → Stern other → Stern (immediate_or y c f o t d k other)
+  immediate_stern c f (Some i) t d k other h = value_stern y.bases f t _ (refl, refl)
+  immediate_stern c f None t d k other h = h
+
   sequence_stern : (v : Bool) (e : Code) (f : Form) (t : ℕ) (k : Instructions) → Stern k → Stern (sequence_closed y v e f t k)
   sequence_stern true e f t k h = left_stern e f t k h
   sequence_stern false e f t k h = h
@@ -216,7 +220,9 @@ module _ (y : Layout) where
     code_stern : (v : Bool) (fs : List Form) (ts : List ℕ) (e : Code) (t w d : ℕ) (k : Instructions) → Stern k → Stern (emitted y v fs ts e t w d k)
     code_stern v fs ts (Do o es) t w d k h = field_stern (field_in o es) t k _ (codes_stern fs ts es t w d _ (λ m. all_converted_stern fs (arguments o) es t d _ (performed_stern o es t d k h)))
     code_stern v fs ts (Over l es) t w d k h = codes_stern fs ts es t w d _ (λ m. boxed_stern fs es t _ (appended_stern es t _ (listed_stern l (count_of es) t d k)))
-    code_stern v fs ts (Compare c e f) t w d k h = code_stern false fs ts e t w d _ (code_stern false fs ts f (suc t) w d _ (compared_stern y.bases c (form_of fs e) (form_of fs f) t d k))
+    code_stern v fs ts (Compare c e f) t w d k h =
+        let g = form_of fs e in
+        code_stern false fs ts e t w d _ (immediate_stern c g (immediate_in (is_value g) f) t d k _ (code_stern false fs ts f (suc t) w d _ (compared_stern y.bases c g (form_of fs f) t d k)))
     code_stern v fs ts (Call f es) t w d k h =
         let ks = parameters_at y.calls f in
         codes_stern fs ts es t w d _ (λ m. given_stern fs ks es t _ (given_pushed_stern ks es t w _ m (refl, refl)))

@@ -2,7 +2,8 @@
 -- are in use, and the function's exit is d labels further out. Between two parts of code nothing is on the stack.
 use Rattle.std.specs.Prelude.{ℕ, zero, suc, ◌+◌, ◌-◌, Bool, true, false, if◌then◌else◌, List, [], ◌∷◌, length, get_or, Option, Some, None, ℤ}
 use Rattle.std.specs.Int.{w64, cast_unsigned}
-use Rattle.sem_primitives.specs.Constants.{destination_number, flag_number}
+use Rattle.awk_values.specs.declared.comparison.CompareOp.{CompareOp}
+use Rattle.sem_primitives.specs.Constants.{comparison_number, destination_number, flag_number}
 use Rattle.sem_primitives.specs.Table.{arguments_of, answer_of, can_fault}
 use Rattle.sem_primitives.specs.declared.constants.Destination.{Destination}
 use Rattle.sem_primitives.specs.declared.constants.Destination.TheVariants.{Standard, Emptied, Appended}
@@ -31,7 +32,7 @@ use Rattle.mid_program.specs.Sorted.{count_of}
 use Rattle.host_imports.specs.Imports.{import_count}
 use Rattle.lower_model.specs.Places.{Bases, place_of, array_local, array_name, range_global, handle_global, number_global, made_in}
 use Rattle.lower_model.specs.Small.{does, ask, ask_row, when, either, minus_one, least, text_beside, moved_out, let_go, copied, number_is, h, n, kept, kept_code, kept_value, boxed_number, boxed_perhaps, to_value, converted, code_number, truth, unused, released, moved_from, bound_from}
-use Rattle.lower_model.specs.Arithmetic.{calculated, field_checked, compared}
+use Rattle.lower_model.specs.Arithmetic.{calculated, field_checked, compared, is_value}
 use Rattle.host_imports.specs.declared.import.Listing.TheVariants as listing
 use Rattle.host_imports.specs.declared.import.Import.TheVariants.{Over as OverLast, Arg, Drop, FreeArray}
 
@@ -74,6 +75,27 @@ one_field es = None
 abbrev pub field_in : Operation → Codes → Option ℤ
 field_in (Host row.Field) es = one_field es
 field_in o es = None
+
+abbrev pub field_at : Code → Option ℤ
+field_at (Do o es) = field_in o es
+field_at e = None
+
+-- Operands that are immediate: what they give can be put on the stack where it is asked for, since they can neither fail nor change anything.
+pub data Immediate : Type 0 where
+  FieldOf : ℤ → Immediate
+  TextOf : ℕ → Immediate
+  NumberOf : ℤ → Immediate
+
+abbrev pub immediate_field : Option ℤ → Option Immediate
+immediate_field (Some z) = Some (FieldOf z)
+immediate_field None = None
+
+-- a number is one where it is asked for as a value
+abbrev pub immediate_in : (valued : Bool) → Code → Option Immediate
+immediate_in v (Do o es) = immediate_field (field_in o es)
+immediate_in v (Text i) = Some (TextOf i)
+immediate_in true (Number z) = Some (NumberOf z)
+immediate_in v e = None
 
 module _ (y : Layout) where
   abbrev pub b : Bases
@@ -231,6 +253,22 @@ module _ (y : Layout) where
   field_or (Some z) t k other = field_read z t k
   field_or None t k other = other
 
+  -- as a value, on the stack
+  abbrev pub immediate_pushed : Immediate → Instructions → Instructions
+  immediate_pushed (FieldOf z) k = does (I64Const (cast_unsigned w64 z)) (ask_row row.Field k)
+  immediate_pushed (TextOf i) k = text_pushed i (ask_row row.Lit k)
+  immediate_pushed (NumberOf z) k = does (I64Const (cast_unsigned w64 z)) (ask_row row.Num k)
+
+  -- what stands in temporary t, of form f, is compared with an immediate operand, by the host
+  abbrev pub immediately_compared : CompareOp → Form → Immediate → ℕ → ℕ → Instructions → Instructions
+  immediately_compared c f i t d k =
+      to_value b f t (does (I32Const (comparison_number c)) (moved_out (h b t)
+      (immediate_pushed i (ask_row row.Compare (kept_code b true t d k)))))
+
+  abbrev pub immediate_or : CompareOp → Form → Option Immediate → ℕ → ℕ → (k other : Instructions) → Instructions
+  immediate_or c f (Some i) t d k other = immediately_compared c f i t d k
+  immediate_or c f None t d k other = other
+
   -- What is evaluated for what it does alone leaves this to be dropped. An assignment has given its value away then, what was kept is dropped where
   -- it was kept, and code in which something comes last has dropped that.
   abbrev pub left_over : Code → Form → ℕ → Instructions → Instructions
@@ -265,7 +303,10 @@ module _ (y : Layout) where
     pub emitted : (only : Bool) → List Form → List ℕ → Code → (t w d : ℕ) → Instructions → Instructions
     emitted v fs ts (Do o es) t w d k = field_or (field_in o es) t k (all_emitted fs ts es t w d (all_converted fs (arguments o) es t d (performed o es t d k)))
     emitted v fs ts (Over l es) t w d k = all_emitted fs ts es t w d (all_boxed fs es t (all_appended es t (listed_asked l (count_of es) t d k)))
-    emitted v fs ts (Compare c e f) t w d k = emitted false fs ts e t w d (emitted false fs ts f (suc t) w d (compared b c (form_of fs e) (form_of fs f) t d k))
+    emitted v fs ts (Compare c e f) t w d k =
+        let g = form_of fs e in
+        emitted false fs ts e t w d (immediate_or c g (immediate_in (is_value g) f) t d k
+        (emitted false fs ts f (suc t) w d (compared b c g (form_of fs f) t d k)))
     emitted v fs ts (Call f es) t w d k =
         let ks = parameters_at y.calls f in
         all_emitted fs ts es t w d (all_given fs ks es t (all_given_pushed ks es t w

@@ -1,5 +1,5 @@
 -- The code of steps, of functions and of `main`. A statement's place is the `nop` that begins its code: there the function holds nothing, iterators aside.
-use Rattle.std.specs.Prelude.{ℕ, zero, suc, ◌+◌, ◌^◌, Bool, true, false, if◌then◌else◌, List, [], ◌∷◌, length, Option, Some, None, is_some, pos}
+use Rattle.std.specs.Prelude.{ℕ, zero, suc, ◌+◌, ◌^◌, Bool, true, false, if◌then◌else◌, List, [], ◌∷◌, length, Option, Some, None, is_some, ℤ, pos}
 use Rattle.awk_text.specs.Number.{largest}
 use Rattle.std.specs.Int.{w64, cast_unsigned}
 use Rattle.awk_values.specs.Faults.{fault_number}
@@ -24,7 +24,7 @@ use Rattle.lower_model.specs.Places.{Bases, way_global, status_global, range_glo
 use Rattle.lower_model.specs.Small.{does, ask, ask_row, when, either, end_code, text_beside, copied, moved_out, emptied, let_go, fail_if, number_is, h, n, kept_code, kept_number, kept_done, to_value, number_of_value, to_number}
 use Rattle.lower_model.specs.Quick.{Within, unsure, test_within, Source, Named, Constant, all_unsure, Sum, sum_names, sum_op, sum_in, Update, update_in, Tally, tally_in, Remainder, remainder_in, remainder_names, most_multiplied, multiplied, Counted, counted_in, Pair, pair_names, pair_in, contrary, step_jumps, is_nothing}
 use Rattle.lower_model.specs.Arithmetic.{relation}
-use Rattle.lower_model.specs.Emission.{Layout, array_pushed, text_pushed, pending_assigned, asked, text_dropped, emitted, dropped, tested}
+use Rattle.lower_model.specs.Emission.{Layout, array_pushed, text_pushed, pending_assigned, asked, text_dropped, field_at, emitted, dropped, tested}
 use Rattle.host_imports.specs.declared.import.Import.TheVariants.{Drop, IterFree, FreeArray}
 
 abbrev pub block : Instructions → Instructions → Instructions
@@ -117,11 +117,21 @@ module _ (y : Layout) where
       source_numbered s.left zero d (source_numbered s.right 1 d
       (source_taken s.left zero (source_taken s.right 1 (sum_taken (sum_op s.op) s.target zero d k))))
 
-  -- what is added stands in temporary 0, the name's number in the next one
-  abbrev pub updated : Update → ℕ → Instructions → Instructions
-  updated q d k =
+  -- The number of a field that a constant gives, on the stack, above another number. Where the field's text has none a fault is kept, and the least
+  -- number of 64 bits stands for it: no sum with that is in range, so the test of the sum finds the fault too.
+  abbrev pub field_numbered : ℤ → Instructions → Instructions
+  field_numbered z k = does (I64Const (cast_unsigned w64 z)) (ask_row row.Field (ask_row row.ToNum k))
+
+  -- The number of a name and that of what is added, on the stack. What is added stands in temporary 0, the name's number in the next one; a field that
+  -- a constant gives needs no temporary.
+  abbrev pub both_asked : Option ℤ → Update → ℕ → Instructions → Instructions
+  both_asked (Some z) q d k = name_numbered q.name zero d (does (LocalGet (n b zero)) (field_numbered z k))
+  both_asked None q d k =
       emitted y false [] [] q.added zero zero d (name_numbered q.name 1 d (to_number b (form_of [] q.added) zero d
-      (does (LocalGet (n b 1)) (does (LocalGet (n b zero)) (sum_taken (sum_op q.op) q.target zero d k)))))
+      (does (LocalGet (n b 1)) (does (LocalGet (n b zero)) k))))
+
+  abbrev pub updated : Update → ℕ → Instructions → Instructions
+  updated q d k = both_asked (field_at q.added) q d (sum_taken (sum_op q.op) q.target zero d k)
 
   -- Counters in arrays: the key stands in temporary 0, what is added in the next one, and the element's number comes to the one after.
 

@@ -27,7 +27,7 @@ use Rattle.mid_program.specs.Sorted.{count_of}
 use Rattle.lower_model.specs.Arithmetic.{calculated, compared, field_checked, is_value, may_be_text, numbers_compared, texts_beside, values_compared, zeroed_if}
 use Rattle.lower_model.specs.Boundaries.{is_nop}
 use Rattle.wasm_types.specs.Instructions.{depths}
-use Rattle.lower_model.specs.Emission.{Layout, all_appended, all_boxed, all_converted, all_emitted, all_freed, all_given, all_given_pushed, all_pushed, array_meant, array_pushed, asked, assigned, assigned_by_number, dropped, emitted, bound_read, field_in, field_or, handle_stored, keeping_closed, left_over, listed_asked, one_given, one_pushed, pending_assigned, performed, sequence_closed, slot_read, slot_set, tested, text_kept, text_let_go, value_stored}
+use Rattle.lower_model.specs.Emission.{Layout, Immediate, FieldOf, TextOf, NumberOf, immediate_in, immediate_or, immediate_pushed, all_appended, all_boxed, all_converted, all_emitted, all_freed, all_given, all_given_pushed, all_pushed, array_meant, array_pushed, asked, assigned, assigned_by_number, dropped, emitted, bound_read, field_in, field_or, handle_stored, keeping_closed, left_over, listed_asked, one_given, one_pushed, pending_assigned, performed, sequence_closed, slot_read, slot_set, tested, text_kept, text_let_go, value_stored}
 use Rattle.lower_model.specs.Places.{Bases, made_in}
 use Rattle.lower_model.specs.Small.{bound_from, code_number, converted, does, either, kept, kept_code, kept_done, kept_number, kept_value, moved_from, released, to_number, to_value, truth, unused}
 
@@ -267,11 +267,20 @@ module _ (y : Layout) where
     field_or_deep (Some z) t r q = record { count = let h = r.count in omega (arith, h) }
     field_or_deep None t r q = q
 
+    pushed_value_deep : (i : Immediate) → Deep k m → Deep (immediate_pushed y i k) m
+    pushed_value_deep (FieldOf z) r = record { count = let h = r.count in omega (arith, h) }
+    pushed_value_deep (TextOf i) r = record { count = let h = r.count in omega (arith, h) }
+    pushed_value_deep (NumberOf z) r = record { count = let h = r.count in omega (arith, h) }
+
     bound_read_deep : (v z : Bool) (f : Form) (s t : ℕ) → Deep k m → Deep (bound_read y v z f s t k) m
     bound_read_deep true z f s t r = r
     bound_read_deep false z f s t r = bound_deep b z f s t r
 
   module _ {k : Instructions} {m : ℕ} where
+    pub immediate_deep : {other : Instructions} (c : CompareOp) (f : Form) (o : Option Immediate) (t d : ℕ) → Deep k m → Deep other m → Deep (immediate_or y c f o t d k other) m
+    immediate_deep c f (Some i) t d r q = to_value_deep b f t (plain _ refl (plain _ refl (plain _ refl (plain _ refl (pushed_value_deep i (record { count = let h = r.count in omega (arith, h) }))))))
+    immediate_deep c f None t d r q = q
+
     sequence_deep : (v : Bool) (e : Code) (f : Form) (t : ℕ) → Deep k m → Deep (sequence_closed y v e f t k) m
     sequence_deep true e f t r = left_deep e f t r
     sequence_deep false e f t r = r
@@ -295,7 +304,9 @@ module _ (y : Layout) where
     pub emitted_deep : {k : Instructions} {m : ℕ} (v : Bool) (fs : List Form) (ts : List ℕ) (e : Code) (t w d : ℕ) → Deep k m → Deep (emitted y v fs ts e t w d k) m
     emitted_deep v fs ts (Do o es) t w d r = field_or_deep (field_in o es) t r (emits_deep fs ts es t w d (converts_deep fs (arguments o) es t d (performed_deep o es t d r)))
     emitted_deep v fs ts (Over l es) t w d r = emits_deep fs ts es t w d (boxes_deep fs es t (appends_deep es t (listed_deep l (count_of es) t d r)))
-    emitted_deep v fs ts (Compare c e f) t w d r = emitted_deep false fs ts e t w d (emitted_deep false fs ts f (suc t) w d (compared_deep b c (form_of fs e) (form_of fs f) t d r))
+    emitted_deep v fs ts (Compare c e f) t w d r =
+        emitted_deep false fs ts e t w d (immediate_deep c (form_of fs e) (immediate_in (is_value (form_of fs e)) f) t d r
+        (emitted_deep false fs ts f (suc t) w d (compared_deep b c (form_of fs e) (form_of fs f) t d r)))
     emitted_deep v fs ts (Call f es) t w d r =
         emits_deep fs ts es t w d (given_deep fs (parameters_at y.calls f) es t (given_pushed_deep (parameters_at y.calls f) es t w
         (plain _ refl (kept_value_deep b true t d (freed_deep w (made_in es) r)))))

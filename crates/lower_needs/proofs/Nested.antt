@@ -1,6 +1,7 @@
 -- Code is nested as deep as its labels are counted.
 use Rattle.std.proofs.Common.{◌≡◌, ◌≤◌, ◌+◌, ℕ, zero, suc, Bool, true, false, List, [], ◌∷◌, length, max, refl, ap, arith}
 use Rattle.std.specs.Prelude.{if◌then◌else◌, Option, Some, None, is_some, ℤ}
+use Rattle.awk_values.specs.declared.comparison.CompareOp.{CompareOp}
 use Rattle.sem_primitives.specs.declared.sorts.Answer.TheVariants as answer
 use Rattle.sem_primitives.specs.declared.sorts.Sort.TheVariants as sort
 use Rattle.sem_primitives.specs.declared.table.Primitive.{Primitive}
@@ -18,14 +19,15 @@ use Rattle.mid_program.specs.declared.mid.Operation.{Operation}
 use Rattle.mid_program.specs.declared.mid.Arithmetic.{Arithmetic}
 use Rattle.mid_program.specs.declared.mid.Operation.TheVariants.{Host, Inline, AsNumber}
 use Rattle.sem_scripts.specs.Names.{ArrayName}
-use Rattle.lower_model.specs.Emission.{Layout, all_emitted, constant_field, emitted, field_in, field_or, one_field, text_kept}
+use Rattle.lower_model.specs.Arithmetic.{is_value}
+use Rattle.lower_model.specs.Emission.{Layout, Immediate, all_emitted, constant_field, emitted, field_at, field_in, immediate_field, immediate_in, immediate_or, field_or, one_field, text_kept}
 use Rattle.lower_model.specs.Functions.{layout_of, main_bases, main_callee, routine_bases, routine_callee}
 use Rattle.lower_model.specs.Places.{Bases}
 use Rattle.lower_model.specs.Quick.{Within, test_within, joined, all_unsure, Source, source_in, Sum, sum_names, sum_op, sum_in, sum_of, two_sum, set_sum, kept_sum, update_sum, old_source, stored_name, new_sum, let_sum, Update, update_in, Tally, tally_in, Remainder, remainder_in, remainder_names, Counted, counted_in, Pair, pair_names, pair_in, step_jumps, is_nothing}
 use Rattle.lower_model.specs.Small.{does, either}
-use Rattle.lower_model.specs.Statements.{name_read, name_numbered, sum_kept, sum_taken, element_numbered, element_given, remainder_dropped, barely_dropped, plainly_dropped, quickly_dropped, left_unless_counted, left_unless_pair, left_unless, again, all_emptied, arrays_emptied, before_parts, block, iterator_left, iterators_emptied, key_stored, left_by, names_declared, names_made, part_done, record_done, records_read, routines_declared, step_emitted, steps_emitted, temporaries_emptied}
+use Rattle.lower_model.specs.Statements.{name_read, name_numbered, sum_kept, sum_taken, both_asked, element_numbered, element_given, remainder_dropped, barely_dropped, plainly_dropped, quickly_dropped, left_unless_counted, left_unless_pair, left_unless, again, all_emptied, arrays_emptied, before_parts, block, iterator_left, iterators_emptied, key_stored, left_by, names_declared, names_made, part_done, record_done, records_read, routines_declared, step_emitted, steps_emitted, temporaries_emptied}
 use Rattle.lower_model.proofs.Tallies.{Shape, Updating, Following, Leading, tally_code, tally_is}
-use Rattle.lower_model.proofs.Updating.{added_is}
+use Rattle.lower_model.proofs.Updating.{added_code, added_is}
 use Rattle.lower_needs.specs.Labels.{choice_labels, labels_among, labels_in, more_if, step_labels, steps_labels}
 use Rattle.lower_needs.proofs.Depths.{Deep, array_deep, asked_deep, converts_deep, dropped_deep, emitted_deep, emits_deep, kept_code_deep, kept_deep, kept_number_deep, left_deep, pushes_deep, tested_deep, to_number_deep, to_value_deep, truth_deep}
 
@@ -84,6 +86,22 @@ host_labels _ es z h = cc
 field_labels : (o : Operation) (es : Codes) (z : ℤ) → field_in o es ≡ Some z → labels_among es ≡ 0
 field_labels (Host p) es z h = host_labels p es z h
 field_labels _ es z h = cc
+
+-- nor has an immediate operand
+
+as_immediate_labels : (o : Operation) (es : Codes) (i : Immediate) (q : Option ℤ) → field_in o es ≡ q → immediate_field q ≡ Some i → labels_among es ≡ 0
+as_immediate_labels o es i (Some z) e h = field_labels o es z e
+as_immediate_labels o es i None e h = cc
+
+immediate_labels : (v : Bool) (e : Code) (i : Immediate) → immediate_in v e ≡ Some i → labels_in e ≡ 0
+immediate_labels v (Do o es) i h = as_immediate_labels o es i (field_in o es) refl h
+immediate_labels v (Text j) i h = refl
+immediate_labels true (Number z) i h = refl
+immediate_labels v _ i h = cc
+
+field_at_labels : (e : Code) (z : ℤ) → field_at e ≡ Some z → labels_in e ≡ 0
+field_at_labels (Do o es) z h = field_labels o es z h
+field_at_labels _ z h = cc
 
 -- a sum of sources has none
 
@@ -165,6 +183,13 @@ module _ (y : Layout) where
       by (Some z) e = at_least any (let n = field_labels o es z e in omega (arith, n))
       by None e = r
 
+  immediate_labelled : {other : Instructions} (c : CompareOp) (g : Form) (v : Bool) (f : Code) (t d : ℕ) (k : Instructions) → Deep other (labels_in f) → Deep (immediate_or y c g (immediate_in v f) t d k other) (labels_in f)
+  immediate_labelled {other = other} c g v f t d k r = by (immediate_in v f) refl
+    where
+      by : (o : Option Immediate) → immediate_in v f ≡ o → Deep (immediate_or y c g o t d k other) (labels_in f)
+      by (Some i) e = at_least any (let n = immediate_labels v f i e in omega (arith, n))
+      by None e = r
+
   line_kept : {k : Instructions} {m : ℕ} (p : Primitive) (t : ℕ) → Deep k m → Deep (text_kept y p t k) m
   line_kept p t r = past _ (past _ r)
 
@@ -176,7 +201,9 @@ module _ (y : Layout) where
     pub labelled : (k : Instructions) (v : Bool) (fs : List Form) (ts : List ℕ) (e : Code) (t w d : ℕ) → Deep (emitted y v fs ts e t w d k) (labels_in e)
     labelled k v fs ts (Do o es) t w d = field_labelled o es t k (all_labelled _ fs ts es t w d)
     labelled k v fs ts (Over l es) t w d = all_labelled _ fs ts es t w d
-    labelled k v fs ts (Compare c e f) t w d = both (labelled _ false fs ts e t w d) (emitted_deep y false fs ts e t w d (labelled _ false fs ts f (suc t) w d))
+    labelled k v fs ts (Compare c e f) t w d =
+        both (labelled _ false fs ts e t w d) (emitted_deep y false fs ts e t w d
+        (immediate_labelled c (form_of fs e) (is_value (form_of fs e)) f t d k (labelled _ false fs ts f (suc t) w d)))
     labelled k v fs ts (Call f es) t w d = all_labelled _ fs ts es t w d
     labelled k v fs ts Ask t w d = any
     labelled k v fs ts (AskLine s) t w d =
@@ -263,8 +290,11 @@ module _ (y : Layout) where
   module _ {k : Instructions} {m : ℕ} where
     plainly_deep : (o : Option Update) (e : Code) (d : ℕ) → Deep k m → Deep (plainly_dropped y o e d k) m
     plainly_deep None e d r = barely_deep (tally_in e) e d r
-    plainly_deep (Some q) e d r =
-        emitted_deep y false [] [] q.added zero zero d (name_deep q.name 1 d (to_number_deep b (form_of [] q.added) zero d (past _ (past _ (taking_deep (sum_op q.op) q.target zero d r)))))
+    plainly_deep (Some q) e d r = by (field_at q.added)
+      where
+        by : (o : Option ℤ) → Deep (both_asked y o q d (sum_taken y (sum_op q.op) q.target zero d k)) m
+        by (Some z) = name_deep q.name zero d (past _ (past _ (past _ (past _ (taking_deep (sum_op q.op) q.target zero d r)))))
+        by None = emitted_deep y false [] [] q.added zero zero d (name_deep q.name 1 d (to_number_deep b (form_of [] q.added) zero d (past _ (past _ (taking_deep (sum_op q.op) q.target zero d r)))))
 
     counted_deep : (o : Option Counted) (e : Code) (d out : ℕ) → Deep k m → Deep (left_unless_counted y o e d out k) m
     counted_deep None e d out r = tested_deep y [] [] e zero zero d (past _ (past _ r))
@@ -296,7 +326,14 @@ module _ (y : Layout) where
 
   plainly_labelled : (k : Instructions) (o : Option Update) (e : Code) (d : ℕ) → update_in e ≡ o → Deep (plainly_dropped y o e d k) (labels_in e)
   plainly_labelled k None e d h = barely_labelled k (tally_in e) e d refl
-  plainly_labelled k (Some q) e d h = at_least (labelled _ false [] [] q.added zero zero d) (let n = ap labels_in (added_is e q h).0 in omega (arith, n))
+  plainly_labelled k (Some q) e d h = by (field_at q.added) refl
+    where
+      same : labels_in e ≡ labels_in (added_code q)
+      same = ap labels_in (added_is e q h).0
+
+      by : (o : Option ℤ) → field_at q.added ≡ o → Deep (both_asked y o q d (sum_taken y (sum_op q.op) q.target zero d k)) (labels_in e)
+      by (Some z) f = at_least any (let n = same in let m = field_at_labels q.added z f in omega (arith, n, m))
+      by None f = at_least (labelled _ false [] [] q.added zero zero d) (let n = same in omega (arith, n))
 
   quick_labelled : (k : Instructions) (o : Option Sum) (e : Code) (d : ℕ) → sum_in e ≡ o → Deep (quickly_dropped y o e d k) (more_if (is_some o) (labels_in e))
   quick_labelled k None e d h = plainly_labelled k (update_in e) e d refl

@@ -36,7 +36,7 @@ pub fn relation(op: CompareOp) -> IRelOp
 }
 
 /// The number of an operator, as modules give it.
-fn comparison_number(op: CompareOp) -> u32
+pub fn comparison_number(op: CompareOp) -> u32
     ensures { result ≡ comparison_number op }
 {
     match op {
@@ -50,7 +50,7 @@ fn comparison_number(op: CompareOp) -> u32
 }
 
 /// Whether a form is a value that only the host compares.
-fn is_value(form: Form) -> bool
+pub fn is_value(form: Form) -> bool
     ensures { result ≡ is_value (view_form form) }
 {
     match form {

@@ -18,7 +18,7 @@ mod telling;
 pub use arithmetic::{calculated, field_checked};
 pub use bases::Bases;
 pub use boxing::{TEXT_BESIDE, boxed_number, boxed_perhaps};
-pub use comparing::{compared, relation};
+pub use comparing::{compared, comparison_number, is_value, relation};
 pub use converting::to_value;
 pub use emit::{again, ask, ask_row, block, does, does_all, either, when};
 pub use faults::{fail_if, number_is};

@@ -75,6 +75,11 @@ abbrev pub number_asked : Layout → ℕ → Form → ℕ → Instructions → I
 number_asked layout i f d after =
     name_numbered layout i 1 d (to_number layout.bases f zero d (does (LocalGet (n layout.bases 1)) (does (LocalGet (n layout.bases zero)) after)))
 
+-- the numbers of a name and of the field that a constant gives, by its bits, on the stack
+abbrev pub field_asked : Layout → ℕ → (bits : ℕ) → ℕ → Instructions → Instructions
+field_asked layout i bits d after =
+    name_numbered layout i zero d (does (LocalGet (n layout.bases zero)) (does (I64Const bits) (ask_row row.Field (ask_row row.ToNum after))))
+
 -- a counter's key, and what is added
 abbrev pub tally_evaluated : Layout → Tally → ℕ → Instructions → Instructions
 tally_evaluated layout q d after =

@@ -1,28 +1,30 @@
 //! Sums in all cases: a name's number may not be there yet, or be that of the text beside it.
-ghost use Rattle.std.specs.Prelude.{[], ◌≤◌, IfOk, OnOk, suc};
+ghost use Rattle.std.specs.Prelude.{[], ◌≤◌, IfOk, None, OnOk, suc};
 ghost use Rattle.mid_program.specs.Mid.{form_of};
 ghost use Rattle.mid_program.specs.ViewCode.{view};
 ghost use Rattle.lower_model.specs.Quick.{sum_op};
-ghost use Rattle.lower_model.specs.Statements.{name_numbered, number_found, number_there, source_numbered, source_taken, sum_kept, sum_taken, summed_anyway, updated};
+ghost use Rattle.lower_model.specs.Statements.{name_numbered, number_found, number_there, source_numbered, source_taken, sum_kept, sum_taken, summed_anyway, both_asked, updated};
+ghost use Rattle.lower_model.specs.Emission.{field_at};
 ghost use Rattle.lower_pieces.specs.Bounds.{most_labels, most_places};
 ghost use Rattle.lower_pieces.specs.Emits.{Emits};
 ghost use Rattle.lower_pieces.specs.Forms.{view_form};
 ghost use Rattle.lower_expressions.specs.Fits.{Fits};
 ghost use Rattle.lower_expressions.specs.View.{view_layout};
 ghost use Rattle.lower_quick.specs.View.{view_source, view_sum, view_update};
-ghost use Rattle.lowering.specs.Parts.{number_asked, zero_put};
+ghost use Rattle.lowering.specs.Parts.{field_asked, number_asked, zero_put};
 ghost use Rattle.lowering.specs.QuickFits.{SourceFits, SumFits};
 
 use crate::evaluating::answered;
 use crate::quick::sum_op;
 use awk_text::MAX_NUMBER;
 use awk_values::Fault;
-use lower_expressions::{FunctionLayout, global_handle, global_number, text_dropped};
+use lower_expressions::{FunctionLayout, field_at, global_handle, global_number, text_dropped};
 use lower_pieces::{
-    Form, TEXT_BESIDE, copied_by, does, does_all, either, fail_if, number_is, to_number, when,
+    Form, TEXT_BESIDE, ask_row, copied_by, does, does_all, either, fail_if, number_is, to_number,
+    when,
 };
 use lower_quick::{Source, Sum, Update};
-use sem_primitives::{Answer, Sort};
+use sem_primitives::{Answer, Primitive, Sort};
 use std::alloc::AllocError;
 use wasm_types::{IBinOp, IRelOp, Instr, Simple, ValType};
 
@@ -245,6 +247,62 @@ fn number_asked(
     does_all(out, &all)
 }
 
+/// Asks for the number of a name, and for that of the field that a constant gives, by its bits; both are put on the stack.
+fn field_asked(
+    y: &FunctionLayout<'_>,
+    out: &mut Vec<Instr>,
+    name: usize,
+    bits: u64,
+    exit: u32,
+) -> Result<(), AllocError>
+    requires name { name ≤ most_places }
+    requires labels { suc (suc exit) ≤ most_labels }
+    ensures { OnOk result
+        (Emits out.old.items out.new.items (field_asked (view_layout y.now) name bits exit)) }
+{
+    name_numbered(y, out, name, 0, exit)?;
+    let all = [Simple::LocalGet(y.bases.number(0)), Simple::I64Const(bits)];
+    does_all(out, &all)?;
+    ask_row(out, Primitive::Field)?;
+    ask_row(out, Primitive::ToNum)
+}
+
+/// Evaluates what is added to a name, and asks for both numbers.
+fn added_asked(
+    y: &FunctionLayout<'_>,
+    out: &mut Vec<Instr>,
+    update: Update<'_>,
+    exit: u32,
+) -> Result<(), AllocError>
+    requires name { update.name ≤ most_places }
+    requires fit { Fits (view_layout y.now) (view update.added.now) 0 0 exit }
+    requires labels { suc (suc exit) ≤ most_labels }
+    ensures { OnOk result (Emits out.old.items out.new.items
+        (both_asked (view_layout y.now) None (view_update update.entry) exit)) }
+{
+    let form = answered(y, out, update.added, exit)?;
+    number_asked(y, out, update.name, form, exit)
+}
+
+/// Puts the number of a name and that of what is added on the stack.
+fn both_asked(
+    y: &FunctionLayout<'_>,
+    out: &mut Vec<Instr>,
+    update: Update<'_>,
+    exit: u32,
+) -> Result<(), AllocError>
+    requires name { update.name ≤ most_places }
+    requires fit { Fits (view_layout y.now) (view update.added.now) 0 0 exit }
+    requires labels { suc (suc exit) ≤ most_labels }
+    ensures { OnOk result (Emits out.old.items out.new.items (both_asked (view_layout y.now)
+        (field_at (view update.added.now)) (view_update update.entry) exit)) }
+{
+    match field_at(update.added) {
+        Some(number) => field_asked(y, out, update.name, number.cast_unsigned(), exit),
+        None => added_asked(y, out, update, exit),
+    }
+}
+
 /// Adds a sum of a name and what is evaluated first.
 pub(crate) fn updated(
     y: &FunctionLayout<'_>,
@@ -259,7 +317,6 @@ pub(crate) fn updated(
     ensures { OnOk result (Emits out.old.items out.new.items
         (updated (view_layout y.now) (view_update update.entry) exit)) }
 {
-    let form = answered(y, out, update.added, exit)?;
-    number_asked(y, out, update.name, form, exit)?;
+    both_asked(y, out, update, exit)?;
     sum_taken(y, out, sum_op(update.op), update.target, exit)
 }

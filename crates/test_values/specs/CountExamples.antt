@@ -1,18 +1,18 @@
 -- What runs take: `n` is unboxed, and no import is called where it counts.
 use Rattle.std.specs.Prelude.{◌≡◌, ℕ, ◌+◌, Bool, true, false, List, [], ◌∷◌, codes, None, Some, pos, refl}
 use Rattle.std.specs.Fmt.{digits}
-use Rattle.awk_values.specs.declared.comparison.CompareOp.TheVariants.{Less, LessOrEqual}
+use Rattle.awk_values.specs.declared.comparison.CompareOp.TheVariants.{Equal, Less, LessOrEqual}
 use Rattle.awk_values.specs.declared.fault.Fault.TheVariants.{TextLimit}
 use Rattle.world_core.specs.WorldState.{Standard, absent, puts}
 use Rattle.world_core.specs.declared.world.Ending.TheVariants as outside
 use Rattle.sem_primitives.specs.declared.constants.Destination.TheVariants as to
-use Rattle.sem_primitives.specs.declared.table.Primitive.TheVariants.{Elem, GetSpecial, SetElem, SetSpecial}
+use Rattle.sem_primitives.specs.declared.table.Primitive.TheVariants.{Elem, Field, GetSpecial, SetElem, SetSpecial}
 use Rattle.sem_primitives.specs.declared.table.Listed.TheVariants.{Print}
 use Rattle.sem_scripts.specs.ScriptRun.{Setting, Ended, FaultedBy, setting_of}
 use Rattle.mid_program.specs.declared.mid.Arithmetic.TheVariants.{Modulo, Plus, Times}
 use Rattle.mid_program.specs.declared.mid.Operation.TheVariants.{AsNumber, Host, Inline}
 use Rattle.sem_scripts.specs.Names.{Numbered}
-use Rattle.mid_program.specs.Mid.{Kind, Boxed, Unboxed, Many, Global, Code, Do, Over, Compare, Number, Text, Array, Get, Set, Seq, Let, Bound, End, At, Fixed, Declared, Step, Eval, Block, Loop, Steps, NoStep, Then, Program}
+use Rattle.mid_program.specs.Mid.{Kind, Boxed, Unboxed, Many, Global, Code, Do, Over, Compare, Number, Text, Array, Get, Set, Seq, Let, Bound, End, At, Fixed, Declared, Step, Eval, Block, If, Loop, Steps, NoStep, Then, Program}
 use Rattle.mid_program.specs.Sorted.{sorted, all_sorted, step_sorted, steps_sorted, is_sorted}
 use Rattle.lower_model.specs.Emission.{emitted, all_emitted}
 use Rattle.lower_model.specs.Statements.{step_emitted, steps_emitted}
@@ -93,13 +93,13 @@ pub kept_from_the_start : ending_at (go (code_of (counting false 3) 9999) 1000 (
 unfolding emitted all_emitted step_emitted steps_emitted digits
 kept_from_the_start = refl
 
--- 15 steps a round and no import; boxed, 49 steps and 7 imports
+-- 15 steps a round and no import; boxed, 44 steps and 7 imports
 pub unboxed_rounds : (steps_of (counting true 10) ≡ 296) × ((steps_of (counting true 20) ≡ 446) × (imports_of (counting true 10) ≡ 7))
 unfolding emitted all_emitted step_emitted steps_emitted digits
 unboxed_rounds = (refl, (refl, refl))
 
-pub boxed_rounds : (steps_of (counting false 10) ≡ 575)
-    × ((steps_of (counting false 20) ≡ 1065) × ((imports_of (counting false 10) ≡ 81) × (imports_of (counting false 20) ≡ 151)))
+pub boxed_rounds : (steps_of (counting false 10) ≡ 520)
+    × ((steps_of (counting false 20) ≡ 960) × ((imports_of (counting false 10) ≡ 81) × (imports_of (counting false 20) ≡ 151)))
 unfolding emitted all_emitted step_emitted steps_emitted digits
 boxed_rounds = (refl, (refl, (refl, refl)))
 
@@ -202,3 +202,45 @@ divided_to_ten = (refl, refl)
 pub dividing_rounds : (steps_of (dividing 20) ≡ steps_of (dividing 10) + 260) × (imports_of (dividing 20) ≡ imports_of (dividing 10))
 unfolding emitted all_emitted step_emitted steps_emitted digits
 dividing_rounds = (refl, refl)
+
+-- BEGIN { while (n < k) { n = n + 1; s += $1 } }: n and s in this order
+abbrev field_added : Step
+field_added = Eval (Let (Do (Host Field) (At (Number (pos 1)) End)) (Set (Global true 1) (Do (Inline Plus) (At (nth 1) (At (Bound true 0) End)))))
+
+abbrev adding : ℕ → Program
+adding k = record {
+  texts = [];
+  globals = unboxed_name (codes "n") ∷ (unboxed_name (codes "s") ∷ []);
+  routines = [];
+  ranges = 1;
+  begin = Then (Loop true (Compare Less (n_of true) (Number (pos k))) (Block (Then (n_plus_one true) (Then field_added NoStep))) (Block NoStep)) NoStep;
+  reads = false;
+  items = NoStep;
+  end = NoStep;
+}
+
+-- 37 steps a round, 21 of them and both imports for the sum
+pub adding_rounds : is_sorted (adding 10) ≡ true × (steps_of (adding 20) ≡ steps_of (adding 10) + 370) × (imports_of (adding 20) ≡ imports_of (adding 10) + 20)
+unfolding emitted all_emitted step_emitted steps_emitted digits sorted all_sorted step_sorted steps_sorted
+adding_rounds = (refl, (refl, refl))
+
+-- BEGIN { while (n < k) { n = n + 1; if ($1 == "x") n = n + 1 } }
+abbrev field_compared : Step
+field_compared = If (Compare Equal (Do (Host Field) (At (Number (pos 1)) End)) (Text 0)) (n_plus_one true) (Block NoStep)
+
+abbrev comparing : ℕ → Program
+comparing k = record {
+  texts = codes "x" ∷ [];
+  globals = unboxed_name (codes "n") ∷ [];
+  routines = [];
+  ranges = 1;
+  begin = Then (Loop true (Compare Less (n_of true) (Number (pos k))) (Block (Then (n_plus_one true) (Then field_compared NoStep))) (Block NoStep)) NoStep;
+  reads = false;
+  items = NoStep;
+  end = NoStep;
+}
+
+-- 33 steps a round where the test fails: 16 of the loop and of its block, 17 of the choice, with an empty statement
+pub comparing_rounds : is_sorted (comparing 10) ≡ true × (steps_of (comparing 20) ≡ steps_of (comparing 10) + 330) × (imports_of (comparing 20) ≡ imports_of (comparing 10) + 30)
+unfolding emitted all_emitted step_emitted steps_emitted digits sorted all_sorted step_sorted steps_sorted
+comparing_rounds = (refl, (refl, refl))

@@ -4,12 +4,14 @@ use Rattle.std.proofs.lemmas.List.{length-map, map-append}
 use Rattle.std.proofs.lemmas.Result.{IfOk-weaker, on_ok_weaker}
 use Rattle.std.specs.Int.{w64}
 use Rattle.std.specs.Prelude.{FitsSigned}
+use Rattle.std.specs.Option.{option_map}
 use Rattle.sem_primitives.specs.declared.table.Primitive.TheVariants as row
 use Rattle.mid_program.specs.Mid as plain
 use Rattle.mid_program.specs.Mid.{Codes, form_of}
 use Rattle.mid_program.specs.ViewCode.{joined, view, view_slot, views}
 use Rattle.mid_program.specs.declared.code.Code.{Code}
-use Rattle.lower_model.specs.Emission.{emitted}
+use Rattle.lower_model.specs.Arithmetic.{is_value}
+use Rattle.lower_model.specs.Emission.{emitted, immediate_in}
 use Rattle.lower_model.specs.Places.{handle_local}
 use Rattle.lower_model.specs.Small.{let_go}
 use Rattle.host_imports.specs.declared.import.Import.TheVariants.{Drop}
@@ -20,10 +22,10 @@ use Rattle.lower_pieces.proofs.Appended.{emits_none}
 use Rattle.lower_expressions.specs.Fits.{AllFit, Fits}
 use Rattle.lower_expressions.specs.Keeping.{Keeping, kept_but_one, kept_more}
 use Rattle.lower_expressions.specs.Parts.{all_joined, branch_with, forms_in, stored_with}
-use Rattle.lower_expressions.specs.View.{view_layout}
+use Rattle.lower_expressions.specs.View.{view_immediate, view_layout}
 use Rattle.lower_expressions.specs.declared.at.At.{At}
-use Rattle.lower_expressions.proofs.Arms.{assignment_emitted, branch_emitted, call_emitted, choice_emitted, code_emitted, comparison_emitted, field_emitted, file_line_emitted, fixed_emitted, form_added, fresh_emitted, keeping_emitted, kept_form, line_emitted, listing_emitted, next_operand, no_form, none_emitted, operation_emitted, replace_emitted, sequence_emitted, stored_emitted}
-use Rattle.lower_expressions.proofs.FitLemmas.{all_places, all_within, arrays_fit}
+use Rattle.lower_expressions.proofs.Arms.{assignment_emitted, branch_emitted, call_emitted, choice_emitted, code_emitted, comparison_emitted, field_emitted, file_line_emitted, fixed_emitted, form_added, fresh_emitted, immediate_emitted, keeping_emitted, kept_form, line_emitted, listing_emitted, next_operand, no_form, none_emitted, operation_emitted, replace_emitted, sequence_emitted, stored_emitted}
+use Rattle.lower_expressions.proofs.FitLemmas.{all_places, all_within, arrays_fit, immediate_fits}
 use Rattle.lower_expressions.proofs.FormLemmas.{forms_counted}
 use Rattle.lower_expressions.proofs.Keys.{key_fits, key_weighs, subscript_emitted}
 use Rattle.lower_expressions.proofs.WalkLemmas.{no_items}
@@ -501,11 +503,31 @@ comparison-compared-requires-clause-labels t c =
     let a = c.requires.0.1.1 in
     omega (arith, a)
 
+pub comparison-immediately_compared-requires-clause-places : goal.comparison-immediately_compared-requires-clause-places
+comparison-immediately_compared-requires-clause-places t c =
+    let a = c.requires.0.0 in
+    omega (arith, a)
+
+pub comparison-immediately_compared-requires-clause-operand : goal.comparison-immediately_compared-requires-clause-operand
+comparison-immediately_compared-requires-clause-operand t c =
+    immediate_fits (view_layout c.args.y.now) (is_value (view_form c.in_ok-first.first)) (view c.args.right.now) (view_immediate c.in-Some.operand)
+    (suc c.args.at.temporary) c.args.at.arrays c.args.at.exit
+    (ap (λ v. immediate_in v (view c.args.right.now)) (sym c.is_value.ensures) ∙ sym c.immediate_in.ensures ∙ ap (option_map view_immediate) c.in-Some.is)
+    c.requires.1.1
+
+pub comparison-returns-in-Some-clause-emits : goal.comparison-returns-in-Some-clause-emits
+comparison-returns-in-Some-clause-emits t c = λ v. on_ok_weaker c.immediately_compared.result (immediate_emitted (view_layout c.args.y.now) v c.args.kept.now.forms c.args.kept.now.temporaries c.args.op
+    (view c.args.left.now) (view c.args.right.now) (view_form c.in_ok-first.first) (view_immediate c.in-Some.operand) c.args.at.temporary
+    c.args.at.arrays c.args.at.exit c.args.out.now.items c.expression.new.out.items c.immediately_compared.new.out.items c.in_ok-first.ensures.form
+    (ap (λ v. immediate_in v (view c.args.right.now)) (sym c.is_value.ensures) ∙ sym c.immediate_in.ensures ∙ ap (option_map view_immediate) c.in-Some.is)
+    c.in_ok-first.ensures.emits) c.immediately_compared.ensures.emits
+
 pub comparison-returns-clause-emits : goal.comparison-returns-clause-emits
 comparison-returns-clause-emits t c = λ v. comparison_emitted (view_layout c.args.y.now) v c.args.kept.now.forms c.args.kept.now.temporaries c.args.op
     (view c.args.left.now) (view c.args.right.now) (view_form c.in_ok-first.first) (view_form c.in_ok-second.second) c.args.at.temporary
     c.args.at.arrays c.args.at.exit c.args.out.now.items c.expression.new.out.items c.expression-2.new.out.items c.compared.new.out.items
     c.in_ok-first.ensures.form (rw c.in_ok-first.ensures.kept at c.in_ok-second.ensures.form)
+    (ap (λ v. immediate_in v (view c.args.right.now)) (sym c.is_value.ensures) ∙ sym c.immediate_in.ensures ∙ ap (option_map view_immediate) c.in_default.is)
     c.in_ok-first.ensures.emits (rw (c.in_ok-first.ensures.kept, c.next.ensures) at c.in_ok-second.ensures.emits) c.in_ok-compared.ensures
 
 -- texts that are stored

@@ -1,0 +1,118 @@
+//! Operands that are immediate: what they give is put on the stack where it is asked for.
+ghost use Rattle.std.specs.Option.{option_map};
+ghost use Rattle.std.specs.Prelude.{◌≡◌, ◌≤◌, IfOk, OnOk, suc};
+ghost use Rattle.sem_primitives.specs.declared.sorts.Answer.TheVariants.{Truth};
+ghost use Rattle.mid_program.specs.Mid.{Answered};
+ghost use Rattle.mid_program.specs.ViewCode.{view, views};
+ghost use Rattle.lower_model.specs.Emission.{immediate_field, immediate_in, immediate_pushed, immediately_compared};
+ghost use Rattle.lower_pieces.specs.Bounds.{most_places};
+ghost use Rattle.lower_pieces.specs.Emits.{Emits};
+ghost use Rattle.lower_pieces.specs.Forms.{view_form};
+ghost use Rattle.lower_expressions.specs.Fits.{ImmediateFits};
+ghost use Rattle.lower_expressions.specs.Parts.{constant_asked};
+ghost use Rattle.lower_expressions.specs.View.{view_immediate, view_layout};
+
+use crate::fields::field_in;
+use crate::function_layout::FunctionLayout;
+use crate::places::text_pushed;
+use awk_values::CompareOp;
+use lower_pieces::{Form, ask_row, comparison_number, does, kept_code, moved_out, to_value};
+use mid_program::Code;
+use sem_primitives::{Answer, Primitive};
+use std::alloc::AllocError;
+use wasm_types::{Instr, Simple};
+
+/// An operand that can neither fail nor change anything.
+#[derive(Clone, Copy, Debug, Drop)]
+pub(crate) enum Immediate {
+    /// A field whose number is this constant.
+    Field(i64),
+    /// The text of the script with this number.
+    Text(usize),
+    Number(i64),
+}
+
+/// The field that an operand is.
+fn immediate_field(number: Option<i64>) -> Option<Immediate>
+    ensures { option_map view_immediate result ≡ immediate_field number }
+{
+    match number {
+        Some(number) => Some(Immediate::Field(number)),
+        None => None,
+    }
+}
+
+/// The immediate operand that code is; a number is one where a value is asked for.
+pub(crate) fn immediate_in(valued: bool, code: &Code) -> Option<Immediate>
+    ensures { option_map view_immediate result ≡ immediate_in valued (view code.now) }
+{
+    match code {
+        Code::Do(operation, operands) => immediate_field(field_in(*operation, operands)),
+        Code::Text(text) => Some(Immediate::Text(*text)),
+        Code::Number(number) => {
+            if valued {
+                Some(Immediate::Number(*number))
+            } else {
+                None
+            }
+        }
+        _ => None,
+    }
+}
+
+/// Adds a constant, by its bits, and asks for the value that a row has of it.
+fn constant_asked(
+    out: &mut Vec<Instr>,
+    bits: u64,
+    primitive: Primitive,
+) -> Result<(), AllocError>
+    ensures { OnOk result (Emits out.old.items out.new.items (constant_asked bits primitive)) }
+{
+    does(out, Simple::I64Const(bits))?;
+    ask_row(out, primitive)
+}
+
+/// Puts the value of such an operand on the stack.
+fn immediate_pushed(
+    y: &FunctionLayout<'_>,
+    out: &mut Vec<Instr>,
+    operand: Immediate,
+) -> Result<(), AllocError>
+    requires { ImmediateFits (view_layout y.now) (view_immediate operand) }
+    ensures { OnOk result (Emits out.old.items out.new.items
+        (immediate_pushed (view_layout y.now) (view_immediate operand))) }
+{
+    match operand {
+        Immediate::Field(number) => constant_asked(out, number.cast_unsigned(), Primitive::Field),
+        Immediate::Text(text) => {
+            text_pushed(y, out, text)?;
+            ask_row(out, Primitive::Lit)
+        }
+        Immediate::Number(number) => constant_asked(out, number.cast_unsigned(), Primitive::Num),
+    }
+}
+
+/// Compares what stands in a temporary with such an operand.
+pub(crate) fn immediately_compared(
+    y: &FunctionLayout<'_>,
+    out: &mut Vec<Instr>,
+    op: CompareOp,
+    form: Form,
+    operand: Immediate,
+    t: u32,
+    exit: u32,
+) -> Result<Form, AllocError>
+    requires places { suc t ≤ most_places }
+    requires operand { ImmediateFits (view_layout y.now) (view_immediate operand) }
+    ensures form { IfOk result (λ form. view_form form ≡ Answered Truth) }
+    ensures emits { OnOk result (Emits out.old.items out.new.items (immediately_compared (view_layout
+        y.now) op (view_form form) (view_immediate operand) t exit)) }
+{
+    to_value(y.alloc, y.bases, out, form, t)?;
+    does(out, Simple::I32Const(comparison_number(op)))?;
+    moved_out(out, y.bases.handle(t))?;
+    immediate_pushed(y, out, operand)?;
+    ask_row(out, Primitive::Compare)?;
+    kept_code(y.bases, out, true, t, exit)?;
+    Ok(Form::Answered(Answer::Truth))
+}

@@ -1,0 +1,16 @@
+use Rattle.std.proofs.Common.{Option, OnOk, ℤ, subst}
+use Rattle.lower_model.specs.Statements.{both_asked}
+use Rattle.lower_pieces.specs.Emits.{Emits}
+use Rattle.lower_expressions.specs.View.{view_layout}
+use Rattle.lower_quick.specs.View.{view_update}
+use Rattle.lowering.proofs.summing.both_asked.Goals as goal
+
+pub returns-in-Some : goal.returns-in-Some
+returns-in-Some c =
+    subst (λ (o : Option ℤ). OnOk c.field_asked.result (Emits c.args.out.now.items c.field_asked.new.out.items (both_asked (view_layout c.args.y.now) o (view_update c.args.update) c.args.exit))) c.in-Some.ensures
+    c.field_asked.ensures
+
+pub returns-in-None : goal.returns-in-None
+returns-in-None c =
+    subst (λ (o : Option ℤ). OnOk c.added_asked.result (Emits c.args.out.now.items c.added_asked.new.out.items (both_asked (view_layout c.args.y.now) o (view_update c.args.update) c.args.exit))) c.in-None.ensures
+    c.added_asked.ensures
