@@ -1,3 +1,2 @@
 pub mod Codes
-pub mod Stretches
 pub mod ViewConf
