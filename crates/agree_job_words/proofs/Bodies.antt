@@ -194,7 +194,7 @@ module _ (tells : Bool) (y : Layout) (sizes : ℕ → Option ℕ) (whole : Progr
         added = record { so = λ A. taken.so (true ∷ (true ∷ A)) }
 
         field : (z : ℤ) → So e (does (LocalGet (number_local b zero)) (field_numbered y z (sum_taken y (sum_op x.op) x.target zero d k)))
-        field z = record { so = λ A. (refl, (refl, taken.so _)) }
+        field z = record { so = λ A. (refl, (refl, taken.so (true ∷ (true ∷ A)))) }
 
         by : sorted c [] x.added ≡ true → names_argv x.added ≡ false → (o : Option ℤ) → So e (both_asked y o x d (sum_taken y (sum_op x.op) x.target zero d k))
         by a1 a2 (Some z) = name_spares (field z) x.name zero d

@@ -13,7 +13,8 @@ use agree_typed::laws::typed;
 /// locals, or one with more than 4,000 blocks in one another. So nothing else makes code too large: no constant, no index, no name.
 pub fn code_has_bytes()
     ensures { (p : Program) → IsSorted p
-        → ((bytes : List ℕ) × IsModule bytes (module_of p) × (length bytes ≡ module_size (module_of p))) ⊎ IsPast (module_of p) }
+        → ((bytes : List ℕ) × IsModule bytes (module_of p)
+        × (length bytes ≡ module_size (module_of p))) ⊎ IsPast (module_of p) }
 {
     typed();
 }

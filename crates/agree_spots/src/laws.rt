@@ -20,7 +20,8 @@ pub fn scripts_without_marks()
 /// A script's code notes the places of the script's spots as the script passes them.
 pub fn spots_have_places()
     ensures { (notes : Notes) (script : Resolved) (s : Setting) (turns : ℕ)
-        → noted_run_in notes (final_program script) s turns ≡ marked_run (λ home spot. notes (place_of script home spot)) script s turns }
+        → noted_run_in notes (final_program script) s turns
+        ≡ marked_run (λ home spot. notes (place_of script home spot)) script s turns }
 {}
 
 /// A run of a script's module passes the places of the spots that the script passes, as often and in the same order, and among the same actions. So each execution

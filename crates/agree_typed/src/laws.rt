@@ -22,8 +22,9 @@ pub fn typed()
 /// What stays of the imports, and under which numbers: an import that code calls is the one that stands under its new number, one that no code calls
 /// is left out, and the functions come after those that stay, in their order.
 pub fn numbered()
-    ensures called { (p : Program) (i : Import) → any_calls (import_number i) (all_callees p) ≡ true →
-        slice_get (imports_of p) (new_number (called_imports p) (import_number i)) ≡ Some i }
+    ensures called { (p : Program) (i : Import)
+        → any_calls (import_number i) (all_callees p) ≡ true
+        → slice_get (imports_of p) (new_number (called_imports p) (import_number i)) ≡ Some i }
     ensures left_out { (p : Program)
         → All (λ i. any_calls (import_number i) (all_callees p) ≡ true) (imports_of p) }
     ensures functions { (p : Program) (f : ℕ) → new_number (called_imports p) (function_number f)

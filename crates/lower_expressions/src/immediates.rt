@@ -105,8 +105,9 @@ pub(crate) fn immediately_compared(
     requires places { suc t ≤ most_places }
     requires operand { ImmediateFits (view_layout y.now) (view_immediate operand) }
     ensures form { IfOk result (λ form. view_form form ≡ Answered Truth) }
-    ensures emits { OnOk result (Emits out.old.items out.new.items (immediately_compared (view_layout
-        y.now) op (view_form form) (view_immediate operand) t exit)) }
+    ensures emits { OnOk result (Emits out.old.items out.new.items
+        (immediately_compared (view_layout y.now) op (view_form form) (view_immediate operand) t
+        exit)) }
 {
     to_value(y.alloc, y.bases, out, form, t)?;
     does(out, Simple::I32Const(comparison_number(op)))?;

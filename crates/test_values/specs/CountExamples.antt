@@ -220,7 +220,7 @@ adding k = record {
 }
 
 -- 37 steps a round, 21 of them and both imports for the sum
-pub adding_rounds : is_sorted (adding 10) ≡ true × (steps_of (adding 20) ≡ steps_of (adding 10) + 370) × (imports_of (adding 20) ≡ imports_of (adding 10) + 20)
+pub adding_rounds : is_sorted (adding 10) ≡ true × ((steps_of (adding 20) ≡ steps_of (adding 10) + 370) × (imports_of (adding 20) ≡ imports_of (adding 10) + 20))
 unfolding emitted all_emitted step_emitted steps_emitted digits sorted all_sorted step_sorted steps_sorted
 adding_rounds = (refl, (refl, refl))
 
@@ -241,6 +241,6 @@ comparing k = record {
 }
 
 -- 33 steps a round where the test fails: 16 of the loop and of its block, 17 of the choice, with an empty statement
-pub comparing_rounds : is_sorted (comparing 10) ≡ true × (steps_of (comparing 20) ≡ steps_of (comparing 10) + 330) × (imports_of (comparing 20) ≡ imports_of (comparing 10) + 30)
+pub comparing_rounds : is_sorted (comparing 10) ≡ true × ((steps_of (comparing 20) ≡ steps_of (comparing 10) + 330) × (imports_of (comparing 20) ≡ imports_of (comparing 10) + 30))
 unfolding emitted all_emitted step_emitted steps_emitted digits sorted all_sorted step_sorted steps_sorted
 comparing_rounds = (refl, (refl, refl))
