@@ -10,7 +10,7 @@ ghost use Rattle.host_format.specs.Outcomes.{Adds, AddsOutcome, IsPast, IsStopAf
 
 use crate::conversion::{Conversion, Specifier};
 use crate::digits::Digits;
-use crate::padding::{Parts, put_number, put_padded};
+use crate::padding::{Parts, put_number, put_padded_text};
 use awk_text::{NumberFault, looks_numeric, text_of, truncated_of};
 use awk_values::{Fault, Stop, Value, to_number};
 
@@ -208,11 +208,7 @@ fn put_text(out: &mut Vec<u8>, conversion: Conversion<'_>, text: &[u8]) -> Resul
     ensures err { IfErr result (IsPast (out.old.items ++ padded (conversion_is conversion.entry)
         (first_bytes conversion.entry.precision text.now))) }
 {
-    put_padded(
-        out,
-        conversion,
-        Parts::text(first_bytes(conversion.precision, text)),
-    )
+    put_padded_text(out, conversion, first_bytes(conversion.precision, text))
 }
 
 /// Adds the text of a value.
@@ -264,8 +260,8 @@ fn put_char(out: &mut Vec<u8>, conversion: Conversion<'_>, byte: Option<u8>) -> 
         (IsPast (out.old.items ++ padded (conversion_is conversion.entry) (option_to_list byte))) }
 {
     match byte {
-        None => put_padded(out, conversion, Parts::text(&[])),
-        Some(byte) => put_padded(out, conversion, Parts::text(&[byte])),
+        None => put_padded_text(out, conversion, &[]),
+        Some(byte) => put_padded_text(out, conversion, &[byte]),
     }
 }
 
