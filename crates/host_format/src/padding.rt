@@ -122,11 +122,7 @@ pub(crate) fn put_padded_text(
 }
 
 /// Adds a text in parts at the right end of its width, or with the flag `-` at the left end.
-fn put_padded(
-    out: &mut Vec<u8>,
-    conversion: Conversion<'_>,
-    parts: Parts<'_>,
-) -> Result<(), Stop>
+fn put_padded(out: &mut Vec<u8>, conversion: Conversion<'_>, parts: Parts<'_>) -> Result<(), Stop>
     ensures ok { OnOk result (Adds out.old.items out.new.items
         (padded (conversion_is conversion.entry) (parts_text parts.entry))) }
     ensures err { IfErr result (IsPast

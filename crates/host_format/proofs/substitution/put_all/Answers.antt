@@ -49,7 +49,7 @@ loop-found-preserved c =
             Some place.1,
             c.in_ok-found.ensures.found t (i.kept t a),
             subst (λ (n : ℕ). IsLeft t c.args.by.now c.args.text.now c.put_place.new.out.items place.1 n (Some place.1) (c.loop-found.count + 1)) (sym at)
-            (left_step t c.args.by.now c.args.text.now c.loop-found.out.items c.put_place.new.out.items c.loop-found.from c.loop-found.at old.0 c.loop-found.count place old.2 next c.in_ok-put_place.ensures.ok),
+                (left_step t c.args.by.now c.args.text.now c.loop-found.out.items c.put_place.new.out.items c.loop-found.from c.loop-found.at old.0 c.loop-found.count place old.2 next c.in_ok-put_place.ensures.ok),
           );
     }
 
