@@ -99,7 +99,7 @@ impl Matcher {
         &mut self,
         alloc: Global,
         by: &[u8],
-        text: &[u8],
+        text: &Bytes,
         all: bool,
     ) -> Result<Substituted, Stop>
         ensures ok { IfOk result (λ new. (t : Tree) × (expression_of self.old ≡ Ok t)

@@ -70,21 +70,8 @@ left_end t by text out new from at last count left next e low = record {
 
 -- The first match alone.
 
-first_none : (t : Tree) (text : List ℕ) → IsNextPlace t text 0 None None → places_of t text false ≡ []
-first_none t text next = ap (λ ps. take 1 ps) (next (length text + 1) (omega arith))
-
 first_some : (t : Tree) (text : List ℕ) (p : ℕ × ℕ) → IsNextPlace t text 0 None (Some p) → places_of t text false ≡ p ∷ []
 first_some t text p next = ap (λ ps. take 1 ps) (next (length text + 1) (omega arith)).2
-
-pub none_text : (t : Tree) (by text : List ℕ) → IsNextPlace t text 0 None None → replaced text by 0 (places_of t text false) ≡ text
-none_text t by text next = ap (λ ps. replaced text by 0 ps) (first_none t text next)
-
-pub none_replaced : (t : Tree) (by text out new : List ℕ) → IsNextPlace t text 0 None None → out ≡ [] → new ≡ out ++ text → length new ≤ 2 ^ 26 → IsReplaced t by text false 0 new
-none_replaced t by text out new next empty e low = record {
-  counted = ap length (first_none t text next);
-  text_is = none_text t by text next ∙ sym (e ∙ ap (λ xs. xs ++ text) empty);
-  within = low;
-}
 
 pub one_text : (t : Tree) (by text : List ℕ) (p : ℕ × ℕ) → IsNextPlace t text 0 None (Some p) → replaced text by 0 (places_of t text false) ≡ put_text by text 0 p ++ slice_range text p.1 (length text)
 one_text t by text p next =
@@ -108,10 +95,6 @@ pub one_err_end : (t : Tree) (by text out new : List ℕ) (p : ℕ × ℕ) (s : 
 one_err_end t by text out new p s next empty e past =
     subst (λ xs. IsPast xs s) (ap (λ xs. xs ++ slice_range text p.1 (length text)) (e ∙ ap (λ xs. xs ++ put_text by text 0 p) empty) ∙ sym (one_text t by text p next)) past
 
-pub none_err : (t : Tree) (by text out : List ℕ) (s : Stop) → IsNextPlace t text 0 None None → out ≡ [] → IsPast (out ++ text) s → IsPast (replaced text by 0 (places_of t text false)) s
-none_err t by text out s next empty past =
-    subst (λ xs. IsPast xs s) (ap (λ xs. xs ++ text) empty ∙ sym (none_text t by text next)) past
-
 -- The outcome.
 
 pub outcome_is : (t : Tree) (by text : List ℕ) (all : Bool) (count : ℕ) (new : List ℕ) → IsReplaced t by text all count new → substitution t by text all ≡ Ok (count, new)
@@ -121,5 +104,27 @@ outcome_is t by text all count new r =
     ∙ (ap (λ b. (if b then Ok new else Err TextLimit) >>= go) (le-leb (length new) (2 ^ 26) r.within)
     ∙ ap (λ n. Ok (n, new)) r.counted)
 
-pub outcome_past : (t : Tree) (by text : List ℕ) (all : Bool) (s : Stop) → IsPast (replaced text by 0 (places_of t text all)) s → IsStopOf (substitution t by text all) s
+outcome_past : (t : Tree) (by text : List ℕ) (all : Bool) (s : Stop) → IsPast (replaced text by 0 (places_of t text all)) s → IsStopOf (substitution t by text all) s
 outcome_past t by text all s past = past_is (replaced text by 0 (places_of t text all)) (λ new. Ok (length (places_of t text all), new)) s past
+
+pub past_there : (t : Tree) (by xs text : List ℕ) (all : Bool) (s : Stop) → xs ≡ text → IsPast (replaced xs by 0 (places_of t xs all)) s → IsStopOf (substitution t by text all) s
+past_there t by xs text all s e past = outcome_past t by text all s (subst (λ ys. IsPast (replaced ys by 0 (places_of t ys all)) s) e past)
+
+-- Where there is no match.
+
+no_places : (t : Tree) (text : List ℕ) (all : Bool) → IsNextPlace t text 0 None None → places_of t text all ≡ []
+no_places t text true next = next (length text + 1) (omega arith)
+no_places t text false next = ap (λ ps. take 1 ps) (next (length text + 1) (omega arith))
+
+nothing_replaced : (t : Tree) (by text : List ℕ) (all : Bool) → IsNextPlace t text 0 None None → replaced text by 0 (places_of t text all) ≡ text
+nothing_replaced t by text all next = ap (λ ps. replaced text by 0 ps) (no_places t text all next)
+
+pub unchanged_is : (t : Tree) (by text : List ℕ) (all : Bool) → IsNextPlace t text 0 None None → length text ≤ 2 ^ 26 → substitution t by text all ≡ Ok (0, text)
+unchanged_is t by text all next low = outcome_is t by text all 0 text (record {
+  counted = ap length (no_places t text all next);
+  text_is = nothing_replaced t by text all next;
+  within = low;
+})
+
+pub unchanged_past : (t : Tree) (by text : List ℕ) (all : Bool) (s : Stop) → IsNextPlace t text 0 None None → IsPast text s → IsStopOf (substitution t by text all) s
+unchanged_past t by text all s next past = outcome_past t by text all s (subst (λ xs. IsPast xs s) (sym (nothing_replaced t by text all next)) past)

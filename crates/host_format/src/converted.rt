@@ -8,7 +8,7 @@ ghost use Rattle.host_format.specs.Outcomes.{Adds, AddsOutcome, IsPast, IsStopAf
 
 use crate::conversion::{Conversion, Specifier};
 use crate::digits::Digits;
-use crate::padding::{Parts, put_number, put_padded};
+use crate::padding::{Parts, put_number, put_padded_text};
 use awk_text::{looks_numeric, text_of};
 use awk_values::{Fault, Stop, Value, to_number, truncated};
 
@@ -184,11 +184,7 @@ fn put_text(out: &mut Vec<u8>, conversion: Conversion<'_>, text: &[u8]) -> Resul
     ensures err { IfErr result (IsPast (out.old.items ++ padded (conversion_is conversion.entry)
         (first_bytes conversion.entry.precision text.now))) }
 {
-    put_padded(
-        out,
-        conversion,
-        Parts::text(first_bytes(conversion.precision, text)),
-    )
+    put_padded_text(out, conversion, first_bytes(conversion.precision, text))
 }
 
 /// Adds the text of a value.
@@ -240,8 +236,8 @@ fn put_char(out: &mut Vec<u8>, conversion: Conversion<'_>, byte: Option<u8>) -> 
         (IsPast (out.old.items ++ padded (conversion_is conversion.entry) (option_to_list byte))) }
 {
     match byte {
-        None => put_padded(out, conversion, Parts::text(&[])),
-        Some(byte) => put_padded(out, conversion, Parts::text(&[byte])),
+        None => put_padded_text(out, conversion, &[]),
+        Some(byte) => put_padded_text(out, conversion, &[byte]),
     }
 }
 

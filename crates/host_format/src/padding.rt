@@ -8,10 +8,10 @@ use crate::conversion::Conversion;
 use crate::put::{put, put_fill};
 use awk_values::Stop;
 
-/// The text of a conversion but for its padding, in parts.
+/// The text of a number but for its padding, in parts.
 #[derive(Clone, Copy)]
 pub(crate) struct Parts<'a> {
-    /// A text, or what stands before the digits of a number.
+    /// What stands before the digits.
     pub(crate) front: &'a [u8],
     /// How many zeros stand before the digits.
     pub(crate) zeros: usize,
@@ -21,18 +21,6 @@ pub(crate) struct Parts<'a> {
 }
 
 impl<'a> Parts<'a> {
-    /// A text as it is.
-    pub(crate) fn text(text: &'a [u8]) -> Parts<'a>
-        ensures { parts_text result ≡ text.now }
-    {
-        Parts {
-            front: text,
-            zeros: 0,
-            digits: &[],
-            places: None,
-        }
-    }
-
     /// A number, with the least count of digits that a precision asks for. A precision of 0 asks for none of the number 0.
     pub(crate) fn whole(
         front: &'a [u8],
@@ -112,12 +100,29 @@ fn put_parts(out: &mut Vec<u8>, parts: Parts<'_>) -> Result<(), Stop>
     put_places(out, parts.places)
 }
 
-/// Adds a text in parts at the right end of its width, or with the flag `-` at the left end.
-pub(crate) fn put_padded(
+/// Adds a text at the right end of its width, or with the flag `-` at the left end.
+pub(crate) fn put_padded_text(
     out: &mut Vec<u8>,
     conversion: Conversion<'_>,
-    parts: Parts<'_>,
+    text: &[u8],
 ) -> Result<(), Stop>
+    ensures ok { OnOk result (Adds out.old.items out.new.items
+        (padded (conversion_is conversion.entry) text.now)) }
+    ensures err { IfErr result
+        (IsPast (out.old.items ++ padded (conversion_is conversion.entry) text.now)) }
+{
+    let gap = usize::from(conversion.width).saturating_sub(text.len());
+    if conversion.has(b'-') {
+        put(out, text)?;
+        put_fill(out, b' ', gap)
+    } else {
+        put_fill(out, b' ', gap)?;
+        put(out, text)
+    }
+}
+
+/// Adds a text in parts at the right end of its width, or with the flag `-` at the left end.
+fn put_padded(out: &mut Vec<u8>, conversion: Conversion<'_>, parts: Parts<'_>) -> Result<(), Stop>
     ensures ok { OnOk result (Adds out.old.items out.new.items
         (padded (conversion_is conversion.entry) (parts_text parts.entry))) }
     ensures err { IfErr result (IsPast

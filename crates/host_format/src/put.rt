@@ -28,6 +28,9 @@ pub(crate) fn put(out: &mut Vec<u8>, bytes: &[u8]) -> Result<(), Stop>
     ensures err { IfErr result (IsPast (out.old.items ++ bytes.now)) }
 {
     room(out.len(), bytes.len())?;
+    if bytes.is_empty() {
+        return Ok(());
+    }
     out.extend_from_slice(bytes)?;
     Ok(())
 }
@@ -46,6 +49,9 @@ pub(crate) fn put_fill(out: &mut Vec<u8>, byte: u8, count: usize) -> Result<(), 
     ensures err { IfErr result (IsPast (out.old.items ++ replicate count byte)) }
 {
     room(out.len(), count)?;
+    if count == 0 {
+        return Ok(());
+    }
     fill(out, byte, count)?;
     Ok(())
 }

@@ -1,5 +1,5 @@
 //! Substitution.
-ghost use Rattle.std.specs.Prelude.{◌≡◌, ℕ, ◌+◌, ◌^◌, ◌<◌, ◌≤◌, ◌++◌, [], true, false, IfErr, IfOk, IfSome, List, None, Ok, OnOk, Option, Some, length, slice_range};
+ghost use Rattle.std.specs.Prelude.{◌≡◌, ℕ, ◌+◌, ◌^◌, ◌<◌, ◌≤◌, ◌++◌, [], true, false, Bool, IfErr, IfOk, IfSome, List, None, Ok, OnOk, Option, Some, length, slice_range};
 ghost use Rattle.ere_syntax.specs.Tree.{Tree};
 ghost use Rattle.ere_match.specs.Autos.{IsAutoOf};
 ghost use Rattle.sem_primitives.specs.TextMeaning.{behind, is_empty_at, places_of, replaced, replacement};
@@ -8,7 +8,7 @@ ghost use Rattle.host_format.specs.Outcomes.{IsPast, IsStopOf};
 ghost use Rattle.host_format.specs.Substitutions.{IsNextPlace, IsReplaced, substitution};
 
 use crate::eres::first;
-use crate::put::put;
+use crate::put::{put, room};
 use crate::replacement::put_replacement;
 use awk_values::{Bytes, Stop};
 use ere_match::Auto;
@@ -96,75 +96,99 @@ fn put_place(
     put_replacement(out, &text[place.0..place.1], by)
 }
 
-/// Adds the text with every match replaced, and tells how many there were.
-fn put_all(out: &mut Vec<u8>, auto: &mut Auto, by: &[u8], text: &[u8]) -> Result<usize, Stop>
+/// Adds the text with every match from the first one on replaced, and tells how many there were.
+fn put_all(
+    out: &mut Vec<u8>,
+    auto: &mut Auto,
+    by: &[u8],
+    text: &[u8],
+    first: (usize, usize),
+) -> Result<usize, Stop>
     requires auto { IsAuto auto.old }
     requires empty { out.old.items ≡ [] }
-    ensures ok { (t : Tree) → IsAutoOf auto.old t
+    requires order { first.0 ≤ first.1 }
+    requires inside { first.1 ≤ length text.now }
+    ensures ok { (t : Tree) → IsAutoOf auto.old t → IsNextPlace t text.now 0 None (Some first)
         → IfOk result (λ count. IsReplaced t by.now text.now true count out.new.items) }
     ensures kept { (t : Tree) → IsAutoOf auto.old t → IsAutoOf auto.new t }
-    ensures err { (t : Tree) → IsAutoOf auto.old t
+    ensures err { (t : Tree) → IsAutoOf auto.old t → IsNextPlace t text.now 0 None (Some first)
         → IfErr result (IsPast (replaced text.now by.now 0 (places_of t text.now true))) }
 {
     let mut count = 0;
     let mut from = 0;
     let mut at = 0;
-    let mut last = None;
-    while let Some(place) = next_place(auto, text, at, last)? {
+    let mut found = Some(first);
+    while let Some(place) = found {
         put_place(out, by, text, from, place)?;
         count += 1;
         from = place.1;
-        last = Some(place.1);
         at = behind(place);
+        found = next_place(auto, text, at, Some(from))?;
     }
     put(out, &text[from..])?;
     Ok(count)
 }
 
-/// Adds the text with its first match replaced, and tells how many there were.
-fn put_first(out: &mut Vec<u8>, auto: &mut Auto, by: &[u8], text: &[u8]) -> Result<usize, Stop>
-    requires auto { IsAuto auto.old }
+/// Adds the text with this match, the first one, replaced, and tells that it is one.
+fn put_first(
+    out: &mut Vec<u8>,
+    by: &[u8],
+    text: &[u8],
+    first: (usize, usize),
+) -> Result<usize, Stop>
     requires empty { out.old.items ≡ [] }
-    ensures ok { (t : Tree) → IsAutoOf auto.old t
+    requires order { first.0 ≤ first.1 }
+    requires inside { first.1 ≤ length text.now }
+    ensures ok { (t : Tree) → IsNextPlace t text.now 0 None (Some first)
         → IfOk result (λ count. IsReplaced t by.now text.now false count out.new.items) }
-    ensures kept { (t : Tree) → IsAutoOf auto.old t → IsAutoOf auto.new t }
-    ensures err { (t : Tree) → IsAutoOf auto.old t
+    ensures err { (t : Tree) → IsNextPlace t text.now 0 None (Some first)
         → IfErr result (IsPast (replaced text.now by.now 0 (places_of t text.now false))) }
 {
-    let Some(place) = next_place(auto, text, 0, None)? else {
-        put(out, text)?;
-        return Ok(0);
-    };
-    put_place(out, by, text, 0, place)?;
-    put(out, &text[place.1..])?;
+    put_place(out, by, text, 0, first)?;
+    put(out, &text[first.1..])?;
     Ok(1)
 }
 
-/// Adds the text with its first match, or with every match, replaced, and tells how many these were.
+/// Adds the text with this match, the first one, or with every match, replaced, and tells how many these were.
 fn put_replaced(
     out: &mut Vec<u8>,
     auto: &mut Auto,
     by: &[u8],
     text: &[u8],
     all: bool,
+    first: (usize, usize),
 ) -> Result<usize, Stop>
     requires auto { IsAuto auto.old }
     requires empty { out.old.items ≡ [] }
-    ensures ok { (t : Tree) → IsAutoOf auto.old t
+    requires order { first.0 ≤ first.1 }
+    requires inside { first.1 ≤ length text.now }
+    ensures ok { (t : Tree) → IsAutoOf auto.old t → IsNextPlace t text.now 0 None (Some first)
         → IfOk result (λ count. IsReplaced t by.now text.now all count out.new.items) }
     ensures kept { (t : Tree) → IsAutoOf auto.old t → IsAutoOf auto.new t }
-    ensures err { (t : Tree) → IsAutoOf auto.old t
+    ensures err { (t : Tree) → IsAutoOf auto.old t → IsNextPlace t text.now 0 None (Some first)
         → IfErr result (IsPast (replaced text.now by.now 0 (places_of t text.now all))) }
 {
     if all {
-        put_all(out, auto, by, text)
+        put_all(out, auto, by, text, first)
     } else {
-        put_first(out, auto, by, text)
+        put_first(out, by, text, first)
     }
 }
 
+/// What a substitution gives where there is no match: the text itself, which is shared.
+fn unchanged(text: &Bytes) -> Result<Substituted, Stop>
+    ensures ok { (t : Tree) (by : List ℕ) (all : Bool) → IsNextPlace t text.now 0 None None
+        → IfOk result (λ new. substitution t by text.now all ≡ Ok (new.count, new.text)) }
+    ensures err { (t : Tree) (by : List ℕ) (all : Bool) → IsNextPlace t text.now 0 None None
+        → IfErr result (IsStopOf (substitution t by text.now all)) }
+{
+    room(0, text.len())?;
+    let text = text.clone()?;
+    Ok(Substituted { count: 0, text })
+}
+
 /// The text with its first match, or with every match, replaced (POSIX.1-2017 awk, "String Functions", sub and gsub). Matches are taken
-/// from left to right; an empty match directly after the former match is none.
+/// from left to right; an empty match directly after the former match is none. Where there is no match the text is shared, and no memory is taken for it.
 ///
 /// # Errors
 ///
@@ -173,7 +197,7 @@ pub fn substitute(
     alloc: Global,
     auto: &mut Auto,
     by: &[u8],
-    text: &[u8],
+    text: &Bytes,
     all: bool,
 ) -> Result<Substituted, Stop>
     requires { IsAuto auto.old }
@@ -183,8 +207,11 @@ pub fn substitute(
     ensures err { (t : Tree) → IsAutoOf auto.old t
         → IfErr result (IsStopOf (substitution t by.now text.now all)) }
 {
+    let Some(first) = next_place(auto, text.as_slice(), 0, None)? else {
+        return unchanged(text);
+    };
     let mut out = Vec::with_capacity(alloc, text.len())?;
-    let count = put_replaced(&mut out, auto, by, text, all)?;
+    let count = put_replaced(&mut out, auto, by, text.as_slice(), all, first)?;
     let text = Bytes::from_vec(out)?;
     Ok(Substituted { count, text })
 }

@@ -144,7 +144,7 @@ fn substituted(
     let matcher = matcher(alloc, &mut texts.expressions, ere)?;
     let by = value_text(alloc, by)?;
     let target = value_text(alloc, target)?;
-    match matcher.substitute(alloc, by.as_slice(), target.as_slice(), all) {
+    match matcher.substitute(alloc, by.as_slice(), target.bytes(), all) {
         Ok(new) => {
             texts.substituted = Some(Value::Text(new.text));
             Ok(new.count)

@@ -5,7 +5,7 @@ ghost use Rattle.sem_primitives.specs.ValueMeaning.{within_limit};
 ghost use Rattle.host_values.specs.declared.primitive.ValuePrimitive.{ValuePrimitive};
 ghost use Rattle.std.specs.Ordering.{int_cmp};
 ghost use Rattle.awk_values.specs.Comparison.{comparison, holds};
-ghost use Rattle.awk_values.specs.Values.{text_of_value};
+ghost use Rattle.awk_values.specs.Values.{number_of_value, text_of_value};
 ghost use Rattle.host_values.specs.declared.spent.Spent.{Spent};
 ghost use Rattle.host_values.specs.Evaluations.{Evaluates, Values, evaluation, value_reply};
 
@@ -87,6 +87,17 @@ fn dup(handles: &Handles, words: &[Word]) -> Result<Evaluated, Refusal>
     Ok(unspent(Ok(Reply::Value(value.clone()?))))
 }
 
+/// The number of a value. Mostly the value is a number.
+#[inline(always)]
+fn number_of(value: &Value) -> Result<i64, Fault>
+    ensures { result ≡ number_of_value value.now }
+{
+    match value {
+        Value::Num(number) => Ok(*number),
+        _ => to_number(value),
+    }
+}
+
 #[inline(always)]
 fn to_num(handles: &Handles, words: &[Word]) -> Result<Evaluated, Refusal>
     ensures { Evaluates handles.now result
@@ -96,7 +107,7 @@ fn to_num(handles: &Handles, words: &[Word]) -> Result<Evaluated, Refusal>
     ends(rest)?;
     Ok(Evaluated {
         spent: Spent::One(handle),
-        outcome: number_reply(to_number(value)),
+        outcome: number_reply(number_of(value)),
     })
 }
 

@@ -51,6 +51,7 @@ fn take_one(handles: &mut Handles, words: &[Word]) -> Result<Value, TrapKind>
 }
 
 /// Appends a value.
+#[inline(always)]
 fn push_value(arguments: &mut SmallVec<Value, 8>, value: Value) -> Result<(), Refusal>
     ensures { IsPushed arguments.old.items value result arguments.new.items }
 {
@@ -85,6 +86,7 @@ pub fn release(handles: &mut Handles, words: &[Word]) -> Result<(), TrapKind>
 /// # Errors
 ///
 /// A trap, which changes nothing, or want of memory.
+#[inline(always)]
 pub fn append(
     handles: &mut Handles,
     arguments: &mut SmallVec<Value, 8>,

@@ -1,4 +1,4 @@
-use Rattle.std.proofs.Common.{◌+◌, ◌≤◌, ℕ, Option, Some, arith, length, rules, subst, sym}
+use Rattle.std.proofs.Common.{◌+◌, ◌≤◌, ℕ, Option, Some, None, arith, length, rules, subst, sym}
 use Rattle.std.proofs.lemmas.Result.{err_from_is_err_and}
 use Rattle.host_format.specs.Substitutions.{IsNextPlace}
 use Rattle.host_format.proofs.Left.{IsLeft, left_end, left_err, left_start, left_step, left_text}
@@ -6,29 +6,30 @@ use Rattle.host_format.proofs.Places.{behind_end, behind_high, behind_more}
 use Rattle.host_format.proofs.Replaced.{past_same}
 use Rattle.host_format.proofs.substitution.put_all.Goals as goal
 
-pub loop-place-init : goal.loop-place-init
-loop-place-init c = record {
+pub loop-found-init : goal.loop-found-init
+loop-found-init c = record {
   inside = omega arith;
   order = omega arith;
   few = omega arith;
   high = omega arith;
   auto = c.requires.auto;
   kept = λ t a. a;
-  left = λ t a. left_start t c.args.by.now c.args.text.now c.args.out.now.items c.requires.empty;
+  place = (omega arith, c.requires.order, c.requires.inside);
+  left = λ t a f. (None, f, left_start t c.args.by.now c.args.text.now c.args.out.now.items c.requires.empty);
 }
 
 pub returns-in_err-put_place-clause-err : goal.returns-in_err-put_place-clause-err
-returns-in_err-put_place-clause-err c = λ t a.
-    let i = c.loop-place.invariant in
-    let p = err_from_is_err_and c.from_residual-in_err-put_place.result c.from_residual-in_err-put_place.ensures.1 in
-    let next = subst (λ (x : Option (ℕ × ℕ)). IsNextPlace t c.args.text.now c.loop-place.at c.loop-place.last x) c.in-Some.is (c.in_ok-place.ensures.found t (i.kept t a)) in
-    rw (p.1, p.2) (left_err t c.args.by.now c.args.text.now c.loop-place.out.items c.loop-place.from c.loop-place.at c.loop-place.last c.loop-place.count c.in-Some.place _ (i.left t a) next c.in_err-put_place.ensures.err)
+returns-in_err-put_place-clause-err c = λ t a f.
+    let i = c.loop-found.invariant.left t a f in
+    let p = err_from_is_err_and c.from_residual.result c.from_residual.ensures.1 in
+    let next = subst (λ (x : Option (ℕ × ℕ)). IsNextPlace t c.args.text.now c.loop-found.at i.0 x) c.in-Some.is i.1 in
+    rw (p.1, p.2) (left_err t c.args.by.now c.args.text.now c.loop-found.out.items c.loop-found.from c.loop-found.at i.0 c.loop-found.count c.in-Some.place _ i.2 next c.in_err-put_place.ensures.err)
 
-pub loop-place-preserved : goal.loop-place-preserved
-loop-place-preserved c =
-    let i = c.loop-place.invariant in
+pub loop-found-preserved : goal.loop-found-preserved
+loop-found-preserved c =
+    let i = c.loop-found.invariant in
     let place = c.in-Some.place in
-    let start : c.loop-place.at ≤ place.0 = search rules in
+    let start : c.loop-found.at ≤ place.0 = search rules in
     let order : place.0 ≤ place.1 = search rules in
     let inside : place.1 ≤ length c.args.text.now = search rules in
     let more = behind_more place order in
@@ -41,21 +42,26 @@ loop-place-preserved c =
       high = (let high = behind_high place in omega (arith, at, high, inside));
       auto = c.next_place.ensures.auto;
       kept = λ t a. c.next_place.ensures.kept t (i.kept t a);
-      left = λ t a.
-          let next = subst (λ (x : Option (ℕ × ℕ)). IsNextPlace t c.args.text.now c.loop-place.at c.loop-place.last x) c.in-Some.is (c.in_ok-place.ensures.found t (i.kept t a)) in
-          subst (λ (n : ℕ). IsLeft t c.args.by.now c.args.text.now c.put_place.new.out.items place.1 n (Some place.1) (c.loop-place.count + 1)) (sym at)
-          (left_step t c.args.by.now c.args.text.now c.loop-place.out.items c.put_place.new.out.items c.loop-place.from c.loop-place.at c.loop-place.last c.loop-place.count place (i.left t a) next c.in_ok-put_place.ensures.ok);
+      place = c.in_ok-found.ensures.inside;
+      left = λ t a f.
+          let old = i.left t a f in
+          let next = subst (λ (x : Option (ℕ × ℕ)). IsNextPlace t c.args.text.now c.loop-found.at old.0 x) c.in-Some.is old.1 in (
+            Some place.1,
+            c.in_ok-found.ensures.found t (i.kept t a),
+            subst (λ (n : ℕ). IsLeft t c.args.by.now c.args.text.now c.put_place.new.out.items place.1 n (Some place.1) (c.loop-found.count + 1)) (sym at)
+                (left_step t c.args.by.now c.args.text.now c.loop-found.out.items c.put_place.new.out.items c.loop-found.from c.loop-found.at old.0 c.loop-found.count place old.2 next c.in_ok-put_place.ensures.ok),
+          );
     }
 
 pub returns-in_err-put-clause-err : goal.returns-in_err-put-clause-err
-returns-in_err-put-clause-err c = λ t a.
-    let i = c.loop-place.invariant in
+returns-in_err-put-clause-err c = λ t a f.
+    let i = c.loop-found.invariant.left t a f in
     let p = err_from_is_err_and c.from_residual-in_err-put.result c.from_residual-in_err-put.ensures.1 in
-    let next = subst (λ (x : Option (ℕ × ℕ)). IsNextPlace t c.args.text.now c.loop-place.at c.loop-place.last x) c.in_default.is (c.in_ok-place.ensures.found t (i.kept t a)) in
-    rw (p.1, p.2) (past_same _ _ _ (left_text t c.args.by.now c.args.text.now c.loop-place.out.items c.loop-place.from c.loop-place.at c.loop-place.last c.loop-place.count (i.left t a) next) c.in_err-put.ensures.err)
+    let next = subst (λ (x : Option (ℕ × ℕ)). IsNextPlace t c.args.text.now c.loop-found.at i.0 x) c.in_default.is i.1 in
+    rw (p.1, p.2) (past_same _ _ _ (left_text t c.args.by.now c.args.text.now c.loop-found.out.items c.loop-found.from c.loop-found.at i.0 c.loop-found.count i.2 next) c.in_err-put.ensures.err)
 
 pub returns-clause-ok : goal.returns-clause-ok
-returns-clause-ok c = λ t a.
-    let i = c.loop-place.invariant in
-    let next = subst (λ (x : Option (ℕ × ℕ)). IsNextPlace t c.args.text.now c.loop-place.at c.loop-place.last x) c.in_default.is (c.in_ok-place.ensures.found t (i.kept t a)) in
-    left_end t c.args.by.now c.args.text.now c.loop-place.out.items c.put.new.out.items c.loop-place.from c.loop-place.at c.loop-place.last c.loop-place.count (i.left t a) next c.in_ok-put.ensures.ok c.in_ok-put.ensures.within
+returns-clause-ok c = λ t a f.
+    let i = c.loop-found.invariant.left t a f in
+    let next = subst (λ (x : Option (ℕ × ℕ)). IsNextPlace t c.args.text.now c.loop-found.at i.0 x) c.in_default.is i.1 in
+    left_end t c.args.by.now c.args.text.now c.loop-found.out.items c.put.new.out.items c.loop-found.from c.loop-found.at i.0 c.loop-found.count i.2 next c.in_ok-put.ensures.ok c.in_ok-put.ensures.within
