@@ -306,9 +306,11 @@ pub(crate) fn first_state(
 ) -> Result<State, AllocError>
     requires fit { SegmentsFit (view_module whole.now) }
     requires pages { (limits_or_none whole.now.memories.items).min ≤ 65536 }
-    ensures begins { IfOk result (λ s. (main : ℕ) → Lays whole.now.funcs.items (entry_code whole.now.start main) codes.now
+    ensures begins { IfOk result
+        (λ s. (main : ℕ) → Lays whole.now.funcs.items (entry_code whole.now.start main) codes.now
         → conf_of codes.now s ≡ beginning (view_module whole.now) main) }
-    ensures stands { IfOk result (λ s. (main : ℕ) → Lays whole.now.funcs.items (entry_code whole.now.start main) codes.now
+    ensures stands { IfOk result
+        (λ s. (main : ℕ) → Lays whole.now.funcs.items (entry_code whole.now.start main) codes.now
         → Stand codes.now s.frames) }
 {
     let limits = limits_of(&whole.memories);
