@@ -61,11 +61,7 @@ pub(crate) fn immediate_in(valued: bool, code: &Code) -> Option<Immediate>
 }
 
 /// Adds a constant, by its bits, and asks for the value that a row has of it.
-fn constant_asked(
-    out: &mut Vec<Instr>,
-    bits: u64,
-    primitive: Primitive,
-) -> Result<(), AllocError>
+fn constant_asked(out: &mut Vec<Instr>, bits: u64, primitive: Primitive) -> Result<(), AllocError>
     ensures { OnOk result (Emits out.old.items out.new.items (constant_asked bits primitive)) }
 {
     does(out, Simple::I64Const(bits))?;

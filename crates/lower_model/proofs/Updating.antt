@@ -292,5 +292,5 @@ module _ (p : Program) (deepest : Watch) (ks : List Kind) (F : List Frame) (b : 
       by (Some z) e =
           let r = field_at_is q.added z e in
           subst (λ (a : Code). sorted (context p deepest ks F b M n) [] (added_code (with_added q a)) ≡ true → room (added_code (with_added q a)) ≤ b.temporaries →
-              Reached p deepest ks F b M (work_of a + 70) σ.turns (at ks [] K (laid b l) F (both_asked (layout p deepest ks F b M n) (Some z) (with_added q a) d (sum_taken (layout p deepest ks F b M n) (sum_op q.op) q.target zero d k)) (beside_state p deepest ks F σ)) (StepDone p deepest ks F b M n lo u bk ct k K l) (Away p deepest ks F b d K) (plain_meant p deepest ks F b M n (Eval (added_code (with_added q a))) σ)) (sym r.0)
+          Reached p deepest ks F b M (work_of a + 70) σ.turns (at ks [] K (laid b l) F (both_asked (layout p deepest ks F b M n) (Some z) (with_added q a) d (sum_taken (layout p deepest ks F b M n) (sum_op q.op) q.target zero d k)) (beside_state p deepest ks F σ)) (StepDone p deepest ks F b M n lo u bk ct k K l) (Away p deepest ks F b d K) (plain_meant p deepest ks F b M n (Eval (added_code (with_added q a))) σ)) (sym r.0)
           (λ so1 rm1. field_updated_ok q z r.1 lo u d bk ct k K l σ so1 sm rm1 s) so rm
