@@ -1,18 +1,16 @@
 -- Which functions are small enough for a module.
 use Rattle.std.specs.Prelude.{ℕ, ◌≤◌, length}
 use Rattle.std.specs.List.{AllByRecursion}
+use Rattle.wasm_types.specs.Profile.{most_nesting}
 use Rattle.mid_program.specs.Mid.{Routine, Program, Steps}
 use Rattle.lower_model.specs.Functions.{main_bases, routine_bases}
 use Rattle.lower_needs.specs.Fits.{FewLocals}
 use Rattle.lower_needs.specs.Labels.{steps_labels}
 use Rattle.lower_pieces.specs.Bounds.{most_places}
 
--- so many labels stand in one another
-abbrev pub most_nested : ℕ
-most_nested = 4000
-
+-- labels stand in one another as far as blocks do in a module
 abbrev pub IsShallow : Steps → Type 0
-IsShallow ss = steps_labels ss ≤ most_nested
+IsShallow ss = steps_labels ss ≤ most_nesting
 
 abbrev pub RoutineIsSmall : Routine → Type 0
 RoutineIsSmall r = FewLocals (routine_bases r) × IsShallow r.body

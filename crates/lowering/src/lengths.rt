@@ -15,9 +15,10 @@ use lower_expressions::FunctionLayout;
 use lower_modules::least_in;
 use mid_program::Step;
 use std::alloc::AllocError;
+use wasm_types::MAX_MODULE_BYTES;
 
 /// The most bytes of a module.
-pub(crate) const MOST_BYTES: u64 = 1 << 24;
+pub(crate) const MOST_BYTES: u64 = MAX_MODULE_BYTES as u64;
 
 /// How long the code of a statement is at least; that of a block by its statements, of which a script may have all in one.
 #[cycle(lengths)]

@@ -23,13 +23,13 @@ use lower_needs::{Needs, local_types, main_needs, routine_needs, steps_labels};
 use lower_pieces::Bases;
 use mid_program::{Mid, Routine};
 use std::alloc::Global;
-use wasm_types::Module;
+use wasm_types::{MAX_MODULE_BYTES, MAX_NESTING, Module};
 
 /// How many labels may stand in one another.
-const MOST_NESTED: u32 = 4000;
+const MOST_NESTED: u32 = MAX_NESTING;
 
 /// How many functions there may be, beside `main`.
-const MOST_ROUTINES: usize = 1 << 24;
+const MOST_ROUTINES: usize = MAX_MODULE_BYTES;
 
 /// The places of a function of these needs.
 fn bases(needs: Needs) -> Bases
