@@ -11,12 +11,12 @@ ghost use Rattle.lower_expressions.specs.View.{view_layout};
 use crate::function_layout::FunctionLayout;
 use lower_pieces::{Form, ask_row, does};
 use mid_program::{Code, Operand, Operation};
-use sem_primitives::{Answer, Primitive, Sort};
+use sem_primitives::{Answer, MAX_FIELDS, Primitive, Sort};
 use std::alloc::AllocError;
 use wasm_types::{Instr, Simple};
 
 /// The greatest number of a field.
-const LAST_FIELD: i64 = 1 << 20;
+const LAST_FIELD: i64 = MAX_FIELDS as i64;
 
 /// The constant that code is, where it is the number of a field.
 fn constant_field(code: &Code) -> Option<i64>
