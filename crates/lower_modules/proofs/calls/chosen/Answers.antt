@@ -5,7 +5,7 @@ use Rattle.host_imports.specs.declared.import.Import.{Import}
 use Rattle.host_imports.specs.declared.import.Import.TheVariants.{Drop}
 use Rattle.lower_modules.proofs.Steps.{chosen_in, chosen_out}
 use Rattle.lower_modules.proofs.calls.chosen.Goals as goal
-use Rattle.lower_modules.proofs.calls.chosen.Goals.{then-called-i+in_ok-push, else-called-i}
+use Rattle.lower_modules.proofs.calls.chosen.Goals.{then-called-place+in_ok-push, else-called-place}
 
 pub loop-place-preserved : goal.loop-place-preserved
 loop-place-preserved c =
@@ -14,20 +14,20 @@ loop-place-preserved c =
     let rest = chosen (drop (i + 1) bs) (drop (i + 1) imports) in
     let inside : i < length bs = subst (λ (n : ℕ). i < n) (sym c.requires) c.loop-place-test.true in
     let few = c.loop-place.invariant.few in
-    elim c.if-called-i.branch [
-      | then-called-i+in_ok-push w ↦
+    elim c.if-called-place.branch [
+      | then-called-place+in_ok-push w ↦
           let long = ap (λ (v : Vec Import Global). length v.items) w.used-is ∙ ap length w.in_ok-push.ensures.items ∙ length-append c.loop-place.used.items _ in
           record {
             chosen = ap (λ (v : Vec Import Global). v.items ++ rest) w.used-is ∙ ap (λ (is : List Import). is ++ rest) w.in_ok-push.ensures.items
-                ∙ append_assoc c.loop-place.used.items _ rest ∙ ap (λ (is : List Import). c.loop-place.used.items ++ is) (sym (chosen_in bs imports i _ inside c.loop-place-test.true w.if-called-i.true))
+                ∙ append_assoc c.loop-place.used.items _ rest ∙ ap (λ (is : List Import). c.loop-place.used.items ++ is) (sym (chosen_in bs imports i _ inside c.loop-place-test.true w.if-called-place.true))
                 ∙ c.loop-place.invariant.chosen;
             few = omega (arith, long, few);
           }
-      | else-called-i w ↦
+      | else-called-place w ↦
           let long = ap (λ (v : Vec Import Global). length v.items) w.used-is in
           record {
             chosen = ap (λ (v : Vec Import Global). v.items ++ rest) w.used-is
-                ∙ ap (λ (is : List Import). c.loop-place.used.items ++ is) (sym (chosen_out bs imports i Drop inside c.loop-place-test.true w.if-called-i.false))
+                ∙ ap (λ (is : List Import). c.loop-place.used.items ++ is) (sym (chosen_out bs imports i Drop inside c.loop-place-test.true w.if-called-place.false))
                 ∙ c.loop-place.invariant.chosen;
             few = omega (arith, long, few);
           }
