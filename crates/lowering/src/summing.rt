@@ -295,7 +295,7 @@ fn both_asked(
     requires fit { Fits (view_layout y.now) (view update.added.now) 0 0 exit }
     requires labels { suc (suc exit) ≤ most_labels }
     ensures { OnOk result (Emits out.old.items out.new.items (both_asked (view_layout y.now)
-        (field_at (view update.added.now)) (view_update update.entry) exit)) }
+        (field_at (view update.entry.added.now)) (view_update update.entry) exit)) }
 {
     match field_at(update.added) {
         Some(number) => field_asked(y, out, update.name, number.cast_unsigned(), exit),
