@@ -1,6 +1,7 @@
 -- Parts of the definitions, which are added by functions of their own. `after` is the code that comes after; t, w and d are as in the definitions (lower_model,
 -- `Emission`): the temporary that the value goes to, how many arrays of calls are in use, how many labels further out the exit is; u counts iterators.
-use Rattle.std.specs.Prelude.{ℕ, zero, suc, ◌+◌, Bool, true, false, if◌then◌else◌, List, [], ◌∷◌, length, Some, is_some, pos, ◌^◌}
+use Rattle.std.specs.Prelude.{ℕ, zero, suc, ◌+◌, Bool, true, false, if◌then◌else◌, List, [], ◌∷◌, length, Some, is_some, ℤ, pos, ◌^◌}
+use Rattle.std.specs.Int.{w64, cast_unsigned}
 use Rattle.awk_values.specs.declared.fault.Fault.TheVariants.{NextOutside}
 use Rattle.sem_primitives.specs.declared.table.Primitive.TheVariants as row
 use Rattle.wasm_types.specs.Syntax.{Instructions, Done}
@@ -75,10 +76,13 @@ abbrev pub number_asked : Layout → ℕ → Form → ℕ → Instructions → I
 number_asked layout i f d after =
     name_numbered layout i 1 d (to_number layout.bases f zero d (does (LocalGet (n layout.bases 1)) (does (LocalGet (n layout.bases zero)) after)))
 
--- the numbers of a name and of the field that a constant gives, by its bits, on the stack
-abbrev pub field_asked : Layout → ℕ → (bits : ℕ) → ℕ → Instructions → Instructions
-field_asked layout i bits d after =
-    name_numbered layout i zero d (does (LocalGet (n layout.bases zero)) (does (I64Const bits) (ask_row row.Field (ask_row row.ToNum after))))
+-- the number of temporary 0 is put on the stack, and that of the field that a constant gives, by its bits
+abbrev pub field_added : Bases → (bits : ℕ) → Instructions → Instructions
+field_added bases bits after = does (LocalGet (n bases zero)) (does (I64Const bits) (ask_row row.Field (ask_row row.ToNum after)))
+
+-- the numbers of a name and of the field with this number, on the stack
+abbrev pub field_asked : Layout → ℕ → ℤ → ℕ → Instructions → Instructions
+field_asked layout i z d after = name_numbered layout i zero d (field_added layout.bases (cast_unsigned w64 z) after)
 
 -- a counter's key, and what is added
 abbrev pub tally_evaluated : Layout → Tally → ℕ → Instructions → Instructions

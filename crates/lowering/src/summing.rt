@@ -11,7 +11,7 @@ ghost use Rattle.lower_pieces.specs.Forms.{view_form};
 ghost use Rattle.lower_expressions.specs.Fits.{Fits};
 ghost use Rattle.lower_expressions.specs.View.{view_layout};
 ghost use Rattle.lower_quick.specs.View.{view_source, view_sum, view_update};
-ghost use Rattle.lowering.specs.Parts.{field_asked, number_asked, zero_put};
+ghost use Rattle.lowering.specs.Parts.{field_added, field_asked, number_asked, zero_put};
 ghost use Rattle.lowering.specs.QuickFits.{SourceFits, SumFits};
 
 use crate::evaluating::answered;
@@ -247,24 +247,31 @@ fn number_asked(
     does_all(out, &all)
 }
 
-/// Asks for the number of a name, and for that of the field that a constant gives, by its bits; both are put on the stack.
+/// Puts the number of the first temporary on the stack, and that of the field that a constant gives, by its bits.
+fn field_added(y: &FunctionLayout<'_>, out: &mut Vec<Instr>, bits: u64) -> Result<(), AllocError>
+    ensures { OnOk result (Emits out.old.items out.new.items (field_added y.now.bases.now bits)) }
+{
+    let number = y.bases.number(0);
+    does_all(out, &[Simple::LocalGet(number), Simple::I64Const(bits)])?;
+    ask_row(out, Primitive::Field)?;
+    ask_row(out, Primitive::ToNum)
+}
+
+/// Asks for the number of a name, and for that of the field with this number; both are put on the stack.
 fn field_asked(
     y: &FunctionLayout<'_>,
     out: &mut Vec<Instr>,
     name: usize,
-    bits: u64,
+    number: i64,
     exit: u32,
 ) -> Result<(), AllocError>
     requires name { name ≤ most_places }
     requires labels { suc (suc exit) ≤ most_labels }
     ensures { OnOk result
-        (Emits out.old.items out.new.items (field_asked (view_layout y.now) name bits exit)) }
+        (Emits out.old.items out.new.items (field_asked (view_layout y.now) name number exit)) }
 {
     name_numbered(y, out, name, 0, exit)?;
-    let all = [Simple::LocalGet(y.bases.number(0)), Simple::I64Const(bits)];
-    does_all(out, &all)?;
-    ask_row(out, Primitive::Field)?;
-    ask_row(out, Primitive::ToNum)
+    field_added(y, out, number.cast_unsigned())
 }
 
 /// Evaluates what is added to a name, and asks for both numbers.
@@ -298,7 +305,7 @@ fn both_asked(
         (field_at (view update.entry.added.now)) (view_update update.entry) exit)) }
 {
     match field_at(update.added) {
-        Some(number) => field_asked(y, out, update.name, number.cast_unsigned(), exit),
+        Some(number) => field_asked(y, out, update.name, number, exit),
         None => added_asked(y, out, update, exit),
     }
 }
