@@ -13,7 +13,7 @@ use crate::closing::code;
 use awk_values::to_text;
 use host_handles::Handles;
 use host_streams::Streams;
-use host_values::Refusal;
+use host_values::{Refusal, only_handle};
 use std::alloc::Global;
 use wasm_store::Word;
 
