@@ -1,7 +1,7 @@
 -- What a machine tells of a run whose host is told by its tables.
 use Rattle.std.specs.Prelude.{◌≡◌, ℕ, ◌≤◌, List, ◌++◌, Option, Some}
 use Rattle.awk_values.specs.declared.fault.Fault.{Fault}
-use Rattle.sem_primitives.specs.Jobs.{JobForm}
+use Rattle.sem_primitives.specs.Jobs.{JobForm, Kept, Surroundings}
 use Rattle.world_core.specs.WorldState.{Action, Outside, Source, after as outside_after}
 use Rattle.wasm_types.specs.Syntax.{ModuleForm}
 use Rattle.wasm_model.specs.Machines.{Conf, ProgramForm}
@@ -14,16 +14,16 @@ use Rattle.host_elements.specs.Forms.{HostForm}
 use Rattle.host_meaning.specs.Shown.{Shown}
 use Rattle.host_step.specs.Worlds.{anyhow_meaning}
 use Rattle.sem_scripts.specs.Kept.{Grows, output_of}
-use Rattle.sem_scripts.specs.ScriptRun.{Ending, Exhausted, Setting}
-use Rattle.agree_modules.specs.Agreement.{MayEnd, ModuleEnding, ended_with, ending_told, output_in, setting_of}
+use Rattle.sem_scripts.specs.ScriptRun.{Ending, Exhausted, Setting, setting_of}
+use Rattle.agree_modules.specs.Agreement.{MayEnd, ModuleEnding, ended_with, ending_told, output_in}
 
 -- what was told, with this fault kept and this output, is how the module may end
-abbrev pub TellsEnding : ModuleForm → JobForm → Source → Outside → ℕ → Option Fault → MachineEnd → List Action → Type 0
+abbrev pub TellsEnding : ModuleForm → JobForm → Source → Surroundings → ℕ → Option Fault → MachineEnd → List Action → Type 0
 TellsEnding m job input outside steps kept e output = (ending : ModuleEnding) × (ending_told kept e output ≡ Some ending)
     × MayEnd m job input outside steps ending
 
 -- Where memory was wanting, the module may end with an output that begins so.
-abbrev pub Tells : ModuleForm → JobForm → Source → Outside → ℕ → Option Fault → MachineEnd → List Action → Type 0
+abbrev pub Tells : ModuleForm → JobForm → Source → Surroundings → ℕ → Option Fault → MachineEnd → List Action → Type 0
 Tells m job input outside steps kept machine.NoMemory output =
     (fewer : ℕ) × (fewer ≤ steps) × (ending : ModuleEnding) × (rest : List Action) × (output_in ending ≡ output ++ rest)
     × MayEnd m job input outside fewer ending
@@ -32,7 +32,7 @@ Tells m job input outside steps kept e output = TellsEnding m job input outside 
 -- A run of a module in a job, over a world that tells what it holds: what was told of it, and what the names outside hold then.
 pub record ToldRun (m : ModuleForm) (job : JobForm) (input : Source) (outside : Outside) (steps : ℕ) (e : MachineEnd) (after-run : HostForm) : Type 0 where
   pub output : List Action
-  pub tells : Tells m job input outside steps after-run.fault e output
+  pub tells : Tells m job input (Kept outside) steps after-run.fault e output
   pub applied : after-run.shared.outside ≡ outside_after output outside
 
 -- A run over any world: each of its calls is as it is said of every world, from one state that is shown to another.

@@ -2,6 +2,7 @@ pub mod Numbers
 pub mod Constants
 pub mod Sorts
 pub mod SharedState
+pub mod Finds
 pub mod Texts
 pub mod ValueMeaning
 pub mod FirstMatch
@@ -25,6 +26,7 @@ pub mod ArrayExamples
 pub mod TextExamples
 pub mod FormatExamples
 pub mod OutputExamples
+pub mod FindsExamples
 pub mod InTurn
 pub mod CarriedExamples
 pub mod LimitExamples
