@@ -1,6 +1,6 @@
 -- What names hold where others change them too. While nobody else does, a name holds what it held before the script ran and what the output made of it.
 -- Else nothing is known of it: each time that something is opened, read or written, what is found there is the next of a list.
-use Rattle.std.specs.Prelude.{List, [], ◌∷◌, Option, Some, None}
+use Rattle.std.specs.Prelude.{List, [], ◌∷◌, Option, Some, None, false}
 use Rattle.world_core.specs.declared.world.Ending.TheVariants.{Fails}
 use Rattle.world_core.specs.WorldState.{Entry, Outside}
 use Rattle.sem_primitives.specs.SharedState.{Inner}
