@@ -17,7 +17,7 @@ use Rattle.sem_primitives.specs.FieldMeaning.{at_least, done, field_number, join
 use Rattle.sem_primitives.specs.FieldMeaning.{with_fields, with_record}
 use Rattle.sem_primitives.specs.Fields.{Separator, fields_of, pieces_of}
 use Rattle.sem_primitives.specs.FirstMatch.{expression_of, first_match}
-use Rattle.sem_primitives.specs.Finds.{looked, seen}
+use Rattle.sem_primitives.specs.Finds.{looked, looked_by, seen}
 use Rattle.sem_primitives.specs.InputMeaning.{Main, Taken, Over, Pending, NotOpened, Failed, as_line, as_record, begins_reading, counted_by, counted_record}
 use Rattle.sem_primitives.specs.InputMeaning.{file_named, file_or_assignment, follows}
 use Rattle.sem_primitives.specs.InputMeaning.{getline_by, getline_file_row, getline_line_file_row, getline_line_row, getline_of, getline_row, go_on, got_file, got_main}
@@ -343,7 +343,7 @@ module _ (P : List Pairs → Type 0) where
       Has (opened_if room opens name append text s).inner
   opened_kept false opens name append text s e = e
   opened_kept true false name append text s e = e
-  opened_kept true true name append text s e = open_kept name (looked s.inner) _ e
+  opened_kept true true name append text s e = open_kept name (looked_by _ s.inner) _ e
 
   written_kept : (is : Bool) (name : List ℕ) (append : Bool) (text : List ℕ) (s : Shared) → Has s.inner → Has (written_by is name append text s).inner
   written_kept true name append text s e = e

@@ -1,7 +1,7 @@
 -- Giving up what the main input reads is a call.
 use Rattle.std.proofs.Common.{◌≡◌, ℕ, Bool, false, List, [], ◌∷◌, ◌++◌, map, Option, Some, None, Result, Ok, Err, refl, sym, ap, subst, ◌∙◌}
 use Rattle.std.proofs.lemmas.List.{append-nil}
-use Rattle.sem_primitives.specs.InputMeaning.{gives_up, next_file_row}
+use Rattle.sem_primitives.specs.InputMeaning.{gives_up, next_file_row, nothing_left}
 use Rattle.sem_primitives.specs.SharedState.{Inner, MainInput, changes}
 use Rattle.sem_primitives.specs.declared.table.Primitive.TheVariants as row
 use Rattle.wasm_model.specs.declared.host.HostAnswer.TheVariants as told
@@ -12,7 +12,7 @@ use Rattle.world_core.specs.WorldState.{Action, Outside, Source, State}
 use Rattle.host_step.specs.Arguments.{and_then, no_more}
 use Rattle.host_step.specs.HostState.{HostState, Names}
 use Rattle.host_step.specs.HostStep.{Acts, StepOf, carried, primitive_acts}
-use Rattle.host_step.specs.Worlds.{Called, IsStepInSomeWorld, nothing_left, unseen, unseen_inner, unseen_main, unseen_reading, with_output}
+use Rattle.host_step.specs.Worlds.{Called, IsStepInSomeWorld, unseen, unseen_inner, unseen_main, unseen_reading, with_output}
 use Rattle.host_imports.specs.declared.import.Import.TheVariants.{Of}
 use Rattle.host_streams.specs.Mains.{main_of, operands_of, reading_of}
 use Rattle.host_streams.specs.OpenFiles.{readers_in}

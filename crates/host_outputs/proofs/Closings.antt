@@ -5,7 +5,7 @@ use Rattle.std.specs.FinMap as table
 use Rattle.awk_values.specs.Values.{text_of_value}
 use Rattle.awk_values.specs.declared.value.Value.{Value}
 use Rattle.awk_values.specs.declared.value.Value.TheVariants.{Text}
-use Rattle.sem_primitives.specs.InputMeaning.{close_row, is_open, is_reading, reader_named, without_reader, without_writer}
+use Rattle.sem_primitives.specs.InputMeaning.{close_row, is_open, is_reading, nothing_left, reader_named, without_reader, without_writer}
 use Rattle.sem_primitives.specs.OutputMeaning.{is_writing}
 use Rattle.sem_primitives.specs.SharedState.{Inner, Shared}
 use Rattle.sem_primitives.specs.Texts.{same_text}
@@ -22,7 +22,7 @@ use Rattle.host_step.specs.HostState.{HostState}
 use Rattle.host_step.specs.HostStep.{StepOf, acts, carried}
 use Rattle.host_step.specs.Arguments.{and_then}
 use Rattle.host_imports.specs.Imports.{spends}
-use Rattle.host_step.specs.Worlds.{Called, Wanted, nothing_left, unseen, with_output}
+use Rattle.host_step.specs.Worlds.{Called, Wanted, unseen, with_output}
 use Rattle.host_imports.specs.declared.import.Import.TheVariants.{Of}
 use Rattle.host_values.specs.Calls.{names_with}
 use Rattle.host_values.specs.Evaluations.{Values}

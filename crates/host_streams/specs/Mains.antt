@@ -139,9 +139,9 @@ pub record ReadsMain (rs : Option ℕ) (old : MainInput) (answer : Result FileNe
   pub answers : Answers rs (main_source reader old) answer later
   pub leaves : new ≡ left_main reader later old
 
--- a state of the definition with this main input
+-- a state of the definition with this main input, where nobody else changes what names hold
 abbrev pub with_main : MainInput → Inner → Inner
-with_main m inner = record inner { main = m }
+with_main m inner = record inner { main = m; finds = None }
 
 -- RS, ARGC and the operands are these
 pub record IsAsked (rs : Option ℕ) (inner : Inner) : Type 0 where

@@ -1,6 +1,7 @@
 -- What names hold where others change them too. While nobody else does, a name holds what it held before the script ran and what the output made of it.
 -- Else nothing is known of it: each time that something is opened, read or written, what is found there is the next of a list.
-use Rattle.std.specs.Prelude.{List, [], ◌∷◌, Option, Some, None, false}
+use Rattle.std.specs.Prelude.{List, [], ◌∷◌, Option, Some, None, Result, Ok, Err, false}
+use Rattle.awk_values.specs.declared.fault.Fault.{Fault}
 use Rattle.world_core.specs.declared.world.Ending.TheVariants.{Fails}
 use Rattle.world_core.specs.WorldState.{Entry, Outside}
 use Rattle.sem_primitives.specs.SharedState.{Inner}
@@ -33,3 +34,11 @@ seen inner outside = λ target. found_or inner.finds (outside target)
 -- after it
 abbrev pub looked : Inner → Inner
 looked inner = record inner { finds = finds_after inner.finds }
+
+-- the same where nothing faults
+abbrev pub finds_by : {A : Type 0} → Result A Fault → Option (List Entry) → Option (List Entry)
+finds_by (Ok x) finds = finds_after finds
+finds_by (Err fault) finds = finds
+
+abbrev pub looked_by : {A : Type 0} → Result A Fault → Inner → Inner
+looked_by r inner = record inner { finds = finds_by r inner.finds }

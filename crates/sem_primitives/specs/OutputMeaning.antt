@@ -7,7 +7,7 @@ use Rattle.awk_values.specs.declared.value.Value.{Value}
 use Rattle.awk_values.specs.declared.value.Value.TheVariants.{Text}
 use Rattle.world_core.specs.WorldState.{Target, Standard, Named, Action, Open, after, free, puts}
 use Rattle.sem_primitives.specs.SharedState.{Inner, Shared, Does, ◌>>=◌}
-use Rattle.sem_primitives.specs.Finds.{looked, seen}
+use Rattle.sem_primitives.specs.Finds.{looked_by, seen}
 use Rattle.sem_primitives.specs.Texts.{same_text}
 use Rattle.sem_primitives.specs.FieldMeaning.{joined, special_text}
 use Rattle.sem_primitives.specs.Formats.{formatted}
@@ -28,12 +28,15 @@ abbrev pub what_fits : Option ℕ → List ℕ → List ℕ
 what_fits None text = text
 what_fits (Some room) text = take room text
 
+abbrev pub write_answer : Option ℕ → List ℕ → Result (Unit {0}) Fault
+write_answer room text = cond (all_fits room text) (Ok tt) (Err WriteFailed)
+
 -- a text is written to an open target: what fits goes out, and it is a fault that not all does
 abbrev pub written : Target → List ℕ → Shared → Does (Result (Unit {0}) Fault)
 written target text state = record {
   added = puts target (what_fits (free (seen state.inner state.outside target)) text);
-  inner = looked state.inner;
-  answer = cond (all_fits (free (seen state.inner state.outside target)) text) (Ok tt) (Err WriteFailed);
+  inner = looked_by (write_answer (free (seen state.inner state.outside target)) text) state.inner;
+  answer = write_answer (free (seen state.inner state.outside target)) text;
 }
 
 -- Streams that are open by their names; there are at most 256.
@@ -65,7 +68,7 @@ opened name append text state =
 
 abbrev pub opened_if : Bool → Bool → List ℕ → Bool → List ℕ → Shared → Does (Result (Unit {0}) Fault)
 opened_if false opens name append text state = refused TooManyStreams state
-opened_if true false name append text state = refused OpenOutput (record state { inner = looked state.inner })
+opened_if true false name append text state = refused OpenOutput state
 opened_if true true name append text state = opened name append text state
 
 -- a stream that is open stays so, whatever it was opened for
