@@ -39,6 +39,7 @@ nothing source = record {
   pending = None;
   line = None;
   substituted = None;
+  finds = None;
 }
 
 -- tables and input over a state of the world

@@ -17,7 +17,7 @@ use Rattle.host_names.specs.Forms.{with_names}
 use Rattle.host_names.specs.declared.names.Names.{Names}
 use Rattle.host_inputs.specs.declared.input.Input.{Input}
 
--- the shared state with this input: what is left of main input and files is the world's
+-- the shared state with this input, where nobody else changes what names hold: what is left of main input and files is the world's
 abbrev pub with_input : Input → State → Inner → Inner
 with_input i state inner = with_names i.names (record inner {
   readers = readers_in i.files.readers.items state;
@@ -25,12 +25,13 @@ with_input i state inner = with_names i.names (record inner {
   main = main_of i.main state;
   in_end = i.in_end;
   line = i.line;
+  finds = None;
 })
 
 -- that before anything is read, with these names
 abbrev pub input_at_start : Names → State → Inner → Inner
 input_at_start names state inner = with_names names
-    (record inner { readers = []; writers = []; main = main_at_start (state.readers 0); in_end = false; line = None })
+    (record inner { readers = []; writers = []; main = main_at_start (state.readers 0); in_end = false; line = None; finds = None })
 
 -- and with these texts
 abbrev pub with_tables : Texts → Input → State → Inner → Inner

@@ -156,7 +156,7 @@ module _ (tells : Type 0) (f : HostForm) (words : List Word) (memory : List ℕ)
 
     same_told : tells → (p : Past) → step_after p ≡ state_of at_last p
     same_told t p =
-        let c = told_so t (state_of at_first p).shared (record { readers = refl; writers = refl; outside = refl }) in
+        let c = told_so t (state_of at_first p).shared (record { kept = refl; readers = refl; writers = refl; outside = refl }) in
         ap (λ n. shape p (table.remove values h) (without_reader n (readers_in streams.readers.items state)) (without_writer n (names_of streams.writers.items)) state.outside) (sym text)
         ∙ ap (λ (m : Values). shape p m (without_reader name (readers_in streams.readers.items state)) (without_writer name (names_of streams.writers.items)) state.outside) (sym left)
         ∙ ap (λ rs. shape p values' rs (without_writer name (names_of streams.writers.items)) state.outside) (sym c.readers)

@@ -6,6 +6,7 @@ use Rattle.awk_values.specs.declared.fault.Fault.{Fault}
 use Rattle.awk_values.specs.declared.fault.Fault.TheVariants.{OpenOutput, TooManyStreams, WriteFailed}
 use Rattle.awk_values.specs.declared.fault.Stop.{Stop}
 use Rattle.awk_values.specs.declared.fault.Stop.TheVariants as stop
+use Rattle.sem_primitives.specs.Finds.{seen}
 use Rattle.sem_primitives.specs.OutputMeaning.{all_fits, has_room, is_writing, kept_open, opened_if, written, written_by}
 use Rattle.sem_primitives.specs.SharedState.{Inner, Shared}
 use Rattle.world_core.specs.WorldState.{Named, Outside, Standard, Target, absent, free, opened, same_target}
@@ -79,7 +80,7 @@ could_as does does' streams streams' (Err stop.NoMemory) same some = tt
 -- To a file that is opened.
 module _ (name text : List ℕ) (append : Bool) (streams streams' : Streams) where
   abbrev opens : Bool → Shared → Puts
-  opens room shared = opened_if room (shared.outside (Named name)).opens name append text shared
+  opens room shared = opened_if room (seen shared.inner shared.outside (Named name)).opens name append text shared
 
   kept_as : (inner : Inner) (r : Result (Unit {0}) Fault) → r ≡ Ok tt → (kept_open name inner r).writers ≡ inner.writers ++ (name ∷ [])
   kept_as inner r is = ap (λ x. (kept_open name inner x).writers) is
@@ -92,11 +93,11 @@ module _ (name text : List ℕ) (append : Bool) (streams streams' : Streams) whe
       → Could (opens room) streams streams' r
   opened_could true (Ok u) h ok err = λ shared is.
       let answer = ap (λ room. answered room text) (free_wide (same_target (Named name) (Named name)) append) in
-      (wide, answer, kept_as shared.inner _ answer ∙ ap (λ ns. ns ++ (name ∷ [])) is.writers ∙ sym ok)
+      (wide, answer, kept_as _ _ answer ∙ ap (λ ns. ns ++ (name ∷ [])) is.writers ∙ sym ok)
   opened_could false (Ok u) h ok err = absurd h
   opened_could true (Err (stop.Fault WriteFailed)) h ok err = λ shared is.
       let answer = full_answer text _ (free_full (same_target (Named name) (Named name)) append) h in
-      (full, answer, kept_err shared.inner _ WriteFailed answer ∙ is.writers ∙ sym err)
+      (full, answer, kept_err _ _ WriteFailed answer ∙ is.writers ∙ sym err)
   opened_could true (Err (stop.Fault OpenOutput)) h ok err = λ shared is. (shut, refl, is.writers ∙ sym err)
   opened_could true (Err (stop.Fault fault)) h ok err = absurd h
   opened_could false (Err (stop.Fault TooManyStreams)) h ok err = λ shared is. (wide, refl, is.writers ∙ sym err)

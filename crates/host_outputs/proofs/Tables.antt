@@ -30,7 +30,7 @@ use Rattle.host_meaning.specs.WorldCalls.{IsCalled, LeadsIn}
 use Rattle.host_outputs.specs.Calls.{Could, HasFiles, answer_of, over}
 use Rattle.host_outputs.specs.Forms.{writing}
 use Rattle.host_outputs.proofs.Names.{name_alone, names_stay}
-use Rattle.host_outputs.proofs.Puts.{OnlyWriters, so_far_in}
+use Rattle.host_outputs.proofs.Puts.{OnlyWriters, none_by, so_far_in}
 use Rattle.host_outputs.proofs.Steps.{Puts, after_put, done_by, fault_by}
 use Rattle.host_outputs.proofs.Worlds.{called_over, sharing, wanted_part}
 
@@ -61,6 +61,7 @@ module _ (g : HostForm) (arguments now : List Value) (streams streams' : Streams
     state_after r readers done names =
         ap (λ rs. shape (inner_at rs (names_of streams'.writers.items)) state'.outside (fault_by g.fault r)) readers
         ∙ ap (λ ws. shape (inner_at (readers_in streams.readers.items state) ws) state'.outside (fault_by g.fault r)) names
+        ∙ ap (λ finds. shape (record (inner_at (readers_in streams.readers.items state) d.inner.writers) { finds = finds }) state'.outside (fault_by g.fault r)) (sym (none_by d.answer))
         ∙ ap (λ (inner : Inner). shape inner state'.outside (fault_by g.fault r)) (sym only)
         ∙ ap (λ (o : Outside). shape d.inner o (fault_by g.fault r)) done.outside
         ∙ ap (λ (x : Result (Unit {0}) Fault). shape d.inner (after d.added state.outside) (fault_by g.fault x)) (sym done.answer_is)

@@ -45,7 +45,7 @@ module _ (to : Destination) (values : List Value) (specials : Specials) (line : 
   begins_line tells streams s t (Err stop.NoMemory) begun = (
     begun.0,
     λ w shared is.
-        begun.1 w (shared_with specials shared) (record { readers = is.readers; writers = is.writers; outside = is.outside })
+        begun.1 w (shared_with specials shared) (record { kept = is.kept; readers = is.readers; writers = is.writers; outside = is.outside })
         ∙ ap (λ (d : Puts). after (take begun.0 d.added) s.outside) (same_row shared (shared_with specials shared)),
   )
 
@@ -67,7 +67,8 @@ module _ (to : Destination) (values : List Value) (text : List ℕ) (is : format
 -- a fault of the format
 pub could_refused : (to : Destination) (values : List Value) (streams : Streams) (why : Stop) → IsStopOf (formatted_values (operands_of to values)) why → Could (printf_row to values) streams streams (Err why)
 could_refused to values streams (stop.Fault fault) is = λ shared has.
-    (shared.outside, ap (λ r. (printf_by r to (file_name to values) shared).answer) is, ap (λ r. (printf_by r to (file_name to values) shared).inner.writers) is ∙ has.writers)
+    let there = over shared.outside shared in
+    (shared.outside, ap (λ r. (printf_by r to (file_name to values) there).answer) is, ap (λ r. (printf_by r to (file_name to values) there).inner.writers) is ∙ has.writers)
 could_refused to values streams stop.NoMemory is = tt
 
 -- nothing was put out

@@ -1,5 +1,5 @@
 -- What is said of a call that writes, beside what it is on a host's tables.
-use Rattle.std.specs.Prelude.{◌≡◌, ℕ, ◌+◌, ◌%◌, ◌^◌, length, Option, Some, Result, Ok, Err}
+use Rattle.std.specs.Prelude.{◌≡◌, ℕ, ◌+◌, ◌%◌, ◌^◌, length, Option, Some, None, Result, Ok, Err}
 use Rattle.awk_values.specs.declared.fault.Stop.{Stop}
 use Rattle.awk_values.specs.declared.fault.Stop.TheVariants as stop
 use Rattle.awk_values.specs.declared.fault.Fault.{Fault}
@@ -51,9 +51,9 @@ pub record HasFiles (streams : Streams) (shared : Shared) : Type 0 where
   pub readers : length shared.inner.readers ≡ length streams.readers.items
   pub writers : shared.inner.writers ≡ names_of streams.writers.items
 
--- over another outside
+-- over another outside, where nobody else changes what names hold
 abbrev pub over : Outside → Shared → Shared
-over outside shared = record shared { outside = outside }
+over outside shared = record shared { inner = record shared.inner { finds = None }; outside = outside }
 
 -- over some outside the definition answers so, and leaves these files open for writing
 abbrev pub SomeOutside : (Shared → Does (Result (Unit {0}) Fault)) → Streams → Streams → Result (Unit {0}) Fault → Type 0
