@@ -343,7 +343,7 @@ module _ (P : List Pairs → Type 0) where
       Has (opened_if room opens name append text s).inner
   opened_kept false opens name append text s e = e
   opened_kept true false name append text s e = e
-  opened_kept true true name append text s e = open_kept name (looked_by _ s.inner) _ e
+  opened_kept true true name append text s e = open_kept name (looked_by {A = Unit {0}} _ s.inner) _ e
 
   written_kept : (is : Bool) (name : List ℕ) (append : Bool) (text : List ℕ) (s : Shared) → Has s.inner → Has (written_by is name append text s).inner
   written_kept true name append text s e = e

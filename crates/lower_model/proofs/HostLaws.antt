@@ -179,7 +179,7 @@ given_up_keeps (Some (File source)) i = record { pending = refl; names = refl; a
 looked_keeps : (i : Inner) → Keeps i (looked i)
 looked_keeps i = record { pending = refl; names = refl; assigns = refl; few = λ h. h }
 
-looked_by_keeps : {A : Type 0} (r : Result A Fault) (i : Inner) → Keeps i (looked_by r i)
+looked_by_keeps : (r : Result (Unit {0}) Fault) (i : Inner) → Keeps i (looked_by r i)
 looked_by_keeps r i = record { pending = refl; names = refl; assigns = refl; few = λ h. h }
 
 -- Reading a file by its name.
