@@ -1,7 +1,8 @@
 -- What was told of a run is what the script does, where it and the module agree.
 use Rattle.std.proofs.Common.{◌≡◌, ℕ, List, ◌++◌, Option, Some, None, refl, sym, ◌∙◌, subst, append_assoc}
 use Rattle.awk_values.specs.declared.fault.Fault.{Fault}
-use Rattle.sem_primitives.specs.Jobs.{JobForm, Kept, Surroundings}
+use Rattle.sem_primitives.specs.InputMeaning.{nothing_left}
+use Rattle.sem_primitives.specs.Jobs.{Found, JobForm, Kept, Surroundings}
 use Rattle.world_core.specs.WorldState.{Action, Outside, Source}
 use Rattle.wasm_types.specs.Syntax.{ModuleForm}
 use Rattle.wasm_model.specs.declared.ends.MachineEnd.{MachineEnd}
@@ -10,7 +11,7 @@ use Rattle.host_elements.specs.Forms.{HostForm}
 use Rattle.sem_scripts.specs.Kept.{Grows, output_of}
 use Rattle.sem_scripts.specs.ScriptRun.{Ending, Exhausted, GoesOn, Setting, setting_in}
 use Rattle.agree_modules.specs.Agreement.{Agreement, Like, MayEnd, ModuleEnding, Trapped, ended_with, ending_told}
-use Rattle.agree_runs.specs.ToldRuns.{DoesSo, Says, Tells, TellsEnding, ToldRun}
+use Rattle.agree_runs.specs.ToldRuns.{DoesSo, DoesSoThere, FoundRun, Says, Tells, TellsEnding, ToldRun}
 
 -- what grows from more grows from less
 grows_less : (a b xs : List Action) → Grows (a ++ b) xs → Grows a xs
@@ -44,3 +45,10 @@ pub does_so : (script : Setting → ℕ → Ending) (m : ModuleForm) → Agreeme
 does_so script m agree job input outside steps e f r =
     let d = does script m agree job input (Kept outside) steps f.fault e r.output r.tells in
     record { turns = d.0; output = r.output; says = d.1; applied = r.applied }
+
+-- over any world, in surroundings that others change too
+pub does_so_there : (script : Setting → ℕ → Ending) (m : ModuleForm) → Agreement script m → (job : JobForm) (steps : ℕ) (e : MachineEnd) (f : HostForm)
+    → FoundRun m job steps e f → DoesSoThere script job e f
+does_so_there script m agree job steps e f r =
+    let d = does script m agree job nothing_left (Found r.finds) steps f.fault e r.output r.tells in
+    record { finds = r.finds; turns = d.0; output = r.output; says = d.1 }

@@ -1,8 +1,9 @@
 -- What a machine tells of a run whose host is told by its tables.
 use Rattle.std.specs.Prelude.{◌≡◌, ℕ, ◌≤◌, List, ◌++◌, Option, Some}
 use Rattle.awk_values.specs.declared.fault.Fault.{Fault}
-use Rattle.sem_primitives.specs.Jobs.{JobForm, Kept, Surroundings}
-use Rattle.world_core.specs.WorldState.{Action, Outside, Source, after as outside_after}
+use Rattle.sem_primitives.specs.InputMeaning.{nothing_left}
+use Rattle.sem_primitives.specs.Jobs.{Found, JobForm, Kept, Surroundings}
+use Rattle.world_core.specs.WorldState.{Action, Entry, Outside, Source, after as outside_after}
 use Rattle.wasm_types.specs.Syntax.{ModuleForm}
 use Rattle.wasm_model.specs.Machines.{Conf, ProgramForm}
 use Rattle.wasm_model.specs.Runs.{Ran}
@@ -14,7 +15,7 @@ use Rattle.host_elements.specs.Forms.{HostForm}
 use Rattle.host_meaning.specs.Shown.{Shown}
 use Rattle.host_step.specs.Worlds.{anyhow_meaning}
 use Rattle.sem_scripts.specs.Kept.{Grows, output_of}
-use Rattle.sem_scripts.specs.ScriptRun.{Ending, Exhausted, Setting, setting_of}
+use Rattle.sem_scripts.specs.ScriptRun.{Ending, Exhausted, Setting, setting_in, setting_of}
 use Rattle.agree_modules.specs.Agreement.{MayEnd, ModuleEnding, ended_with, ending_told, output_in}
 
 -- what was told, with this fault kept and this output, is how the module may end
@@ -57,3 +58,17 @@ pub record DoesSo (script : Setting → ℕ → Ending) (job : JobForm) (input :
   pub output : List Action
   pub says : Says after-run.fault e output (script (setting_of job input outside) turns)
   pub applied : after-run.shared.outside ≡ outside_after output outside
+
+-- A run of a module in a job, over any world: how the module may end in surroundings that others change too, where each opening, read and write finds what
+-- the world answered.
+pub record FoundRun (m : ModuleForm) (job : JobForm) (steps : ℕ) (e : MachineEnd) (after-run : HostForm) : Type 0 where
+  pub finds : List Entry
+  pub output : List Action
+  pub tells : Tells m job nothing_left (Found finds) steps after-run.fault e output
+
+-- The script does so there within some number of turns.
+pub record DoesSoThere (script : Setting → ℕ → Ending) (job : JobForm) (e : MachineEnd) (after-run : HostForm) : Type 0 where
+  pub finds : List Entry
+  pub turns : ℕ
+  pub output : List Action
+  pub says : Says after-run.fault e output (script (setting_in job nothing_left (Found finds)) turns)

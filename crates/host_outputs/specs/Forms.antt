@@ -52,6 +52,13 @@ printing arguments specials streams state f = writing arguments streams state (w
 abbrev pub closing : Values → Streams → State → HostForm → HostForm
 closing values streams state f = with_values values (with_streams streams state f)
 
+-- what flush looks at
+abbrev pub flushing : Values → Streams → HostForm → HostForm
+flushing values streams f = record f {
+  values = values;
+  shared = record f.shared { inner = record f.shared.inner { writers = names_of streams.writers.items } };
+}
+
 abbrev pub closed_code : Bool → Word
 closed_code true = I32 (stream_code stream.Done)
 closed_code false = I32 (stream_code stream.NotOpen)

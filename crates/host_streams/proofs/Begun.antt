@@ -1,9 +1,9 @@
 -- How putting a text ends in every world, and how much was put out where memory was wanting.
-use Rattle.std.proofs.Common.{◌≡◌, ℕ, suc, ◌<◌, ◌≤◌, ◌+◌, nat_le, Bool, true, false, List, [], ◌∷◌, length, take, drop, map, Result, Ok, Err, OnErr, refl, sym, ap, ◌∙◌, subst, arith}
+use Rattle.std.proofs.Common.{◌≡◌, ℕ, suc, ◌<◌, ◌≤◌, ◌+◌, Bool, true, false, List, [], ◌∷◌, length, take, drop, Result, Ok, Err, OnErr, sym, ap, ◌∙◌, subst, arith}
 use Rattle.std.proofs.lemmas.List.{length-map}
 use Rattle.std.proofs.lemmas.Bool.Decides.{nat_tests}
 use Rattle.awk_values.specs.declared.fault.Fault.{Fault}
-use Rattle.awk_values.specs.declared.fault.Fault.TheVariants.{OpenOutput, TooManyStreams, WriteFailed}
+use Rattle.awk_values.specs.declared.fault.Fault.TheVariants.{WriteFailed}
 use Rattle.awk_values.specs.declared.fault.Stop.{Stop}
 use Rattle.awk_values.specs.declared.fault.Stop.TheVariants.{Fault as IsFault, NoMemory as OutOfMemory}
 use Rattle.world_core.specs.declared.world.WorldFault.{WorldFault}
@@ -13,7 +13,6 @@ use Rattle.world_core.specs.Calls.{Does, Fits, OpensWriter, Writes}
 use Rattle.sem_primitives.specs.Finds.{seen}
 use Rattle.sem_primitives.specs.SharedState.{Does as Doing, Shared}
 use Rattle.sem_primitives.specs.OutputMeaning.{has_room, opened_if, what_fits, written}
-use Rattle.host_streams.specs.OpenFiles.{names_of, readers_in}
 use Rattle.host_streams.specs.Outputs.{IsOf}
 use Rattle.host_streams.specs.Puts.{BeginsBy, BeginsText, EndsPut, IsOver, PutFault, PutsPart}
 use Rattle.host_streams.specs.declared.streams.Streams.{Streams}

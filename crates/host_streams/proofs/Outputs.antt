@@ -7,7 +7,7 @@ use Rattle.awk_values.specs.declared.fault.Stop.TheVariants.{Fault as IsFault, N
 use Rattle.world_core.specs.WorldState.{State, Named, Standard, Open, Outside, Target, after}
 use Rattle.world_core.specs.Calls.{Kind, Closed, Reading, Writing, Opens, OpensWriter, set_kind}
 use Rattle.sem_primitives.specs.Finds.{looked_by, seen}
-use Rattle.sem_primitives.specs.SharedState.{Shared, Does, Inner}
+use Rattle.sem_primitives.specs.SharedState.{Shared, Does}
 use Rattle.sem_primitives.specs.OutputMeaning.{all_out, has_room, is_writing, kept_open, opened_if, then_written, written, written_by}
 use Rattle.host_streams.specs.declared.streams.NamedWriter.{NamedWriter}
 use Rattle.host_streams.specs.OpenFiles.{writer_handle, IsApart, IsNone, AreOpen, WritersGo, names_of, is_writer, writer_place}

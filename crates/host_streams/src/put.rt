@@ -1,6 +1,5 @@
 //! Texts that go to an open stream.
 ghost use Rattle.std.specs.Prelude.{◌≡◌, ◌<◌, OnErr, length, true};
-ghost use Rattle.world_core.specs.WorldState.{Target};
 ghost use Rattle.world_core.specs.Calls.{Writing, next_count};
 ghost use Rattle.sem_primitives.specs.SharedState.{Shared};
 ghost use Rattle.sem_primitives.specs.OutputMeaning.{written};
