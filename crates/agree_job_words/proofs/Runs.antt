@@ -12,19 +12,19 @@ use Rattle.awk_values.specs.declared.value.Value.TheVariants.{StrNum}
 use Rattle.sem_primitives.specs.ArrayMeaning.{element}
 use Rattle.sem_primitives.specs.Assignments.{assignment_of}
 use Rattle.sem_primitives.specs.InputMeaning.{text_or_none}
-use Rattle.sem_primitives.specs.Jobs.{JobForm, arguments_from, fault_of_job}
+use Rattle.sem_primitives.specs.Jobs.{JobForm, Surroundings, arguments_from, fault_of_job}
 use Rattle.sem_primitives.specs.SharedState.{Pairs}
 use Rattle.sem_primitives.specs.Texts.{same_text}
-use Rattle.world_core.specs.WorldState.{Action, Outside, Source}
+use Rattle.world_core.specs.WorldState.{Action, Source}
 use Rattle.wasm_model.specs.Links.{IsNew}
 use Rattle.wasm_model.specs.Machines.{ProgramForm}
 use Rattle.wasm_model.specs.Machines as real
 use Rattle.wasm_model.specs.Runs.{MachineForm, Steps}
 use Rattle.host_step.specs.HostState.{HostState}
 use Rattle.host_imports.specs.Imports.{host_finds}
-use Rattle.host_step.specs.Starts.{state_at_start}
+use Rattle.host_step.specs.Starts.{state_in}
 use Rattle.mid_program.specs.Mid.{Kind, Program, Routine, parameters_at}
-use Rattle.sem_scripts.specs.ScriptRun.{Setting, setting_of}
+use Rattle.sem_scripts.specs.ScriptRun.{Setting, setting_in}
 use Rattle.mid_program.specs.Sorted.{Context, IsSorted, all_differ, announced_names, context_of, is_sorted, kinds_of, parts_sorted, routines_sorted, steps_sorted}
 use Rattle.lower_model.specs.Cells.{cell_at}
 use Rattle.lower_model.specs.Emission.{Layout}
@@ -181,15 +181,15 @@ module _ (tells : Bool) (u : Code) (argv : Pairs) (told : List Telling) (sizes :
   argv_in used bs (Deep G) c s a h alive = absurd a
   argv_in used bs Stuck c s a h alive = absurd (alive refl)
 
-module _ (p : Program) (is : IsSorted p) (names : program_names p ≡ false) (agree : ValueAgreement p) (job : JobForm) (input : Source) (outside : Outside) where
+module _ (p : Program) (is : IsSorted p) (names : program_names p ≡ false) (agree : ValueAgreement p) (job : JobForm) (input : Source) (outside : Surroundings) where
   abbrev start : HostState
-  start = state_at_start job input outside
+  start = state_in job input outside
 
   abbrev argv : Pairs
   argv = first_argv job
 
   abbrev set : Setting
-  set = setting_of job input outside
+  set = setting_in job input outside
 
   abbrev c0 : Context
   c0 = context_of p []

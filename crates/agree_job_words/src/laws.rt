@@ -1,6 +1,6 @@
 //! Laws of the runs of modules, each the contract of a function that does nothing.
 ghost use Rattle.std.specs.Prelude.{◌≡◌, ◌⊎◌, ◌∷◌, ℕ, false, Some, codes, slice_get};
-ghost use Rattle.sem_primitives.specs.Jobs.{JobForm, arguments_from};
+ghost use Rattle.sem_primitives.specs.Jobs.{JobForm, Surroundings, arguments_from};
 ghost use Rattle.host_step.specs.HostState.{HostState};
 ghost use Rattle.mid_program.specs.Mid.{Program, Then};
 ghost use Rattle.mid_program.specs.Sorted.{IsSorted};
@@ -8,7 +8,7 @@ ghost use Rattle.lower_model.specs.Modules.{module_of};
 ghost use Rattle.wasm_model.specs.Machines.{Conf};
 ghost use Rattle.wasm_model.specs.Runs.{MachineForm};
 ghost use Rattle.wasm_types.specs.Typing.{ModuleOk};
-ghost use Rattle.world_core.specs.WorldState.{Outside, Source};
+ghost use Rattle.world_core.specs.WorldState.{Source};
 ghost use Rattle.agree_places.specs.Assigned.{IsAssigned};
 ghost use Rattle.agree_places.specs.Kept.{AtStatement, Reached};
 ghost use Rattle.agree_quiet.specs.Laned.{AtNumeric, IsNext};
@@ -23,7 +23,7 @@ use agree_quiet::laws::statements_are_quiet;
 /// given it.
 pub fn argv_stays()
     ensures { (p : Program) → IsSorted p → program_names p ≡ false
-        → (job : JobForm) (input : Source) (outside : Outside)
+        → (job : JobForm) (input : Source) (outside : Surroundings)
         (m : MachineForm) (c : Conf) (s : HostState)
         → Reached (module_of p) job input outside m c s
         → slice_get s.shared.inner.arrays 0
@@ -34,7 +34,7 @@ pub fn argv_stays()
 /// The names that the module announces are the script's, in their order.
 pub fn assignments_are_the_jobs()
     ensures { (p : Program) → IsSorted p → program_names p ≡ false
-        → (job : JobForm) (input : Source) (outside : Outside)
+        → (job : JobForm) (input : Source) (outside : Surroundings)
         (m : MachineForm) (c : Conf) (s : HostState)
         → (reached : Reached (module_of p) job input outside m c s)
         → (i : ℕ) → IsAssigned reached i → AssignsName p job i }
@@ -43,7 +43,7 @@ pub fn assignments_are_the_jobs()
 /// So a statement on numbers of such a program is quiet where its names are unboxed and no word of the job assigns to one of them.
 pub fn quiet_by_the_job()
     ensures { (p : Program) → IsSorted p → ModuleOk (module_of p) → program_names p ≡ false
-        → (job : JobForm) (input : Source) (outside : Outside)
+        → (job : JobForm) (input : Source) (outside : Surroundings)
         (m : MachineForm) (c : Conf) (s : HostState)
         → (reached : Reached (module_of p) job input outside m c s)
         → (here : AtStatement p c s) → (a : AtNumeric p c s here (λ i. AssignsName p job i))

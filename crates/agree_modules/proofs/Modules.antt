@@ -3,8 +3,8 @@ use Rattle.std.proofs.Common.{◌≡◌, ◌≢◌, ℕ, zero, suc, ◌+◌, ◌
 use Rattle.std.proofs.lemmas.Bool.{ltb-true}
 use Rattle.std.specs.Int.{cast_signed, int_rem_euclid}
 use Rattle.awk_values.specs.declared.fault.Fault.{Fault}
-use Rattle.sem_primitives.specs.Jobs.{JobForm}
-use Rattle.world_core.specs.WorldState.{Action, Outside, Source}
+use Rattle.sem_primitives.specs.Jobs.{JobForm, Surroundings}
+use Rattle.world_core.specs.WorldState.{Action, Source}
 use Rattle.wasm_store.specs.declared.trap.TrapKind.{TrapKind}
 use Rattle.wasm_store.specs.declared.word.Word.{Word}
 use Rattle.wasm_store.specs.declared.word.Word.TheVariants.{I32, I64}
@@ -18,11 +18,11 @@ use Rattle.wasm_model.specs.declared.ends.RunEnd.TheVariants.{Ended as HasEnded,
 use Rattle.wasm_model.specs.declared.ends.MachineEnd.{MachineEnd}
 use Rattle.wasm_model.specs.declared.ends.MachineEnd.TheVariants as machine
 use Rattle.host_step.specs.HostState.{HostState}
-use Rattle.host_step.specs.Starts.{state_at_start}
+use Rattle.host_step.specs.Starts.{state_in}
 use Rattle.sem_scripts.specs.Kept.{Grows, output_of}
 use Rattle.mid_program.specs.Mid.{Program}
 use Rattle.mid_program.specs.MidMeaning.{mid_run_in}
-use Rattle.sem_scripts.specs.ScriptRun.{Setting, Ending, Ended, FaultedBy, GoesOn, Exhausted, setting_of}
+use Rattle.sem_scripts.specs.ScriptRun.{Setting, Ending, Ended, FaultedBy, GoesOn, Exhausted, setting_in}
 use Rattle.lower_model.specs.Cells.{Cell, Bits, Held, LentArray, OwnedArray, IteratorOf, Gone}
 use Rattle.lower_model.specs.Machine.{Conf, Run, Look, Over, Deep, Store, Stuck, ending_at, go, status_of}
 use Rattle.lower_model.specs.Modules.{module_of}
@@ -135,9 +135,9 @@ told_in d (Some t) = t
 not_refused : (r : RunEnd) (told : MachineEnd) → told_run r ≡ Some told → told ≢ machine.NoMemory → r ≢ NoMemory
 not_refused r told h ne n = ne (sym (ap (told_in told) (sym (ap told_run n) ∙ h)))
 
-module _ (p : Program) (agree : ValueAgreement p) (job : JobForm) (input : Source) (outside : Outside) where
+module _ (p : Program) (agree : ValueAgreement p) (job : JobForm) (input : Source) (outside : Surroundings) where
   abbrev s : Setting
-  s = setting_of job input outside
+  s = setting_in job input outside
 
   abbrev Ends : ℕ → ModuleEnding → Type 0
   Ends steps e = MayEnd (module_of p) job input outside steps e
@@ -149,10 +149,10 @@ module _ (p : Program) (agree : ValueAgreement p) (job : JobForm) (input : Sourc
   told_at : (n : ℕ) (g : Ending) → value_run p s n ≡ Some g → (e : ModuleEnding) → Ends (suc n) e → e ≡ Like g
   told_at n g shows e r =
       let enough = not_wanting r.state.fault r.told r.output e r.ending in
-      let from_main = run_after table_meaning r.machine.program r.machine.conf (in_main p) (begins p r.machine r.is_new) n (state_at_start job input outside) r.output r.run-end r.conf r.state (not_refused r.run-end r.told r.telling enough) r.ran in
-      let ran = subst (λ (m : ProgramForm). Ran table_meaning m n (in_main p) (state_at_start job input outside) r.output r.run-end r.conf r.state) (program_is p r.machine r.is_new) from_main in
-      told_alike r.state r.told r.output e r.ending (sym (run_adds (program p) n (in_main p) (state_at_start job input outside) r.output r.run-end r.conf r.state ran)) (go (code_of p 9999) n (begun p s)) g shows
-      (tells_as (linked p) arrays_grow n (begun p s) (not_stuck (suc n)) (in_main p) (state_at_start job input outside) r.told r.conf r.state (begun_as p s 9999) enough (r.output, r.run-end, r.telling, ran))
+      let from_main = run_after table_meaning r.machine.program r.machine.conf (in_main p) (begins p r.machine r.is_new) n (state_in job input outside) r.output r.run-end r.conf r.state (not_refused r.run-end r.told r.telling enough) r.ran in
+      let ran = subst (λ (m : ProgramForm). Ran table_meaning m n (in_main p) (state_in job input outside) r.output r.run-end r.conf r.state) (program_is p r.machine r.is_new) from_main in
+      told_alike r.state r.told r.output e r.ending (sym (run_adds (program p) n (in_main p) (state_in job input outside) r.output r.run-end r.conf r.state ran)) (go (code_of p 9999) n (begun p s)) g shows
+      (tells_as (linked p) arrays_grow n (begun p s) (not_stuck (suc n)) (in_main p) (state_in job input outside) r.told r.conf r.state (begun_as p s 9999) enough (r.output, r.run-end, r.telling, ran))
 
   none_taken : (e : ModuleEnding) → Ends zero e → e ≡ Like (GoesOn [])
   none_taken e r = by r.run-end r.telling (not_refused r.run-end r.told r.telling (not_wanting r.state.fault r.told r.output e r.ending)) r.ran
@@ -166,12 +166,12 @@ module _ (p : Program) (agree : ValueAgreement p) (job : JobForm) (input : Sourc
       none_within k ends.Exhausted l = absurd (omega (arith, l))
       none_within k ends.Stuck l = absurd (omega (arith, l))
 
-      by : (x : RunEnd) → told_run x ≡ Some r.told → x ≢ NoMemory → Ran table_meaning r.machine.program zero r.machine.conf (state_at_start job input outside) r.output x r.conf r.state → e ≡ Like (GoesOn [])
+      by : (x : RunEnd) → told_run x ≡ Some r.told → x ≢ NoMemory → Ran table_meaning r.machine.program zero r.machine.conf (state_in job input outside) r.output x r.conf r.state → e ≡ Like (GoesOn [])
       by OutOfSteps t ne h =
           sym (the_same (subst (λ (y : MachineEnd). ending_told r.state.fault y r.output ≡ Some e) (sym (ap (told_in r.told) t)) r.ending)) ∙ ap (λ o. Like (GoesOn o)) h.0.2
       by (HasEnded x) t ne h = absurd (at_start h.0 (none_within h.0 x h.1) h.6)
         where
-          at_start : (k : ℕ) → k ≡ zero → Steps table_meaning r.machine.program k r.machine.conf (state_at_start job input outside) h.4 h.2 h.3 → ⊥
+          at_start : (k : ℕ) → k ≡ zero → Steps table_meaning r.machine.program k r.machine.conf (state_in job input outside) h.4 h.2 h.3 → ⊥
           at_start zero e q = no_end (turn r.machine.program h.2) (ap (turn r.machine.program) q.0 ∙ begins p r.machine r.is_new) h.2.memory h.3 h.5 x r.state h.7
           at_start (suc k) e q = cc
       by NoMemory t ne h = absurd (ne refl)

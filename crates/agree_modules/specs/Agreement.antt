@@ -2,8 +2,8 @@
 use Rattle.std.specs.Prelude.{◌≡◌, ℕ, ◌+◌, ◌*◌, ◌≤◌, ℤ, pos, unsigned_abs, List, Option, Some, None}
 use Rattle.std.specs.Int.{int_rem_euclid}
 use Rattle.awk_values.specs.declared.fault.Fault.{Fault}
-use Rattle.sem_primitives.specs.Jobs.{JobForm}
-use Rattle.world_core.specs.WorldState.{Action, Outside, Source}
+use Rattle.sem_primitives.specs.Jobs.{JobForm, Surroundings}
+use Rattle.world_core.specs.WorldState.{Action, Source}
 use Rattle.wasm_types.specs.Syntax.{ModuleForm}
 use Rattle.wasm_store.specs.declared.trap.TrapKind.{TrapKind}
 use Rattle.wasm_model.specs.Links.{IsNew}
@@ -14,9 +14,9 @@ use Rattle.wasm_model.specs.declared.ends.MachineEnd.{MachineEnd}
 use Rattle.wasm_model.specs.declared.ends.MachineEnd.TheVariants as machine
 use Rattle.host_step.specs.HostState.{HostState}
 use Rattle.host_imports.specs.Imports.{host_finds}
-use Rattle.host_step.specs.Starts.{state_at_start}
+use Rattle.host_step.specs.Starts.{state_in}
 use Rattle.sem_scripts.specs.Kept.{Grows, output_of}
-use Rattle.sem_scripts.specs.ScriptRun.{Setting, Ending, Ended, FaultedBy, GoesOn, Exhausted, setting_of}
+use Rattle.sem_scripts.specs.ScriptRun.{Setting, Ending, Ended, FaultedBy, GoesOn, Exhausted, setting_in}
 use Rattle.agree_refined.specs.Refined.{table_meaning}
 use Rattle.agree_modules.specs.ValueAgreement.{IsOver}
 
@@ -44,7 +44,7 @@ output_in (Trapped kind output) = output
 
 -- How a module may end that is given so many steps, in a job and a world: linked with a host of the table, from the beginning, with whatever free
 -- numbers the host gives to what is new.
-pub record MayEnd (m : ModuleForm) (job : JobForm) (input : Source) (outside : Outside) (steps : ℕ) (e : ModuleEnding) : Type 0 where
+pub record MayEnd (m : ModuleForm) (job : JobForm) (input : Source) (outside : Surroundings) (steps : ℕ) (e : ModuleEnding) : Type 0 where
   pub machine : MachineForm
   pub is_new : IsNew host_finds m machine
   pub run-end : RunEnd
@@ -53,7 +53,7 @@ pub record MayEnd (m : ModuleForm) (job : JobForm) (input : Source) (outside : O
   pub conf : Conf
   pub state : HostState
   pub output : List Action
-  pub ran : Ran table_meaning machine.program steps machine.conf (state_at_start job input outside) output run-end conf state
+  pub ran : Ran table_meaning machine.program steps machine.conf (state_in job input outside) output run-end conf state
   pub ending : ending_told state.fault told output ≡ Some e
 
 -- A script and a module agree, in every job and whatever the outside is: what one does the other does, faults and too many nested calls included, and
@@ -61,16 +61,16 @@ pub record MayEnd (m : ModuleForm) (job : JobForm) (input : Source) (outside : O
 -- and turns, and it does not matter which free numbers the host picks. `script` is what the script does within so many turns.
 pub record Agreement (script : Setting → ℕ → Ending) (m : ModuleForm) : Type 0 where
   pub bound : ℕ
-  pub one_run : (job : JobForm) (input : Source) (outside : Outside) (steps : ℕ) (e f : ModuleEnding) → MayEnd m job input outside steps e
+  pub one_run : (job : JobForm) (input : Source) (outside : Surroundings) (steps : ℕ) (e f : ModuleEnding) → MayEnd m job input outside steps e
       → MayEnd m job input outside steps f → e ≡ f
-  pub forward : (job : JobForm) (input : Source) (outside : Outside) (turns : ℕ) (e : Ending) → IsOver e → script (setting_of job input outside) turns ≡ e →
+  pub forward : (job : JobForm) (input : Source) (outside : Surroundings) (turns : ℕ) (e : Ending) → IsOver e → script (setting_in job input outside) turns ≡ e →
       (enough : ℕ) × (enough ≤ bound * (turns + 1)) × ((steps : ℕ) (f : ModuleEnding) → enough ≤ steps → MayEnd m job input outside steps f → f ≡ Like e)
-  pub backward : (job : JobForm) (input : Source) (outside : Outside) (steps : ℕ) (e : Ending) → IsOver e → MayEnd m job input outside steps (Like e) →
-      (turns : ℕ) × (script (setting_of job input outside) turns ≡ e)
-  pub never_trapped : (job : JobForm) (input : Source) (outside : Outside) (steps : ℕ) (kind : TrapKind) (output : List Action)
+  pub backward : (job : JobForm) (input : Source) (outside : Surroundings) (steps : ℕ) (e : Ending) → IsOver e → MayEnd m job input outside steps (Like e) →
+      (turns : ℕ) × (script (setting_in job input outside) turns ≡ e)
+  pub never_trapped : (job : JobForm) (input : Source) (outside : Surroundings) (steps : ℕ) (kind : TrapKind) (output : List Action)
       → MayEnd m job input outside steps (Trapped kind output) → ⊥
-  pub output_module : (job : JobForm) (input : Source) (outside : Outside) (steps : ℕ) (e : ModuleEnding) → MayEnd m job input outside steps e →
-      (turns : ℕ) × Grows (output_in e) (output_of (script (setting_of job input outside) turns))
-  pub output_script : (job : JobForm) (input : Source) (outside : Outside) (turns : ℕ) →
+  pub output_module : (job : JobForm) (input : Source) (outside : Surroundings) (steps : ℕ) (e : ModuleEnding) → MayEnd m job input outside steps e →
+      (turns : ℕ) × Grows (output_in e) (output_of (script (setting_in job input outside) turns))
+  pub output_script : (job : JobForm) (input : Source) (outside : Surroundings) (turns : ℕ) →
       (enough : ℕ) × (enough ≤ bound * (turns + 1)) × ((steps : ℕ) (e : ModuleEnding) → enough ≤ steps → MayEnd m job input outside steps e
-      → Grows (output_of (script (setting_of job input outside) turns)) (output_in e))
+      → Grows (output_of (script (setting_in job input outside) turns)) (output_in e))

@@ -1,7 +1,7 @@
 -- A run of a module passes its places as its program executes statements.
 use Rattle.std.proofs.Common.{◌≡◌, ℕ, zero, suc, ◌+◌, ◌≤◌, ◌^◌, ◌%◌, Bool, true, false, cond, nat_lt, List, [], ◌++◌, Some, None, Option, inl, inr, refl, sym, ap, ap₂, subst, ◌∙◌, append-nil, arith}
-use Rattle.sem_primitives.specs.Jobs.{JobForm}
-use Rattle.world_core.specs.WorldState.{Action, Outside, Source}
+use Rattle.sem_primitives.specs.Jobs.{JobForm, Surroundings}
+use Rattle.world_core.specs.WorldState.{Action, Source}
 use Rattle.awk_values.specs.declared.fault.Fault.{Fault}
 use Rattle.wasm_types.specs.Syntax.{Plain, Instructions, Done, Then}
 use Rattle.wasm_types.specs.declared.instr.Simple.TheVariants as simple
@@ -13,12 +13,12 @@ use Rattle.wasm_model.specs.Runs.{MachineForm, OverBy, TakenAs, told_end}
 use Rattle.wasm_model.specs.declared.ends.MachineEnd.{MachineEnd}
 use Rattle.wasm_model.specs.declared.ends.End.{End}
 use Rattle.host_step.specs.HostState.{HostState}
-use Rattle.host_step.specs.Starts.{state_at_start}
+use Rattle.host_step.specs.Starts.{state_in}
 use Rattle.host_step.specs.Worlds.{with_output}
 use Rattle.sem_scripts.specs.Kept.{Grows, output_of}
 use Rattle.mid_program.specs.Mid.{Program}
 use Rattle.mid_program.specs.MidMeaning.{mid_run_in}
-use Rattle.sem_scripts.specs.ScriptRun.{Ending, Setting, Ended, FaultedBy, Exhausted, setting_of}
+use Rattle.sem_scripts.specs.ScriptRun.{Ending, Setting, Ended, FaultedBy, Exhausted, setting_in}
 use Rattle.mid_program.specs.Sorted.{IsSorted}
 use Rattle.lower_model.specs.Cells.{Cell, Bits, Held, LentArray, OwnedArray, IteratorOf, Gone}
 use Rattle.lower_model.specs.Follows.{FollowsNoted}
@@ -76,9 +76,9 @@ no_end t c e a b = let q = sym a ∙ b in cc
 go_after : (u : Code) (k : ℕ) (c : Conf) → go u (suc k) c ≡ step u (go u k c)
 go_after u k c = ap (λ z. go u z c) (let j : suc k ≡ k + 1 = omega arith in j) ∙ go_add u k 1 c
 
-module _ (p : Program) (probe : Probe) (values : AgreesWith (notes_of p probe) p (probed_run p probe)) (job : JobForm) (input : Source) (outside : Outside) where
+module _ (p : Program) (probe : Probe) (values : AgreesWith (notes_of p probe) p (probed_run p probe)) (job : JobForm) (input : Source) (outside : Surroundings) where
   abbrev s : Setting
-  s = setting_of job input outside
+  s = setting_in job input outside
 
   abbrev place : ℕ → Conf
   place n = go (noting_code (notes_of p probe) p 9999) n (begun p s)
@@ -93,14 +93,14 @@ module _ (p : Program) (probe : Probe) (values : AgreesWith (notes_of p probe) p
   there : (n : ℕ) (a : MachineForm) (c : real.Conf) (h : HostState) (o : List Action) → ProbedRun probe (module_of p) job input outside (suc n) a c h o → There n c h o
   there n a c h o r =
       let t = r.taken in
-      let first = subst (λ (z : Turn). TakenAs table_meaning z (state_at_start job input outside) a.conf.memory t.2 t.0 t.1) (begins p a r.is_new) t.3 in
+      let first = subst (λ (z : Turn). TakenAs table_meaning z (state_in job input outside) a.conf.memory t.2 t.0 t.1) (begins p a r.is_new) t.3 in
       let none : probed_at probe (settled_code a.conf.frame.code) [] ++ t.2 ≡ [] = ap₂ (λ (x y : List Action). x ++ y) (ap (λ (z : real.Conf). probed_at probe (settled_code z.frame.code) []) r.is_new.conf) first.2 in
-      let steps : ProbedSteps probe (program p) n (in_main p) (state_at_start job input outside) [] c h o =
-      subst (λ (z : List Action). ProbedSteps probe (program p) n (in_main p) (state_at_start job input outside) z c h o) none
+      let steps : ProbedSteps probe (program p) n (in_main p) (state_in job input outside) [] c h o =
+      subst (λ (z : List Action). ProbedSteps probe (program p) n (in_main p) (state_in job input outside) z c h o) none
       (subst (λ (z : HostState). ProbedSteps probe (program p) n (in_main p) z (probed_at probe (settled_code a.conf.frame.code) [] ++ t.2) c h o) first.1
       (subst (λ (z : real.Conf). ProbedSteps probe (program p) n z t.1 (probed_at probe (settled_code a.conf.frame.code) [] ++ t.2) c h o) first.0
       (subst (λ (m : ProgramForm). ProbedSteps probe m n t.0 t.1 (probed_at probe (settled_code a.conf.frame.code) [] ++ t.2) c h o) (program_is p a r.is_new) t.4))) in
-      record { it = probed_steps p probe n (begun p s) (in_main p) (state_at_start job input outside) [] c h o (begun_as p s 9999) steps }
+      record { it = probed_steps p probe n (begun p s) (in_main p) (state_in job input outside) [] c h o (begun_as p s 9999) steps }
 
   -- what is put out there
   put_there : (q : Conf) (c : real.Conf) (h : HostState) (o : List Action) (e : Ending) → ending_at q ≡ Some e → Rel q c (with_output o h) → output_of e ≡ o

@@ -2,8 +2,8 @@
 -- one would see of places is said by a probe: actions that are added to the output each time that a place is passed, any that one likes. So what is
 -- put out with a probe shows the places that a run passes, in their order, and among what it puts out.
 use Rattle.std.specs.Prelude.{◌≡◌, ℕ, zero, suc, ◌≤◌, List, [], ◌++◌, Some}
-use Rattle.sem_primitives.specs.Jobs.{JobForm}
-use Rattle.world_core.specs.WorldState.{Action, Outside, Source}
+use Rattle.sem_primitives.specs.Jobs.{JobForm, Surroundings}
+use Rattle.world_core.specs.WorldState.{Action, Source}
 use Rattle.wasm_types.specs.Syntax.{Plain, Instructions, Then, ModuleForm}
 use Rattle.wasm_types.specs.declared.instr.Simple.TheVariants.{Nop}
 use Rattle.wasm_model.specs.Frames.{settled_code}
@@ -14,10 +14,10 @@ use Rattle.wasm_model.specs.declared.ends.MachineEnd.{MachineEnd}
 use Rattle.wasm_model.specs.declared.ends.End.{End}
 use Rattle.host_step.specs.HostState.{HostState}
 use Rattle.host_imports.specs.Imports.{host_finds}
-use Rattle.host_step.specs.Starts.{state_at_start}
+use Rattle.host_step.specs.Starts.{state_in}
 use Rattle.sem_scripts.specs.Kept.{Grows, output_of}
 use Rattle.mid_program.specs.Mid.{Program}
-use Rattle.sem_scripts.specs.ScriptRun.{Ending, Setting, setting_of}
+use Rattle.sem_scripts.specs.ScriptRun.{Ending, Setting, setting_in}
 use Rattle.lower_model.specs.Machine.{Notes}
 use Rattle.lower_model.specs.Modules.{called_imports, renumbered}
 use Rattle.lower_model.specs.Noted.{noted_run_in}
@@ -45,25 +45,25 @@ ProbedSteps probe m (suc n) c s output c' s' output' =
     × ProbedSteps probe m n c1 s1 (probed_at probe (settled_code c.frame.code) output ++ added) c' s' output'
 
 -- a run of so many steps with a probe
-pub record ProbedRun (probe : Probe) (m : ModuleForm) (job : JobForm) (input : Source) (outside : Outside) (steps : ℕ) (a : MachineForm) (c : Conf)
+pub record ProbedRun (probe : Probe) (m : ModuleForm) (job : JobForm) (input : Source) (outside : Surroundings) (steps : ℕ) (a : MachineForm) (c : Conf)
     (s : HostState) (output : List Action) : Type 0 where
   pub is_new : IsNew host_finds m a
-  pub taken : ProbedSteps probe a.program steps a.conf (state_at_start job input outside) [] c s output
+  pub taken : ProbedSteps probe a.program steps a.conf (state_in job input outside) [] c s output
 
 -- A module passes its places as something is done that has the probe too, in a setting and within so many turns. What a run has put out with the
 -- probe is put out by some time; where the run ends that is all; and what is put out within some turns a run has put out once it has taken enough
 -- steps.
 pub record Passes (done : Probe → Setting → ℕ → Ending) (m : ModuleForm) : Type 0 where
-  pub so_far : (probe : Probe) (job : JobForm) (input : Source) (outside : Outside) (steps : ℕ) (a : MachineForm) (c : Conf) (s : HostState)
+  pub so_far : (probe : Probe) (job : JobForm) (input : Source) (outside : Surroundings) (steps : ℕ) (a : MachineForm) (c : Conf) (s : HostState)
       (output : List Action)
-      → ProbedRun probe m job input outside steps a c s output → (turns : ℕ) × Grows output (output_of (done probe (setting_of job input outside) turns))
-  pub ended : (probe : Probe) (job : JobForm) (input : Source) (outside : Outside) (steps : ℕ) (a : MachineForm) (c : Conf) (s : HostState)
+      → ProbedRun probe m job input outside steps a c s output → (turns : ℕ) × Grows output (output_of (done probe (setting_in job input outside) turns))
+  pub ended : (probe : Probe) (job : JobForm) (input : Source) (outside : Surroundings) (steps : ℕ) (a : MachineForm) (c : Conf) (s : HostState)
       (output : List Action)
       → ProbedRun probe m job input outside steps a c s output → (e : End) (t : MachineEnd) → turn a.program c ≡ Ends e → told_end e ≡ Some t
-      → (turns : ℕ) × IsOver (done probe (setting_of job input outside) turns) × (output_of (done probe (setting_of job input outside) turns) ≡ output)
-  pub in_time : (probe : Probe) (job : JobForm) (input : Source) (outside : Outside) (turns : ℕ)
+      → (turns : ℕ) × IsOver (done probe (setting_in job input outside) turns) × (output_of (done probe (setting_in job input outside) turns) ≡ output)
+  pub in_time : (probe : Probe) (job : JobForm) (input : Source) (outside : Surroundings) (turns : ℕ)
       → (enough : ℕ) × ((steps : ℕ) (a : MachineForm) (c : Conf) (s : HostState) (output : List Action) → enough ≤ steps
-      → ProbedRun probe m job input outside steps a c s output → Grows (output_of (done probe (setting_of job input outside) turns)) output)
+      → ProbedRun probe m job input outside steps a c s output → Grows (output_of (done probe (setting_in job input outside) turns)) output)
 
 -- A program with a probe: its places are those of its code, whose calls have the module's numbers.
 

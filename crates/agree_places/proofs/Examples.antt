@@ -4,7 +4,7 @@ use Rattle.std.specs.Fmt.{digits}
 use Rattle.std.specs.Prelude.{codes}
 use Rattle.awk_values.specs.declared.value.Value.{Value}
 use Rattle.awk_values.specs.declared.value.Value.TheVariants.{StrNum}
-use Rattle.sem_primitives.specs.Jobs.{JobForm}
+use Rattle.sem_primitives.specs.Jobs.{JobForm, Surroundings}
 use Rattle.sem_primitives.specs.declared.constants.NameKind.TheVariants.{Scalar}
 use Rattle.sem_primitives.specs.declared.sorts.Sort.{Sort}
 use Rattle.sem_primitives.specs.declared.sorts.Sort.TheVariants as sort
@@ -14,8 +14,8 @@ use Rattle.wasm_types.specs.declared.instr.Simple.TheVariants.{Nop}
 use Rattle.wasm_model.specs.Machines.{Conf, ProgramForm}
 use Rattle.wasm_model.specs.Runs.{Steps}
 use Rattle.host_step.specs.HostState.{HostState}
-use Rattle.host_step.specs.Starts.{state_at_start}
-use Rattle.world_core.specs.WorldState.{Outside, Source}
+use Rattle.host_step.specs.Starts.{state_in}
+use Rattle.world_core.specs.WorldState.{Source}
 use Rattle.sem_primitives.specs.declared.table.Primitive.TheVariants as row
 use Rattle.mid_program.specs.declared.mid.Operation.TheVariants.{Host}
 use Rattle.mid_program.specs.Mid.{Boxed, Unboxed, Code as MidCode, Do, Call, Get, Parameter, At, End}
@@ -58,9 +58,9 @@ number_in (Some x) = x.0
 abbrev here : Instructions → Conf
 here code = record { frame = record { values = []; labels = []; locals = []; code = code }; result = None; callers = []; memory = record { bytes = []; most = 0 }; table = []; globals = [] }
 
-module _ (job : JobForm) (input : Source) (outside : Outside) (m : ProgramForm) where
+module _ (job : JobForm) (input : Source) (outside : Surroundings) (m : ProgramForm) where
   abbrev start : HostState
-  start = state_at_start job input outside
+  start = state_in job input outside
 
   abbrev told : HostState
   told = record start { shared = record start.shared { inner = record start.shared.inner { pending = Some (3, StrNum (65 ∷ [])) } } }
@@ -91,10 +91,10 @@ words = record { operands = codes "A=1" ∷ []; assigns = (codes "B", codes "2")
 abbrev no_words : JobForm
 no_words = record { operands = []; assigns = []; environment = [] }
 
-module _ (input : Source) (outside : Outside) where
+module _ (input : Source) (outside : Surroundings) where
   abbrev announced : JobForm → HostState
   announced job =
-      let start = state_at_start job input outside in
+      let start = state_in job input outside in
       record start { shared = record start.shared { inner = record start.shared.inner { names = (codes "A", Scalar) ∷ ((codes "B", Scalar) ∷ ((codes "C", Scalar) ∷ [])) } } }
 
   abbrev emptied : HostState

@@ -7,7 +7,7 @@ use Rattle.wasm_model.specs.Frames.{settled_code, settled_values}
 use Rattle.wasm_model.specs.Machines as real
 use Rattle.wasm_model.specs.Machines.{CallerForm}
 use Rattle.host_step.specs.HostState.{HostState, Names}
-use Rattle.host_step.specs.Starts.{state_at_start}
+use Rattle.host_step.specs.Starts.{state_in}
 use Rattle.mid_program.specs.Mid.{Kind, Program}
 use Rattle.sem_scripts.specs.ScriptRun.{Setting}
 use Rattle.lower_model.specs.Cells.{Cell}
@@ -70,9 +70,9 @@ module _ (used : ℕ → Bool) (bs : List Bool) (u : Code) (instructions places 
 
 -- A NUMBER IS FREE wherever a run may come to, once `main` has begun
 pub free_from : (p : Program) → IsSmall p → (s : Setting) → ((n : ℕ) → go (code_of p 9999) n (begun p s) ≡ Stuck → ⊥) →
-    FreeFrom (program p) (in_main p) (state_at_start s.job s.input s.outside)
+    FreeFrom (program p) (in_main p) (state_in s.job s.input s.outside)
 free_from p small s alive k out c1 s1 steps =
     let g = small.globals in
     free_there (stays p) (called_imports p) (code_of p 9999) (2 ^ 29) 100000 (length (globals_of p)) (OfFunction p) (omega (arith, g)) (go (code_of p 9999) k (begun p s)) c1 s1
-    (steps_as (linked p) arrays_grow k (begun p s) (in_main p) (state_at_start s.job s.input s.outside) out c1 s1 (begun_as p s 9999) steps)
+    (steps_as (linked p) arrays_grow k (begun p s) (in_main p) (state_in s.job s.input s.outside) out c1 s1 (begun_as p s 9999) steps)
     (fits_on p (2 ^ 29) 100000 small.functions s k) (alive k)

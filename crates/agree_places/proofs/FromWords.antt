@@ -1,17 +1,17 @@
 -- So on a run: an assignment that is pending comes from a word of the command line.
 use Rattle.std.proofs.Common.{◌≡◌, ◌⊎◌, inl, inr, ℕ, zero, suc, Bool, List, [], ◌∷◌, Some, None, refl, sym, ap, ◌∙◌, subst, slice_get}
 use Rattle.sem_primitives.specs.Assignments.{declared}
-use Rattle.sem_primitives.specs.Jobs.{JobForm}
+use Rattle.sem_primitives.specs.Jobs.{JobForm, Surroundings}
 use Rattle.sem_primitives.specs.declared.constants.NameKind.TheVariants.{Scalar}
 use Rattle.awk_values.specs.declared.value.Value.{Value}
-use Rattle.world_core.specs.WorldState.{Action, Outside, Source}
+use Rattle.world_core.specs.WorldState.{Action, Source}
 use Rattle.wasm_model.specs.Machines.{ProgramForm}
 use Rattle.wasm_model.specs.Machines as real
 use Rattle.wasm_model.specs.Runs.{MachineForm, Steps}
 use Rattle.host_step.specs.HostState.{HostState}
-use Rattle.host_step.specs.Starts.{state_at_start}
+use Rattle.host_step.specs.Starts.{state_in}
 use Rattle.mid_program.specs.Mid.{Program}
-use Rattle.sem_scripts.specs.ScriptRun.{Setting, setting_of}
+use Rattle.sem_scripts.specs.ScriptRun.{Setting, setting_in}
 use Rattle.sem_primitives.specs.SharedState.{Inner}
 use Rattle.lower_model.specs.Functions.{main_callee}
 use Rattle.lower_model.specs.Machine.{Code, Conf, Deep, Look, Over, Run, Store, Stuck, assigning_after, ending_at, go, step, zeros}
@@ -110,15 +110,15 @@ module _ (u : Code) (job : JobForm) (W : ℕ → Type 0) where
         (step_in u Here Worded leads P (here_in P c s a h (λ j w. f j (inl w)))) (λ k. alive (suc k)) (λ j w. f j (inr w)) i q
 
 -- FROM A WORD: each assignment of a run
-pub from_words : (p : Program) → ValueAgreement p → (job : JobForm) (input : Source) (outside : Outside) (m : MachineForm) (c : real.Conf) (s : HostState) (reached : Reached (module_of p) job input outside m c s) →
+pub from_words : (p : Program) → ValueAgreement p → (job : JobForm) (input : Source) (outside : Surroundings) (m : MachineForm) (c : real.Conf) (s : HostState) (reached : Reached (module_of p) job input outside m c s) →
     (i : ℕ) → IsAssigned reached i → HasWord reached i
 from_words p agree job input outside m c s reached i = by reached.steps reached.taken (λ j q. q)
   where
     start : HostState
-    start = state_at_start job input outside
+    start = state_in job input outside
 
     set : Setting
-    set = setting_of job input outside
+    set = setting_in job input outside
 
     W : ℕ → Type 0
     W j = HasWord reached j

@@ -1,8 +1,8 @@
 -- So on a run: a name to which the command line has not assigned has no handle where a statement begins.
 use Rattle.std.proofs.Common.{◌≡◌, inl, inr, ℕ, zero, suc, ◌+◌, Bool, true, false, ◌&&◌, nat_eq, List, [], ◌∷◌, ◌++◌, drop, slice_get, Some, None, refl, sym, ap, ◌∙◌, arith, subst}
 use Rattle.std.proofs.lemmas.Bool.{and_parts, eqb-true}
-use Rattle.sem_primitives.specs.Jobs.{JobForm}
-use Rattle.world_core.specs.WorldState.{Action, Outside, Source}
+use Rattle.sem_primitives.specs.Jobs.{JobForm, Surroundings}
+use Rattle.world_core.specs.WorldState.{Action, Source}
 use Rattle.wasm_store.specs.declared.word.Word.{Word}
 use Rattle.wasm_store.specs.declared.word.Word.TheVariants.{I32, I64}
 use Rattle.wasm_model.specs.Frames.{FrameForm}
@@ -10,9 +10,9 @@ use Rattle.wasm_model.specs.Machines.{ProgramForm}
 use Rattle.wasm_model.specs.Machines as real
 use Rattle.wasm_model.specs.Runs.{MachineForm, Steps}
 use Rattle.host_step.specs.HostState.{HostState, Names}
-use Rattle.host_step.specs.Starts.{state_at_start}
+use Rattle.host_step.specs.Starts.{state_in}
 use Rattle.mid_program.specs.Mid.{Kind, Boxed, Unboxed, Many, Program}
-use Rattle.sem_scripts.specs.ScriptRun.{Setting, setting_of}
+use Rattle.sem_scripts.specs.ScriptRun.{Setting, setting_in}
 use Rattle.mid_program.specs.Sorted.{has_kind, kinds_of}
 use Rattle.lower_model.specs.Cells.{Cell, Bits, Held, IteratorOf, OwnedArray, LentArray, Gone, cell_at, globals_by, is_bare, is_bare_handle, is_word, iterators_in, mark_fits, marks_fit, tidy_locals, tidy_name}
 use Rattle.lower_model.specs.Functions.{main_callee}
@@ -160,15 +160,15 @@ module _ (p : Program) (T : ℕ → Type 0) where
   there Stuck c s a told alive-is e i k not = absurd (alive-is refl)
 
 -- NO HANDLE: wherever a run comes to a statement
-pub unassigned : (p : Program) → ValueAgreement p → (job : JobForm) (input : Source) (outside : Outside) (m : MachineForm) (c : real.Conf) (s : HostState) (reached : Reached (module_of p) job input outside m c s) →
+pub unassigned : (p : Program) → ValueAgreement p → (job : JobForm) (input : Source) (outside : Surroundings) (m : MachineForm) (c : real.Conf) (s : HostState) (reached : Reached (module_of p) job input outside m c s) →
     begins_statement c.frame.code ≡ true → (i : ℕ) → has_kind (kinds_of p.globals) i Unboxed ≡ true → (IsAssigned reached i → ⊥) → slice_get c.globals (handle_global p.ranges i) ≡ Some (I32 minus_one)
 unassigned p agree job input outside m c s reached e i k not = by reached.steps reached.taken (λ j q. q)
   where
     start : HostState
-    start = state_at_start job input outside
+    start = state_in job input outside
 
     set : Setting
-    set = setting_of job input outside
+    set = setting_in job input outside
 
     T : ℕ → Type 0
     T j = IsAssigned reached j

@@ -2,10 +2,10 @@
 use Rattle.std.proofs.Common.{◌≡◌, inl, inr, ℕ, zero, suc, ◌+◌, ◌^◌, ◌≤◌, Bool, true, false, ◌&&◌, nat_eq, List, [], ◌∷◌, drop, length, Some, refl, sym, ap, ◌∙◌, subst, arith}
 use Rattle.std.specs.List.{All}
 use Rattle.std.proofs.lemmas.Bool.{and_parts, eqb-true}
-use Rattle.sem_primitives.specs.Jobs.{JobForm}
+use Rattle.sem_primitives.specs.Jobs.{JobForm, Surroundings}
 use Rattle.sem_primitives.specs.declared.sorts.Sort.{Sort}
 use Rattle.sem_primitives.specs.declared.sorts.Sort.TheVariants as sort
-use Rattle.world_core.specs.WorldState.{Outside, Source}
+use Rattle.world_core.specs.WorldState.{Source}
 use Rattle.wasm_types.specs.Syntax.{BrTable, Block, Done, If, Instructions, Loop, Plain, Then}
 use Rattle.wasm_types.specs.declared.instr.Simple.{Simple}
 use Rattle.wasm_types.specs.declared.instr.Simple.TheVariants as simple
@@ -17,9 +17,9 @@ use Rattle.wasm_model.specs.Machines.{Ends, Goes, ProgramForm, Turn, turn}
 use Rattle.wasm_model.specs.Runs.{MachineForm, OverBy, Steps}
 use Rattle.wasm_model.specs.declared.ends.End.TheVariants as ends
 use Rattle.host_step.specs.HostState.{HostState, Names}
-use Rattle.host_step.specs.Starts.{state_at_start}
+use Rattle.host_step.specs.Starts.{state_in}
 use Rattle.mid_program.specs.Mid.{Kind, Program}
-use Rattle.sem_scripts.specs.ScriptRun.{Setting, setting_of}
+use Rattle.sem_scripts.specs.ScriptRun.{Setting, setting_in}
 use Rattle.lower_model.specs.Cells.{Cell, globals_by, iterators_in, marks_fit, tidy_locals, tidy_name}
 use Rattle.lower_model.specs.Machine.{Code, Conf, Deep, Frame, Label, Look, Over, Run, Store, Stuck, at, ending_at, go, guarded, is_empty, loops_walked, noted, step, tidy, ending_name}
 use Rattle.lower_model.specs.Modules.{all_callees, called_imports, globals_of, module_of, renumbered, renumbered_simple}
@@ -251,12 +251,12 @@ module _ (p : Program) where
 
   -- Whole runs.
 
-  module _ (agree : ValueAgreement p) (job : JobForm) (input : Source) (outside : Outside) (m : MachineForm) (c : real.Conf) (s : HostState) (reached : Reached (module_of p) job input outside m c s) where
+  module _ (agree : ValueAgreement p) (job : JobForm) (input : Source) (outside : Surroundings) (m : MachineForm) (c : real.Conf) (s : HostState) (reached : Reached (module_of p) job input outside m c s) where
     abbrev set : Setting
-    set = setting_of job input outside
+    set = setting_in job input outside
 
     abbrev start : HostState
-    start = state_at_start job input outside
+    start = state_in job input outside
 
     abbrev place : ℕ → Conf
     place n = go u n (begun p set)

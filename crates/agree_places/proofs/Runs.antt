@@ -2,8 +2,8 @@
 use Rattle.std.proofs.Common.{◌≡◌, ◌≢◌, ℕ, zero, suc, List, Option, Some, None, refl, sym, ap, ◌∙◌, subst, arith}
 use Rattle.std.specs.Int.{cast_signed, w32}
 use Rattle.awk_values.specs.declared.fault.Fault.{Fault}
-use Rattle.sem_primitives.specs.Jobs.{JobForm}
-use Rattle.world_core.specs.WorldState.{Action, Outside, Source}
+use Rattle.sem_primitives.specs.Jobs.{JobForm, Surroundings}
+use Rattle.world_core.specs.WorldState.{Action, Source}
 use Rattle.wasm_types.specs.Typing.{ModuleOk}
 use Rattle.wasm_store.specs.declared.word.Word.TheVariants.{I32, I64}
 use Rattle.wasm_model.specs.Links.{IsNew, beginning}
@@ -20,9 +20,9 @@ use Rattle.wasm_model.proofs.Whole.{ran_safe}
 use Rattle.host_step.specs.HostLaws.{host_found, step_typed}
 use Rattle.host_step.specs.HostState.{HostState}
 use Rattle.host_imports.specs.Imports.{host_finds, host_types, import_at}
-use Rattle.host_step.specs.Starts.{first_names, state_at_start}
+use Rattle.host_step.specs.Starts.{first_names, state_in}
 use Rattle.mid_program.specs.Mid.{Program}
-use Rattle.sem_scripts.specs.ScriptRun.{GoesOn, Exhausted, setting_of}
+use Rattle.sem_scripts.specs.ScriptRun.{GoesOn, Exhausted, setting_in}
 use Rattle.mid_program.specs.Sorted.{IsSorted}
 use Rattle.lower_model.specs.Machine.{Stuck, ending_at, go}
 use Rattle.lower_model.specs.Modules.{module_of}
@@ -92,15 +92,15 @@ module _ (p : Program) (sorted : IsSorted p) (small : IsSmall p) where
   program_ok : ProgramOk (program p)
   program_ok = record { typed = typed; numbered = numbered host_finds (program p) (numbers_are p) }
 
-  module _ (agree : ValueAgreement p) (job : JobForm) (input : Source) (outside : Outside) where
+  module _ (agree : ValueAgreement p) (job : JobForm) (input : Source) (outside : Surroundings) where
     abbrev start : HostState
-    start = state_at_start job input outside
+    start = state_in job input outside
 
-    not_stuck : (n : ℕ) → go (code_of p 9999) n (begun p (setting_of job input outside)) ≡ Stuck → ⊥
-    not_stuck n h = let shows = agree.never_stuck (setting_of job input outside) n in let q = sym (ap ending_at h) ∙ shows.1 in cc
+    not_stuck : (n : ℕ) → go (code_of p 9999) n (begun p (setting_in job input outside)) ≡ Stuck → ⊥
+    not_stuck n h = let shows = agree.never_stuck (setting_in job input outside) n in let q = sym (ap ending_at h) ∙ shows.1 in cc
 
     free : FreeFrom (program p) at_first.conf start
-    free = free_before (program p) at_first.conf (in_main p) start (begins p at_first is_new) free_at_start (free_from p small (setting_of job input outside) not_stuck)
+    free = free_before (program p) at_first.conf (in_main p) start (begins p at_first is_new) free_at_start (free_from p small (setting_in job input outside) not_stuck)
 
     there : (steps : ℕ) → (e : ModuleEnding) × MayEnd (module_of p) job input outside steps e
     there steps = by (runs (program p) steps at_first.conf start free)
@@ -127,5 +127,5 @@ module _ (p : Program) (sorted : IsSorted p) (small : IsSmall p) where
             )
 
 -- THE MODULE RUNS
-pub has_runs : (p : Program) → IsSorted p → IsSmall p → ValueAgreement p → (job : JobForm) (input : Source) (outside : Outside) → HasRuns (module_of p) job input outside
+pub has_runs : (p : Program) → IsSorted p → IsSmall p → ValueAgreement p → (job : JobForm) (input : Source) (outside : Surroundings) → HasRuns (module_of p) job input outside
 has_runs p sorted small agree job input outside steps = there p sorted small agree job input outside steps

@@ -2,10 +2,10 @@
 -- or an iterator is in exactly one place: a global, a local of the function at work, or a local of a caller that waits.
 use Rattle.std.specs.Prelude.{ℕ, zero, suc, ◌+◌, ◌≡◌, ◌≢◌, ◌⊎◌, ◌≤◌, nat_eq, Bool, true, false, ◌&&◌, cond, List, [], ◌∷◌, drop, length, map, slice_get, Option, Some, None}
 use Rattle.std.specs.List.{Contains}
-use Rattle.sem_primitives.specs.Jobs.{JobForm}
+use Rattle.sem_primitives.specs.Jobs.{JobForm, Surroundings}
 use Rattle.sem_primitives.specs.declared.sorts.Sort.{Sort}
 use Rattle.sem_primitives.specs.declared.sorts.Sort.TheVariants as sort
-use Rattle.world_core.specs.WorldState.{Action, Outside, Source}
+use Rattle.world_core.specs.WorldState.{Action, Source}
 use Rattle.wasm_types.specs.declared.types.ValType.TheVariants as ty
 use Rattle.wasm_types.specs.Syntax.{Done, Instructions, ModuleForm, Plain, Then}
 use Rattle.wasm_types.specs.declared.instr.Simple.TheVariants.{Call, LocalGet, LocalTee, Nop}
@@ -17,7 +17,7 @@ use Rattle.wasm_model.specs.Machines.{CallerForm, Conf}
 use Rattle.wasm_model.specs.Runs.{MachineForm, Steps}
 use Rattle.host_step.specs.HostState.{HostState, live_arrays, live_iterators, live_values}
 use Rattle.host_imports.specs.Imports.{host_finds}
-use Rattle.host_step.specs.Starts.{state_at_start}
+use Rattle.host_step.specs.Starts.{state_in}
 use Rattle.mid_program.specs.Mid.{Kind, Boxed, Unboxed, Many, Program}
 use Rattle.mid_program.specs.Sorted.{kinds_of}
 use Rattle.sem_primitives.specs.declared.table.Primitive.TheVariants as row
@@ -251,8 +251,8 @@ begins_statement (Then (Plain Nop) code) = true
 begins_statement _ = false
 
 -- where a run of a module may come to, linked with a host of the table, whatever free numbers the host gives out
-pub record Reached (m : ModuleForm) (job : JobForm) (input : Source) (outside : Outside) (a : MachineForm) (c : Conf) (s : HostState) : Type 0 where
+pub record Reached (m : ModuleForm) (job : JobForm) (input : Source) (outside : Surroundings) (a : MachineForm) (c : Conf) (s : HostState) : Type 0 where
   pub is_new : IsNew host_finds m a
   pub steps : ℕ
   pub output : List Action
-  pub taken : Steps table_meaning a.program steps a.conf (state_at_start job input outside) output c s
+  pub taken : Steps table_meaning a.program steps a.conf (state_in job input outside) output c s

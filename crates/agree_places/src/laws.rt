@@ -1,7 +1,7 @@
 //! Laws of the runs of modules, each the contract of a function that does nothing.
 ghost use Rattle.std.specs.List.{All};
 ghost use Rattle.std.specs.Prelude.{◌≡◌, ◌≤◌, true, ℕ, List, None, Some, length, slice_get};
-ghost use Rattle.sem_primitives.specs.Jobs.{JobForm};
+ghost use Rattle.sem_primitives.specs.Jobs.{JobForm, Surroundings};
 ghost use Rattle.awk_grammar.specs.Item.{Item};
 ghost use Rattle.awk_kinds.specs.Kinds.{refusal};
 ghost use Rattle.host_step.specs.HostState.{HostState};
@@ -19,7 +19,7 @@ ghost use Rattle.wasm_model.specs.Runs.{MachineForm};
 ghost use Rattle.wasm_model.specs.declared.ends.End.TheVariants as ends;
 ghost use Rattle.wasm_store.specs.declared.word.Word.TheVariants.{I32};
 ghost use Rattle.wasm_types.specs.ModuleGrammar.{IsModule};
-ghost use Rattle.world_core.specs.WorldState.{Outside, Source};
+ghost use Rattle.world_core.specs.WorldState.{Source};
 ghost use Rattle.agree_places.specs.Assigned.{HasWord, IsAssigned};
 ghost use Rattle.agree_places.specs.Existence.{HasRuns};
 ghost use Rattle.agree_places.specs.Kept.{AtReturn, AtStatement, Reached, begins_statement};
@@ -31,25 +31,37 @@ ghost use Rattle.agree_places.specs.Statements.{main_places, main_starts, routin
 /// than 100 parameters.
 pub fn modules_run()
     ensures small { (p : Program) → IsSorted p → IsSmall p
-        → (job : JobForm) (input : Source) (outside : Outside) → HasRuns (module_of p) job input outside }
-    ensures spelled { (p : Program) → IsSorted p → (bytes : List ℕ) → IsModule bytes (module_of p) → All (λ r. length r.parameters ≤ 100) p.routines
-        → (job : JobForm) (input : Source) (outside : Outside) → HasRuns (module_of p) job input outside }
+        → (job : JobForm) (input : Source) (outside : Surroundings)
+        → HasRuns (module_of p) job input outside }
+    ensures spelled { (p : Program) → IsSorted p → (bytes : List ℕ) → IsModule bytes (module_of p)
+        → All (λ r. length r.parameters ≤ 100) p.routines
+        → (job : JobForm) (input : Source) (outside : Surroundings)
+        → HasRuns (module_of p) job input outside }
 {}
 
 /// Nothing is kept. Where a statement begins each number that the host has for the module is in one place, and these are few: names, the parameters
 /// of the function at work, and locals of callers. Where `main` has returned names alone hold something. So it is after every way out of a function too.
 pub fn nothing_kept()
-    ensures statement { (p : Program) → IsSorted p → (job : JobForm) (input : Source) (outside : Outside) (m : MachineForm) (c : Conf) (s : HostState)
-        → Reached (module_of p) job input outside m c s → begins_statement c.frame.code ≡ true → AtStatement p c s }
-    ensures returned { (p : Program) → IsSorted p → (job : JobForm) (input : Source) (outside : Outside) (m : MachineForm) (c : Conf) (s : HostState)
-        → Reached (module_of p) job input outside m c s → (n : ℕ) → turn m.program c ≡ Ends (ends.Returned (Some (I32 n))) → AtReturn p c s }
+    ensures statement { (p : Program) → IsSorted p
+        → (job : JobForm) (input : Source) (outside : Surroundings)
+        → (m : MachineForm) (c : Conf) (s : HostState)
+        → Reached (module_of p) job input outside m c s → begins_statement c.frame.code ≡ true
+        → AtStatement p c s }
+    ensures returned { (p : Program) → IsSorted p
+        → (job : JobForm) (input : Source) (outside : Surroundings)
+        → (m : MachineForm) (c : Conf) (s : HostState)
+        → Reached (module_of p) job input outside m c s
+        → (n : ℕ) → turn m.program c ≡ Ends (ends.Returned (Some (I32 n))) → AtReturn p c s }
 {}
 
 /// An unboxed name to which the command line has not assigned in a run has no handle where that run comes to a statement: a text comes beside a number by
 /// such an assignment alone.
 pub fn names_get_no_handle()
-    ensures { (p : Program) → IsSorted p → (job : JobForm) (input : Source) (outside : Outside) (m : MachineForm) (c : Conf) (s : HostState)
-        → (reached : Reached (module_of p) job input outside m c s) → begins_statement c.frame.code ≡ true
+    ensures { (p : Program) → IsSorted p
+        → (job : JobForm) (input : Source) (outside : Surroundings)
+        → (m : MachineForm) (c : Conf) (s : HostState)
+        → (reached : Reached (module_of p) job input outside m c s)
+        → begins_statement c.frame.code ≡ true
         → (i : ℕ) → has_kind (kinds_of p.globals) i Unboxed ≡ true → (IsAssigned reached i → ⊥)
         → slice_get c.globals (handle_global p.ranges i) ≡ Some (I32 minus_one) }
 {}
@@ -57,8 +69,11 @@ pub fn names_get_no_handle()
 /// An assignment of the command line comes from a word of it. A name that it assigned in a run is one to which, somewhere on the way, a `-v` of the job or an
 /// element that ARGV then had assigned.
 pub fn assignments_come_from_words()
-    ensures { (p : Program) → IsSorted p → (job : JobForm) (input : Source) (outside : Outside) (m : MachineForm) (c : Conf) (s : HostState)
-        → (reached : Reached (module_of p) job input outside m c s) → (i : ℕ) → IsAssigned reached i → HasWord reached i }
+    ensures { (p : Program) → IsSorted p
+        → (job : JobForm) (input : Source) (outside : Surroundings)
+        → (m : MachineForm) (c : Conf) (s : HostState)
+        → (reached : Reached (module_of p) job input outside m c s)
+        → (i : ℕ) → IsAssigned reached i → HasWord reached i }
 {}
 
 /// The functions of a script whose names are not refused have at most 100 parameters, and so have the routines of its code.

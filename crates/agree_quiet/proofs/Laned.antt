@@ -10,8 +10,8 @@ use Rattle.lower_model.specs.Places.{Bases, handle_global, number_global}
 use Rattle.lower_model.specs.Small.{minus_one}
 use Rattle.lower_model.specs.Statements.{step_emitted, steps_emitted}
 use Rattle.lower_model.proofs.Reading.{kind_below}
-use Rattle.sem_primitives.specs.Jobs.{JobForm}
-use Rattle.world_core.specs.WorldState.{Outside, Source}
+use Rattle.sem_primitives.specs.Jobs.{JobForm, Surroundings}
+use Rattle.world_core.specs.WorldState.{Source}
 use Rattle.wasm_model.specs.Runs.{MachineForm}
 use Rattle.wasm_types.specs.Typing.{ModuleOk}
 use Rattle.mid_program.specs.Sorted.{IsSorted}
@@ -106,7 +106,7 @@ unfolding step_emitted steps_emitted
 begins p c s here Assigned a = ap begins_statement a.code
 
 -- QUIET: such a statement calls no import
-pub laned_quiet : (p : Program) → IsSorted p → ModuleOk (module_of p) → (job : JobForm) (input : Source) (outside : Outside) (m : MachineForm) (c : Conf) (s : HostState) →
+pub laned_quiet : (p : Program) → IsSorted p → ModuleOk (module_of p) → (job : JobForm) (input : Source) (outside : Surroundings) (m : MachineForm) (c : Conf) (s : HostState) →
     (reached : Reached (module_of p) job input outside m c s) → (here : AtStatement p c s) (a : AtLaned p c s here (IsAssigned reached)) →
     Quietly m.program c (λ there. IsNext p c a.bases (Then a.next a.further) a.iterators a.out a.breaking a.continuing a.after there ⊎ AtFault p c there)
 laned_quiet p sorted typed job input outside m c s reached here a =

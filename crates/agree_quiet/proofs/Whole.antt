@@ -1,7 +1,7 @@
 -- A NUMBER STATEMENT IS QUIET, wherever a run of the module stands at one: the module is typed and never traps, so the run lives.
 use Rattle.std.proofs.Common.{◌≡◌, ◌⊎◌, inl, inr, ℕ, zero, suc, ◌+◌, true, List, [], ◌++◌, append-nil, map, Some, refl, sym, ap, ap₂, ◌∙◌, subst, arith}
-use Rattle.sem_primitives.specs.Jobs.{JobForm}
-use Rattle.world_core.specs.WorldState.{Action, Outside, Source}
+use Rattle.sem_primitives.specs.Jobs.{JobForm, Surroundings}
+use Rattle.world_core.specs.WorldState.{Action, Source}
 use Rattle.wasm_types.specs.Syntax.{Instructions}
 use Rattle.wasm_types.specs.Typing.{ModuleOk}
 use Rattle.wasm_model.specs.Links.{IsNew, numbers_for}
@@ -17,7 +17,7 @@ use Rattle.wasm_model.proofs.Whole.{steps_ok, turn_safe}
 use Rattle.host_step.specs.HostLaws.{host_found, step_typed}
 use Rattle.host_step.specs.HostState.{HostState}
 use Rattle.host_imports.specs.Imports.{host_finds, host_types, import_at}
-use Rattle.host_step.specs.Starts.{state_at_start}
+use Rattle.host_step.specs.Starts.{state_in}
 use Rattle.mid_program.specs.Mid.{Eval, Program, Set, Then}
 use Rattle.mid_program.specs.MidMeaning.{mid_run_in}
 use Rattle.lower_model.specs.Emission.{Layout}
@@ -47,10 +47,10 @@ module _ (m : ProgramForm) (s : HostState) where
       by (Ends x) q h later = cc
       by (Asks i args c1) q h later = cc
 
-module _ (p : Program) (agree : Agreement (mid_run_in p) (module_of p)) (typed : ModuleOk (module_of p)) (job : JobForm) (input : Source) (outside : Outside)
+module _ (p : Program) (agree : Agreement (mid_run_in p) (module_of p)) (typed : ModuleOk (module_of p)) (job : JobForm) (input : Source) (outside : Surroundings)
     (m : MachineForm) (is_new : IsNew host_finds (module_of p) m) where
   abbrev start : HostState
-  start = state_at_start job input outside
+  start = state_in job input outside
 
   abbrev Comes : ℕ → List Action → Conf → HostState → Type 0
   Comes n output c s = Steps table_meaning m.program n m.conf start output c s

@@ -2,7 +2,7 @@
 ghost use Rattle.std.specs.Prelude.{◌⊎◌, ℕ, List};
 ghost use Rattle.std.specs.List.{Contains};
 ghost use Rattle.awk_grammar.specs.Tree.{Tree};
-ghost use Rattle.sem_primitives.specs.Jobs.{JobForm};
+ghost use Rattle.sem_primitives.specs.Jobs.{JobForm, Surroundings};
 ghost use Rattle.host_step.specs.HostState.{HostState};
 ghost use Rattle.mid_program.specs.Mid.{Kind, Program, Slot, Then};
 ghost use Rattle.sem_scripts.specs.Names.{Scope, variable_of};
@@ -11,7 +11,7 @@ ghost use Rattle.lower_model.specs.Modules.{module_of};
 ghost use Rattle.wasm_model.specs.Machines.{Conf};
 ghost use Rattle.wasm_model.specs.Runs.{MachineForm};
 ghost use Rattle.wasm_types.specs.Typing.{ModuleOk};
-ghost use Rattle.world_core.specs.WorldState.{Outside, Source};
+ghost use Rattle.world_core.specs.WorldState.{Source};
 ghost use Rattle.agree_places.specs.Assigned.{IsAssigned};
 ghost use Rattle.agree_places.specs.Kept.{AtStatement, Reached};
 ghost use Rattle.agree_quiet.specs.Laned.{AtLaned, AtNumeric, IsNext};
@@ -24,7 +24,7 @@ ghost use Rattle.agree_quiet.specs.Sums.{AtFault, AtNext, AtSum};
 /// of the names.
 pub fn numbers_are_quiet()
     ensures { (p : Program) → IsSorted p → ModuleOk (module_of p)
-        → (job : JobForm) (input : Source) (outside : Outside)
+        → (job : JobForm) (input : Source) (outside : Surroundings)
         (m : MachineForm) (c : Conf) (s : HostState)
         → Reached (module_of p) job input outside m c s → (a : AtSum p c)
         → Quietly m.program c (λ there. AtNext p c a there ⊎ AtFault p c there) }
@@ -34,7 +34,7 @@ pub fn numbers_are_quiet()
 /// parameter never has a text beside it.
 pub fn lanes_are_quiet()
     ensures { (p : Program) → IsSorted p → ModuleOk (module_of p)
-        → (job : JobForm) (input : Source) (outside : Outside)
+        → (job : JobForm) (input : Source) (outside : Surroundings)
         (m : MachineForm) (c : Conf) (s : HostState)
         → (reached : Reached (module_of p) job input outside m c s)
         → (here : AtStatement p c s) → (a : AtLaned p c s here (IsAssigned reached))
@@ -45,7 +45,7 @@ pub fn lanes_are_quiet()
 /// So is a statement of a script, `name = Expr` with number constants, names, groups, signs, `+`, `-` and `*` in Expr, whose names are such.
 pub fn statements_are_quiet()
     ensures { (p : Program) → IsSorted p → ModuleOk (module_of p)
-        → (job : JobForm) (input : Source) (outside : Outside)
+        → (job : JobForm) (input : Source) (outside : Surroundings)
         (m : MachineForm) (c : Conf) (s : HostState)
         → (reached : Reached (module_of p) job input outside m c s)
         → (here : AtStatement p c s) → (a : AtNumeric p c s here (IsAssigned reached))

@@ -5,7 +5,7 @@ use Rattle.sem_primitives.specs.declared.sorts.Sort.{Sort}
 use Rattle.wasm_store.specs.Memories.{MemoryForm}
 use Rattle.wasm_store.specs.declared.word.Word.{Word}
 use Rattle.wasm_model.specs.Frames.{with_values}
-use Rattle.wasm_model.specs.Machines.{Asks, CallerForm, Ends, Turn, answered, asked, with_operands}
+use Rattle.wasm_model.specs.Machines.{CallerForm}
 use Rattle.wasm_model.specs.Machines as real
 use Rattle.host_step.specs.HostState.{HostState, Names}
 use Rattle.host_step.specs.Tables.{look}

@@ -19,7 +19,7 @@ use Rattle.wasm_model.specs.declared.ends.RunEnd.{RunEnd}
 use Rattle.wasm_model.specs.declared.ends.RunEnd.TheVariants.{Ended, NoMemory, OutOfSteps}
 use Rattle.host_step.specs.HostState.{Names}
 use Rattle.host_imports.specs.Imports.{host_finds}
-use Rattle.host_step.specs.Starts.{first_arrays, first_names, state_at_start}
+use Rattle.host_step.specs.Starts.{first_arrays, first_names, state_in}
 use Rattle.host_step.specs.Tables.{entered, look}
 use Rattle.mid_program.specs.Mid.{Kind, Program}
 use Rattle.sem_scripts.specs.ScriptRun.{Setting}
@@ -132,7 +132,7 @@ module _ (p : Program) where
 
     -- all else than the code
     rest_as : (d : ℕ) → RestAs (stays p) (called_imports p) (code_of p d) [] (zeros (main_callee p).locals) [] G in_main
-        (state_at_start s.job s.input s.outside)
+        (state_in s.job s.input s.outside)
     rest_as d = record {
       labels = tt;
       locals = zeros_as 2 first_names (main_callee p).locals;
@@ -153,9 +153,9 @@ module _ (p : Program) where
         omega (arith, a, b, n)
 
     -- THE BEGINNING: where `main` has begun over a host at its start, the machine over values begins
-    pub begun_as : (d : ℕ) → As (stays p) (called_imports p) (code_of p d) (begun p s) in_main (state_at_start s.job s.input s.outside)
+    pub begun_as : (d : ℕ) → As (stays p) (called_imports p) (code_of p d) (begun p s) in_main (state_in s.job s.input s.outside)
     begun_as d =
-        at_as (stays p) (called_imports p) (code_of p d) [] [] (zeros (main_callee p).locals) [] G in_main (state_at_start s.job s.input s.outside) (rest_as d)
+        at_as (stays p) (called_imports p) (code_of p d) [] [] (zeros (main_callee p).locals) [] G in_main (state_in s.job s.input s.outside) (rest_as d)
         (main_callee p).body [] tt (code_there p (length p.routines) (main_callee p) main_there) once
 
 -- So a run has one step more than its run from `main` on, over whatever host.

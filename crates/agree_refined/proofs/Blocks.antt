@@ -8,7 +8,7 @@ use Rattle.wasm_store.specs.declared.word.Word.TheVariants.{I32}
 use Rattle.wasm_model.specs.Frames.{LabelForm, branch_at, branch_if, branch_to, chosen, entered, with_values}
 use Rattle.wasm_model.specs.Frames as form
 use Rattle.wasm_model.specs.Stacks.{taken}
-use Rattle.wasm_model.specs.Machines.{Goes, ProgramForm, Turn, turn_by, with_frame}
+use Rattle.wasm_model.specs.Machines.{Goes, ProgramForm, turn_by, with_frame}
 use Rattle.wasm_model.specs.Machines as real
 use Rattle.mid_program.specs.Mid.{Kind}
 use Rattle.host_step.specs.HostState.{HostState}

@@ -21,13 +21,12 @@ use Rattle.wasm_model.specs.declared.host.HostAnswer.TheVariants as told
 use Rattle.world_core.specs.WorldState.{Action}
 use Rattle.host_step.specs.HostState.{HostState, Names}
 use Rattle.host_step.specs.Arguments.{and_then, decode}
-use Rattle.host_step.specs.Answers.{encode, refusal}
-use Rattle.host_step.specs.HostStep.{Comes, Goes, Refuses, Given, IsGiven, Settles, StepBy, StepOf, answered, come, carried, faulted, refused, refuses}
+use Rattle.host_step.specs.Answers.{encode}
+use Rattle.host_step.specs.HostStep.{Comes, Refuses, Given, IsGiven, Settles, StepBy, StepOf, answered, come, carried, faulted, refused, refuses}
 use Rattle.host_step.specs.HostStep as host
 use Rattle.lower_model.specs.Cells.{Cell, none_owned}
 use Rattle.lower_model.specs.ImportCalls.{Acts, Host, acted, acts, after_fault, call, fault_cell, listed_acts, primitive_acts, replied, row_in, taken, where_so, with_some}
 use Rattle.host_imports.specs.Imports.{import_answer, import_arguments, lets_go, spends}
-use Rattle.host_imports.specs.declared.import.Listing.{Listing}
 use Rattle.host_imports.specs.declared.import.Listing.TheVariants.{Sprintf, Print, Printf}
 use Rattle.host_imports.specs.declared.import.Import.{Import}
 use Rattle.host_imports.specs.declared.import.Import.TheVariants.{Of, Over, Arg, Drop, IterFree, FreeArray}

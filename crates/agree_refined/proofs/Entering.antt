@@ -7,7 +7,7 @@ use Rattle.wasm_types.specs.Syntax.{FuncForm, Instructions}
 use Rattle.wasm_types.specs.declared.types.ValType.{ValType}
 use Rattle.wasm_store.specs.Words.{zero_of}
 use Rattle.wasm_model.specs.Frames.{with_values}
-use Rattle.wasm_model.specs.Machines.{CallerForm, Ends, Goes, ProgramForm, Turn, called, entered_func, locals_for}
+use Rattle.wasm_model.specs.Machines.{CallerForm, Ends, Goes, Turn, entered_func}
 use Rattle.wasm_model.specs.Machines as real
 use Rattle.wasm_model.specs.declared.ends.End.TheVariants as ends
 use Rattle.mid_program.specs.Mid.{Kind}

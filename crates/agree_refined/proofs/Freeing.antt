@@ -17,7 +17,7 @@ use Rattle.world_core.specs.WorldState.{Action}
 use Rattle.host_step.specs.HostState.{HostState, Names}
 use Rattle.host_step.specs.Tables.{look, without}
 use Rattle.host_step.specs.Arguments.{and_then, decode, said}
-use Rattle.host_step.specs.HostStep.{Comes, StepBy, StepOf, Refuses, come, carried, refuses}
+use Rattle.host_step.specs.HostStep.{StepBy, come, carried}
 use Rattle.host_step.specs.HostStep as host
 use Rattle.host_imports.specs.Imports.{spends}
 use Rattle.lower_model.specs.Cells.{Cell, Bits, Held, IteratorOf, OwnedArray, LentArray, Gone}

@@ -6,7 +6,7 @@ use Rattle.wasm_types.specs.Syntax.{Instructions}
 use Rattle.wasm_types.specs.declared.instr.Simple.TheVariants as simple
 use Rattle.wasm_store.specs.declared.word.Word.{Word}
 use Rattle.wasm_store.specs.declared.word.Word.TheVariants.{I32}
-use Rattle.wasm_model.specs.Machines.{Ends, Goes, ProgramForm, Turn, global_set, turn_by, with_operands, with_value}
+use Rattle.wasm_model.specs.Machines.{Ends, Goes, Turn, global_set, with_operands, with_value}
 use Rattle.wasm_model.specs.declared.ends.End.TheVariants as ends
 use Rattle.wasm_model.specs.Machines as real
 use Rattle.mid_program.specs.Mid.{Kind}

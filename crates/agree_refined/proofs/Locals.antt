@@ -7,7 +7,7 @@ use Rattle.wasm_types.specs.Syntax.{Instructions}
 use Rattle.wasm_types.specs.declared.instr.Simple.TheVariants as simple
 use Rattle.wasm_store.specs.declared.word.Word.{Word}
 use Rattle.wasm_store.specs.declared.word.Word.TheVariants.{I32}
-use Rattle.wasm_model.specs.Frames.{FrameForm, local_set, local_tee, pushed, with_values}
+use Rattle.wasm_model.specs.Frames.{local_set, local_tee, pushed, with_values}
 use Rattle.wasm_model.specs.Frames as form
 use Rattle.wasm_model.specs.Machines.{Goes, ProgramForm, turn_by, with_frame}
 use Rattle.wasm_model.specs.Machines as real

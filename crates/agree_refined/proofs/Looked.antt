@@ -6,7 +6,7 @@ use Rattle.awk_values.specs.declared.fault.Fault.{Fault}
 use Rattle.world_core.specs.WorldState.{Action}
 use Rattle.wasm_types.specs.Syntax.{Instructions}
 use Rattle.wasm_store.specs.declared.word.Word.{Word}
-use Rattle.wasm_model.specs.Machines.{Asks, Ends, Turn, answered, asked, with_operands}
+use Rattle.wasm_model.specs.Machines.{Asks, Ends, Turn, asked, with_operands}
 use Rattle.wasm_model.specs.Machines as real
 use Rattle.wasm_model.specs.declared.host.HostAnswer.{HostAnswer}
 use Rattle.wasm_model.specs.declared.ends.End.TheVariants as ends

@@ -15,11 +15,11 @@ use Rattle.world_core.specs.WorldState.{Action}
 use Rattle.host_step.specs.HostState.{HostState, Names}
 use Rattle.host_step.specs.Tables.{look}
 use Rattle.host_step.specs.Arguments.{and_then, decode, said}
-use Rattle.host_step.specs.HostStep.{Comes, StepBy, StepOf, Refuses, come, carried, refuses}
+use Rattle.host_step.specs.HostStep.{StepBy, StepOf, Refuses, come, carried, refuses}
 use Rattle.host_step.specs.HostStep as host
 use Rattle.host_imports.specs.Imports.{import_answer, spends}
 use Rattle.lower_model.specs.Cells.{Cell, Bits, Held, IteratorOf, OwnedArray, LentArray, Gone}
-use Rattle.lower_model.specs.ImportCalls.{Host, acted, acts, looked_at, taken}
+use Rattle.lower_model.specs.ImportCalls.{Host, acted, acts, looked_at}
 use Rattle.lower_model.specs.ImportCalls as value
 use Rattle.host_imports.specs.declared.import.Import.{Import}
 use Rattle.host_imports.specs.declared.import.Import.TheVariants.{Of, Over, Arg, Drop, IterFree, FreeArray}

@@ -5,7 +5,7 @@ use Rattle.wasm_types.specs.Syntax.{Done}
 use Rattle.wasm_types.specs.declared.types.ValType.{ValType}
 use Rattle.wasm_model.specs.Frames.{FrameForm}
 use Rattle.wasm_model.specs.Frames as form
-use Rattle.wasm_model.specs.Machines.{CallerForm, Ends, ProgramForm, Turn, returned_with, to_caller, turn, turn_by, with_frame}
+use Rattle.wasm_model.specs.Machines.{CallerForm, Ends, ProgramForm, returned_with, to_caller, turn, turn_by, with_frame}
 use Rattle.wasm_model.specs.Machines as real
 use Rattle.wasm_model.specs.Runs.{OverBy, Ran, Steps, TakenAs}
 use Rattle.wasm_model.specs.declared.ends.End.{End}

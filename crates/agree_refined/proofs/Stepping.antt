@@ -10,9 +10,9 @@ use Rattle.wasm_types.specs.declared.instr.Simple.TheVariants as simple
 use Rattle.wasm_store.specs.Words.{compare_of}
 use Rattle.wasm_store.specs.declared.word.Word.{Word}
 use Rattle.wasm_store.specs.declared.word.Word.TheVariants.{I32}
-use Rattle.wasm_model.specs.Frames.{FrameForm, next_at, pushed, settled, with_values}
+use Rattle.wasm_model.specs.Frames.{FrameForm, next_at, pushed, settled}
 use Rattle.wasm_model.specs.Frames as form
-use Rattle.wasm_model.specs.Machines.{Goes, ProgramForm, Turn, asked, called, entered_func, turn, turn_by, with_frame}
+use Rattle.wasm_model.specs.Machines.{Goes, ProgramForm, Turn, asked, called, turn, turn_by, with_frame}
 use Rattle.wasm_model.specs.Machines as real
 use Rattle.mid_program.specs.Mid.{Kind}
 use Rattle.host_step.specs.HostState.{HostState}

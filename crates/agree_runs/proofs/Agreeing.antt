@@ -1,24 +1,25 @@
 -- What was told of a run is what the script does, where it and the module agree.
 use Rattle.std.proofs.Common.{◌≡◌, ℕ, List, ◌++◌, Option, Some, None, refl, sym, ◌∙◌, subst, append_assoc}
 use Rattle.awk_values.specs.declared.fault.Fault.{Fault}
-use Rattle.sem_primitives.specs.Jobs.{JobForm}
+use Rattle.sem_primitives.specs.InputMeaning.{nothing_left}
+use Rattle.sem_primitives.specs.Jobs.{Found, JobForm, Kept, Surroundings}
 use Rattle.world_core.specs.WorldState.{Action, Outside, Source}
 use Rattle.wasm_types.specs.Syntax.{ModuleForm}
 use Rattle.wasm_model.specs.declared.ends.MachineEnd.{MachineEnd}
 use Rattle.wasm_model.specs.declared.ends.MachineEnd.TheVariants as machine
 use Rattle.host_elements.specs.Forms.{HostForm}
 use Rattle.sem_scripts.specs.Kept.{Grows, output_of}
-use Rattle.sem_scripts.specs.ScriptRun.{Ending, Exhausted, GoesOn, Setting, setting_of}
+use Rattle.sem_scripts.specs.ScriptRun.{Ending, Exhausted, GoesOn, Setting, setting_in}
 use Rattle.agree_modules.specs.Agreement.{Agreement, Like, MayEnd, ModuleEnding, Trapped, ended_with, ending_told}
-use Rattle.agree_runs.specs.ToldRuns.{DoesSo, Says, Tells, TellsEnding, ToldRun, told_by}
+use Rattle.agree_runs.specs.ToldRuns.{DoesSo, DoesSoThere, FoundRun, Says, Tells, TellsEnding, ToldRun, told_by}
 
 -- what grows from more grows from less
 grows_less : (a b xs : List Action) → Grows (a ++ b) xs → Grows a xs
 grows_less a b xs g = (b ++ g.0, g.1 ∙ append_assoc a b g.0)
 
-module _ (script : Setting → ℕ → Ending) (m : ModuleForm) (agree : Agreement script m) (job : JobForm) (input : Source) (outside : Outside) (steps : ℕ) where
+module _ (script : Setting → ℕ → Ending) (m : ModuleForm) (agree : Agreement script m) (job : JobForm) (input : Source) (outside : Surroundings) (steps : ℕ) where
   abbrev Does : Option Fault → MachineEnd → List Action → Type 0
-  Does kept e output = (turns : ℕ) × Says (told_by kept e) output (script (setting_of job input outside) turns)
+  Does kept e output = (turns : ℕ) × Says (told_by kept e) output (script (setting_in job input outside) turns)
 
   -- the ending that is told
   the_ending : (kept : Option Fault) (e : MachineEnd) (output : List Action) (d : ModuleEnding) → ending_told kept e output ≡ Some d → TellsEnding m job input outside steps kept e output
@@ -36,7 +37,18 @@ module _ (script : Setting → ℕ → Ending) (m : ModuleForm) (agree : Agreeme
   does kept (machine.Trapped kind) output t = absurd (agree.never_trapped job input outside steps kind output (the_ending kept (machine.Trapped kind) output (Trapped kind output) refl t))
   does kept machine.NoMemory output t =
       let g = agree.output_module job input outside t.0 t.2 t.5 in
-      (g.0, grows_less output t.3 _ (subst (λ (o : List Action). Grows o (output_of (script (setting_of job input outside) g.0))) t.4 g.1))
+      (g.0, grows_less output t.3 _ (subst (λ (o : List Action). Grows o (output_of (script (setting_in job input outside) g.0))) t.4 g.1))
 
-  pub does_so : (e : MachineEnd) (f : HostForm) → ToldRun m job input outside steps e f → DoesSo script job input outside (told_by f.fault e) f.shared.outside
-  does_so e f r = let d = does f.fault e r.output r.tells in record { turns = d.0; output = r.output; says = d.1; applied = r.applied }
+-- over a world that tells what it holds
+pub does_so : (script : Setting → ℕ → Ending) (m : ModuleForm) → Agreement script m → (job : JobForm) (input : Source) (outside : Outside) (steps : ℕ)
+    (e : MachineEnd) (f : HostForm) → ToldRun m job input outside steps e f → DoesSo script job input outside (told_by f.fault e) f.shared.outside
+does_so script m agree job input outside steps e f r =
+    let d = does script m agree job input (Kept outside) steps f.fault e r.output r.tells in
+    record { turns = d.0; output = r.output; says = d.1; applied = r.applied }
+
+-- over any world, in surroundings that others change too
+pub does_so_there : (script : Setting → ℕ → Ending) (m : ModuleForm) → Agreement script m → (job : JobForm) (steps : ℕ) (e : MachineEnd) (f : HostForm)
+    → FoundRun m job steps e f → DoesSoThere script job (told_by f.fault e)
+does_so_there script m agree job steps e f r =
+    let d = does script m agree job nothing_left (Found r.finds) steps f.fault e r.output r.tells in
+    record { finds = r.finds; turns = d.0; output = r.output; says = d.1 }

@@ -29,13 +29,13 @@ module _ (tells : Type 0) where
   taken_untold (Ends e) mem output c1 h1 r = absurd r
   taken_untold (Asks i args c) mem output c1 h1 r = absurd r.1
 
-  steps_untold : (m : ProgramForm) (n : ℕ) (c : Conf) (output : List Action) (c1 : Conf) (h1 : FormState) → Steps M m n c Untold output c1 h1 → h1 ≡ Untold
+  pub steps_untold : (m : ProgramForm) (n : ℕ) (c : Conf) (output : List Action) (c1 : Conf) (h1 : FormState) → Steps M m n c Untold output c1 h1 → h1 ≡ Untold
   steps_untold m zero c output c1 h1 r = r.1
   steps_untold m (suc n) c output c1 h1 r =
       let e = taken_untold (turn m c) c.memory r.2 r.0 r.1 r.4 in
       steps_untold m n r.0 r.3 c1 h1 (subst (λ (h : FormState). Steps M m n r.0 h r.3 c1 h1) e r.5)
 
-  over_untold : (t : Turn) (mem : MemoryForm) (output : List Action) (e : End) (h1 : FormState) → OverBy M t Untold mem output e h1 → h1 ≡ Untold
+  pub over_untold : (t : Turn) (mem : MemoryForm) (output : List Action) (e : End) (h1 : FormState) → OverBy M t Untold mem output e h1 → h1 ≡ Untold
   over_untold (Goes c) mem output e h1 r = absurd r
   over_untold (Ends x) mem output e h1 r = r.1
   over_untold (Asks i args c) mem output e h1 r = absurd r.3

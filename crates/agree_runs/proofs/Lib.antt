@@ -4,3 +4,4 @@ pub mod Following
 pub mod Wanting
 pub mod Telling
 pub mod Agreeing
+pub mod Finding

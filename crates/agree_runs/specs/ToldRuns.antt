@@ -1,8 +1,9 @@
 -- What a machine tells of a run whose host is told by its tables.
 use Rattle.std.specs.Prelude.{◌≡◌, ℕ, ◌≤◌, List, ◌++◌, Option, Some}
 use Rattle.awk_values.specs.declared.fault.Fault.{Fault}
-use Rattle.sem_primitives.specs.Jobs.{JobForm}
-use Rattle.world_core.specs.WorldState.{Action, Outside, Source, after as outside_after}
+use Rattle.sem_primitives.specs.InputMeaning.{nothing_left}
+use Rattle.sem_primitives.specs.Jobs.{Found, JobForm, Kept, Surroundings}
+use Rattle.world_core.specs.WorldState.{Action, Entry, Outside, Source, after as outside_after}
 use Rattle.wasm_types.specs.Syntax.{ModuleForm}
 use Rattle.wasm_model.specs.Machines.{Conf, ProgramForm}
 use Rattle.wasm_model.specs.Runs.{Ran}
@@ -14,16 +15,16 @@ use Rattle.host_elements.specs.Forms.{HostForm}
 use Rattle.host_meaning.specs.Shown.{Shown}
 use Rattle.host_step.specs.Worlds.{anyhow_meaning}
 use Rattle.sem_scripts.specs.Kept.{Grows, output_of}
-use Rattle.sem_scripts.specs.ScriptRun.{Ending, Exhausted, Setting, setting_of}
+use Rattle.sem_scripts.specs.ScriptRun.{Ending, Exhausted, Setting, setting_in, setting_of}
 use Rattle.agree_modules.specs.Agreement.{MayEnd, ModuleEnding, ended_with, ending_told, output_in}
 
 -- what was told, with this fault kept and this output, is how the module may end
-abbrev pub TellsEnding : ModuleForm → JobForm → Source → Outside → ℕ → Option Fault → MachineEnd → List Action → Type 0
+abbrev pub TellsEnding : ModuleForm → JobForm → Source → Surroundings → ℕ → Option Fault → MachineEnd → List Action → Type 0
 TellsEnding m job input outside steps kept e output = (ending : ModuleEnding) × (ending_told kept e output ≡ Some ending)
     × MayEnd m job input outside steps ending
 
 -- Where memory was wanting, the module may end with an output that begins so.
-abbrev pub Tells : ModuleForm → JobForm → Source → Outside → ℕ → Option Fault → MachineEnd → List Action → Type 0
+abbrev pub Tells : ModuleForm → JobForm → Source → Surroundings → ℕ → Option Fault → MachineEnd → List Action → Type 0
 Tells m job input outside steps kept machine.NoMemory output =
     (fewer : ℕ) × (fewer ≤ steps) × (ending : ModuleEnding) × (rest : List Action) × (output_in ending ≡ output ++ rest)
     × MayEnd m job input outside fewer ending
@@ -32,8 +33,15 @@ Tells m job input outside steps kept e output = TellsEnding m job input outside 
 -- A run of a module in a job, over a world that tells what it holds: what was told of it, and what the names outside hold then.
 pub record ToldRun (m : ModuleForm) (job : JobForm) (input : Source) (outside : Outside) (steps : ℕ) (e : MachineEnd) (after-run : HostForm) : Type 0 where
   pub output : List Action
-  pub tells : Tells m job input outside steps after-run.fault e output
+  pub tells : Tells m job input (Kept outside) steps after-run.fault e output
   pub applied : after-run.shared.outside ≡ outside_after output outside
+
+-- A run of a module in a job, over any world: how the module may end in surroundings that others change too, where each opening, read and write finds what
+-- the world answered.
+pub record FoundRun (m : ModuleForm) (job : JobForm) (steps : ℕ) (e : MachineEnd) (after-run : HostForm) : Type 0 where
+  pub finds : List Entry
+  pub output : List Action
+  pub tells : Tells m job nothing_left (Found finds) steps after-run.fault e output
 
 -- A run over any world: each of its calls is as it is said of every world, from one state that is shown to another.
 pub record AnyhowRun (m : ProgramForm) (steps : ℕ) (conf : Conf) (state : HostState) (output : List Action) (e : RunEnd) (conf' : Conf)
@@ -60,6 +68,14 @@ pub record DoesSo (script : Setting → ℕ → Ending) (job : JobForm) (input :
   pub output : List Action
   pub says : Says told output (script (setting_of job input outside) turns)
   pub applied : held ≡ outside_after output outside
+
+-- The script does so, in this job, in surroundings that others change too, within some number of turns: there each time that something is opened, read or
+-- written these are found.
+pub record DoesSoThere (script : Setting → ℕ → Ending) (job : JobForm) (told : Told) : Type 0 where
+  pub finds : List Entry
+  pub turns : ℕ
+  pub output : List Action
+  pub says : Says told output (script (setting_in job nothing_left (Found finds)) turns)
 
 -- what a machine's end tells, with this fault kept; a script never traps
 abbrev pub told_by : Option Fault → MachineEnd → Told

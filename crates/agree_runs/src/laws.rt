@@ -17,7 +17,7 @@ ghost use Rattle.host_meaning.specs.FormMeaning.{FormState, form_meaning};
 ghost use Rattle.host_meaning.specs.Shown.{Shown};
 ghost use Rattle.sem_scripts.specs.ScriptRun.{Ending, Setting};
 ghost use Rattle.agree_modules.specs.Agreement.{Agreement};
-ghost use Rattle.agree_runs.specs.ToldRuns.{AnyhowRun, DoesSo, ToldRun, told_by};
+ghost use Rattle.agree_runs.specs.ToldRuns.{AnyhowRun, DoesSo, DoesSoThere, FoundRun, ToldRun, told_by};
 
 use world_core::World;
 
@@ -48,4 +48,23 @@ pub fn anyhow<W: World>()
         (e : RunEnd) (c' : Conf) (g : HostForm) (s : HostState) → Shown f s → e ≢ RunEnd.NoMemory
         → Ran (form_meaning W.tells) m steps c (FormState.Told f) output e c' (FormState.Told g)
         → AnyhowRun m steps c s output e c' g }
+{}
+
+/// Over any world, what a machine did with a typed module is how the module may end in surroundings that others change too, over a host of the table: there
+/// each opening, read and write finds what the world answered. Where memory was wanting, another run begins so.
+pub fn found<W: World>()
+    ensures { (m : ModuleForm) → ModuleOk m → (a : MachineForm) → IsNew host_finds m a
+        → (job : JobForm) (input : Source) (outside : Outside)
+        → (f : HostForm) → Shown f (state_at_start job input outside)
+        → (steps : ℕ) (e : MachineEnd) (c : Conf) (g : HostForm)
+        → Did (form_meaning W.tells) a.program steps a.conf (FormState.Told f) e c
+        (FormState.Told g)
+        → FoundRun m job steps e g }
+{}
+
+/// Where a script and the module agree, the script does so there.
+pub fn does_so_there()
+    ensures { (script : Setting → ℕ → Ending) (m : ModuleForm) → Agreement script m
+        → (job : JobForm) (steps : ℕ) (e : MachineEnd) (f : HostForm)
+        → FoundRun m job steps e f → DoesSoThere script job (told_by f.fault e) }
 {}

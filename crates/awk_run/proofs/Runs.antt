@@ -23,7 +23,7 @@ use Rattle.host_step.specs.Starts.{state_at_start}
 use Rattle.host_elements.specs.Forms.{HostForm}
 use Rattle.host_meaning.specs.FormMeaning.{Told, form_meaning}
 use Rattle.host_meaning.specs.Shown.{Shown}
-use Rattle.agree_runs.specs.ToldRuns.{AnyhowRun, ToldRun}
+use Rattle.agree_runs.specs.ToldRuns.{AnyhowRun, FoundRun, ToldRun}
 use Rattle.awk_run.specs.ModuleRun.{run_end, undecoded, IsRefused, IsRunOf, RunAnswers, Answers, IsTyped, Unread}
 use Rattle.awk_run.specs.declared.end.Refusal.TheVariants.{Compile, Decode, Invalid, Link}
 use Rattle.awk_run.specs.declared.end.RunEnd.{RunEnd}
@@ -45,11 +45,11 @@ module _ (tells : Type 0) (whole : ModuleForm) (job : JobForm) (steps : ℕ) (be
 
   pub did_answers : (a : MachineForm) → IsNew host_finds whole a → (f : HostForm) → Shown f start → (t : MachineEnd) (c : Conf) (g : HostForm)
       → Did (form_meaning tells) a.program steps a.conf (Told f) t c (Told g) → after.outside ≡ g.shared.outside
-      → (tells → ToldRun whole job (before.readers 0) before.outside steps t g)
+      → (tells → ToldRun whole job (before.readers 0) before.outside steps t g) → FoundRun whole job steps t g
       → ((out : List Action) (e : MachineRunEnd) → e ≢ chain.NoMemory → Ran (form_meaning tells) a.program steps a.conf (Told f) out e c (Told g)
       → AnyhowRun a.program steps a.conf start out e c g)
       → RunAnswers tells whole job steps before (run_end g.fault t) after
-  did_answers a n f h t c g d o over anyhow =
+  did_answers a n f h t c g d o over there anyhow =
       told g.fault t (record {
         machine = a;
         is_new = n;
@@ -65,6 +65,7 @@ module _ (tells : Type 0) (whole : ModuleForm) (job : JobForm) (steps : ℕ) (be
         answered = refl;
         outside = o;
         over_table = over;
+        there = there;
         anyhow = λ ne. anyhow d.0 d.1 ne d.3;
       })
 

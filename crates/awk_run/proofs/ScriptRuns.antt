@@ -1,11 +1,12 @@
 -- What the module of a script did is what the script does.
 use Rattle.std.proofs.Common.{◌≡◌, inl, inr, ℕ, ◌+◌, List, [], ◌∷◌, map, Option, Some, None, refl, sym, ap, ◌∙◌, subst}
 use Rattle.awk_values.specs.declared.fault.Fault.{Fault}
-use Rattle.sem_primitives.specs.Jobs.{JobForm}
+use Rattle.sem_primitives.specs.InputMeaning.{nothing_left}
+use Rattle.sem_primitives.specs.Jobs.{Found, JobForm}
 use Rattle.world_core.specs.WorldState.{Action, State}
 use Rattle.sem_scripts.specs.Kept.{output_of}
 use Rattle.sem_scripts.specs.Kinds.{resolved}
-use Rattle.sem_scripts.specs.ScriptRun.{Ending, resolved_run, run_of}
+use Rattle.sem_scripts.specs.ScriptRun.{Ending, resolved_run, run_of, setting_in}
 use Rattle.wasm_types.specs.Syntax.{ModuleForm}
 use Rattle.wasm_types.specs.ModuleGrammar.{IsModule}
 use Rattle.wasm_types.specs.Typing.{ModuleOk}
@@ -15,8 +16,8 @@ use Rattle.wasm_model.specs.declared.fault.LinkFault.TheVariants as link
 use Rattle.wasm_model.specs.declared.ends.MachineEnd.{MachineEnd}
 use Rattle.wasm_model.specs.declared.ends.MachineEnd.TheVariants as machine
 use Rattle.module_decoder.proofs.CompleteModule.{one_module}
-use Rattle.agree_runs.specs.ToldRuns.{DoesSo, Says, told_by}
-use Rattle.agree_runs.proofs.Agreeing.{does_so}
+use Rattle.agree_runs.specs.ToldRuns.{DoesSo, DoesSoThere, Says, told_by}
+use Rattle.agree_runs.proofs.Agreeing.{does_so, does_so_there}
 use Rattle.script_compiler.specs.Compiled.{IsCompiled, Links}
 use Rattle.awk_run.specs.ModuleRun.{Answers, HasRun, IsRunOf, IsUnlinked, RunAnswers, run_end}
 use Rattle.awk_run.specs.ScriptRuns.{IsScriptRun, ScriptAnswers, told_of}
@@ -38,6 +39,9 @@ says kept (machine.Trapped kind) output ending h = absurd h
 abbrev Does : {bytes v : List ℕ} → IsCompiled bytes v → JobForm → State → RunEnd → State → Type 0
 Does c job before e after = DoesSo (resolved_run (resolved c.script)) job (before.readers 0) before.outside (told_of e) after.outside
 
+abbrev There : {bytes v : List ℕ} → IsCompiled bytes v → JobForm → RunEnd → Type 0
+There c job e = DoesSoThere (resolved_run (resolved c.script)) job (told_of e)
+
 -- a run of the module, as the script's
 did : (tells : Type 0) (bytes v : List ℕ) (c : IsCompiled bytes v) (job : JobForm) (steps : ℕ) (before after : State) (e : RunEnd)
     → IsRunOf tells c.whole job steps before e after → tells → Does c job before e after
@@ -49,6 +53,19 @@ did tells bytes v c job steps before after e r t =
       says = subst (λ (x : RunEnd). Says (told_of x) d.output (run_of c.script job (before.readers 0) before.outside d.turns)) (sym r.answered)
           (says r.left.fault r.told d.output _ d.says);
       applied = r.outside ∙ d.applied;
+    }
+
+-- and in every world, where it finds what the world answered
+there : (tells : Type 0) (bytes v : List ℕ) (c : IsCompiled bytes v) (job : JobForm) (steps : ℕ) (before after : State) (e : RunEnd)
+    → IsRunOf tells c.whole job steps before e after → There c job e
+there tells bytes v c job steps before after e r =
+    let d = does_so_there (resolved_run (resolved c.script)) c.whole c.agreement job steps r.told r.left r.there in
+    record {
+      finds = d.finds;
+      turns = d.turns;
+      output = d.output;
+      says = subst (λ (x : RunEnd). Says (told_of x) d.output (resolved_run (resolved c.script) (setting_in job nothing_left (Found d.finds)) d.turns)) (sym r.answered)
+          (says r.left.fault r.told d.output _ d.says);
     }
 
 -- Refusals that a compiled script does not meet.
@@ -78,17 +95,31 @@ module _ (tells : Type 0) (bytes v : List ℕ) (job : JobForm) (steps : ℕ) (be
     applied = ap (λ (s : State). s.outside) e;
   }
 
+  unbegun_there : There c job run.NoMemory
+  unbegun_there = record {
+    finds = [];
+    turns = 0;
+    output = [];
+    says = (output_of (resolved_run (resolved c.script) (setting_in job nothing_left (Found [])) 0), refl);
+  }
+
   module _ (e : RunEnd) (h : HasRun tells v job steps before e after) where
     as_run : IsRunOf tells h.whole job steps before e after → tells → Does c job before e after
     as_run r = did tells bytes v c job steps before after e (subst (λ (w : ModuleForm). IsRunOf tells w job steps before e after) (same h.whole h.read) r)
 
-    script_run : (tells → Does c job before e after) → IsScriptRun tells bytes job steps before e after
-    script_run d = record { compiled = v; is_compiled = c; run = h; does = d }
+    as_found : IsRunOf tells h.whole job steps before e after → There c job e
+    as_found r = there tells bytes v c job steps before after e (subst (λ (w : ModuleForm). IsRunOf tells w job steps before e after) (same h.whole h.read) r)
+
+    script_run : (tells → Does c job before e after) → There c job e → IsScriptRun tells bytes job steps before e after
+    script_run d t = record { compiled = v; is_compiled = c; run = h; does = d; there = t }
+
+    ran_run : IsRunOf tells h.whole job steps before e after → IsScriptRun tells bytes job steps before e after
+    ran_run r = script_run (as_run r) (as_found r)
 
   wanting_run : (h : HasRun tells v job steps before run.NoMemory after) → RunAnswers tells h.whole job steps before run.NoMemory after
       → IsScriptRun tells bytes job steps before run.NoMemory after
-  wanting_run h (inl r) = script_run run.NoMemory h (as_run run.NoMemory h r)
-  wanting_run h (inr e) = script_run run.NoMemory h (λ t. unbegun e)
+  wanting_run h (inl r) = ran_run run.NoMemory h r
+  wanting_run h (inr e) = script_run run.NoMemory h (λ t. unbegun e) unbegun_there
 
   pub script_answers : (e : RunEnd) → Answers tells v job steps before e after → ScriptAnswers tells bytes job steps before e after
   script_answers (run.Refused (Compile f)) r = absurd r.run
@@ -97,8 +128,8 @@ module _ (tells : Type 0) (bytes v : List ℕ) (job : JobForm) (steps : ℕ) (be
   script_answers (run.Refused (Link f)) r = links_fully c.whole f c.links (subst (λ (w : ModuleForm). IsUnlinked w f) (same r.whole r.read) r.run.0)
   script_answers run.NoMemory (inl h) = inl (wanting_run h h.run)
   script_answers run.NoMemory (inr e) = inr e
-  script_answers (run.Ended n) h = script_run (run.Ended n) h (as_run (run.Ended n) h h.run)
-  script_answers (run.Faulted f) h = script_run (run.Faulted f) h (as_run (run.Faulted f) h h.run)
-  script_answers run.OutOfSteps h = script_run run.OutOfSteps h (as_run run.OutOfSteps h h.run)
-  script_answers run.Exhausted h = script_run run.Exhausted h (as_run run.Exhausted h h.run)
-  script_answers (run.Trapped k) h = script_run (run.Trapped k) h (as_run (run.Trapped k) h h.run)
+  script_answers (run.Ended n) h = ran_run (run.Ended n) h h.run
+  script_answers (run.Faulted f) h = ran_run (run.Faulted f) h h.run
+  script_answers run.OutOfSteps h = ran_run run.OutOfSteps h h.run
+  script_answers run.Exhausted h = ran_run run.Exhausted h h.run
+  script_answers (run.Trapped k) h = ran_run (run.Trapped k) h h.run

@@ -27,7 +27,7 @@ use Rattle.host_step.specs.Starts.{state_at_start}
 use Rattle.host_elements.specs.Forms.{HostForm}
 use Rattle.host_meaning.specs.FormMeaning.{Told, form_meaning}
 use Rattle.host_meaning.specs.Shown.{Shown}
-use Rattle.agree_runs.specs.ToldRuns.{AnyhowRun, ToldRun}
+use Rattle.agree_runs.specs.ToldRuns.{AnyhowRun, FoundRun, ToldRun}
 use Rattle.awk_run.specs.declared.end.Refusal.{Refusal}
 use Rattle.awk_run.specs.declared.end.Refusal.TheVariants.{Decode, Invalid, Link}
 use Rattle.awk_run.specs.declared.end.RunEnd.{RunEnd}
@@ -69,7 +69,8 @@ IsUnlinked whole cause = (cause ≢ link.NoMemory) × Unlinks host_finds whole c
 
 -- A run of a typed module in a job: from its beginning, over a host that shows the state at the start of the job, to a world that holds what the host
 -- left. Where the world tells what it holds, this is how the module may end, and its output made what the names hold of what they held. In every
--- world each call is as it is said of every world, unless memory ran out.
+-- world it is how the module may end in surroundings that others change too, where each opening, read and write finds what the world answered; and each call
+-- is as it is said of every world, unless memory ran out.
 pub record IsRunOf (tells : Type 0) (whole : ModuleForm) (job : JobForm) (steps : ℕ) (before : State) (e : RunEnd) (after : State) : Type 0 where
   pub machine : MachineForm
   pub is_new : IsNew host_finds whole machine
@@ -85,6 +86,7 @@ pub record IsRunOf (tells : Type 0) (whole : ModuleForm) (job : JobForm) (steps 
   pub answered : e ≡ run_end left.fault told
   pub outside : after.outside ≡ left.shared.outside
   pub over_table : tells → ToldRun whole job (before.readers 0) before.outside steps told left
+  pub there : FoundRun whole job steps told left
   pub anyhow : run-end ≢ chain.NoMemory
       → AnyhowRun machine.program steps machine.conf (state_at_start job (before.readers 0) before.outside) output run-end conf left
 

@@ -4,7 +4,7 @@ use Rattle.sem_primitives.specs.Jobs.{JobForm}
 use Rattle.world_core.specs.WorldState.{State}
 use Rattle.sem_scripts.specs.Kinds.{resolved}
 use Rattle.sem_scripts.specs.ScriptRun.{Ended, FaultedBy, Exhausted, resolved_run}
-use Rattle.agree_runs.specs.ToldRuns.{DoesSo, Told, Ends, PutsOut, Never}
+use Rattle.agree_runs.specs.ToldRuns.{DoesSo, DoesSoThere, Told, Ends, PutsOut, Never}
 use Rattle.script_code.specs.declared.fault.CompileFault.TheVariants as compile
 use Rattle.script_compiler.specs.Compiled.{IsCompiled}
 use Rattle.script_compiler.specs.Refusals.{IsNotCompiled}
@@ -23,12 +23,14 @@ told_of run.NoMemory = PutsOut
 told_of (run.Refused cause) = Never
 told_of (run.Trapped kind) = Never
 
--- The script is compiled, and its module is run so. In a world that tells what it holds the script does so too.
+-- The script is compiled, and its module is run so. In every world the script does so where it finds what the world answered, and in a world that tells what
+-- it holds over what the names hold.
 pub record IsScriptRun (tells : Type 0) (bytes : List ℕ) (job : JobForm) (steps : ℕ) (before : State) (e : RunEnd) (after : State) : Type 0 where
   pub compiled : List ℕ
   pub is_compiled : IsCompiled bytes compiled
   pub run : HasRun tells compiled job steps before e after
   pub does : tells → DoesSo (resolved_run (resolved is_compiled.script)) job (before.readers 0) before.outside (told_of e) after.outside
+  pub there : DoesSoThere (resolved_run (resolved is_compiled.script)) job (told_of e)
 
 -- what an answer says of the script and of the world
 abbrev pub ScriptAnswers : (tells : Type 0) → List ℕ → JobForm → ℕ → State → RunEnd → State → Type 0

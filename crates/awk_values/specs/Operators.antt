@@ -1,5 +1,5 @@
 -- The operators, over whole numbers without bound; the result is checked afterwards (POSIX.1-2017 awk, "Expressions in awk", in whole numbers).
-use Rattle.std.specs.Prelude.{ℕ, suc, ◌^◌, Bool, ◌==◌, nat_le, if◌then◌else◌, Result, Ok, Err, ℤ, pos, negsuc, neg_ℤ, ◌+ℤ◌, ◌*ℤ◌, unsigned_abs, int_div, int_rem}
+use Rattle.std.specs.Prelude.{ℕ, suc, Bool, ◌==◌, nat_le, if◌then◌else◌, Result, Ok, Err, ℤ, pos, negsuc, neg_ℤ, ◌+ℤ◌, ◌*ℤ◌, unsigned_abs, int_div, int_rem}
 use Rattle.std.specs.Int.{int_pow}
 use Rattle.awk_text.specs.Number.{largest}
 use Rattle.awk_values.specs.declared.fault.Fault.{Fault}

@@ -3,7 +3,7 @@ use Rattle.std.proofs.Common.{◌≡◌, ℕ, false, List, [], Option, Some, Non
 use Rattle.wasm_model.specs.declared.host.HostAnswer.{HostAnswer}
 use Rattle.awk_values.specs.declared.fault.Fault.{Fault}
 use Rattle.wasm_store.specs.declared.word.Word.{Word}
-use Rattle.world_core.specs.WorldState.{Action}
+use Rattle.world_core.specs.WorldState.{Action, Entry, Outside}
 use Rattle.host_step.specs.Worlds.{reads}
 use Rattle.host_imports.specs.declared.import.Import.{Import}
 use Rattle.host_values.specs.declared.reply.Refusal.{Refusal}
@@ -11,6 +11,7 @@ use Rattle.host_values.specs.declared.reply.Refusal.TheVariants as why
 use Rattle.host_elements.specs.Calls.{IsTableCall}
 use Rattle.host_elements.specs.Forms.{HostForm}
 use Rattle.host_names.specs.Forms.{left_after}
+use Rattle.host_meaning.specs.Findings.{After, Finding, View, form_finding, viewed}
 use Rattle.host_meaning.specs.Shown.{SharesTables, form_with_output}
 use Rattle.host_meaning.specs.TableCalls.{TableCalls, answer_of_call, left_by_call}
 use Rattle.host_meaning.specs.WorldCalls.{IsCalled}
@@ -31,9 +32,14 @@ module _ (tells : Type 0) (i : Import) (words : List Word) (memory : List ℕ) w
     pub plain_comes : (before after-call : HostForm) (r : Result (Option Word) Refusal) → before.fault ≡ None
         → after-call.shared.outside ≡ before.shared.outside → after-call.shared.output ≡ before.shared.output
         → ((so_far : List Action) → IsTableCall i (form_with_output so_far before) words memory r (form_with_output so_far after-call))
+        → ((finds : List Entry) (o : Outside) (so_far : List Action)
+        → IsTableCall i (form_finding finds o so_far before) words memory r (form_finding finds o so_far after-call))
         → ComesTo tells i before words memory r after-call
-    plain_comes before after-call r none outside output calls =
-        table_comes before after-call r outside output (plain_calls i before after-call words memory r none calls)
+    plain_comes before after-call r none outside output calls found = table_comes before after-call r outside output (plain_calls i before after-call words memory r none by)
+      where
+        by : (v : View) → IsTableCall i (viewed v before) words memory r (viewed v after-call)
+        by (After o) = calls o
+        by (Finding finds o so_far) = found finds o so_far
 
     -- a call that at a fault leaves what is shared as it was, as the family tells it
     pub left_comes : (before after-call : HostForm) (r : Result (Option Word) Refusal) → before.fault ≡ None
@@ -41,18 +47,24 @@ module _ (tells : Type 0) (i : Import) (words : List Word) (memory : List ℕ) w
         → ((f : Fault) → SharesTables (record before { fault = Some f }) (record after-call { fault = Some f }))
         → ((so_far : List Action) → IsTableCall i (form_with_output so_far before) words memory r
         (left_after r (form_with_output so_far before) (form_with_output so_far after-call)))
+        → ((finds : List Entry) (o : Outside) (so_far : List Action) → IsTableCall i (form_finding finds o so_far before) words memory r
+        (left_after r (form_finding finds o so_far before) (form_finding finds o so_far after-call)))
         → ComesTo tells i before words memory r after-call
-    left_comes before after-call (Ok w) none outside output shares calls = plain_comes before after-call (Ok w) none outside output calls
-    left_comes before after-call (Err (why.Fault f)) none outside output shares calls =
-        let faulted = plain_calls i before before words memory (Err (why.Fault f)) none calls in
+    left_comes before after-call (Ok w) none outside output shares calls found = plain_comes before after-call (Ok w) none outside output calls found
+    left_comes before after-call (Err (why.Fault f)) none outside output shares calls found =
+        let faulted = plain_calls i before before words memory (Err (why.Fault f)) none by in
         let told = told_means tells i words memory quiet before before refl refl (Err (why.Fault f)) faulted in
         let answer = answer_of_call i (Err (why.Fault f)) in
         let shown = record before { fault = Some f } in
         ([], called_too tells (Some i) before shown (record after-call { fault = Some f }) words memory answer [] f refl (shares f) told)
-    left_comes before after-call (Err (why.Trap k)) none outside output shares calls =
-        plain_comes before after-call (Err (why.Trap k)) none outside output calls
-    left_comes before after-call (Err why.NoMemory) none outside output shares calls =
-        plain_comes before after-call (Err why.NoMemory) none outside output calls
+      where
+        by : (v : View) → IsTableCall i (viewed v before) words memory (Err (why.Fault f)) (viewed v before)
+        by (After o) = calls o
+        by (Finding finds o so_far) = found finds o so_far
+    left_comes before after-call (Err (why.Trap k)) none outside output shares calls found =
+        plain_comes before after-call (Err (why.Trap k)) none outside output calls found
+    left_comes before after-call (Err why.NoMemory) none outside output shares calls found =
+        plain_comes before after-call (Err why.NoMemory) none outside output calls found
 
   -- a call over a world, where no fault is kept
   pub world_comes : (before after-call : HostForm) (r : Result (Option Word) Refusal) → before.fault ≡ None → (output : List Action)

@@ -18,7 +18,7 @@ use Rattle.host_values.specs.declared.reply.Refusal.TheVariants as why
 use Rattle.host_elements.specs.Forms.{HostForm, state_of}
 use Rattle.host_meaning.specs.FormMeaning.{FormMeans}
 use Rattle.host_meaning.specs.TableCalls.{left_by_call}
-use Rattle.host_meaning.specs.WorldCalls.{IsCalled, LeadsIn}
+use Rattle.host_meaning.specs.WorldCalls.{IsCalled, LeadsFinding, LeadsIn}
 use Rattle.host_table_calls.proofs.Tellings.{faulted_told, world_told}
 use Rattle.host_table_calls.specs.Answers.{told_as}
 use Rattle.host_inputs.specs.Calls.{shown_after}
@@ -71,6 +71,15 @@ module _ (tells : Type 0) (i : Import) (is_read : reads i ≡ true) (before : Ho
         (subst (λ (z : HostState). Called tells (Some i) s words memory refused z []) x.1.state x.2),
   )
 
+  -- and what is found has no such names
+  finds_so : (f : HostForm) → LeadsFinding i before words memory refused f → LeadsFinding i before words memory refused (form_outside o f)
+  finds_so f l = record {
+    found = l.found;
+    output = l.output;
+    leads = λ later outside so_far s st.
+        let x = l.leads later outside so_far s st in record { rest = x.rest; left = x.left; state = x.state; stands = x.stands; step = x.step };
+  }
+
 -- A READ, as it is told
 module _ (tells : Type 0) (i : Import) (is_read : reads i ≡ true) (before after-call : HostForm) (none : before.fault ≡ None)
     (words : List Word) (memory : List ℕ)
@@ -85,8 +94,11 @@ module _ (tells : Type 0) (i : Import) (is_read : reads i ≡ true) (before afte
   read_told (Err (why.Fault f)) calls =
       faulted_told tells i words memory before none [] (form_outside after-call.shared.outside (record before { values = after-call.values })) after-call f
       (record { values = refl; arrays = arrays; iterators = iterators; fault = refl; outside = refl; output = output })
-      (leads_so tells i is_read before none words memory f after-call.shared.outside (record before { values = after-call.values; fault = Some f }) refl
-      (λ y. sym (outside y)) calls)
+      (
+        leads_so tells i is_read before none words memory f after-call.shared.outside (record before { values = after-call.values; fault = Some f }) refl
+            (λ y. sym (outside y)) calls.0,
+        finds_so tells i is_read before none words memory f after-call.shared.outside (record before { values = after-call.values; fault = Some f }) calls.1,
+      )
 
 pub main_reads : (how : MainRead) → reads (Of (main_primitive how)) ≡ true
 main_reads Loop = refl

@@ -5,7 +5,7 @@ use Rattle.sem_primitives.specs.SharedState.{MainInput}
 use Rattle.wasm_model.specs.declared.host.HostAnswer.{HostAnswer}
 use Rattle.wasm_model.specs.declared.host.HostAnswer.TheVariants as told
 use Rattle.wasm_store.specs.declared.word.Word.{Word}
-use Rattle.world_core.specs.WorldState.{Action, State}
+use Rattle.world_core.specs.WorldState.{Action, Entry, Outside, State, after as outside_after}
 use Rattle.host_step.specs.HostState.{HostState}
 use Rattle.host_step.specs.Worlds.{AnyhowIf, IsStepInSomeWorld, reads, unseen, unseen_main, unseen_reading}
 use Rattle.host_imports.specs.declared.import.Import.{Import}
@@ -16,6 +16,7 @@ use Rattle.host_streams.specs.Mains.{main_of, reading_of}
 use Rattle.host_streams.specs.declared.main_input.MainInput.{MainInput as Mains}
 use Rattle.host_streams.specs.declared.main_input.Reading.{Reading}
 use Rattle.host_streams.specs.declared.main_input.Reading.TheVariants as reading
+use Rattle.host_meaning.specs.Findings.{form_finding}
 use Rattle.host_meaning.specs.FormMeaning.{AnyhowShown, FormCalled, FormMeans, StepShown}
 use Rattle.host_meaning.specs.Shown.{SharesBy, form_with_output}
 use Rattle.host_meaning.specs.TableCalls.{left_by_call}
@@ -77,6 +78,12 @@ module _ (tells : Type 0) (i : Import) (quiet : reads i ≡ false) (before f : H
     anyhow = any;
   }
 
+  -- and so it is in surroundings that others change too
+  same_finding : (finds : List Entry) (outside : Outside) (so_far : List Action) → form_finding finds outside so_far (with_main old f) ≡ form_finding finds outside so_far (with_main new f)
+  same_finding finds outside so_far = ap (λ (z : MainInput). record (form_finding finds outside so_far f) {
+    shared = record (form_finding finds outside so_far f).shared { inner = record (form_finding finds outside so_far f).shared.inner { main = z } };
+  }) hidden
+
   called_moved : (a : HostAnswer) (output : List Action) → FormCalled tells (Some i) before words memory a (with_main old f) output
       → FormCalled tells (Some i) before words memory a (with_main new f) output
   called_moved a output c = record {
@@ -84,6 +91,16 @@ module _ (tells : Type 0) (i : Import) (quiet : reads i ≡ false) (before f : H
     step = λ t so_far s h.
         subst (λ m. StepShown (Some i) s words memory a (form_with_output (so_far ++ output) (with_main m f)) output) (same t) (c.step t so_far s h);
     anyhow = λ s h. let x = c.anyhow s h in anyhow_by a s x.state f.fault refl x.shown.form x.shown.same x.shown.stands x.anyhow;
+    finds = record {
+      found = c.finds.found;
+      output = c.finds.output;
+      leads = λ finds later is outside so_far s h. let x = c.finds.leads finds later is outside so_far s h in record {
+        rest = x.rest;
+        left = x.left;
+        to = subst (λ (z : HostForm). StepShown (Some i) s words memory a z c.finds.output)
+            (same_finding x.rest (outside_after c.finds.output outside) (so_far ++ c.finds.output)) x.to;
+      };
+    };
   }
 
   pub means_moved : (a : HostAnswer) (output : List Action) → FormMeans tells (Some i) before words memory a (with_main old f) output

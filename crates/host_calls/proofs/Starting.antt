@@ -6,7 +6,7 @@ use Rattle.world_core.specs.WorldState.{Outside, Source, State}
 use Rattle.host_step.specs.HostState.{HostState}
 use Rattle.host_step.specs.Starts.{state_at_start}
 use Rattle.host_elements.specs.Forms.{HostForm, Keys, Stands, inner_of}
-use Rattle.host_inputs.specs.States.{input_at_start, with_input}
+use Rattle.host_inputs.specs.States.{Over, input_at_start, with_input}
 use Rattle.host_inputs.specs.declared.input.Input.{Input}
 use Rattle.host_names.specs.declared.names.Names.{Names}
 use Rattle.host_tables.specs.Starts.{form_of}
@@ -35,7 +35,7 @@ module _ (t : Tables) (names : Names) (job : JobForm) (source : Source) (outside
 
 pub starts : (t : Tables) (i : Input) (names : Names) (first : FirstTables) (job : JobForm) (state : State)
     → ((f : HostForm) → of_tables_and_names t names f ≡ form_of first f.shared)
-    → ((s : State) (inner : Inner) → with_input i s inner ≡ input_at_start names s inner)
+    → ((s : State) (inner : Inner) → with_input i (Over s) inner ≡ input_at_start names s inner)
     → ((source : Source) (outside : Outside) → Stands (form_of first (shared_at_start job source outside)) (state_at_start job source outside))
     → Shown (form_in t i state) (state_at_start job (state.readers 0) state.outside)
 starts t i names first job state same begins stands =

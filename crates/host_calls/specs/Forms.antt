@@ -4,7 +4,7 @@ use Rattle.awk_values.specs.declared.value.Value.TheVariants.{Uninit}
 use Rattle.sem_primitives.specs.SharedState.{Inner, NoFile, specials_at_start}
 use Rattle.world_core.specs.WorldState.{Outside, Source, State}
 use Rattle.host_elements.specs.Forms.{HostForm}
-use Rattle.host_inputs.specs.States.{with_input}
+use Rattle.host_inputs.specs.States.{Over, with_input}
 use Rattle.host_inputs.specs.declared.input.Input.{Input}
 use Rattle.host_texts.specs.States.{with_texts}
 use Rattle.host_table_calls.specs.declared.held.Tables.{Tables}
@@ -39,11 +39,12 @@ nothing source = record {
   pending = None;
   line = None;
   substituted = None;
+  finds = None;
 }
 
 -- tables and input over a state of the world
 abbrev pub form_in : Tables → Input → State → HostForm
-form_in t i state = form_over t (with_input i state (nothing (state.readers 0))) state.outside
+form_in t i state = form_over t (with_input i (Over state) (nothing (state.readers 0))) state.outside
 
 -- the form of a host, whose world says of its state what the function says
 abbrev pub host_form : {W : Type 0} {g : _} → (W → State) → Host W g → HostForm

@@ -78,12 +78,7 @@ impl<W: World> Host<W> {
         ensures { (memory : List ℕ) → ComesTo W.tells (Import.Of row.Line)
             (host_form W.state self.old) words.now memory result (host_form W.state self.new) }
     {
-        line(
-            &self.world,
-            &mut self.tables.handles,
-            &mut self.input,
-            words,
-        )
+        line(&mut self.tables.handles, &mut self.input, words)
     }
 
     /// The actions of END begin.

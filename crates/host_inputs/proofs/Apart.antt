@@ -14,7 +14,7 @@ use Rattle.host_streams.specs.declared.streams.NamedWriter.{NamedWriter}
 use Rattle.host_streams.specs.declared.streams.Streams.{Streams}
 use Rattle.host_texts.specs.declared.texts.Texts.{Texts}
 use Rattle.host_inputs.specs.Keeps.{with_files, with_main_input}
-use Rattle.host_inputs.specs.States.{AreApart, FilesApart, HoldsInput, input_at_start, with_input, with_tables}
+use Rattle.host_inputs.specs.States.{AreApart, FilesApart, HoldsInput, Over, input_at_start, with_input, with_tables}
 use Rattle.host_inputs.specs.declared.input.Input.{Input}
 
 -- The main input is read.
@@ -59,9 +59,9 @@ module _ (was : Reading) (kinds : ℕ → Kind) (old new : State) (places : Spar
       (p.1 ∙ go.0, writers_stay ws held.3 apart.1 go.1)
 
 pub tables_next : (texts : Texts) (i : Input) (m : Mains) (kinds : ℕ → Kind) (old new : State) (inner : Inner) → HoldsInput i kinds → SparesPlaces i.main.reading kinds old new
-    → with_main (main_of m new) (with_tables texts i old inner) ≡ with_tables texts (with_main_input m i) new inner
+    → with_main (main_of m new) (with_tables texts i (Over old) inner) ≡ with_tables texts (with_main_input m i) (Over new) inner
 tables_next texts i m kinds old new inner h places =
-    ap (λ rs. record (with_tables texts (with_main_input m i) new inner) { readers = rs }) (readers_stay i.main.reading kinds old new places i.files.readers.items h.files.0 h.apart.0)
+    ap (λ rs. record (with_tables texts (with_main_input m i) (Over new) inner) { readers = rs }) (readers_stay i.main.reading kinds old new places i.files.readers.items h.files.0 h.apart.0)
 
 -- A file is read.
 
@@ -126,10 +126,10 @@ module _ (i : Input) (kinds : ℕ → Kind) (h : HoldsInput i kinds) (input : ki
       ∙ ap (λ r. record (main_of i.main new) { reading = r }) (reading_stays i.main.reading h.main.1 h.apart)
 
   pub tables_file : (texts : Texts) (s : Streams) (inner : Inner) → names_of s.writers.items ≡ names_of i.files.writers.items
-      → record (with_tables texts i old inner) { readers = readers_in s.readers.items new } ≡ with_tables texts (with_files s i) new inner
+      → record (with_tables texts i (Over old) inner) { readers = readers_in s.readers.items new } ≡ with_tables texts (with_files s i) (Over new) inner
   tables_file texts s inner names =
-      ap (λ m. record (with_tables texts (with_files s i) new inner) { main = m; writers = names_of i.files.writers.items }) main_stays
-      ∙ ap (λ ws. record (with_tables texts (with_files s i) new inner) { writers = ws }) (sym names)
+      ap (λ m. record (with_tables texts (with_files s i) (Over new) inner) { main = m; writers = names_of i.files.writers.items }) main_stays
+      ∙ ap (λ ws. record (with_tables texts (with_files s i) (Over new) inner) { writers = ws }) (sym names)
 
 -- Before anything is read.
 
@@ -141,10 +141,10 @@ holds_new i kinds main files missing = record {
 }
 
 pub begins_new : (i : Input) (state : State) (inner : Inner) → main_of i.main state ≡ main_at_start (state.readers 0) → IsMissing i.files → i.in_end ≡ false → i.line ≡ None
-    → with_input i state inner ≡ input_at_start i.names state inner
+    → with_input i (Over state) inner ≡ input_at_start i.names state inner
 begins_new i state inner main missing running line =
-    ap (λ m. record (with_input i state inner) { main = m }) main
-    ∙ ap (λ rs. record (with_input i state inner) { main = main_at_start (state.readers 0); readers = readers_in rs state }) missing.0
-    ∙ ap (λ ws. record (with_input i state inner) { main = main_at_start (state.readers 0); readers = []; writers = names_of ws }) missing.1
-    ∙ ap (λ b. record (with_input i state inner) { main = main_at_start (state.readers 0); readers = []; writers = []; in_end = b }) running
+    ap (λ m. record (with_input i (Over state) inner) { main = m }) main
+    ∙ ap (λ rs. record (with_input i (Over state) inner) { main = main_at_start (state.readers 0); readers = readers_in rs state }) missing.0
+    ∙ ap (λ ws. record (with_input i (Over state) inner) { main = main_at_start (state.readers 0); readers = []; writers = names_of ws }) missing.1
+    ∙ ap (λ b. record (with_input i (Over state) inner) { main = main_at_start (state.readers 0); readers = []; writers = []; in_end = b }) running
     ∙ ap (λ l. record (input_at_start i.names state inner) { line = l }) line

@@ -1,5 +1,6 @@
 -- Reads of files are calls.
-use Rattle.std.proofs.Common.{◌≡◌, ◌≢◌, ℕ, ℤ, true, List, [], ◌∷◌, Some, None, Result, Ok, Err, refl, sym, ap, subst, ◌∙◌}
+use Rattle.std.proofs.Common.{◌≡◌, ◌≢◌, ℕ, ℤ, true, List, [], ◌∷◌, ◌++◌, Some, None, Result, Ok, Err, refl, sym, ap, subst, ◌∙◌}
+use Rattle.awk_values.specs.Values.{text_of_value}
 use Rattle.std.specs.FinMap as map
 use Rattle.awk_values.specs.declared.fault.Stop.{Stop}
 use Rattle.awk_values.specs.declared.fault.Stop.TheVariants.{Fault as IsFault, NoMemory}
@@ -14,14 +15,14 @@ use Rattle.wasm_model.specs.declared.host.HostAnswer.TheVariants as told
 use Rattle.wasm_store.specs.declared.trap.TrapKind.{TrapKind}
 use Rattle.wasm_store.specs.declared.word.Word.{Word}
 use Rattle.wasm_store.specs.declared.word.Word.TheVariants.{I32}
-use Rattle.world_core.specs.WorldState.{Action, Outside, State}
+use Rattle.world_core.specs.WorldState.{Action, Entry, Outside, State}
 use Rattle.host_imports.specs.Codes.{input_code}
 use Rattle.host_step.specs.Answers.{refusal}
 use Rattle.host_step.specs.Arguments.{and_then}
 use Rattle.host_step.specs.HostState.{HostState, Names}
 use Rattle.host_step.specs.HostStep.{Acts, acts, carried}
 use Rattle.host_imports.specs.Imports.{import_answer, spends}
-use Rattle.host_step.specs.Worlds.{HasLine, HasPending, KeepsOthers, Wanted, reads_line, reads_main}
+use Rattle.host_step.specs.Worlds.{HasLine, HasPending, KeepsOthers, Wanted, reads_line, reads_main, unseen_inner}
 use Rattle.host_imports.specs.declared.import.Import.TheVariants.{Of}
 use Rattle.host_streams.specs.OpenFiles.{names_of}
 use Rattle.host_texts.specs.declared.texts.Texts.{Texts}
@@ -33,15 +34,18 @@ use Rattle.host_values.proofs.OneHandle.{as_row, decoded}
 use Rattle.host_elements.specs.Forms.{HostForm, Past, inner_of, state_of}
 use Rattle.host_elements.proofs.Steps.{state_with}
 use Rattle.host_names.specs.Forms.{announced, left_of}
+use Rattle.host_meaning.specs.Findings.{form_finding}
 use Rattle.host_meaning.specs.WorldCalls.{IsCalled}
 use Rattle.host_inputs.specs.Calls.{answered_by, shown_after, with_values}
+use Rattle.host_inputs.specs.Finds.{FindsFileRow}
 use Rattle.host_inputs.specs.Givens.{RowGives, file_primitive, file_row}
 use Rattle.host_inputs.specs.Keeps.{AnswerLine, IsReadOn, KeepsSubstituted}
-use Rattle.host_inputs.specs.States.{over_world, with_tables}
+use Rattle.host_inputs.specs.States.{Finding, Over, over_world, with_tables}
 use Rattle.host_inputs.specs.declared.input.Input.{Input}
 use Rattle.host_inputs.specs.declared.input.Keep.{Keep}
 use Rattle.host_inputs.specs.declared.input.Keep.TheVariants.{Line, Record}
 use Rattle.host_inputs.proofs.MainCalls.{acts_given}
+use Rattle.host_inputs.proofs.ReadFound.{answers_found, faults_found, seen_found, traps_found}
 use Rattle.host_inputs.proofs.ReadSteps.{Carries, IsReading, answer_called, fault_called, form_output, leads_in, memory_wanted, trap_called}
 
 -- The two imports.
@@ -130,12 +134,15 @@ module _ (tells : Type 0) (to : Keep) (f : HostForm) (words : List Word) (memory
   old = with_values m (over_world t i s f)
 
   pub file_trapped : (k : TrapKind) → only_handle m words ≡ Err k → IsCalled tells (Of (file_primitive to)) old words memory (Err (why.Trap k)) old []
-  file_trapped k e = leads_in tells (Of (file_primitive to)) old old words memory (told.Trap k) refl refl (λ p past.
-      trap_called (Of (file_primitive to)) (file_reading to) old p words memory none tells k (file_traps old p words memory none to k e))
+  file_trapped k e = (
+    leads_in tells (Of (file_primitive to)) old old words memory (told.Trap k) refl refl (λ p past.
+        trap_called (Of (file_primitive to)) (file_reading to) old p words memory none tells k (file_traps old p words memory none to k e)),
+    traps_found (Of (file_primitive to)) (file_reading to) old words memory none k (λ finds o so_far p. file_traps (form_finding finds o so_far old) p words memory none to k e so_far),
+  )
 
   module _ (h : ℤ) (v : Value) (reads : only_handle m words ≡ Ok (h, v)) (m' : Values) (taken : m' ≡ map.remove m h) (t' : Texts) (i' : Input) (s' : State) (r : Result InputAnswer Stop)
-      (told_row : tells → (inner : Inner) → RowGives (file_row to v s.outside (with_tables t i s inner)) r (with_tables t' i' s' inner)) (outside : tells → s'.outside ≡ s.outside)
-      (moved : IsReadOn i i') (writers : i'.files.writers ≡ i.files.writers) (line : AnswerLine to r i i') (other : r ≢ Ok input.Pending) (kept : KeepsSubstituted t t') where
+      (told_row : tells → (inner : Inner) → RowGives (file_row to v s.outside (with_tables t i (Over s) inner)) r (with_tables t' i' (Over s') inner)) (outside : tells → s'.outside ≡ s.outside)
+      (name : List ℕ) (same : text_of_value v ≡ name) (finds : FindsFileRow to name t i r t' i') (moved : IsReadOn i i') (writers : i'.files.writers ≡ i.files.writers) (line : AnswerLine to r i i') (other : r ≢ Ok input.Pending) (kept : KeepsSubstituted t t') where
     abbrev new : HostForm
     new = with_values m' (over_world t' i' s' f)
 
@@ -151,7 +158,7 @@ module _ (tells : Type 0) (to : Keep) (f : HostForm) (words : List Word) (memory
     abbrev mid : Past → Values → Outside → HostState
     mid p x o = record (state_of (with_values x new) p) { shared = record (state_of new p).shared { outside = o } }
 
-    state_is : (p : Past) → s'.outside ≡ s.outside → state_with (spent p) (with_tables t' i' s' (inner_at p)) old ≡ state_of new p
+    state_is : (p : Past) → s'.outside ≡ s.outside → state_with (spent p) (with_tables t' i' (Over s') (inner_at p)) old ≡ state_of new p
     state_is p e = ap (λ (x : Values). mid p x s.outside) (sym taken) ∙ ap (mid p m') (sym e)
 
     abbrev old_left : Values → HostForm
@@ -173,33 +180,64 @@ module _ (tells : Type 0) (to : Keep) (f : HostForm) (words : List Word) (memory
         by Line input.Pending e = other e
         by Line input.Failed e = same
 
+    -- where others change what names hold too
+    row_found : (later : List Entry) (o : Outside) (p : Past)
+        → file_row to v o (record (unseen_inner (with_tables t i (Over s) (inner_at p))) { finds = Some (finds.0 ++ later) }) ≡ file_row to v o (with_tables t i (Finding (finds.0 ++ later)) (inner_at p))
+    row_found later o p = ap (file_row to v o) (seen_found t i s (finds.0 ++ later) (inner_at p))
+
+    state_found : (later : List Entry) (o : Outside) (so_far : List Action) (p : Past)
+        → state_with (spent p) (with_tables t' i' (Finding later) (inner_at p)) (form_finding (finds.0 ++ later) o so_far old) ≡ state_of (form_finding later o so_far new) p
+    state_found later o so_far p =
+        let last = λ (x : Values). state_of (form_finding later o so_far (with_values x new)) p in
+        ap (λ (z : Inner). record (last (map.remove m h)) { shared = record (last (map.remove m h)).shared { inner = z } }) (sym (seen_found t' i' s' later (inner_at p)))
+        ∙ ap last (sym taken)
+
     file_called : (x : Result InputAnswer Stop) → r ≡ x → IsCalled tells (Of (file_primitive to)) old words memory (answered_by x) (shown_after (answered_by x) old new) []
-    file_called (Ok x) e = leads_in tells (Of (file_primitive to)) old new words memory (told.Done (Some (I32 (input_code x)))) refl refl (λ p past.
-        answer_called (Of (file_primitive to)) (file_reading to) old p words memory none (spent p) (file_row to v s.outside (with_tables t i s (inner_at p))) (file_carries old p words memory none h v reads to) tells x (state_of new p)
-        (λ y. (with_tables t' i' s' (inner_at p), subst (λ a. RowGives (file_row to v s.outside (with_tables t i s (inner_at p))) a (with_tables t' i' s' (inner_at p))) e (told_row y (inner_at p)), state_is p (outside y)))
-        (record {
-          names = names_are p;
-          arguments = refl;
-          others = file_others m m' t t' i i' s s' f p moved writers kept;
-          how = Ok x;
-          ends = record { answer = refl; fault = refl; line = file_line m m' t t' i i' s s' f p to x (subst (λ a. AnswerLine to a i i') e line); pending = pending_by p x e };
-        }))
-    file_called (Err (IsFault fault)) e = leads_in tells (Of (file_primitive to)) old (record (old_left m') { fault = Some fault }) words memory (told.Done (refusal (import_answer (Of (file_primitive to))))) refl refl (λ p past.
-        fault_called (Of (file_primitive to)) (file_reading to) old p words memory none (spent p) (file_row to v s.outside (with_tables t i s (inner_at p))) (file_carries old p words memory none h v reads to) tells fault (state_of (record (old_left m') { fault = Some fault }) p)
-        (λ y. subst (λ a. RowGives (file_row to v s.outside (with_tables t i s (inner_at p))) a (with_tables t' i' s' (inner_at p))) e (told_row y (inner_at p)))
-        (ap (λ (x : Values). state_of (record (old_left x) { fault = Some fault }) p) (sym taken))
-        (record {
-          names = names_are p;
-          arguments = refl;
-          others = record { arrays = refl; iterators = refl; writers = refl; in_end = refl; names = refl; assigns = refl; substituted = refl };
-          how = Err fault;
-          ends = record { answer = ap told.Done (file_reading to).refused; kept = refl };
-        }))
+    file_called (Ok x) e = (
+      leads_in tells (Of (file_primitive to)) old new words memory (told.Done (Some (I32 (input_code x)))) refl refl (λ p past.
+          answer_called (Of (file_primitive to)) (file_reading to) old p words memory none (spent p) (file_row to v s.outside (with_tables t i (Over s) (inner_at p))) (file_carries old p words memory none h v reads to) tells x (state_of new p)
+          (λ y. (with_tables t' i' (Over s') (inner_at p), subst (λ a. RowGives (file_row to v s.outside (with_tables t i (Over s) (inner_at p))) a (with_tables t' i' (Over s') (inner_at p))) e (told_row y (inner_at p)), state_is p (outside y)))
+          (record {
+            names = names_are p;
+            arguments = refl;
+            others = file_others m m' t t' i i' s s' f p moved writers kept;
+            how = Ok x;
+            ends = record { answer = refl; fault = refl; line = file_line m m' t t' i i' s s' f p to x (subst (λ a. AnswerLine to a i i') e line); pending = pending_by p x e };
+          })),
+      answers_found (Of (file_primitive to)) (file_reading to) old words memory none new refl refl finds.0 none x (λ later o so_far p past. (
+        spent p,
+        file_row to v o (state_of (form_finding (finds.0 ++ later) o so_far old) p).shared.inner,
+        file_carries (form_finding (finds.0 ++ later) o so_far old) p words memory none h v reads to,
+        with_tables t' i' (Finding later) (inner_at p),
+        row_found later o p ∙ subst (λ a. RowGives (file_row to v o (with_tables t i (Finding (finds.0 ++ later)) (inner_at p))) a (with_tables t' i' (Finding later) (inner_at p))) e (finds.1 later o (inner_at p) v same),
+        state_found later o so_far p,
+      )),
+    )
+    file_called (Err (IsFault fault)) e = (
+      leads_in tells (Of (file_primitive to)) old (record (old_left m') { fault = Some fault }) words memory (told.Done (refusal (import_answer (Of (file_primitive to))))) refl refl (λ p past.
+          fault_called (Of (file_primitive to)) (file_reading to) old p words memory none (spent p) (file_row to v s.outside (with_tables t i (Over s) (inner_at p))) (file_carries old p words memory none h v reads to) tells fault (state_of (record (old_left m') { fault = Some fault }) p)
+          (λ y. subst (λ a. RowGives (file_row to v s.outside (with_tables t i (Over s) (inner_at p))) a (with_tables t' i' (Over s') (inner_at p))) e (told_row y (inner_at p)))
+          (ap (λ (x : Values). state_of (record (old_left x) { fault = Some fault }) p) (sym taken))
+          (record {
+            names = names_are p;
+            arguments = refl;
+            others = record { arrays = refl; iterators = refl; writers = refl; in_end = refl; names = refl; assigns = refl; substituted = refl };
+            how = Err fault;
+            ends = record { answer = ap told.Done (file_reading to).refused; kept = refl };
+          })),
+      faults_found (Of (file_primitive to)) (file_reading to) old words memory none (record (old_left m') { fault = Some fault }) refl refl finds.0 fault refl (λ later o so_far p past. (
+        spent p,
+        file_row to v o (state_of (form_finding (finds.0 ++ later) o so_far old) p).shared.inner,
+        file_carries (form_finding (finds.0 ++ later) o so_far old) p words memory none h v reads to,
+        row_found later o p ∙ subst (λ a. RowGives (file_row to v o (with_tables t i (Finding (finds.0 ++ later)) (inner_at p))) a (with_tables t' i' (Finding later) (inner_at p))) e (finds.1 later o (inner_at p) v same),
+        ap (λ (x : Values). state_of (form_finding (finds.0 ++ later) o so_far (record (old_left x) { fault = Some fault })) p) (sym taken),
+      )),
+    )
     file_called (Err NoMemory) e = λ y s0 st. (
       state_of new st.past,
       refl,
       subst (λ z. Wanted (Some (Of (file_primitive to))) z words memory (state_of new st.past) []) (sym st.state)
-          (memory_wanted (Of (file_primitive to)) (file_reading to) old st.past words memory none (spent st.past) (file_row to v s.outside (with_tables t i s (inner_at st.past))) (file_carries old st.past words memory none h v reads to) (state_of new st.past) (outside y)),
+          (memory_wanted (Of (file_primitive to)) (file_reading to) old st.past words memory none (spent st.past) (file_row to v s.outside (with_tables t i (Over s) (inner_at st.past))) (file_carries old st.past words memory none h v reads to) (state_of new st.past) (outside y)),
     )
 
     pub file_answers : IsCalled tells (Of (file_primitive to)) old words memory (answered_by r) (shown_after (answered_by r) old new) []
@@ -211,5 +249,5 @@ module _ (tells : Type 0) (to : Keep) (f : HostForm) (words : List Word) (memory
     state_of old st.past,
     refl,
     subst (λ z. Wanted (Some (Of (file_primitive to))) z words memory (state_of old st.past) []) (sym st.state)
-        (memory_wanted (Of (file_primitive to)) (file_reading to) old st.past words memory none (names_with (map.remove m h) (state_of old st.past)) (file_row to v s.outside (with_tables t i s (inner_of f.shared.inner st.past.arrays st.past.iterators))) (file_carries old st.past words memory none h v reads to) (state_of old st.past) refl),
+        (memory_wanted (Of (file_primitive to)) (file_reading to) old st.past words memory none (names_with (map.remove m h) (state_of old st.past)) (file_row to v s.outside (with_tables t i (Over s) (inner_of f.shared.inner st.past.arrays st.past.iterators))) (file_carries old st.past words memory none h v reads to) (state_of old st.past) refl),
   )

@@ -9,9 +9,9 @@ use Rattle.awk_values.specs.declared.fault.Fault.{Fault}
 use Rattle.awk_values.specs.declared.fault.Fault.TheVariants.{TooManyStreams}
 use Rattle.awk_values.specs.declared.fault.Stop.{Stop}
 use Rattle.awk_values.specs.declared.fault.Stop.TheVariants.{Fault as IsFault, NoMemory}
-use Rattle.world_core.specs.WorldState.{Outside, Named, Source, State}
+use Rattle.world_core.specs.WorldState.{Entry, Outside, Named, Source, State}
 use Rattle.sem_primitives.specs.FieldMeaning.{special_text}
-use Rattle.sem_primitives.specs.InputMeaning.{getline_file_by, got_file, open_or_read, opened_file, read_file, reader_named, source_of, with_reader}
+use Rattle.sem_primitives.specs.InputMeaning.{getline_file_by, got_file, nothing_left, open_or_read, opened_file, read_file, reader_named, source_of, with_reader}
 use Rattle.sem_primitives.specs.OutputMeaning.{has_room}
 use Rattle.sem_primitives.specs.Records.{Got, first_record, record_separator}
 use Rattle.sem_primitives.specs.SharedState.{Inner, ◌>>=◌}
@@ -29,7 +29,7 @@ use Rattle.host_streams.proofs.Held.{name_itself}
 use Rattle.host_streams.specs.declared.streams.Streams.{Streams}
 use Rattle.host_texts.specs.declared.texts.Texts.{Texts}
 use Rattle.host_inputs.specs.Givens.{FileGives, file_row, kept_by}
-use Rattle.host_inputs.specs.States.{with_tables}
+use Rattle.host_inputs.specs.States.{Finding, Over, readers_by, with_tables}
 use Rattle.host_inputs.specs.declared.input.Input.{Input}
 use Rattle.host_inputs.specs.declared.input.Keep.{Keep}
 use Rattle.host_inputs.specs.declared.input.Keep.TheVariants.{Line, Record}
@@ -128,7 +128,7 @@ file_gives_named keep name value rs inner asked same outside room answer new e h
 less_is : (n : ℕ) → nat_lt n 256 ≡ nat_le (n + 1) 256
 less_is n = grind (arith, nat_tests)
 
-pub room_is : (s : Streams) (texts : Texts) (i : Input) (state : State) (inner : Inner) → i.files ≡ s → open_room s ≡ has_room (with_tables texts i state inner)
+pub room_is : (s : Streams) (texts : Texts) (i : Input) (state : State) (inner : Inner) → i.files ≡ s → open_room s ≡ has_room (with_tables texts i (Over state) inner)
 room_is s texts i state inner same =
     less_is (length s.readers.items + length s.writers.items)
     ∙ ap (λ n. nat_le (n + length s.writers.items + 1) 256) (sym (length-map s.readers.items (λ (r : NamedReader). (r.name, left r.reader (state.readers r.reader.id))))) ∙ ap (λ n. nat_le (length (readers_in s.readers.items state) + n + 1) 256) (sym (length-map s.writers.items (λ (w : NamedWriter). w.name)))
@@ -142,3 +142,9 @@ file_row_is Line value outside inner = refl
 
 pub file_got : {a : FileNext} (b : FileNext) (to : Keep) (wanted : Result (Inner × InputAnswer) Fault) (new : Inner) → a ≡ b → FileGives wanted (kept_by to) (Ok a) new → FileGives wanted (kept_by to) (Ok b) new
 file_got b to wanted new e h = subst (λ (x : FileNext). FileGives wanted (kept_by to) (Ok x) new) e h
+
+pub room_found : (texts : Texts) (i : Input) (finds : List Entry) (inner : Inner) → has_room (with_tables texts i (Finding finds) inner) ≡ open_room i.files
+room_found texts i finds inner =
+    sym (less_is (length i.files.readers.items + length i.files.writers.items)
+    ∙ ap (λ n. nat_le (n + length i.files.writers.items + 1) 256) (sym (length-map i.files.readers.items (λ (r : NamedReader). (r.name, nothing_left))))
+    ∙ ap (λ n. nat_le (length (readers_by i.files.readers.items (Finding finds)) + n + 1) 256) (sym (length-map i.files.writers.items (λ (w : NamedWriter). w.name))))

@@ -2,8 +2,11 @@ mod SpecialNumbers
 mod Kept
 pub mod Apart
 mod Turns
+mod MainFound
 mod FileReads
+mod FileFound
 mod ReadSteps
+mod ReadFound
 mod Silent
 mod ArgvTexts
 mod MainCalls

@@ -6,13 +6,14 @@ use Rattle.awk_values.specs.declared.fault.Fault.{Fault}
 use Rattle.awk_values.specs.declared.fault.Fault.TheVariants.{Range, Fraction, DivisionByZero, Inexact, FieldNumber, Format, BadEre, EreTooLarge, TextLimit, OpenInput, ReadFailed, OpenOutput, WriteFailed, TooManyStreams, NextOutside, BadAssignment}
 use Rattle.awk_values.specs.declared.fault.Stop.{Stop}
 use Rattle.awk_values.specs.declared.fault.Stop.TheVariants.{Fault as IsFault, NoMemory}
-use Rattle.world_core.specs.WorldState.{Outside, State}
+use Rattle.world_core.specs.WorldState.{Outside}
 use Rattle.sem_primitives.specs.Assignments.{assigned}
 use Rattle.sem_primitives.specs.InputMeaning.{Main, go_on, made, main_input, next_operand, reach, reach_by}
 use Rattle.sem_primitives.specs.InputMeaning.{Pending as IsPending}
 use Rattle.sem_primitives.specs.SharedState.{Inner, ◌>>=◌}
 use Rattle.host_format.specs.Outcomes.{IsStopOf}
-use Rattle.host_streams.specs.Mains.{AnswerIs, FaultIs, MainEnds, has_operand, main_of, operands_of, reading_of, rest_of}
+use Rattle.host_streams.specs.MainFinds.{FaultFound, StepFound, as_step, reading_found}
+use Rattle.host_streams.specs.Mains.{AnswerIs, FaultIs, MainEnds, has_operand, operands_of, reading_of, rest_of}
 use Rattle.host_streams.specs.Passing.{AreThere, Passes, RestsAfter, Takes}
 use Rattle.host_streams.specs.declared.main_input.Found.{Found}
 use Rattle.host_streams.specs.declared.main_input.Found.TheVariants as found
@@ -22,6 +23,7 @@ use Rattle.host_streams.specs.declared.main_input.MainNext.TheVariants.{Record, 
 use Rattle.host_streams.specs.declared.main_input.Reading.TheVariants as reading
 use Rattle.host_inputs.specs.Givens.{AssignLive, GivesMain, NextPasses, TurnGives, faulted_by, stopped_by, may_follow}
 use Rattle.host_inputs.specs.Keeps.{IsMoved, TurnPends, with_main_input, with_pending}
+use Rattle.host_inputs.specs.States.{Around, Finding, Over, main_by}
 use Rattle.host_inputs.specs.declared.input.Given.{Given}
 use Rattle.host_inputs.specs.declared.input.Input.{Input}
 
@@ -105,14 +107,23 @@ faulted_gives BadAssignment given outside new h = h.0
 
 -- After an assignment that was made, the operands go on.
 
-pub goes_on : (outside : Outside) (m : Mains) (state : State) (inner : Inner) → inner.main ≡ main_of m state → m.ended ≡ false → m.reading ≡ reading.Nothing → m.found ≢ found.NoneLeft
-    → rest_of (main_of m state) outside inner ≡ main_input outside inner
-goes_on outside m state inner same live nothing some =
+pub goes_on : (outside : Outside) (m : Mains) (around : Around) (inner : Inner) → inner.main ≡ main_by m around → m.ended ≡ false → m.reading ≡ reading.Nothing → m.found ≢ found.NoneLeft
+    → rest_of (main_by m around) outside inner ≡ main_input outside inner
+goes_on outside m around inner same live nothing some =
     sym (ap (λ x. go_on x.ended x.reading (next_operand outside) inner) same
-    ∙ ap (λ b. go_on b (reading_of m.reading state) (next_operand outside) inner) live ∙ ap (λ r. go_on false (reading_of r state) (next_operand outside) inner) nothing
-    ∙ ap (λ x. reach_by x.operands outside inner) same ∙ by m.found some)
+    ∙ at_rest around live nothing ∙ ap (λ x. reach_by x.operands outside inner) same ∙ operands_at around ∙ by m.found some)
   where
-    by : (f : Found) → f ≢ found.NoneLeft → reach_by (operands_of f) outside inner ≡ rest_of (main_of m state) outside inner
+    at_rest : (a : Around) → m.ended ≡ false → m.reading ≡ reading.Nothing → go_on (main_by m a).ended (main_by m a).reading (next_operand outside) inner ≡ next_operand outside inner
+    at_rest (Over state) live nothing =
+        ap (λ b. go_on b (reading_of m.reading state) (next_operand outside) inner) live ∙ ap (λ r. go_on false (reading_of r state) (next_operand outside) inner) nothing
+    at_rest (Finding finds) live nothing =
+        ap (λ b. go_on b (reading_found m.reading) (next_operand outside) inner) live ∙ ap (λ r. go_on false (reading_found r) (next_operand outside) inner) nothing
+
+    operands_at : (a : Around) → reach_by (main_by m a).operands outside inner ≡ reach_by (operands_of m.found) outside inner
+    operands_at (Over state) = refl
+    operands_at (Finding finds) = refl
+
+    by : (f : Found) → f ≢ found.NoneLeft → reach_by (operands_of f) outside inner ≡ rest_of (main_by m around) outside inner
     by found.NoFile h = ap (λ x. reach (2 ^ 20 + 1 - x.next) outside inner) same
     by found.SomeFile h = ap (λ x. reach (2 ^ 20 + 1 - x.next) outside inner) same
     by found.NoneLeft h = absurd (h refl)
@@ -159,3 +170,30 @@ told_rests name text m e h = subst (λ (x : MainNext). RestsAfter (Ok x) m.readi
 pub stopped_gives : (stop : Stop) (given : Result (Inner × Main) Fault) (outside : Outside) (old new : Inner) → AnswerIs given (Err stop) outside old new → TurnGives given (stopped_by stop) outside new
 stopped_gives (IsFault fault) given outside old new h = faulted_gives fault given outside new h
 stopped_gives NoMemory given outside old new h = tt
+
+-- The same where others change what names hold too.
+
+pub next_found : {a : MainNext} (b : MainNext) (given : Result (Inner × Main) Fault) (outside : Outside) (new : Inner) → a ≡ b → StepFound given (as_step (Ok a)) outside new → StepFound given (as_step (Ok b)) outside new
+next_found b given outside new e h = subst (λ (x : MainNext). StepFound given (as_step (Ok x)) outside new) e h
+
+fault_found : (fault : Fault) (given : Result (Inner × Main) Fault) (outside : Outside) (new : Inner) → FaultFound given fault new → TurnGives given (faulted_by fault) outside new
+fault_found Range given outside new h = h
+fault_found Fraction given outside new h = h
+fault_found DivisionByZero given outside new h = h
+fault_found Inexact given outside new h = h
+fault_found FieldNumber given outside new h = h
+fault_found Format given outside new h = h
+fault_found BadEre given outside new h = h
+fault_found EreTooLarge given outside new h = h
+fault_found TextLimit given outside new h = h
+fault_found OpenInput given outside new h = h
+fault_found ReadFailed given outside new h = h
+fault_found OpenOutput given outside new h = h
+fault_found WriteFailed given outside new h = h
+fault_found TooManyStreams given outside new h = h
+fault_found NextOutside given outside new h = h
+fault_found BadAssignment given outside new h = h
+
+pub stop_found : (stop : Stop) (given : Result (Inner × Main) Fault) (outside : Outside) (new : Inner) → StepFound given (as_step (Err stop)) outside new → TurnGives given (stopped_by stop) outside new
+stop_found (IsFault fault) given outside new h = fault_found fault given outside new h
+stop_found NoMemory given outside new h = tt

@@ -1,7 +1,6 @@
 //! The calls.
 ghost use Rattle.std.specs.Prelude.{◌≡◌, ℕ, List, [], None};
 ghost use Rattle.std.specs.FinMap as map;
-ghost use Rattle.world_core.specs.WorldState.{State};
 ghost use Rattle.sem_primitives.specs.declared.table.Primitive.TheVariants as row;
 ghost use Rattle.host_imports.specs.Codes.{input_code};
 ghost use Rattle.host_imports.specs.declared.import.Import.{Import};
@@ -14,7 +13,7 @@ ghost use Rattle.host_meaning.specs.WorldCalls.{IsCalled};
 ghost use Rattle.host_inputs.specs.Calls.{answered_by, shown_after, with_values};
 ghost use Rattle.host_inputs.specs.Keeps.{IsMovedOn, IsReadOn, with_end, with_line, with_main_input};
 ghost use Rattle.host_inputs.specs.Givens.{file_primitive, main_primitive};
-ghost use Rattle.host_inputs.specs.States.{HoldsInput, over_world};
+ghost use Rattle.host_inputs.specs.States.{HoldsInput, form_ending, form_line, over_world};
 
 use crate::argv::Argv;
 use crate::input::{Input, Keep, MainRead};
@@ -133,8 +132,7 @@ pub fn read_file<W: World>(
 /// # Errors
 ///
 /// A trap, which changes nothing, or want of memory.
-pub fn line<W: World>(
-    _world: &W,
+pub fn line(
     handles: &mut Handles,
     input: &mut Input,
     words: &[Word],
@@ -142,10 +140,9 @@ pub fn line<W: World>(
     requires { map.get handles.old spare ≡ None }
     ensures rest { input.new ≡ with_line input.new.line input.old }
     ensures spare { map.get handles.new spare ≡ None }
-    ensures called { (f : HostForm) (memory : List ℕ) (texts : AnyTexts) → f.fault ≡ None
-        → IsCalled W.tells (Import.Of row.Line) (with_values handles.old
-        (over_world texts input.old (W.state _world.now) f)) words.now memory result
-        (with_values handles.new (over_world texts input.new (W.state _world.now) f)) [] }
+    ensures step { (f : HostForm) (memory : List ℕ) → f.fault ≡ None → IsTableCall
+        (Import.Of row.Line) (form_line handles.old input.old.line f) words.now memory result
+        (form_line handles.new input.new.line f) }
 {
     if let Err(kind) = ends(words) {
         return Err(Refusal::Trap(kind));
@@ -163,9 +160,9 @@ pub fn line<W: World>(
 /// A trap where there are words, which changes nothing.
 pub fn begin_end(input: &mut Input, words: &[Word]) -> Result<Option<Word>, Refusal>
     ensures rest { input.new ≡ with_end input.new.in_end input.old }
-    ensures step { (f : HostForm) (memory : List ℕ) (texts : AnyTexts) (state : State) → f.fault
-        ≡ None → IsTableCall (Import.Of row.BeginEnd) (over_world texts input.old state f) words.now
-        memory result (over_world texts input.new state f) }
+    ensures step { (f : HostForm) (memory : List ℕ) → f.fault ≡ None → IsTableCall
+        (Import.Of row.BeginEnd) (form_ending input.old.in_end f) words.now memory result
+        (form_ending input.new.in_end f) }
 {
     if let Err(kind) = ends(words) {
         return Err(Refusal::Trap(kind));

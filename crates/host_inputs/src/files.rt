@@ -7,9 +7,10 @@ ghost use Rattle.sem_primitives.specs.InputMeaning.{getline_file_by};
 ghost use Rattle.sem_primitives.specs.SharedState.{Inner};
 ghost use Rattle.sem_primitives.specs.declared.answers.InputAnswer.{InputAnswer as AnyAnswer};
 ghost use Rattle.host_streams.specs.OpenFiles.{WritersGo};
+ghost use Rattle.host_inputs.specs.Finds.{FindsFile, FindsFileRow};
 ghost use Rattle.host_inputs.specs.Givens.{FileGives, RowGives, file_row};
 ghost use Rattle.host_inputs.specs.Keeps.{AnswerLine, IsReadOn, KeepsSubstituted, with_files};
-ghost use Rattle.host_inputs.specs.States.{HoldsInput, with_tables};
+ghost use Rattle.host_inputs.specs.States.{HoldsInput, Over, with_tables};
 
 use crate::input::{Input, Keep};
 use crate::main_record::keep;
@@ -35,11 +36,13 @@ fn next<W: World>(
     ensures goes { W.tells → WritersGo input.new.files.writers.items (W.state world.new) }
     ensures told { W.tells → (inner : Inner) (keep : List ℕ → Inner → Result (Inner × AnyAnswer)
         AnyFault) (value : AnyValue) → text_of_value value ≡ name.now → FileGives (getline_file_by
-        keep value (W.state world.old).outside (with_tables texts.now input.old (W.state world.old)
-        inner)) keep result (with_tables texts.now input.new (W.state world.new) inner) }
+        keep value (W.state world.old).outside
+        (with_tables texts.now input.old (Over (W.state world.old)) inner)) keep result
+        (with_tables texts.now input.new (Over (W.state world.new)) inner) }
     ensures outside { W.tells → (W.state world.new).outside ≡ (W.state world.old).outside }
     ensures rest { input.new ≡ with_files input.new.files input.old }
     ensures writers { input.new.files.writers ≡ input.old.files.writers }
+    ensures finds { FindsFile name.now texts.now input.old result input.new }
 {
     let rs = value_text(alloc, texts.specials.get(Special::Rs))?;
     input.files.file_next(world, name, rs.as_slice())
@@ -60,14 +63,16 @@ pub(crate) fn read<W: World>(
     ensures goes { W.tells → WritersGo input.new.files.writers.items (W.state world.new) }
     ensures told { W.tells → (inner : Inner) (value : AnyValue) → text_of_value value ≡ name.now
         → RowGives (file_row to value (W.state world.old).outside
-        (with_tables texts.old input.old (W.state world.old) inner)) result
-        (with_tables texts.new input.new (W.state world.new) inner) }
+        (with_tables texts.old input.old (Over (W.state world.old)) inner)) result
+        (with_tables texts.new input.new (Over (W.state world.new)) inner) }
     ensures outside { W.tells → (W.state world.new).outside ≡ (W.state world.old).outside }
     ensures rest { IsReadOn input.old input.new }
     ensures writers { input.new.files.writers ≡ input.old.files.writers }
     ensures line { AnswerLine to result input.old input.new }
     ensures other { result ≢ Ok InputAnswer.Pending }
     ensures substituted { KeepsSubstituted texts.old texts.new }
+    ensures finds { FindsFileRow to name.now texts.old input.old result
+        texts.new input.new }
 {
     match next(alloc, world, texts, input, name) {
         Ok(FileNext::Record(text)) => match keep(alloc, texts, input, text, to) {

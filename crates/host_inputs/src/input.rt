@@ -4,7 +4,7 @@ ghost use Rattle.world_core.specs.WorldState.{State};
 ghost use Rattle.world_core.specs.Calls.{Kind};
 ghost use Rattle.sem_primitives.specs.SharedState.{Inner};
 ghost use Rattle.host_streams.specs.OpenFiles.{WritersGo};
-ghost use Rattle.host_inputs.specs.States.{HoldsInput, input_at_start, with_input};
+ghost use Rattle.host_inputs.specs.States.{HoldsInput, Over, input_at_start, with_input};
 
 use awk_values::{Bytes, Value};
 use host_names::Names;
@@ -29,7 +29,7 @@ impl Input {
     pub fn new(alloc: Global, names: Names) -> Input
         ensures held { (kinds : ℕ → Kind) → HoldsInput result kinds }
         ensures goes { (state : State) → WritersGo result.files.writers.items state }
-        ensures begins { (state : State) (inner : Inner) → with_input result state inner
+        ensures begins { (state : State) (inner : Inner) → with_input result (Over state) inner
             ≡ input_at_start names state inner }
     {
         Input {

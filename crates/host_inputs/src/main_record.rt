@@ -1,13 +1,13 @@
 //! The next record of the main input, as an import asks for it.
 ghost use Rattle.std.specs.Prelude.{◌≡◌, IfErr, IfOk, Ok, OnOk};
-ghost use Rattle.world_core.specs.WorldState.{State};
 ghost use Rattle.sem_primitives.specs.InputMeaning.{main_input};
 ghost use Rattle.sem_primitives.specs.SharedState.{Inner};
 ghost use Rattle.host_format.specs.Outcomes.{IsStopOf};
 ghost use Rattle.host_streams.specs.OpenFiles.{WritersGo};
+ghost use Rattle.host_inputs.specs.Finds.{FindsGiven, FindsRow};
 ghost use Rattle.host_inputs.specs.Givens.{AnswerTells, GivesMain, OffersTexts, RowGives, answer_of, failed_by, is_over, kept_by, main_of_given, main_row};
 ghost use Rattle.host_inputs.specs.Keeps.{AnswerLine, AnswerPends, GivenPends, HasLineBy, IsMoved, IsMovedOn, KeepsSubstituted, keep_of, with_line};
-ghost use Rattle.host_inputs.specs.States.{HoldsInput, with_tables};
+ghost use Rattle.host_inputs.specs.States.{Around, HoldsInput, Over, with_tables};
 
 use crate::input::{Given, Input, Keep, MainRead};
 use crate::record::count_record;
@@ -32,12 +32,15 @@ fn given<W: World, O: Operands>(
     ensures held { HoldsInput input.new (W.kinds world.new) }
     ensures goes { W.tells → WritersGo input.new.files.writers.items (W.state world.new) }
     ensures told { W.tells → (inner : Inner) → OffersTexts (O.text operands.now) inner → GivesMain
-        (main_input (W.state world.old).outside (with_tables texts.old input.old (W.state world.old)
-        inner)) result (with_tables texts.new input.new (W.state world.new) inner) }
+        (main_input (W.state world.old).outside
+        (with_tables texts.old input.old (Over (W.state world.old)) inner)) result
+        (with_tables texts.new input.new (Over (W.state world.new)) inner) }
     ensures outside { W.tells → (W.state world.new).outside ≡ (W.state world.old).outside }
     ensures rest { IsMoved input.old input.new }
     ensures substituted { KeepsSubstituted texts.old texts.new }
     ensures pending { GivenPends result input.old input.new }
+    ensures finds { FindsGiven (O.text operands.now) texts.old input.old result
+        texts.new input.new }
 {
     'turns: loop {
         match turn(alloc, world, operands, texts, input) {
@@ -56,11 +59,11 @@ pub(crate) fn keep(
     text: Bytes,
     to: Keep,
 ) -> Result<(), Stop>
-    ensures ok { OnOk result ((state : State) (inner : Inner)
-        → kept_by to text (with_tables texts.old input.old state inner)
-        ≡ Ok (with_tables texts.new input.new state inner, InputAnswer.Read)) }
-    ensures err { IfErr result (λ stop. (state : State) (inner : Inner)
-        → IsStopOf (kept_by to text (with_tables texts.old input.old state inner)) stop) }
+    ensures ok { OnOk result ((around : Around) (inner : Inner)
+        → kept_by to text (with_tables texts.old input.old around inner)
+        ≡ Ok (with_tables texts.new input.new around inner, InputAnswer.Read)) }
+    ensures err { IfErr result (λ stop. (around : Around) (inner : Inner)
+        → IsStopOf (kept_by to text (with_tables texts.old input.old around inner)) stop) }
     ensures rest { input.new ≡ with_line input.new.line input.old }
     ensures line { OnOk result (HasLineBy to input.old input.new) }
     ensures substituted { KeepsSubstituted texts.old texts.new }
@@ -92,11 +95,11 @@ fn take(
     text: Bytes,
     how: MainRead,
 ) -> Result<(), Stop>
-    ensures ok { OnOk result ((state : State) (inner : Inner) → answer_of how
-        (with_tables texts.old input.old state inner, main_of_given (Given.Taken text))
-        ≡ Ok (with_tables texts.new input.new state inner, InputAnswer.Read)) }
-    ensures err { IfErr result (λ stop. (state : State) (inner : Inner) → IsStopOf (answer_of how
-        (with_tables texts.old input.old state inner, main_of_given (Given.Taken text))) stop) }
+    ensures ok { OnOk result ((around : Around) (inner : Inner) → answer_of how
+        (with_tables texts.old input.old around inner, main_of_given (Given.Taken text))
+        ≡ Ok (with_tables texts.new input.new around inner, InputAnswer.Read)) }
+    ensures err { IfErr result (λ stop. (around : Around) (inner : Inner) → IsStopOf (answer_of how
+        (with_tables texts.old input.old around inner, main_of_given (Given.Taken text))) stop) }
     ensures rest { input.new ≡ with_line input.new.line input.old }
     ensures line { OnOk result (HasLineBy (keep_of how) input.old input.new) }
     ensures substituted { KeepsSubstituted texts.old texts.new }
@@ -125,9 +128,9 @@ fn answer(
     given: Given,
     how: MainRead,
 ) -> Result<InputAnswer, Stop>
-    ensures told { (state : State) (inner : Inner) → RowGives
-        (answer_of how (with_tables texts.old input.old state inner, main_of_given given)) result
-        (with_tables texts.new input.new state inner) }
+    ensures told { (around : Around) (inner : Inner) → RowGives
+        (answer_of how (with_tables texts.old input.old around inner, main_of_given given)) result
+        (with_tables texts.new input.new around inner) }
     ensures rest { input.new ≡ with_line input.new.line input.old }
     ensures line { AnswerLine (keep_of how) result input.old input.new }
     ensures pends { AnswerTells given result }
@@ -169,13 +172,16 @@ pub(crate) fn read<W: World, O: Operands>(
     ensures held { HoldsInput input.new (W.kinds world.new) }
     ensures goes { W.tells → WritersGo input.new.files.writers.items (W.state world.new) }
     ensures told { W.tells → (inner : Inner) → OffersTexts (O.text operands.now) inner → RowGives
-        (main_row how (W.state world.old).outside (with_tables texts.old input.old (W.state
-        world.old) inner)) result (with_tables texts.new input.new (W.state world.new) inner) }
+        (main_row how (W.state world.old).outside
+        (with_tables texts.old input.old (Over (W.state world.old)) inner)) result
+        (with_tables texts.new input.new (Over (W.state world.new)) inner) }
     ensures outside { W.tells → (W.state world.new).outside ≡ (W.state world.old).outside }
     ensures rest { IsMovedOn input.old input.new }
     ensures line { AnswerLine (keep_of how) result input.old input.new }
     ensures pending { AnswerPends result input.old input.new }
     ensures substituted { KeepsSubstituted texts.old texts.new }
+    ensures finds { FindsRow how (O.text operands.now) texts.old input.old result
+        texts.new input.new }
 {
     if is_over(input, how) {
         return Ok(InputAnswer::End);

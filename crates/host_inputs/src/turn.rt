@@ -8,10 +8,11 @@ ghost use Rattle.awk_values.specs.declared.value.Value.{Value as AnyValue};
 ghost use Rattle.host_streams.specs.Mains.{AnswerIs};
 ghost use Rattle.host_streams.specs.Passing.{RestsAfter};
 ghost use Rattle.host_streams.specs.OpenFiles.{WritersGo};
+ghost use Rattle.host_inputs.specs.Finds.{FindsNext, FindsTurn};
 ghost use Rattle.host_inputs.specs.Givens.{AssignLive, NextPasses, OffersTexts, TurnGives, TurnPasses, stopped_by};
 ghost use Rattle.host_inputs.specs.Keeps.{IsMoved, KeepsSubstituted, TurnPends, with_main_input};
 ghost use Rattle.host_texts.specs.States.{with_texts};
-ghost use Rattle.host_inputs.specs.States.{HoldsInput, with_tables};
+ghost use Rattle.host_inputs.specs.States.{HoldsInput, Over, with_tables};
 
 use crate::input::{Given, Input};
 use crate::record::give;
@@ -48,14 +49,16 @@ fn next<W: World, O: Operands>(
     ensures held { HoldsInput input.new (W.kinds world.new) }
     ensures goes { W.tells → WritersGo input.new.files.writers.items (W.state world.new) }
     ensures told { W.tells → (inner : Inner) → OffersTexts (O.text operands.now) inner → AnswerIs
-        (main_input (W.state world.old).outside (with_tables texts.now input.old (W.state world.old)
-        inner)) result (W.state world.old).outside (with_tables texts.now input.old
-        (W.state world.old) inner) (with_tables texts.now input.new (W.state world.new) inner) }
+        (main_input (W.state world.old).outside
+        (with_tables texts.now input.old (Over (W.state world.old)) inner)) result
+        (W.state world.old).outside (with_tables texts.now input.old (Over (W.state world.old))
+        inner) (with_tables texts.now input.new (Over (W.state world.new)) inner) }
     ensures outside { W.tells → (W.state world.new).outside ≡ (W.state world.old).outside }
     ensures rest { input.new ≡ with_main_input input.new.main input.old }
     ensures passes { NextPasses input.old.main result input.new.main }
     ensures rests { RestsAfter result input.new.main.reading input.new.main.found }
     ensures live { AssignLive result input.new.main }
+    ensures finds { FindsNext (O.text operands.now) texts.now input.old result input.new }
 {
     let rs = value_text(alloc, texts.specials.get(Special::Rs))?;
     let argc = texts.specials.get(Special::Argc);
@@ -87,13 +90,16 @@ pub(crate) fn turn<W: World, O: Operands>(
     ensures goes { W.tells → WritersGo input.new.files.writers.items (W.state world.new) }
     ensures told { W.tells → (inner : Inner) → OffersTexts (O.text operands.now) inner
         → TurnGives (main_input (W.state world.old).outside
-        (with_tables texts.old input.old (W.state world.old) inner)) result
-        (W.state world.old).outside (with_tables texts.new input.new (W.state world.new) inner) }
+        (with_tables texts.old input.old (Over (W.state world.old)) inner)) result
+        (W.state world.old).outside
+        (with_tables texts.new input.new (Over (W.state world.new)) inner) }
     ensures outside { W.tells → (W.state world.new).outside ≡ (W.state world.old).outside }
     ensures rest { IsMoved input.old input.new }
     ensures substituted { KeepsSubstituted texts.old texts.new }
     ensures pending { TurnPends result input.old input.new }
     ensures passes { TurnPasses input.old.main result input.new.main }
+    ensures finds { FindsTurn (O.text operands.now) texts.old input.old result
+        texts.new input.new }
 {
     match next(alloc, world, operands, texts, input) {
         Ok(MainNext::Record(text)) => Ok(Some(Given::Taken(text))),

@@ -4,6 +4,7 @@ use Rattle.awk_values.specs.declared.fault.Fault.{Fault}
 use Rattle.awk_values.specs.declared.value.Value.{Value}
 use Rattle.sem_primitives.specs.InTurn.{in_turn, listed_in_turn, values_taken}
 use Rattle.sem_primitives.specs.FieldMeaning.{set_field_row, set_special_row}
+use Rattle.sem_primitives.specs.Finds.{seen}
 use Rattle.sem_primitives.specs.InputMeaning.{getline_file_row, getline_line_file_row, getline_line_row, getline_row, next_main_row, start_assign_row}
 use Rattle.sem_primitives.specs.OutputMeaning.{file_name, formatted_values, has_room, is_writing, opened_if, operands_of, printed, printf_by, put_text, written_by}
 use Rattle.sem_primitives.specs.TextMeaning.{match_row, split_row, substitute_row}
@@ -153,7 +154,7 @@ opened_same o true true name append text state = refl
 written_same : (o : List Action) (is-open : Bool) (name : List ℕ) (append : Bool) (text : List ℕ) (state : Shared)
     → written_by is-open name append text (shared_with o state) ≡ written_by is-open name append text state
 written_same o true name append text state = refl
-written_same o false name append text state = opened_same o (has_room state.inner) (state.outside (Named name)).opens name append text state
+written_same o false name append text state = opened_same o (has_room state.inner) (seen state.inner state.outside (Named name)).opens name append text state
 
 put_same : (o : List Action) (to : Destination) (name text : List ℕ) (state : Shared) → put_text to name text (shared_with o state) ≡ put_text to name text state
 put_same o Standard name text state = refl

@@ -1,13 +1,14 @@
 -- From calls on tables over a world to what they mean to a machine.
 use Rattle.std.proofs.Common.{◌≡◌, ℕ, List, ◌++◌, Option, Some, None, Result, Ok, Err, sym, subst, ◌∙◌}
+use Rattle.awk_values.specs.declared.fault.Fault.{Fault}
 use Rattle.wasm_model.specs.Hosts.{Typed}
 use Rattle.wasm_model.specs.declared.host.HostAnswer.{HostAnswer}
 use Rattle.wasm_model.specs.declared.host.HostAnswer.TheVariants as told
 use Rattle.wasm_store.specs.declared.trap.TrapKind.TheVariants.{BadArgument}
 use Rattle.wasm_store.specs.declared.word.Word.{Word}
-use Rattle.world_core.specs.WorldState.{Action}
+use Rattle.world_core.specs.WorldState.{Action, Entry, Outside, after as outside_after}
 use Rattle.host_step.specs.Answers.{refusal}
-use Rattle.host_step.specs.HostLaws.{refusal_typed}
+use Rattle.host_step.specs.HostLaws.{refusal_typed, step_typed}
 use Rattle.host_step.specs.HostState.{HostState}
 use Rattle.host_step.specs.HostStep.{StepIf}
 use Rattle.host_imports.specs.Imports.{import_answer, import_type}
@@ -17,10 +18,11 @@ use Rattle.host_values.specs.declared.reply.Refusal.{Refusal}
 use Rattle.host_values.specs.declared.reply.Refusal.TheVariants as why
 use Rattle.host_elements.specs.Forms.{HostForm, Stands}
 use Rattle.host_meaning.specs.FormLaws.{trap_typed}
-use Rattle.host_meaning.specs.FormMeaning.{FormCalled, FormMeans}
+use Rattle.host_meaning.specs.Findings.{IsFound, form_finding}
+use Rattle.host_meaning.specs.FormMeaning.{FindsSo, FormCalled, FormMeans, StepFinds}
 use Rattle.host_meaning.specs.Shown.{Shown, form_with_output}
 use Rattle.host_meaning.specs.TableCalls.{Fits, answer_of_call, left_by_call}
-use Rattle.host_meaning.specs.WorldCalls.{IsCalled, LeadsIn}
+use Rattle.host_meaning.specs.WorldCalls.{IsCalled, Leads, LeadsFinding, LedFinding}
 use Rattle.host_meaning.proofs.AnyOutput.{step_free}
 use Rattle.host_meaning.proofs.Showing.{own_output, shown_of, stands_of, stands_with}
 
@@ -39,9 +41,33 @@ module _ (tells : Type 0) (i : Import) (words : List Word) (memory : List ℕ) (
     back : (a : HostAnswer) (s' : HostState) (output : List Action) → StepIf (Some i) (with_output so_far s0) words memory a s' output → StepIf (Some i) s words memory a s' output
     back a s' output = subst (λ (z : HostState). StepIf (Some i) z words memory a s' output) (own_output so_far before s stands_so)
 
-  led : (a : HostAnswer) (after-call : HostForm) (output : List Action) → Typed (Some (import_type i)) a → LeadsIn tells i before words memory a after-call output
+  -- what is found there
+  module _ (a : HostAnswer) (after-call : HostForm) (l : LeadsFinding i before words memory a after-call) where
+    found_led : (later : List Entry) (outside : Outside) (so_far : List Action) (s : HostState) → LedFinding i s words memory a after-call l.output later outside so_far
+        → StepFinds (Some i) s words memory a after-call l.output later outside so_far
+    found_led later outside so_far s x = record {
+      rest = x.rest;
+      left = x.left;
+      to = record {
+        state = x.state;
+        shown = shown_of (form_finding x.rest (outside_after l.output outside) (so_far ++ l.output) after-call) x.state x.stands;
+        step = x.step;
+      };
+    }
+
+    leads_finds : (finds later : List Entry) → IsFound before.fault l.found later finds → (outside : Outside) (so_far : List Action) (s : HostState)
+        → Shown (form_finding finds outside so_far before) s → StepFinds (Some i) s words memory a after-call l.output later outside so_far
+    leads_finds finds later is outside so_far s h =
+        let e = subst (λ (o : Option Fault). IsFound o l.found later finds) none is in
+        found_led later outside so_far s (l.leads later outside so_far s
+        (subst (λ (x : List Entry). Stands (form_finding x outside so_far before) s) e (stands_of (form_finding finds outside so_far before) s none h)))
+
+    finds_led : FindsSo (Some i) before words memory a after-call
+    finds_led = record { found = l.found; output = l.output; leads = leads_finds }
+
+  led : (a : HostAnswer) (after-call : HostForm) (output : List Action) → Typed (Some (import_type i)) a → Leads tells i before words memory a after-call output
       → FormCalled tells (Some i) before words memory a after-call output
-  led a after-call output typed leads = record {
+  led a after-call output typed both = let leads = both.0 in record {
     typed = typed;
     step = λ t so_far s h. let x = leads (s0 so_far s h) (stands_there so_far s h) in record {
       state = with_output (so_far ++ output) x.0;
@@ -49,6 +75,7 @@ module _ (tells : Type 0) (i : Import) (words : List Word) (memory : List ℕ) (
       step = back so_far s h a (with_output (so_far ++ output) x.0) output (x.2.step t so_far);
     };
     anyhow = λ s h. let x = leads s (stands_of before s none h) in record { state = x.0; shown = shown_of after-call x.0 x.1; anyhow = x.2.anyhow };
+    finds = finds_led a after-call both.1;
   }
 
   module _ (after-call : HostForm) (output : List Action) where
@@ -75,6 +102,13 @@ module _ (tells : Type 0) (i : Import) (words : List Word) (memory : List ℕ) (
         → FormMeans tells (Some i) before words memory (told.Trap BadArgument) after-call output
     unfit_led w unfit calls = record {
       typed = trap_typed (Some (import_type i)) BadArgument;
-      step = λ t so_far s h. absurd (unfit (calls (s0 so_far s h) (stands_there so_far s h)).2.typed);
-      anyhow = λ s h. absurd (unfit (calls s (stands_of before s none h)).2.typed);
+      step = λ t so_far s h. absurd (unfit (calls.0 (s0 so_far s h) (stands_there so_far s h)).2.typed);
+      anyhow = λ s h. absurd (unfit (calls.0 s (stands_of before s none h)).2.typed);
+      finds = record {
+        found = calls.1.found;
+        output = calls.1.output;
+        leads = λ finds later is outside so_far s h.
+            let x = leads_finds (told.Done w) after-call calls.1 finds later is outside so_far s h in
+            absurd (unfit (step_typed (Some i) s words memory (told.Done w) x.to.state calls.1.output x.to.step));
+      };
     }

@@ -3,3 +3,4 @@ pub mod AnyOutput
 pub mod Means
 pub mod Led
 pub mod Faults
+pub mod Found

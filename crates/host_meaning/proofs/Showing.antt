@@ -5,6 +5,7 @@ use Rattle.world_core.specs.WorldState.{Action}
 use Rattle.host_step.specs.HostState.{HostState}
 use Rattle.host_step.specs.Worlds.{with_output}
 use Rattle.host_elements.specs.Forms.{HostForm, Stands}
+use Rattle.host_meaning.specs.Findings.{After, Finding, View, form_finding, viewed}
 use Rattle.host_meaning.specs.Shown.{SharesBy, SharesTables, Shown, form_with_output}
 
 pub shares_self : (o : Option Fault) (f : HostForm) → SharesBy o f f
@@ -48,8 +49,8 @@ shown_output f s h = subst (λ (z : HostState). z.shared.output ≡ f.shared.out
 
 -- Once a fault is kept, tables that share so much show the same states.
 module _ (f g : HostForm) (fault : Fault) (kept : f.fault ≡ Some fault) (shares : SharesTables f g) where
-  pub shows_too : (o : List Action) (s : HostState) → Shown (form_with_output o f) s → Shown (form_with_output o g) s
-  shows_too o s h =
+  pub shows_too : (v : View) (s : HostState) → Shown (viewed v f) s → Shown (viewed v g) s
+  shows_too (After o) s h =
       let t = shares_tables f.fault h.form (form_with_output o f) h.same in
       record {
         form = h.form;
@@ -59,6 +60,20 @@ module _ (f g : HostForm) (fault : Fault) (kept : f.fault ≡ Some fault) (share
           iterators = t.iterators ∙ shares.iterators;
           fault = t.fault ∙ shares.fault;
           outside = t.outside ∙ shares.outside;
+          output = t.output;
+        });
+        stands = h.stands;
+      }
+  shows_too (Finding finds outside o) s h =
+      let t = shares_tables f.fault h.form (form_finding finds outside o f) h.same in
+      record {
+        form = h.form;
+        same = subst (λ (x : Option Fault). SharesBy x h.form (form_finding finds outside o g)) (sym kept ∙ shares.fault) (record {
+          values = t.values ∙ shares.values;
+          arrays = t.arrays ∙ shares.arrays;
+          iterators = t.iterators ∙ shares.iterators;
+          fault = t.fault ∙ shares.fault;
+          outside = t.outside;
           output = t.output;
         });
         stands = h.stands;

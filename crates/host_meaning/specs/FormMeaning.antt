@@ -1,17 +1,18 @@
 -- What the calls of a host mean that is told by its tables: a relation between what they are before a call and after it.
-use Rattle.std.specs.Prelude.{ℕ, ◌≡◌, ◌≢◌, List, ◌++◌, Option}
+use Rattle.std.specs.Prelude.{ℕ, ◌≡◌, ◌≢◌, List, [], ◌++◌, Option}
 use Rattle.wasm_model.specs.Hosts.{Typed}
 use Rattle.wasm_model.specs.declared.host.HostAnswer.{HostAnswer}
 use Rattle.wasm_model.specs.declared.host.HostAnswer.TheVariants as told
 use Rattle.wasm_store.specs.Memories.{MemoryForm}
 use Rattle.wasm_store.specs.declared.word.Word.{Word}
-use Rattle.world_core.specs.WorldState.{Action, after as outside_after}
+use Rattle.world_core.specs.WorldState.{Action, Entry, Outside, after as outside_after}
 use Rattle.host_step.specs.HostState.{HostState}
 use Rattle.host_step.specs.HostStep.{StepIf}
 use Rattle.host_imports.specs.Imports.{import_at, type_if_there}
 use Rattle.host_step.specs.Worlds.{Anyhow}
 use Rattle.host_imports.specs.declared.import.Import.{Import}
 use Rattle.host_elements.specs.Forms.{HostForm}
+use Rattle.host_meaning.specs.Findings.{IsFound, form_finding}
 use Rattle.host_meaning.specs.Shown.{Shown, form_with_output}
 
 -- a state that is shown after a call, to which there is such a step
@@ -27,6 +28,20 @@ pub record AnyhowShown (import : Option Import) (s : HostState) (words : List Wo
   pub shown : Shown after-call state
   pub anyhow : Anyhow import s words memory a state
 
+-- A state that is shown after a call, to which there is such a step, where these are found later: nothing else is left of the list.
+pub record StepFinds (import : Option Import) (s : HostState) (words : List Word) (memory : List ℕ) (a : HostAnswer) (after-call : HostForm)
+    (output : List Action) (later : List Entry) (outside : Outside) (so_far : List Action) : Type 0 where
+  pub rest : List Entry
+  pub left : IsFound after-call.fault [] later rest
+  pub to : StepShown import s words memory a (form_finding rest (outside_after output outside) (so_far ++ output) after-call) output
+
+-- What a call finds in surroundings that others change too, whatever is found after it: there is a step from every state that is shown then.
+pub record FindsSo (import : Option Import) (before : HostForm) (words : List Word) (memory : List ℕ) (a : HostAnswer) (after-call : HostForm) : Type 0 where
+  pub found : List Entry
+  pub output : List Action
+  pub leads : (finds later : List Entry) → IsFound before.fault found later finds → (outside : Outside) (so_far : List Action) (s : HostState)
+      → Shown (form_finding finds outside so_far before) s → StepFinds import s words memory a after-call output later outside so_far
+
 -- A call that wants no memory. From every state that is shown before it, there is one that is shown after it: a step leads there, where the world tells what
 -- it holds, whatever was put out before; and so does what is said in every world.
 pub record FormCalled (tells : Type 0) (import : Option Import) (before : HostForm) (words : List Word) (memory : List ℕ) (a : HostAnswer)
@@ -35,6 +50,7 @@ pub record FormCalled (tells : Type 0) (import : Option Import) (before : HostFo
   pub step : tells → (so_far : List Action) (s : HostState) → Shown (form_with_output so_far before) s
       → StepShown import s words memory a (form_with_output (so_far ++ output) after-call) output
   pub anyhow : (s : HostState) → Shown before s → AnyhowShown import s words memory a after-call
+  pub finds : FindsSo import before words memory a after-call
 
 -- a step by another answer, whose output begins so
 pub record OtherStep (import : Option Import) (s : HostState) (words : List Word) (memory : List ℕ) (output : List Action) : Type 0 where

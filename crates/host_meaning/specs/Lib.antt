@@ -1,4 +1,5 @@
 pub mod Shown
+pub mod Findings
 pub mod FormMeaning
 pub mod FormLaws
 pub mod TableCalls

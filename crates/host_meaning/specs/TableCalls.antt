@@ -4,7 +4,6 @@ use Rattle.wasm_model.specs.Hosts.{type_if}
 use Rattle.wasm_model.specs.declared.host.HostAnswer.{HostAnswer}
 use Rattle.wasm_model.specs.declared.host.HostAnswer.TheVariants as told
 use Rattle.wasm_store.specs.declared.word.Word.{Word}
-use Rattle.world_core.specs.WorldState.{Action}
 use Rattle.host_step.specs.Answers.{refusal}
 use Rattle.host_imports.specs.Imports.{import_answer, result_of}
 use Rattle.host_imports.specs.declared.import.Import.{Import}
@@ -12,7 +11,8 @@ use Rattle.host_values.specs.declared.reply.Refusal.{Refusal}
 use Rattle.host_values.specs.declared.reply.Refusal.TheVariants as why
 use Rattle.host_elements.specs.Calls.{IsTableCall}
 use Rattle.host_elements.specs.Forms.{HostForm}
-use Rattle.host_meaning.specs.Shown.{SharesBy, form_with_output}
+use Rattle.host_meaning.specs.Findings.{View, viewed}
+use Rattle.host_meaning.specs.Shown.{SharesBy}
 
 -- what is answered: a fault's answer is the import's refusal
 abbrev pub answer_of_call : Import → Result (Option Word) Refusal → HostAnswer
@@ -31,7 +31,7 @@ abbrev pub Fits : Import → Result (Option Word) Refusal → Type 0
 Fits i (Ok w) = type_if w ≡ result_of (import_answer i)
 Fits i r = Unit {0}
 
--- whichever form of the tables before is taken, the call is one on it, to one that is as good as the tables after
+-- whatever a host shows of what is not its own, and whichever form of the tables before is taken, the call is one on it, to one that is as good as the tables after
 abbrev pub TableCalls : Import → HostForm → List Word → List ℕ → Result (Option Word) Refusal → HostForm → Type 0
-TableCalls i before words memory r after-call = (so_far : List Action) (form : HostForm) → SharesBy before.fault form (form_with_output so_far before)
-    → (form' : HostForm) × SharesBy after-call.fault form' (form_with_output so_far after-call) × IsTableCall i form words memory r form'
+TableCalls i before words memory r after-call = (view : View) (form : HostForm) → SharesBy before.fault form (viewed view before)
+    → (form' : HostForm) × SharesBy after-call.fault form' (viewed view after-call) × IsTableCall i form words memory r form'

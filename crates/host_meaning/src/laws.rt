@@ -15,7 +15,8 @@ ghost use Rattle.host_values.specs.declared.reply.Refusal.{Refusal};
 ghost use Rattle.host_elements.specs.Calls.{IsTableCall};
 ghost use Rattle.host_elements.specs.Forms.{HostForm};
 ghost use Rattle.host_meaning.specs.FormMeaning.{FormCalled, FormMeans, FormState, form_meaning};
-ghost use Rattle.host_meaning.specs.Shown.{SharesTables, form_with_output};
+ghost use Rattle.host_meaning.specs.Findings.{View, viewed};
+ghost use Rattle.host_meaning.specs.Shown.{SharesTables};
 ghost use Rattle.host_meaning.specs.TableCalls.{Fits, TableCalls, answer_of_call, left_by_call};
 ghost use Rattle.host_meaning.specs.WorldCalls.{IsCalled};
 
@@ -50,8 +51,7 @@ pub fn table_calls<W: World>()
         (HostAnswer.Trap TrapKind.BadArgument) after [] }
     ensures plain { (i : Import) (before after : HostForm) (words : List Word) (memory : List ℕ)
         (r : Result (Option Word) Refusal) → before.fault ≡ None
-        → ((so_far : List Action) → IsTableCall i (form_with_output so_far before) words memory r
-        (form_with_output so_far after))
+        → ((v : View) → IsTableCall i (viewed v before) words memory r (viewed v after))
         → TableCalls i before words memory r after }
     ensures refused { (i : Import) (f : HostForm) (words : List Word) (memory : List ℕ)
         (fault : Fault)

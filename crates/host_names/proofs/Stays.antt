@@ -57,6 +57,7 @@ nothing_yet = record {
   pending = None;
   line = None;
   substituted = None;
+  finds = None;
 }
 
 pub substituted_stays : (t u : Texts) (s : Special) (v : Value) → ((inner : Inner) → set_special s v (with_texts t inner) ≡ Ok (with_texts u inner)) → u.substituted ≡ t.substituted

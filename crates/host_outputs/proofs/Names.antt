@@ -1,7 +1,7 @@
 -- The names of files that are open for reading, whatever is left of them.
 use Rattle.std.proofs.Common.{◌≡◌, ℕ, List, [], ◌∷◌, map, refl, sym, ap, ◌∙◌}
 use Rattle.world_core.specs.WorldState.{Source, State}
-use Rattle.host_step.specs.Worlds.{nothing_left}
+use Rattle.sem_primitives.specs.InputMeaning.{nothing_left}
 use Rattle.host_streams.specs.OpenFiles.{reader_names, readers_in}
 use Rattle.host_streams.specs.declared.streams.NamedReader.{NamedReader}
 use Rattle.host_streams.specs.declared.streams.Streams.{Streams}

@@ -1,6 +1,5 @@
 -- Calls of print and printf on the host's tables.
-use Rattle.std.proofs.Common.{◌≡◌, ℕ, List, [], Some, None, Result, Ok, Err, refl, sym, subst}
-use Rattle.std.proofs.lemmas.List.{length-map}
+use Rattle.std.proofs.Common.{◌≡◌, ℕ, List, [], Some, None, Result, Ok, Err, refl, sym, ap, subst}
 use Rattle.awk_values.specs.declared.fault.Stop.{Stop}
 use Rattle.awk_values.specs.declared.value.Value.{Value}
 use Rattle.sem_primitives.specs.OutputMeaning.{file_name, formatted_values, operands_of, print_row, printed, printf_row}
@@ -11,7 +10,7 @@ use Rattle.wasm_store.specs.declared.trap.TrapKind.{TrapKind}
 use Rattle.wasm_store.specs.declared.word.Word.{Word}
 use Rattle.world_core.specs.WorldState.{Action, State}
 use Rattle.host_step.specs.HostState.{HostState}
-use Rattle.host_step.specs.HostStep.{before_last_of, last_of}
+use Rattle.host_step.specs.HostStep.{StepOf, before_last_of, last_of}
 use Rattle.host_step.specs.Worlds.{Called, with_output}
 use Rattle.host_imports.specs.declared.import.Import.TheVariants.{Over}
 use Rattle.host_imports.specs.declared.import.Listing.TheVariants.{Print, Printf}
@@ -22,8 +21,10 @@ use Rattle.host_streams.specs.OpenFiles.{names_of, readers_in}
 use Rattle.host_streams.specs.Outputs.{IsOf, PutsIs}
 use Rattle.host_streams.specs.Puts.{BeginsBy}
 use Rattle.host_streams.specs.declared.streams.Streams.{Streams}
+use Rattle.host_meaning.specs.Findings.{form_finding}
 use Rattle.host_meaning.specs.WorldCalls.{IsCalled}
-use Rattle.host_outputs.specs.Calls.{Could, answer_of}
+use Rattle.host_meaning.proofs.Found.{led_nothing}
+use Rattle.host_outputs.specs.Calls.{Could, answer_of, finding}
 use Rattle.host_outputs.specs.Forms.{printing, shared_with, writing}
 use Rattle.host_outputs.specs.Lists.{listed}
 use Rattle.host_outputs.proofs.Puts.{printf_lists, printf_only, printf_same}
@@ -34,22 +35,38 @@ use Rattle.host_outputs.proofs.Worlds.{sharing, trap_called}
 module _ (tells : Type 0) (f : HostForm) (words : List Word) (memory : List ℕ) (none : f.fault ≡ None) (arguments : List Value) (streams : Streams) (state : State) where
   pub print_traps : (specials : Specials) (k : TrapKind) → listed 0 arguments words ≡ Err k
       → IsCalled tells (Over Print) (printing arguments specials streams state f) words memory (Err (why.Trap k)) (printing arguments specials streams state f) []
-  print_traps specials k is s st = (
-    s,
-    st,
-    subst (λ (t : HostState). Called tells (Some (Over Print)) t words memory (told.Trap k) t []) (sym st.state)
-        (trap_called tells (Over Print) (state_of (printing arguments specials streams state f) st.past) words memory k refl
-        (λ so_far. print_trap (with_output so_far (state_of (printing arguments specials streams state f) st.past)) words memory k none is)),
+  print_traps specials k is = (
+    λ s st. (
+      s,
+      st,
+      subst (λ (t : HostState). Called tells (Some (Over Print)) t words memory (told.Trap k) t []) (sym st.state)
+          (trap_called tells (Over Print) (state_of (printing arguments specials streams state f) st.past) words memory k refl
+          (λ so_far. print_trap (with_output so_far (state_of (printing arguments specials streams state f) st.past)) words memory k none is)),
+    ),
+    led_nothing (Over Print) (printing arguments specials streams state f) (printing arguments specials streams state f) words memory (told.Trap k) (λ finds outside so_far s st. (
+      s,
+      st,
+      subst (λ (t : HostState). StepOf (Over Print) t words memory (told.Trap k) t []) (sym st.state)
+          (print_trap (state_of (form_finding finds outside so_far (printing arguments specials streams state f)) st.past) words memory k none is),
+    )),
   )
 
   pub printf_traps : (k : TrapKind) → listed 1 arguments words ≡ Err k
       → IsCalled tells (Over Printf) (writing arguments streams state f) words memory (Err (why.Trap k)) (writing arguments streams state f) []
-  printf_traps k is s st = (
-    s,
-    st,
-    subst (λ (t : HostState). Called tells (Some (Over Printf)) t words memory (told.Trap k) t []) (sym st.state)
-        (trap_called tells (Over Printf) (state_of (writing arguments streams state f) st.past) words memory k refl
-        (λ so_far. printf_trap (with_output so_far (state_of (writing arguments streams state f) st.past)) words memory k none is)),
+  printf_traps k is = (
+    λ s st. (
+      s,
+      st,
+      subst (λ (t : HostState). Called tells (Some (Over Printf)) t words memory (told.Trap k) t []) (sym st.state)
+          (trap_called tells (Over Printf) (state_of (writing arguments streams state f) st.past) words memory k refl
+          (λ so_far. printf_trap (with_output so_far (state_of (writing arguments streams state f) st.past)) words memory k none is)),
+    ),
+    led_nothing (Over Printf) (writing arguments streams state f) (writing arguments streams state f) words memory (told.Trap k) (λ finds outside so_far s st. (
+      s,
+      st,
+      subst (λ (t : HostState). StepOf (Over Printf) t words memory (told.Trap k) t []) (sym st.state)
+          (printf_trap (state_of (form_finding finds outside so_far (writing arguments streams state f)) st.past) words memory k none is),
+    )),
   )
 
   module _ (n : ℕ × Destination) (streams' : Streams) (state' : State) (put : Result (Unit {0}) Stop)
@@ -68,10 +85,12 @@ module _ (tells : Type 0) (f : HostForm) (words : List Word) (memory : List ℕ)
         (λ p shared. print_step (sharing (state_of before p) shared) words memory n none is)
         (λ shared output. printf_same (Ok (printed shared.inner (operands_of n.1 values))) n.1 (file_name n.1 values) shared output)
         (λ shared. printf_only (Ok (printed shared.inner (operands_of n.1 values))) n.1 (file_name n.1 values) shared)
+        (λ shared. shared_with specials shared ≡ shared) (λ p. refl) (λ p finds outside so_far. refl)
         (λ p. printf_lists (Ok (printed before.shared.inner (operands_of n.1 values))) n.1 (file_name n.1 values) p.arrays p.iterators before.shared)
-        kept readers put (λ t p. told_so t (state_of before p).shared (record { readers = refl; writers = refl; outside = refl }))
-        (λ p. could_at (λ shared. print_row n.1 values (shared_with specials shared)) streams streams' put (state_of before p).shared (record { readers = length-map streams.readers.items _; writers = refl }) could)
-        (begins_at tells (IsOf streams state) (λ shared. print_row n.1 values (shared_with specials shared)) put state state' before.shared (record { readers = refl; writers = refl; outside = refl }) begun)
+        kept readers put (λ t p. told_so t (state_of before p).shared (record { kept = refl; readers = refl; writers = refl; outside = refl }))
+        (could_at (λ shared. print_row n.1 values (shared_with specials shared)) (print_row n.1 values) (λ shared. shared_with specials shared ≡ shared) streams streams'
+        (λ shared fit finds. ap (λ (x : Shared). print_row n.1 values (finding finds x)) fit) put could)
+        (begins_at tells (IsOf streams state) (λ shared. print_row n.1 values (shared_with specials shared)) put state state' before.shared (record { kept = refl; readers = refl; writers = refl; outside = refl }) begun)
 
     pub formats_so : listed 1 arguments words ≡ Ok n
         → (tells → (shared : Shared) → IsOf streams state shared → PutsIs (printf_row n.1 values shared) put state state' (names_of streams.writers.items) (names_of streams'.writers.items))
@@ -83,7 +102,8 @@ module _ (tells : Type 0) (f : HostForm) (words : List Word) (memory : List ℕ)
         (λ p shared. printf_step (sharing (state_of before p) shared) words memory n none is)
         (λ shared output. printf_same (formatted_values (operands_of n.1 values)) n.1 (file_name n.1 values) shared output)
         (λ shared. printf_only (formatted_values (operands_of n.1 values)) n.1 (file_name n.1 values) shared)
+        (λ shared. Unit {0}) (λ p. tt) (λ p finds outside so_far. tt)
         (λ p. printf_lists (formatted_values (operands_of n.1 values)) n.1 (file_name n.1 values) p.arrays p.iterators before.shared)
-        kept readers put (λ t p. told_so t (state_of before p).shared (record { readers = refl; writers = refl; outside = refl }))
-        (λ p. could_at (printf_row n.1 values) streams streams' put (state_of before p).shared (record { readers = length-map streams.readers.items _; writers = refl }) could)
-        (begins_at tells (IsOf streams state) (printf_row n.1 values) put state state' before.shared (record { readers = refl; writers = refl; outside = refl }) begun)
+        kept readers put (λ t p. told_so t (state_of before p).shared (record { kept = refl; readers = refl; writers = refl; outside = refl }))
+        (could_at (printf_row n.1 values) (printf_row n.1 values) (λ shared. Unit {0}) streams streams' (λ shared fit finds. refl) put could)
+        (begins_at tells (IsOf streams state) (printf_row n.1 values) put state state' before.shared (record { kept = refl; readers = refl; writers = refl; outside = refl }) begun)

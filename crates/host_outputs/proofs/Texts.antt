@@ -1,5 +1,5 @@
 -- From what became of a text, to what became of the row that has it.
-use Rattle.std.proofs.Common.{◌≡◌, ℕ, List, take, Result, Ok, Err, refl, sym, ap, subst, ◌∙◌}
+use Rattle.std.proofs.Common.{◌≡◌, ℕ, List, [], ◌++◌, take, Result, Ok, Err, refl, sym, ap, subst, ◌∙◌}
 use Rattle.awk_values.specs.declared.fault.Fault.{Fault}
 use Rattle.awk_values.specs.declared.fault.Stop.{Stop}
 use Rattle.awk_values.specs.declared.fault.Stop.TheVariants as stop
@@ -13,7 +13,7 @@ use Rattle.host_texts.specs.declared.specials.Specials.{Specials}
 use Rattle.host_streams.specs.Outputs.{IsOf}
 use Rattle.host_streams.specs.Puts.{BeginsBy}
 use Rattle.host_streams.specs.declared.streams.Streams.{Streams}
-use Rattle.host_outputs.specs.Calls.{Could, SomeOutside, over}
+use Rattle.host_outputs.specs.Calls.{Could, PutsFound, SomeFound, finding, left_by}
 use Rattle.host_outputs.specs.Forms.{inner_with, shared_with}
 use Rattle.host_outputs.proofs.Steps.{Puts}
 
@@ -28,11 +28,14 @@ module _ (to : Destination) (values : List Value) (specials : Specials) (line : 
   same_row : (shared shared' : Shared) → put_text to (file_name to values) line shared' ≡ put_text to (file_name to values) (printed (inner_with specials shared.inner) (operands_of to values)) shared'
   same_row shared shared' = ap (λ text. put_text to (file_name to values) text shared') (is-line shared.inner)
 
-  some_line : (streams streams' : Streams) (answer : Result (Unit {0}) Fault) → SomeOutside of_line streams streams' answer → SomeOutside of_values streams streams' answer
-  some_line streams streams' answer some shared is =
-      let x = some (shared_with specials shared) (record { readers = is.readers; writers = is.writers }) in
-      let same = same_row shared (over x.0 (shared_with specials shared)) in
-      (x.0, ap (λ (d : Puts). d.answer) (sym same) ∙ x.1, ap (λ (d : Puts). d.inner.writers) (sym same) ∙ x.2)
+  some_line : (streams streams' : Streams) (answer : Result (Unit {0}) Fault) → SomeFound of_line streams streams' answer → SomeFound of_values streams streams' answer
+  some_line streams streams' answer some = (
+    some.0,
+    some.1,
+    λ later shared is. subst (λ (d : Puts). PutsFound d streams' answer some.1 (left_by answer some.0 later))
+        (same_row (finding (some.0 ++ later) shared) (finding (some.0 ++ later) (shared_with specials shared)))
+        (some.2 later (shared_with specials shared) (record { readers = is.readers; writers = is.writers })),
+  )
 
   pub could_line : (streams streams' : Streams) (r : Result (Unit {0}) Stop) → Could of_line streams streams' r → Could of_values streams streams' r
   could_line streams streams' (Ok u) some = some_line streams streams' (Ok tt) some
@@ -45,7 +48,7 @@ module _ (to : Destination) (values : List Value) (specials : Specials) (line : 
   begins_line tells streams s t (Err stop.NoMemory) begun = (
     begun.0,
     λ w shared is.
-        begun.1 w (shared_with specials shared) (record { readers = is.readers; writers = is.writers; outside = is.outside })
+        begun.1 w (shared_with specials shared) (record { kept = is.kept; readers = is.readers; writers = is.writers; outside = is.outside })
         ∙ ap (λ (d : Puts). after (take begun.0 d.added) s.outside) (same_row shared (shared_with specials shared)),
   )
 
@@ -66,8 +69,16 @@ module _ (to : Destination) (values : List Value) (text : List ℕ) (is : format
 
 -- a fault of the format
 pub could_refused : (to : Destination) (values : List Value) (streams : Streams) (why : Stop) → IsStopOf (formatted_values (operands_of to values)) why → Could (printf_row to values) streams streams (Err why)
-could_refused to values streams (stop.Fault fault) is = λ shared has.
-    (shared.outside, ap (λ r. (printf_by r to (file_name to values) shared).answer) is, ap (λ r. (printf_by r to (file_name to values) shared).inner.writers) is ∙ has.writers)
+could_refused to values streams (stop.Fault fault) is = (
+  [],
+  [],
+  λ later shared has. let there = finding later shared in record {
+    answer_is = ap (λ r. (printf_by r to (file_name to values) there).answer) is;
+    writers = ap (λ r. (printf_by r to (file_name to values) there).inner.writers) is ∙ has.writers;
+    added_is = ap (λ r. (printf_by r to (file_name to values) there).added) is;
+    finds = ap (λ r. (printf_by r to (file_name to values) there).inner.finds) is;
+  },
+)
 could_refused to values streams stop.NoMemory is = tt
 
 -- nothing was put out

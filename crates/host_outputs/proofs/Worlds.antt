@@ -8,13 +8,13 @@ use Rattle.wasm_model.specs.declared.host.HostAnswer.{HostAnswer}
 use Rattle.wasm_model.specs.declared.host.HostAnswer.TheVariants as told
 use Rattle.wasm_store.specs.declared.trap.TrapKind.{TrapKind}
 use Rattle.wasm_store.specs.declared.word.Word.{Word}
-use Rattle.world_core.specs.WorldState.{Action, Outside, after}
+use Rattle.world_core.specs.WorldState.{Action, Entry, after}
 use Rattle.host_step.specs.HostLaws.{step_typed}
 use Rattle.host_step.specs.HostState.{HostState}
 use Rattle.host_step.specs.HostStep.{StepOf}
 use Rattle.host_step.specs.Worlds.{AnyhowIf, Called, IsStepInSomeWorld, Wanted, reads, unseen, with_output}
 use Rattle.host_imports.specs.declared.import.Import.{Import}
-use Rattle.host_outputs.specs.Calls.{over}
+use Rattle.host_outputs.specs.Calls.{finding}
 use Rattle.host_outputs.proofs.Puts.{so_far_in}
 use Rattle.host_outputs.proofs.Steps.{Puts, after_put, done_by}
 
@@ -67,17 +67,18 @@ module _ (i : Import) (s : HostState) (words : List Word) (memory : List ℕ) (l
       (subst (λ (d : Puts). StepOf i (with_output so_far s) words memory (done_by d.answer) (after_put (with_output so_far s) d left) d.added) (same s.shared so_far)
       (steps (so_far_in so_far s.shared))))
 
-  -- in every world, where over some outside it ends so but for what only the world knows
-  pub called_over : (tells : Type 0) (a : HostAnswer) (s' : HostState) (o : Outside) → reads i ≡ false → (tells → Ends a s') → a ≡ done_by (does (over o s.shared)).answer
-      → unseen (after_put s (does (over o s.shared)) left) ≡ unseen s' → Called tells (Some i) s words memory a s' (does s.shared).added
-  called_over tells a s' o writes ends answer seen =
+  -- in every world, where it ends so if these are found, but for what only the world knows
+  pub called_found : (tells : Type 0) (a : HostAnswer) (s' : HostState) (finds : List Entry) → reads i ≡ false → (tells → Ends a s') → a ≡ done_by (does (finding finds s.shared)).answer
+      → unseen (after_put s (does (finding finds s.shared)) left) ≡ unseen s' → Called tells (Some i) s words memory a s' (does s.shared).added
+  called_found tells a s' finds writes ends answer seen =
+      let there = finding finds s.shared in
       called_by tells i s s' words memory a (does s.shared).added writes (λ t. step_so a s' (ends t)) (record {
-        old = sharing s (over o s.shared);
-        new = after_put (sharing s (over o s.shared)) (does (over o s.shared)) left;
-        output = (does (over o s.shared)).added;
+        old = sharing s there;
+        new = after_put (sharing s there) (does there) left;
+        output = (does there).added;
         same_before = refl;
         same_after = seen;
-        step = subst (λ (x : HostAnswer). StepOf i (sharing s (over o s.shared)) words memory x (after_put (sharing s (over o s.shared)) (does (over o s.shared)) left) (does (over o s.shared)).added) (sym answer) (steps (over o s.shared));
+        step = subst (λ (x : HostAnswer). StepOf i (sharing s there) words memory x (after_put (sharing s there) (does there) left) (does there).added) (sym answer) (steps there);
       })
 
   -- what is not done yet, where memory was wanting

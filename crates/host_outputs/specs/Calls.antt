@@ -1,12 +1,12 @@
 -- What is said of a call that writes, beside what it is on a host's tables.
-use Rattle.std.specs.Prelude.{◌≡◌, ℕ, ◌+◌, ◌%◌, ◌^◌, length, Option, Some, Result, Ok, Err}
+use Rattle.std.specs.Prelude.{◌≡◌, ℕ, ◌+◌, ◌%◌, ◌^◌, List, ◌++◌, length, Option, Some, Result, Ok, Err}
 use Rattle.awk_values.specs.declared.fault.Stop.{Stop}
 use Rattle.awk_values.specs.declared.fault.Stop.TheVariants as stop
 use Rattle.awk_values.specs.declared.fault.Fault.{Fault}
 use Rattle.awk_values.specs.declared.fault.Fault.TheVariants.{OpenOutput, WriteFailed}
 use Rattle.world_core.specs.Calls.{Kind}
 use Rattle.sem_primitives.specs.SharedState.{Does, Shared}
-use Rattle.world_core.specs.WorldState.{Outside, State}
+use Rattle.world_core.specs.WorldState.{Action, Entry, State}
 use Rattle.wasm_store.specs.declared.word.Word.{Word}
 use Rattle.wasm_store.specs.declared.word.Word.TheVariants.{I32}
 use Rattle.host_values.specs.declared.reply.Refusal.{Refusal}
@@ -51,16 +51,29 @@ pub record HasFiles (streams : Streams) (shared : Shared) : Type 0 where
   pub readers : length shared.inner.readers ≡ length streams.readers.items
   pub writers : shared.inner.writers ≡ names_of streams.writers.items
 
--- over another outside
-abbrev pub over : Outside → Shared → Shared
-over outside shared = record shared { outside = outside }
+-- where others change what names hold too, and these are found
+abbrev pub finding : List Entry → Shared → Shared
+finding finds shared = record shared { inner = record shared.inner { finds = Some finds } }
 
--- over some outside the definition answers so, and leaves these files open for writing
-abbrev pub SomeOutside : (Shared → Does (Result (Unit {0}) Fault)) → Streams → Streams → Result (Unit {0}) Fault → Type 0
-SomeOutside does streams streams' answer = (shared : Shared) → HasFiles streams shared
-    → (o : Outside) × ((does (over o shared)).answer ≡ answer) × ((does (over o shared)).inner.writers ≡ names_of streams'.writers.items)
+-- what is left of what is found now and later
+abbrev pub left_by : Result (Unit {0}) Fault → List Entry → List Entry → List Entry
+left_by (Ok u) found later = later
+left_by (Err fault) found later = found ++ later
+
+-- It answers so, puts this out, and leaves these files open for writing; and then these are found.
+pub record PutsFound (d : Does (Result (Unit {0}) Fault)) (streams' : Streams) (answer : Result (Unit {0}) Fault) (added : List Action)
+    (rest : List Entry) : Type 0 where
+  pub answer_is : d.answer ≡ answer
+  pub writers : d.inner.writers ≡ names_of streams'.writers.items
+  pub added_is : d.added ≡ added
+  pub finds : d.inner.finds ≡ Some rest
+
+-- Something is found where the definition answers so, whatever is found later.
+abbrev pub SomeFound : (Shared → Does (Result (Unit {0}) Fault)) → Streams → Streams → Result (Unit {0}) Fault → Type 0
+SomeFound does streams streams' answer = (found : List Entry) × (added : List Action) × ((later : List Entry) (shared : Shared) → HasFiles streams shared
+    → PutsFound (does (finding (found ++ later) shared)) streams' answer added (left_by answer found later))
 
 abbrev pub Could : (Shared → Does (Result (Unit {0}) Fault)) → Streams → Streams → Result (Unit {0}) Stop → Type 0
-Could does streams streams' (Ok u) = SomeOutside does streams streams' (Ok tt)
-Could does streams streams' (Err (stop.Fault f)) = SomeOutside does streams streams' (Err f)
+Could does streams streams' (Ok u) = SomeFound does streams streams' (Ok tt)
+Could does streams streams' (Err (stop.Fault f)) = SomeFound does streams streams' (Err f)
 Could does streams streams' (Err stop.NoMemory) = Unit {0}

@@ -1,5 +1,5 @@
 -- The host's form with what the imports that write look at and change.
-use Rattle.std.specs.Prelude.{Bool, true, false, List}
+use Rattle.std.specs.Prelude.{Bool, true, false, List, None}
 use Rattle.awk_values.specs.declared.value.Value.{Value}
 use Rattle.sem_primitives.specs.SharedState.{Inner, Shared}
 use Rattle.sem_primitives.specs.declared.answers.StreamAnswer.TheVariants as stream
@@ -21,10 +21,10 @@ inner_with specials inner = record inner { specials = specials_of specials.value
 abbrev pub shared_with : Specials → Shared → Shared
 shared_with specials shared = record shared { inner = inner_with specials shared.inner }
 
--- with these files open, over this outside
+-- with these files open, over this outside, where nobody else changes what names hold
 abbrev pub shared_over : Streams → State → Shared → Shared
 shared_over streams state shared = record shared {
-  inner = record shared.inner { readers = readers_in streams.readers.items state; writers = names_of streams.writers.items };
+  inner = record shared.inner { readers = readers_in streams.readers.items state; writers = names_of streams.writers.items; finds = None };
   outside = state.outside;
 }
 
@@ -51,6 +51,13 @@ printing arguments specials streams state f = writing arguments streams state (w
 -- what close looks at
 abbrev pub closing : Values → Streams → State → HostForm → HostForm
 closing values streams state f = with_values values (with_streams streams state f)
+
+-- what flush looks at
+abbrev pub flushing : Values → Streams → HostForm → HostForm
+flushing values streams f = record f {
+  values = values;
+  shared = record f.shared { inner = record f.shared.inner { writers = names_of streams.writers.items } };
+}
 
 abbrev pub closed_code : Bool → Word
 closed_code true = I32 (stream_code stream.Done)

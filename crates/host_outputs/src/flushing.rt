@@ -1,13 +1,12 @@
 //! `flush`.
 ghost use Rattle.std.specs.Prelude.{◌≡◌, List, ℕ, None};
 ghost use Rattle.std.specs.FinMap as map;
-ghost use Rattle.world_core.specs.WorldState.{State};
 ghost use Rattle.sem_primitives.specs.declared.table.Primitive.TheVariants as row;
 ghost use Rattle.host_imports.specs.declared.import.Import.{Import};
 ghost use Rattle.host_elements.specs.Calls.{IsTableCall};
 ghost use Rattle.host_elements.specs.Forms.{HostForm};
 ghost use Rattle.host_values.specs.Calls.{spare};
-ghost use Rattle.host_outputs.specs.Forms.{closing};
+ghost use Rattle.host_outputs.specs.Forms.{flushing};
 
 use crate::closing::code;
 use awk_values::to_text;
@@ -29,9 +28,9 @@ pub fn flush(
     streams: &Streams,
     words: &[Word],
 ) -> Result<Option<Word>, Refusal>
-    ensures step { (f : HostForm) (memory : List ℕ) (state : State) → f.fault ≡ None
-        → IsTableCall (Import.Of row.Flush) (closing handles.old streams.now state f) words.now
-        memory result (closing handles.new streams.now state f) }
+    ensures step { (f : HostForm) (memory : List ℕ) → f.fault ≡ None → IsTableCall
+        (Import.Of row.Flush) (flushing handles.old streams.now f) words.now memory result
+        (flushing handles.new streams.now f) }
     ensures spare { map.get handles.old spare ≡ None → map.get handles.new spare ≡ None }
 {
     let (handle, value) = match only_handle(handles, words) {

@@ -1,6 +1,7 @@
 -- The steps of a host over a world, which may not tell what it holds: real files do not.
 use Rattle.std.specs.Prelude.{ℕ, ◌≡◌, ◌≢◌, Bool, true, false, List, [], ◌++◌, map, Option, Some, None, IsSome, Result, Ok, Err}
 use Rattle.awk_values.specs.declared.fault.Fault.{Fault}
+use Rattle.sem_primitives.specs.InputMeaning.{nothing_left}
 use Rattle.sem_primitives.specs.SharedState.{Inner, MainInput, MainReader, Standard, File, Shared}
 use Rattle.sem_primitives.specs.Sorts.{InAnswer}
 use Rattle.sem_primitives.specs.declared.answers.InputAnswer.{InputAnswer}
@@ -13,8 +14,7 @@ use Rattle.wasm_model.specs.declared.host.HostAnswer.TheVariants as told
 use Rattle.wasm_store.specs.declared.trap.TrapKind.TheVariants.{BadArgument}
 use Rattle.wasm_store.specs.declared.word.Word.{Word}
 use Rattle.wasm_store.specs.declared.word.Word.TheVariants.{I32}
-use Rattle.world_core.specs.declared.world.Ending.TheVariants as ending
-use Rattle.world_core.specs.WorldState.{Action, Outside, Source, absent, after}
+use Rattle.world_core.specs.WorldState.{Action, absent, after}
 use Rattle.host_imports.specs.Imports.{import_answer, import_at, type_if_there}
 use Rattle.host_step.specs.HostState.{HostState, Names}
 use Rattle.host_imports.specs.Codes.{input_code}
@@ -29,9 +29,6 @@ with_output so_far s = record s { shared = record s.shared { output = so_far } }
 
 -- What only the world knows: what names hold, what readers have left, and the output so far. All else is the host's own.
 
-abbrev pub nothing_left : Source
-nothing_left = record { rest = []; ending = ending.End }
-
 abbrev pub unseen_reader : MainReader → MainReader
 unseen_reader Standard = Standard
 unseen_reader (File source) = File nothing_left
@@ -44,7 +41,7 @@ abbrev pub unseen_main : MainInput → MainInput
 unseen_main m = record m { standard = nothing_left; reading = unseen_reading m.reading }
 
 abbrev pub unseen_inner : Inner → Inner
-unseen_inner inner = record inner { main = unseen_main inner.main; readers = map (λ r. (r.0, nothing_left)) inner.readers }
+unseen_inner inner = record inner { main = unseen_main inner.main; readers = map (λ r. (r.0, nothing_left)) inner.readers; finds = None }
 
 -- a state without it
 abbrev pub unseen : HostState → HostState

@@ -1,23 +1,23 @@
 -- How putting a text ends in every world, and how much was put out where memory was wanting.
-use Rattle.std.proofs.Common.{◌≡◌, ℕ, suc, ◌<◌, ◌≤◌, ◌+◌, nat_le, Bool, true, false, List, [], ◌∷◌, length, take, drop, map, Result, Ok, Err, OnErr, refl, sym, ap, ◌∙◌, subst, arith}
+use Rattle.std.proofs.Common.{◌≡◌, ℕ, suc, ◌<◌, ◌≤◌, ◌+◌, Bool, true, false, List, [], ◌∷◌, length, take, drop, Result, Ok, Err, OnErr, sym, ap, ◌∙◌, subst, arith}
 use Rattle.std.proofs.lemmas.List.{length-map}
 use Rattle.std.proofs.lemmas.Bool.Decides.{nat_tests}
 use Rattle.awk_values.specs.declared.fault.Fault.{Fault}
-use Rattle.awk_values.specs.declared.fault.Fault.TheVariants.{OpenOutput, TooManyStreams, WriteFailed}
+use Rattle.awk_values.specs.declared.fault.Fault.TheVariants.{WriteFailed}
 use Rattle.awk_values.specs.declared.fault.Stop.{Stop}
 use Rattle.awk_values.specs.declared.fault.Stop.TheVariants.{Fault as IsFault, NoMemory as OutOfMemory}
 use Rattle.world_core.specs.declared.world.WorldFault.{WorldFault}
 use Rattle.world_core.specs.declared.world.WorldFault.TheVariants.{Failed, NoMemory}
 use Rattle.world_core.specs.WorldState.{Action, Named, Open, Outside, State, Target, after, free, puts}
 use Rattle.world_core.specs.Calls.{Does, Fits, OpensWriter, Writes}
+use Rattle.sem_primitives.specs.Finds.{seen}
 use Rattle.sem_primitives.specs.SharedState.{Does as Doing, Shared}
 use Rattle.sem_primitives.specs.OutputMeaning.{has_room, opened_if, what_fits, written}
-use Rattle.host_streams.specs.OpenFiles.{names_of, readers_in}
 use Rattle.host_streams.specs.Outputs.{IsOf}
 use Rattle.host_streams.specs.Puts.{BeginsBy, BeginsText, EndsPut, IsOver, PutFault, PutsPart}
 use Rattle.host_streams.specs.declared.streams.Streams.{Streams}
-use Rattle.host_streams.proofs.Outputs.{opened_in, opened_outside}
-use Rattle.host_streams.proofs.Writing.{part_is}
+use Rattle.host_streams.proofs.Outputs.{opened_in, over_opened}
+use Rattle.host_streams.proofs.Writing.{part_is, seen_over}
 
 -- How it ends.
 
@@ -73,16 +73,16 @@ begins_as {A} tells is is' does does' (Err stop) s t same h = begins_first A A t
 -- a name was opened, and closed after that
 pub begins_opened : (tells : Type 0) (name text : List ℕ) (append : Bool) (id : ℕ) (stop : Stop) (s t u v : State)
     → (tells → OpensWriter name append id s t) → (tells → v.outside ≡ u.outside) → BeginsBy {A = Unit {0}} tells (IsOver t) (written (t.writers id) text) (Err stop) t u
-    → BeginsBy {A = ℕ} tells (IsOver s) (λ shared. opened_if true (shared.outside (Named name)).opens name append text shared) (Err stop) s v
+    → BeginsBy {A = ℕ} tells (IsOver s) (λ shared. opened_if true (seen shared.inner shared.outside (Named name)).opens name append text shared) (Err stop) s v
 begins_opened tells name text append id (IsFault fault) s t u v o shut h = tt
 begins_opened tells name text append id OutOfMemory s t u v o shut h = (
   suc h.0,
   λ w shared e.
       shut w
       ∙ subst (λ (b : Bool). u.outside ≡ after (take (suc h.0) (opened_if true b name append text shared).added) s.outside)
-      (sym (ap (λ (f : Outside). (f (Named name)).opens) e ∙ (o w).opens))
+      (sym (ap (λ (f : Outside). (f (Named name)).opens) (seen_over s shared e) ∙ (o w).opens))
       (subst (λ (x : Target). u.outside ≡ after (take h.0 (written x text (opened_in name append shared)).added) (after (Open name append ∷ []) s.outside)) (o w).writer
-      (h.1 w (opened_in name append shared) (opened_outside name append id shared s t e (o w))
+      (h.1 w (opened_in name append shared) (over_opened name append id shared s t e (o w))
       ∙ ap (after (take h.0 (written (t.writers id) text (opened_in name append shared)).added)) (o w).outside)),
 )
 

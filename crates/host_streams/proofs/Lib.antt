@@ -9,5 +9,6 @@ pub mod Outputs
 pub mod Begun
 pub mod Closed
 pub mod MainSteps
+pub mod MainFound
 pub mod Passed
 pub mod Skipped

@@ -11,7 +11,8 @@ use Rattle.awk_values.specs.declared.fault.Stop.TheVariants.{Fault as IsFault, N
 use Rattle.world_core.specs.WorldState.{Outside, Source, State}
 use Rattle.sem_primitives.specs.Assignments.{assigned, assignment_of, behind_name, begins_name, continues_name, is_name}
 use Rattle.sem_primitives.specs.FieldMeaning.{special_text}
-use Rattle.sem_primitives.specs.InputMeaning.{Main, Taken, main_input, go_on, got_main, leaves, next_operand, over, reach, stops_reading, follows, is_below, made, operand_text, reached, taken, file_or_assignment, opened, reader_of, with_operands}
+use Rattle.sem_primitives.specs.Finds.{finds_after, looked, seen}
+use Rattle.sem_primitives.specs.InputMeaning.{Main, Taken, main_input, go_on, got_main, leaves, next_operand, over, reach, stops_reading, follows, is_below, made, operand_text, reached, taken, file_named, file_or_assignment, opened, reader_of, record_by}
 use Rattle.sem_primitives.specs.InputMeaning.{Failed as ReadingFailed, Over, NotOpened}
 use Rattle.sem_primitives.specs.Records.{Got, Record, AtEnd, Broken, record_separator, first_record}
 use Rattle.sem_primitives.specs.SharedState.{Inner, MainInput, MainReader, Standard, File, Operands, NoFile, SomeFile, NoneLeft, ◌>>=◌}
@@ -29,21 +30,21 @@ use Rattle.host_streams.specs.declared.reader.Phase.{Phase}
 use Rattle.host_streams.specs.declared.reader.Phase.TheVariants.{Broken as IsBroken, Ended, Open}
 use Rattle.host_streams.specs.Readers.{OnlyLimit, left}
 use Rattle.host_streams.proofs.Held.{is_broken}
-use Rattle.host_streams.specs.Mains.{FaultIs, GivenIs, IsOfNumber, MainCounts, MainPhase, NameLen, PhaseBy, ReadsMain, StepEnds, begins, begun, has_operand, idle, is_equals, left_main, main_of, main_source, operands_of, passed, reading_of, rest_of, with_file, with_main}
+use Rattle.host_streams.specs.Mains.{FaultIs, GivenIs, IsOfNumber, MainCounts, MainPhase, NameLen, PhaseBy, ReadsMain, StepEnds, begins, begun, has_operand, idle, is_equals, kept_in, left_main, main_of, main_source, operands_of, passed, reading_of, rest_of, with_file, with_main}
 
 -- The reader at hand.
 
 source_is : (outside : Outside) (m : MainInput) (inner : Inner) (rs : Option ℕ) (reader : MainReader) → record_separator (special_text Rs inner) ≡ rs →
-    go_on false (Some reader) (next_operand outside) (with_main m inner) ≡ (first_record rs (main_source reader m) >>= λ got. got_main (next_operand outside) reader (with_main m inner) got)
-source_is outside m inner rs Standard asked = ap (λ q. first_record q m.standard >>= λ got. got_main (next_operand outside) Standard (with_main m inner) got) asked
-source_is outside m inner rs (File source) asked = ap (λ q. first_record q source >>= λ got. got_main (next_operand outside) (File source) (with_main m inner) got) asked
+    go_on false (Some reader) (next_operand outside) (with_main m (kept_in inner)) ≡ (first_record rs (main_source reader m) >>= λ got. got_main (next_operand outside) reader (with_main m (kept_in inner)) got)
+source_is outside m inner rs Standard asked = ap (λ q. first_record q m.standard >>= λ got. got_main (next_operand outside) Standard (with_main m (kept_in inner)) got) asked
+source_is outside m inner rs (File source) asked = ap (λ q. first_record q source >>= λ got. got_main (next_operand outside) (File source) (with_main m (kept_in inner)) got) asked
 
 given_read : (outside : Outside) (m : MainInput) (inner : Inner) (rs : Option ℕ) (reader : MainReader) → m.ended ≡ false → m.reading ≡ Some reader → record_separator (special_text Rs inner) ≡ rs →
-    main_input outside (with_main m inner) ≡ (first_record rs (main_source reader m) >>= λ got. got_main (next_operand outside) reader (with_main m inner) got)
+    main_input outside (with_main m (kept_in inner)) ≡ (first_record rs (main_source reader m) >>= λ got. got_main (next_operand outside) reader (with_main m (kept_in inner)) got)
 given_read outside m inner rs reader live busy asked =
-    ap (λ b. go_on b m.reading (next_operand outside) (with_main m inner)) live ∙ ap (λ r. go_on false r (next_operand outside) (with_main m inner)) busy ∙ source_is outside m inner rs reader asked
+    ap (λ b. go_on b m.reading (next_operand outside) (with_main m (kept_in inner))) live ∙ ap (λ r. go_on false r (next_operand outside) (with_main m (kept_in inner))) busy ∙ source_is outside m inner rs reader asked
 
-leaves_is : (reader : MainReader) (later : Source) (m : MainInput) (inner : Inner) → leaves reader later (with_main m inner) ≡ with_main (left_main reader later m) inner
+leaves_is : (reader : MainReader) (later : Source) (m : MainInput) (inner : Inner) → leaves reader later (with_main m (kept_in inner)) ≡ with_main (left_main reader later m) (kept_in inner)
 leaves_is Standard later m inner = refl
 leaves_is (File source) later m inner = refl
 
@@ -53,36 +54,36 @@ left_ended (File source) later m = refl
 
 -- a record, the end of the reader, a failure, and what is refused
 module _ (outside : Outside) (m : MainInput) (inner : Inner) (rs : Option ℕ) (live : m.ended ≡ false) (asked : record_separator (special_text Rs inner) ≡ rs) where
-  pub reads_record : (text : List ℕ) (n : MainInput) → ReadsMain rs m (Ok (file.Record text)) n → GivenIs (main_input outside (with_main m inner)) (Ok (Some (main.Record text))) outside (with_main m inner) (with_main n inner)
+  pub reads_record : (text : List ℕ) (n : MainInput) → ReadsMain rs m (Ok (file.Record text)) n → GivenIs (main_input outside (with_main m (kept_in inner))) (Ok (Some (main.Record text))) outside (with_main m (kept_in inner)) (with_main n (kept_in inner))
   reads_record text n h =
-      given_read outside m inner rs h.reader live h.reading asked ∙ ap (λ r. r >>= λ got. got_main (next_operand outside) h.reader (with_main m inner) got) h.answers
-      ∙ ap (λ i. Ok (i, Taken text)) (leaves_is h.reader h.later m inner) ∙ ap (λ x. Ok (with_main x inner, Taken text)) (sym h.leaves)
+      given_read outside m inner rs h.reader live h.reading asked ∙ ap (λ r. r >>= λ got. got_main (next_operand outside) h.reader (with_main m (kept_in inner)) got) h.answers
+      ∙ ap (λ i. Ok (i, Taken text)) (leaves_is h.reader h.later m inner) ∙ ap (λ x. Ok (with_main x (kept_in inner), Taken text)) (sym h.leaves)
 
-  pub reads_end : (n p : MainInput) → ReadsMain rs m (Ok file.End) n → p ≡ idle n → GivenIs (main_input outside (with_main m inner)) (Ok None) outside (with_main m inner) (with_main p inner)
+  pub reads_end : (n p : MainInput) → ReadsMain rs m (Ok file.End) n → p ≡ idle n → GivenIs (main_input outside (with_main m (kept_in inner))) (Ok None) outside (with_main m (kept_in inner)) (with_main p (kept_in inner))
   reads_end n p h e =
-      given_read outside m inner rs h.reader live h.reading asked ∙ ap (λ r. r >>= λ got. got_main (next_operand outside) h.reader (with_main m inner) got) h.answers
-      ∙ ap (λ i. next_operand outside (stops_reading i)) (leaves_is h.reader h.later m inner) ∙ ap (λ x. next_operand outside (with_main (idle x) inner)) (sym h.leaves)
-      ∙ sym (ap (λ b. go_on b None (next_operand outside) (with_main (idle n) inner)) (ap (λ (x : MainInput). x.ended) h.leaves ∙ left_ended h.reader h.later m ∙ live))
-      ∙ ap (λ x. main_input outside (with_main x inner)) (sym e)
+      given_read outside m inner rs h.reader live h.reading asked ∙ ap (λ r. r >>= λ got. got_main (next_operand outside) h.reader (with_main m (kept_in inner)) got) h.answers
+      ∙ ap (λ i. next_operand outside (stops_reading i)) (leaves_is h.reader h.later m inner) ∙ ap (λ x. next_operand outside (with_main (idle x) (kept_in inner))) (sym h.leaves)
+      ∙ sym (ap (λ b. go_on b None (next_operand outside) (with_main (idle n) (kept_in inner))) (ap (λ (x : MainInput). x.ended) h.leaves ∙ left_ended h.reader h.later m ∙ live))
+      ∙ ap (λ x. main_input outside (with_main x (kept_in inner))) (sym e)
 
-  pub reads_failure : (n : MainInput) → ReadsMain rs m (Ok file.Failed) n → GivenIs (main_input outside (with_main m inner)) (Err (IsFault ReadFailed)) outside (with_main m inner) (with_main n inner)
+  pub reads_failure : (n : MainInput) → ReadsMain rs m (Ok file.Failed) n → GivenIs (main_input outside (with_main m (kept_in inner))) (Err (IsFault ReadFailed)) outside (with_main m (kept_in inner)) (with_main n (kept_in inner))
   reads_failure n h =
-      given_read outside m inner rs h.reader live h.reading asked ∙ ap (λ r. r >>= λ got. got_main (next_operand outside) h.reader (with_main m inner) got) h.answers
-      ∙ ap (λ i. Ok (i, ReadingFailed)) (leaves_is h.reader h.later m inner) ∙ ap (λ x. Ok (with_main x inner, ReadingFailed)) (sym h.leaves)
+      given_read outside m inner rs h.reader live h.reading asked ∙ ap (λ r. r >>= λ got. got_main (next_operand outside) h.reader (with_main m (kept_in inner)) got) h.answers
+      ∙ ap (λ i. Ok (i, ReadingFailed)) (leaves_is h.reader h.later m inner) ∙ ap (λ x. Ok (with_main x (kept_in inner), ReadingFailed)) (sym h.leaves)
 
   same_main : (reader : MainReader) (n : MainInput) (later : Source) → m.reading ≡ Some reader → later ≡ main_source reader m → n ≡ left_main reader later m → n ≡ m
   same_main Standard n later busy e l = l ∙ ap (λ s. record m { standard = s; reading = Some Standard }) e ∙ ap (λ r. record m { reading = r }) (sym busy)
   same_main (File source) n later busy e l = l ∙ ap (λ s. record m { reading = Some (File s) }) e ∙ ap (λ r. record m { reading = r }) (sym busy)
 
-  pub reads_refused : (stop : Stop) (n : MainInput) → OnlyLimit {A = FileNext} (Err stop) → ReadsMain rs m (Err stop) n → GivenIs (main_input outside (with_main m inner)) (Err stop) outside (with_main m inner) (with_main n inner)
+  pub reads_refused : (stop : Stop) (n : MainInput) → OnlyLimit {A = FileNext} (Err stop) → ReadsMain rs m (Err stop) n → GivenIs (main_input outside (with_main m (kept_in inner))) (Err stop) outside (with_main m (kept_in inner)) (with_main n (kept_in inner))
   reads_refused (IsFault fault) n limit h =
-      let given : main_input outside (with_main m inner) ≡ Err fault = given_read outside m inner rs h.reader live h.reading asked ∙ ap (λ r. r >>= λ got. got_main (next_operand outside) h.reader (with_main m inner) got) h.answers.0 in
-      limit_given fault limit given (ap (λ x. main_input outside (with_main x inner)) (same_main h.reader n h.later h.reading h.answers.1 h.leaves) ∙ given)
+      let given : main_input outside (with_main m (kept_in inner)) ≡ Err fault = given_read outside m inner rs h.reader live h.reading asked ∙ ap (λ r. r >>= λ got. got_main (next_operand outside) h.reader (with_main m (kept_in inner)) got) h.answers.0 in
+      limit_given fault limit given (ap (λ x. main_input outside (with_main x (kept_in inner))) (same_main h.reader n h.later h.reading h.answers.1 h.leaves) ∙ given)
     where
-      limit_given : (f : Fault) → f ≡ TextLimit → main_input outside (with_main m inner) ≡ Err f → main_input outside (with_main n inner) ≡ Err f → FaultIs (main_input outside (with_main m inner)) f outside (with_main n inner)
+      limit_given : (f : Fault) → f ≡ TextLimit → main_input outside (with_main m (kept_in inner)) ≡ Err f → main_input outside (with_main n (kept_in inner)) ≡ Err f → FaultIs (main_input outside (with_main m (kept_in inner))) f outside (with_main n (kept_in inner))
       limit_given f e a b =
-          subst (λ (x : Fault). FaultIs (main_input outside (with_main m inner)) x outside (with_main n inner)) (sym e) (a ∙ ap (λ x. Err x) e, b ∙ ap (λ x. Err x) e)
-  reads_refused NoMemory n limit h = ap (λ x. main_input outside (with_main x inner)) (sym (same_main h.reader n h.later h.reading h.answers h.leaves))
+          subst (λ (x : Fault). FaultIs (main_input outside (with_main m (kept_in inner))) x outside (with_main n (kept_in inner))) (sym e) (a ∙ ap (λ x. Err x) e, b ∙ ap (λ x. Err x) e)
+  reads_refused NoMemory n limit h = ap (λ x. main_input outside (with_main x (kept_in inner))) (sym (same_main h.reader n h.later h.reading h.answers h.leaves))
 
 -- An operand, or what follows the operands: no file is read.
 
@@ -106,7 +107,7 @@ same_over outside inner s n (Ok (Broken, later)) = refl
 pub follow_at : (outside : Outside) (inner : Inner) (s : Source) (n : ℕ) (r : Option MainReader) →
     follows NoFile (with_main (record { standard = s; next = n; operands = NoFile; reading = r; ended = false }) inner)
     ≡ main_input outside (begun [] (with_main (record { standard = s; next = n; operands = NoneLeft; reading = Some Standard; ended = false }) inner))
-follow_at outside inner s n r = same_over outside (begun [] inner) s n (first_record (record_separator (special_text Rs (begun [] inner))) s)
+follow_at outside inner s n r = same_over outside (begun [] inner) s n (record_by inner.finds (record_separator (special_text Rs (begun [] inner))) s)
 
 pub follow_over : (f : Found) → f ≢ found.NoFile → (inner : Inner) (m : MainInput) → follows (operands_of f) (with_main m inner) ≡ Ok (with_main (record m { ended = true }) inner, Over)
 follow_over found.NoFile other inner m = absurd (other refl)
@@ -114,29 +115,31 @@ follow_over found.SomeFile other inner m = refl
 follow_over found.NoneLeft other inner m = refl
 
 taken_opens : (on : Inner → Result (Inner × Main) Fault) (outside : Outside) (text : List ℕ) (inner : Inner) → text ≢ [] → assignment_of text ≡ None →
-    taken on outside text inner ≡ opened on text (reader_of outside text) (with_operands SomeFile inner)
+    taken on outside text inner ≡ opened on text (reader_of (seen inner outside) text) (file_named inner)
 taken_opens on outside [] inner plain none = absurd (plain refl)
 taken_opens on outside (c ∷ cs) inner plain none = ap (λ a. file_or_assignment on outside (c ∷ cs) a inner) none
 
 open_at : (outside : Outside) (inner : Inner) (s : Source) (n : ℕ) (o : Operands) (r : Option MainReader) (text : List ℕ) (reader : MainReader) →
-    opened (rest_of (record { standard = s; next = n; operands = o; reading = r; ended = false }) outside) text (Some reader) (with_operands SomeFile (with_main (record { standard = s; next = n; operands = o; reading = r; ended = false }) inner))
-    ≡ main_input outside (begun text (with_main (record { standard = s; next = n; operands = SomeFile; reading = Some reader; ended = false }) inner))
-open_at outside inner s n o r text Standard = same_on outside (begun text inner) Standard s n (first_record (record_separator (special_text Rs (begun text inner))) s)
-open_at outside inner s n o r text (File source) = same_on outside (begun text inner) (File source) s n (first_record (record_separator (special_text Rs (begun text inner))) source)
+    opened (rest_of (record { standard = s; next = n; operands = o; reading = r; ended = false }) outside) text (Some reader) (file_named (with_main (record { standard = s; next = n; operands = o; reading = r; ended = false }) inner))
+    ≡ main_input outside (begun text (with_main (record { standard = s; next = n; operands = SomeFile; reading = Some reader; ended = false }) (looked inner)))
+open_at outside inner s n o r text Standard =
+    same_on outside (begun text (looked inner)) Standard s n (record_by (finds_after inner.finds) (record_separator (special_text Rs (begun text inner))) s)
+open_at outside inner s n o r text (File source) =
+    same_on outside (begun text (looked inner)) (File source) s n (record_by (finds_after inner.finds) (record_separator (special_text Rs (begun text inner))) source)
 
 -- a file is opened, or does not open
-pub opens_at : (outside : Outside) (inner : Inner) (s : Source) (n : ℕ) (o : Operands) (r : Option MainReader) (text : List ℕ) (reader : MainReader) → text ≢ [] → assignment_of text ≡ None → reader_of outside text ≡ Some reader →
+pub opens_at : (outside : Outside) (inner : Inner) (s : Source) (n : ℕ) (o : Operands) (r : Option MainReader) (text : List ℕ) (reader : MainReader) → text ≢ [] → assignment_of text ≡ None → reader_of (seen inner outside) text ≡ Some reader →
     taken (rest_of (record { standard = s; next = n; operands = o; reading = r; ended = false }) outside) outside text (with_main (record { standard = s; next = n; operands = o; reading = r; ended = false }) inner)
-    ≡ main_input outside (begun text (with_main (record { standard = s; next = n; operands = SomeFile; reading = Some reader; ended = false }) inner))
+    ≡ main_input outside (begun text (with_main (record { standard = s; next = n; operands = SomeFile; reading = Some reader; ended = false }) (looked inner)))
 opens_at outside inner s n o r text reader plain none is =
     let m : MainInput = record { standard = s; next = n; operands = o; reading = r; ended = false } in
     taken_opens (rest_of m outside) outside text (with_main m inner) plain none
-    ∙ ap (λ x. opened (rest_of m outside) text x (with_operands SomeFile (with_main m inner))) is ∙ open_at outside inner s n o r text reader
+    ∙ ap (λ x. opened (rest_of m outside) text x (file_named (with_main m inner))) is ∙ open_at outside inner s n o r text reader
 
-pub opens_not : (outside : Outside) (inner : Inner) (m : MainInput) (text : List ℕ) → text ≢ [] → assignment_of text ≡ None → reader_of outside text ≡ None →
-    taken (rest_of m outside) outside text (with_main m inner) ≡ Ok (with_main (with_file m) inner, NotOpened)
+pub opens_not : (outside : Outside) (inner : Inner) (m : MainInput) (text : List ℕ) → text ≢ [] → assignment_of text ≡ None → reader_of (seen inner outside) text ≡ None →
+    taken (rest_of m outside) outside text (with_main m inner) ≡ Ok (with_main (with_file m) (looked inner), NotOpened)
 opens_not outside inner m text plain none is =
-    taken_opens (rest_of m outside) outside text (with_main m inner) plain none ∙ ap (λ x. opened (rest_of m outside) text x (with_operands SomeFile (with_main m inner))) is
+    taken_opens (rest_of m outside) outside text (with_main m inner) plain none ∙ ap (λ x. opened (rest_of m outside) text x (file_named (with_main m inner))) is
 
 -- An assignment.
 
@@ -274,40 +277,36 @@ module _ (outside : Outside) (inner : Inner) (s : Source) (n : ℕ) (f : Found) 
 abbrev pub resting : Source → ℕ → Found → MainInput
 resting s n f = record { standard = s; next = n; operands = operands_of f; reading = None; ended = false }
 
-module _ (outside : Outside) (inner : Inner) (m : Mains) (state : State) (nothing : m.reading ≡ reading.Nothing) (live : m.ended ≡ false) where
-  source : Source
-  source = left m.standard (state.readers m.standard.id)
+pub rests : (m : Mains) (state : State) → m.reading ≡ reading.Nothing → m.ended ≡ false → main_of m state ≡ resting (left m.standard (state.readers m.standard.id)) m.next m.found
+rests m state nothing live =
+    ap (λ r. record { standard = left m.standard (state.readers m.standard.id); next = m.next; operands = operands_of m.found; reading = reading_of r state; ended = m.ended }) nothing
+    ∙ ap (λ b. record { standard = left m.standard (state.readers m.standard.id); next = m.next; operands = operands_of m.found; reading = None; ended = b }) live
 
-  rests : main_of m state ≡ resting (left m.standard (state.readers m.standard.id)) m.next m.found
-  rests =
-      ap (λ r. record { standard = left m.standard (state.readers m.standard.id); next = m.next; operands = operands_of m.found; reading = reading_of r state; ended = m.ended }) nothing
-      ∙ ap (λ b. record { standard = left m.standard (state.readers m.standard.id); next = m.next; operands = operands_of m.found; reading = None; ended = b }) live
-
-  pub none_left : m.found ≡ found.NoneLeft → main_input outside (with_main (main_of m state) inner) ≡ follows (main_of m state).operands (with_main (main_of m state) inner)
+module _ (outside : Outside) (inner : Inner) (m : MainInput) (s : Source) (n : ℕ) (f : Found) (is : m ≡ resting s n f) where
+  pub none_left : f ≡ found.NoneLeft → main_input outside (with_main m inner) ≡ follows m.operands (with_main m inner)
   none_left e =
-      let is : main_of m state ≡ resting (left m.standard (state.readers m.standard.id)) m.next found.NoneLeft = rests ∙ ap (resting (left m.standard (state.readers m.standard.id)) m.next) e in
-      ap (λ (x : MainInput). main_input outside (with_main x inner)) is ∙ sym (ap (λ (x : MainInput). follows x.operands (with_main x inner)) is)
+      let at : m ≡ resting s n found.NoneLeft = is ∙ ap (resting s n) e in
+      ap (λ (x : MainInput). main_input outside (with_main x inner)) at ∙ sym (ap (λ (x : MainInput). follows x.operands (with_main x inner)) at)
 
-  no_number : m.found ≢ found.NoneLeft → (fault : Fault) → number_of_value (inner.specials Argc) ≡ Err fault → main_input outside (with_main (main_of m state) inner) ≡ Err fault
-  no_number some fault e =
-      ap (λ (x : MainInput). main_input outside (with_main x inner)) rests ∙ reach_fault outside inner (left m.standard (state.readers m.standard.id)) m.next m.found some fault e
+  no_number : f ≢ found.NoneLeft → (fault : Fault) → number_of_value (inner.specials Argc) ≡ Err fault → main_input outside (with_main m inner) ≡ Err fault
+  no_number some fault e = ap (λ (x : MainInput). main_input outside (with_main x inner)) is ∙ reach_fault outside inner s n f some fault e
 
-  past_by : m.found ≢ found.NoneLeft → (count : ℤ) → number_of_value (inner.specials Argc) ≡ Ok count → (b : Bool) → nat_le m.next (2 ^ 20) ≡ b → (b && is_below m.next count) ≡ false →
-      main_input outside (with_main (resting (left m.standard (state.readers m.standard.id)) m.next m.found) inner) ≡ follows (operands_of m.found) (with_main (resting (left m.standard (state.readers m.standard.id)) m.next m.found) inner)
-  past_by some count e true few below = reach_end outside inner (left m.standard (state.readers m.standard.id)) m.next m.found some count e below
-  past_by some count e false many below = reach_past outside inner (left m.standard (state.readers m.standard.id)) m.next m.found some count e (leb-false m.next (2 ^ 20) many)
+  past_by : f ≢ found.NoneLeft → (count : ℤ) → number_of_value (inner.specials Argc) ≡ Ok count → (b : Bool) → nat_le n (2 ^ 20) ≡ b → (b && is_below n count) ≡ false →
+      main_input outside (with_main (resting s n f) inner) ≡ follows (operands_of f) (with_main (resting s n f) inner)
+  past_by some count e true few below = reach_end outside inner s n f some count e below
+  past_by some count e false many below = reach_past outside inner s n f some count e (leb-false n (2 ^ 20) many)
 
-  none_more : m.found ≢ found.NoneLeft → (count : ℤ) → number_of_value (inner.specials Argc) ≡ Ok count → (nat_le m.next (2 ^ 20) && is_below m.next count) ≡ false →
-      main_input outside (with_main (main_of m state) inner) ≡ follows (main_of m state).operands (with_main (main_of m state) inner)
+  none_more : f ≢ found.NoneLeft → (count : ℤ) → number_of_value (inner.specials Argc) ≡ Ok count → (nat_le n (2 ^ 20) && is_below n count) ≡ false →
+      main_input outside (with_main m inner) ≡ follows m.operands (with_main m inner)
   none_more some count e below =
-      ap (λ (x : MainInput). main_input outside (with_main x inner)) rests ∙ past_by some count e (nat_le m.next (2 ^ 20)) refl below ∙ sym (ap (λ (x : MainInput). follows x.operands (with_main x inner)) rests)
+      ap (λ (x : MainInput). main_input outside (with_main x inner)) is ∙ past_by some count e (nat_le n (2 ^ 20)) refl below ∙ sym (ap (λ (x : MainInput). follows x.operands (with_main x inner)) is)
 
-  one_more : m.found ≢ found.NoneLeft → (count : ℤ) (text : List ℕ) → number_of_value (inner.specials Argc) ≡ Ok count → (nat_le m.next (2 ^ 20) && is_below m.next count) ≡ true → operand_text m.next inner ≡ text →
-      main_input outside (with_main (main_of m state) inner) ≡ taken (rest_of (passed (main_of m state)) outside) outside text (with_main (passed (main_of m state)) inner)
-  one_more some count text e has is =
-      ap (λ (x : MainInput). main_input outside (with_main x inner)) rests
-      ∙ reach_one outside inner (left m.standard (state.readers m.standard.id)) m.next m.found some count text e (and_right (nat_le m.next (2 ^ 20)) (is_below m.next count) has) (leb-true m.next (2 ^ 20) (and_left (nat_le m.next (2 ^ 20)) (is_below m.next count) has)) is
-      ∙ sym (ap (λ (x : MainInput). taken (rest_of (passed x) outside) outside text (with_main (passed x) inner)) rests)
+  one_more : f ≢ found.NoneLeft → (count : ℤ) (text : List ℕ) → number_of_value (inner.specials Argc) ≡ Ok count → (nat_le n (2 ^ 20) && is_below n count) ≡ true → operand_text n inner ≡ text →
+      main_input outside (with_main m inner) ≡ taken (rest_of (passed m) outside) outside text (with_main (passed m) inner)
+  one_more some count text e has texts =
+      ap (λ (x : MainInput). main_input outside (with_main x inner)) is
+      ∙ reach_one outside inner s n f some count text e (and_right (nat_le n (2 ^ 20)) (is_below n count) has) (leb-true n (2 ^ 20) (and_left (nat_le n (2 ^ 20)) (is_below n count) has)) texts
+      ∙ sym (ap (λ (x : MainInput). taken (rest_of (passed x) outside) outside text (with_main (passed x) inner)) is)
 
 -- as the number of ARGC tells
 abbrev pub bool_of : Result Bool Fault → Bool
@@ -318,19 +317,19 @@ abbrev pub fault_or : Fault → Result Bool Fault → Fault
 fault_or other (Ok b) = other
 fault_or other (Err fault) = fault
 
-module _ (outside : Outside) (inner : Inner) (m : Mains) (state : State) (nothing : m.reading ≡ reading.Nothing) (live : m.ended ≡ false) (some : m.found ≢ found.NoneLeft) where
-  pub has_one : (z : Result ℤ Fault) (text : List ℕ) → number_of_value (inner.specials Argc) ≡ z → has_operand m.next z ≡ Ok true → operand_text m.next inner ≡ text →
-      main_input outside (with_main (main_of m state) inner) ≡ taken (rest_of (passed (main_of m state)) outside) outside text (with_main (passed (main_of m state)) inner)
-  has_one (Ok count) text e has is = one_more outside inner m state nothing live some count text e (ap bool_of has) is
-  has_one (Err fault) text e has is = cc
+module _ (outside : Outside) (inner : Inner) (m : MainInput) (s : Source) (n : ℕ) (f : Found) (is : m ≡ resting s n f) (some : f ≢ found.NoneLeft) where
+  pub has_one : (z : Result ℤ Fault) (text : List ℕ) → number_of_value (inner.specials Argc) ≡ z → has_operand n z ≡ Ok true → operand_text n inner ≡ text →
+      main_input outside (with_main m inner) ≡ taken (rest_of (passed m) outside) outside text (with_main (passed m) inner)
+  has_one (Ok count) text e has texts = one_more outside inner m s n f is some count text e (ap bool_of has) texts
+  has_one (Err fault) text e has texts = cc
 
-  pub has_none : (z : Result ℤ Fault) → number_of_value (inner.specials Argc) ≡ z → has_operand m.next z ≡ Ok false → main_input outside (with_main (main_of m state) inner) ≡ follows (main_of m state).operands (with_main (main_of m state) inner)
-  has_none (Ok count) e has = none_more outside inner m state nothing live some count e (ap bool_of has)
+  pub has_none : (z : Result ℤ Fault) → number_of_value (inner.specials Argc) ≡ z → has_operand n z ≡ Ok false → main_input outside (with_main m inner) ≡ follows m.operands (with_main m inner)
+  has_none (Ok count) e has = none_more outside inner m s n f is some count e (ap bool_of has)
   has_none (Err fault) e has = cc
 
-  pub has_fault : (z : Result ℤ Fault) (fault : Fault) → number_of_value (inner.specials Argc) ≡ z → has_operand m.next z ≡ Err fault → main_input outside (with_main (main_of m state) inner) ≡ Err fault
+  pub has_fault : (z : Result ℤ Fault) (fault : Fault) → number_of_value (inner.specials Argc) ≡ z → has_operand n z ≡ Err fault → main_input outside (with_main m inner) ≡ Err fault
   has_fault (Ok count) fault e has = cc
-  has_fault (Err other) fault e has = no_number outside inner m state nothing live some fault (e ∙ ap (λ f. Err f) (ap (fault_or other) has))
+  has_fault (Err other) fault e has = no_number outside inner m s n f is some fault (e ∙ ap (λ f. Err f) (ap (fault_or other) has))
 
 -- what is to be given may be given later
 pub given_later : (given later : Result (Inner × Main) Fault) (r : Result (Option MainNext) Stop) (outside : Outside) (old new : Inner) → given ≡ later → GivenIs later r outside old new → GivenIs given r outside old new

@@ -6,13 +6,15 @@ use Rattle.awk_values.specs.declared.fault.Stop.{Stop}
 use Rattle.awk_values.specs.declared.fault.Stop.TheVariants.{Fault as IsFault, NoMemory}
 use Rattle.world_core.specs.WorldState.{State, Named, Standard, Open, Outside, Target, after}
 use Rattle.world_core.specs.Calls.{Kind, Closed, Reading, Writing, Opens, OpensWriter, set_kind}
-use Rattle.sem_primitives.specs.SharedState.{Shared, Does, Inner}
+use Rattle.sem_primitives.specs.Finds.{looked_by, seen}
+use Rattle.sem_primitives.specs.SharedState.{Shared, Does}
 use Rattle.sem_primitives.specs.OutputMeaning.{all_out, has_room, is_writing, kept_open, opened_if, then_written, written, written_by}
 use Rattle.host_streams.specs.declared.streams.NamedWriter.{NamedWriter}
 use Rattle.host_streams.specs.OpenFiles.{writer_handle, IsApart, IsNone, AreOpen, WritersGo, names_of, is_writer, writer_place}
-use Rattle.host_streams.specs.Puts.{PutsBy, Spares}
+use Rattle.host_streams.specs.Puts.{IsOver, PutsBy, Spares}
 use Rattle.host_streams.specs.Outputs.{PutsIs, with_writer}
 use Rattle.host_streams.proofs.Places.{AllFail, First, first, all_fail, first_item}
+use Rattle.host_streams.proofs.Writing.{seen_over}
 use Rattle.host_streams.proofs.Held.{other_name, same_name, not_standard, still_open}
 
 -- The file of a name is open for writing.
@@ -157,24 +159,24 @@ pub put_shut : (d : Does (Result (Unit {0}) Fault)) (stop : Stop) (s t u : State
 put_shut d (IsFault fault) s t u e h = record { answer_is = h.answer_is; outside = e ∙ h.outside }
 put_shut d NoMemory s t u e h = (h.0, e ∙ h.1)
 
-after_opening : {A : Type 0} (name : List ℕ) (append : Bool) (shared : Shared) (d : Does (Result (Unit {0}) Fault)) (r : Result A Stop) (s t u : State) → t.outside ≡ after (Open name append ∷ []) s.outside → PutsBy d r t u →
-    PutsBy (then_written (Open name append) name shared d) r s u
-after_opening name append shared d (Ok x) s t u e h = record { answer_is = h.answer_is; outside = h.outside ∙ ap (after d.added) e }
-after_opening name append shared d (Err (IsFault fault)) s t u e h = record { answer_is = h.answer_is; outside = h.outside ∙ ap (after d.added) e }
-after_opening name append shared d (Err NoMemory) s t u e h = (suc h.0, h.1 ∙ ap (after (take h.0 d.added)) e)
+after_opening : {A : Type 0} (name : List ℕ) (append : Bool) (d : Does (Result (Unit {0}) Fault)) (r : Result A Stop) (s t u : State) → t.outside ≡ after (Open name append ∷ []) s.outside → PutsBy d r t u →
+    PutsBy (then_written (Open name append) name d) r s u
+after_opening name append d (Ok x) s t u e h = record { answer_is = h.answer_is; outside = h.outside ∙ ap (after d.added) e }
+after_opening name append d (Err (IsFault fault)) s t u e h = record { answer_is = h.answer_is; outside = h.outside ∙ ap (after d.added) e }
+after_opening name append d (Err NoMemory) s t u e h = (suc h.0, h.1 ∙ ap (after (take h.0 d.added)) e)
 
 -- what the definition speaks of once a file is opened
 abbrev pub opened_in : List ℕ → Bool → Shared → Shared
 opened_in name append shared = record shared { outside = after (Open name append ∷ []) shared.outside }
 
-pub opened_outside : (name : List ℕ) (append : Bool) (id : ℕ) (shared : Shared) (s t : State) → shared.outside ≡ s.outside → OpensWriter name append id s t → (opened_in name append shared).outside ≡ t.outside
-opened_outside name append id shared s t e o = ap (after (Open name append ∷ [])) e ∙ sym o.outside
+pub over_opened : (name : List ℕ) (append : Bool) (id : ℕ) (shared : Shared) (s t : State) → IsOver s shared → OpensWriter name append id s t → IsOver t (opened_in name append shared)
+over_opened name append id shared s t e o = record { kept = e.kept; outside = ap (after (Open name append ∷ [])) e.outside ∙ sym o.outside }
 
-pub put_opened : {A : Type 0} (name text : List ℕ) (append : Bool) (id : ℕ) (shared : Shared) (r : Result A Stop) (s t u : State) → shared.outside ≡ s.outside → OpensWriter name append id s t →
-    PutsBy (written (t.writers id) text (opened_in name append shared)) r t u → PutsBy (opened_if true (shared.outside (Named name)).opens name append text shared) r s u
+pub put_opened : {A : Type 0} (name text : List ℕ) (append : Bool) (id : ℕ) (shared : Shared) (r : Result A Stop) (s t u : State) → IsOver s shared → OpensWriter name append id s t →
+    PutsBy (written (t.writers id) text (opened_in name append shared)) r t u → PutsBy (opened_if true (seen shared.inner shared.outside (Named name)).opens name append text shared) r s u
 put_opened name text append id shared r s t u e o h =
-    subst (λ (b : Bool). PutsBy (opened_if true b name append text shared) r s u) (sym (ap (λ (f : Outside). (f (Named name)).opens) e ∙ o.opens))
-    (after_opening name append shared (written (Named name) text (opened_in name append shared)) r s t u o.outside
+    subst (λ (b : Bool). PutsBy (opened_if true b name append text shared) r s u) (sym (ap (λ (f : Outside). (f (Named name)).opens) (seen_over s shared e) ∙ o.opens))
+    (after_opening name append (written (Named name) text (opened_in name append shared)) r s t u o.outside
     (subst (λ (x : Target). PutsBy (written x text (opened_in name append shared)) r t u) o.writer h))
 
 pub put_missing : {A : Type 0} (name text : List ℕ) (append : Bool) (shared : Shared) (r : Result A Stop) (s t : State) → is_writing name shared.inner.writers ≡ false → PutsBy (written_by false name append text shared) r s t →
@@ -183,22 +185,27 @@ put_missing name text append shared r s t is h = subst (λ (b : Bool). PutsBy (w
 
 -- Which names are open for writing then.
 
-inner_false : (room opens : Bool) (name text : List ℕ) (append : Bool) (shared : Shared) → (opened_if room opens name append text shared).inner ≡ kept_open name shared.inner (opened_if room opens name append text shared).answer
+inner_false : (room opens : Bool) (name text : List ℕ) (append : Bool) (shared : Shared) → (opened_if room opens name append text shared).inner.writers ≡ (kept_open name shared.inner (opened_if room opens name append text shared).answer).writers
 inner_false false opens name text append shared = refl
 inner_false true false name text append shared = refl
-inner_false true true name text append shared = refl
+inner_false true true name text append shared =
+    by (written (Named name) text (opened_in name append shared)).answer
+  where
+    by : (r : Result (Unit {0}) Fault) → (kept_open name (looked_by r shared.inner) r).writers ≡ (kept_open name shared.inner r).writers
+    by (Ok x) = refl
+    by (Err fault) = refl
 
 writers_ok : (name text : List ℕ) (append : Bool) (shared : Shared) (b : Bool) → is_writing name shared.inner.writers ≡ b → (written_by b name append text shared).answer ≡ Ok tt →
     (written_by b name append text shared).inner.writers ≡ with_writer name shared.inner.writers
 writers_ok name text append shared true is a = with_named name shared.inner.writers is
 writers_ok name text append shared false is a =
-    ap (λ (i : Inner). i.writers) (inner_false (has_room shared.inner) (shared.outside (Named name)).opens name text append shared)
+    inner_false (has_room shared.inner) (seen shared.inner shared.outside (Named name)).opens name text append shared
     ∙ ap (λ r. (kept_open name shared.inner r).writers) a ∙ with_missing name shared.inner.writers is
 
 writers_err : (name text : List ℕ) (append : Bool) (shared : Shared) (fault : Fault) (b : Bool) → (written_by b name append text shared).answer ≡ Err fault → (written_by b name append text shared).inner.writers ≡ shared.inner.writers
 writers_err name text append shared fault true a = refl
 writers_err name text append shared fault false a =
-    ap (λ (i : Inner). i.writers) (inner_false (has_room shared.inner) (shared.outside (Named name)).opens name text append shared)
+    inner_false (has_room shared.inner) (seen shared.inner shared.outside (Named name)).opens name text append shared
     ∙ ap (λ r. (kept_open name shared.inner r).writers) a
 
 pub puts_file : (name text : List ℕ) (append : Bool) (shared : Shared) (r : Result (Unit {0}) Stop) (s t : State) (ws vs : List NamedWriter) → shared.inner.writers ≡ names_of ws → OnOk r (names_of vs ≡ with_writer name (names_of ws)) → OnErr r (vs ≡ ws) →

@@ -4,7 +4,9 @@ use Rattle.std.proofs.lemmas.Cmp.{nat_list_eq_equiv}
 use Rattle.std.proofs.Common.{zero, suc, length-take}
 use Rattle.std.proofs.lemmas.List.{take_all}
 use Rattle.std.proofs.Common.{take-add, length-drop}
-use Rattle.host_streams.specs.Puts.{PutsText}
+use Rattle.sem_primitives.specs.Finds.{found_or, seen}
+use Rattle.sem_primitives.specs.SharedState.{Shared}
+use Rattle.host_streams.specs.Puts.{IsOver, PutsText}
 use Rattle.sem_primitives.specs.OutputMeaning.{all_fits, what_fits}
 use Rattle.std.proofs.lemmas.Bool.{le-leb, lt-leb}
 use Rattle.std.proofs.lemmas.List.{take-take}
@@ -14,6 +16,10 @@ use Rattle.world_core.specs.declared.world.WorldFault.{WorldFault}
 use Rattle.world_core.specs.declared.world.WorldFault.TheVariants.{Failed, NoMemory}
 use Rattle.std.specs.Option.{unwrap_or}
 use Rattle.host_streams.specs.Puts.{PutsPart}
+
+-- what is seen while nobody else changes what names hold
+pub seen_over : (state : State) (shared : Shared) → IsOver state shared → seen shared.inner shared.outside ≡ state.outside
+seen_over state shared e = ap (λ (f : Option (List Entry)). λ (t : Target). found_or f (shared.outside t)) e.kept ∙ e.outside
 
 pub after-append : (xs ys : List Action) (f : Outside) → after (xs ++ ys) f ≡ after ys (after xs f)
 after-append [] ys f = refl

@@ -5,4 +5,5 @@ pub mod Puts
 pub mod Outputs
 pub mod Closing
 pub mod Mains
+pub mod MainFinds
 pub mod Passing

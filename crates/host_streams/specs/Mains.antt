@@ -140,9 +140,13 @@ pub record ReadsMain (rs : Option ℕ) (old : MainInput) (answer : Result FileNe
   pub answers : Answers rs (main_source reader old) answer later
   pub leaves : new ≡ left_main reader later old
 
--- a state of the definition with this main input
+-- a state of the definition with this main input, whatever is found
 abbrev pub with_main : MainInput → Inner → Inner
 with_main m inner = record inner { main = m }
+
+-- where nobody else changes what names hold
+abbrev pub kept_in : Inner → Inner
+kept_in inner = record inner { finds = None }
 
 -- RS, ARGC and the operands are these
 pub record IsAsked (rs : Option ℕ) (inner : Inner) : Type 0 where
@@ -226,7 +230,7 @@ AnswerIs given (Err stop) outside old new = GivenIs given (Err stop) outside old
 
 -- the main input, over other things of the state
 abbrev pub main_in : Mains → State → Inner → Inner
-main_in m state inner = with_main (main_of m state) inner
+main_in m state inner = with_main (main_of m state) (kept_in inner)
 
 -- a step gives what the definition of the main input does
 abbrev pub GivesStep : Inner → Mains → State → Result (Option MainNext) Stop → Mains → State → Type 0
@@ -239,7 +243,7 @@ abbrev pub GivesOperand : List ℕ → Inner → Mains → State → Result (Opt
 GivesOperand text inner old before answer new after =
     GivenIs
     (taken (rest_of (passed (main_of old before)) before.outside) before.outside text
-    (with_main (passed (main_of old before)) inner))
+    (with_main (passed (main_of old before)) (kept_in inner)))
     answer before.outside (main_in old before inner) (main_in new after inner)
 
 -- The answer is what the definition of the main input gives, for this RS, this ARGC and these elements of ARGV.

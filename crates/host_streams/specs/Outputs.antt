@@ -1,5 +1,5 @@
 -- Texts that go to files by their names, as the definition of printing has it.
-use Rattle.std.specs.Prelude.{◌≡◌, ℕ, List, [], ◌∷◌, ◌++◌, if◌then◌else◌, Bool, true, Result, Ok, Err}
+use Rattle.std.specs.Prelude.{◌≡◌, ℕ, List, [], ◌∷◌, ◌++◌, if◌then◌else◌, Bool, true, None, Result, Ok, Err}
 use Rattle.awk_values.specs.declared.fault.Fault.{Fault}
 use Rattle.awk_values.specs.declared.fault.Stop.{Stop}
 use Rattle.awk_values.specs.declared.fault.Stop.TheVariants.{Fault as IsFault, NoMemory}
@@ -14,8 +14,9 @@ use Rattle.host_streams.specs.declared.streams.Streams.{Streams}
 use Rattle.host_streams.specs.OpenFiles.{has_room, names_of, readers_in}
 use Rattle.host_streams.specs.Puts.{BeginsBy, EndsPut, HasBegun, HasDone}
 
--- this is what the definition speaks of: the files that are open, and the outside
+-- this is what the definition speaks of: the files that are open, and the outside, where nobody else changes what names hold
 pub record IsOf (s : Streams) (state : State) (shared : Shared) : Type 0 where
+  pub kept : shared.inner.finds ≡ None
   pub readers : shared.inner.readers ≡ readers_in s.readers.items state
   pub writers : shared.inner.writers ≡ names_of s.writers.items
   pub outside : shared.outside ≡ state.outside

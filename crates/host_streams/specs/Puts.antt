@@ -1,5 +1,5 @@
 -- Texts that go to streams, as the definition of printing has it.
-use Rattle.std.specs.Prelude.{◌≡◌, ◌≢◌, ℕ, ◌+◌, ◌%◌, ◌^◌, ◌<◌, ◌≤◌, List, length, take, Bool, true, false, Result, Ok, Err}
+use Rattle.std.specs.Prelude.{◌≡◌, ◌≢◌, ℕ, ◌+◌, ◌%◌, ◌^◌, ◌<◌, ◌≤◌, List, length, take, Bool, true, false, None, Result, Ok, Err}
 use Rattle.awk_values.specs.declared.fault.Fault.{Fault}
 use Rattle.awk_values.specs.declared.fault.Fault.TheVariants.{OpenOutput, TooManyStreams, WriteFailed}
 use Rattle.awk_values.specs.declared.fault.Stop.{Stop}
@@ -94,6 +94,7 @@ abbrev pub BeginsText : Type 0 → ℕ → List ℕ → State → Result (Unit {
 BeginsText tells id text old (Err NoMemory) new = (n : ℕ) × (tells → PutsPart n id (what_fits (free (entry_written id old)) text) old new)
 BeginsText tells id text old r new = Unit {0}
 
--- what goes out to a stream is looked at over this outside
-abbrev pub IsOver : State → Shared → Type 0
-IsOver state shared = shared.outside ≡ state.outside
+-- what goes out to a stream is looked at over this outside, where nobody else changes what names hold
+pub record IsOver (state : State) (shared : Shared) : Type 0 where
+  pub kept : shared.inner.finds ≡ None
+  pub outside : shared.outside ≡ state.outside

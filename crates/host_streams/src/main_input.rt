@@ -12,6 +12,7 @@ ghost use Rattle.sem_primitives.specs.SharedState.{Inner};
 ghost use Rattle.host_streams.specs.declared.reader.Phase.TheVariants.{Broken, Open};
 ghost use Rattle.host_streams.specs.Readers.{NextCounts, NextPhase, OnlyLimit};
 ghost use Rattle.host_streams.specs.Mains.{FileIsOpen, GivenIs, GivesMain, GivesOperand, GivesStep, GoesOn, HoldsMain, IsApartFrom, IsAsked, IsFresh, IsOfNumber, IsOffered, MainCounts, MainEnds, MainPhase, NameLen, OpensNoOther, OperandCounts, ReadsMain, SkipsMain, SparesKinds, SparesOthers, SparesPlaces, StandardIs, StepEnds, begins, has_operand, idle, is_equals, main_at_start, main_in, main_of, main_phase, phase_at, reading_of};
+ghost use Rattle.host_streams.specs.MainFinds.{FindsFollowing, FindsMain, FindsOperand, FindsReach, FindsSomeOn, FindsStep, entry_of_reading, main_found, reading_found};
 ghost use Rattle.host_streams.specs.Passing.{AreThere, FollowsAll, HandsAt, HandsMain, HandsStep, IdleAfter, IsOfOperands, IsOfReader, IsOne, NoneMore, Passes, RestsAfter, StandardSkips, StandardStays, StepNoneMore, StepPasses, StepRests};
 
 use crate::reader::{FileNext, Reader};
@@ -145,6 +146,8 @@ fn open_operand<W: World>(world: &mut W, alloc: Global, name: &[u8]) -> Result<R
     ensures places { W.tells
         → SparesPlaces Reading.Nothing (W.kinds world.old) (W.state world.old) (W.state world.new) }
     ensures outside { W.tells → (W.state world.new).outside ≡ (W.state world.old).outside }
+    ensures finds { IfOk result (λ r. reader_of (λ target. entry_of_reading r) name.now
+        ≡ reading_found r) }
 {
     if name == b"-".as_slice() {
         return Ok(Reading::Standard);
@@ -208,6 +211,7 @@ impl MainInput {
         ensures standard { StandardStays self.old.reading self.old.standard self.new.standard }
         ensures handed { HandsAt rs self.old.reading self.old.standard result self.new.reading
             self.new.standard }
+        ensures same { main_found self.new ≡ main_found self.old }
     {
         match &mut self.reading {
             Reading::Nothing => Ok(FileNext::End),
@@ -265,6 +269,7 @@ impl MainInput {
         ensures handed { HandsStep rs self.old result self.new }
         ensures answers { IsOfReader result }
         ensures rests { StepRests result self.new.reading self.new.found }
+        ensures finds { FindsSomeOn rs self.old result self.new }
     {
         match self.read(world, rs) {
             Ok(FileNext::Record(text)) => Ok(Some(MainNext::Record(text))),
@@ -296,6 +301,7 @@ impl MainInput {
         ensures next { self.new.next ≡ self.old.next }
         ensures follows { FollowsAll self.old.found result self.new.found }
         ensures rests { StepRests result self.new.reading self.new.found }
+        ensures finds { FindsFollowing self.old result self.new }
     {
         if let Found::NoFile = self.found {
             let name = Bytes::from_slice(self.alloc, &[])?;
@@ -338,6 +344,7 @@ impl MainInput {
         ensures named { self.new.found ≢ Found.NoneLeft }
         ensures more { (count : Result ℤ Fault)
             → StepNoneMore count false self.old.found result self.new.next self.new.found }
+        ensures finds { FindsOperand name self.old result self.new }
     {
         let opened = open_operand(world, self.alloc, name.as_slice())?;
         self.next += 1;
@@ -373,6 +380,7 @@ impl MainInput {
         ensures named { self.new.found ≢ Found.NoneLeft }
         ensures more { (count : Result ℤ Fault)
             → StepNoneMore count false self.old.found result self.new.next self.new.found }
+        ensures finds { FindsOperand text.now self.old result self.new }
     {
         let name = Bytes::from_slice(self.alloc, &text[..len])?;
         let value = Bytes::from_slice(self.alloc, &text[len + 1..])?;
@@ -413,6 +421,7 @@ impl MainInput {
         ensures named { self.new.found ≢ Found.NoneLeft }
         ensures more { (count : Result ℤ Fault)
             → StepNoneMore count false self.old.found result self.new.next self.new.found }
+        ensures finds { FindsOperand (O.text operands.now self.old.next) self.old result self.new }
     {
         let text = operands.operand(self.next)?;
         if text.as_slice().is_empty() {
@@ -456,6 +465,7 @@ impl MainInput {
         ensures answers { IsOfOperands result }
         ensures idle { IdleAfter result self.new.reading }
         ensures rests { StepRests result self.new.reading self.new.found }
+        ensures finds { FindsReach argc.now (O.text operands.now) self.old result self.new }
     {
         if let Found::NoneLeft = self.found {
             return self.follow();
@@ -498,6 +508,7 @@ impl MainInput {
             self.new.next self.new.found }
         ensures rests { StepRests result self.new.reading self.new.found }
         ensures standard { StandardStays self.old.reading self.old.standard self.new.standard }
+        ensures finds { FindsStep rs argc.now (O.text operands.now) self.old result self.new }
     {
         if self.ended {
             return Ok(Some(MainNext::End));
@@ -569,6 +580,8 @@ impl MainInput {
             self.new.next self.new.found }
         ensures rests { RestsAfter result self.new.reading self.new.found }
         ensures standard { StandardStays self.old.reading self.old.standard self.new.standard }
+        ensures finds { FindsMain (record_separator rs.now) argc.now (O.text operands.now)
+            self.old result self.new }
     {
         let separator = first_byte(rs);
         'steps: loop {

@@ -2,6 +2,7 @@
 ghost use Rattle.std.specs.Prelude.{◌≡◌, [], None, true, false, take, vec_len, IfOk, OnErr, OnOk};
 ghost use Rattle.world_core.specs.WorldState.{Named};
 ghost use Rattle.world_core.specs.Calls.{Opens, Writing};
+ghost use Rattle.sem_primitives.specs.Finds.{seen};
 ghost use Rattle.sem_primitives.specs.SharedState.{Shared};
 ghost use Rattle.sem_primitives.specs.OutputMeaning.{all_out, is_writing, opened_if, written_by};
 ghost use Rattle.host_streams.specs.OpenFiles.{HoldsOpen, OthersStay, WritersGo, has_room, names_of, writer_place};
@@ -57,11 +58,12 @@ fn put_new<W: World>(world: &mut W, name: &[u8], append: bool, text: &[u8]) -> R
     ensures spares { W.tells → Spares (W.kinds world.old) (W.state world.old) (W.state world.new) }
     ensures ends { EndsPut false true text.now result }
     ensures begun { BeginsBy W.tells (IsOver (W.state world.old)) (λ shared. opened_if true
-        (shared.outside (Named name.now)).opens name.now append text.now shared) result
+        (seen shared.inner shared.outside (Named name.now)).opens name.now
+        append text.now shared) result
         (W.state world.old) (W.state world.new) }
-    ensures told { W.tells → (shared : Shared) → shared.outside ≡ (W.state world.old).outside
-        → PutsBy (opened_if true (shared.outside (Named name.now)).opens name.now append text.now
-        shared) result (W.state world.old) (W.state world.new) }
+    ensures told { W.tells → (shared : Shared) → IsOver (W.state world.old) shared
+        → PutsBy (opened_if true (seen shared.inner shared.outside (Named name.now)).opens name.now
+        append text.now shared) result (W.state world.old) (W.state world.new) }
 {
     let id = open_file(world, name, append)?;
     match put_open(world, id, text) {

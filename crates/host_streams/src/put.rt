@@ -1,6 +1,5 @@
 //! Texts that go to an open stream.
 ghost use Rattle.std.specs.Prelude.{◌≡◌, ◌<◌, OnErr, length, true};
-ghost use Rattle.world_core.specs.WorldState.{Target};
 ghost use Rattle.world_core.specs.Calls.{Writing, next_count};
 ghost use Rattle.sem_primitives.specs.SharedState.{Shared};
 ghost use Rattle.sem_primitives.specs.OutputMeaning.{written};
@@ -31,7 +30,7 @@ pub(crate) fn put_open<W: World>(world: &mut W, id: u32, text: &[u8]) -> Result<
     requires { W.kinds world.old id ≡ Writing }
     ensures kinds { W.kinds world.new ≡ W.kinds world.old }
     ensures count { PutCounts result (W.count world.old) (W.count world.new) }
-    ensures told { W.tells → (shared : Shared) → shared.outside ≡ (W.state world.old).outside
+    ensures told { W.tells → (shared : Shared) → IsOver (W.state world.old) shared
         → PutsBy (written ((W.state world.old).writers id) text.now shared) result
         (W.state world.old) (W.state world.new) }
     ensures ends { EndsPut true true text.now result }

@@ -4,6 +4,7 @@ use Rattle.wasm_store.specs.declared.word.Word.{Word}
 use Rattle.host_values.specs.declared.reply.Refusal.{Refusal}
 use Rattle.host_elements.specs.Calls.{IsTableCall}
 use Rattle.host_elements.specs.Forms.{HostForm}
+use Rattle.host_meaning.specs.Findings.{After, Finding, View, form_finding, viewed}
 use Rattle.host_meaning.specs.Shown.{form_with_output}
 use Rattle.host_meaning.specs.TableCalls.{TableCalls}
 use Rattle.host_meaning.proofs.Means.{plain_calls}
@@ -22,4 +23,8 @@ module _ (c k : TableCall) (words : List Word) (memory : List ℕ) (r : Result (
       → TableCalls (import_of_table c) (of_tables t f) words memory r (of_tables u f)
   chosen_plain t u f none calls =
       chosen (of_tables t f) (of_tables u f)
-      (plain_calls (import_of_table k) (of_tables t f) (of_tables u f) words memory r none (λ so_far. calls (form_with_output so_far f)))
+      (plain_calls (import_of_table k) (of_tables t f) (of_tables u f) words memory r none by)
+    where
+      by : (v : View) → IsTableCall (import_of_table k) (viewed v (of_tables t f)) words memory r (viewed v (of_tables u f))
+      by (After o) = calls (form_with_output o f)
+      by (Finding finds outside o) = calls (form_finding finds outside o f)

@@ -20,6 +20,7 @@ use Rattle.sem_primitives.specs.FieldMeaning.{with_record, with_fields, with_fie
 use Rattle.sem_primitives.specs.ArrayMeaning.{found, visited, with_array, numbered}
 use Rattle.sem_primitives.specs.TextMeaning.{match_row, match_start, with_match, substitute_row, substituted_by, replaced, places_of, split_row, splits_at}
 use Rattle.sem_primitives.specs.FirstMatch.{expression_of, first_match}
+use Rattle.sem_primitives.specs.Finds.{looked, looked_by, seen}
 use Rattle.sem_primitives.specs.InputMeaning.{next_record, as_record, as_line, got_file, read_file, opened_file, open_or_read, getline_file_by, gives_up, source_of, reader_named}
 use Rattle.sem_primitives.specs.OutputMeaning.{kept_open, opened_if, written_by, put_text, printf_by, has_room, is_writing, formatted_values, operands_of, file_name, printed}
 use Rattle.sem_primitives.specs.Table.{arguments_of, meaning, listed_meaning}
@@ -174,6 +175,13 @@ given_up_keeps None i = keeps_same i
 given_up_keeps (Some Standard) i = record { pending = refl; names = refl; assigns = refl; few = λ h. h }
 given_up_keeps (Some (File source)) i = record { pending = refl; names = refl; assigns = refl; few = λ h. h }
 
+-- something was looked at
+looked_keeps : (i : Inner) → Keeps i (looked i)
+looked_keeps i = record { pending = refl; names = refl; assigns = refl; few = λ h. h }
+
+looked_by_keeps : (r : Result (Unit {0}) Fault) (i : Inner) → Keeps i (looked_by r i)
+looked_by_keeps r i = record { pending = refl; names = refl; assigns = refl; few = λ h. h }
+
 -- Reading a file by its name.
 
 as_record_good : (text : List ℕ) (i j : Inner) → Keeps i j → Good (λ x. x.0) i (as_record text j)
@@ -192,26 +200,27 @@ module _ (keep : List ℕ → Inner → Result (Inner × InputAnswer) Fault) (go
   got_good i j AtEnd h = h
   got_good i j Broken h = h
 
-  read_good : (name : List ℕ) (source : Source) (i : Inner) → Good (λ x. x.0) i (read_file keep name source i)
-  read_good name source i = bound Keeps (λ x. x.0) i (next_record i source) _ (λ got. got_good i _ got.0 (record { pending = refl; names = refl; assigns = refl; few = λ h. h }))
+  read_good : (name : List ℕ) (source : Source) (i j : Inner) → Keeps i j → Good (λ x. x.0) i (read_file keep name source j)
+  read_good name source i j h = bound Keeps (λ x. x.0) i (next_record j source) _
+      (λ got. got_good i _ got.0 (record { pending = h.pending; names = h.names; assigns = h.assigns; few = h.few }))
 
-  opened_good : (name : List ℕ) (s : Option Source) (i : Inner) → Good (λ x. x.0) i (opened_file keep name s i)
-  opened_good name None i = keeps_same i
-  opened_good name (Some s) i = read_good name s i
+  opened_good : (name : List ℕ) (s : Option Source) (i j : Inner) → Keeps i j → Good (λ x. x.0) i (opened_file keep name s j)
+  opened_good name None i j h = h
+  opened_good name (Some s) i j h = read_good name s i j h
 
   open_good : (name : List ℕ) (o : Outside) (s : Option Source) (i : Inner) → Good (λ x. x.0) i (open_or_read keep name o s i)
-  open_good name o (Some s) i = read_good name s i
+  open_good name o (Some s) i = read_good name s i i (keeps_same i)
   open_good name o None i = by (has_room i)
     where
-      by : (r : Bool) → Good (λ x. x.0) i (elim r [ true ↦ opened_file keep name (source_of (o (Named name))) i | false ↦ Err TooManyStreams ])
-      by true = opened_good name (source_of (o (Named name))) i
+      by : (r : Bool) → Good (λ x. x.0) i (elim r [ true ↦ opened_file keep name (source_of (seen i o (Named name))) (looked i) | false ↦ Err TooManyStreams ])
+      by true = opened_good name (source_of (seen i o (Named name))) i (looked i) (looked_keeps i)
       by false = tt
 
 -- Writing.
 
-open_keeps : (name : List ℕ) (i : Inner) (r : Result (Unit {0}) Fault) → Keeps i (kept_open name i r)
+open_keeps : (name : List ℕ) (i : Inner) (r : Result (Unit {0}) Fault) → Keeps i (kept_open name (looked_by r i) r)
 open_keeps name i (Ok x) = record { pending = refl; names = refl; assigns = refl; few = λ h. h }
-open_keeps name i (Err f) = keeps_same i
+open_keeps name i (Err f) = looked_by_keeps (Err f) i
 
 opened_keeps : (room opens : Bool) (name : List ℕ) (append : Bool) (text : List ℕ) (s : Shared) → Keeps s.inner (opened_if room opens name append text s).inner
 opened_keeps false opens name append text s = keeps_same s.inner
@@ -219,11 +228,11 @@ opened_keeps true false name append text s = keeps_same s.inner
 opened_keeps true true name append text s = open_keeps name s.inner _
 
 written_keeps : (is : Bool) (name : List ℕ) (append : Bool) (text : List ℕ) (s : Shared) → Keeps s.inner (written_by is name append text s).inner
-written_keeps true name append text s = keeps_same s.inner
+written_keeps true name append text s = looked_by_keeps _ s.inner
 written_keeps false name append text s = opened_keeps (has_room s.inner) _ name append text s
 
 put_keeps : (to : Destination) (name text : List ℕ) (s : Shared) → Keeps s.inner (put_text to name text s).inner
-put_keeps destination.Standard name text s = keeps_same s.inner
+put_keeps destination.Standard name text s = looked_by_keeps _ s.inner
 put_keeps destination.Emptied name text s = written_keeps (is_writing name s.inner.writers) name false text s
 put_keeps destination.Appended name text s = written_keeps (is_writing name s.inner.writers) name true text s
 

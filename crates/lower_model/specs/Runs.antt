@@ -1,6 +1,6 @@
 -- The run of a program's code on the machine over values.
 use Rattle.std.specs.Prelude.{ℕ, suc, List, [], ◌∷◌, ◌++◌, map, replicate, Option, None}
-use Rattle.sem_primitives.specs.Jobs.{fault_of_job, shared_at_start}
+use Rattle.sem_primitives.specs.Jobs.{fault_of_job, shared_in}
 use Rattle.wasm_store.specs.declared.word.Word.TheVariants as word
 use Rattle.mid_program.specs.Mid.{Kind, Program}
 use Rattle.mid_program.specs.Sorted.{kinds_of}
@@ -37,7 +37,7 @@ abbrev pub code_of : Program → ℕ → Code
 code_of p deepest = noting_code no_notes p deepest
 
 abbrev pub host_at_start : Setting → Host
-host_at_start s = record { shared = shared_at_start s.job s.input s.outside; arguments = []; fault = fault_of_job s.job }
+host_at_start s = record { shared = shared_in s.job s.input s.outside; arguments = []; fault = fault_of_job s.job }
 
 abbrev pub begun : Program → Setting → Conf
 begun p s =

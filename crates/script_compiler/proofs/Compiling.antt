@@ -1,8 +1,8 @@
 -- From the parts of a compilation to what is said of the whole.
 use Rattle.std.proofs.Common.{◌≡◌, ◌⊎◌, inl, inr, ℕ, ◌≤◌, ◌^◌, List, length, Some, Result, Ok, Err, IfErr, refl, subst, sym}
 use Rattle.std.proofs.lemmas.List.Elements.{recursion_from_All}
-use Rattle.sem_primitives.specs.Jobs.{JobForm}
-use Rattle.world_core.specs.WorldState.{Outside, Source}
+use Rattle.sem_primitives.specs.Jobs.{JobForm, Surroundings}
+use Rattle.world_core.specs.WorldState.{Source}
 use Rattle.sem_scripts.specs.Kinds.{resolved}
 use Rattle.mid_program.specs.Mid.{Program}
 use Rattle.mid_program.specs.MidMeaning.{mid_run_in}
@@ -52,7 +52,7 @@ texts_small p v m h = (spelled_small p v m h).texts
 
 pub compiled : (bytes v : List ℕ) (p : Program) (t : HasTokens bytes (λ tokens. IsCodeOf tokens p)) → IsModule v (module_of p) → Agreement (mid_run_in p) (module_of p) → ModuleOk (module_of p) →
     (main : ℕ) → main_of (module_of p) ≡ Some main → SegmentsFit (module_of p) →
-    ((job : JobForm) (input : Source) (outside : Outside) → HasRuns (module_of p) job input outside) → HasPlaces p → KeepsNothing p (module_of p) →
+    ((job : JobForm) (input : Source) (outside : Surroundings) → HasRuns (module_of p) job input outside) → HasPlaces p → KeepsNothing p (module_of p) →
     IsQuiet p (module_of p) → IsQuietByWords p (module_of p) → ((script : Resolved) → IsSorted (final_program script) → Passes (probed_script script) (module_of (final_program script))) → ((script : Resolved) → UnboxesNumbers script (unboxed (program_of script))) → IsCompiled bytes v
 compiled bytes v p t m agreement typed main main_is segments runs places keeps quiet quiet_by_words passes unboxes =
     let c = t.said in

@@ -1,9 +1,9 @@
 -- What a script is compiled to, whichever it is.
 use Rattle.std.specs.Prelude.{◌≡◌, ◌⊎◌, ◌≤◌, ℕ, List, Ok, Some, false, length, map, true}
-use Rattle.sem_primitives.specs.Jobs.{JobForm}
+use Rattle.sem_primitives.specs.Jobs.{JobForm, Surroundings}
 use Rattle.awk_tokens.specs.Cutting.{IsTokens, Spelled}
 use Rattle.awk_grammar.specs.Item.{Item}
-use Rattle.world_core.specs.WorldState.{Outside, Source}
+use Rattle.world_core.specs.WorldState.{Source}
 use Rattle.sem_scripts.specs.Kinds.{resolved}
 use Rattle.mid_program.specs.Mid.{Program, Routine, Then}
 use Rattle.sem_scripts.specs.Names.{Resolved}
@@ -50,16 +50,16 @@ pub record Links (m : ModuleForm) : Type 0 where
 -- A module keeps nothing: where a statement begins, and where `main` has returned, names, parameters, loops over keys and callers that wait hold what
 -- is alive in the host. The code is the script's: it says which names and functions there are, and of what kinds.
 pub record KeepsNothing (code : Program) (m : ModuleForm) : Type 0 where
-  pub statement : (job : JobForm) (input : Source) (outside : Outside) (a : MachineForm) (c : Conf) (s : HostState)
+  pub statement : (job : JobForm) (input : Source) (outside : Surroundings) (a : MachineForm) (c : Conf) (s : HostState)
       → Reached m job input outside a c s → begins_statement c.frame.code ≡ true → AtStatement code c s
-  pub returned : (job : JobForm) (input : Source) (outside : Outside) (a : MachineForm) (c : Conf) (s : HostState)
+  pub returned : (job : JobForm) (input : Source) (outside : Surroundings) (a : MachineForm) (c : Conf) (s : HostState)
       → Reached m job input outside a c s → (n : ℕ) → turn a.program c ≡ Ends (ends.Returned (Some (I32 n))) → AtReturn code c s
 
 -- A module is quiet on numbers. Where a run stands at a statement `name = Expr` of the script, with number constants, names, groups, `+`, `-` and `*`
 -- in Expr, and each name is unboxed and none of those to which the command line has assigned in this run, it calls no import up to the next statement
 -- of the block, or to the fault.
 abbrev pub IsQuiet : Program → ModuleForm → Type 0
-IsQuiet code m = (job : JobForm) (input : Source) (outside : Outside) (a : MachineForm) (c : Conf) (s : HostState)
+IsQuiet code m = (job : JobForm) (input : Source) (outside : Surroundings) (a : MachineForm) (c : Conf) (s : HostState)
     → (reached : Reached m job input outside a c s) → (here : AtStatement code c s) → (on : AtNumeric code c s here (IsAssigned reached))
     → Quietly a.program c (λ there. IsNext code c on.bases (Then on.next on.further) on.iterators on.out on.breaking on.continuing on.after there
     ⊎ AtFault code c there)
@@ -67,7 +67,7 @@ IsQuiet code m = (job : JobForm) (input : Source) (outside : Outside) (a : Machi
 -- The same, said of the script and the job alone. Where the script's code does not name ARGV, a statement on numbers whose names are all unboxed is
 -- so quiet in each job of which no word, a `-v` or an operand, assigns to one of these names.
 abbrev pub IsQuietByWords : Program → ModuleForm → Type 0
-IsQuietByWords code m = program_names code ≡ false → (job : JobForm) (input : Source) (outside : Outside) (a : MachineForm) (c : Conf) (s : HostState)
+IsQuietByWords code m = program_names code ≡ false → (job : JobForm) (input : Source) (outside : Surroundings) (a : MachineForm) (c : Conf) (s : HostState)
     → (reached : Reached m job input outside a c s) → (here : AtStatement code c s) → (on : AtNumeric code c s here (λ i. AssignsName code job i))
     → Quietly a.program c (λ there. IsNext code c on.bases (Then on.next on.further) on.iterators on.out on.breaking on.continuing on.after there
     ⊎ AtFault code c there)
@@ -97,7 +97,7 @@ pub record IsCompiled (bytes : List ℕ) (compiled : List ℕ) : Type 0 where
   pub spelled : IsModule compiled whole
   pub typed : ModuleOk whole
   pub links : Links whole
-  pub runs : (job : JobForm) (input : Source) (outside : Outside) → HasRuns whole job input outside
+  pub runs : (job : JobForm) (input : Source) (outside : Surroundings) → HasRuns whole job input outside
   pub agreement : Agreement (resolved_run (resolved script)) whole
   pub code : Program
   pub code_is : code ≡ unboxed (program_of (resolved script))

@@ -5,9 +5,10 @@ use Rattle.awk_values.specs.Values.{number_of_value}
 use Rattle.awk_values.specs.declared.fault.Fault.{Fault}
 use Rattle.world_core.specs.WorldState.{Outside, Source}
 use Rattle.sem_primitives.specs.SharedState.{Inner, MainReader, Standard, File, Operands, NoFile, SomeFile, NoneLeft, ◌>>=◌, special_of}
+use Rattle.sem_primitives.specs.Finds.{seen}
 use Rattle.sem_primitives.specs.Assignments.{assignment_of, assigned}
 use Rattle.sem_primitives.specs.Records.{Got, Record, AtEnd, Broken}
-use Rattle.sem_primitives.specs.InputMeaning.{next_record, reader_source, leaves, stops_reading, begins_reading, with_operands, got_main, read_main, reader_of, opened, made, file_or_assignment, taken, operand_text, passes_operand, over, follows, is_below, reached, reach, reach_by, next_operand, go_on, main_input}
+use Rattle.sem_primitives.specs.InputMeaning.{next_record, reader_source, leaves, stops_reading, begins_reading, with_operands, file_named, got_main, read_main, reader_of, opened, made, file_or_assignment, taken, operand_text, passes_operand, over, follows, is_below, reached, reach, reach_by, next_operand, go_on, main_input}
 use Rattle.sem_primitives.specs.Carried.{counted_by, carried_behind, carried_reading, carried_opened, carried_operand, carried_taken, carried_reached, carried_reach, carried_by, carried_next, carried_on, carried_main}
 use Rattle.sem_primitives.specs.declared.constants.Special.TheVariants.{Argc}
 use Rattle.sem_input_laws.specs.MainInput as walk
@@ -25,7 +26,7 @@ leaves_operands (File source) left inner = refl
 
 -- the state where an operand is a file, and that in which it is read
 abbrev pub file_state : Inner → Inner
-file_state inner = with_operands SomeFile (passes_operand inner)
+file_state inner = file_named (passes_operand inner)
 
 abbrev pub reading_state : Inner → List ℕ → MainReader → Inner
 reading_state inner name reader = begins_reading name reader (file_state inner)
@@ -77,11 +78,11 @@ module _ (outside : Outside) where
   module _ (on : Inner → Given) (count : Inner → ℕ) (inner : Inner)
       (go : (after : Inner) → after.main.operands ≢ NoneLeft → after.main.next ≡ inner.main.next + 1 → Follow on count after) where
     file_gives : (c : ℕ) (cs : List ℕ) → IsNext inner (c ∷ cs) → assignment_of (c ∷ cs) ≡ None →
-        Gives outside Operand inner (opened on (c ∷ cs) (reader_of outside (c ∷ cs)) (file_state inner)) (carried_opened count (c ∷ cs)
-        (reader_of outside (c ∷ cs)) (file_state inner))
-    file_gives c cs next none = by (reader_of outside (c ∷ cs)) refl
+        Gives outside Operand inner (opened on (c ∷ cs) (reader_of (seen inner outside) (c ∷ cs)) (file_state inner)) (carried_opened count (c ∷ cs)
+        (reader_of (seen inner outside) (c ∷ cs)) (file_state inner))
+    file_gives c cs next none = by (reader_of (seen inner outside) (c ∷ cs)) refl
       where
-        by : (o : Option MainReader) → reader_of outside (c ∷ cs) ≡ o →
+        by : (o : Option MainReader) → reader_of (seen inner outside) (c ∷ cs) ≡ o →
             Gives outside Operand inner (opened on (c ∷ cs) o (file_state inner)) (carried_opened count (c ∷ cs) o (file_state inner))
         by None e = walk.not_opened c cs next none e
         by (Some reader) e = walk.opened c cs reader next none e (reader_gives on count reader (reading_state inner (c ∷ cs) reader)

@@ -5,6 +5,7 @@ use Rattle.awk_values.specs.Values.{number_of_value}
 use Rattle.awk_values.specs.declared.fault.Fault.{Fault}
 use Rattle.world_core.specs.WorldState.{Outside, Source}
 use Rattle.sem_primitives.specs.SharedState.{Inner, MainReader, Standard, Operands, NoFile, SomeFile, NoneLeft, ◌>>=◌, special_of}
+use Rattle.sem_primitives.specs.Finds.{seen}
 use Rattle.sem_primitives.specs.Assignments.{assignment_of, assigned}
 use Rattle.sem_primitives.specs.Records.{Got, Record, AtEnd, Broken}
 use Rattle.sem_primitives.specs.InputMeaning.{next_record, reader_source, leaves, stops_reading, begins_reading, with_operands, got_main, read_main, reader_of, opened, made, file_or_assignment, taken, operand_text, passes_operand, over, follows, is_below, reached, reach, reach_by, next_operand, go_on, main_input}
@@ -138,7 +139,7 @@ module _ (outside : Outside) where
 
   -- an operand that is no assignment, and one that is
   file_says : (inner : Inner) (c : ℕ) (cs : List ℕ) (o : Option MainReader) → IsNext inner (c ∷ cs) → assignment_of (c ∷ cs) ≡ None →
-      reader_of outside (c ∷ cs) ≡ o →
+      reader_of (seen inner outside) (c ∷ cs) ≡ o →
       Reaches inner (opened (reach (others inner) outside) (c ∷ cs) o (file_state inner)) (carried_opened (carried_reach (others inner) outside)
       (c ∷ cs) o (file_state inner))
   file_says inner c cs o n e f =
@@ -164,7 +165,7 @@ module _ (outside : Outside) where
 
   opened_says : (inner : Inner) (c : ℕ) (cs : List ℕ) (reader : MainReader) (given : Given) (count : ℕ) → IsNext inner (c ∷ cs) →
       assignment_of (c ∷ cs) ≡ None →
-      reader_of outside (c ∷ cs) ≡ Some reader →
+      reader_of (seen inner outside) (c ∷ cs) ≡ Some reader →
       Says (Reader reader) (reading_state inner (c ∷ cs) reader) given count → Reaches inner given count
   opened_says inner c cs reader given count n e f d =
       let at : Inner = reading_state inner (c ∷ cs) reader in

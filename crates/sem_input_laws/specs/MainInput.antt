@@ -5,9 +5,10 @@ use Rattle.awk_values.specs.declared.fault.Fault.{Fault}
 use Rattle.world_core.specs.WorldState.{Outside, Source}
 use Rattle.sem_primitives.specs.Limits.{most_operands}
 use Rattle.sem_primitives.specs.SharedState.{Inner, MainReader, Standard, NoFile, SomeFile, NoneLeft, special_of}
+use Rattle.sem_primitives.specs.Finds.{seen}
 use Rattle.sem_primitives.specs.Assignments.{assignment_of, assigned}
 use Rattle.sem_primitives.specs.Records.{Record, AtEnd, Broken}
-use Rattle.sem_primitives.specs.InputMeaning.{Main, Taken, Over, Pending, NotOpened, Failed, next_record, reader_source, leaves, stops_reading, begins_reading, with_operands, reader_of, operand_text, passes_operand, is_below}
+use Rattle.sem_primitives.specs.InputMeaning.{Main, Taken, Over, Pending, NotOpened, Failed, next_record, reader_source, leaves, stops_reading, begins_reading, with_operands, file_named, reader_of, operand_text, passes_operand, is_below}
 use Rattle.sem_primitives.specs.declared.constants.Special.TheVariants.{Argc}
 
 -- the state afterwards and what is given, or a fault
@@ -80,12 +81,12 @@ pub data Gives (outside : Outside) : Stage → Inner → Given → (made : ℕ) 
       assignment_of (c ∷ cs) ≡ Some (name, text) → assigned name text (passes_operand inner) ≡ Ok (after, false) →
       Gives outside Operand after given made → Gives outside Operand inner given (suc made)
   -- any other operand is a file, and `-` the standard input: it does not open
-  not_opened : {inner : Inner} (c : ℕ) (cs : List ℕ) → IsNext inner (c ∷ cs) → assignment_of (c ∷ cs) ≡ None → reader_of outside (c ∷ cs) ≡ None →
-      Gives outside Operand inner (Ok (with_operands SomeFile (passes_operand inner), NotOpened)) 0
+  not_opened : {inner : Inner} (c : ℕ) (cs : List ℕ) → IsNext inner (c ∷ cs) → assignment_of (c ∷ cs) ≡ None → reader_of (seen inner outside) (c ∷ cs) ≡ None →
+      Gives outside Operand inner (Ok (file_named (passes_operand inner), NotOpened)) 0
   -- or is opened, and read
   opened : {inner : Inner} {given : Given} {made : ℕ} (c : ℕ) (cs : List ℕ) (reader : MainReader) → IsNext inner (c ∷ cs) →
-      assignment_of (c ∷ cs) ≡ None → reader_of outside (c ∷ cs) ≡ Some reader →
-      Gives outside (Reader reader) (begins_reading (c ∷ cs) reader (with_operands SomeFile (passes_operand inner))) given made →
+      assignment_of (c ∷ cs) ≡ None → reader_of (seen inner outside) (c ∷ cs) ≡ Some reader →
+      Gives outside (Reader reader) (begins_reading (c ∷ cs) reader (file_named (passes_operand inner))) given made →
       Gives outside Operand inner given made
 
 -- what a call of the main input gives: its end, once that was told; or what comes from the reader at hand, or from the next operand

@@ -5,7 +5,7 @@ use Rattle.ere_syntax.specs.Matches.{Iterated, IsAllowed, Matches}
 use Rattle.ere_syntax.proofs.Meaning.{matches_inside}
 use Rattle.sem_primitives.specs.Texts.{has}
 use Rattle.sem_primitives.specs.FirstMatch.{unless_there, added, united, each, only_if, is_in, in_set, turned, closed, only_when, repeated, ends, greater, greatest, longest, or_next, first_by, first_match, has_match}
-use Rattle.ere_syntax.specs.FirstMatch.{IsFirst, IsFirstMatch, IsMatch}
+use Rattle.ere_syntax.specs.FirstMatch.{IsFirstMatch, IsMatch}
 
 -- Sets of places.
 

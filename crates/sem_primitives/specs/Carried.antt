@@ -6,10 +6,11 @@ use Rattle.awk_values.specs.Values.{number_of_value}
 use Rattle.awk_values.specs.declared.fault.Fault.{Fault}
 use Rattle.world_core.specs.WorldState.{Outside, Source}
 use Rattle.sem_primitives.specs.Limits.{most_operands}
-use Rattle.sem_primitives.specs.SharedState.{Inner, Shared, MainReader, Operands, NoFile, SomeFile, NoneLeft, special_of}
+use Rattle.sem_primitives.specs.SharedState.{Inner, Shared, MainReader, Operands, NoneLeft, special_of}
+use Rattle.sem_primitives.specs.Finds.{seen}
 use Rattle.sem_primitives.specs.Assignments.{assignment_of, assigned}
 use Rattle.sem_primitives.specs.Records.{Got, Record, AtEnd, Broken}
-use Rattle.sem_primitives.specs.InputMeaning.{next_record, reader_source, leaves, stops_reading, begins_reading, with_operands, reader_of, operand_text, passes_operand, is_below}
+use Rattle.sem_primitives.specs.InputMeaning.{next_record, reader_source, leaves, stops_reading, begins_reading, file_named, reader_of, operand_text, passes_operand, is_below}
 use Rattle.sem_primitives.specs.declared.constants.Special.TheVariants.{Argc}
 use Rattle.sem_primitives.specs.declared.table.Primitive.{Primitive}
 use Rattle.sem_primitives.specs.declared.table.Primitive.TheVariants.{NextMain, Getline, GetlineVar, StartAssign}
@@ -42,7 +43,7 @@ carried_opened on name (Some reader) inner = carried_reading on reader (begins_r
 
 abbrev pub carried_operand : (Inner → ℕ) → Outside → List ℕ → Option (List ℕ × List ℕ) → Inner → ℕ
 carried_operand on outside text (Some pair) inner = counted_by on (assigned pair.0 pair.1 inner)
-carried_operand on outside text None inner = carried_opened on text (reader_of outside text) (with_operands SomeFile inner)
+carried_operand on outside text None inner = carried_opened on text (reader_of (seen inner outside) text) (file_named inner)
 
 abbrev pub carried_taken : (Inner → ℕ) → Outside → List ℕ → Inner → ℕ
 carried_taken on outside [] inner = on inner

@@ -1,17 +1,14 @@
 -- Assignments that calls carry out, and calls that are in turn, computed.
-use Rattle.std.specs.Prelude.{◌≡◌, ℕ, true, false, List, [], ◌∷◌, codes, refl}
+use Rattle.std.specs.Prelude.{◌≡◌, true, false, [], ◌∷◌, codes, refl}
 use Rattle.std.specs.Fmt.{digits}
 use Rattle.awk_text.specs.Escapes.{unescaped, escaped, octal}
-use Rattle.awk_text.specs.Reading.{numeral_at, sign_at, fraction_at, exponent_at}
-use Rattle.awk_text.specs.Number.{numerator, denominator}
 use Rattle.awk_tokens.specs.Words.{keywords, builtins, left_out_words}
 use Rattle.awk_values.specs.declared.value.Value.TheVariants as value
-use Rattle.world_core.specs.declared.world.Ending.TheVariants.{End}
 use Rattle.sem_primitives.specs.SharedState.{Shared}
 use Rattle.sem_primitives.specs.Jobs.{shared_at_start}
 use Rattle.sem_primitives.specs.Carried.{carried_out}
 use Rattle.sem_primitives.specs.InTurn.{in_turn, listed_in_turn, values_taken}
-use Rattle.sem_primitives.specs.ExampleStates.{job_of, source, nothing, empty, with_file, at_start, after_call}
+use Rattle.sem_primitives.specs.ExampleStates.{job_of, nothing, empty, at_start, after_call}
 use Rattle.sem_primitives.specs.InputExamples.{files}
 use Rattle.sem_primitives.specs.declared.table.Primitive.TheVariants.{NextMain, Getline, GetlineVar, GetlineFile, SubResult, Line, Declare, StartAssign, PendingName, PendingValue, BeginEnd}
 use Rattle.sem_primitives.specs.declared.table.Listed.TheVariants.{Sprintf, Print, Printf}

@@ -7,9 +7,10 @@ use Rattle.awk_values.specs.declared.fault.Fault.TheVariants.{OpenInput, ReadFai
 use Rattle.awk_values.specs.declared.value.Value.{Value}
 use Rattle.awk_values.specs.declared.value.Value.TheVariants.{Num, StrNum}
 use Rattle.world_core.specs.declared.world.Ending.TheVariants.{End}
-use Rattle.world_core.specs.WorldState.{Outside, Entry, Named, Source}
+use Rattle.world_core.specs.WorldState.{Outside, Entry, Named, Source, bytes_of}
 use Rattle.sem_primitives.specs.Limits.{most_operands}
 use Rattle.sem_primitives.specs.SharedState.{Inner, MainReader, Standard, File, Operands, NoFile, SomeFile, NoneLeft, ◌>>=◌, special_of, with_special}
+use Rattle.sem_primitives.specs.Finds.{first_found, looked, seen}
 use Rattle.sem_primitives.specs.Texts.{same_text}
 use Rattle.sem_primitives.specs.Records.{Got, Record, AtEnd, Broken, record_separator, first_record}
 use Rattle.sem_primitives.specs.FieldMeaning.{special_text, with_record}
@@ -27,9 +28,21 @@ use Rattle.sem_primitives.specs.declared.constants.NameKind.{NameKind}
 use Rattle.sem_primitives.specs.declared.constants.Special.{Special}
 use Rattle.sem_primitives.specs.declared.constants.Special.TheVariants.{Argc, Filename, Fnr, Nr, Rs}
 
+-- at its end, where nothing is left
+abbrev pub nothing_left : Source
+nothing_left = record { rest = []; ending = End }
+
+abbrev pub source_found : Entry → Source
+source_found entry = record { rest = bytes_of entry.bytes; ending = entry.ending }
+
+-- Of what is left; or of what is found in its place, and then what is left is not known, since the next read finds it anew.
+abbrev pub record_by : Option (List Entry) → Option ℕ → Source → Result (Got × Source) Fault
+record_by None rs source = first_record rs source
+record_by (Some finds) rs source = first_record rs (source_found (first_found finds)) >>= λ got. Ok (got.0, nothing_left)
+
 -- RS as it is now says what the next record is
 abbrev pub next_record : Inner → Source → Result (Got × Source) Fault
-next_record inner source = first_record (record_separator (special_text Rs inner)) source
+next_record inner source = record_by inner.finds (record_separator (special_text Rs inner)) source
 
 -- a name opens for reading if it is there, and what it holds then is read
 abbrev pub source_if : Bool → Option (List ℕ) → Entry → Option Source
@@ -54,9 +67,13 @@ reader_source Standard inner = inner.main.standard
 reader_source (File source) inner = source
 
 -- what is left in the reader at hand
+abbrev pub with_left : MainReader → Source → Inner → Inner
+with_left Standard left inner = record inner { main = record inner.main { standard = left; reading = Some Standard } }
+with_left (File source) left inner = record inner { main = record inner.main { reading = Some (File left) } }
+
+-- after it was read
 abbrev pub leaves : MainReader → Source → Inner → Inner
-leaves Standard left inner = record inner { main = record inner.main { standard = left; reading = Some Standard } }
-leaves (File source) left inner = record inner { main = record inner.main { reading = Some (File left) } }
+leaves reader left inner = looked (with_left reader left inner)
 
 abbrev pub stops_reading : Inner → Inner
 stops_reading inner = record inner { main = record inner.main { reading = None } }
@@ -68,6 +85,10 @@ begins_reading name reader inner =
 
 abbrev pub with_operands : Operands → Inner → Inner
 with_operands operands inner = record inner { main = record inner.main { operands = operands } }
+
+-- an operand named a file, and what it names was looked for
+abbrev pub file_named : Inner → Inner
+file_named inner = looked (with_operands SomeFile inner)
 
 -- what the reader at hand gives; at its end the next operand is reached
 abbrev pub got_main : (Inner → Result (Inner × Main) Fault) → MainReader → Inner → Got × Source → Result (Inner × Main) Fault
@@ -97,7 +118,7 @@ made on (inner, false) = on inner
 
 abbrev pub file_or_assignment : (Inner → Result (Inner × Main) Fault) → Outside → List ℕ → Option (List ℕ × List ℕ) → Inner → Result (Inner × Main) Fault
 file_or_assignment on outside text (Some pair) inner = assigned pair.0 pair.1 inner >>= λ x. made on x
-file_or_assignment on outside text None inner = opened on text (reader_of outside text) (with_operands SomeFile inner)
+file_or_assignment on outside text None inner = opened on text (reader_of (seen inner outside) text) (file_named inner)
 
 -- an empty operand is skipped
 abbrev pub taken : (Inner → Result (Inner × Main) Fault) → Outside → List ℕ → Inner → Result (Inner × Main) Fault
@@ -164,7 +185,7 @@ main_input outside inner = go_on inner.main.ended inner.main.reading (next_opera
 -- at its end, and of a file nothing is left to tell.
 abbrev pub gives_up : Option MainReader → Inner → Inner
 gives_up None inner = inner
-gives_up (Some reader) inner = stops_reading (leaves reader (record { rest = []; ending = End }) inner)
+gives_up (Some reader) inner = stops_reading (with_left reader nothing_left inner)
 
 abbrev pub next_file_row : Inner → Inner × Unit {0}
 next_file_row inner = (gives_up inner.main.reading inner, tt)
@@ -231,7 +252,7 @@ got_file keep inner Broken = Ok (inner, input.Failed)
 abbrev pub read_file : (List ℕ → Inner → Result (Inner × InputAnswer) Fault) → List ℕ → Source → Inner → Result (Inner × InputAnswer) Fault
 read_file keep name source inner =
     next_record inner source >>= λ got.
-    got_file keep (record inner { readers = with_reader name got.1 inner.readers }) got.0
+    got_file keep (looked (record inner { readers = with_reader name got.1 inner.readers })) got.0
 
 -- what does not open is no stream
 abbrev pub opened_file : (List ℕ → Inner → Result (Inner × InputAnswer) Fault) → List ℕ → Option Source → Inner → Result (Inner × InputAnswer) Fault
@@ -241,7 +262,7 @@ opened_file keep name (Some source) inner = read_file keep name source inner
 abbrev pub open_or_read : (List ℕ → Inner → Result (Inner × InputAnswer) Fault) → List ℕ → Outside → Option Source → Inner → Result (Inner × InputAnswer) Fault
 open_or_read keep name outside (Some source) inner = read_file keep name source inner
 open_or_read keep name outside None inner =
-    elim (has_room inner) [ true ↦ opened_file keep name (source_of (outside (Named name))) inner | false ↦ Err TooManyStreams ]
+    elim (has_room inner) [ true ↦ opened_file keep name (source_of (seen inner outside (Named name))) (looked inner) | false ↦ Err TooManyStreams ]
 
 abbrev pub getline_file_by : (List ℕ → Inner → Result (Inner × InputAnswer) Fault) → Value → Outside → Inner → Result (Inner × InputAnswer) Fault
 getline_file_by keep name outside inner = open_or_read keep (text_of_value name) outside (reader_named (text_of_value name) inner.readers) inner

@@ -3,7 +3,7 @@ use Rattle.std.specs.Prelude.{ℕ, ◌+◌, Bool, false, not, ◌||◌, nat_le, 
 use Rattle.awk_values.specs.declared.fault.Fault.{Fault}
 use Rattle.awk_values.specs.declared.fault.Fault.TheVariants.{TextLimit}
 use Rattle.awk_values.specs.declared.value.Value.TheVariants.{Uninit, StrNum}
-use Rattle.world_core.specs.WorldState.{Outside, Source}
+use Rattle.world_core.specs.WorldState.{Entry, Outside, Source, absent}
 use Rattle.sem_primitives.specs.Limits.{most_text}
 use Rattle.sem_primitives.specs.SharedState.{Pairs, Shared, NoFile, specials_at_start}
 use Rattle.sem_primitives.specs.ArrayMeaning.{stored}
@@ -39,9 +39,23 @@ abbrev pub environment_in : Pairs → List (List ℕ × List ℕ) → Pairs
 environment_in ps [] = ps
 environment_in ps (pair ∷ rest) = environment_in (stored pair.0 (StrNum pair.1) ps) rest
 
+-- What is outside as a script begins to run: names of which nobody else changes what they hold; or names that others change too, of which is said
+-- what is found there, each time that something is opened, read or written.
+pub data Surroundings : Type 0 where
+  Kept : Outside → Surroundings
+  Found : List Entry → Surroundings
+
+abbrev pub kept_by : Surroundings → Outside
+kept_by (Kept outside) = outside
+kept_by (Found finds) = λ target. absent
+
+abbrev pub found_by : Surroundings → Option (List Entry)
+found_by (Kept outside) = None
+found_by (Found finds) = Some finds
+
 -- what script and host share before the script runs: ARGV is array 0, ENVIRON array 1
-abbrev pub shared_at_start : JobForm → Source → Outside → Shared
-shared_at_start job input outside = record {
+abbrev pub shared_in : JobForm → Source → Surroundings → Shared
+shared_in job input surroundings = record {
   inner = record {
     arrays = arguments_from 0 (codes "awk" ∷ job.operands) ∷ (environment_in [] job.environment ∷ []);
     iterators = [];
@@ -57,7 +71,12 @@ shared_at_start job input outside = record {
     pending = None;
     line = None;
     substituted = None;
+    finds = found_by surroundings;
   };
-  outside = outside;
+  outside = kept_by surroundings;
   output = [];
 }
+
+-- where nobody else changes what names hold
+abbrev pub shared_at_start : JobForm → Source → Outside → Shared
+shared_at_start job input outside = shared_in job input (Kept outside)

@@ -3,6 +3,7 @@ pub mod Limits
 pub mod Constants
 pub mod Sorts
 pub mod SharedState
+pub mod Finds
 pub mod Texts
 pub mod ValueMeaning
 pub mod FirstMatch
@@ -26,6 +27,7 @@ pub mod ArrayExamples
 pub mod TextExamples
 pub mod FormatExamples
 pub mod OutputExamples
+pub mod FindsExamples
 pub mod InTurn
 pub mod CarriedExamples
 pub mod LimitExamples

@@ -8,6 +8,7 @@ use Rattle.awk_values.specs.declared.value.Value.TheVariants.{Text}
 use Rattle.world_core.specs.WorldState.{Target, Standard, Named, Action, Open, after, free, puts}
 use Rattle.sem_primitives.specs.Limits.{most_streams}
 use Rattle.sem_primitives.specs.SharedState.{Inner, Shared, Does, ◌>>=◌}
+use Rattle.sem_primitives.specs.Finds.{looked_by, seen}
 use Rattle.sem_primitives.specs.Texts.{same_text}
 use Rattle.sem_primitives.specs.FieldMeaning.{joined, special_text}
 use Rattle.sem_primitives.specs.Formats.{formatted}
@@ -28,12 +29,15 @@ abbrev pub what_fits : Option ℕ → List ℕ → List ℕ
 what_fits None text = text
 what_fits (Some room) text = take room text
 
+abbrev pub write_answer : Option ℕ → List ℕ → Result (Unit {0}) Fault
+write_answer room text = cond (all_fits room text) (Ok tt) (Err WriteFailed)
+
 -- a text is written to an open target: what fits goes out, and it is a fault that not all does
 abbrev pub written : Target → List ℕ → Shared → Does (Result (Unit {0}) Fault)
 written target text state = record {
-  added = puts target (what_fits (free (state.outside target)) text);
-  inner = state.inner;
-  answer = cond (all_fits (free (state.outside target)) text) (Ok tt) (Err WriteFailed);
+  added = puts target (what_fits (free (seen state.inner state.outside target)) text);
+  inner = looked_by (write_answer (free (seen state.inner state.outside target)) text) state.inner;
+  answer = write_answer (free (seen state.inner state.outside target)) text;
 }
 
 -- Streams that are open by their names; their number is limited.
@@ -56,12 +60,12 @@ abbrev pub kept_open : List ℕ → Inner → Result (Unit {0}) Fault → Inner
 kept_open name inner (Ok x) = record inner { writers = inner.writers ++ (name ∷ []) }
 kept_open name inner (Err fault) = inner
 
-abbrev pub then_written : Action → List ℕ → Shared → Does (Result (Unit {0}) Fault) → Does (Result (Unit {0}) Fault)
-then_written opening name state does = record { added = opening ∷ does.added; inner = kept_open name state.inner does.answer; answer = does.answer }
+abbrev pub then_written : Action → List ℕ → Does (Result (Unit {0}) Fault) → Does (Result (Unit {0}) Fault)
+then_written opening name does = record { added = opening ∷ does.added; inner = kept_open name does.inner does.answer; answer = does.answer }
 
 abbrev pub opened : List ℕ → Bool → List ℕ → Shared → Does (Result (Unit {0}) Fault)
 opened name append text state =
-    then_written (Open name append) name state (written (Named name) text (record state { outside = after (Open name append ∷ []) state.outside }))
+    then_written (Open name append) name (written (Named name) text (record state { outside = after (Open name append ∷ []) state.outside }))
 
 abbrev pub opened_if : Bool → Bool → List ℕ → Bool → List ℕ → Shared → Does (Result (Unit {0}) Fault)
 opened_if false opens name append text state = refused TooManyStreams state
@@ -71,7 +75,7 @@ opened_if true true name append text state = opened name append text state
 -- a stream that is open stays so, whatever it was opened for
 abbrev pub written_by : Bool → List ℕ → Bool → List ℕ → Shared → Does (Result (Unit {0}) Fault)
 written_by true name append text state = written (Named name) text state
-written_by false name append text state = opened_if (has_room state.inner) (state.outside (Named name)).opens name append text state
+written_by false name append text state = opened_if (has_room state.inner) (seen state.inner state.outside (Named name)).opens name append text state
 
 abbrev pub put_text : Destination → List ℕ → List ℕ → Shared → Does (Result (Unit {0}) Fault)
 put_text destination.Standard name text state = written Standard text state

@@ -3,7 +3,7 @@ use Rattle.std.specs.Prelude.{ℕ, ◌+◌, ◌==◌, Bool, cond, List, [], ◌+
 use Rattle.awk_values.specs.declared.fault.Fault.{Fault}
 use Rattle.awk_values.specs.declared.value.Value.{Value}
 use Rattle.awk_values.specs.declared.value.Value.TheVariants.{Uninit, Num, Text}
-use Rattle.world_core.specs.WorldState.{Outside, Action, Source, after}
+use Rattle.world_core.specs.WorldState.{Outside, Action, Entry, Source, after}
 use Rattle.sem_primitives.specs.Constants.{special_number}
 use Rattle.sem_primitives.specs.declared.constants.NameKind.{NameKind}
 use Rattle.sem_primitives.specs.declared.constants.Special.{Special}
@@ -77,6 +77,8 @@ pub record Inner : Type 0 where
   -- what was read for a variable, and what a substitution made: each is given once
   pub line : Option Value
   pub substituted : Option Value
+  -- where others change what names hold too: what is found there from now on, each time that something is opened, read or written
+  pub finds : Option (List Entry)
 
 -- with the outside as it is now, and the output so far
 pub record Shared : Type 0 where

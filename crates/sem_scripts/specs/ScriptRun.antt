@@ -5,7 +5,7 @@ use Rattle.awk_values.specs.declared.fault.Fault.{Fault}
 use Rattle.awk_values.specs.declared.fault.Fault.TheVariants.{NextOutside}
 use Rattle.awk_values.specs.declared.value.Value.TheVariants.{Uninit}
 use Rattle.world_core.specs.WorldState.{Outside, Source, Action}
-use Rattle.sem_primitives.specs.Jobs.{JobForm, fault_of_job, shared_at_start}
+use Rattle.sem_primitives.specs.Jobs.{JobForm, Kept, Surroundings, fault_of_job, shared_in}
 use Rattle.sem_primitives.specs.declared.answers.InputAnswer.{InputAnswer}
 use Rattle.sem_primitives.specs.declared.answers.InputAnswer.TheVariants as input
 use Rattle.sem_primitives.specs.declared.answers.AssignAnswer.{AssignAnswer}
@@ -139,11 +139,11 @@ abbrev pub unless : Option Fault → Doing (Unit {0}) → Doing (Unit {0})
 unless (Some fault) doing = stop (Faulted fault)
 unless None doing = doing
 
--- A run by its job, the standard input, the outside and its turns, where at most so many calls may be nested.
+-- A run by its job, the standard input, what is outside, and its turns, where at most so many calls may be nested.
 pub record Setting : Type 0 where
   pub job : JobForm
   pub input : Source
-  pub outside : Outside
+  pub outside : Surroundings
   pub deepest : ℕ
 
 abbrev pub start : Setting → (globals : ℕ) → ℕ → State
@@ -153,7 +153,7 @@ start setting globals turns = record {
   ranges = λ i. false;
   status = zero_number;
   own = record { locals = []; room = setting.deepest };
-  shared = shared_at_start setting.job setting.input setting.outside;
+  shared = shared_in setting.job setting.input setting.outside;
 }
 
 abbrev pub run_with : Setting → ℕ → Parts → Ending
@@ -163,8 +163,12 @@ abbrev pub resolved_run : Resolved → Setting → ℕ → Ending
 resolved_run script setting turns = run_with setting turns (parts_of turns script)
 
 -- at most 9,999 calls may be nested
+abbrev pub setting_in : JobForm → Source → Surroundings → Setting
+setting_in job input surroundings = record { job = job; input = input; outside = surroundings; deepest = 9999 }
+
+-- where nobody else changes what names hold
 abbrev pub setting_of : JobForm → Source → Outside → Setting
-setting_of job input outside = record { job = job; input = input; outside = outside; deepest = 9999 }
+setting_of job input outside = setting_in job input (Kept outside)
 
 abbrev pub run_of : List Item → JobForm → Source → Outside → ℕ → Ending
 run_of script job input outside turns = resolved_run (resolved script) (setting_of job input outside) turns

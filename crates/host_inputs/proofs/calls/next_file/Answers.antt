@@ -1,5 +1,5 @@
 use Rattle.std.proofs.Common.{sym}
-use Rattle.host_inputs.specs.States.{over_world, with_tables}
+use Rattle.host_inputs.specs.States.{Over, over_world, with_tables}
 use Rattle.host_inputs.proofs.Apart.{holds_next, tables_next, writers_stay}
 use Rattle.host_inputs.proofs.SkipCalls.{given_as, skip_called, skip_trapped}
 use Rattle.host_inputs.proofs.calls.next_file.Goals as goal
@@ -22,6 +22,6 @@ returns-clause-called g c = λ f memory texts none.
     let old = g.W.World.state c.args.world.now in
     let new = g.W.World.state c.skip.new.world in
     skip_called texts c.args.input.now c.skip.new.self old new c.skip.ensures.nothing c.skip.ensures.next c.skip.ensures.found c.skip.ensures.ended g.W.World.tells f memory none
-    (λ tells inner. given_as (with_tables texts c.args.input.now old inner) _ _ (c.skip.ensures.told tells (with_tables texts c.args.input.now old inner))
+    (λ tells inner. given_as (with_tables texts c.args.input.now (Over old) inner) _ _ (c.skip.ensures.told tells (with_tables texts c.args.input.now (Over old) inner))
     (tables_next texts c.args.input.now c.skip.new.self (g.W.World.kinds c.args.world.now) old new inner c.requires.held (c.skip.ensures.places tells)))
     c.skip.ensures.outside c.args.words.now (sym c.in_default.ensures)

@@ -28,4 +28,4 @@ returns-clause-called g c = λ f memory none.
     let new = with_values c.take.new.self (over_world c.read.new.texts c.read.new.input (g.W.World.state c.read.new.world) f) in
     subst (λ r. IsCalled g.W.World.tells (Of (file_primitive c.args.to)) old c.args.words.now memory r (shown_after r old new) []) (sym c.answered.ensures)
     (file_answers g.W.World.tells c.args.to f c.args.words.now memory none c.args.handles.now c.args.texts.now c.args.input.now (g.W.World.state c.args.world.now) c.in-Ok.read.0 c.in-Ok.read.1.now (sym c.in-Ok.ensures) c.take.new.self gone
-    c.read.new.texts c.read.new.input (g.W.World.state c.read.new.world) c.read.result (λ y inner. c.read.ensures.told y inner c.in-Ok.read.1.now (sym (c.as_slice.ensures.value ∙ c.in-Ok-to_text.ensures.ok))) c.read.ensures.outside c.read.ensures.rest c.read.ensures.writers c.read.ensures.line c.read.ensures.other c.read.ensures.substituted)
+    c.read.new.texts c.read.new.input (g.W.World.state c.read.new.world) c.read.result (λ y inner. c.read.ensures.told y inner c.in-Ok.read.1.now (sym (c.as_slice.ensures.value ∙ c.in-Ok-to_text.ensures.ok))) c.read.ensures.outside _ (sym (c.as_slice.ensures.value ∙ c.in-Ok-to_text.ensures.ok)) c.read.ensures.finds c.read.ensures.rest c.read.ensures.writers c.read.ensures.line c.read.ensures.other c.read.ensures.substituted)

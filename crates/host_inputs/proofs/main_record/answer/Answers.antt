@@ -5,6 +5,6 @@ use Rattle.host_inputs.proofs.Kept.{stop_gives}
 use Rattle.host_inputs.proofs.main_record.answer.Goals as goal
 
 pub returns-in-Err-clause-told : goal.returns-in-Err-clause-told
-returns-in-Err-clause-told c = λ state inner.
-    subst (λ x. RowGives (answer_of c.args.how (with_tables c.args.texts.now c.args.input.now state inner, main_of_given x)) (Err c.in-Err.stop) (with_tables c.take.new.texts c.take.new.input state inner)) (sym c.in-Taken.is)
-    (stop_gives _ c.in-Err.stop (with_tables c.take.new.texts c.take.new.input state inner) (c.in-Err.ensures.err state inner))
+returns-in-Err-clause-told c = λ around inner.
+    subst (λ x. RowGives (answer_of c.args.how (with_tables c.args.texts.now c.args.input.now around inner, main_of_given x)) (Err c.in-Err.stop) (with_tables c.take.new.texts c.take.new.input around inner)) (sym c.in-Taken.is)
+    (stop_gives _ c.in-Err.stop (with_tables c.take.new.texts c.take.new.input around inner) (c.in-Err.ensures.err around inner))

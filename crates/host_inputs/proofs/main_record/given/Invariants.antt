@@ -4,7 +4,8 @@ use Rattle.sem_primitives.specs.SharedState.{Inner}
 use Rattle.host_streams.specs.OpenFiles.{WritersGo}
 use Rattle.host_inputs.specs.Givens.{OffersTexts, left_to_open}
 use Rattle.host_inputs.specs.Keeps.{IsMoved, KeepsSubstituted}
-use Rattle.host_inputs.specs.States.{HoldsInput, with_tables}
+use Rattle.host_inputs.specs.States.{HoldsInput, Over, with_tables}
+use Rattle.host_inputs.proofs.MainFound.{FoundSoFar}
 use Rattle.host_inputs.proofs.main_record.given.Given as goal
 
 abbrev pub invariant-turns : goal.invariant-turns
@@ -17,8 +18,9 @@ invariant-turns g l =
       rest : IsMoved l.fn.input l.input;
       substituted : KeepsSubstituted l.fn.texts l.texts;
       pending : l.input.names.pending ≡ l.fn.input.names.pending;
+      finds : FoundSoFar (g.O.Operands.text l.operands) l.fn.texts l.fn.input l.texts l.input;
       told : w.tells → (inner : Inner) → OffersTexts (g.O.Operands.text l.operands) inner →
-          main_input (w.state l.fn.world).outside (with_tables l.fn.texts l.fn.input (w.state l.fn.world) inner) ≡ main_input (w.state l.fn.world).outside (with_tables l.texts l.input (w.state l.world) inner);
+          main_input (w.state l.fn.world).outside (with_tables l.fn.texts l.fn.input (Over (w.state l.fn.world)) inner) ≡ main_input (w.state l.fn.world).outside (with_tables l.texts l.input (Over (w.state l.world)) inner);
     }
 
 abbrev pub decreases-turns : goal.decreases-turns

@@ -10,10 +10,10 @@ use Rattle.host_inputs.proofs.main_record.keep.Goals as goal
 
 pub returns-in-Record-clause-ok : goal.returns-in-Record-clause-ok
 returns-in-Record-clause-ok c =
-    on_ok_weaker c.put_record.result (λ h state inner.
-    ap (λ k. kept_by k c.args.text (with_tables c.args.texts.now c.args.input.now state inner)) c.in-Record.is ∙ ap (λ r. r >>= λ i. Ok (i, Read)) (h (with_input c.args.input.now state inner))) c.put_record.ensures.ok
+    on_ok_weaker c.put_record.result (λ h around inner.
+    ap (λ k. kept_by k c.args.text (with_tables c.args.texts.now c.args.input.now around inner)) c.in-Record.is ∙ ap (λ r. r >>= λ i. Ok (i, Read)) (h (with_input c.args.input.now around inner))) c.put_record.ensures.ok
 
 pub returns-in-Record-clause-err : goal.returns-in-Record-clause-err
 returns-in-Record-clause-err c =
-    IfErr-weaker c.put_record.result _ _ (λ stop h state inner.
-    subst (λ k. IsStopOf (kept_by k c.args.text (with_tables c.args.texts.now c.args.input.now state inner)) stop) (sym c.in-Record.is) (stop_then _ (λ i. Ok (i, Read)) stop (h (with_input c.args.input.now state inner)))) c.put_record.ensures.err
+    IfErr-weaker c.put_record.result _ _ (λ stop h around inner.
+    subst (λ k. IsStopOf (kept_by k c.args.text (with_tables c.args.texts.now c.args.input.now around inner)) stop) (sym c.in-Record.is) (stop_then _ (λ i. Ok (i, Read)) stop (h (with_input c.args.input.now around inner)))) c.put_record.ensures.err

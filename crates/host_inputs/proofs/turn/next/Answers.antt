@@ -3,7 +3,7 @@ use Rattle.awk_values.specs.Values.{number_of_value, text_of_value}
 use Rattle.sem_primitives.specs.InputMeaning.{main_input}
 use Rattle.sem_primitives.specs.Records.{record_separator}
 use Rattle.host_streams.specs.Mains.{AnswerIs}
-use Rattle.host_inputs.specs.States.{with_tables}
+use Rattle.host_inputs.specs.States.{Finding, Over, with_tables}
 use Rattle.host_inputs.proofs.Apart.{holds_next, tables_next, writers_stay}
 use Rattle.host_inputs.proofs.Turns.{assign_live, next_passes}
 use Rattle.host_inputs.proofs.turn.next.Goals as goal
@@ -20,10 +20,18 @@ returns-clause-goes g c = λ tells.
 pub returns-clause-told : goal.returns-clause-told
 returns-clause-told g c = λ tells inner offered.
     let old = g.W.World.state c.args.world.now in
-    let now = with_tables c.args.texts.now c.args.input.now old inner in
+    let now = with_tables c.args.texts.now c.args.input.now (Over old) inner in
     subst (λ x. AnswerIs (main_input old.outside now) c.next.result old.outside now x)
     (tables_next c.args.texts.now c.args.input.now c.next.new.self (g.W.World.kinds c.args.world.now) old (g.W.World.state c.next.new.world) inner c.requires.held (c.next.ensures.places tells))
     (c.next.ensures.told tells now (record { separator = ap record_separator (sym (c.as_slice.ensures ∙ c.in_ok-rs.ensures ∙ ap text_of_value c.get.ensures)) }) (record { count = sym c.get-argc.ensures; operands = offered }))
+
+pub returns-clause-finds : goal.returns-clause-finds
+returns-clause-finds g c =
+    let finds = c.next.ensures.finds in (
+      finds.0,
+      λ later outside inner offered. finds.1 later outside (with_tables c.args.texts.now c.args.input.now (Finding later) inner)
+          (record { separator = ap record_separator (sym (c.as_slice.ensures ∙ c.in_ok-rs.ensures ∙ ap text_of_value c.get.ensures)) }) (record { count = sym c.get-argc.ensures; operands = offered }),
+    )
 
 pub returns-clause-passes : goal.returns-clause-passes
 returns-clause-passes g c =

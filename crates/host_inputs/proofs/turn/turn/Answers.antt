@@ -1,9 +1,9 @@
-use Rattle.std.proofs.Common.{refl, ap, subst, sym, ◌∙◌, true, false}
+use Rattle.std.proofs.Common.{◌++◌, refl, ap, subst, sym, ◌∙◌, true, false}
 use Rattle.sem_primitives.specs.InputMeaning.{main_input}
 use Rattle.host_streams.specs.declared.main_input.MainNext.TheVariants as main
 use Rattle.host_inputs.specs.Givens.{TurnGives}
-use Rattle.host_inputs.specs.States.{with_input, with_tables}
-use Rattle.host_inputs.proofs.Turns.{assign_made, assign_pends, assign_stops, goes_on, next_told, renamed, renamed_stop, stopped_gives, told_live, told_rests}
+use Rattle.host_inputs.specs.States.{Finding, Over, with_input, with_tables}
+use Rattle.host_inputs.proofs.Turns.{assign_made, assign_pends, assign_stops, goes_on, next_found, next_told, renamed, renamed_stop, stop_found, stopped_gives, told_live, told_rests}
 use Rattle.host_inputs.proofs.turn.turn.Goals as goal
 
 pub returns-in-Ok-Record-clause-told : goal.returns-in-Ok-Record-clause-told
@@ -15,35 +15,96 @@ returns-in-Ok-End-clause-told g c = λ tells inner offered. next_told main.End _
 pub returns-in-Ok-Opened-clause-told : goal.returns-in-Ok-Opened-clause-told
 returns-in-Ok-Opened-clause-told g c = λ tells inner offered.
     next_told (main.Opened c.in-Ok-Opened.name) _ _ _ _ c.in-Ok-Opened.field-0-is (c.in-Ok-Opened.ensures.told tells inner offered)
-    ∙ ap (main_input (g.W.World.state c.args.world.now).outside) (sym (c.begin.ensures.set (with_input c.next.new.input (g.W.World.state c.next.new.world) inner)))
+    ∙ ap (main_input (g.W.World.state c.args.world.now).outside) (sym (c.begin.ensures.set (with_input c.next.new.input (Over (g.W.World.state c.next.new.world)) inner)))
 
 pub returns-in-Ok-true-clause-told : goal.returns-in-Ok-true-clause-told
 returns-in-Ok-true-clause-told g c = λ tells inner offered.
     let now = g.W.World.state c.next.new.world in
-    assign_pends _ _ c.in-Ok-Assign.name c.in-Ok-Assign.text (with_tables c.args.texts.now c.next.new.input now inner) (with_tables c.assign.new.texts (record c.next.new.input { names = c.assign.new.names }) now inner)
+    assign_pends _ _ c.in-Ok-Assign.name c.in-Ok-Assign.text (with_tables c.args.texts.now c.next.new.input (Over now) inner) (with_tables c.assign.new.texts (record c.next.new.input { names = c.assign.new.names }) (Over now) inner)
     (next_told (main.Assign c.in-Ok-Assign.name c.in-Ok-Assign.text) _ _ _ _ c.in-Ok-Assign.field-0-is (c.in-Ok-Assign.ensures.told tells inner offered))
-    (renamed c.as_slice.result.now c.as_slice-in-Ok-Assign.result.now c.in-Ok-Assign.name c.in-Ok-Assign.text c.in-Ok-true.field-0 true _ _ c.as_slice.ensures.value c.as_slice-in-Ok-Assign.ensures.value c.in-Ok-true.field-0-test (c.in-Ok-true.ensures.ok (with_input c.next.new.input now inner)))
+    (renamed c.as_slice.result.now c.as_slice-in-Ok-Assign.result.now c.in-Ok-Assign.name c.in-Ok-Assign.text c.in-Ok-true.field-0 true _ _ c.as_slice.ensures.value c.as_slice-in-Ok-Assign.ensures.value c.in-Ok-true.field-0-test (c.in-Ok-true.ensures.ok (with_input c.next.new.input (Over now) inner)))
 
 pub returns-in-Ok-false-clause-told : goal.returns-in-Ok-false-clause-told
 returns-in-Ok-false-clause-told g c = λ tells inner offered.
     let now = g.W.World.state c.next.new.world in
     let rests = told_rests c.in-Ok-Assign.name c.in-Ok-Assign.text c.next.new.input.main c.in-Ok-Assign.field-0-is c.in-Ok-Assign.ensures.rests in
-    assign_made _ _ c.in-Ok-Assign.name c.in-Ok-Assign.text (with_tables c.args.texts.now c.next.new.input now inner) (with_tables c.assign.new.texts (record c.next.new.input { names = c.assign.new.names }) now inner)
+    assign_made _ _ c.in-Ok-Assign.name c.in-Ok-Assign.text (with_tables c.args.texts.now c.next.new.input (Over now) inner) (with_tables c.assign.new.texts (record c.next.new.input { names = c.assign.new.names }) (Over now) inner)
     (next_told (main.Assign c.in-Ok-Assign.name c.in-Ok-Assign.text) _ _ _ _ c.in-Ok-Assign.field-0-is (c.in-Ok-Assign.ensures.told tells inner offered))
-    (renamed c.as_slice.result.now c.as_slice-in-Ok-Assign.result.now c.in-Ok-Assign.name c.in-Ok-Assign.text c.in-Ok-false.field-0 false _ _ c.as_slice.ensures.value c.as_slice-in-Ok-Assign.ensures.value c.in-Ok-false.field-0-test (c.in-Ok-false.ensures.ok (with_input c.next.new.input now inner)))
-    ∙ goes_on (g.W.World.state c.args.world.now).outside c.next.new.input.main now (with_tables c.assign.new.texts (record c.next.new.input { names = c.assign.new.names }) now inner) refl
+    (renamed c.as_slice.result.now c.as_slice-in-Ok-Assign.result.now c.in-Ok-Assign.name c.in-Ok-Assign.text c.in-Ok-false.field-0 false _ _ c.as_slice.ensures.value c.as_slice-in-Ok-Assign.ensures.value c.in-Ok-false.field-0-test (c.in-Ok-false.ensures.ok (with_input c.next.new.input (Over now) inner)))
+    ∙ goes_on (g.W.World.state c.args.world.now).outside c.next.new.input.main (Over now) (with_tables c.assign.new.texts (record c.next.new.input { names = c.assign.new.names }) (Over now) inner) refl
     (told_live c.in-Ok-Assign.name c.in-Ok-Assign.text c.next.new.input.main c.in-Ok-Assign.field-0-is c.in-Ok-Assign.ensures.live) rests.0 rests.1
 
 pub returns-in-Ok-Assign-clause-told : goal.returns-in-Ok-Assign-clause-told
 returns-in-Ok-Assign-clause-told g c = λ tells inner offered.
     let now = g.W.World.state c.next.new.world in
-    assign_stops _ _ c.in-Ok-Assign.name c.in-Ok-Assign.text (with_tables c.args.texts.now c.next.new.input now inner) (with_tables c.assign.new.texts (record c.next.new.input { names = c.assign.new.names }) now inner)
+    assign_stops _ _ c.in-Ok-Assign.name c.in-Ok-Assign.text (with_tables c.args.texts.now c.next.new.input (Over now) inner) (with_tables c.assign.new.texts (record c.next.new.input { names = c.assign.new.names }) (Over now) inner)
     (next_told (main.Assign c.in-Ok-Assign.name c.in-Ok-Assign.text) _ _ _ _ c.in-Ok-Assign.field-0-is (c.in-Ok-Assign.ensures.told tells inner offered)) c.in-Err-assign.stop
-    (renamed_stop c.as_slice.result.now c.as_slice-in-Ok-Assign.result.now c.in-Ok-Assign.name c.in-Ok-Assign.text _ c.in-Err-assign.stop c.as_slice.ensures.value c.as_slice-in-Ok-Assign.ensures.value (c.in-Err-assign.ensures.err (with_input c.next.new.input now inner)))
+    (renamed_stop c.as_slice.result.now c.as_slice-in-Ok-Assign.result.now c.in-Ok-Assign.name c.in-Ok-Assign.text _ c.in-Err-assign.stop c.as_slice.ensures.value c.as_slice-in-Ok-Assign.ensures.value (c.in-Err-assign.ensures.err (with_input c.next.new.input (Over now) inner)))
 
 pub returns-clause-told : goal.returns-clause-told
 returns-clause-told g c = λ tells inner offered.
     let old = g.W.World.state c.args.world.now in
-    let new = with_tables c.args.texts.now c.next.new.input (g.W.World.state c.next.new.world) inner in
-    subst (λ r. TurnGives (main_input old.outside (with_tables c.args.texts.now c.args.input.now old inner)) r old.outside new) (sym c.stopped.ensures)
-    (stopped_gives c.in-Err.stop _ old.outside (with_tables c.args.texts.now c.args.input.now old inner) new (c.in-Err.ensures.told tells inner offered))
+    let new = with_tables c.args.texts.now c.next.new.input (Over (g.W.World.state c.next.new.world)) inner in
+    subst (λ r. TurnGives (main_input old.outside (with_tables c.args.texts.now c.args.input.now (Over old) inner)) r old.outside new) (sym c.stopped.ensures)
+    (stopped_gives c.in-Err.stop _ old.outside (with_tables c.args.texts.now c.args.input.now (Over old) inner) new (c.in-Err.ensures.told tells inner offered))
+
+pub returns-in-Ok-Record-clause-finds : goal.returns-in-Ok-Record-clause-finds
+returns-in-Ok-Record-clause-finds g c =
+    let finds = c.in-Ok-Record.ensures.finds in
+    (finds.0, λ later outside inner offered. next_found (main.Record c.in-Ok-Record.text) _ outside _ c.in-Ok-Record.field-0-is (finds.1 later outside inner offered))
+
+pub returns-in-Ok-End-clause-finds : goal.returns-in-Ok-End-clause-finds
+returns-in-Ok-End-clause-finds g c =
+    let finds = c.in-Ok-End.ensures.finds in
+    (finds.0, λ later outside inner offered. next_found main.End _ outside _ c.in-Ok-End.field-0-is (finds.1 later outside inner offered))
+
+pub returns-in-Ok-Opened-clause-finds : goal.returns-in-Ok-Opened-clause-finds
+returns-in-Ok-Opened-clause-finds g c =
+    let finds = c.in-Ok-Opened.ensures.finds in (
+      finds.0,
+      λ later outside inner offered. next_found (main.Opened c.in-Ok-Opened.name) _ outside _ c.in-Ok-Opened.field-0-is (finds.1 later outside inner offered)
+          ∙ ap (main_input outside) (sym (c.begin.ensures.set (with_input c.next.new.input (Finding later) inner))),
+    )
+
+pub returns-in-Ok-true-clause-finds : goal.returns-in-Ok-true-clause-finds
+returns-in-Ok-true-clause-finds g c =
+    let finds = c.in-Ok-Assign.ensures.finds in (
+      finds.0,
+      λ later outside inner offered.
+          assign_pends _ _ c.in-Ok-Assign.name c.in-Ok-Assign.text (with_tables c.args.texts.now c.next.new.input (Finding later) inner) (with_tables c.assign.new.texts (record c.next.new.input { names = c.assign.new.names }) (Finding later) inner)
+          (next_found (main.Assign c.in-Ok-Assign.name c.in-Ok-Assign.text) _ outside _ c.in-Ok-Assign.field-0-is (finds.1 later outside inner offered))
+          (renamed c.as_slice.result.now c.as_slice-in-Ok-Assign.result.now c.in-Ok-Assign.name c.in-Ok-Assign.text c.in-Ok-true.field-0 true _ _ c.as_slice.ensures.value c.as_slice-in-Ok-Assign.ensures.value c.in-Ok-true.field-0-test (c.in-Ok-true.ensures.ok (with_input c.next.new.input (Finding later) inner))),
+    )
+
+pub returns-in-Ok-false-clause-finds : goal.returns-in-Ok-false-clause-finds
+returns-in-Ok-false-clause-finds g c =
+    let finds = c.in-Ok-Assign.ensures.finds in
+    let rests = told_rests c.in-Ok-Assign.name c.in-Ok-Assign.text c.next.new.input.main c.in-Ok-Assign.field-0-is c.in-Ok-Assign.ensures.rests in (
+      finds.0,
+      λ later outside inner offered.
+          assign_made _ _ c.in-Ok-Assign.name c.in-Ok-Assign.text (with_tables c.args.texts.now c.next.new.input (Finding later) inner) (with_tables c.assign.new.texts (record c.next.new.input { names = c.assign.new.names }) (Finding later) inner)
+          (next_found (main.Assign c.in-Ok-Assign.name c.in-Ok-Assign.text) _ outside _ c.in-Ok-Assign.field-0-is (finds.1 later outside inner offered))
+          (renamed c.as_slice.result.now c.as_slice-in-Ok-Assign.result.now c.in-Ok-Assign.name c.in-Ok-Assign.text c.in-Ok-false.field-0 false _ _ c.as_slice.ensures.value c.as_slice-in-Ok-Assign.ensures.value c.in-Ok-false.field-0-test (c.in-Ok-false.ensures.ok (with_input c.next.new.input (Finding later) inner)))
+          ∙ goes_on outside c.next.new.input.main (Finding later) (with_tables c.assign.new.texts (record c.next.new.input { names = c.assign.new.names }) (Finding later) inner) refl
+          (told_live c.in-Ok-Assign.name c.in-Ok-Assign.text c.next.new.input.main c.in-Ok-Assign.field-0-is c.in-Ok-Assign.ensures.live) rests.0 rests.1,
+    )
+
+pub returns-in-Ok-Assign-clause-finds : goal.returns-in-Ok-Assign-clause-finds
+returns-in-Ok-Assign-clause-finds g c =
+    let finds = c.in-Ok-Assign.ensures.finds in (
+      finds.0,
+      λ later outside inner offered.
+          assign_stops _ _ c.in-Ok-Assign.name c.in-Ok-Assign.text (with_tables c.args.texts.now c.next.new.input (Finding later) inner) (with_tables c.assign.new.texts (record c.next.new.input { names = c.assign.new.names }) (Finding later) inner)
+          (next_found (main.Assign c.in-Ok-Assign.name c.in-Ok-Assign.text) _ outside _ c.in-Ok-Assign.field-0-is (finds.1 later outside inner offered)) c.in-Err-assign.stop
+          (renamed_stop c.as_slice.result.now c.as_slice-in-Ok-Assign.result.now c.in-Ok-Assign.name c.in-Ok-Assign.text _ c.in-Err-assign.stop c.as_slice.ensures.value c.as_slice-in-Ok-Assign.ensures.value (c.in-Err-assign.ensures.err (with_input c.next.new.input (Finding later) inner))),
+    )
+
+pub returns-clause-finds : goal.returns-clause-finds
+returns-clause-finds g c =
+    let finds = c.in-Err.ensures.finds in (
+      finds.0,
+      λ later outside inner offered.
+          let given = main_input outside (with_tables c.args.texts.now c.args.input.now (Finding (finds.0 ++ later)) inner) in
+          let new = with_tables c.args.texts.now c.next.new.input (Finding later) inner in
+          subst (λ r. TurnGives given r outside new) (sym c.stopped.ensures) (stop_found c.in-Err.stop given outside new (finds.1 later outside inner offered)),
+    )

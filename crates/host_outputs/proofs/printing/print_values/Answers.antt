@@ -10,7 +10,7 @@ pub returns-clause-told : goal.returns-clause-told
 returns-clause-told g c = λ tells shared is.
     let text = c.as_slice.ensures.value ∙ c.in_ok-fill.ensures shared.inner ∙ ap (printed (inner_with c.args.specials.now shared.inner)) c.operands.ensures in
     subst (λ xs. PutsIs (put_text c.args.to (file_name c.args.to c.args.values.now) xs (shared_with c.args.specials.now shared)) c.put_out.result (g.W.World.state c.args.world.now) (g.W.World.state c.put_out.new.world) (names_of c.args.streams.now.writers.items) (names_of c.put_out.new.streams.writers.items)) text
-    (c.put_out.ensures.told tells (shared_with c.args.specials.now shared) (record { readers = is.readers; writers = is.writers; outside = is.outside }))
+    (c.put_out.ensures.told tells (shared_with c.args.specials.now shared) (record { kept = is.kept; readers = is.readers; writers = is.writers; outside = is.outside }))
 
 pub returns-clause-anyhow : goal.returns-clause-anyhow
 returns-clause-anyhow g c =

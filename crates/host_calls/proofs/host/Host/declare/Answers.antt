@@ -1,6 +1,7 @@
 use Rattle.std.proofs.Common.{refl}
 use Rattle.sem_primitives.specs.declared.table.Primitive.TheVariants as row
 use Rattle.host_imports.specs.declared.import.Import.TheVariants.{Of}
+use Rattle.host_meaning.specs.Findings.{form_finding}
 use Rattle.host_meaning.specs.Shown.{form_with_output}
 use Rattle.host_calls.specs.Forms.{form_in}
 use Rattle.host_calls.proofs.Comes.{plain_comes}
@@ -14,3 +15,4 @@ returns g c =
     let after = form_in host.tables (record host.input { names = c.declare.new.names }) state in
     plain_comes g.W.World.tells (Of row.Declare) c.args.words.now c.args.memory.now refl before after c.declare.result c.requires refl refl
     (λ so_far. c.declare.ensures.step (form_with_output so_far before) c.requires)
+    (λ finds outside so_far. c.declare.ensures.step (form_finding finds outside so_far before) c.requires)

@@ -1,8 +1,9 @@
 use Rattle.std.proofs.Common.{refl}
 use Rattle.sem_primitives.specs.declared.table.Primitive.TheVariants as row
 use Rattle.host_imports.specs.declared.import.Import.TheVariants.{Of}
+use Rattle.host_meaning.specs.Findings.{form_finding}
 use Rattle.host_meaning.specs.Shown.{form_with_output}
-use Rattle.host_outputs.specs.Forms.{closing}
+use Rattle.host_outputs.specs.Forms.{flushing}
 use Rattle.host_calls.specs.Forms.{form_in}
 use Rattle.host_calls.proofs.Comes.{plain_comes}
 use Rattle.host_calls.proofs.host.Host.flush.Goals as goal
@@ -12,6 +13,7 @@ returns g c memory =
     let host = c.args.self.now in
     let state = g.W.World.state host.world in
     let before = form_in host.tables host.input state in
-    let after = closing c.flush.new.handles host.input.files state before in
+    let after = flushing c.flush.new.handles host.input.files before in
     plain_comes g.W.World.tells (Of row.Flush) c.args.words.now memory refl before after c.flush.result c.requires refl refl
-    (λ so_far. c.flush.ensures.step (form_with_output so_far before) memory state c.requires)
+    (λ so_far. c.flush.ensures.step (form_with_output so_far before) memory c.requires)
+    (λ finds outside so_far. c.flush.ensures.step (form_finding finds outside so_far before) memory c.requires)

@@ -1,9 +1,13 @@
-use Rattle.std.proofs.Common.{[]}
+use Rattle.std.proofs.Common.{refl, subst, sym}
 use Rattle.sem_primitives.specs.declared.table.Primitive.TheVariants as row
 use Rattle.host_imports.specs.declared.import.Import.TheVariants.{Of}
 use Rattle.host_elements.specs.Forms.{HostForm}
+use Rattle.host_inputs.specs.Keeps.{with_line}
+use Rattle.host_meaning.specs.Findings.{form_finding}
+use Rattle.host_meaning.specs.Shown.{form_with_output}
+use Rattle.host_calls.specs.Calls.{ComesTo}
 use Rattle.host_calls.specs.Forms.{form_in}
-use Rattle.host_calls.proofs.Comes.{world_comes}
+use Rattle.host_calls.proofs.Comes.{plain_comes}
 use Rattle.host_calls.proofs.host.Host.line.Goals as goal
 
 pub returns : goal.returns
@@ -11,6 +15,9 @@ returns g c memory =
     let host = c.args.self.now in
     let state = g.W.World.state host.world in
     let before = form_in host.tables host.input state in
-    let after : HostForm = record (form_in host.tables c.line.new.input state) { values = c.line.new.handles } in
-    world_comes g.W.World.tells (Of row.Line) c.args.words.now memory before after c.line.result c.requires []
-    (c.line.ensures.called before memory host.tables.texts c.requires)
+    let after : HostForm = record (form_in host.tables (with_line c.line.new.input.line host.input) state) { values = c.line.new.handles } in
+    subst (λ i. let left : HostForm = record (form_in host.tables i state) { values = c.line.new.handles } in
+    ComesTo g.W.World.tells (Of row.Line) before c.args.words.now memory c.line.result left) (sym c.line.ensures.rest)
+    (plain_comes g.W.World.tells (Of row.Line) c.args.words.now memory refl before after c.line.result c.requires refl refl
+    (λ so_far. c.line.ensures.step (form_with_output so_far before) memory c.requires)
+    (λ finds outside so_far. c.line.ensures.step (form_finding finds outside so_far before) memory c.requires))

@@ -1,6 +1,7 @@
 use Rattle.std.proofs.Common.{refl}
 use Rattle.sem_primitives.specs.declared.table.Primitive.TheVariants as row
 use Rattle.host_imports.specs.declared.import.Import.TheVariants.{Of}
+use Rattle.host_meaning.specs.Findings.{form_finding}
 use Rattle.host_meaning.specs.Shown.{form_with_output}
 use Rattle.host_calls.specs.Forms.{form_in}
 use Rattle.host_calls.proofs.Comes.{plain_comes}
@@ -12,3 +13,4 @@ returns g c memory =
     let before = form_in host.tables host.input (g.W.World.state host.world) in
     plain_comes g.W.World.tells (Of row.PendingName) c.args.words.now memory refl before before c.pending_name.result c.requires refl refl
     (λ so_far. c.pending_name.ensures.step (form_with_output so_far before) memory c.requires)
+    (λ finds outside so_far. c.pending_name.ensures.step (form_finding finds outside so_far before) memory c.requires)

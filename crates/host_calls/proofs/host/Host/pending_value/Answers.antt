@@ -1,6 +1,7 @@
 use Rattle.std.proofs.Common.{refl}
 use Rattle.sem_primitives.specs.declared.table.Primitive.TheVariants as row
 use Rattle.host_imports.specs.declared.import.Import.TheVariants.{Of}
+use Rattle.host_meaning.specs.Findings.{form_finding}
 use Rattle.host_meaning.specs.Shown.{form_with_output}
 use Rattle.host_calls.specs.Forms.{form_in}
 use Rattle.host_elements.specs.Forms.{HostForm}
@@ -16,3 +17,4 @@ returns g c memory =
     let after : HostForm = record (form_in host.tables input state) { values = c.pending_value.new.handles } in
     plain_comes g.W.World.tells (Of row.PendingValue) c.args.words.now memory refl before after c.pending_value.result c.requires refl refl
     (λ so_far. c.pending_value.ensures.step (form_with_output so_far before) memory c.requires)
+    (λ finds outside so_far. c.pending_value.ensures.step (form_finding finds outside so_far before) memory c.requires)

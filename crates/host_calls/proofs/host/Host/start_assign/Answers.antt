@@ -1,6 +1,7 @@
 use Rattle.std.proofs.Common.{refl}
 use Rattle.sem_primitives.specs.declared.table.Primitive.TheVariants as row
 use Rattle.host_imports.specs.declared.import.Import.TheVariants.{Of}
+use Rattle.host_meaning.specs.Findings.{form_finding}
 use Rattle.host_meaning.specs.Shown.{form_with_output}
 use Rattle.host_calls.specs.Forms.{form_in}
 use Rattle.host_calls.proofs.Comes.{left_comes}
@@ -15,3 +16,4 @@ returns g c memory =
     left_comes g.W.World.tells (Of row.StartAssign) c.args.words.now memory refl before after c.start_assign.result c.requires refl refl
     (λ f. record { values = refl; arrays = refl; iterators = refl; fault = refl; outside = refl; output = refl })
     (λ so_far. c.start_assign.ensures.step (form_with_output so_far before) memory c.requires)
+    (λ finds outside so_far. c.start_assign.ensures.step (form_finding finds outside so_far before) memory c.requires)

@@ -1,7 +1,10 @@
-use Rattle.std.proofs.Common.{◌∙◌, ℕ, sym, subst, Err, Ok, Option}
+use Rattle.std.proofs.Common.{◌∙◌, ℕ, sym, subst, Err, Ok, Option, Some}
 use Rattle.awk_values.specs.Values.{number_of_value}
-use Rattle.host_streams.specs.Mains.{main_of, main_phase, with_main}
+use Rattle.host_streams.specs.Mains.{main_in, main_phase}
 use Rattle.host_streams.specs.Passing.{HandsMain}
+use Rattle.host_streams.specs.declared.main_input.MainNext.{MainNext}
+use Rattle.host_streams.specs.MainFinds.{FindsStep}
+use Rattle.host_streams.proofs.MainFound.{finds_since, found_on}
 use Rattle.host_streams.proofs.MainSteps.{none_since, phase_since, same_break, told_since}
 use Rattle.host_streams.proofs.Passed.{hands_since, more_since, none_hands, none_skips, passes_since, skips_since, so_far_on, some_hands, some_passes, standard_since, there_since}
 use Rattle.host_streams.proofs.main_input.MainInput.next.Goals as goal
@@ -29,8 +32,9 @@ steps-preserved g c =
       skips = skips_since (g.O.Operands.text c.args.operands.now) c.args.self.now.next c.steps.self.next c.step.new.self.next before.skips passes.0;
       found = passes.1 ∙ before.found;
       there = there_since (number_of_value c.args.argc.now) c.args.self.now.next c.steps.self.next c.step.new.self.next before.there step.there;
+      finds = found_on _ c.args.argc.now (g.O.Operands.text c.args.operands.now) c.args.self.now c.steps.self c.step.new.self c.in-Ok-None.field-0-is before.finds step.finds;
       told = λ tells inner asked offered.
-          told_since (with_main (main_of c.steps.self (g.W.World.state c.steps.world)) inner) (with_main (main_of c.step.new.self (g.W.World.state c.step.new.world)) inner) c.in-Ok-None.field-0-is (before.outside tells) (before.told tells inner asked offered) (step.told tells inner asked offered);
+          told_since (main_in c.steps.self (g.W.World.state c.steps.world) inner) (main_in c.step.new.self (g.W.World.state c.step.new.world) inner) c.in-Ok-None.field-0-is (before.outside tells) (before.told tells inner asked offered) (step.told tells inner asked offered);
     }
 
 pub returns-in-Err-clause-phase : goal.returns-in-Err-clause-phase
@@ -40,6 +44,17 @@ pub returns-in-Err-clause-handed : goal.returns-in-Err-clause-handed
 returns-in-Err-clause-handed g c =
     subst (λ (rs : Option ℕ). HandsMain rs c.args.self.now (Err c.in-Err.stop) c.step.new.self) c.first_byte-separator.ensures
     (hands_since _ c.args.self.now c.steps.self c.step.new.self (Err c.in-Err.stop) c.steps.invariant.so c.in-Err.ensures.standard c.in-Err.ensures.handed)
+
+pub returns-in-Err-clause-finds : goal.returns-in-Err-clause-finds
+returns-in-Err-clause-finds g c =
+    subst (λ (rs : Option ℕ). FindsStep rs c.args.argc.now (g.O.Operands.text c.args.operands.now) c.args.self.now (Err c.in-Err.stop) c.step.new.self) c.first_byte-separator.ensures
+    (finds_since _ c.args.argc.now (g.O.Operands.text c.args.operands.now) c.args.self.now c.steps.self c.step.new.self (Err c.in-Err.stop) c.steps.invariant.finds c.in-Err.ensures.finds)
+
+pub returns-in-Ok-Some-clause-finds : goal.returns-in-Ok-Some-clause-finds
+returns-in-Ok-Some-clause-finds g c =
+    subst (λ (rs : Option ℕ). FindsStep rs c.args.argc.now (g.O.Operands.text c.args.operands.now) c.args.self.now (Ok (Some c.in-Ok-Some.answer)) c.step.new.self) c.first_byte-separator.ensures
+    (finds_since _ c.args.argc.now (g.O.Operands.text c.args.operands.now) c.args.self.now c.steps.self c.step.new.self (Ok (Some c.in-Ok-Some.answer)) c.steps.invariant.finds
+    (subst (λ (o : Option MainNext). FindsStep _ c.args.argc.now (g.O.Operands.text c.args.operands.now) c.steps.self (Ok o) c.step.new.self) c.in-Ok-Some.field-0-is c.in-Ok-Some.ensures.finds))
 
 pub returns-in-Err-clause-passes : goal.returns-in-Err-clause-passes
 returns-in-Err-clause-passes g c =

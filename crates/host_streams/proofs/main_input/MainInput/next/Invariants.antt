@@ -1,10 +1,11 @@
 use Rattle.std.proofs.Common.{◌≡◌}
 use Rattle.sem_primitives.specs.InputMeaning.{main_input}
 use Rattle.sem_primitives.specs.SharedState.{Inner}
-use Rattle.host_streams.specs.Mains.{HoldsMain, IsAsked, IsOffered, SparesKinds, SparesPlaces, main_of, main_phase, with_main, work}
+use Rattle.host_streams.specs.Mains.{HoldsMain, IsAsked, IsOffered, SparesKinds, SparesPlaces, main_in, main_phase, work}
 use Rattle.awk_values.specs.Values.{number_of_value}
 use Rattle.host_streams.specs.Passing.{AreThere, Skips, StandardStays}
 use Rattle.host_streams.proofs.Held.{is_broken}
+use Rattle.host_streams.proofs.MainFound.{FoundSoFar}
 use Rattle.host_streams.proofs.Passed.{SoFarMain}
 use Rattle.host_streams.proofs.main_input.MainInput.next.Given as goal
 
@@ -25,8 +26,9 @@ invariant-steps g l =
       skips : Skips (g.O.Operands.text l.operands) l.fn.self.next l.self.next;
       found : l.self.found ≡ l.fn.self.found;
       there : AreThere (number_of_value l.argc) l.fn.self.next l.self.next;
+      finds : FoundSoFar l.separator l.argc (g.O.Operands.text l.operands) l.fn.self l.self;
       told : w.tells → (inner : Inner) → IsAsked l.separator inner → IsOffered l.argc (g.O.Operands.text l.operands) inner →
-          main_input (w.state l.fn.world).outside (with_main (main_of l.fn.self (w.state l.fn.world)) inner) ≡ main_input (w.state l.fn.world).outside (with_main (main_of l.self (w.state l.world)) inner);
+          main_input (w.state l.fn.world).outside (main_in l.fn.self (w.state l.fn.world) inner) ≡ main_input (w.state l.fn.world).outside (main_in l.self (w.state l.world) inner);
     }
 
 abbrev pub decreases-steps : goal.decreases-steps

@@ -1,21 +1,24 @@
-use Rattle.std.proofs.Common.{◌∙◌, sym, ap, refl, subst, arith, Ok, Option}
+use Rattle.std.proofs.Common.{◌∙◌, ◌++◌, sym, ap, refl, subst, arith, Err, Ok, Option}
 use Rattle.awk_values.specs.Values.{number_of_value}
 use Rattle.host_streams.specs.declared.main_input.MainNext.{MainNext}
-use Rattle.host_streams.specs.Mains.{IsApartFrom, main_phase}
-use Rattle.host_streams.proofs.MainSteps.{given_later, number_counts, number_given, number_phase, has_fault, has_none, has_one, none_left}
+use Rattle.host_streams.specs.Mains.{IsApartFrom, kept_in, main_of, main_phase}
+use Rattle.awk_values.specs.declared.fault.Stop.TheVariants.{Fault as IsFault}
+use Rattle.host_streams.specs.MainFinds.{found_by_operand, found_in, main_found}
+use Rattle.host_streams.proofs.MainFound.{follow_finds, found_later, number_found, rests_found}
+use Rattle.host_streams.proofs.MainSteps.{given_later, number_counts, number_given, number_phase, has_fault, has_none, has_one, none_left, rests}
 use Rattle.host_streams.proofs.Passed.{follow_answers, follow_idle, follow_more, follow_passes, none_there, number_answers, number_more, number_passes, one_there}
 use Rattle.host_streams.proofs.main_input.MainInput.reach.Goals as goal
 
 pub returns-in-NoneLeft-clause-told : goal.returns-in-NoneLeft-clause-told
 returns-in-NoneLeft-clause-told g c = λ tells inner offered.
-    given_later _ _ c.follow.result _ _ _ (none_left (g.W.World.state c.args.world.now).outside inner c.args.self.now (g.W.World.state c.args.world.now) c.requires.idle c.requires.live c.in-NoneLeft.is)
+    given_later _ _ c.follow.result _ _ _ (none_left (g.W.World.state c.args.world.now).outside (kept_in inner) (main_of c.args.self.now (g.W.World.state c.args.world.now)) _ _ c.args.self.now.found (rests c.args.self.now (g.W.World.state c.args.world.now) c.requires.idle c.requires.live) c.in-NoneLeft.is)
     (c.follow.ensures.told (g.W.World.state c.args.world.now) inner)
 
 pub returns-in-Ok-true : goal.returns-in-Ok-true
 returns-in-Ok-true g c = record {
   held = c.take.ensures.held;
   told = λ tells inner offered.
-      given_later _ _ c.take.result _ _ _ (has_one (g.W.World.state c.args.world.now).outside inner c.args.self.now (g.W.World.state c.args.world.now) c.requires.idle c.requires.live c.in_default.not-NoneLeft (number_of_value c.args.argc.now) _
+      given_later _ _ c.take.result _ _ _ (has_one (g.W.World.state c.args.world.now).outside (kept_in inner) (main_of c.args.self.now (g.W.World.state c.args.world.now)) _ c.args.self.now.next c.args.self.now.found (rests c.args.self.now (g.W.World.state c.args.world.now) c.requires.idle c.requires.live) c.in_default.not-NoneLeft (number_of_value c.args.argc.now) _
       (ap number_of_value offered.count) (sym c.in-Ok-true.ensures.value ∙ ap (λ b. Ok b) c.in-Ok-true.field-0-test) (offered.operands c.args.self.now.next))
       (c.take.ensures.told tells inner);
   goes_on = c.take.ensures.goes_on;
@@ -33,13 +36,17 @@ returns-in-Ok-true g c = record {
   answers = c.take.ensures.answers;
   idle = c.take.ensures.idle;
   rests = c.take.ensures.rests;
+  finds = λ later outside inner offered.
+      found_later _ _ c.take.result _ _ (has_one outside (found_in (found_by_operand c.take.result c.take.new.self.reading ++ later) inner) (main_found c.args.self.now) _ c.args.self.now.next c.args.self.now.found (rests_found c.args.self.now c.requires.idle c.requires.live) c.in_default.not-NoneLeft (number_of_value c.args.argc.now) _
+      (ap number_of_value offered.count) (sym c.in-Ok-true.ensures.value ∙ ap (λ b. Ok b) c.in-Ok-true.field-0-test) (offered.operands c.args.self.now.next))
+      (c.take.ensures.finds later outside inner);
 }
 
 pub returns-in-Ok-false : goal.returns-in-Ok-false
 returns-in-Ok-false g c = record {
   held = (ap (λ r. r.id) c.follow-in-Ok-false.ensures.standard ∙ c.requires.held.0, c.follow-in-Ok-false.ensures.held (g.W.World.kinds c.args.world.now), c.follow-in-Ok-false.ensures.whole);
   told = λ tells inner offered.
-      given_later _ _ c.follow-in-Ok-false.result _ _ _ (has_none (g.W.World.state c.args.world.now).outside inner c.args.self.now (g.W.World.state c.args.world.now) c.requires.idle c.requires.live c.in_default.not-NoneLeft (number_of_value c.args.argc.now)
+      given_later _ _ c.follow-in-Ok-false.result _ _ _ (has_none (g.W.World.state c.args.world.now).outside (kept_in inner) (main_of c.args.self.now (g.W.World.state c.args.world.now)) _ c.args.self.now.next c.args.self.now.found (rests c.args.self.now (g.W.World.state c.args.world.now) c.requires.idle c.requires.live) c.in_default.not-NoneLeft (number_of_value c.args.argc.now)
       (ap number_of_value offered.count) (sym c.in-Ok-false.ensures.value ∙ ap (λ b. Ok b) c.in-Ok-false.field-0-test))
       (c.follow-in-Ok-false.ensures.told (g.W.World.state c.args.world.now) inner);
   goes_on = c.follow-in-Ok-false.ensures.goes_on;
@@ -58,13 +65,18 @@ returns-in-Ok-false g c = record {
   answers = follow_answers c.args.self.now.found c.follow-in-Ok-false.new.self.found c.follow-in-Ok-false.result c.follow-in-Ok-false.ensures.follows;
   idle = follow_idle c.args.self.now.found c.follow-in-Ok-false.new.self.found c.follow-in-Ok-false.new.self.reading c.follow-in-Ok-false.result c.follow-in-Ok-false.ensures.follows;
   rests = c.follow-in-Ok-false.ensures.rests;
+  finds = λ later outside inner offered.
+      follow_finds outside (main_found c.args.self.now) c.follow-in-Ok-false.result c.follow-in-Ok-false.new.self inner later c.args.self.now.found c.follow-in-Ok-false.new.self.found c.follow-in-Ok-false.ensures.follows
+      (λ finds. has_none outside (found_in finds inner) (main_found c.args.self.now) _ c.args.self.now.next c.args.self.now.found (rests_found c.args.self.now c.requires.idle c.requires.live) c.in_default.not-NoneLeft (number_of_value c.args.argc.now)
+      (ap number_of_value offered.count) (sym c.in-Ok-false.ensures.value ∙ ap (λ b. Ok b) c.in-Ok-false.field-0-test))
+      (c.follow-in-Ok-false.ensures.finds later outside inner);
 }
 
 pub returns-in-Err : goal.returns-in-Err
 returns-in-Err g c = record {
   held = c.requires.held;
   told = λ tells inner offered.
-      let e = has_fault (g.W.World.state c.args.world.now).outside inner c.args.self.now (g.W.World.state c.args.world.now) c.requires.idle c.requires.live c.in_default.not-NoneLeft (number_of_value c.args.argc.now) c.in-Err.fault (ap number_of_value offered.count) (sym c.in-Err.ensures.value) in
+      let e = has_fault (g.W.World.state c.args.world.now).outside (kept_in inner) (main_of c.args.self.now (g.W.World.state c.args.world.now)) _ c.args.self.now.next c.args.self.now.found (rests c.args.self.now (g.W.World.state c.args.world.now) c.requires.idle c.requires.live) c.in_default.not-NoneLeft (number_of_value c.args.argc.now) c.in-Err.fault (ap number_of_value offered.count) (sym c.in-Err.ensures.value) in
       number_given _ c.in-Err.fault _ _ c.in-Err.ensures.own e e;
   goes_on = tt;
   count = number_counts (Option MainNext) c.in-Err.fault (g.W.World.count c.args.world.now) c.in-Err.ensures.own;
@@ -81,7 +93,16 @@ returns-in-Err g c = record {
   answers = number_answers c.in-Err.fault c.in-Err.ensures.own;
   idle = tt;
   rests = tt;
+  finds = λ later outside inner offered.
+      number_found _ c.in-Err.fault _ c.in-Err.ensures.own
+      (has_fault outside (found_in (found_by_operand (Err (IsFault c.in-Err.fault)) c.args.self.now.reading ++ later) inner) (main_found c.args.self.now) _ c.args.self.now.next c.args.self.now.found (rests_found c.args.self.now c.requires.idle c.requires.live) c.in_default.not-NoneLeft (number_of_value c.args.argc.now) c.in-Err.fault (ap number_of_value offered.count) (sym c.in-Err.ensures.value));
 }
+
+pub returns-in-NoneLeft-clause-finds : goal.returns-in-NoneLeft-clause-finds
+returns-in-NoneLeft-clause-finds g c = λ later outside inner offered.
+    follow_finds outside (main_found c.args.self.now) c.follow.result c.follow.new.self inner later c.args.self.now.found c.follow.new.self.found c.follow.ensures.follows
+    (λ finds. none_left outside (found_in finds inner) (main_found c.args.self.now) _ c.args.self.now.next c.args.self.now.found (rests_found c.args.self.now c.requires.idle c.requires.live) c.in-NoneLeft.is)
+    (c.follow.ensures.finds later outside inner)
 
 pub returns-in-NoneLeft-clause-spares : goal.returns-in-NoneLeft-clause-spares
 returns-in-NoneLeft-clause-spares g c = λ k apart was. (refl, c.follow.ensures.apart k)

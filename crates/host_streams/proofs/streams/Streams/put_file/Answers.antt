@@ -27,7 +27,7 @@ returns-in-Some-clause-told g c = λ tells shared is.
     put_to c.args.name.now c.args.text.now c.args.append _ shared c.put_open.result _ _
     (ap (λ names. is_writing c.args.name.now names) is.writers ∙ writer_named c.args.name.now c.args.self.now.writers.items c.in-Some.at found)
     (writer_goes c.args.name.now c.args.self.now.writers.items c.in-Some.at found c.index.result.now c.index.ensures (g.W.World.state c.args.world.now) (c.requires.goes tells))
-    (c.put_open.ensures.told tells shared is.outside)
+    (c.put_open.ensures.told tells shared (record { kept = is.kept; outside = is.outside }))
 
 pub returns-in-None-clause-told : goal.returns-in-None-clause-told
 returns-in-None-clause-told g c = λ tells shared is.
@@ -48,7 +48,7 @@ returns-in-Some-clause-begun g c =
     let state = g.W.World.state c.args.world.now in
     begins_as g.W.World.tells (IsOver state) (IsOf c.args.self.now state) (written (state.writers c.index.result.now.id) c.args.text.now) (λ shared. written_by (is_writing c.args.name.now shared.inner.writers) c.args.name.now c.args.append c.args.text.now shared) c.put_open.result _ _
     (λ tells shared is. (
-      is.outside,
+      record { kept = is.kept; outside = is.outside },
       ap (λ x. (written x c.args.text.now shared).added) (writer_goes c.args.name.now c.args.self.now.writers.items c.in-Some.at found c.index.result.now c.index.ensures state (c.requires.goes tells))
           ∙ sym (ap (λ b. (written_by b c.args.name.now c.args.append c.args.text.now shared).added) (ap (λ names. is_writing c.args.name.now names) is.writers ∙ writer_named c.args.name.now c.args.self.now.writers.items c.in-Some.at found)),
     ))

@@ -1,5 +1,6 @@
 use Rattle.std.proofs.Common.{◌≡◌, ◌∙◌, ◌++◌, ◌∷◌, ◌+◌, ◌<◌, [], ℕ, true, false, length, sym, ap, arith}
 use Rattle.std.proofs.lemmas.Result.{err_from_is_err_and}
+use Rattle.sem_primitives.specs.Finds.{seen}
 use Rattle.sem_primitives.specs.OutputMeaning.{opened_if, written_by}
 use Rattle.world_core.specs.WorldState.{Named}
 use Rattle.host_streams.specs.declared.streams.NamedWriter.{NamedWriter}
@@ -60,5 +61,5 @@ returns-in_err-id-clause-begun g c =
     let writers : length c.as_slice-2.result.now ≡ length c.args.self.now.writers.items = ap length c.as_slice-2.ensures.value in
     let few : length c.args.self.now.readers.items + length c.args.self.now.writers.items < 256 = (let below = c.if-as_slice-ge-MAX_STREAMS.false in omega arith) in
     let state = g.W.World.state c.args.world.now in
-    rw (p.1, p.2) (begins_first ℕ (Unit {0}) g.W.World.tells (IsOver state) (IsOf c.args.self.now state) (λ shared. opened_if true (shared.outside (Named c.args.name.now)).opens c.args.name.now c.args.append c.args.text.now shared) (written_by false c.args.name.now c.args.append c.args.text.now) c.in_err-id.field-0.0 _ _
-    (λ tells shared is. (is.outside, sym (ap (λ b. (opened_if b (shared.outside (Named c.args.name.now)).opens c.args.name.now c.args.append c.args.text.now shared).added) (room_is c.args.self.now state shared is few)))) c.in_err-id.ensures.begun)
+    rw (p.1, p.2) (begins_first ℕ (Unit {0}) g.W.World.tells (IsOver state) (IsOf c.args.self.now state) (λ shared. opened_if true (seen shared.inner shared.outside (Named c.args.name.now)).opens c.args.name.now c.args.append c.args.text.now shared) (written_by false c.args.name.now c.args.append c.args.text.now) c.in_err-id.field-0.0 _ _
+    (λ tells shared is. (record { kept = is.kept; outside = is.outside }, sym (ap (λ b. (opened_if b (seen shared.inner shared.outside (Named c.args.name.now)).opens c.args.name.now c.args.append c.args.text.now shared).added) (room_is c.args.self.now state shared is few)))) c.in_err-id.ensures.begun)

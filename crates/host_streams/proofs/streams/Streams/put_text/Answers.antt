@@ -14,7 +14,7 @@ returns-in-Standard-clause-goes g c = λ tells. go_same c.args.self.now.writers.
 
 pub returns-in-Standard-clause-told : goal.returns-in-Standard-clause-told
 returns-in-Standard-clause-told g c = λ tells shared is.
-    rw c.in-Standard.is (puts_standard c.args.text.now _ shared c.put_open.result _ _ _ (g.met.W.World.standard c.args.world.now) is.writers (c.put_open.ensures.told tells shared is.outside))
+    rw c.in-Standard.is (puts_standard c.args.text.now _ shared c.put_open.result _ _ _ (g.met.W.World.standard c.args.world.now) is.writers (c.put_open.ensures.told tells shared (record { kept = is.kept; outside = is.outside })))
 
 pub returns-in-Emptied-clause-told : goal.returns-in-Emptied-clause-told
 returns-in-Emptied-clause-told g c = λ tells shared is.
@@ -31,7 +31,7 @@ pub returns-in-Standard-clause-begun : goal.returns-in-Standard-clause-begun
 returns-in-Standard-clause-begun g c =
     let state = g.W.World.state c.args.world.now in
     rw c.in-Standard.is (begins_as g.W.World.tells (IsOver state) (IsOf c.args.self.now state) (written (state.writers 1) c.args.text.now) (put_text destination.Standard [] c.args.text.now) c.put_open.result _ _
-    (λ tells shared is. (is.outside, ap (λ x. (written x c.args.text.now shared).added) (g.met.W.World.standard c.args.world.now))) c.put_open.ensures.begun)
+    (λ tells shared is. (record { kept = is.kept; outside = is.outside }, ap (λ x. (written x c.args.text.now shared).added) (g.met.W.World.standard c.args.world.now))) c.put_open.ensures.begun)
 
 pub returns-in-Emptied-clause-begun : goal.returns-in-Emptied-clause-begun
 returns-in-Emptied-clause-begun g c = rw c.in-Emptied.is c.put_file.ensures.begun

@@ -1,0 +1,104 @@
+-- The main input in surroundings that others change too: each time that something is opened or read, the next of a list is found there. It speaks of every
+-- world, since what a world answers is what is found.
+use Rattle.std.specs.Prelude.{◌≡◌, ℕ, List, [], ◌∷◌, ◌++◌, Option, Some, None, Result, Ok, Err, true}
+use Rattle.awk_values.specs.declared.fault.Fault.{Fault}
+use Rattle.awk_values.specs.declared.fault.Fault.TheVariants.{OpenInput, ReadFailed}
+use Rattle.awk_values.specs.declared.fault.Stop.{Stop}
+use Rattle.awk_values.specs.declared.fault.Stop.TheVariants.{Fault as IsFault, NoMemory}
+use Rattle.awk_values.specs.declared.value.Value.{Value}
+use Rattle.world_core.specs.WorldState.{Entry, Outside}
+use Rattle.world_core.specs.declared.world.Ending.TheVariants.{End}
+use Rattle.sem_primitives.specs.Finds.{shut}
+use Rattle.sem_primitives.specs.InputMeaning.{Main, NotOpened, Failed as ReadingFailed, follows, main_input, nothing_left, taken}
+use Rattle.sem_primitives.specs.SharedState.{Inner, MainInput, MainReader, Standard, File}
+use Rattle.host_streams.specs.declared.main_input.MainInput.{MainInput as Mains}
+use Rattle.host_streams.specs.declared.main_input.MainNext.{MainNext}
+use Rattle.host_streams.specs.declared.main_input.MainNext.TheVariants.{Opened}
+use Rattle.host_streams.specs.declared.main_input.Reading.{Reading}
+use Rattle.host_streams.specs.declared.main_input.Reading.TheVariants as reading
+use Rattle.host_streams.specs.Mains.{GivenIs, IsAsked, IsOffered, operands_of, passed, rest_of, with_main}
+
+-- what a reader has left is not known, since each read finds it anew
+abbrev pub reading_found : Reading → Option MainReader
+reading_found reading.Nothing = None
+reading_found reading.Standard = Some Standard
+reading_found (reading.File r) = Some (File nothing_left)
+
+abbrev pub main_found : Mains → MainInput
+main_found m = record {
+  standard = nothing_left;
+  next = m.next;
+  operands = operands_of m.found;
+  reading = reading_found m.reading;
+  ended = m.ended;
+}
+
+-- these are found
+abbrev pub found_in : List Entry → Inner → Inner
+found_in finds inner = record inner { finds = Some finds }
+
+abbrev pub main_finding : List Entry → Mains → Inner → Inner
+main_finding finds m inner = with_main (main_found m) (found_in finds inner)
+
+-- A file that does not open, or does not read; any other fault takes nothing of what is found.
+abbrev pub FaultFound : Result (Inner × Main) Fault → Fault → Inner → Type 0
+FaultFound given OpenInput new = given ≡ Ok (new, NotOpened)
+FaultFound given ReadFailed new = given ≡ Ok (new, ReadingFailed)
+FaultFound given fault new = given ≡ Err fault
+
+-- how what is to be given follows from what the definition gives after the call
+abbrev pub StepFound : Result (Inner × Main) Fault → Result (Option MainNext) Stop → Outside → Inner → Type 0
+StepFound given (Ok answer) outside new = GivenIs given (Ok answer) outside new new
+StepFound given (Err (IsFault fault)) outside new = FaultFound given fault new
+StepFound given (Err NoMemory) outside new = Unit {0}
+
+-- an answer is that of a step
+abbrev pub as_step : Result MainNext Stop → Result (Option MainNext) Stop
+as_step (Ok answer) = Ok (Some answer)
+as_step (Err stop) = Err stop
+
+-- what is found by an operand
+abbrev pub entry_of_reading : Reading → Entry
+entry_of_reading (reading.File r) = record { bytes = Some []; ending = End; room = None; opens = true }
+entry_of_reading r = shut
+
+abbrev pub found_by_name : List ℕ → Reading → List Entry
+found_by_name [] r = []
+found_by_name (c ∷ cs) r = entry_of_reading r ∷ []
+
+abbrev pub found_by_operand : Result (Option MainNext) Stop → Reading → List Entry
+found_by_operand (Ok (Some (Opened name))) r = found_by_name name r
+found_by_operand (Err (IsFault OpenInput)) r = shut ∷ []
+found_by_operand answer r = []
+
+-- Something is found, whatever is found later, where the step gives what the definition does.
+abbrev pub FindsStep : Option ℕ → Value → (ℕ → List ℕ) → Mains → Result (Option MainNext) Stop → Mains → Type 0
+FindsStep rs argc texts old answer new = (found : List Entry) × ((later : List Entry) (outside : Outside) (inner : Inner)
+    → IsAsked rs inner → IsOffered argc texts inner
+    → StepFound (main_input outside (main_finding (found ++ later) old inner)) answer outside (main_finding later new inner))
+
+-- the same of the reader at hand, of what follows the operands, and of the operand at hand
+abbrev pub FindsSomeOn : Option ℕ → Mains → Result (Option MainNext) Stop → Mains → Type 0
+FindsSomeOn rs old answer new = (found : List Entry) × ((later : List Entry) (outside : Outside) (inner : Inner) → IsAsked rs inner
+    → StepFound (main_input outside (main_finding (found ++ later) old inner)) answer outside (main_finding later new inner))
+
+abbrev pub FindsReach : Value → (ℕ → List ℕ) → Mains → Result (Option MainNext) Stop → Mains → Type 0
+FindsReach argc texts old answer new =
+    (later : List Entry) (outside : Outside) (inner : Inner) → IsOffered argc texts inner
+    → StepFound (main_input outside (main_finding (found_by_operand answer new.reading ++ later) old inner)) answer outside (main_finding later new inner)
+
+abbrev pub FindsFollowing : Mains → Result (Option MainNext) Stop → Mains → Type 0
+FindsFollowing old answer new =
+    (later : List Entry) (outside : Outside) (inner : Inner)
+    → StepFound (follows (main_found old).operands (main_finding later old inner)) answer outside (main_finding later new inner)
+
+abbrev pub FindsOperand : List ℕ → Mains → Result (Option MainNext) Stop → Mains → Type 0
+FindsOperand text old answer new =
+    (later : List Entry) (outside : Outside) (inner : Inner)
+    → StepFound (taken (rest_of (passed (main_found old)) outside) outside text
+    (with_main (passed (main_found old)) (found_in (found_by_operand answer new.reading ++ later) inner))) answer outside (main_finding later new inner)
+
+-- Something is found, whatever is found later, where the answer is what the definition of the main input gives, for this RS, this ARGC and these elements
+-- of ARGV.
+abbrev pub FindsMain : Option ℕ → Value → (ℕ → List ℕ) → Mains → Result MainNext Stop → Mains → Type 0
+FindsMain rs argc texts old answer new = FindsStep rs argc texts old (as_step answer) new
