@@ -16,9 +16,6 @@ pub mod Growing
 pub mod Outputs
 pub mod Links
 pub mod Beginning
-pub mod Worlds
-pub mod Exchanging
-pub mod Reading
 pub mod Room
 pub mod Replying
 pub mod Going
@@ -34,4 +31,3 @@ pub mod Stepping
 pub mod Running
 pub mod Telling
 pub mod Existing
-pub mod Whole

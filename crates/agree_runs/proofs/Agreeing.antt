@@ -1,5 +1,5 @@
 -- What was told of a run is what the script does, where it and the module agree.
-use Rattle.std.proofs.Common.{◌≡◌, ℕ, List, ◌++◌, Option, Some, None, refl, sym, ◌∙◌, subst, append_assoc}
+use Rattle.std.proofs.Common.{◌≡◌, ℕ, List, ◌++◌, Option, Some, None, refl, sym, ◌∙◌, subst, append_assoc, arith}
 use Rattle.awk_values.specs.declared.fault.Fault.{Fault}
 use Rattle.sem_primitives.specs.InputMeaning.{nothing_left}
 use Rattle.sem_primitives.specs.Jobs.{Found, JobForm, Kept, Surroundings}
@@ -11,7 +11,8 @@ use Rattle.host_elements.specs.Forms.{HostForm}
 use Rattle.sem_scripts.specs.Kept.{Grows, output_of}
 use Rattle.sem_scripts.specs.ScriptRun.{Ending, Exhausted, GoesOn, Setting, setting_in}
 use Rattle.agree_modules.specs.Agreement.{Agreement, Like, MayEnd, ModuleEnding, Trapped, ended_with, ending_told}
-use Rattle.agree_runs.specs.ToldRuns.{DoesSo, DoesSoThere, FoundRun, Says, Tells, TellsEnding, ToldRun, told_by}
+use Rattle.agree_modules.specs.ValueAgreement.{IsOver}
+use Rattle.agree_runs.specs.ToldRuns.{DoesSo, DoesSoThere, FoundRun, GoesOnThere, Says, Tells, TellsEnding, ToldRun, told_by}
 
 -- what grows from more grows from less
 grows_less : (a b xs : List Action) → Grows (a ++ b) xs → Grows a xs
@@ -48,7 +49,23 @@ does_so script m agree job input outside steps e f r =
 
 -- over any world, in surroundings that others change too
 pub does_so_there : (script : Setting → ℕ → Ending) (m : ModuleForm) → Agreement script m → (job : JobForm) (steps : ℕ) (e : MachineEnd) (f : HostForm)
-    → FoundRun m job steps e f → DoesSoThere script job (told_by f.fault e)
+    (r : FoundRun m job steps e f) → DoesSoThere script job r.finds (told_by f.fault e)
 does_so_there script m agree job steps e f r =
     let d = does script m agree job nothing_left (Found r.finds) steps f.fault e r.output r.tells in
-    record { finds = r.finds; turns = d.0; output = r.output; says = d.1 }
+    record { turns = d.0; output = r.output; says = d.1 }
+
+same_ending : (output : List Action) (e : Ending) → Like (GoesOn output) ≡ Like e → e ≡ GoesOn output
+same_ending output e q = cc
+
+-- where its steps did not suffice, the script goes on there
+pub goes_on_there : (script : Setting → ℕ → Ending) (m : ModuleForm) (agree : Agreement script m) (job : JobForm) (steps : ℕ) (e : MachineEnd)
+    → e ≡ machine.OutOfSteps → (f : HostForm) (r : FoundRun m job steps e f) → GoesOnThere script job r.finds agree.bound steps
+goes_on_there script m agree job steps e q f r turns enough over =
+    let s : Surroundings = Found r.finds in
+    let out : ModuleEnding = Like (GoesOn r.output) in
+    let ends : Ending = script (setting_in job nothing_left s) turns in
+    let t : TellsEnding m job nothing_left s steps f.fault machine.OutOfSteps r.output =
+        subst (λ (x : MachineEnd). Tells m job nothing_left s steps f.fault x r.output) q r.tells in
+    let x = agree.forward job nothing_left s turns ends over refl in
+    let same = x.2 steps out (omega (arith, x.1)) (the_ending script m agree job nothing_left s steps f.fault machine.OutOfSteps r.output out refl t) in
+    subst IsOver (same_ending r.output ends same) over

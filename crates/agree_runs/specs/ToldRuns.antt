@@ -1,5 +1,5 @@
 -- What a machine tells of a run whose host is told by its tables.
-use Rattle.std.specs.Prelude.{◌≡◌, ℕ, ◌≤◌, List, ◌++◌, Option, Some}
+use Rattle.std.specs.Prelude.{◌≡◌, ℕ, ◌+◌, ◌*◌, ◌≤◌, List, ◌++◌, Option, Some}
 use Rattle.awk_values.specs.declared.fault.Fault.{Fault}
 use Rattle.sem_primitives.specs.InputMeaning.{nothing_left}
 use Rattle.sem_primitives.specs.Jobs.{Found, JobForm, Kept, Surroundings}
@@ -17,6 +17,7 @@ use Rattle.host_step.specs.Worlds.{anyhow_meaning}
 use Rattle.sem_scripts.specs.Kept.{Grows, output_of}
 use Rattle.sem_scripts.specs.ScriptRun.{Ending, Exhausted, Setting, setting_in, setting_of}
 use Rattle.agree_modules.specs.Agreement.{MayEnd, ModuleEnding, ended_with, ending_told, output_in}
+use Rattle.agree_modules.specs.ValueAgreement.{IsOver}
 
 -- what was told, with this fault kept and this output, is how the module may end
 abbrev pub TellsEnding : ModuleForm → JobForm → Source → Surroundings → ℕ → Option Fault → MachineEnd → List Action → Type 0
@@ -69,13 +70,17 @@ pub record DoesSo (script : Setting → ℕ → Ending) (job : JobForm) (input :
   pub says : Says told output (script (setting_of job input outside) turns)
   pub applied : held ≡ outside_after output outside
 
--- The script does so, in this job, in surroundings that others change too, within some number of turns: there each time that something is opened, read or
--- written these are found.
-pub record DoesSoThere (script : Setting → ℕ → Ending) (job : JobForm) (told : Told) : Type 0 where
-  pub finds : List Entry
+-- The script does so, in this job, in surroundings that others change too, where each time that something is opened, read or written these are found, within some
+-- number of turns.
+pub record DoesSoThere (script : Setting → ℕ → Ending) (job : JobForm) (finds : List Entry) (told : Told) : Type 0 where
   pub turns : ℕ
   pub output : List Action
   pub says : Says told output (script (setting_in job nothing_left (Found finds)) turns)
+
+-- The script goes on there: within so many turns as these steps suffice for, so many for each turn, it is not over.
+abbrev pub GoesOnThere : (Setting → ℕ → Ending) → JobForm → List Entry → (bound steps : ℕ) → Type 0
+GoesOnThere script job finds bound steps = (turns : ℕ) → bound * (turns + 1) ≤ steps
+    → IsOver (script (setting_in job nothing_left (Found finds)) turns) → ⊥
 
 -- what a machine's end tells, with this fault kept; a script never traps
 abbrev pub told_by : Option Fault → MachineEnd → Told

@@ -17,7 +17,7 @@ ghost use Rattle.host_meaning.specs.FormMeaning.{FormState, form_meaning};
 ghost use Rattle.host_meaning.specs.Shown.{Shown};
 ghost use Rattle.sem_scripts.specs.ScriptRun.{Ending, Setting};
 ghost use Rattle.agree_modules.specs.Agreement.{Agreement};
-ghost use Rattle.agree_runs.specs.ToldRuns.{AnyhowRun, DoesSo, DoesSoThere, FoundRun, ToldRun, told_by};
+ghost use Rattle.agree_runs.specs.ToldRuns.{AnyhowRun, DoesSo, DoesSoThere, FoundRun, GoesOnThere, ToldRun, told_by};
 
 use world_core::World;
 
@@ -62,9 +62,15 @@ pub fn found<W: World>()
         → FoundRun m job steps e g }
 {}
 
-/// Where a script and the module agree, the script does so there.
+/// Where a script and the module agree, the script does so there; and where the steps did not suffice, it is not over there within so many turns as they
+/// suffice for, by the bound of the agreement.
 pub fn does_so_there()
-    ensures { (script : Setting → ℕ → Ending) (m : ModuleForm) → Agreement script m
+    ensures does { (script : Setting → ℕ → Ending) (m : ModuleForm) → Agreement script m
         → (job : JobForm) (steps : ℕ) (e : MachineEnd) (f : HostForm)
-        → FoundRun m job steps e f → DoesSoThere script job (told_by f.fault e) }
+        → (r : FoundRun m job steps e f)
+        → DoesSoThere script job r.finds (told_by f.fault e) }
+    ensures bounded { (script : Setting → ℕ → Ending) (m : ModuleForm)
+        → (agree : Agreement script m) → (job : JobForm) (steps : ℕ) (f : HostForm)
+        → (r : FoundRun m job steps MachineEnd.OutOfSteps f)
+        → GoesOnThere script job r.finds agree.bound steps }
 {}

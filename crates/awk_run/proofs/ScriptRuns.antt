@@ -3,7 +3,7 @@ use Rattle.std.proofs.Common.{◌≡◌, inl, inr, ℕ, ◌+◌, List, [], ◌�
 use Rattle.awk_values.specs.declared.fault.Fault.{Fault}
 use Rattle.sem_primitives.specs.InputMeaning.{nothing_left}
 use Rattle.sem_primitives.specs.Jobs.{Found, JobForm}
-use Rattle.world_core.specs.WorldState.{Action, State}
+use Rattle.world_core.specs.WorldState.{Action, Entry, State}
 use Rattle.sem_scripts.specs.Kept.{output_of}
 use Rattle.sem_scripts.specs.Kinds.{resolved}
 use Rattle.sem_scripts.specs.ScriptRun.{Ending, resolved_run, run_of, setting_in}
@@ -16,8 +16,8 @@ use Rattle.wasm_model.specs.declared.fault.LinkFault.TheVariants as link
 use Rattle.wasm_model.specs.declared.ends.MachineEnd.{MachineEnd}
 use Rattle.wasm_model.specs.declared.ends.MachineEnd.TheVariants as machine
 use Rattle.module_decoder.proofs.CompleteModule.{one_module}
-use Rattle.agree_runs.specs.ToldRuns.{DoesSo, DoesSoThere, Says, told_by}
-use Rattle.agree_runs.proofs.Agreeing.{does_so, does_so_there}
+use Rattle.agree_runs.specs.ToldRuns.{DoesSo, DoesSoThere, GoesOnThere, Says, told_by}
+use Rattle.agree_runs.proofs.Agreeing.{does_so, does_so_there, goes_on_there}
 use Rattle.script_compiler.specs.Compiled.{IsCompiled, Links}
 use Rattle.awk_run.specs.ModuleRun.{Answers, HasRun, IsRunOf, IsUnlinked, RunAnswers, run_end}
 use Rattle.awk_run.specs.ScriptRuns.{IsScriptRun, ScriptAnswers, told_of}
@@ -39,8 +39,11 @@ says kept (machine.Trapped kind) output ending h = absurd h
 abbrev Does : {bytes v : List ℕ} → IsCompiled bytes v → JobForm → State → RunEnd → State → Type 0
 Does c job before e after = DoesSo (resolved_run (resolved c.script)) job (before.readers 0) before.outside (told_of e) after.outside
 
-abbrev There : {bytes v : List ℕ} → IsCompiled bytes v → JobForm → RunEnd → Type 0
-There c job e = DoesSoThere (resolved_run (resolved c.script)) job (told_of e)
+abbrev There : {bytes v : List ℕ} → IsCompiled bytes v → JobForm → List Entry → RunEnd → Type 0
+There c job finds e = DoesSoThere (resolved_run (resolved c.script)) job finds (told_of e)
+
+abbrev On : {bytes v : List ℕ} → IsCompiled bytes v → JobForm → List Entry → ℕ → RunEnd → Type 0
+On c job finds steps e = e ≡ run.OutOfSteps → GoesOnThere (resolved_run (resolved c.script)) job finds c.agreement.bound steps
 
 -- a run of the module, as the script's
 did : (tells : Type 0) (bytes v : List ℕ) (c : IsCompiled bytes v) (job : JobForm) (steps : ℕ) (before after : State) (e : RunEnd)
@@ -57,16 +60,29 @@ did tells bytes v c job steps before after e r t =
 
 -- and in every world, where it finds what the world answered
 there : (tells : Type 0) (bytes v : List ℕ) (c : IsCompiled bytes v) (job : JobForm) (steps : ℕ) (before after : State) (e : RunEnd)
-    → IsRunOf tells c.whole job steps before e after → There c job e
+    (r : IsRunOf tells c.whole job steps before e after) → There c job r.there.finds e
 there tells bytes v c job steps before after e r =
     let d = does_so_there (resolved_run (resolved c.script)) c.whole c.agreement job steps r.told r.left r.there in
     record {
-      finds = d.finds;
       turns = d.turns;
       output = d.output;
-      says = subst (λ (x : RunEnd). Says (told_of x) d.output (resolved_run (resolved c.script) (setting_in job nothing_left (Found d.finds)) d.turns)) (sym r.answered)
+      says = subst (λ (x : RunEnd). Says (told_of x) d.output (resolved_run (resolved c.script) (setting_in job nothing_left (Found r.there.finds)) d.turns)) (sym r.answered)
           (says r.left.fault r.told d.output _ d.says);
     }
+
+-- an answer that the steps did not suffice is told of a machine that went on
+ran_out : (kept : Option Fault) (t : MachineEnd) → run_end kept t ≡ run.OutOfSteps → t ≡ machine.OutOfSteps
+ran_out (Some f) (machine.Returned n) q = cc
+ran_out None (machine.Returned n) q = cc
+ran_out kept machine.Exhausted q = cc
+ran_out kept machine.OutOfSteps q = refl
+ran_out kept machine.NoMemory q = cc
+ran_out kept (machine.Trapped kind) q = cc
+
+goes_on : (tells : Type 0) (bytes v : List ℕ) (c : IsCompiled bytes v) (job : JobForm) (steps : ℕ) (before after : State) (e : RunEnd)
+    (r : IsRunOf tells c.whole job steps before e after) → On c job r.there.finds steps e
+goes_on tells bytes v c job steps before after e r out =
+    goes_on_there (resolved_run (resolved c.script)) c.whole c.agreement job steps r.told (ran_out r.left.fault r.told (sym r.answered ∙ out)) r.left r.there
 
 -- Refusals that a compiled script does not meet.
 
@@ -95,31 +111,42 @@ module _ (tells : Type 0) (bytes v : List ℕ) (job : JobForm) (steps : ℕ) (be
     applied = ap (λ (s : State). s.outside) e;
   }
 
-  unbegun_there : There c job run.NoMemory
+  unbegun_there : There c job [] run.NoMemory
   unbegun_there = record {
-    finds = [];
     turns = 0;
     output = [];
     says = (output_of (resolved_run (resolved c.script) (setting_in job nothing_left (Found [])) 0), refl);
   }
 
+  wanting_is_no_end : run.NoMemory ≡ run.OutOfSteps → ⊥
+  wanting_is_no_end q = cc
+
   module _ (e : RunEnd) (h : HasRun tells v job steps before e after) where
-    as_run : IsRunOf tells h.whole job steps before e after → tells → Does c job before e after
-    as_run r = did tells bytes v c job steps before after e (subst (λ (w : ModuleForm). IsRunOf tells w job steps before e after) (same h.whole h.read) r)
-
-    as_found : IsRunOf tells h.whole job steps before e after → There c job e
-    as_found r = there tells bytes v c job steps before after e (subst (λ (w : ModuleForm). IsRunOf tells w job steps before e after) (same h.whole h.read) r)
-
-    script_run : (tells → Does c job before e after) → There c job e → IsScriptRun tells bytes job steps before e after
-    script_run d t = record { compiled = v; is_compiled = c; run = h; does = d; there = t }
-
     ran_run : IsRunOf tells h.whole job steps before e after → IsScriptRun tells bytes job steps before e after
-    ran_run r = script_run (as_run r) (as_found r)
+    ran_run r =
+        let own : IsRunOf tells c.whole job steps before e after = subst (λ (w : ModuleForm). IsRunOf tells w job steps before e after) (same h.whole h.read) r in
+        record {
+          compiled = v;
+          is_compiled = c;
+          run = h;
+          does = did tells bytes v c job steps before after e own;
+          finds = own.there.finds;
+          there = there tells bytes v c job steps before after e own;
+          goes_on = goes_on tells bytes v c job steps before after e own;
+        }
 
   wanting_run : (h : HasRun tells v job steps before run.NoMemory after) → RunAnswers tells h.whole job steps before run.NoMemory after
       → IsScriptRun tells bytes job steps before run.NoMemory after
   wanting_run h (inl r) = ran_run run.NoMemory h r
-  wanting_run h (inr e) = script_run run.NoMemory h (λ t. unbegun e) unbegun_there
+  wanting_run h (inr e) = record {
+    compiled = v;
+    is_compiled = c;
+    run = h;
+    does = λ t. unbegun e;
+    finds = [];
+    there = unbegun_there;
+    goes_on = λ q. absurd (wanting_is_no_end q);
+  }
 
   pub script_answers : (e : RunEnd) → Answers tells v job steps before e after → ScriptAnswers tells bytes job steps before e after
   script_answers (run.Refused (Compile f)) r = absurd r.run

@@ -1,10 +1,10 @@
 -- What running a script answers: why it is not run, or what it did.
 use Rattle.std.specs.Prelude.{◌≡◌, ◌≢◌, ◌⊎◌, ℕ, List}
 use Rattle.sem_primitives.specs.Jobs.{JobForm}
-use Rattle.world_core.specs.WorldState.{State}
+use Rattle.world_core.specs.WorldState.{Entry, State}
 use Rattle.sem_scripts.specs.Kinds.{resolved}
 use Rattle.sem_scripts.specs.ScriptRun.{Ended, FaultedBy, Exhausted, resolved_run}
-use Rattle.agree_runs.specs.ToldRuns.{DoesSo, DoesSoThere, Told, Ends, PutsOut, Never}
+use Rattle.agree_runs.specs.ToldRuns.{DoesSo, DoesSoThere, GoesOnThere, Told, Ends, PutsOut, Never}
 use Rattle.script_code.specs.declared.fault.CompileFault.TheVariants as compile
 use Rattle.script_compiler.specs.Compiled.{IsCompiled}
 use Rattle.script_compiler.specs.Refusals.{IsNotCompiled}
@@ -23,14 +23,17 @@ told_of run.NoMemory = PutsOut
 told_of (run.Refused cause) = Never
 told_of (run.Trapped kind) = Never
 
--- The script is compiled, and its module is run so. In every world the script does so where it finds what the world answered, and in a world that tells what
--- it holds over what the names hold.
+-- The script is compiled, and its module is run so. In a world that tells what it holds the script does so too. In every world it does so in surroundings that
+-- others change too, where it finds what the world answered; and where the steps did not suffice, it is not over there within so many turns as they suffice for,
+-- by the bound of its module.
 pub record IsScriptRun (tells : Type 0) (bytes : List ℕ) (job : JobForm) (steps : ℕ) (before : State) (e : RunEnd) (after : State) : Type 0 where
   pub compiled : List ℕ
   pub is_compiled : IsCompiled bytes compiled
   pub run : HasRun tells compiled job steps before e after
   pub does : tells → DoesSo (resolved_run (resolved is_compiled.script)) job (before.readers 0) before.outside (told_of e) after.outside
-  pub there : DoesSoThere (resolved_run (resolved is_compiled.script)) job (told_of e)
+  pub finds : List Entry
+  pub there : DoesSoThere (resolved_run (resolved is_compiled.script)) job finds (told_of e)
+  pub goes_on : e ≡ run.OutOfSteps → GoesOnThere (resolved_run (resolved is_compiled.script)) job finds is_compiled.agreement.bound steps
 
 -- what an answer says of the script and of the world
 abbrev pub ScriptAnswers : (tells : Type 0) → List ℕ → JobForm → ℕ → State → RunEnd → State → Type 0
