@@ -5,10 +5,10 @@ ghost use Rattle.ere_syntax.specs.Tree.{times};
 use crate::tree::Times;
 
 /// The greatest number of positions, after counts are expanded.
-const POSITIONS: u32 = 10_000;
+const MAX_POSITIONS: u32 = 10_000;
 
-/// The greatest nesting.
-pub(crate) const NESTING: u32 = 1_000;
+/// The greatest nesting of groups and repetitions.
+pub(crate) const MAX_ERE_NESTING: u32 = 1_000;
 
 /// The positions of a tree, those past the limit as one past it, and its nesting, which is within its limit.
 #[derive(Clone, Copy, Debug)]
@@ -22,10 +22,10 @@ pub(crate) struct Size {
 fn capped(positions: u32) -> u32
     ensures { result ≡ min positions 10001 }
 {
-    if positions <= POSITIONS {
+    if positions <= MAX_POSITIONS {
         positions
     } else {
-        POSITIONS + 1
+        MAX_POSITIONS + 1
     }
 }
 
@@ -73,7 +73,7 @@ impl Size {
             (λ s. (s.positions ≡ self.positions) × (s.nesting ≡ self.nesting + 1)) }
         ensures none { IsNone result ↔ (1000 < self.nesting + 1) }
     {
-        if self.nesting < NESTING {
+        if self.nesting < MAX_ERE_NESTING {
             Some(Size {
                 positions: self.positions,
                 nesting: self.nesting + 1,
@@ -103,6 +103,6 @@ impl Size {
     pub(crate) fn is_within_limits(self) -> bool
         ensures { IsTrue result ↔ (self.positions ≤ 10000) }
     {
-        self.positions <= POSITIONS
+        self.positions <= MAX_POSITIONS
     }
 }

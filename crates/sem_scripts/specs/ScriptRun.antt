@@ -162,9 +162,12 @@ run_with setting turns parts = ending (unless (fault_of_job setting.job) (all_pa
 abbrev pub resolved_run : Resolved → Setting → ℕ → Ending
 resolved_run script setting turns = run_with setting turns (parts_of turns script)
 
--- at most 9,999 calls may be nested
+-- so many calls may be nested
+abbrev pub most_calls : ℕ
+most_calls = 9999
+
 abbrev pub setting_of : JobForm → Source → Outside → Setting
-setting_of job input outside = record { job = job; input = input; outside = outside; deepest = 9999 }
+setting_of job input outside = record { job = job; input = input; outside = outside; deepest = most_calls }
 
 abbrev pub run_of : List Item → JobForm → Source → Outside → ℕ → Ending
 run_of script job input outside turns = resolved_run (resolved script) (setting_of job input outside) turns
