@@ -1,6 +1,6 @@
 //! The size of a tree: what the limits are on.
 ghost use Rattle.std.specs.Prelude.{◌≡◌, ◌+◌, ◌*◌, ◌≤◌, ◌<◌, min, max, true, Some, IfSome, IsNone, ◌↔◌, IsTrue};
-ghost use Rattle.ere_syntax.specs.Tree.{times};
+ghost use Rattle.ere_syntax.specs.Tree.{most_ere_nesting, most_positions, times};
 
 use crate::tree::Times;
 
@@ -15,12 +15,12 @@ pub(crate) const MAX_ERE_NESTING: u32 = 1_000;
 pub(crate) struct Size {
     pub(crate) positions: u32,
     pub(crate) nesting: u32,
-    ghost few: { positions ≤ 10001 },
-    ghost shallow: { nesting ≤ 1000 },
+    ghost few: { positions ≤ most_positions + 1 },
+    ghost shallow: { nesting ≤ most_ere_nesting },
 }
 
 fn capped(positions: u32) -> u32
-    ensures { result ≡ min positions 10001 }
+    ensures { result ≡ min positions (most_positions + 1) }
 {
     if positions <= MAX_POSITIONS {
         positions
@@ -54,7 +54,7 @@ impl Size {
 
     /// Of both.
     pub(crate) fn beside(self, other: Size) -> Size
-        ensures positions { result.positions ≡ min (self.positions + other.positions) 10001 }
+        ensures positions { result.positions ≡ min (self.positions + other.positions) (most_positions + 1) }
         ensures nesting { result.nesting ≡ max self.nesting other.nesting }
     {
         Size {
@@ -71,7 +71,7 @@ impl Size {
     pub(crate) fn deeper(self) -> Option<Size>
         ensures some { IfSome result
             (λ s. (s.positions ≡ self.positions) × (s.nesting ≡ self.nesting + 1)) }
-        ensures none { IsNone result ↔ (1000 < self.nesting + 1) }
+        ensures none { IsNone result ↔ (most_ere_nesting < self.nesting + 1) }
     {
         if self.nesting < MAX_ERE_NESTING {
             Some(Size {
@@ -86,7 +86,7 @@ impl Size {
     /// So many times.
     pub(crate) fn repeated(self, counts: Times) -> Size
         ensures positions { result.positions
-            ≡ min (self.positions * times counts.low counts.high) 10001 }
+            ≡ min (self.positions * times counts.low counts.high) (most_positions + 1) }
         ensures nesting { result.nesting ≡ self.nesting }
     {
         let factor = match counts.high {
@@ -101,7 +101,7 @@ impl Size {
 
     /// Whether the limits are kept.
     pub(crate) fn is_within_limits(self) -> bool
-        ensures { IsTrue result ↔ (self.positions ≤ 10000) }
+        ensures { IsTrue result ↔ (self.positions ≤ most_positions) }
     {
         self.positions <= MAX_POSITIONS
     }
