@@ -37,13 +37,13 @@ use Rattle.agree_refined.specs.Growing.{ArraysGrow}
 use Rattle.agree_refined.specs.Owners.{owners, waiting, wanted}
 use Rattle.agree_refined.specs.Refined.{As, EndAs, RunAs, table_meaning}
 use Rattle.agree_refined.specs.Words.{ArraysFit, arrays_made}
-use Rattle.agree_refined.proofs.Answering.{Told}
-use Rattle.agree_refined.proofs.Asked.{asked_as}
-use Rattle.agree_refined.proofs.Asking.{all_live_as, rest_after}
+use Rattle.agree_refined.proofs.ImportAnswers.{Told}
+use Rattle.agree_refined.proofs.ImportSteps.{asked_as}
+use Rattle.agree_refined.proofs.LentArrays.{all_live_as, rest_after}
 use Rattle.agree_refined.proofs.Carrying.{unowned_one, words_carried}
 use Rattle.agree_refined.proofs.Decoding.{AllSpentRight, Left, RowAs, decode_as}
 use Rattle.agree_refined.proofs.Exchanging.{host_of}
-use Rattle.agree_refined.proofs.Moving.{owners_reverse, owners_split, words_drop, words_reverse, words_take}
+use Rattle.agree_refined.proofs.MovedOperands.{owners_reverse, owners_split, words_drop, words_reverse, words_take}
 use Rattle.agree_refined.proofs.Settling.{at_as}
 
 -- the five calls that read take what they spend

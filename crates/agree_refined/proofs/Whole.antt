@@ -23,7 +23,7 @@ use Rattle.agree_refined.specs.Running.{RanAs, TellsAs}
 use Rattle.agree_refined.proofs.Beginning.{begins, begun_as, in_main, run_after}
 use Rattle.agree_refined.proofs.Growing.{arrays_grow}
 use Rattle.agree_refined.proofs.Links.{linked, program_is, stays}
-use Rattle.agree_refined.proofs.Answering.{some_of}
+use Rattle.agree_refined.proofs.ImportAnswers.{some_of}
 use Rattle.agree_refined.proofs.Running.{ran_as}
 use Rattle.agree_refined.proofs.Telling.{tells_as}
 use Rattle.agree_refined.proofs.Worlds.{MeansCalled, run_told}
