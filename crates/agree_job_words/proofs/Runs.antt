@@ -36,7 +36,7 @@ use Rattle.lower_model.proofs.Announcing.{Telling}
 use Rattle.lower_model.proofs.Runs.{go_add}
 use Rattle.agree_refined.specs.Refined.{As, Linked, table_meaning}
 use Rattle.agree_refined.specs.Words.{state_with}
-use Rattle.agree_refined.proofs.Answering.{some_of}
+use Rattle.agree_refined.proofs.ImportAnswers.{some_of}
 use Rattle.agree_refined.proofs.Beginning.{begins, begun_as, in_main, taken_first}
 use Rattle.agree_refined.proofs.Growing.{arrays_grow}
 use Rattle.agree_refined.proofs.Links.{linked, program_is, stays}

@@ -13,7 +13,7 @@ use Rattle.lower_model.specs.Functions.{main_callee, routine_callee}
 use Rattle.lower_model.specs.Machine.{Callee, go, zeros}
 use Rattle.lower_model.specs.Modules.{all_callees, globals_of, name_globals, word_global}
 use Rattle.lower_model.specs.Runs.{begun, code_of, empty_names, first_globals, host_at_start, zero_ranges}
-use Rattle.agree_refined.proofs.Answering.{some_of}
+use Rattle.agree_refined.proofs.ImportAnswers.{some_of}
 use Rattle.agree_places.specs.Places.{IsWithin, size}
 use Rattle.agree_places.proofs.Fitting.{Fits, at_fits, go_fits}
 

@@ -8,7 +8,7 @@ use Rattle.mid_program.specs.Mid.{Program, Routine}
 use Rattle.lower_model.specs.Functions.{main_callee, routine_callee}
 use Rattle.lower_model.specs.Machine.{Callee, answers_to}
 use Rattle.lower_model.specs.Modules.{all_callees, called_imports}
-use Rattle.agree_refined.proofs.Answering.{some_of}
+use Rattle.agree_refined.proofs.ImportAnswers.{some_of}
 use Rattle.agree_places.specs.Kept.{AtStatement, CallerWaits, CallersWait, values_waiting}
 use Rattle.agree_places.specs.Pending.{AllFewPending, FewAlive, FewPending, values_within}
 use Rattle.agree_places.proofs.Pending.{PartsFew, RoutinesFew, call_within, calls_fit, limit_of}

@@ -20,7 +20,7 @@ use Rattle.agree_refined.proofs.Beginning.{begun_as, in_main}
 use Rattle.agree_refined.proofs.Existing.{FreeFrom}
 use Rattle.agree_refined.proofs.Growing.{arrays_grow}
 use Rattle.agree_refined.proofs.Links.{linked, program, stays}
-use Rattle.agree_refined.proofs.Putting.{words_length}
+use Rattle.agree_refined.proofs.StoredCells.{words_length}
 use Rattle.agree_refined.specs.Owners.{places_in}
 use Rattle.agree_refined.proofs.Room.{HasFree, has_free}
 use Rattle.agree_refined.proofs.Running.{steps_as}

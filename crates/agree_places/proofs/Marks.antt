@@ -6,7 +6,7 @@ use Rattle.wasm_store.specs.declared.word.Word.TheVariants.{I32, I64}
 use Rattle.host_step.specs.HostState.{Names}
 use Rattle.mid_program.specs.Mid.{Kind, Boxed, Unboxed, Many}
 use Rattle.mid_program.specs.Sorted.{has_kind}
-use Rattle.agree_refined.proofs.Answering.{some_of}
+use Rattle.agree_refined.proofs.ImportAnswers.{some_of}
 use Rattle.awk_values.specs.declared.value.Value.{Value}
 use Rattle.lower_model.specs.Cells.{Cell, Bits, Held, IteratorOf, OwnedArray, LentArray, Gone, is_bare, is_held, is_marked, is_owned, mark_fits, marks_fit, tidy_locals}
 use Rattle.lower_model.specs.Small.{minus_one, text_beside}

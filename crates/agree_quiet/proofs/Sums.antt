@@ -18,7 +18,7 @@ use Rattle.lower_model.specs.Arithmetic.{calculated}
 use Rattle.lower_model.specs.Emission.{Layout, emitted, all_emitted, slot_read, slot_set}
 use Rattle.lower_model.specs.Places.{Bases, handle_local, number_global, number_local}
 use Rattle.lower_model.specs.Small.{text_beside, to_number}
-use Rattle.agree_refined.proofs.Putting.{set_there}
+use Rattle.agree_refined.proofs.StoredCells.{set_there}
 use Rattle.agree_quiet.specs.Sums.{HasNoText, IsSum, IsSumOperator, constant, itself, joined, name}
 use Rattle.agree_quiet.proofs.Flowing.{Flows, branch, compare, const64, ended, get, get_global, set, set_global, tee}
 use Rattle.agree_quiet.proofs.Parts.{Faults, equal_word, no_mark_flows, number_is_flows, ranged_flows, times_flows}

@@ -35,7 +35,7 @@ use Rattle.agree_typed.proofs.Places.{there_behind}
 use Rattle.agree_refined.specs.Owners.{OwnedOnce, there, wanted}
 use Rattle.agree_refined.specs.Refined.{As, RestAs, entry}
 use Rattle.agree_refined.specs.Words.{ArraysFit, WordsAs}
-use Rattle.agree_refined.proofs.Answering.{some_of}
+use Rattle.agree_refined.proofs.ImportAnswers.{some_of}
 use Rattle.agree_refined.proofs.Carrying.{unowned_all}
 use Rattle.agree_refined.proofs.Links.{code_there, function_there, program, program_is, stays}
 use Rattle.agree_refined.proofs.Settling.{at_as}

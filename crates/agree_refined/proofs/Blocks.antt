@@ -17,8 +17,8 @@ use Rattle.lower_model.specs.Machine.{Code, Conf, Frame, Label, Store, at, br, b
 use Rattle.agree_refined.specs.Refined.{AgainAs, CodeAs, LabelAs, LabelsAs, NextAs, RestAs}
 use Rattle.agree_refined.specs.Words.{WordsAs, arrays_made}
 use Rattle.agree_refined.proofs.Carrying.{unowned_all, unowned_one}
-use Rattle.agree_refined.proofs.Going.{Once, frame_as, stuck_as}
-use Rattle.agree_refined.proofs.Moving.{owners_append, words_append}
+use Rattle.agree_refined.proofs.FrameSteps.{Once, frame_as, stuck_as}
+use Rattle.agree_refined.proofs.MovedOperands.{owners_append, words_append}
 
 module _ {used : ℕ → Bool} {bs : List Bool} {u : Code} {K : List Label} {L : List Cell} {F : List Frame} {G : Store} {c : real.Conf} {s : HostState} (m : ProgramForm) (ks : List Kind) (rest : RestAs used bs u K L F G c s) where
   abbrev Next : Conf → form.Local → Type 0

@@ -17,9 +17,9 @@ use Rattle.agree_refined.specs.Owners.{OwnedOnce}
 use Rattle.agree_refined.specs.Refined.{CodeAs, NextAs, RestAs}
 use Rattle.agree_refined.specs.Words.{WordsAs, arrays_made}
 use Rattle.agree_refined.proofs.Carrying.{unowned_one}
-use Rattle.agree_refined.proofs.Going.{Once, goes_as, stuck_as, untyped_as}
+use Rattle.agree_refined.proofs.FrameSteps.{Once, goes_as, stuck_as, untyped_as}
 use Rattle.agree_refined.proofs.Locals.{room_is}
-use Rattle.agree_refined.proofs.Putting.{kept_as, owners_left, owners_put, read_as, shared_once, word_at, words_left, words_length, words_put}
+use Rattle.agree_refined.proofs.StoredCells.{kept_as, owners_left, owners_put, read_as, shared_once, word_at, words_left, words_length, words_put}
 use Rattle.agree_refined.proofs.Settling.{at_as}
 
 module _ {used : ℕ → Bool} {bs : List Bool} {u : Code} {K : List Label} {L : List Cell} {F : List Frame} {k : Instructions} {G : Store} {c : real.Conf} {s : HostState} (ks : List Kind) (rest : RestAs used bs u K L F G c s) (code-is : CodeAs used bs k c.frame.code) where

@@ -27,7 +27,7 @@ use Rattle.agree_typed.proofs.Chosen.{functions_behind, renumbered_there}
 use Rattle.agree_typed.proofs.Links.{imports_there}
 use Rattle.agree_typed.proofs.Places.{there_behind}
 use Rattle.agree_refined.specs.Refined.{CodeAs, Linked}
-use Rattle.agree_refined.proofs.Answering.{some_of}
+use Rattle.agree_refined.proofs.ImportAnswers.{some_of}
 
 -- Imports stand in the order of their numbers.
 

@@ -18,10 +18,10 @@ use Rattle.lower_model.specs.Machine.{Code, Conf, Frame, Label, Look, Store, act
 use Rattle.agree_refined.specs.Owners.{owner, owners}
 use Rattle.agree_refined.specs.Refined.{CodeAs, NextAs, RestAs}
 use Rattle.agree_refined.specs.Words.{WordAs, WordsAs, arrays_made}
-use Rattle.agree_refined.proofs.Asking.{both}
+use Rattle.agree_refined.proofs.LentArrays.{both}
 use Rattle.agree_refined.proofs.Carrying.{unowned_one}
-use Rattle.agree_refined.proofs.Going.{Once, frame_as, framed, goes_as, stuck_as, untyped_as}
-use Rattle.agree_refined.proofs.Putting.{left_as, left_unowned, lent_as, owners_left, owners_put, set_there, word_at, words_left, words_length, words_put}
+use Rattle.agree_refined.proofs.FrameSteps.{Once, frame_as, framed, goes_as, stuck_as, untyped_as}
+use Rattle.agree_refined.proofs.StoredCells.{left_as, left_unowned, lent_as, owners_left, owners_put, set_there, word_at, words_left, words_length, words_put}
 
 pub not_true : (b : Bool) → not b ≡ true → b ≡ false
 not_true false e = refl

@@ -25,7 +25,7 @@ use Rattle.lower_model.specs.Machine.{Code, Frame, Label, Store, compared, handl
 use Rattle.agree_refined.specs.Refined.{CodeAs, NextAs, RestAs}
 use Rattle.agree_refined.specs.Words.{WordAs, WordsAs, arrays_made}
 use Rattle.agree_refined.proofs.Carrying.{unowned_one}
-use Rattle.agree_refined.proofs.Going.{Once, frame_as, stuck_as}
+use Rattle.agree_refined.proofs.FrameSteps.{Once, frame_as, stuck_as}
 
 -- where the machine over values has a word, the real machine has it too
 abbrev pub Gives : Option Word → Option Word → Type 0

@@ -24,15 +24,15 @@ use Rattle.host_imports.specs.declared.import.Import.{Import}
 use Rattle.agree_refined.specs.Growing.{ArraysGrow}
 use Rattle.agree_refined.specs.Refined.{As, CodeAs, Linked, LookAs, NextAs, RestAs}
 use Rattle.agree_refined.specs.Words.{WordAs, WordsAs, arrays_made}
-use Rattle.agree_refined.proofs.Asked.{asked_as}
+use Rattle.agree_refined.proofs.ImportSteps.{asked_as}
 use Rattle.agree_refined.proofs.Blocks.{br_as, br_if_as, choose_as, entered_as}
-use Rattle.agree_refined.proofs.Entering as entering
+use Rattle.agree_refined.proofs.FunctionCalls as entering
 use Rattle.agree_refined.proofs.Globals.{global_get_as, global_set_as}
-use Rattle.agree_refined.proofs.Going.{Once, frame_as, framed, stuck_as}
-use Rattle.agree_refined.proofs.Leaving.{leave_as}
+use Rattle.agree_refined.proofs.FrameSteps.{Once, frame_as, framed, stuck_as}
+use Rattle.agree_refined.proofs.FunctionEnds.{leave_as}
 use Rattle.agree_refined.proofs.Locals.{local_get_as, local_set_as, local_tee_as}
-use Rattle.agree_refined.proofs.Looked.{asked_looking_as}
-use Rattle.agree_refined.proofs.Putting.{word_at}
+use Rattle.agree_refined.proofs.LookingSteps.{asked_looking_as}
+use Rattle.agree_refined.proofs.StoredCells.{word_at}
 use Rattle.agree_refined.proofs.Operators.{looked_word, operated_as, word_as}
 
 -- where nothing is noted a store stays as it is

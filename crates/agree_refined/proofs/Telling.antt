@@ -18,7 +18,7 @@ use Rattle.agree_refined.specs.Growing.{ArraysGrow}
 use Rattle.agree_refined.specs.Refined.{As, EndAs, Linked, table_meaning}
 use Rattle.agree_refined.specs.Running.{EndedAs, SharesAs, TellsAs}
 use Rattle.agree_refined.specs.Words.{WordAs, arrays_made}
-use Rattle.agree_refined.proofs.Answering.{some_of}
+use Rattle.agree_refined.proofs.ImportAnswers.{some_of}
 use Rattle.agree_refined.proofs.Running.{left_turn, ran_as}
 
 -- where no step leads away

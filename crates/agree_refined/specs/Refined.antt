@@ -13,6 +13,7 @@ use Rattle.wasm_model.specs.declared.ends.End.{End}
 use Rattle.wasm_model.specs.declared.ends.End.TheVariants as ends
 use Rattle.host_step.specs.HostState.{HostState, Names}
 use Rattle.host_step.specs.HostStep.{HostStep}
+use Rattle.sem_scripts.specs.ScriptRun.{most_calls}
 use Rattle.lower_model.specs.Cells.{Cell, none_owned, is_owned}
 use Rattle.host_imports.specs.Imports.{import_at, import_count, import_type}
 use Rattle.lower_model.specs.Machine.{Callee, Code, Conf, Deep, Frame, Label, Look, Over, Run, Store, Stuck}
@@ -133,10 +134,10 @@ module _ (used : ℕ → Bool) (bs : List Bool) where
       pub taken : (c1 : real.Conf) (s1 : HostState) (output : List Action) → TakenAs table_meaning t s c.memory output c1 s1 → As p c1 s1
       pub over : (e : End) (s1 : HostState) (output : List Action) → OverBy table_meaning t s c.memory output e s1 → EndAs p e s s1 output
 
-    -- the module has the functions and the imports of the code, under their new numbers; at most 9,999 callers wait, beside the entry; nothing is noted
+    -- the module has the functions and the imports of the code, under their new numbers; as many callers wait as a script may nest calls, beside the entry; nothing is noted
     pub record Linked (m : ProgramForm) : Type 0 where
       pub imported : (n : ℕ) (i : Import) (c : real.Conf) → import_at n ≡ Some i → used n ≡ true → called m (new_number bs n) c ≡ asked n (import_type i) c
       pub entered : (k : ℕ) (f : Callee) (c : real.Conf) → slice_get u.callees k ≡ Some f →
           (g : FuncForm) × (g.locals ≡ f.locals) × CodeAs f.body g.body × (called m (new_number bs (import_count + k)) c ≡ entered_func (callee_type f) g c)
-      pub deepest : u.deepest ≡ 9999
+      pub deepest : u.deepest ≡ most_calls
       pub silent : (code : Instructions) (output : List Action) → u.notes code output ≡ output

@@ -24,7 +24,7 @@ use Rattle.agree_typed.proofs.Singles.{Stack, Labels, Exit, inner, called, get, 
 use Rattle.agree_typed.proofs.Standing.{Stands}
 use Rattle.agree_typed.proofs.Pieces.{moved_out_ok, let_go_ok, number_is_ok, kept_code_ok, kept_value_ok, kept_number_ok, kept_ok, to_value_ok, code_number_ok, converted_ok, truth_ok, unused_ok, released_ok, moved_from_ok, bound_from_ok, calculated_ok, field_checked_ok, compared_ok}
 use Rattle.agree_typed.proofs.Slots.{slot_read_ok, slot_set_ok, asked_ok}
-use Rattle.agree_typed.proofs.Rows.{room_there, made_among, all_converted_ok, all_pushed_ok, all_boxed_ok, all_appended_ok, listed_asked_ok, all_given_ok, all_given_pushed_ok, all_freed_ok}
+use Rattle.agree_typed.proofs.Operands.{room_there, made_among, all_converted_ok, all_pushed_ok, all_boxed_ok, all_appended_ok, listed_asked_ok, all_given_ok, all_given_pushed_ok, all_freed_ok}
 
 -- the temporaries in which something is kept are there
 abbrev pub AreBelow : List ℕ → ℕ → Type 0

@@ -2,7 +2,7 @@ pub mod Singles
 pub mod Standing
 pub mod Pieces
 pub mod Slots
-pub mod Rows
+pub mod Operands
 pub mod Emitting
 pub mod Stepping
 pub mod Bodies

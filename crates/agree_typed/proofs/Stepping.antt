@@ -31,7 +31,7 @@ use Rattle.agree_typed.proofs.Singles.{Stack, Labels, Exit, inner, nearest, read
 use Rattle.agree_typed.proofs.Standing.{Stands, kind_below}
 use Rattle.agree_typed.proofs.Pieces.{moved_out_ok, emptied_ok, copied_ok, let_go_ok, fail_if_ok, number_is_ok, kept_number_ok, number_of_value_ok, to_value_ok, to_number_ok, truth_ok}
 use Rattle.agree_typed.proofs.Slots.{array_pushed_ok, text_dropped_ok}
-use Rattle.agree_typed.proofs.Rows.{room_there}
+use Rattle.agree_typed.proofs.Operands.{room_there}
 use Rattle.agree_typed.proofs.Emitting.{AreBelow, one_more_below, none_below, left_over_ok, code_ok}
 
 -- it does not matter here how the machine is watched

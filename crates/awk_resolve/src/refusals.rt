@@ -15,17 +15,17 @@ use indexmap::IndexSet;
 use std::alloc::{AllocError, Global};
 
 /// How many functions a script has at most.
-const FUNCTIONS: usize = 1000;
+const MAX_FUNCTIONS: usize = 1_000;
 
 /// How many parameters a function has at most.
-const PARAMETERS: usize = 100;
+const MAX_PARAMETERS: usize = 100;
 
 /// The first function that is past the limit of functions or has too many parameters.
 pub(crate) fn too_many<'a>(heads: &[Head<'a>]) -> Option<&'a [u8]>
     ensures { view_place result ≡ too_many 0 (view_heads heads.now) }
 {
     for i in 0..heads.len() {
-        if i >= FUNCTIONS || heads[i].parameters.len() > PARAMETERS {
+        if i >= MAX_FUNCTIONS || heads[i].parameters.len() > MAX_PARAMETERS {
             return Some(heads[i].name);
         }
     }

@@ -1,7 +1,7 @@
 -- The tokens of a text: how they are spelled and read, and the tree of a text.
 use Rattle.std.specs.Prelude.{◌≡◌, ℕ, zero, suc, ◌+◌, ◌-◌, ◌*◌, ◌≤◌, Bool, true, false, ◌&&◌, ◌||◌, ◌==◌, nat_le, if◌then◌else◌, Option, Some, None, List, [], ◌∷◌, ◌++◌, length}
 use Rattle.ere_syntax.specs.Bytes.{tab, carriage_return, last_control, space, exclamation, dollar, open_paren, close_paren, star, plus, comma, dot, slash, digit_zero, digit_nine, colon, query, at_sign, upper_a, upper_f, upper_z, open_bracket, backslash, hat, backquote, lower_a, lower_f, lower_z, open_brace, bar, close_brace, tilde, delete}
-use Rattle.ere_syntax.specs.Tree.{Bytes, Token, Atom, Begin, Stop, Open, Close, Bar, Times, Tree, print, IsEre}
+use Rattle.ere_syntax.specs.Tree.{Bytes, Token, Atom, Begin, Stop, Open, Close, Bar, Times, Tree, print, IsEre, most_count}
 use Rattle.ere_syntax.specs.Reading.{◌>>=◌, tree_of}
 use Rattle.ere_syntax.specs.Bracket.{not, starts, behind, Escape, spell_escape, IsEscape, escape_value, escape_at, value, Member, Single, Range, Named, Bracket, spell_bracket, IsBracket, bracket_at}
 use Rattle.ere_syntax.specs.declared.class.Class.{Class}
@@ -105,8 +105,8 @@ high_of (Upto ds []) = None
 high_of (Upto ds (e ∷ es)) = Some (number_after 0 (e ∷ es))
 
 abbrev pub counts_fit : ℕ → Option ℕ → Bool
-counts_fit low None = nat_le low 255
-counts_fit low (Some high) = nat_le low high && nat_le high 255
+counts_fit low None = nat_le low most_count
+counts_fit low (Some high) = nat_le low high && nat_le high most_count
 
 abbrev pub fits : Interval → Bool
 fits i = counts_fit (low_of i) (high_of i)

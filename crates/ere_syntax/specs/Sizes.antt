@@ -1,6 +1,6 @@
 -- The sizes that the code keeps.
 use Rattle.std.specs.Prelude.{◌≡◌, ℕ, ◌+◌, max, min, Option, Some, None, List, [], ◌∷◌, length}
-use Rattle.ere_syntax.specs.Tree.{Tree, positions, nesting}
+use Rattle.ere_syntax.specs.Tree.{Tree, positions, nesting, most_positions}
 use Rattle.ere_syntax.specs.Reading.{Frame, Frames}
 use Rattle.ere_syntax.specs.declared.size.Size.{Size}
 
@@ -14,12 +14,12 @@ deep (Some t) = nesting t
 
 -- the size of a tree
 pub record IsSize (s : Size) (t : Tree) : Type 0 where
-  pub positions : s.positions ≡ min (positions t) 10001
+  pub positions : s.positions ≡ min (positions t) (most_positions + 1)
   pub nesting : s.nesting ≡ nesting t
 
 -- the size of two parts, each of which may be missing
 pub record AreSize (s : Size) (a b : Option Tree) : Type 0 where
-  pub positions : s.positions ≡ min (count a + count b) 10001
+  pub positions : s.positions ≡ min (count a + count b) (most_positions + 1)
   pub nesting : s.nesting ≡ max (deep a) (deep b)
 
 abbrev pub frame_deep : Frame → ℕ

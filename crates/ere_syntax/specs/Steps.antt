@@ -74,7 +74,7 @@ pub record IsFrameOf (g : Frame) (frame : CodeFrame) : Type 0 where
 abbrev pub FrameAnswer : Frame → Result (Option CodeFrame) EreFault → Type 0
 FrameAnswer g (Ok (Some frame)) = IsFrameOf g frame
 FrameAnswer g (Ok None) = ⊥
-FrameAnswer g (Err EreTooLarge) = 1000 < frame_deep g
+FrameAnswer g (Err EreTooLarge) = most_ere_nesting < frame_deep g
 FrameAnswer g (Err NoMemory) = Unit {0}
 FrameAnswer g (Err (BadEre place)) = ⊥
 
@@ -88,6 +88,6 @@ pub record IsStepOf (x : List Frame × Frame) (stack : List CodeFrame) (frame : 
 abbrev pub StepAnswer : List Frame × Frame → List CodeFrame → Result (Option CodeFrame) EreFault → Type 0
 StepAnswer x stack (Ok (Some frame)) = IsStepOf x stack frame
 StepAnswer x stack (Ok None) = ⊥
-StepAnswer x stack (Err EreTooLarge) = 1000 < reached x.0 x.1
+StepAnswer x stack (Err EreTooLarge) = most_ere_nesting < reached x.0 x.1
 StepAnswer x stack (Err NoMemory) = Unit {0}
 StepAnswer x stack (Err (BadEre place)) = ⊥

@@ -83,6 +83,17 @@ nesting (Repeat t low high) = nesting t + 1
 nesting (Concat a b) = max (nesting a) (nesting b)
 nesting (Or a b) = max (nesting a) (nesting b)
 
+-- so many positions an expression has at most, and so deep groups and repetitions stand in one another
+abbrev pub most_positions : ℕ
+most_positions = 10000
+
+abbrev pub most_ere_nesting : ℕ
+most_ere_nesting = 1000
+
+-- the greatest count of an interval
+abbrev pub most_count : ℕ
+most_count = 255
+
 -- the limits on what is accepted
 abbrev pub IsWithinLimits : Tree → Type 0
-IsWithinLimits t = (positions t ≤ 10000) × (nesting t ≤ 1000)
+IsWithinLimits t = (positions t ≤ most_positions) × (nesting t ≤ most_ere_nesting)

@@ -1,6 +1,6 @@
 //! What was read of a group, and the steps that tokens take on it.
 ghost use Rattle.std.specs.Prelude.{◌≡◌, ◌<◌, ◌+◌, Some, IfOk, IfSome, option_map};
-ghost use Rattle.ere_syntax.specs.Tree.{Group, Repeat};
+ghost use Rattle.ere_syntax.specs.Tree.{Group, Repeat, most_ere_nesting};
 ghost use Rattle.ere_syntax.specs.Reading.{IsNeat, bar, either, finish, fresh, joined, put};
 ghost use Rattle.ere_syntax.specs.Frames.{IsSized, atom_view, frame_view, some_concat, some_or};
 ghost use Rattle.ere_syntax.specs.Sizes.{IsSize};
@@ -163,7 +163,7 @@ pub(crate) fn finish(frame: Frame) -> Result<Option<Part>, AllocError>
 /// The part in parentheses; nothing where that is nested too deeply.
 pub(crate) fn grouped(alloc: Global, part: Part) -> Result<Option<Part>, AllocError>
     ensures same { IfOk result (λ r. IfSome r (λ p. view p.ere ≡ Group (view part.ere))) }
-    ensures deep { IfOk result (λ r. r ≡ None → 1000 < part.size.nesting + 1) }
+    ensures deep { IfOk result (λ r. r ≡ None → most_ere_nesting < part.size.nesting + 1) }
     ensures sized { IsSize part.size (view part.ere)
         → IfOk result (λ r. IfSome r (λ p. IsSize p.size (view p.ere))) }
 {
@@ -180,7 +180,7 @@ pub(crate) fn grouped(alloc: Global, part: Part) -> Result<Option<Part>, AllocEr
 pub(crate) fn repeated(alloc: Global, part: Part, times: Times) -> Result<Option<Part>, AllocError>
     ensures same { IfOk result
         (λ r. IfSome r (λ p. view p.ere ≡ Repeat (view part.ere) times.low times.high)) }
-    ensures deep { IfOk result (λ r. r ≡ None → 1000 < part.size.nesting + 1) }
+    ensures deep { IfOk result (λ r. r ≡ None → most_ere_nesting < part.size.nesting + 1) }
     ensures sized { IsSize part.size (view part.ere)
         → IfOk result (λ r. IfSome r (λ p. IsSize p.size (view p.ere))) }
 {

@@ -6,8 +6,11 @@ ghost use Rattle.ere_syntax.specs.Counts.{begins_number, closing, counted, count
 use crate::bracket::{behind, starts};
 use crate::tree::Times;
 
+/// The greatest count of an interval.
+const MAX_COUNT: u16 = 255;
+
 /// A count past this one is kept as this one, which no repetition takes.
-const PAST: u16 = 256;
+const PAST: u16 = MAX_COUNT + 1;
 
 /// The counts of an interval as they are written, those past `PAST` as `PAST`.
 #[derive(Clone, Copy, Debug)]
@@ -17,13 +20,13 @@ pub(crate) struct Counts {
 }
 
 impl Counts {
-    /// The counts, where the first is not past the second and neither is past 255.
+    /// The counts, where the first is not past the second and neither is past `MAX_COUNT`.
     pub(crate) fn times(self) -> Option<Times>
         ensures { option_map (λ t. times_and t.low t.high) result ≡ fitting self.low self.high }
     {
         match self.high {
             None => {
-                if self.low <= 255 {
+                if self.low <= MAX_COUNT {
                     Some(Times {
                         low: self.low as u8,
                         high: None,
@@ -33,7 +36,7 @@ impl Counts {
                 }
             }
             Some(high) => {
-                if self.low <= high && high <= 255 {
+                if self.low <= high && high <= MAX_COUNT {
                     Some(Times {
                         low: self.low as u8,
                         high: Some(high as u8),

@@ -1,31 +1,31 @@
 //! The size of a tree: what the limits are on.
 ghost use Rattle.std.specs.Prelude.{◌≡◌, ◌+◌, ◌*◌, ◌≤◌, ◌<◌, min, max, true, Some, IfSome, IsNone, ◌↔◌, IsTrue};
-ghost use Rattle.ere_syntax.specs.Tree.{times};
+ghost use Rattle.ere_syntax.specs.Tree.{most_ere_nesting, most_positions, times};
 
 use crate::tree::Times;
 
 /// The greatest number of positions, after counts are expanded.
-const POSITIONS: u32 = 10_000;
+const MAX_POSITIONS: u32 = 10_000;
 
-/// The greatest nesting.
-pub(crate) const NESTING: u32 = 1_000;
+/// The greatest nesting of groups and repetitions.
+pub(crate) const MAX_ERE_NESTING: u32 = 1_000;
 
 /// The positions of a tree, those past the limit as one past it, and its nesting, which is within its limit.
 #[derive(Clone, Copy, Debug)]
 pub(crate) struct Size {
     pub(crate) positions: u32,
     pub(crate) nesting: u32,
-    ghost few: { positions ≤ 10001 },
-    ghost shallow: { nesting ≤ 1000 },
+    ghost few: { positions ≤ most_positions + 1 },
+    ghost shallow: { nesting ≤ most_ere_nesting },
 }
 
 fn capped(positions: u32) -> u32
-    ensures { result ≡ min positions 10001 }
+    ensures { result ≡ min positions (most_positions + 1) }
 {
-    if positions <= POSITIONS {
+    if positions <= MAX_POSITIONS {
         positions
     } else {
-        POSITIONS + 1
+        MAX_POSITIONS + 1
     }
 }
 
@@ -54,7 +54,7 @@ impl Size {
 
     /// Of both.
     pub(crate) fn beside(self, other: Size) -> Size
-        ensures positions { result.positions ≡ min (self.positions + other.positions) 10001 }
+        ensures positions { result.positions ≡ min (self.positions + other.positions) (most_positions + 1) }
         ensures nesting { result.nesting ≡ max self.nesting other.nesting }
     {
         Size {
@@ -71,9 +71,9 @@ impl Size {
     pub(crate) fn deeper(self) -> Option<Size>
         ensures some { IfSome result
             (λ s. (s.positions ≡ self.positions) × (s.nesting ≡ self.nesting + 1)) }
-        ensures none { IsNone result ↔ (1000 < self.nesting + 1) }
+        ensures none { IsNone result ↔ (most_ere_nesting < self.nesting + 1) }
     {
-        if self.nesting < NESTING {
+        if self.nesting < MAX_ERE_NESTING {
             Some(Size {
                 positions: self.positions,
                 nesting: self.nesting + 1,
@@ -86,7 +86,7 @@ impl Size {
     /// So many times.
     pub(crate) fn repeated(self, counts: Times) -> Size
         ensures positions { result.positions
-            ≡ min (self.positions * times counts.low counts.high) 10001 }
+            ≡ min (self.positions * times counts.low counts.high) (most_positions + 1) }
         ensures nesting { result.nesting ≡ self.nesting }
     {
         let factor = match counts.high {
@@ -101,8 +101,8 @@ impl Size {
 
     /// Whether the limits are kept.
     pub(crate) fn is_within_limits(self) -> bool
-        ensures { IsTrue result ↔ (self.positions ≤ 10000) }
+        ensures { IsTrue result ↔ (self.positions ≤ most_positions) }
     {
-        self.positions <= POSITIONS
+        self.positions <= MAX_POSITIONS
     }
 }

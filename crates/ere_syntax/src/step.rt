@@ -10,7 +10,7 @@ ghost use Rattle.ere_syntax.specs.View.{view};
 
 use crate::fault::EreFault;
 use crate::frame::{Frame, Part, atom, bar, finish, fresh, grouped, put, repeated};
-use crate::size::{NESTING, Size};
+use crate::size::{MAX_ERE_NESTING, Size};
 use crate::token::Token;
 use crate::tree::{Ere, Times};
 use std::alloc::Global;
@@ -62,7 +62,7 @@ fn open_group(
         → opening_step (stack_view stack.old.items) (frame_view frame) ≡ Some x
         → StepAnswer x stack.new.items result }
 {
-    if stack.len() >= NESTING as usize {
+    if stack.len() >= MAX_ERE_NESTING as usize {
         return Err(EreFault::EreTooLarge);
     }
     stack.push(frame)?;

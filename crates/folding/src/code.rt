@@ -1,4 +1,4 @@
-//! Expressions.
+//! The code of expressions, with its constant parts computed.
 
 ghost use Rattle.std.specs.Prelude.{◌≡◌, map};
 ghost use Rattle.folding.specs.Folding.{folded, reduced, same};

@@ -1,8 +1,7 @@
 //! Values as conversions write them (POSIX.1-2017 awk, "Formatted output"; XBD 5), in whole numbers.
 ghost use Rattle.std.specs.Prelude.{◌≡◌, ◌%◌, ◌++◌, [], IfErr, Ok, OnOk, decimal, false, IfOk, None, option_to_list, unsigned_abs};
 ghost use Rattle.std.specs.Fmt.{digits};
-ghost use Rattle.awk_text.specs.Number.{truncated_of_text};
-ghost use Rattle.awk_values.specs.Values.{as_fault, text_of_value};
+ghost use Rattle.awk_values.specs.Values.{text_of_value};
 ghost use Rattle.sem_primitives.specs.Formats.{char_of, converted, first_bytes, fraction_text, hex_mark, integer_text, number_text, octal_mark, padded, sign_of, unsigned, with_precision};
 ghost use Rattle.host_format.specs.Conversions.{body_text, conversion_is, places_text};
 ghost use Rattle.host_format.specs.Outcomes.{Adds, AddsOutcome, IsPast, IsStopAfter};
@@ -10,19 +9,8 @@ ghost use Rattle.host_format.specs.Outcomes.{Adds, AddsOutcome, IsPast, IsStopAf
 use crate::conversion::{Conversion, Specifier};
 use crate::digits::Digits;
 use crate::padding::{Parts, put_number, put_padded_text};
-use awk_text::{NumberFault, looks_numeric, text_of, truncated_of};
+use awk_text::{looks_numeric, text_of};
 use awk_values::{Fault, Stop, Value, to_number, truncated};
-
-/// The truncated number of a text.
-fn truncated_text(text: &[u8]) -> Result<i64, Fault>
-    ensures { result ≡ as_fault (truncated_of_text text.now) }
-{
-    match truncated_of(text) {
-        Ok(number) => Ok(number),
-        Err(NumberFault::Range) => Err(Fault::Range),
-        Err(NumberFault::Fraction) => Err(Fault::Fraction),
-    }
-}
 
 /// What stands before the digits of a signed number.
 fn sign_of(conversion: Conversion<'_>, number: i64) -> &'static [u8]
@@ -231,8 +219,7 @@ fn char_of(value: &Value) -> Result<Option<u8>, Fault>
         Value::Text(text) => Ok(text.as_slice().first().copied()),
         Value::StrNum(text) => {
             if looks_numeric(text.as_slice()) {
-                let number = truncated_text(text.as_slice())?;
-                Ok(Some(byte_of(number)))
+                Ok(Some(byte_of(truncated(value)?)))
             } else {
                 Ok(text.as_slice().first().copied())
             }

@@ -1,4 +1,4 @@
-//! The calls.
+//! The calls that read the inputs, `getline` in its forms, and those that end a file or begin END.
 ghost use Rattle.std.specs.Prelude.{◌≡◌, ℕ, List, [], None};
 ghost use Rattle.std.specs.FinMap as map;
 ghost use Rattle.sem_primitives.specs.declared.table.Primitive.TheVariants as row;

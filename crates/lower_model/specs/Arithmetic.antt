@@ -5,6 +5,7 @@ use Rattle.awk_values.specs.declared.fault.Fault.TheVariants.{Range, DivisionByZ
 use Rattle.awk_values.specs.declared.comparison.CompareOp.{CompareOp}
 use Rattle.awk_values.specs.declared.comparison.CompareOp.TheVariants as compare
 use Rattle.sem_primitives.specs.Constants.{comparison_number}
+use Rattle.sem_primitives.specs.Limits.{most_fields}
 use Rattle.sem_primitives.specs.declared.sorts.Sort.TheVariants as sort
 use Rattle.sem_primitives.specs.declared.sorts.Answer.TheVariants as answer
 use Rattle.sem_primitives.specs.declared.table.Primitive.TheVariants as row
@@ -84,9 +85,9 @@ module _ (b : Bases) where
   calculated inline.Modulo t d k = unless_zero (n b (suc t)) d (divided RemS (n b t) (n b (suc t)) k)
   calculated inline.Truncated t d k = unless_zero (n b (suc t)) d (divided DivS (n b t) (n b (suc t)) k)
 
-  -- a field's number is from 0 to 1,048,576: a negative one is a large one without its sign
+  -- a field's number is from 0 to that of the last one: a negative one is a large one without its sign
   abbrev pub field_checked : ℕ → ℕ → Instructions → Instructions
-  field_checked t d k = does (LocalGet (n b t)) (does (I64Const (2 ^ 20)) (does (Compare I64 GtU) (fail_if FieldNumber d k)))
+  field_checked t d k = does (LocalGet (n b t)) (does (I64Const most_fields) (does (Compare I64 GtU) (fail_if FieldNumber d k)))
 
   -- Comparison: by the host where one is a value, or a text stands beside one; else of numbers, of which one that is not there yet is 0.
 

@@ -37,7 +37,8 @@ use Rattle.script_code.specs.Refusals.{IsNotCoded}
 use Rattle.script_code.specs.declared.fault.CompileFault.{CompileFault}
 use Rattle.script_code.specs.declared.fault.CompileFault.TheVariants.{TooLarge, Token, Parse, Ere, Resolve, NoMemory}
 use Rattle.script_compiler.specs.Compiled.{HasPlaces, IsCompiled, IsQuiet, IsQuietByWords, KeepsNothing}
-use Rattle.script_compiler.specs.Refusals.{HasNoBytes, IsNotCompiled, IsPastCounts, IsPastLimits}
+use Rattle.script_compiler.specs.Counts.{HasNoBytes, IsPastCounts}
+use Rattle.script_compiler.specs.Refusals.{IsNotCompiled, IsPastLimits}
 use Rattle.script_compiler.proofs.Operands.{few_operands}
 use Rattle.script_compiler.proofs.Limits.{Few, FewParameters, ReadsItsItems, few, no_module, reads}
 

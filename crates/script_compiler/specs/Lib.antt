@@ -1,2 +1,3 @@
 pub mod Compiled
 pub mod Refusals
+pub mod Counts

@@ -5,13 +5,10 @@ use Rattle.mid_program.specs.Mid.{Program}
 use Rattle.wasm_types.specs.ModuleGrammar.{IsModule}
 use Rattle.lower_model.specs.Modules.{module_of}
 use Rattle.agree_sizes.specs.Past.{IsPast}
-use Rattle.lower_layout.specs.Spans.{IsSmall}
-use Rattle.lower_modules.specs.Limits.{IsTooLarge}
-use Rattle.lowering.specs.Limits.{AreSmallEnough}
 use Rattle.script_code.specs.Coded.{HasTokens, IsCodeOf, most_script_bytes}
 use Rattle.script_code.specs.Refusals.{IsNotCoded}
 use Rattle.script_code.specs.declared.fault.CompileFault.{CompileFault}
-use Rattle.script_code.specs.declared.fault.CompileFault.TheVariants.{TooLarge, NoMemory}
+use Rattle.script_code.specs.declared.fault.CompileFault.TheVariants.{TooLarge}
 
 -- no bytes of the profile are its module
 abbrev pub IsPastLimits : Program → Type 0
@@ -28,15 +25,3 @@ pub record HasLargeCode (tokens : List Spelled) : Type 0 where
 abbrev pub IsNotCompiled : List ℕ → CompileFault → Type 0
 IsNotCompiled bytes TooLarge = (most_script_bytes < length bytes) ⊎ HasTokens bytes HasLargeCode
 IsNotCompiled bytes fault = IsNotCoded bytes fault
-
--- The rest serves contracts inside the crate.
-
--- too many or too long names and texts, or a function past the limits, as the compiler counts them; or no bytes are its module
-abbrev pub IsPastCounts : Program → Type 0
-IsPastCounts p = IsSmall p → AreSmallEnough p → IsTooLarge p
-
--- why code has no bytes
-abbrev pub HasNoBytes : Program → CompileFault → Type 0
-HasNoBytes p TooLarge = IsPastCounts p ⊎ IsPastLimits p
-HasNoBytes p NoMemory = Unit {0}
-HasNoBytes p _ = ⊥

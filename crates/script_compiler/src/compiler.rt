@@ -6,7 +6,8 @@ ghost use Rattle.lower_model.specs.Modules.{module_of};
 ghost use Rattle.wasm_types.specs.ModuleGrammar.{IsModule};
 ghost use Rattle.wasm_types.specs.View.{view_module};
 ghost use Rattle.script_compiler.specs.Compiled.{IsCompiled};
-ghost use Rattle.script_compiler.specs.Refusals.{HasNoBytes, IsNotCompiled, IsPastCounts};
+ghost use Rattle.script_compiler.specs.Counts.{HasNoBytes, IsPastCounts};
+ghost use Rattle.script_compiler.specs.Refusals.{IsNotCompiled};
 
 use agree_job_words::laws::quiet_by_the_job;
 use agree_modules::laws::modules_agree;

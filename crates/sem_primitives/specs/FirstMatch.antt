@@ -2,7 +2,7 @@
 use Rattle.std.specs.Prelude.{ℕ, zero, suc, ◌+◌, ◌-◌, ◌==◌, ◌&&◌, nat_le, min, max, Bool, true, false, if◌then◌else◌, List, [], ◌∷◌, length, slice_get, Option, Some, None, Result, Ok, Err, is_some}
 use Rattle.awk_values.specs.declared.fault.Fault.{Fault}
 use Rattle.awk_values.specs.declared.fault.Fault.TheVariants.{BadEre, EreTooLarge}
-use Rattle.ere_syntax.specs.Tree.{Bytes, Tree, Empty, Set, Start, End, Group, Repeat, Concat, Or, positions, nesting}
+use Rattle.ere_syntax.specs.Tree.{Bytes, Tree, Empty, Set, Start, End, Group, Repeat, Concat, Or, positions, nesting, most_positions, most_ere_nesting}
 use Rattle.ere_syntax.specs.Scan.{ere_of}
 use Rattle.sem_primitives.specs.Texts.{has}
 
@@ -94,9 +94,9 @@ first_match t text from = first_by (longest t text) (length text + 1 - from) fro
 abbrev pub has_match : Tree → List ℕ → Bool
 has_match t text = is_some (first_match t text 0)
 
--- the expression of a text, within the limits of 10,000 positions and a nesting of 1,000
+-- the expression of a text, within the limits
 abbrev pub within_limits : Tree → Result Tree Fault
-within_limits t = if nat_le (positions t) 10000 && nat_le (nesting t) 1000 then Ok t else Err EreTooLarge
+within_limits t = if nat_le (positions t) most_positions && nat_le (nesting t) most_ere_nesting then Ok t else Err EreTooLarge
 
 abbrev pub or_bad : Option Tree → Result Tree Fault
 or_bad None = Err BadEre

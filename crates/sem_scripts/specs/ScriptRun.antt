@@ -162,9 +162,13 @@ run_with setting turns parts = ending (unless (fault_of_job setting.job) (all_pa
 abbrev pub resolved_run : Resolved → Setting → ℕ → Ending
 resolved_run script setting turns = run_with setting turns (parts_of turns script)
 
--- at most 9,999 calls may be nested
+-- so many calls may be nested
+abbrev pub most_calls : ℕ
+most_calls = 9999
+
 abbrev pub setting_in : JobForm → Source → Surroundings → Setting
-setting_in job input surroundings = record { job = job; input = input; outside = surroundings; deepest = 9999 }
+setting_in job input surroundings =
+    record { job = job; input = input; outside = surroundings; deepest = most_calls }
 
 -- where nobody else changes what names hold
 abbrev pub setting_of : JobForm → Source → Outside → Setting

@@ -1,4 +1,4 @@
-//! Expressions.
+//! The code of expressions, with lanes at its names.
 
 ghost use Rattle.std.specs.Prelude.{◌≡◌, map};
 ghost use Rattle.mid_program.specs.Mid.{Do, End};

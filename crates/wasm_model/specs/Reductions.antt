@@ -31,7 +31,7 @@ use Rattle.wasm_model.specs.declared.ends.End.{End}
 use Rattle.wasm_model.specs.declared.ends.End.TheVariants as ends
 use Rattle.wasm_model.specs.Hosts.{Meaning}
 use Rattle.wasm_model.specs.Frames.{LabelForm, FrameForm}
-use Rattle.wasm_model.specs.Machines.{Conf, CallerForm, ProgramForm, Turn, agree}
+use Rattle.wasm_model.specs.Machines.{Conf, CallerForm, ProgramForm, Turn, agree, most_frames}
 use Rattle.wasm_model.specs.declared.ends.MachineEnd.{MachineEnd}
 use Rattle.wasm_model.specs.declared.ends.RunEnd.{RunEnd}
 use Rattle.wasm_model.specs.declared.ends.RunEnd.TheVariants.{Ended, OutOfSteps, NoMemory}
@@ -297,14 +297,14 @@ store_of c h out = record { memory = c.memory; table = c.table; globals = c.glob
 abbrev pub IsReduced : {H O : Type 0} → Meaning H O → ProgramForm → ℕ → Conf → H → List O → Conf → H → List O → Type 0
 IsReduced M m n c h out c' h' out' = Chain M m n (store_of c h out) [] (nested c) (store_of c' h' out') [] (nested c')
 
--- in the innermost frame the call of a function of the module stands next, with 10,000 frames open besides the first
+-- in the innermost frame the call of a function of the module stands next, with as many frames open besides the first as there may be
 abbrev pub CallsDeep : ProgramForm → Sequence → Type 0
-CallsDeep m es = (callers : List CallerForm) × (r : Option ValType) × (f : FrameForm) × (a : ℕ) × (g : FuncForm) × (10000 ≤ length callers)
+CallsDeep m es = (callers : List CallerForm) × (r : Option ValType) × (f : FrameForm) × (a : ℕ) × (g : FuncForm) × (most_frames ≤ length callers)
     × (slice_get m.whole.imports a ≡ None) × (slice_get m.whole.funcs (a - length m.whole.imports) ≡ Some g)
     × (es ≡ in_frames r f.locals callers (in_place f (Invoke a ⨾ ε)))
 
 -- A run that ends after so many steps. Where it returns, reductions that count these lead to the result. Where it traps, reductions that count
--- one more lead to the trap. Where the machine is exhausted they lead to where a call stands next with 10,000 frames open besides the first, a
+-- one more lead to the trap. Where the machine is exhausted they lead to where a call stands next with as many frames open as there may be, a
 -- limit that the specification does not have. No run is stuck.
 abbrev pub EndsIn : {H O : Type 0} → Meaning H O → ProgramForm → ℕ → Conf → H → List O → End → H → List O → Type 0
 EndsIn {H} {O} M m n c h out (ends.Returned w) h' out' = (S : StoreForm H O) × (S.host ≡ h') × (S.output ≡ out')

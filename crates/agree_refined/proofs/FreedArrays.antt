@@ -27,8 +27,8 @@ use Rattle.agree_refined.specs.Growing.{ArraysGrow}
 use Rattle.agree_refined.specs.Words.{ArraysFit, WordsAs, arrays_made, state_with}
 use Rattle.agree_refined.specs.Owners.{owners, there, wanted}
 use Rattle.agree_refined.proofs.Decoding.{small_signed, spent_once, spent_same}
-use Rattle.agree_refined.proofs.Answering.{some_of}
-use Rattle.agree_refined.proofs.Calling.{ActsAs, Outcome, RowOk, Spent, acted_as}
+use Rattle.agree_refined.proofs.ImportAnswers.{some_of}
+use Rattle.agree_refined.proofs.ImportCalls.{ActsAs, Outcome, RowOk, Spent, acted_as}
 use Rattle.agree_refined.proofs.Tables.{without_there, without_other}
 
 module _ (N : Names) (h : Host) (others : Sort → ℕ → ℕ) (fit : ArraysFit (arrays_made h) N.arrays) (a n : ℕ) (own : 2 ≤ a) (is : look N.arrays (pos n) ≡ Some a)

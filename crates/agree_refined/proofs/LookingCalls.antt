@@ -28,7 +28,7 @@ use Rattle.agree_refined.specs.Words.{ArraysFit, WordAs, arrays_made, state_with
 use Rattle.agree_refined.specs.Owners.{wanted}
 use Rattle.agree_refined.proofs.Carrying.{carried_same}
 use Rattle.agree_refined.proofs.Decoding.{small_signed}
-use Rattle.agree_refined.proofs.Calling.{Outcome, RowOk, Spent, acted_as, fit_same, primitive_same}
+use Rattle.agree_refined.proofs.ImportCalls.{Outcome, RowOk, Spent, acted_as, fit_same, primitive_same}
 
 pub looking : (p : Primitive) → ((p ≡ row.Dup) ⊎ (p ≡ row.IterNext)) ⊎ ((c : Cell) → looked_at (Of p) c ≡ None)
 looking row.Num = inr (λ c. refl)

@@ -14,9 +14,9 @@ use Rattle.agree_refined.specs.Growing.{ArraysGrow}
 use Rattle.agree_refined.specs.Words.{ArraysFit, WordAs, WordsAs, arrays_made, state_with}
 use Rattle.agree_refined.specs.Owners.{owners, wanted}
 use Rattle.agree_refined.proofs.Decoding.{AllLive}
-use Rattle.agree_refined.proofs.Calling.{Outcome, call_as}
-use Rattle.agree_refined.proofs.Freeing.{freed_as}
-use Rattle.agree_refined.proofs.Looking.{look_as}
+use Rattle.agree_refined.proofs.ImportCalls.{Outcome, call_as}
+use Rattle.agree_refined.proofs.FreedArrays.{freed_as}
+use Rattle.agree_refined.proofs.LookingCalls.{look_as}
 
 module _ (mem behind : List ℕ) (grow : ArraysGrow) (N : Names) (h : Host) (others : Sort → ℕ → ℕ) (fit : ArraysFit (arrays_made h) N.arrays) (n : ℕ) (i : Import) (at-n : import_at n ≡ Some i) where
   step_of : (ws : List Word) (v : HostAnswer) (s1 : HostState) (out : List Action) → HostStep n (state_with N h) ws (mem ++ behind) v s1 out → StepOf i (state_with N h) ws (mem ++ behind) v s1 out

@@ -35,7 +35,7 @@ use Rattle.agree_refined.specs.Words.{ArraysFit, WordsAs, arrays_made, state_wit
 use Rattle.agree_refined.specs.Owners.{owners, wanted}
 use Rattle.agree_refined.proofs.Carrying.{Carried, carried_then, unowned_all}
 use Rattle.agree_refined.proofs.Decoding.{AllLive, AllSpentRight, RowAs, decode_as}
-use Rattle.agree_refined.proofs.Answering.{Told, encode_as, refusal_as}
+use Rattle.agree_refined.proofs.ImportAnswers.{Told, encode_as, refusal_as}
 
 -- what a row takes it spends: `dup` and `iter_next` take nothing
 taking : (p : Primitive) → ((mem : List ℕ) (cs : List Cell) → taken mem (Of p) cs ≡ None) ⊎ (AllSpentRight (spends (Of p)) (arguments_of p) × ((mem : List ℕ) (cs : List Cell) → taken mem (Of p) cs ≡ row_in mem (arguments_of p) cs))

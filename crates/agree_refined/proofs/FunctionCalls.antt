@@ -19,10 +19,10 @@ use Rattle.lower_model.specs.Places.{kind_type}
 use Rattle.agree_refined.specs.Owners.{owners}
 use Rattle.agree_refined.specs.Refined.{CodeAs, FramesAs, NextAs, RestAs}
 use Rattle.agree_refined.specs.Words.{WordsAs, arrays_made}
-use Rattle.agree_refined.proofs.Asking.{both}
+use Rattle.agree_refined.proofs.LentArrays.{both}
 use Rattle.agree_refined.proofs.Carrying.{unowned_all, unowned_one}
-use Rattle.agree_refined.proofs.Going.{Once, goes_as, stuck_as, untyped_as}
-use Rattle.agree_refined.proofs.Moving.{owners_append, owners_reverse, owners_split, words_append, words_drop, words_reverse, words_take}
+use Rattle.agree_refined.proofs.FrameSteps.{Once, goes_as, stuck_as, untyped_as}
+use Rattle.agree_refined.proofs.MovedOperands.{owners_append, owners_reverse, owners_split, words_append, words_drop, words_reverse, words_take}
 use Rattle.agree_refined.proofs.Settling.{at_as}
 
 zeros_as : (made : ℕ) (N : Names) (types : List ValType) → WordsAs made N (zeros types) (map zero_of types)

@@ -20,12 +20,12 @@ use Rattle.agree_refined.specs.Growing.{ArraysGrow}
 use Rattle.agree_refined.specs.Owners.{owners, waiting, wanted}
 use Rattle.agree_refined.specs.Refined.{NextAs, RunAs}
 use Rattle.agree_refined.specs.Words.{arrays_made, state_with}
-use Rattle.agree_refined.proofs.Answered.{comes_as}
-use Rattle.agree_refined.proofs.Asking.{all_live_as}
-use Rattle.agree_refined.proofs.Calling.{Outcome}
-use Rattle.agree_refined.proofs.Going.{assigning_as, stuck_as, untyped_as}
-use Rattle.agree_refined.proofs.Moving.{owners_reverse, owners_split, words_drop, words_reverse, words_take}
-use Rattle.agree_refined.proofs.Numbering.{called_as}
+use Rattle.agree_refined.proofs.ImportTurns.{comes_as}
+use Rattle.agree_refined.proofs.LentArrays.{all_live_as}
+use Rattle.agree_refined.proofs.ImportCalls.{Outcome}
+use Rattle.agree_refined.proofs.FrameSteps.{assigning_as, stuck_as, untyped_as}
+use Rattle.agree_refined.proofs.MovedOperands.{owners_reverse, owners_split, words_drop, words_reverse, words_take}
+use Rattle.agree_refined.proofs.NumberedCalls.{called_as}
 
 module _ (used : ℕ → Bool) (bs : List Bool) (u : Code) (grow : ArraysGrow) (ks : List Kind) (vs : List Cell) (K : List Label) (L : List Cell) (F : List Frame) (k : Instructions) (G : Store) (c : real.Conf) (s : HostState)
     (run : RunAs used bs u vs K L F k G c.frame.values c.frame.code c s) (n : ℕ) (i : Import) (at-n : import_at n ≡ Some i) where

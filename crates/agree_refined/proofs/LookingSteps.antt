@@ -22,11 +22,11 @@ use Rattle.host_imports.specs.declared.import.Import.TheVariants.{Of}
 use Rattle.agree_refined.specs.Growing.{ArraysGrow}
 use Rattle.agree_refined.specs.Refined.{CodeAs, NextAs, RestAs}
 use Rattle.agree_refined.specs.Words.{WordAs, WordsAs, arrays_made, state_with}
-use Rattle.agree_refined.proofs.Answered.{comes_as, others}
-use Rattle.agree_refined.proofs.Calling.{Outcome}
-use Rattle.agree_refined.proofs.Going.{Once, stuck_as}
-use Rattle.agree_refined.proofs.Looking.{looking}
-use Rattle.agree_refined.proofs.Numbering.{looked_as}
+use Rattle.agree_refined.proofs.ImportTurns.{comes_as, others}
+use Rattle.agree_refined.proofs.ImportCalls.{Outcome}
+use Rattle.agree_refined.proofs.FrameSteps.{Once, stuck_as}
+use Rattle.agree_refined.proofs.LookingCalls.{looking}
+use Rattle.agree_refined.proofs.NumberedCalls.{looked_as}
 
 abbrev look_with : (i : Import) → Cell → Host → Option Fault → Option (Option Cell × Host)
 look_with i d h f = elim f [ None ↦ acted i h (looked_at i d) | Some k ↦ None ]

@@ -8,7 +8,7 @@ use Rattle.host_step.specs.HostState.{Names}
 use Rattle.lower_model.specs.Cells.{Cell, Bits, Held, IteratorOf, OwnedArray, LentArray, Gone, cell_at, is_owned, left_by, left_in_global, read_global}
 use Rattle.agree_refined.specs.Owners.{owner, owners}
 use Rattle.agree_refined.specs.Words.{ArraysFit, WordAs, WordsAs}
-use Rattle.agree_refined.proofs.Answering.{some_of}
+use Rattle.agree_refined.proofs.ImportAnswers.{some_of}
 use Rattle.agree_refined.proofs.Carrying.{unowned_one}
 
 set_same : (ls : List Word) (x : ℕ) (w : Word) → slice_get ls x ≡ Some w → set ls x w ≡ ls

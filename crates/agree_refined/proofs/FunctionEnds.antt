@@ -13,10 +13,10 @@ use Rattle.lower_model.specs.Machine.{Code, Conf, Frame, Label, Over, Store, at,
 use Rattle.agree_refined.specs.Owners.{OwnedOnce}
 use Rattle.agree_refined.specs.Refined.{FramesAs, LabelsAs, NextAs, RestAs, entry}
 use Rattle.agree_refined.specs.Words.{WordAs, WordsAs, arrays_made}
-use Rattle.agree_refined.proofs.Asking.{both}
+use Rattle.agree_refined.proofs.LentArrays.{both}
 use Rattle.agree_refined.proofs.Blocks.{end_as}
 use Rattle.agree_refined.proofs.Carrying.{unowned_all, unowned_one}
-use Rattle.agree_refined.proofs.Going.{Once, goes_as, stuck_as}
+use Rattle.agree_refined.proofs.FrameSteps.{Once, goes_as, stuck_as}
 use Rattle.agree_refined.proofs.Locals.{not_true}
 use Rattle.agree_refined.proofs.Settling.{at_as}
 

@@ -19,8 +19,8 @@ use Rattle.lower_model.specs.Machine.{Code, Frame, Label, Store, Stuck, with_ans
 use Rattle.agree_refined.specs.Owners.{owners, waiting}
 use Rattle.agree_refined.specs.Refined.{As, CodeAs, NextAs, RestAs}
 use Rattle.agree_refined.specs.Words.{WordsAs, arrays_made}
-use Rattle.agree_refined.proofs.Asking.{rest_after}
-use Rattle.agree_refined.proofs.Calling.{Outcome}
+use Rattle.agree_refined.proofs.LentArrays.{rest_after}
+use Rattle.agree_refined.proofs.ImportCalls.{Outcome}
 use Rattle.agree_refined.proofs.Carrying.{words_carried}
 use Rattle.agree_refined.proofs.Settling.{at_as}
 

@@ -1,4 +1,4 @@
--- A step that asks the host: the two machines are at the same place afterwards, whatever the host answers.
+-- A call of an import over operands: arrays that are lent to the host are there, and after its answer all that was there stands for the same.
 use Rattle.std.proofs.Common.{◌≡◌, ℕ, zero, suc, ◌+◌, ◌<◌, ◌≤◌, Bool, true, false, ◌&&◌, ◌||◌, nat_lt, pos, List, [], ◌∷◌, Option, Some, refl, sym, ap, ◌∙◌, arith, true≢false}
 use Rattle.std.proofs.lemmas.Bool.{ltb-true}
 use Rattle.sem_primitives.specs.declared.sorts.Sort.{Sort}
@@ -15,10 +15,10 @@ use Rattle.lower_model.specs.Machine.{Code, Frame, Label, Store, all_live, is_li
 use Rattle.agree_refined.specs.Owners.{owners, waiting}
 use Rattle.agree_refined.specs.Refined.{FramesAs, RestAs}
 use Rattle.agree_refined.specs.Words.{arrays_made}
-use Rattle.agree_refined.proofs.Calling.{AnsweredAs}
+use Rattle.agree_refined.proofs.ImportCalls.{AnsweredAs}
 use Rattle.agree_refined.proofs.Carrying.{frames_carried, labels_carried, words_carried}
 use Rattle.agree_refined.proofs.Decoding.{AllLive, LiveIn}
-use Rattle.agree_refined.proofs.Moving.{owner_found}
+use Rattle.agree_refined.proofs.MovedOperands.{owner_found}
 
 pub both : (a b : Bool) → a && b ≡ true → (a ≡ true) × (b ≡ true)
 both true b e = (refl, e)
