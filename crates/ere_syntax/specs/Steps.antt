@@ -1,6 +1,6 @@
 -- The step that a token takes.
 use Rattle.std.specs.Prelude.{◌≡◌, ℕ, ◌+◌, ◌-◌, ◌<◌, ◌||◌, ◌==◌, if◌then◌else◌, Option, Some, None, Result, Ok, Err, List, [], ◌∷◌}
-use Rattle.ere_syntax.specs.Tree.{Token, Atom, Begin, Stop, Open, Close, Bar, Times, Set, Start, End, Group}
+use Rattle.ere_syntax.specs.Tree.{Token, Atom, Begin, Stop, Open, Close, Bar, Times, Set, Start, End, Group, most_ere_nesting}
 use Rattle.ere_syntax.specs.Reading.{◌>>=◌, Frame, fresh, put, bar, finish, repeated, has_some, takes_times, IsNeat, AreNeat}
 use Rattle.ere_syntax.specs.Bracket.{not}
 use Rattle.ere_syntax.specs.Sizes.{frame_deep, reached}
