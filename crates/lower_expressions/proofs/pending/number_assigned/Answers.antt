@@ -9,7 +9,7 @@ use Rattle.lower_expressions.proofs.pending.number_assigned.Goals as goal
 
 pub returns : goal.returns
 returns c =
-    let code : Instructions → Instructions = assigned (view_layout c.args.y.now) (view_kind c.args.kind) c.args.name c.args.t in
+    let code : Instructions → Instructions = assigned (view_layout c.args.layout.now) (view_kind c.args.kind) c.args.name c.args.temporary in
     on_ok_weaker c.when.result
-    (emits_then (number_is (n c.args.y.now.bases.now c.args.t) c.args.name) (when (code Done)) _ _ _ (rw c.number.ensures at c.in_ok-number_is.ensures))
+    (emits_then (number_is (n c.args.layout.now.bases.now c.args.temporary) c.args.name) (when (code Done)) _ _ _ (rw c.number.ensures at c.in_ok-number_is.ensures))
     (c.when.ensures code c.in_ok-assigned_code.ensures)

@@ -6,5 +6,5 @@ use Rattle.lower_expressions.proofs.storing.stored_when.Goals as goal
 
 pub returns : goal.returns
 returns c = λ a emits. on_ok_weaker c.when.result
-    (emits_then (number_is (n c.args.y.now.bases.now c.args.t) 1) (when (a Done)) _ _ _ (rw c.number.ensures at c.in_ok-number_is.ensures))
+    (emits_then (number_is (n c.args.layout.now.bases.now c.args.temporary) 1) (when (a Done)) _ _ _ (rw c.number.ensures at c.in_ok-number_is.ensures))
     (c.when.ensures a emits)

@@ -9,9 +9,9 @@ use Rattle.lowering.proofs.summing.number_found.Goals as goal
 
 pub returns : goal.returns
 returns c =
-    let x = n c.args.y.now.bases.now c.args.t in
-    let some : Instructions → Instructions = number_there (view_layout c.args.y.now) c.args.name c.args.t (suc (suc c.args.exit)) in
-    let none : Instructions → Instructions = zero_put c.args.y.now.bases.now c.args.t in
+    let x = n c.args.layout.now.bases.now c.args.temporary in
+    let some : Instructions → Instructions = number_there (view_layout c.args.layout.now) c.args.name c.args.temporary (suc (suc c.args.exit)) in
+    let none : Instructions → Instructions = zero_put c.args.layout.now.bases.now c.args.temporary in
     emits_then (number_is x text_beside) (either (some Done) (none Done)) [] c.number_is.new.out.items c.either.new.out.items
     (rw (c.new-code.ensures.items, c.number.ensures) at c.in_ok-number_is.ensures)
     (c.in_ok-either.ensures some none c.in_ok-some.ensures c.in_ok-zero_put.ensures)
