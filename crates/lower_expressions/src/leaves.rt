@@ -6,8 +6,8 @@ ghost use Rattle.wasm_types.specs.declared.instr.Simple.TheVariants.{Convert, Gl
 ghost use Rattle.mid_program.specs.Mid.{Answered, Perhaps, a_number, a_value, form_at, slot_form};
 ghost use Rattle.mid_program.specs.ViewCode.{view_slot};
 ghost use Rattle.lower_model.specs.Emission.{asked, bound_read, slot_read, text_pushed};
-ghost use Rattle.lower_model.specs.Places.{range_global};
-ghost use Rattle.lower_model.specs.Small.{ask_row, code_number, does, h, least, n};
+ghost use Rattle.lower_model.specs.Places.{range_global, handle_local, number_local};
+ghost use Rattle.lower_model.specs.Small.{ask_row, code_number, does, least};
 ghost use Rattle.lower_pieces.specs.Bounds.{most_places};
 ghost use Rattle.lower_pieces.specs.Emits.{Emits};
 ghost use Rattle.lower_pieces.specs.Forms.{view_form};
