@@ -63,7 +63,7 @@ abbrev mutual
   Fits layout (Set slot value) temporary arrays exit = Within temporary arrays exit × (SlotFits slot × Fits layout value temporary arrays exit)
   Fits layout (Array array) temporary arrays exit = ArrayFits array
   Fits layout (IsOpen item) temporary arrays exit = Within temporary arrays exit × (item ≤ most_places)
-  Fits layout (Choose wanted test yes no) temporary arrays exit = Within temporary arrays exit × (Fits layout test temporary arrays exit × (Fits layout yes temporary arrays (suc exit) × Fits layout no temporary arrays (suc exit)))
+  Fits layout (Choose wanted test so otherwise) temporary arrays exit = Within temporary arrays exit × (Fits layout test temporary arrays exit × (Fits layout so temporary arrays (suc exit) × Fits layout otherwise temporary arrays (suc exit)))
   Fits layout (Seq first second) temporary arrays exit = Within temporary arrays exit × (Fits layout first temporary arrays exit × Fits layout second temporary arrays exit)
   Fits layout (Let value rest) temporary arrays exit = Within temporary arrays exit × (Fits layout value temporary arrays exit × Fits layout rest (suc temporary) arrays exit)
   Fits layout (Bound moves place) temporary arrays exit = Within temporary arrays exit

@@ -13,7 +13,7 @@ abbrev mutual
   pub step_places : Step → ℕ
   step_places (Eval code) = 1
   step_places (Body steps) = suc (steps_places steps)
-  step_places (Either test yes no) = suc (step_places yes + step_places no)
+  step_places (Either test so otherwise) = suc (step_places so + step_places otherwise)
   step_places (Rounds true test body last) = suc (step_places body + (if is_nothing last then 0 else step_places last))
   step_places (Rounds false test body last) = suc (suc (step_places body + step_places last))
   step_places (Each array store body) = suc (step_places body)
@@ -44,4 +44,4 @@ abbrev mutual
   nops_of (BrTable targets other) = 0
   nops_of (Block result inside) = nops_in inside
   nops_of (Loop result inside) = nops_in inside
-  nops_of (If result yes no) = nops_in yes + nops_in no
+  nops_of (If result so otherwise) = nops_in so + nops_in otherwise

@@ -332,10 +332,10 @@ module _ (layout : Layout) where
     emitted only forms temporaries (Set slot value) temporary arrays exit after = emitted false forms temporaries value temporary arrays exit (slot_set only slot (form_of forms value) temporary after)
     emitted only forms temporaries (Array array) temporary arrays exit after = after
     emitted only forms temporaries (IsOpen item) temporary arrays exit after = does (GlobalGet (range_global item)) (does (Convert I64ExtendI32U) (does (LocalSet (number_local bases temporary)) after))
-    emitted only forms temporaries (Choose wanted test yes no) temporary arrays exit after =
+    emitted only forms temporaries (Choose wanted test so otherwise) temporary arrays exit after =
         emitted false forms temporaries test temporary arrays exit (truth bases (form_of forms test) temporary (either
-        (emitted false forms temporaries yes temporary arrays (suc exit) (converted bases (form_of forms yes) wanted temporary (suc exit) Done))
-        (emitted false forms temporaries no temporary arrays (suc exit) (converted bases (form_of forms no) wanted temporary (suc exit) Done)) after))
+        (emitted false forms temporaries so temporary arrays (suc exit) (converted bases (form_of forms so) wanted temporary (suc exit) Done))
+        (emitted false forms temporaries otherwise temporary arrays (suc exit) (converted bases (form_of forms otherwise) wanted temporary (suc exit) Done)) after))
     emitted only forms temporaries (Seq first second) temporary arrays exit after = emitted true forms temporaries first temporary arrays exit
         (left_over first (form_of forms first) temporary (emitted only forms temporaries second temporary arrays exit (sequence_closed only second (form_of forms second) temporary after)))
     emitted only forms temporaries (Let value rest) temporary arrays exit after =

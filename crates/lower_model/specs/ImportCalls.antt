@@ -40,8 +40,8 @@ with_some None next = None
 with_some (Some found) next = next found
 
 abbrev pub where_so : {A : Type 0} → Bool → Option A → Option A
-where_so true answer = answer
-where_so false answer = None
+where_so true found = found
+where_so false found = None
 
 -- Arguments: what is owned is taken.
 
@@ -134,8 +134,8 @@ pub record Acts (A : Type 0) : Type 0 where
   pub arguments : List AnyValue
 
 abbrev pub or_fault : {A : Type 0} → (faults : Bool) → OrFault faults A → Result A Fault
-or_fault true answer = answer
-or_fault false answer = Ok answer
+or_fault true given = given
+or_fault false given = Ok given
 
 -- a primitive leaves the argument list as it is
 abbrev pub primitive_acts : {A : Type 0} → List AnyValue → (faults : Bool) → Does (OrFault faults A) → Acts A
@@ -167,7 +167,7 @@ acts IterFree given host = Some (only_answers host host.arguments)
 acts FreeArray given host = Some (only_answers host host.arguments)
 
 abbrev pub replied : (wanted : Answer) → Host → Acts (InAnswer wanted) → Result (InAnswer wanted) Fault → Option Cell × Host
-replied wanted host done (Ok answer) = (cell_of wanted answer, record { shared = shared_after host.shared done.does; arguments = done.arguments; fault = host.fault })
+replied wanted host done (Ok given) = (cell_of wanted given, record { shared = shared_after host.shared done.does; arguments = done.arguments; fault = host.fault })
 replied wanted host done (Err fault) = (fault_cell wanted, record { shared = shared_after host.shared done.does; arguments = done.arguments; fault = Some fault })
 
 abbrev pub acted : (import : Import) → Host → Option (Row (import_arguments import)) → Option (Option Cell × Host)

@@ -164,8 +164,8 @@ abbrev pub label : List Cell → Option Instructions → Instructions → Label
 label stack again rest = record { under = stack; again = again; rest = rest }
 
 abbrev pub choose : Instructions → Instructions → List Kind → List Cell → List Label → List Cell → List Frame → Instructions → Store → Conf
-choose yes no kinds (Bits (I32 number) ∷ stack) labels locals callers rest store = guarded (none_owned stack) (at kinds [] (label stack None rest ∷ labels) locals callers (cond (nat_eq number 0) no yes) store)
-choose yes no kinds _ labels locals callers rest store = Stuck
+choose so otherwise kinds (Bits (I32 number) ∷ stack) labels locals callers rest store = guarded (none_owned stack) (at kinds [] (label stack None rest ∷ labels) locals callers (cond (nat_eq number 0) otherwise so) store)
+choose so otherwise kinds _ labels locals callers rest store = Stuck
 
 -- a cell of a store is moved; only an array's owner lends its number where it is stored
 abbrev pub set_local : ℕ → List Kind → List Cell → List Label → List Cell → List Frame → Instructions → Store → Conf
@@ -323,7 +323,7 @@ abbrev pub work : Code → Instruction → List Kind → List Cell → List Labe
 work code (Plain simple) kinds stack labels locals callers rest store = act code simple kinds stack labels locals callers rest store
 work code (Block None inside) kinds stack labels locals callers rest store = guarded (none_owned stack) (at kinds [] (label stack None rest ∷ labels) locals callers inside store)
 work code (Loop None inside) kinds stack labels locals callers rest store = guarded (none_owned stack) (at kinds [] (label stack (Some inside) rest ∷ labels) locals callers inside store)
-work code (If None yes no) kinds stack labels locals callers rest store = choose yes no kinds stack labels locals callers rest store
+work code (If None so otherwise) kinds stack labels locals callers rest store = choose so otherwise kinds stack labels locals callers rest store
 work code _ kinds stack labels locals callers rest store = Stuck
 
 abbrev pub run : Code → List Kind → List Cell → List Label → List Cell → List Frame → Instructions → Store → Conf

@@ -36,7 +36,7 @@ abbrev mutual
   calls_by import (BrTable targets other) = false
   calls_by import (Block result inside) = calls_in import inside
   calls_by import (Loop result inside) = calls_in import inside
-  calls_by import (If result yes no) = calls_in import yes || calls_in import no
+  calls_by import (If result so otherwise) = calls_in import so || calls_in import otherwise
 
 abbrev pub any_calls : ℕ → List Callee → Bool
 any_calls import [] = false
@@ -79,7 +79,7 @@ abbrev mutual
   renumbered_one called (BrTable targets other) = BrTable targets other
   renumbered_one called (Block result inside) = Block result (renumbered called inside)
   renumbered_one called (Loop result inside) = Loop result (renumbered called inside)
-  renumbered_one called (If result yes no) = If result (renumbered called yes) (renumbered called no)
+  renumbered_one called (If result so otherwise) = If result (renumbered called so) (renumbered called otherwise)
 
 -- Types: of the imports, of the functions, each with a type of its own.
 

@@ -41,11 +41,11 @@ module _ (notes : Notes) (layout : Layout) (texts : List (List ℕ)) (parameters
     pub step_noted : Step → (iterators exit break_to continue_to : ℕ) → Instructions → Doing Flow
     step_noted (Eval code) iterators exit break_to continue_to following = plain_noted (Eval code) (step_emitted layout (Eval code) iterators exit break_to continue_to following)
     step_noted (Block steps) iterators exit break_to continue_to following = noted notes (step_emitted layout (Block steps) iterators exit break_to continue_to following) >> steps_noted steps iterators exit break_to continue_to following
-    step_noted (If test yes no) iterators exit break_to continue_to following =
-        let when_so = if is_some (pair_in test) then step_noted yes iterators (suc (suc exit)) (suc (suc break_to)) (suc (suc continue_to)) (instruction (Br 1) Done) else
-        step_noted yes iterators (suc exit) (suc break_to) (suc continue_to) Done in
-        noted notes (step_emitted layout (If test yes no) iterators exit break_to continue_to following) >> holds texts parameters turns calls test >>= λ truth. if truth then when_so else
-        step_noted no iterators (suc exit) (suc break_to) (suc continue_to) Done
+    step_noted (If test so otherwise) iterators exit break_to continue_to following =
+        let when_so = if is_some (pair_in test) then step_noted so iterators (suc (suc exit)) (suc (suc break_to)) (suc (suc continue_to)) (instruction (Br 1) Done) else
+        step_noted so iterators (suc exit) (suc break_to) (suc continue_to) Done in
+        noted notes (step_emitted layout (If test so otherwise) iterators exit break_to continue_to following) >> holds texts parameters turns calls test >>= λ truth. if truth then when_so else
+        step_noted otherwise iterators (suc exit) (suc break_to) (suc continue_to) Done
     step_noted (Loop true test body last) iterators exit break_to continue_to following =
         let back = instruction (Br zero) Done in
         let rest = if is_nothing last then back else step_emitted layout last iterators (suc (suc exit)) 1 zero back in

@@ -100,7 +100,7 @@ abbrev mutual
   room (Set slot value) = room value
   room (Array array) = 1
   room (IsOpen item) = 1
-  room (Choose wanted test yes no) = max (room test) (max (room yes) (room no))
+  room (Choose wanted test so otherwise) = max (room test) (max (room so) (room otherwise))
   room (Seq first second) = max (room first) (room second)
   room (Let value rest) = max (room value) (suc (room rest))
   room (Bound moves place) = 1
@@ -115,7 +115,7 @@ abbrev mutual
   pub step_room : Step → ℕ
   step_room (Eval code) = room code
   step_room (Block steps) = steps_room steps
-  step_room (If test yes no) = max (room test) (max (step_room yes) (step_room no))
+  step_room (If test so otherwise) = max (room test) (max (step_room so) (step_room otherwise))
   step_room (Loop first test body last) = max (room test) (max (step_room body) (step_room last))
   step_room (Each array store body) = max (suc (room store)) (step_room body)
   step_room Break = 0
@@ -155,7 +155,7 @@ abbrev mutual
   arrays_in (Set slot value) = arrays_in value
   arrays_in (Array array) = 0
   arrays_in (IsOpen item) = 0
-  arrays_in (Choose wanted test yes no) = max (arrays_in test) (max (arrays_in yes) (arrays_in no))
+  arrays_in (Choose wanted test so otherwise) = max (arrays_in test) (max (arrays_in so) (arrays_in otherwise))
   arrays_in (Seq first second) = max (arrays_in first) (arrays_in second)
   arrays_in (Let value rest) = max (arrays_in value) (arrays_in rest)
   arrays_in (Bound moves place) = 0
@@ -170,7 +170,7 @@ abbrev mutual
   pub step_arrays : Step → ℕ
   step_arrays (Eval code) = arrays_in code
   step_arrays (Block steps) = steps_arrays steps
-  step_arrays (If test yes no) = max (arrays_in test) (max (step_arrays yes) (step_arrays no))
+  step_arrays (If test so otherwise) = max (arrays_in test) (max (step_arrays so) (step_arrays otherwise))
   step_arrays (Loop first test body last) = max (arrays_in test) (max (step_arrays body) (step_arrays last))
   step_arrays (Each array store body) = max (arrays_in store) (step_arrays body)
   step_arrays Break = 0
@@ -190,7 +190,7 @@ abbrev mutual
 abbrev mutual
   pub step_iterators : Step → ℕ
   step_iterators (Block steps) = steps_iterators steps
-  step_iterators (If test yes no) = max (step_iterators yes) (step_iterators no)
+  step_iterators (If test so otherwise) = max (step_iterators so) (step_iterators otherwise)
   step_iterators (Loop first test body last) = max (step_iterators body) (step_iterators last)
   step_iterators (Each array store body) = suc (step_iterators body)
   step_iterators (Eval code) = 0

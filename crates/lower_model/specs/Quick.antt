@@ -399,7 +399,7 @@ counted_in code = None
 abbrev mutual
   pub step_jumps : Step → Bool
   step_jumps (Block steps) = steps_jump steps
-  step_jumps (If test yes no) = step_jumps yes || step_jumps no
+  step_jumps (If test so otherwise) = step_jumps so || step_jumps otherwise
   step_jumps Break = true
   step_jumps Continue = true
   step_jumps (Eval code) = false

@@ -34,10 +34,10 @@ abbrev pub ask_row : Primitive → Instructions → Instructions
 ask_row primitive after = ask (Of primitive) after
 
 abbrev pub when : Instructions → Instructions → Instructions
-when yes after = Then (If None yes Done) after
+when so after = Then (If None so Done) after
 
 abbrev pub either : Instructions → Instructions → Instructions → Instructions
-either yes no after = Then (If None yes no) after
+either so otherwise after = Then (If None so otherwise) after
 
 -- -1 and the least number of 64 bits stand for a fault. In an unboxed name the least one says that there is no number yet, and the next one that a
 -- text stands beside.

@@ -211,11 +211,11 @@ module _ (layout : Layout) where
     pub step_emitted : Step → (iterators exit break_to continue_to : ℕ) → Instructions → Instructions
     step_emitted (Eval code) iterators exit break_to continue_to after = does Nop (quickly_dropped (sum_in code) code exit after)
     step_emitted (Steps_ steps) iterators exit break_to continue_to after = does Nop (steps_emitted steps iterators exit break_to continue_to after)
-    step_emitted (Either test yes no) iterators exit break_to continue_to after =
+    step_emitted (Either test so otherwise) iterators exit break_to continue_to after =
         does Nop (if is_some (pair_in test)
         then block (block (left_unless_pair (pair_in test) test (suc (suc exit)) zero
-        (step_emitted yes iterators (suc (suc exit)) (suc (suc break_to)) (suc (suc continue_to)) (does (Br 1) Done))) (step_emitted no iterators (suc exit) (suc break_to) (suc continue_to) Done)) after
-        else tested layout [] [] test zero zero exit (either (step_emitted yes iterators (suc exit) (suc break_to) (suc continue_to) Done) (step_emitted no iterators (suc exit) (suc break_to) (suc continue_to) Done) after))
+        (step_emitted so iterators (suc (suc exit)) (suc (suc break_to)) (suc (suc continue_to)) (does (Br 1) Done))) (step_emitted otherwise iterators (suc exit) (suc break_to) (suc continue_to) Done)) after
+        else tested layout [] [] test zero zero exit (either (step_emitted so iterators (suc exit) (suc break_to) (suc continue_to) Done) (step_emitted otherwise iterators (suc exit) (suc break_to) (suc continue_to) Done) after))
     step_emitted (Loop true test body last) iterators exit break_to continue_to after =
         let rest = if is_nothing last then does (Br zero) Done else step_emitted last iterators (suc (suc exit)) 1 zero (does (Br zero) Done) in
         does Nop (block (again (left_unless (test_within test) test (suc (suc exit)) 1

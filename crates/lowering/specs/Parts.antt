@@ -110,26 +110,26 @@ tested_on layout test exit after = does Nop (tested layout [] [] test zero zero 
 -- a choice of two statements: by an `if`, or by a comparison of sources in two blocks
 
 abbrev pub plainly_chosen : Layout → Code → Step → Step → Around → Instructions → Instructions
-plainly_chosen layout test yes no at after =
+plainly_chosen layout test so otherwise at after =
     let exit = suc at.exit in
     tested layout [] [] test zero zero at.exit (either
-    (step_emitted layout yes at.iterators exit (suc at.break_to) (suc at.continue_to) Done)
-    (step_emitted layout no at.iterators exit (suc at.break_to) (suc at.continue_to) Done) after)
+    (step_emitted layout so at.iterators exit (suc at.break_to) (suc at.continue_to) Done)
+    (step_emitted layout otherwise at.iterators exit (suc at.break_to) (suc at.continue_to) Done) after)
 
 abbrev pub quick_way : Layout → Code → Step → Around → Instructions → Instructions
-quick_way layout test yes at after =
+quick_way layout test so at after =
     let exit = suc (suc at.exit) in
-    left_unless_pair layout (pair_in test) test exit zero (step_emitted layout yes at.iterators exit (suc (suc at.break_to)) (suc (suc at.continue_to)) (does (Br 1) after))
+    left_unless_pair layout (pair_in test) test exit zero (step_emitted layout so at.iterators exit (suc (suc at.break_to)) (suc (suc at.continue_to)) (does (Br 1) after))
 
 abbrev pub quick_ways : Layout → Code → Step → Step → Around → Instructions → Instructions
-quick_ways layout test yes no at after =
-    block (quick_way layout test yes at Done) (step_emitted layout no at.iterators (suc at.exit) (suc at.break_to) (suc at.continue_to) after)
+quick_ways layout test so otherwise at after =
+    block (quick_way layout test so at Done) (step_emitted layout otherwise at.iterators (suc at.exit) (suc at.break_to) (suc at.continue_to) after)
 
 abbrev pub quickly_chosen : Layout → Code → Step → Step → Around → Instructions → Instructions
-quickly_chosen layout test yes no at after = block (quick_ways layout test yes no at Done) after
+quickly_chosen layout test so otherwise at after = block (quick_ways layout test so otherwise at Done) after
 
 abbrev pub chosen : Layout → Code → Step → Step → Around → Instructions → Instructions
-chosen layout test yes no at after = if is_some (pair_in test) then quickly_chosen layout test yes no at after else plainly_chosen layout test yes no at after
+chosen layout test so otherwise at after = if is_some (pair_in test) then quickly_chosen layout test so otherwise at after else plainly_chosen layout test so otherwise at after
 
 -- the body of a loop
 abbrev pub body_code : Layout → Step → (iterators exit : ℕ) → Instructions
