@@ -50,12 +50,17 @@ abbrev mutual
   pub Fits : (layout : Layout) → Code → (temporary arrays exit : ℕ) → Type 0
   Fits layout (Do operation operands) temporary arrays exit = AllFit layout operands temporary arrays exit
   Fits layout (Over what operands) temporary arrays exit = AllCode operands × AllFit layout operands temporary arrays exit
-  Fits layout (Compare op left right) temporary arrays exit = Within temporary arrays exit × (Fits layout left temporary arrays exit × Fits layout right (suc temporary) arrays exit)
-  Fits layout (Call function operands) temporary arrays exit = IsGiven (parameters_at layout.calls function) operands × ((function ≤ most_places) × ((arrays + made_in operands ≤ most_places) × AllFit layout operands temporary arrays exit))
+  Fits layout (Compare op left right) temporary arrays exit =
+      Within temporary arrays exit × (Fits layout left temporary arrays exit × Fits layout right (suc temporary) arrays exit)
+  Fits layout (Call function operands) temporary arrays exit =
+      IsGiven (parameters_at layout.calls function) operands
+      × ((function ≤ most_places) × ((arrays + made_in operands ≤ most_places) × AllFit layout operands temporary arrays exit))
   Fits layout Ask temporary arrays exit = Within temporary arrays exit
   Fits layout (AskLine store) temporary arrays exit = Within temporary arrays exit × Fits layout store (suc (suc temporary)) arrays (suc exit)
-  Fits layout (FileLine file store) temporary arrays exit = Within temporary arrays exit × (Fits layout file temporary arrays exit × Fits layout store (suc (suc temporary)) arrays (suc exit))
-  Fits layout (Replace all operands store) temporary arrays exit = Within temporary arrays exit × (AllFit layout operands temporary arrays exit × Fits layout store (suc (suc temporary)) arrays (suc exit))
+  Fits layout (FileLine file store) temporary arrays exit =
+      Within temporary arrays exit × (Fits layout file temporary arrays exit × Fits layout store (suc (suc temporary)) arrays (suc exit))
+  Fits layout (Replace all operands store) temporary arrays exit =
+      Within temporary arrays exit × (AllFit layout operands temporary arrays exit × Fits layout store (suc (suc temporary)) arrays (suc exit))
   Fits layout (Number number) temporary arrays exit = Within temporary arrays exit
   Fits layout (Text text) temporary arrays exit = Within temporary arrays exit × (text < length layout.texts)
   Fits layout Unset temporary arrays exit = Within temporary arrays exit
@@ -63,14 +68,19 @@ abbrev mutual
   Fits layout (Set slot value) temporary arrays exit = Within temporary arrays exit × (SlotFits slot × Fits layout value temporary arrays exit)
   Fits layout (Array array) temporary arrays exit = ArrayFits array
   Fits layout (IsOpen item) temporary arrays exit = Within temporary arrays exit × (item ≤ most_places)
-  Fits layout (Choose wanted test so otherwise) temporary arrays exit = Within temporary arrays exit × (Fits layout test temporary arrays exit × (Fits layout so temporary arrays (suc exit) × Fits layout otherwise temporary arrays (suc exit)))
-  Fits layout (Seq first second) temporary arrays exit = Within temporary arrays exit × (Fits layout first temporary arrays exit × Fits layout second temporary arrays exit)
-  Fits layout (Let value rest) temporary arrays exit = Within temporary arrays exit × (Fits layout value temporary arrays exit × Fits layout rest (suc temporary) arrays exit)
+  Fits layout (Choose wanted test so otherwise) temporary arrays exit =
+      Within temporary arrays exit
+      × (Fits layout test temporary arrays exit × (Fits layout so temporary arrays (suc exit) × Fits layout otherwise temporary arrays (suc exit)))
+  Fits layout (Seq first second) temporary arrays exit =
+      Within temporary arrays exit × (Fits layout first temporary arrays exit × Fits layout second temporary arrays exit)
+  Fits layout (Let value rest) temporary arrays exit =
+      Within temporary arrays exit × (Fits layout value temporary arrays exit × Fits layout rest (suc temporary) arrays exit)
   Fits layout (Bound moves place) temporary arrays exit = Within temporary arrays exit
 
   -- operands one after the other
   pub AllFit : (layout : Layout) → Codes → (temporary arrays exit : ℕ) → Type 0
   AllFit layout End temporary arrays exit = Within temporary arrays exit
-  AllFit layout (At code operands) temporary arrays exit = Within temporary arrays exit × (Fits layout code temporary arrays exit × AllFit layout operands (suc temporary) arrays exit)
+  AllFit layout (At code operands) temporary arrays exit =
+      Within temporary arrays exit × (Fits layout code temporary arrays exit × AllFit layout operands (suc temporary) arrays exit)
   AllFit layout (Fixed number operands) temporary arrays exit = AllFit layout operands temporary arrays exit
   AllFit layout (Fresh operands) temporary arrays exit = Within temporary arrays exit × AllFit layout operands temporary (suc arrays) exit

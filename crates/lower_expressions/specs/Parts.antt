@@ -1,5 +1,6 @@
--- Parts of the definitions, which are added by functions of their own. The words are those of the definitions (lower_model, `Emission`): `after` is the code that
--- comes after, `temporary` the one that the value goes to, `arrays` how many arrays of calls are in use, `exit` how many labels further out the exit is.
+-- Parts of the definitions, which are added by functions of their own. The words are those of the definitions (lower_model, `Emission`): `after` is the
+-- code that comes after, `temporary` the one that the value goes to, `arrays` how many arrays of calls are in use, `exit` how many labels further out the
+-- exit is.
 use Rattle.std.specs.Prelude.{ℕ, zero, suc, ◌+◌, Bool, true, false, List, [], ◌∷◌, length}
 use Rattle.sem_primitives.specs.Constants.{flag_number}
 use Rattle.sem_primitives.specs.Table.{arguments_of, answer_of, can_fault}
@@ -36,7 +37,8 @@ handle_dropped layout name after =
 
 -- an unboxed name takes a number
 abbrev pub bare_set : Layout → ℕ → ℕ → Instructions → Instructions
-bare_set layout name temporary after = text_dropped layout name (does (LocalGet (number_local layout.bases temporary)) (does (GlobalSet (global_number layout name)) after))
+bare_set layout name temporary after =
+    text_dropped layout name (does (LocalGet (number_local layout.bases temporary)) (does (GlobalSet (global_number layout name)) after))
 
 -- what becomes of one name where the command line assigns
 abbrev pub number_assigned : Layout → Kind → ℕ → ℕ → Instructions → Instructions
@@ -48,11 +50,13 @@ one_assigned layout kind name temporary after = number_assigned layout kind name
 
 -- an import is asked, and whether an assignment is pending
 abbrev pub asked_once : Bases → Primitive → ℕ → ℕ → Instructions → Instructions
-asked_once bases primitive temporary exit after = ask_row primitive (kept_code bases true temporary (suc exit) (number_is (number_local bases temporary) 2 after))
+asked_once bases primitive temporary exit after =
+    ask_row primitive (kept_code bases true temporary (suc exit) (number_is (number_local bases temporary) 2 after))
 
 -- one turn of asking
 abbrev pub one_asked : Layout → Primitive → ℕ → ℕ → Instructions → Instructions
-one_asked layout primitive temporary exit after = asked_once layout.bases primitive temporary exit (when (pending_assigned layout temporary (does (Br 1) Done)) after)
+one_asked layout primitive temporary exit after =
+    asked_once layout.bases primitive temporary exit (when (pending_assigned layout temporary (does (Br 1) Done)) after)
 
 -- the forms of operands that are code
 abbrev pub forms_in : List plain.Form → Codes → List plain.Form
@@ -64,7 +68,8 @@ forms_in forms (Fresh operands) = forms_in forms operands
 -- the same as what the definitions say, where the operands' forms are known
 
 abbrev pub converted_with : Bases → List plain.Form → List Argument → Codes → ℕ → ℕ → Instructions → Instructions
-converted_with bases (form ∷ forms) (argument.Of wanted ∷ rest) (At code operands) temporary exit after = converted bases form wanted temporary exit (converted_with bases forms rest operands (suc temporary) exit after)
+converted_with bases (form ∷ forms) (argument.Of wanted ∷ rest) (At code operands) temporary exit after =
+    converted bases form wanted temporary exit (converted_with bases forms rest operands (suc temporary) exit after)
 converted_with bases forms (first ∷ rest) (Fixed number operands) temporary exit after = converted_with bases forms rest operands temporary exit after
 converted_with bases _ _ _ temporary exit after = after
 
@@ -81,17 +86,20 @@ given_one bases Boxed form temporary after = to_value bases form temporary after
 given_one bases kind form temporary after = after
 
 abbrev pub given_with : Bases → List plain.Form → List Kind → Codes → ℕ → Instructions → Instructions
-given_with bases (form ∷ forms) (kind ∷ kinds) (At code operands) temporary after = given_one bases kind form temporary (given_with bases forms kinds operands (suc temporary) after)
+given_with bases (form ∷ forms) (kind ∷ kinds) (At code operands) temporary after =
+    given_one bases kind form temporary (given_with bases forms kinds operands (suc temporary) after)
 given_with bases forms (kind ∷ kinds) (At code operands) temporary after = given_with bases forms kinds operands temporary after
 given_with bases forms (kind ∷ kinds) (Fixed number operands) temporary after = given_with bases forms kinds operands temporary after
 given_with bases forms (kind ∷ kinds) (Fresh operands) temporary after = given_with bases forms kinds operands temporary after
 given_with bases forms _ _ temporary after = after
 
 abbrev pub pushed_with : Layout → List Kind → Codes → ℕ → ℕ → Instructions → Instructions
-pushed_with layout (kind ∷ kinds) (At code operands) temporary arrays after = one_given layout kind code temporary (pushed_with layout kinds operands (suc temporary) arrays after)
+pushed_with layout (kind ∷ kinds) (At code operands) temporary arrays after =
+    one_given layout kind code temporary (pushed_with layout kinds operands (suc temporary) arrays after)
 pushed_with layout (kind ∷ kinds) (Fixed number operands) temporary arrays after = pushed_with layout kinds operands temporary arrays after
 pushed_with layout (kind ∷ kinds) (Fresh operands) temporary arrays after =
-    does (LocalGet (array_local layout.bases arrays)) (does (LocalTee (array_local layout.bases arrays)) (pushed_with layout kinds operands temporary (suc arrays) after))
+    does (LocalGet (array_local layout.bases arrays))
+    (does (LocalTee (array_local layout.bases arrays)) (pushed_with layout kinds operands temporary (suc arrays) after))
 pushed_with layout _ _ temporary arrays after = after
 
 abbrev pub freed_with : Bases → ℕ → ℕ → Instructions → Instructions
@@ -100,15 +108,19 @@ freed_with bases arrays (suc count) after = moved_out (array_local bases (arrays
 
 -- an operation of the host
 abbrev pub host_performed : Layout → Primitive → Codes → ℕ → ℕ → Instructions → Instructions
-host_performed layout primitive operands temporary exit after = all_pushed layout (arguments_of primitive) operands temporary (ask_row primitive (kept layout.bases (can_fault primitive) (answer_of primitive) temporary exit after))
+host_performed layout primitive operands temporary exit after =
+    all_pushed layout (arguments_of primitive) operands temporary
+    (ask_row primitive (kept layout.bases (can_fault primitive) (answer_of primitive) temporary exit after))
 
 -- an operation once its operands, of these forms, are evaluated
 abbrev pub operated : Layout → List plain.Form → Operation → Codes → ℕ → ℕ → Instructions → Instructions
-operated layout forms operation operands temporary exit after = converted_with layout.bases forms (arguments operation) operands temporary exit (performed layout operation operands temporary exit after)
+operated layout forms operation operands temporary exit after =
+    converted_with layout.bases forms (arguments operation) operands temporary exit (performed layout operation operands temporary exit after)
 
 -- two subscripts of these forms are joined
 abbrev pub joined_with : Layout → plain.Form → plain.Form → ℕ → ℕ → Instructions → Instructions
-joined_with layout first second temporary exit after = operated layout (first ∷ second ∷ []) (Host Join) (At plain.Unset (At plain.Unset End)) temporary exit after
+joined_with layout first second temporary exit after =
+    operated layout (first ∷ second ∷ []) (Host Join) (At plain.Unset (At plain.Unset End)) temporary exit after
 
 abbrev pub joined_form : plain.Form
 joined_form = plain.Answered (answer_of Join)
@@ -121,15 +133,18 @@ key_form (form ∷ forms) last = joined_form
 -- subscripts of these forms, the last one apart, are joined from the last one on
 abbrev pub all_joined : Layout → List plain.Form → plain.Form → ℕ → ℕ → Instructions → Instructions
 all_joined layout [] last temporary exit after = after
-all_joined layout (form ∷ forms) last temporary exit after = all_joined layout forms last (suc temporary) exit (joined_with layout form (key_form forms last) temporary exit after)
+all_joined layout (form ∷ forms) last temporary exit after =
+    all_joined layout forms last (suc temporary) exit (joined_with layout form (key_form forms last) temporary exit after)
 
 -- what takes a list of values, of these forms, that are evaluated
 abbrev pub listed_with : Layout → List plain.Form → Listed → ℕ → ℕ → Instructions → Instructions
-listed_with layout forms what temporary exit after = boxed_with layout.bases forms temporary (appended_with layout.bases forms temporary (listed_asked layout what (length forms) temporary exit after))
+listed_with layout forms what temporary exit after =
+    boxed_with layout.bases forms temporary (appended_with layout.bases forms temporary (listed_asked layout what (length forms) temporary exit after))
 
 -- what a function is given, where its operands, of these forms, are evaluated
 abbrev pub passed_with : Layout → List plain.Form → List Kind → Codes → ℕ → ℕ → Instructions → Instructions
-passed_with layout forms kinds operands temporary arrays after = given_with layout.bases forms kinds operands temporary (pushed_with layout kinds operands temporary arrays after)
+passed_with layout forms kinds operands temporary arrays after =
+    given_with layout.bases forms kinds operands temporary (pushed_with layout kinds operands temporary arrays after)
 
 -- a function is entered, and its answer kept
 abbrev pub entered : Bases → ℕ → ℕ → ℕ → Instructions → Instructions
@@ -138,11 +153,13 @@ entered bases function temporary exit after = does (CallOf (function_number func
 -- a call whose operands, of these forms, are evaluated
 abbrev pub called_with : Layout → List plain.Form → ℕ → Codes → ℕ → ℕ → ℕ → Instructions → Instructions
 called_with layout forms function operands temporary arrays exit after =
-    passed_with layout forms (parameters_at layout.calls function) operands temporary arrays (entered layout.bases function temporary exit (freed_with layout.bases arrays (made_in operands) after))
+    passed_with layout forms (parameters_at layout.calls function) operands temporary arrays
+    (entered layout.bases function temporary exit (freed_with layout.bases arrays (made_in operands) after))
 
 -- a record of a file is asked for
 abbrev pub file_asked : Bases → plain.Form → ℕ → ℕ → Instructions → Instructions
-file_asked bases form temporary exit after = to_value bases form temporary (moved_out (handle_local bases temporary) (ask_row GetlineVarFile (kept_code bases true temporary exit after)))
+file_asked bases form temporary exit after =
+    to_value bases form temporary (moved_out (handle_local bases temporary) (ask_row GetlineVarFile (kept_code bases true temporary exit after)))
 
 -- code that stores is run where a text was read
 abbrev pub stored_when : Bases → Instructions → ℕ → Instructions → Instructions
@@ -156,12 +173,15 @@ replaced_asked layout every operands temporary exit after = all_pushed layout th
 -- code that stores a text, from within one label more
 abbrev pub stored_with : Layout → List plain.Form → List ℕ → Primitive → Code → ℕ → ℕ → ℕ → Instructions → Instructions
 stored_with layout forms temporaries primitive store temporary arrays exit after =
-    text_kept layout primitive temporary (emitted layout true (plain.a_value ∷ forms) (suc temporary ∷ temporaries) store (suc (suc temporary)) arrays (suc exit) (text_let_go layout forms store temporary after))
+    text_kept layout primitive temporary
+    (emitted layout true (plain.a_value ∷ forms) (suc temporary ∷ temporaries) store (suc (suc temporary)) arrays (suc exit)
+    (text_let_go layout forms store temporary after))
 
 -- a replacement once its operands, of these forms, are evaluated, and the test whether nothing was replaced
 abbrev pub replaced_with : Layout → List plain.Form → Bool → Codes → ℕ → ℕ → Instructions → Instructions
 replaced_with layout forms every operands temporary exit after =
-    converted_with layout.bases forms three_values operands temporary exit (replaced_asked layout every operands temporary exit (does (LocalGet (number_local layout.bases temporary)) (does (Test I64 Eqz) after)))
+    converted_with layout.bases forms three_values operands temporary exit
+    (replaced_asked layout every operands temporary exit (does (LocalGet (number_local layout.bases temporary)) (does (Test I64 Eqz) after)))
 
 -- one of two ways, as the sort that is wanted
 abbrev pub branch_with : Layout → List plain.Form → List ℕ → Sort → Code → ℕ → ℕ → ℕ → Instructions → Instructions

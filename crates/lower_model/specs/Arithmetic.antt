@@ -37,13 +37,15 @@ ranged op left right exit after = two_numbers left right op (does (LocalSet left
 -- A product may pass 64 bits: it did not exactly where it divided by a factor that is not 0 gives the other factor.
 abbrev pub factors_differ : ℕ → ℕ → ℕ → Instructions → Instructions
 factors_differ product left right after =
-    does (LocalGet product) (does (LocalGet left) (does (LocalGet left) (does (Test I64 Eqz) (does (Convert I64ExtendI32U) (does (Binary I64 Add) (does (Binary I64 DivS)
+    does (LocalGet product)
+    (does (LocalGet left) (does (LocalGet left) (does (Test I64 Eqz) (does (Convert I64ExtendI32U) (does (Binary I64 Add) (does (Binary I64 DivS)
     (does (LocalGet right) (does (Compare I64 Ne)
     (does (LocalGet left) (does (I64Const 0) (does (Compare I64 Ne) (does (Binary I32 And) after))))))))))))
 
 abbrev pub times : ℕ → ℕ → ℕ → ℕ → Instructions → Instructions
 times left right product exit after = two_numbers left right Mul (does (LocalSet product)
-    (factors_differ product left right (out_of_range product (does (Binary I32 Or) (fail_if Range exit (does (LocalGet product) (does (LocalSet left) after)))))))
+    (factors_differ product left right
+    (out_of_range product (does (Binary I32 Or) (fail_if Range exit (does (LocalGet product) (does (LocalSet left) after)))))))
 
 abbrev pub unless_zero : ℕ → ℕ → Instructions → Instructions
 unless_zero right exit after = does (LocalGet right) (does (Test I64 Eqz) (fail_if DivisionByZero exit after))
@@ -79,21 +81,28 @@ module _ (bases : Bases) where
   abbrev pub calculated : Arithmetic → ℕ → ℕ → Instructions → Instructions
   calculated inline.Plus temporary exit after = ranged Add (number_local bases temporary) (number_local bases (suc temporary)) exit after
   calculated inline.Minus temporary exit after = ranged Sub (number_local bases temporary) (number_local bases (suc temporary)) exit after
-  calculated inline.Times temporary exit after = times (number_local bases temporary) (number_local bases (suc temporary)) (number_local bases (suc (suc temporary))) exit after
-  calculated inline.Over temporary exit after = unless_zero (number_local bases (suc temporary)) exit (unless_broken (number_local bases temporary) (number_local bases (suc temporary)) exit (divided DivS (number_local bases temporary) (number_local bases (suc temporary)) after))
-  calculated inline.Modulo temporary exit after = unless_zero (number_local bases (suc temporary)) exit (divided RemS (number_local bases temporary) (number_local bases (suc temporary)) after)
-  calculated inline.Truncated temporary exit after = unless_zero (number_local bases (suc temporary)) exit (divided DivS (number_local bases temporary) (number_local bases (suc temporary)) after)
+  calculated inline.Times temporary exit after =
+      times (number_local bases temporary) (number_local bases (suc temporary)) (number_local bases (suc (suc temporary))) exit after
+  calculated inline.Over temporary exit after =
+      unless_zero (number_local bases (suc temporary)) exit (unless_broken (number_local bases temporary) (number_local bases (suc temporary)) exit
+      (divided DivS (number_local bases temporary) (number_local bases (suc temporary)) after))
+  calculated inline.Modulo temporary exit after =
+      unless_zero (number_local bases (suc temporary)) exit (divided RemS (number_local bases temporary) (number_local bases (suc temporary)) after)
+  calculated inline.Truncated temporary exit after =
+      unless_zero (number_local bases (suc temporary)) exit (divided DivS (number_local bases temporary) (number_local bases (suc temporary)) after)
 
   -- a field's number is from 0 to 1,048,576: a negative one is a large one without its sign
   abbrev pub field_checked : ℕ → ℕ → Instructions → Instructions
-  field_checked temporary exit after = does (LocalGet (number_local bases temporary)) (does (I64Const (2 ^ 20)) (does (Compare I64 GtU) (fail_if FieldNumber exit after)))
+  field_checked temporary exit after =
+      does (LocalGet (number_local bases temporary)) (does (I64Const (2 ^ 20)) (does (Compare I64 GtU) (fail_if FieldNumber exit after)))
 
   -- Comparison: by the host where one is a value, or a text stands beside one; else of numbers, of which one that is not there yet is 0.
 
   abbrev pub values_compared : CompareOp → Form → Form → ℕ → ℕ → Instructions → Instructions
   values_compared op left right temporary exit after =
       to_value bases left temporary (to_value bases right (suc temporary)
-      (does (I32Const (comparison_number op)) (moved_out (handle_local bases temporary) (moved_out (handle_local bases (suc temporary)) (ask_row row.Compare (kept_code bases true temporary exit after))))))
+      (does (I32Const (comparison_number op)) (moved_out (handle_local bases temporary)
+      (moved_out (handle_local bases (suc temporary)) (ask_row row.Compare (kept_code bases true temporary exit after))))))
 
   abbrev pub zeroed_if : Form → ℕ → Instructions → Instructions
   zeroed_if Bare temporary after = zeroed bases temporary after
@@ -103,19 +112,23 @@ module _ (bases : Bases) where
   abbrev pub numbers_compared : CompareOp → Form → Form → ℕ → Instructions → Instructions
   numbers_compared op left right temporary after =
       zeroed_if left temporary (zeroed_if right (suc temporary)
-      (does (LocalGet (number_local bases temporary)) (does (LocalGet (number_local bases (suc temporary))) (does (Compare I64 (relation op)) (does (Convert I64ExtendI32U) (does (LocalSet (number_local bases temporary)) after))))))
+      (does (LocalGet (number_local bases temporary)) (does (LocalGet (number_local bases (suc temporary)))
+      (does (Compare I64 (relation op)) (does (Convert I64ExtendI32U) (does (LocalSet (number_local bases temporary)) after))))))
 
   -- whether a text stands beside one of the two
   abbrev pub texts_beside : Form → Form → ℕ → Instructions → Instructions
-  texts_beside Bare Bare temporary after = number_is (number_local bases temporary) text_beside (number_is (number_local bases (suc temporary)) text_beside (does (Binary I32 Or) after))
+  texts_beside Bare Bare temporary after =
+      number_is (number_local bases temporary) text_beside (number_is (number_local bases (suc temporary)) text_beside (does (Binary I32 Or) after))
   texts_beside Bare right temporary after = number_is (number_local bases temporary) text_beside after
   texts_beside left right temporary after = number_is (number_local bases (suc temporary)) text_beside after
 
   abbrev pub bare_compared : CompareOp → Form → Form → ℕ → ℕ → Instructions → Instructions
   bare_compared op left right temporary exit after =
       if may_be_text left || may_be_text right
-      then texts_beside left right temporary (either (values_compared op left right temporary (suc exit) Done) (numbers_compared op left right temporary Done) after)
+      then texts_beside left right temporary
+      (either (values_compared op left right temporary (suc exit) Done) (numbers_compared op left right temporary Done) after)
       else numbers_compared op left right temporary after
 
   abbrev pub compared : CompareOp → Form → Form → ℕ → ℕ → Instructions → Instructions
-  compared op left right temporary exit after = if is_value left || is_value right then values_compared op left right temporary exit after else bare_compared op left right temporary exit after
+  compared op left right temporary exit after =
+      if is_value left || is_value right then values_compared op left right temporary exit after else bare_compared op left right temporary exit after

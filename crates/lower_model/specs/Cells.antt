@@ -185,7 +185,8 @@ is_handle_of (Some name) place = nat_eq place (name + name)
 
 -- names begin with global `before`
 abbrev pub may_come : (before : ℕ) → List Kind → (assigning : Option ℕ) → (place : ℕ) → (old new : Cell) → Bool
-may_come before kinds assigning place old new = is_word new || (is_gone old || (not (is_bare_handle kinds (place - before)) || is_handle_of assigning (place - before)))
+may_come before kinds assigning place old new =
+    is_word new || (is_gone old || (not (is_bare_handle kinds (place - before)) || is_handle_of assigning (place - before)))
 
 -- once a fault is kept this is a bound from above: a name may have nothing
 abbrev pub ended_name : Kind → Cell → Bool

@@ -131,13 +131,15 @@ module _ (layout : Layout) where
   -- the value of a temporary by `put` into a place that is empty: a second handle, where the first stays the answer, or the only one
   abbrev pub handle_stored : (only : Bool) → ℕ → Simple → Instructions → Instructions
   handle_stored true temporary put after = moved_out (handle_local bases temporary) (does put after)
-  handle_stored false temporary put after = does (LocalGet (handle_local bases temporary)) (does (LocalTee (handle_local bases temporary)) (ask_row row.Dup (does put after)))
+  handle_stored false temporary put after =
+      does (LocalGet (handle_local bases temporary)) (does (LocalTee (handle_local bases temporary)) (ask_row row.Dup (does put after)))
 
   abbrev pub value_stored : (only : Bool) → Form → ℕ → Simple → Instructions → Instructions
   value_stored only (Answered (answer.Of sort.Value)) temporary put after = handle_stored only temporary put after
   value_stored only (Answered (answer.Of sort.Number)) temporary put after = boxed_number bases temporary (does put after)
   value_stored only (Answered answer.Truth) temporary put after = boxed_number bases temporary (does put after)
-  value_stored only Bare temporary put after = number_is (number_local bases temporary) text_beside (either (handle_stored only temporary put Done) (boxed_perhaps bases temporary put Done) after)
+  value_stored only Bare temporary put after =
+      number_is (number_local bases temporary) text_beside (either (handle_stored only temporary put Done) (boxed_perhaps bases temporary put Done) after)
   value_stored only Perhaps temporary put after = boxed_perhaps bases temporary put after
   value_stored only form temporary put after = ask_row row.Uninit (does put after)
 
@@ -148,7 +150,8 @@ module _ (layout : Layout) where
       (when (does (GlobalGet (global_handle name)) (ask Drop (does (I32Const minus_one) (does (GlobalSet (global_handle name)) Done)))) after)))
 
   abbrev pub slot_set : (only : Bool) → Slot → Form → ℕ → Instructions → Instructions
-  slot_set only (Global false name) form temporary after = does (GlobalGet (global_handle name)) (ask Drop (value_stored only form temporary (GlobalSet (global_handle name)) after))
+  slot_set only (Global false name) form temporary after =
+      does (GlobalGet (global_handle name)) (ask Drop (value_stored only form temporary (GlobalSet (global_handle name)) after))
   slot_set only (Global true name) form temporary after =
       text_dropped name (does (LocalGet (number_local bases temporary)) (does (GlobalSet (global_number name)) after))
   slot_set only (Parameter false place) form temporary after = does (LocalGet place) (ask Drop (value_stored only form temporary (LocalSet place) after))
@@ -157,7 +160,8 @@ module _ (layout : Layout) where
   -- Assignments of the command line: the name's number and the value go to a temporary, and the name that has this number takes the value.
 
   abbrev pub assigned : Kind → ℕ → ℕ → Instructions → Instructions
-  assigned Boxed name temporary after = does (GlobalGet (global_handle name)) (ask Drop (moved_out (handle_local bases temporary) (does (GlobalSet (global_handle name)) after)))
+  assigned Boxed name temporary after =
+      does (GlobalGet (global_handle name)) (ask Drop (moved_out (handle_local bases temporary) (does (GlobalSet (global_handle name)) after)))
   assigned Unboxed name temporary after =
       text_dropped name (moved_out (handle_local bases temporary) (does (GlobalSet (global_handle name))
       (does (I64Const text_beside) (does (GlobalSet (global_number name)) after))))
@@ -166,7 +170,8 @@ module _ (layout : Layout) where
   abbrev pub assigned_by_number : List Kind → ℕ → ℕ → Instructions → Instructions
   assigned_by_number [] name temporary after = after
   assigned_by_number (Many ∷ kinds) name temporary after = assigned_by_number kinds (suc name) temporary after
-  assigned_by_number (kind ∷ kinds) name temporary after = number_is (number_local bases temporary) name (when (assigned kind name temporary Done) (assigned_by_number kinds (suc name) temporary after))
+  assigned_by_number (kind ∷ kinds) name temporary after =
+      number_is (number_local bases temporary) name (when (assigned kind name temporary Done) (assigned_by_number kinds (suc name) temporary after))
 
   abbrev pub pending_assigned : ℕ → Instructions → Instructions
   pending_assigned temporary after =
@@ -175,12 +180,15 @@ module _ (layout : Layout) where
 
   -- an import is asked until no assignment is pending
   abbrev pub asked : Primitive → ℕ → ℕ → Instructions → Instructions
-  asked primitive temporary exit after = Then (Again None (ask_row primitive (kept_code bases true temporary (suc exit) (number_is (number_local bases temporary) 2 (when (pending_assigned temporary (does (Br 1) Done)) Done))))) after
+  asked primitive temporary exit after =
+      Then (Again None (ask_row primitive (kept_code bases true temporary (suc exit)
+      (number_is (number_local bases temporary) 2 (when (pending_assigned temporary (does (Br 1) Done)) Done))))) after
 
   -- Operands.
 
   abbrev pub all_converted : List Form → List Argument → Codes → ℕ → ℕ → Instructions → Instructions
-  all_converted forms (argument.Of wanted ∷ rest) (At code operands) temporary exit after = converted bases (form_of forms code) wanted temporary exit (all_converted forms rest operands (suc temporary) exit after)
+  all_converted forms (argument.Of wanted ∷ rest) (At code operands) temporary exit after =
+      converted bases (form_of forms code) wanted temporary exit (all_converted forms rest operands (suc temporary) exit after)
   all_converted forms (first ∷ rest) (Fixed number operands) temporary exit after = all_converted forms rest operands temporary exit after
   all_converted forms _ _ temporary exit after = after
 
@@ -197,7 +205,8 @@ module _ (layout : Layout) where
 
   -- an operation, once its operands are converted
   abbrev pub performed : Operation → Codes → ℕ → ℕ → Instructions → Instructions
-  performed (Host primitive) operands temporary exit after = all_pushed (arguments_of primitive) operands temporary (ask_row primitive (kept bases (can_fault primitive) (answer_of primitive) temporary exit after))
+  performed (Host primitive) operands temporary exit after =
+      all_pushed (arguments_of primitive) operands temporary (ask_row primitive (kept bases (can_fault primitive) (answer_of primitive) temporary exit after))
   performed (Inline operator) operands temporary exit after = calculated bases operator temporary exit after
   performed AsNumber operands temporary exit after = after
   performed FieldNumber operands temporary exit after = field_checked bases temporary exit after
@@ -221,7 +230,8 @@ module _ (layout : Layout) where
   -- What a call is given. An array that is made for it stays where it can be freed, and its number is lent.
 
   abbrev pub all_given : List Form → List Kind → Codes → ℕ → Instructions → Instructions
-  all_given forms (Boxed ∷ kinds) (At code operands) temporary after = to_value bases (form_of forms code) temporary (all_given forms kinds operands (suc temporary) after)
+  all_given forms (Boxed ∷ kinds) (At code operands) temporary after =
+      to_value bases (form_of forms code) temporary (all_given forms kinds operands (suc temporary) after)
   all_given forms (kind ∷ kinds) (At code operands) temporary after = all_given forms kinds operands (suc temporary) after
   all_given forms (kind ∷ kinds) (Fresh operands) temporary after = all_given forms kinds operands temporary after
   all_given forms _ _ temporary after = after
@@ -232,8 +242,10 @@ module _ (layout : Layout) where
   one_given Many code temporary after = array_pushed (array_meant code) after
 
   abbrev pub all_given_pushed : List Kind → Codes → ℕ → ℕ → Instructions → Instructions
-  all_given_pushed (kind ∷ kinds) (At code operands) temporary arrays after = one_given kind code temporary (all_given_pushed kinds operands (suc temporary) arrays after)
-  all_given_pushed (kind ∷ kinds) (Fresh operands) temporary arrays after = does (LocalGet (array_local bases arrays)) (does (LocalTee (array_local bases arrays)) (all_given_pushed kinds operands temporary (suc arrays) after))
+  all_given_pushed (kind ∷ kinds) (At code operands) temporary arrays after =
+      one_given kind code temporary (all_given_pushed kinds operands (suc temporary) arrays after)
+  all_given_pushed (kind ∷ kinds) (Fresh operands) temporary arrays after =
+      does (LocalGet (array_local bases arrays)) (does (LocalTee (array_local bases arrays)) (all_given_pushed kinds operands temporary (suc arrays) after))
   all_given_pushed _ _ temporary arrays after = after
 
   -- the arrays of a call are freed, the last one first
@@ -296,14 +308,19 @@ module _ (layout : Layout) where
 
   -- after code that stored the text of the next temporary
   abbrev pub text_let_go : List Form → Code → ℕ → Instructions → Instructions
-  text_let_go forms store temporary after = left_over store (form_of (a_value ∷ forms) store) (suc (suc temporary)) (let_go Drop (handle_local bases (suc temporary)) after)
+  text_let_go forms store temporary after =
+      left_over store (form_of (a_value ∷ forms) store) (suc (suc temporary)) (let_go Drop (handle_local bases (suc temporary)) after)
 
   -- Code. What is kept is of these `forms` and stands in these `temporaries`. Where code is evaluated for what it does alone, an assignment moves its value,
   -- and no answer is brought to its place that would be dropped there.
   unfoldable mutual
     pub emitted : (only : Bool) → List Form → List ℕ → Code → (temporary arrays exit : ℕ) → Instructions → Instructions
-    emitted only forms temporaries (Do operation operands) temporary arrays exit after = field_or (field_in operation operands) temporary after (all_emitted forms temporaries operands temporary arrays exit (all_converted forms (arguments operation) operands temporary exit (performed operation operands temporary exit after)))
-    emitted only forms temporaries (Over what operands) temporary arrays exit after = all_emitted forms temporaries operands temporary arrays exit (all_boxed forms operands temporary (all_appended operands temporary (listed_asked what (count_of operands) temporary exit after)))
+    emitted only forms temporaries (Do operation operands) temporary arrays exit after =
+        field_or (field_in operation operands) temporary after (all_emitted forms temporaries operands temporary arrays exit
+        (all_converted forms (arguments operation) operands temporary exit (performed operation operands temporary exit after)))
+    emitted only forms temporaries (Over what operands) temporary arrays exit after =
+        all_emitted forms temporaries operands temporary arrays exit
+        (all_boxed forms operands temporary (all_appended operands temporary (listed_asked what (count_of operands) temporary exit after)))
     emitted only forms temporaries (Compare op left right) temporary arrays exit after =
         let form = form_of forms left in
         emitted false forms temporaries left temporary arrays exit (immediate_or op form (immediate_in (is_value form) right) temporary exit after
@@ -315,44 +332,61 @@ module _ (layout : Layout) where
     emitted only forms temporaries Ask temporary arrays exit after = asked row.Getline temporary exit (code_number bases temporary after)
     emitted only forms temporaries (AskLine store) temporary arrays exit after =
         asked row.GetlineVar temporary exit (number_is (number_local bases temporary) 1
-        (when (text_kept row.Line temporary (emitted true (a_value ∷ forms) (suc temporary ∷ temporaries) store (suc (suc temporary)) arrays (suc exit) (text_let_go forms store temporary Done))) (code_number bases temporary after)))
+        (when (text_kept row.Line temporary (emitted true (a_value ∷ forms) (suc temporary ∷ temporaries) store (suc (suc temporary)) arrays (suc exit)
+        (text_let_go forms store temporary Done))) (code_number bases temporary after)))
     emitted only forms temporaries (FileLine file store) temporary arrays exit after =
         emitted false forms temporaries file temporary arrays exit (to_value bases (form_of forms file) temporary (moved_out (handle_local bases temporary)
         (ask_row row.GetlineVarFile (kept_code bases true temporary exit (number_is (number_local bases temporary) 1
-        (when (text_kept row.Line temporary (emitted true (a_value ∷ forms) (suc temporary ∷ temporaries) store (suc (suc temporary)) arrays (suc exit) (text_let_go forms store temporary Done))) (code_number bases temporary after)))))))
+        (when (text_kept row.Line temporary (emitted true (a_value ∷ forms) (suc temporary ∷ temporaries) store (suc (suc temporary)) arrays (suc exit)
+        (text_let_go forms store temporary Done))) (code_number bases temporary after)))))))
     emitted only forms temporaries (Replace all operands store) temporary arrays exit after =
-        all_emitted forms temporaries operands temporary arrays exit (all_converted forms three_values operands temporary exit (all_pushed three_values operands temporary
+        all_emitted forms temporaries operands temporary arrays exit
+        (all_converted forms three_values operands temporary exit (all_pushed three_values operands temporary
         (does (I32Const (flag_number all)) (ask_row row.Sub (kept bases true (answer.Of sort.Number) temporary exit
         (does (LocalGet (number_local bases temporary)) (does (Test I64 Eqz)
-        (either Done (text_kept row.SubResult temporary (emitted true (a_value ∷ forms) (suc temporary ∷ temporaries) store (suc (suc temporary)) arrays (suc exit) (text_let_go forms store temporary Done))) after))))))))
-    emitted only forms temporaries (Number number) temporary arrays exit after = does (I64Const (cast_unsigned w64 number)) (does (LocalSet (number_local bases temporary)) after)
-    emitted only forms temporaries (Text text) temporary arrays exit after = text_pushed text (ask_row row.Lit (does (LocalSet (handle_local bases temporary)) after))
+        (either Done (text_kept row.SubResult temporary
+        (emitted true (a_value ∷ forms) (suc temporary ∷ temporaries) store (suc (suc temporary)) arrays (suc exit)
+        (text_let_go forms store temporary Done))) after))))))))
+    emitted only forms temporaries (Number number) temporary arrays exit after =
+        does (I64Const (cast_unsigned w64 number)) (does (LocalSet (number_local bases temporary)) after)
+    emitted only forms temporaries (Text text) temporary arrays exit after =
+        text_pushed text (ask_row row.Lit (does (LocalSet (handle_local bases temporary)) after))
     emitted only forms temporaries Unset temporary arrays exit after = does (I64Const least) (does (LocalSet (number_local bases temporary)) after)
     emitted only forms temporaries (Get slot) temporary arrays exit after = slot_read slot temporary after
-    emitted only forms temporaries (Set slot value) temporary arrays exit after = emitted false forms temporaries value temporary arrays exit (slot_set only slot (form_of forms value) temporary after)
+    emitted only forms temporaries (Set slot value) temporary arrays exit after =
+        emitted false forms temporaries value temporary arrays exit (slot_set only slot (form_of forms value) temporary after)
     emitted only forms temporaries (Array array) temporary arrays exit after = after
-    emitted only forms temporaries (IsOpen item) temporary arrays exit after = does (GlobalGet (range_global item)) (does (Convert I64ExtendI32U) (does (LocalSet (number_local bases temporary)) after))
+    emitted only forms temporaries (IsOpen item) temporary arrays exit after =
+        does (GlobalGet (range_global item)) (does (Convert I64ExtendI32U) (does (LocalSet (number_local bases temporary)) after))
     emitted only forms temporaries (Choose wanted test so otherwise) temporary arrays exit after =
         emitted false forms temporaries test temporary arrays exit (truth bases (form_of forms test) temporary (either
         (emitted false forms temporaries so temporary arrays (suc exit) (converted bases (form_of forms so) wanted temporary (suc exit) Done))
-        (emitted false forms temporaries otherwise temporary arrays (suc exit) (converted bases (form_of forms otherwise) wanted temporary (suc exit) Done)) after))
+        (emitted false forms temporaries otherwise temporary arrays (suc exit)
+        (converted bases (form_of forms otherwise) wanted temporary (suc exit) Done)) after))
     emitted only forms temporaries (Seq first second) temporary arrays exit after = emitted true forms temporaries first temporary arrays exit
-        (left_over first (form_of forms first) temporary (emitted only forms temporaries second temporary arrays exit (sequence_closed only second (form_of forms second) temporary after)))
+        (left_over first (form_of forms first) temporary
+        (emitted only forms temporaries second temporary arrays exit (sequence_closed only second (form_of forms second) temporary after)))
     emitted only forms temporaries (Let value rest) temporary arrays exit after =
         let held = form_of forms value in
-        emitted false forms temporaries value temporary arrays exit (emitted only (held ∷ forms) (temporary ∷ temporaries) rest (suc temporary) arrays exit (keeping_closed only rest held (form_of (held ∷ forms) rest) temporary after))
-    emitted only forms temporaries (Bound moves place) temporary arrays exit after = bound_read only moves (form_at forms place) (get_or temporaries place zero) temporary after
+        emitted false forms temporaries value temporary arrays exit (emitted only (held ∷ forms) (temporary ∷ temporaries) rest (suc temporary) arrays exit
+        (keeping_closed only rest held (form_of (held ∷ forms) rest) temporary after))
+    emitted only forms temporaries (Bound moves place) temporary arrays exit after =
+        bound_read only moves (form_at forms place) (get_or temporaries place zero) temporary after
 
     pub all_emitted : List Form → List ℕ → Codes → (temporary arrays exit : ℕ) → Instructions → Instructions
     all_emitted forms temporaries End temporary arrays exit after = after
-    all_emitted forms temporaries (At code operands) temporary arrays exit after = emitted false forms temporaries code temporary arrays exit (all_emitted forms temporaries operands (suc temporary) arrays exit after)
+    all_emitted forms temporaries (At code operands) temporary arrays exit after =
+        emitted false forms temporaries code temporary arrays exit (all_emitted forms temporaries operands (suc temporary) arrays exit after)
     all_emitted forms temporaries (Fixed number operands) temporary arrays exit after = all_emitted forms temporaries operands temporary arrays exit after
-    all_emitted forms temporaries (Fresh operands) temporary arrays exit after = ask_row row.NewArray (does (LocalSet (array_local bases arrays)) (all_emitted forms temporaries operands temporary (suc arrays) exit after))
+    all_emitted forms temporaries (Fresh operands) temporary arrays exit after =
+        ask_row row.NewArray (does (LocalSet (array_local bases arrays)) (all_emitted forms temporaries operands temporary (suc arrays) exit after))
 
   -- for what it does alone
   abbrev pub dropped : List Form → List ℕ → Code → (temporary arrays exit : ℕ) → Instructions → Instructions
-  dropped forms temporaries code temporary arrays exit after = emitted true forms temporaries code temporary arrays exit (left_over code (form_of forms code) temporary after)
+  dropped forms temporaries code temporary arrays exit after =
+      emitted true forms temporaries code temporary arrays exit (left_over code (form_of forms code) temporary after)
 
   -- its truth, on the stack
   abbrev pub tested : List Form → List ℕ → Code → (temporary arrays exit : ℕ) → Instructions → Instructions
-  tested forms temporaries code temporary arrays exit after = emitted false forms temporaries code temporary arrays exit (truth bases (form_of forms code) temporary after)
+  tested forms temporaries code temporary arrays exit after =
+      emitted false forms temporaries code temporary arrays exit (truth bases (form_of forms code) temporary after)

@@ -83,7 +83,8 @@ first_argument memory _ _ = None
 abbrev pub row_in : List ℕ → (wanted : List Argument) → List Cell → Option (Row wanted)
 row_in memory [] [] = Some tt
 row_in memory [] (cell ∷ cells) = None
-row_in memory (first ∷ wanted) cells = with_some (first_argument memory first cells) (λ found. with_some (row_in memory wanted found.1) (λ rest. Some (found.0, rest)))
+row_in memory (first ∷ wanted) cells =
+    with_some (first_argument memory first cells) (λ found. with_some (row_in memory wanted found.1) (λ rest. Some (found.0, rest)))
 
 -- `dup` and `iter_next` take nothing: they only look. An array is freed by who owns it.
 abbrev pub taken : List ℕ → (import : Import) → List Cell → Option (Row (import_arguments import))
@@ -139,7 +140,8 @@ or_fault false given = Ok given
 
 -- a primitive leaves the argument list as it is
 abbrev pub primitive_acts : {A : Type 0} → List AnyValue → (faults : Bool) → Does (OrFault faults A) → Acts A
-primitive_acts arguments faults done = record { does = record { added = done.added; inner = done.inner; answer = or_fault faults done.answer }; arguments = arguments }
+primitive_acts arguments faults done =
+    record { does = record { added = done.added; inner = done.inner; answer = or_fault faults done.answer }; arguments = arguments }
 
 -- the last values of the argument list, and those before them
 abbrev pub last_of : ℕ → List AnyValue → List AnyValue
@@ -157,7 +159,8 @@ only_answers host arguments = record { does = gives host.shared (Ok tt); argumen
 
 -- a call that is out of turn does nothing here: a module makes none
 abbrev pub acts : (import : Import) → Row (import_arguments import) → Host → Option (Acts (InAnswer (import_answer import)))
-acts (Of primitive) given host = where_so (in_turn primitive given host.shared) (Some (primitive_acts host.arguments (can_fault primitive) (meaning primitive given host.shared)))
+acts (Of primitive) given host =
+    where_so (in_turn primitive given host.shared) (Some (primitive_acts host.arguments (can_fault primitive) (meaning primitive given host.shared)))
 acts (Over Sprintf) given host = listed_acts listed.Sprintf (values_taken listed.Sprintf given.0) host
 acts (Over Print) given host = listed_acts (listed.Print given.1.0) (values_taken (listed.Print given.1.0) given.0) host
 acts (Over Printf) given host = listed_acts (listed.Printf given.1.0) (values_taken (listed.Printf given.1.0) given.0) host
@@ -167,16 +170,20 @@ acts IterFree given host = Some (only_answers host host.arguments)
 acts FreeArray given host = Some (only_answers host host.arguments)
 
 abbrev pub replied : (wanted : Answer) → Host → Acts (InAnswer wanted) → Result (InAnswer wanted) Fault → Option Cell × Host
-replied wanted host done (Ok given) = (cell_of wanted given, record { shared = shared_after host.shared done.does; arguments = done.arguments; fault = host.fault })
-replied wanted host done (Err fault) = (fault_cell wanted, record { shared = shared_after host.shared done.does; arguments = done.arguments; fault = Some fault })
+replied wanted host done (Ok given) =
+    (cell_of wanted given, record { shared = shared_after host.shared done.does; arguments = done.arguments; fault = host.fault })
+replied wanted host done (Err fault) =
+    (fault_cell wanted, record { shared = shared_after host.shared done.does; arguments = done.arguments; fault = Some fault })
 
 abbrev pub acted : (import : Import) → Host → Option (Row (import_arguments import)) → Option (Option Cell × Host)
-acted import host given = with_some given (λ operands. with_some (acts import operands host) (λ done. Some (replied (import_answer import) host done done.does.answer)))
+acted import host given =
+    with_some given (λ operands. with_some (acts import operands host) (λ done. Some (replied (import_answer import) host done done.does.answer)))
 
 -- once a fault is kept these still let go, and the others only refuse: nothing that is owned may be given to them
 
 abbrev pub after_fault : List ℕ → (import : Import) → List Cell → Host → Option (Option Cell × Host)
-after_fault memory import cells host = if lets_go import then acted import host (taken memory import cells) else where_so (none_owned cells) (Some (fault_cell (import_answer import), host))
+after_fault memory import cells host =
+    if lets_go import then acted import host (taken memory import cells) else where_so (none_owned cells) (Some (fault_cell (import_answer import), host))
 
 abbrev pub call : List ℕ → (import : Import) → List Cell → Host → Option (Option Cell × Host)
 call memory import cells host = elim host.fault [ None ↦ acted import host (taken memory import cells) | Some fault ↦ after_fault memory import cells host ]

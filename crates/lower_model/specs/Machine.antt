@@ -71,7 +71,8 @@ pub record Code : Type 0 where
 -- at work; at work where the topmost operand is a look at a local; ended with a word; a call too deep
 pub data Conf : Type 0 where
   Run : (kinds : List Kind) (stack : List Cell) (labels : List Label) (locals : List Cell) (callers : List Frame) (rest : Instructions) (store : Store) → Conf
-  Look : (local : ℕ) (kinds : List Kind) (stack : List Cell) (labels : List Label) (locals : List Cell) (callers : List Frame) (rest : Instructions) (store : Store) → Conf
+  Look : (local : ℕ)
+      (kinds : List Kind) (stack : List Cell) (labels : List Label) (locals : List Cell) (callers : List Frame) (rest : Instructions) (store : Store) → Conf
   Over : Cell → Store → Conf
   Deep : Store → Conf
   Stuck : Conf
@@ -83,7 +84,9 @@ guarded false next = Stuck
 -- constants take no step
 abbrev pub at : List Kind → List Cell → List Label → List Cell → List Frame → Instructions → Store → Conf
 at kinds stack labels locals callers Done store = Run kinds stack labels locals callers Done store
-at kinds stack labels locals callers (Then instruction rest) store = elim (constant_of instruction) [ Some word ↦ at kinds (Bits word ∷ stack) labels locals callers rest store | None ↦ Run kinds stack labels locals callers (Then instruction rest) store ]
+at kinds stack labels locals callers (Then instruction rest) store =
+    elim (constant_of instruction) [ Some word ↦ at kinds (Bits word ∷ stack) labels locals callers rest store
+    | None ↦ Run kinds stack labels locals callers (Then instruction rest) store ]
 
 -- what may come next after a look
 abbrev pub takes_look : Instructions → Bool
@@ -153,24 +156,28 @@ all_live locals callers globals (cell ∷ cells) = live_if_lent locals callers g
 -- a branch past so many labels
 abbrev pub br : ℕ → List Kind → List Label → List Cell → List Frame → Store → Conf
 br depth kinds [] locals callers store = Stuck
-br zero kinds (inner ∷ labels) locals callers store = elim inner.again [ Some body ↦ at kinds [] (inner ∷ labels) locals callers body store | None ↦ at kinds inner.under labels locals callers inner.rest store ]
+br zero kinds (inner ∷ labels) locals callers store =
+    elim inner.again [ Some body ↦ at kinds [] (inner ∷ labels) locals callers body store | None ↦ at kinds inner.under labels locals callers inner.rest store ]
 br (suc depth) kinds (inner ∷ labels) locals callers store = br depth kinds labels locals callers store
 
 abbrev pub br_if : ℕ → List Kind → List Cell → List Label → List Cell → List Frame → Instructions → Store → Conf
-br_if depth kinds (Bits (I32 number) ∷ stack) labels locals callers rest store = guarded (none_owned stack) (cond (nat_eq number 0) (at kinds stack labels locals callers rest store) (br depth kinds labels locals callers store))
+br_if depth kinds (Bits (I32 number) ∷ stack) labels locals callers rest store =
+    guarded (none_owned stack) (cond (nat_eq number 0) (at kinds stack labels locals callers rest store) (br depth kinds labels locals callers store))
 br_if depth kinds _ labels locals callers rest store = Stuck
 
 abbrev pub label : List Cell → Option Instructions → Instructions → Label
 label stack again rest = record { under = stack; again = again; rest = rest }
 
 abbrev pub choose : Instructions → Instructions → List Kind → List Cell → List Label → List Cell → List Frame → Instructions → Store → Conf
-choose so otherwise kinds (Bits (I32 number) ∷ stack) labels locals callers rest store = guarded (none_owned stack) (at kinds [] (label stack None rest ∷ labels) locals callers (cond (nat_eq number 0) otherwise so) store)
+choose so otherwise kinds (Bits (I32 number) ∷ stack) labels locals callers rest store =
+    guarded (none_owned stack) (at kinds [] (label stack None rest ∷ labels) locals callers (cond (nat_eq number 0) otherwise so) store)
 choose so otherwise kinds _ labels locals callers rest store = Stuck
 
 -- a cell of a store is moved; only an array's owner lends its number where it is stored
 abbrev pub set_local : ℕ → List Kind → List Cell → List Label → List Cell → List Frame → Instructions → Store → Conf
 set_local local kinds [] labels locals callers rest store = Stuck
-set_local local kinds (cell ∷ stack) labels locals callers rest store = guarded (has_room locals local) (at kinds stack labels (set locals local cell) callers rest store)
+set_local local kinds (cell ∷ stack) labels locals callers rest store =
+    guarded (has_room locals local) (at kinds stack labels (set locals local cell) callers rest store)
 
 abbrev pub teed : Cell → ℕ → List Kind → List Cell → List Label → List Cell → List Frame → Instructions → Store → Conf
 teed (Bits word) local kinds stack labels locals callers rest store = at kinds (Bits word ∷ stack) labels locals callers rest store
@@ -182,7 +189,8 @@ teed Gone local kinds stack labels locals callers rest store = Stuck
 
 abbrev pub tee_local : ℕ → List Kind → List Cell → List Label → List Cell → List Frame → Instructions → Store → Conf
 tee_local local kinds [] labels locals callers rest store = Stuck
-tee_local local kinds (cell ∷ stack) labels locals callers rest store = guarded (has_room locals local) (teed cell local kinds stack labels (set locals local cell) callers rest store)
+tee_local local kinds (cell ∷ stack) labels locals callers rest store =
+    guarded (has_room locals local) (teed cell local kinds stack labels (set locals local cell) callers rest store)
 
 -- an assignment is made once its value stands in a global; words come into globals before
 abbrev pub assigning_then : Cell → Option ℕ → Option ℕ
@@ -203,7 +211,8 @@ width import = length (params_of (import_arguments import))
 
 abbrev pub with_answer : Option (Option Cell × Host) → List Kind → List Cell → List Label → List Cell → List Frame → Instructions → Store → Conf
 with_answer None kinds stack labels locals callers rest store = Stuck
-with_answer (Some answer) kinds stack labels locals callers rest store = at kinds (onto answer.0 stack) labels locals callers rest (record store { host = answer.1 })
+with_answer (Some answer) kinds stack labels locals callers rest store =
+    at kinds (onto answer.0 stack) labels locals callers rest (record store { host = answer.1 })
 
 -- an assignment begins where code asks for the name of the one that is pending
 abbrev pub number_pending : Option (ℕ × Value) → Option ℕ
@@ -218,19 +227,22 @@ abbrev pub ask : List ℕ → Option Import → List Kind → List Cell → List
 ask memory None kinds stack labels locals callers rest store = Stuck
 ask memory (Some import) kinds stack labels locals callers rest store =
     let given = reverse (take (width import) stack) in
-    guarded (all_live locals callers store.globals given) (with_answer (call memory import given store.host) kinds (drop (width import) stack) labels locals callers rest
+    guarded (all_live locals callers store.globals given)
+    (with_answer (call memory import given store.host) kinds (drop (width import) stack) labels locals callers rest
     (record store { assigning = assigning_after import store }))
 
 abbrev pub ask_looking : Option Import → Cell → List Kind → List Cell → List Label → List Cell → List Frame → Instructions → Store → Conf
 ask_looking None cell kinds stack labels locals callers rest store = Stuck
-ask_looking (Some import) cell kinds stack labels locals callers rest store = with_answer (look import cell store.host) kinds stack labels locals callers rest store
+ask_looking (Some import) cell kinds stack labels locals callers rest store =
+    with_answer (look import cell store.host) kinds stack labels locals callers rest store
 
 abbrev pub zeros : List ValType → List Cell
 zeros types = map (λ valtype. Bits (zero_of valtype)) types
 
 -- an iterator for each loop over keys that is walked, and no other: such a loop begins with the call for its next key
 abbrev pub is_walk : Option Instructions → Bool
-is_walk (Some (Then (Plain (LocalGet local)) (Then (Plain (LocalTee looked)) (Then (Plain (Call function)) rest)))) = nat_eq function (import_number (Of row.IterNext))
+is_walk (Some (Then (Plain (LocalGet local)) (Then (Plain (LocalTee looked)) (Then (Plain (Call function)) rest)))) =
+    nat_eq function (import_number (Of row.IterNext))
 is_walk _ = false
 
 abbrev pub loops_walked : List Label → ℕ
@@ -255,7 +267,8 @@ freed_next _ = 0
 
 -- a caller that waits holds operands that are pending, its iterators, and arrays that were made for this call, which are let go right after it
 abbrev pub waits : List Kind → List Label → List Cell → Instructions → Bool
-waits kinds labels locals rest = locals_wait (answers_to rest) kinds locals && (nat_eq (iterators_in locals) (loops_walked labels) && nat_le (arrays_owned locals) (freed_next rest))
+waits kinds labels locals rest =
+    locals_wait (answers_to rest) kinds locals && (nat_eq (iterators_in locals) (loops_walked labels) && nat_le (arrays_owned locals) (freed_next rest))
 
 -- the arguments are the first locals; nothing that is owned waits on the stack of a caller
 abbrev pub enter : ℕ → Option Callee → List Kind → List Cell → List Label → List Cell → List Frame → Instructions → Store → Conf
@@ -265,7 +278,8 @@ enter deepest (Some callee) kinds stack labels locals callers rest store =
     let under = drop count stack in
     guarded ((nat_le count (length stack) && none_owned under) && waits kinds labels locals rest)
     (cond (nat_lt (length callers) deepest)
-    (at callee.kinds [] [] (reverse (take count stack) ++ zeros callee.locals) (record { kinds = kinds; under = under; labels = labels; locals = locals; rest = rest } ∷ callers) callee.body store)
+    (at callee.kinds [] [] (reverse (take count stack) ++ zeros callee.locals)
+    (record { kinds = kinds; under = under; labels = labels; locals = locals; rest = rest } ∷ callers) callee.body store)
     (Deep store))
 
 -- where `main` ends names have what they are to have, unless a fault is kept
@@ -275,12 +289,14 @@ ending_name (Some fault) kind cell = ended_name kind cell
 
 -- the end of a function, with its answer
 abbrev pub leave_function : Code → Cell → List Frame → Store → Conf
-leave_function code cell [] store = guarded (not (is_owned cell) && globals_by (ending_name store.host.fault) code.before code.names store.globals) (Over cell store)
+leave_function code cell [] store =
+    guarded (not (is_owned cell) && globals_by (ending_name store.host.fault) code.before code.names store.globals) (Over cell store)
 leave_function code cell (caller ∷ callers) store = at caller.kinds (cell ∷ caller.under) caller.labels caller.locals callers caller.rest store
 
 -- the end of a block, or of the function
 abbrev pub leave : Code → List Kind → List Cell → List Label → List Cell → List Frame → Store → Conf
-leave code kinds stack (inner ∷ labels) locals callers store = guarded (none_owned stack) (at kinds (stack ++ inner.under) labels locals callers inner.rest store)
+leave code kinds stack (inner ∷ labels) locals callers store =
+    guarded (none_owned stack) (at kinds (stack ++ inner.under) labels locals callers inner.rest store)
 leave code kinds [] [] locals callers store = Stuck
 leave code kinds (cell ∷ stack) [] locals callers store = guarded (none_owned stack && none_owned locals) (leave_function code cell callers store)
 
@@ -300,15 +316,19 @@ with_operands None kinds labels locals callers rest store = Stuck
 with_operands (Some stack) kinds labels locals callers rest store = at kinds stack labels locals callers rest store
 
 abbrev pub call_number : Code → ℕ → List Kind → List Cell → List Label → List Cell → List Frame → Instructions → Store → Conf
-call_number code function kinds stack labels locals callers rest store = cond (nat_lt function import_count) (ask code.memory (import_at function) kinds stack labels locals callers rest store)
+call_number code function kinds stack labels locals callers rest store =
+    cond (nat_lt function import_count) (ask code.memory (import_at function) kinds stack labels locals callers rest store)
     (enter code.deepest (slice_get code.callees (function - import_count)) kinds stack labels locals callers rest store)
 
 abbrev pub noted : Code → Instructions → Store → Store
 noted code rest store = record store { host = record store.host { shared = record store.host.shared { output = code.notes rest store.host.shared.output } } }
 
 abbrev pub act : Code → Simple → List Kind → List Cell → List Label → List Cell → List Frame → Instructions → Store → Conf
-act code Nop kinds stack labels locals callers rest store = guarded (tidy code kinds stack labels locals store) (at kinds stack labels locals callers rest (noted code (Then (Plain Nop) rest) store))
-act code (LocalGet local) kinds stack labels locals callers rest store = guarded (nat_lt local (length locals)) (at kinds (cell_at locals local ∷ stack) labels (set locals local (left_by (cell_at locals local))) callers rest store)
+act code Nop kinds stack labels locals callers rest store =
+    guarded (tidy code kinds stack labels locals store) (at kinds stack labels locals callers rest (noted code (Then (Plain Nop) rest) store))
+act code (LocalGet local) kinds stack labels locals callers rest store =
+    guarded (nat_lt local (length locals))
+    (at kinds (cell_at locals local ∷ stack) labels (set locals local (left_by (cell_at locals local))) callers rest store)
 act code (LocalSet local) kinds stack labels locals callers rest store = set_local local kinds stack labels locals callers rest store
 act code (LocalTee local) kinds stack labels locals callers rest store = tee_local local kinds stack labels locals callers rest store
 act code (GlobalGet global) kinds stack labels locals callers rest store = at kinds (read_global (cell_at store.globals global)
@@ -321,8 +341,10 @@ act code simple kinds stack labels locals callers rest store = with_operands (op
 
 abbrev pub work : Code → Instruction → List Kind → List Cell → List Label → List Cell → List Frame → Instructions → Store → Conf
 work code (Plain simple) kinds stack labels locals callers rest store = act code simple kinds stack labels locals callers rest store
-work code (Block None inside) kinds stack labels locals callers rest store = guarded (none_owned stack) (at kinds [] (label stack None rest ∷ labels) locals callers inside store)
-work code (Loop None inside) kinds stack labels locals callers rest store = guarded (none_owned stack) (at kinds [] (label stack (Some inside) rest ∷ labels) locals callers inside store)
+work code (Block None inside) kinds stack labels locals callers rest store =
+    guarded (none_owned stack) (at kinds [] (label stack None rest ∷ labels) locals callers inside store)
+work code (Loop None inside) kinds stack labels locals callers rest store =
+    guarded (none_owned stack) (at kinds [] (label stack (Some inside) rest ∷ labels) locals callers inside store)
 work code (If None so otherwise) kinds stack labels locals callers rest store = choose so otherwise kinds stack labels locals callers rest store
 work code _ kinds stack labels locals callers rest store = Stuck
 
@@ -333,7 +355,8 @@ run code kinds stack labels locals callers (Then instruction rest) store = work 
 abbrev pub run_looking : Code → ℕ → List Kind → List Cell → List Label → List Cell → List Frame → Instructions → Store → Conf
 run_looking code local kinds stack labels locals callers (Then (Plain (I32Const number)) (Then (Plain (Compare ty.I32 op)) rest)) store = with_operands
     (push_word stack (looked_compared op (cell_at locals local) number)) kinds labels locals callers rest store
-run_looking code local kinds stack labels locals callers (Then (Plain (Call function)) rest) store = ask_looking (import_at function) (cell_at locals local) kinds stack labels locals callers rest store
+run_looking code local kinds stack labels locals callers (Then (Plain (Call function)) rest) store =
+    ask_looking (import_at function) (cell_at locals local) kinds stack labels locals callers rest store
 run_looking code local kinds stack labels locals callers rest store = Stuck
 
 abbrev pub step : Code → Conf → Conf

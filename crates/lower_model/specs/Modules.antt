@@ -92,7 +92,8 @@ imported_from number (import ∷ rest) = (record { from = module_name; name = im
 
 abbrev pub functions_from : List Bool → ℕ → List Callee → List FuncForm
 functions_from called number [] = []
-functions_from called number (function ∷ functions) = (record { ty = number; locals = function.locals; body = renumbered called function.body }) ∷ functions_from called (suc number) functions
+functions_from called number (function ∷ functions) =
+    (record { ty = number; locals = function.locals; body = renumbered called function.body }) ∷ functions_from called (suc number) functions
 
 -- Globals: the two of the module, those of ranges, and those of names, which have nothing yet.
 

@@ -39,38 +39,53 @@ module _ (notes : Notes) (layout : Layout) (texts : List (List ℕ)) (parameters
 
   unfoldable mutual
     pub step_noted : Step → (iterators exit break_to continue_to : ℕ) → Instructions → Doing Flow
-    step_noted (Eval code) iterators exit break_to continue_to following = plain_noted (Eval code) (step_emitted layout (Eval code) iterators exit break_to continue_to following)
-    step_noted (Block steps) iterators exit break_to continue_to following = noted notes (step_emitted layout (Block steps) iterators exit break_to continue_to following) >> steps_noted steps iterators exit break_to continue_to following
+    step_noted (Eval code) iterators exit break_to continue_to following =
+        plain_noted (Eval code) (step_emitted layout (Eval code) iterators exit break_to continue_to following)
+    step_noted (Block steps) iterators exit break_to continue_to following =
+        noted notes (step_emitted layout (Block steps) iterators exit break_to continue_to following)
+        >> steps_noted steps iterators exit break_to continue_to following
     step_noted (If test so otherwise) iterators exit break_to continue_to following =
-        let when_so = if is_some (pair_in test) then step_noted so iterators (suc (suc exit)) (suc (suc break_to)) (suc (suc continue_to)) (instruction (Br 1) Done) else
+        let when_so = if is_some (pair_in test)
+        then step_noted so iterators (suc (suc exit)) (suc (suc break_to)) (suc (suc continue_to)) (instruction (Br 1) Done) else
         step_noted so iterators (suc exit) (suc break_to) (suc continue_to) Done in
-        noted notes (step_emitted layout (If test so otherwise) iterators exit break_to continue_to following) >> holds texts parameters turns calls test >>= λ truth. if truth then when_so else
+        noted notes (step_emitted layout (If test so otherwise) iterators exit break_to continue_to following)
+        >> holds texts parameters turns calls test >>= λ truth. if truth then when_so else
         step_noted otherwise iterators (suc exit) (suc break_to) (suc continue_to) Done
     step_noted (Loop true test body last) iterators exit break_to continue_to following =
         let back = instruction (Br zero) Done in
         let rest = if is_nothing last then back else step_emitted layout last iterators (suc (suc exit)) 1 zero back in
-        let round = if step_jumps body then step_noted body iterators (suc (suc (suc exit))) 2 zero Done else step_noted body iterators (suc (suc exit)) 1 zero rest in
+        let round = if step_jumps body
+        then step_noted body iterators (suc (suc (suc exit))) 2 zero Done else step_noted body iterators (suc (suc exit)) 1 zero rest in
         let between = if is_nothing last then nothing else (step_noted last iterators (suc (suc exit)) 1 zero back >> nothing) in
-        noted notes (step_emitted layout (Loop true test body last) iterators exit break_to continue_to following) >> loop turns (holds texts parameters turns calls test) round between
+        noted notes (step_emitted layout (Loop true test body last) iterators exit break_to continue_to following)
+        >> loop turns (holds texts parameters turns calls test) round between
     step_noted (Loop false test body last) iterators exit break_to continue_to following =
         let tests = noted notes (test_place layout test (suc (suc exit))) >> holds texts parameters turns calls test in
         let round = step_noted body iterators (suc (suc (suc exit))) 2 zero Done in
         let between = step_noted last iterators (suc (suc exit)) 1 zero (test_place layout test (suc (suc exit))) >> nothing in
-        noted notes (step_emitted layout (Loop false test body last) iterators exit break_to continue_to following) >> round >>= λ flow. after_round flow (between >> loop turns tests round between)
+        noted notes (step_emitted layout (Loop false test body last) iterators exit break_to continue_to following)
+        >> round >>= λ flow. after_round flow (between >> loop turns tests round between)
     step_noted (Each array store body) iterators exit break_to continue_to following =
-        noted notes (step_emitted layout (Each array store body) iterators exit break_to continue_to following) >> array_number array >>= λ owner. does row.Iter (owner, tt) >>= λ keys.
+        noted notes (step_emitted layout (Each array store body) iterators exit break_to continue_to following)
+        >> array_number array >>= λ owner. does row.Iter (owner, tt) >>= λ keys.
         over_keys turns keys (keyed texts parameters turns calls store) (step_noted body (suc iterators) (suc (suc (suc exit))) 2 zero Done)
     step_noted Break iterators exit break_to continue_to following = plain_noted Break (step_emitted layout Break iterators exit break_to continue_to following)
-    step_noted Continue iterators exit break_to continue_to following = plain_noted Continue (step_emitted layout Continue iterators exit break_to continue_to following)
+    step_noted Continue iterators exit break_to continue_to following =
+        plain_noted Continue (step_emitted layout Continue iterators exit break_to continue_to following)
     step_noted Next iterators exit break_to continue_to following = plain_noted Next (step_emitted layout Next iterators exit break_to continue_to following)
     step_noted Exit iterators exit break_to continue_to following = plain_noted Exit (step_emitted layout Exit iterators exit break_to continue_to following)
-    step_noted (ExitWith code) iterators exit break_to continue_to following = plain_noted (ExitWith code) (step_emitted layout (ExitWith code) iterators exit break_to continue_to following)
-    step_noted (Return code) iterators exit break_to continue_to following = plain_noted (Return code) (step_emitted layout (Return code) iterators exit break_to continue_to following)
-    step_noted (Mark item opens) iterators exit break_to continue_to following = plain_noted (Mark item opens) (step_emitted layout (Mark item opens) iterators exit break_to continue_to following)
+    step_noted (ExitWith code) iterators exit break_to continue_to following =
+        plain_noted (ExitWith code) (step_emitted layout (ExitWith code) iterators exit break_to continue_to following)
+    step_noted (Return code) iterators exit break_to continue_to following =
+        plain_noted (Return code) (step_emitted layout (Return code) iterators exit break_to continue_to following)
+    step_noted (Mark item opens) iterators exit break_to continue_to following =
+        plain_noted (Mark item opens) (step_emitted layout (Mark item opens) iterators exit break_to continue_to following)
 
     pub steps_noted : Steps → (iterators exit break_to continue_to : ℕ) → Instructions → Doing Flow
     steps_noted NoStep iterators exit break_to continue_to following = give Normal
-    steps_noted (Then step steps) iterators exit break_to continue_to following = step_noted step iterators exit break_to continue_to (steps_emitted layout steps iterators exit break_to continue_to following) >>= λ flow. after flow (steps_noted steps iterators exit break_to continue_to following)
+    steps_noted (Then step steps) iterators exit break_to continue_to following =
+        step_noted step iterators exit break_to continue_to (steps_emitted layout steps iterators exit break_to continue_to following)
+        >>= λ flow. after flow (steps_noted steps iterators exit break_to continue_to following)
 
 -- Calls, and whole programs.
 
@@ -82,12 +97,16 @@ unfoldable pub noted_called : Notes → Program → ℕ → Calls
 noted_called notes program zero function locals = stop OutOfTurns
 noted_called notes program (suc turns) function locals =
     let routine = routine_at program.routines function in
-    entered locals (steps_noted notes (layout_of program (routine_bases routine)) program.texts (calls_of program) turns (noted_called notes program turns) routine.body zero zero zero zero
+    entered locals
+    (steps_noted notes (layout_of program (routine_bases routine)) program.texts (calls_of program) turns (noted_called notes program turns) routine.body
+    zero zero zero zero
     (routine_rest (routine_bases routine)))
 
 -- steps of `main`, with the code after them
 abbrev pub noted_done : Notes → Program → Bases → ℕ → Steps → Instructions → Doing (Unit {0})
-noted_done notes program bases turns steps following = steps_noted notes (layout_of program bases) program.texts (calls_of program) turns (noted_called notes program turns) steps zero zero zero zero following >> nothing
+noted_done notes program bases turns steps following =
+    steps_noted notes (layout_of program bases) program.texts (calls_of program) turns (noted_called notes program turns) steps zero zero zero zero following
+    >> nothing
 
 abbrev pub out_of_part : Instructions
 out_of_part = instruction (Br 1) Done

@@ -32,7 +32,8 @@ pub record Within : Type 0 where
 
 -- 1 where the word that is read is none of them
 abbrev pub unsure : Simple → ℤ → ℕ → Instructions → Instructions
-unsure get shift width after = does get (does (I64Const (cast_unsigned w64 shift)) (does (Binary I64 Add) (does (I64Const width) (does (Comparing I64 GtU) after))))
+unsure get shift width after =
+    does get (does (I64Const (cast_unsigned w64 shift)) (does (Binary I64 Add) (does (I64Const width) (does (Comparing I64 GtU) after))))
 
 abbrev pub name_in : Code → Option ℕ
 name_in (Get (Global true name)) = Some name
@@ -121,7 +122,8 @@ sum_op inline.Minus = Sub
 sum_op op = Add
 
 abbrev pub sum_of : ℕ → Arithmetic → Option Source → Option Source → Option Sum
-sum_of target op (Some left) (Some right) = if is_sum op && (is_near left && is_near right) then Some (record { target = target; op = op; left = left; right = right }) else None
+sum_of target op (Some left) (Some right) =
+    if is_sum op && (is_near left && is_near right) then Some (record { target = target; op = op; left = left; right = right }) else None
 sum_of target op left right = None
 
 -- `n = a + e`
@@ -249,13 +251,15 @@ element_last moves others last (Seq store answer) = array_where (is_bound true l
 element_last moves others last answer = None
 
 abbrev pub tally_of : Arithmetic → Code → Code → Option ArrayName → Option ArrayName → Option Tally
-tally_of op key added (Some read) (Some written) = if is_sum op then Some (record { read = read; written = written; key = key; op = op; added = added }) else None
+tally_of op key added (Some read) (Some written) =
+    if is_sum op then Some (record { read = read; written = written; key = key; op = op; added = added }) else None
 tally_of op key added read written = None
 
 -- an operator with two operands, where something was kept after the key: `a[k] += e`, what is added, or `a[k]++`, the number before
 abbrev pub tally_by : Arithmetic → (key kept left right store : Code) → Option Tally
 tally_by op key kept left (Bound true zero) store = tally_of op key kept (element_read 1 left) (element_last false 2 zero store)
-tally_by op key kept left (Number right) store = tally_of op key (Number right) (array_where (is_bound false zero left) (number_read kept)) (element_last true 2 1 store)
+tally_by op key kept left (Number right) store =
+    tally_of op key (Number right) (array_where (is_bound false zero left) (number_read kept)) (element_last true 2 1 store)
 tally_by op key kept left right store = None
 
 abbrev pub tally_two : Arithmetic → (key kept : Code) → Codes → Code → Option Tally

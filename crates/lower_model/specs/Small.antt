@@ -97,15 +97,19 @@ module _ (bases : Bases) where
   -- An answer goes to a temporary: a value's handle, a number, or a code as a number. Where it may stand for a fault, and does, the function is left.
 
   abbrev pub kept_code : Bool → ℕ → ℕ → Instructions → Instructions
-  kept_code true temporary exit after = does (Convert I64ExtendI32S) (does (LocalTee (number_local bases temporary)) (does (I64Const (2 ^ 64 - 1)) (does (Compare I64 Eq) (does (BrIf exit) after))))
+  kept_code true temporary exit after =
+      does (Convert I64ExtendI32S)
+      (does (LocalTee (number_local bases temporary)) (does (I64Const (2 ^ 64 - 1)) (does (Compare I64 Eq) (does (BrIf exit) after))))
   kept_code false temporary exit after = does (Convert I64ExtendI32U) (does (LocalSet (number_local bases temporary)) after)
 
   abbrev pub kept_value : Bool → ℕ → ℕ → Instructions → Instructions
-  kept_value true temporary exit after = does (LocalTee (handle_local bases temporary)) (does (I32Const minus_one) (does (Compare I32 Eq) (does (BrIf exit) after)))
+  kept_value true temporary exit after =
+      does (LocalTee (handle_local bases temporary)) (does (I32Const minus_one) (does (Compare I32 Eq) (does (BrIf exit) after)))
   kept_value false temporary exit after = does (LocalSet (handle_local bases temporary)) after
 
   abbrev pub kept_number : Bool → ℕ → ℕ → Instructions → Instructions
-  kept_number true temporary exit after = does (LocalTee (number_local bases temporary)) (does (I64Const least) (does (Compare I64 Eq) (does (BrIf exit) after)))
+  kept_number true temporary exit after =
+      does (LocalTee (number_local bases temporary)) (does (I64Const least) (does (Compare I64 Eq) (does (BrIf exit) after)))
   kept_number false temporary exit after = does (LocalSet (number_local bases temporary)) after
 
   abbrev pub kept_done : Bool → ℕ → Instructions → Instructions
@@ -129,13 +133,15 @@ module _ (bases : Bases) where
 
   -- a number, or none yet, as a value on the stack, where `put` takes it
   abbrev pub boxed_perhaps : ℕ → (put : Simple) → Instructions → Instructions
-  boxed_perhaps temporary put after = number_is (number_local bases temporary) least (either (ask_row row.Uninit (does put Done)) (boxed_number temporary (does put Done)) after)
+  boxed_perhaps temporary put after =
+      number_is (number_local bases temporary) least (either (ask_row row.Uninit (does put Done)) (boxed_number temporary (does put Done)) after)
 
   abbrev pub to_value : Form → ℕ → Instructions → Instructions
   to_value (Answered (answer.Of sort.Value)) temporary after = after
   to_value (Answered (answer.Of sort.Number)) temporary after = boxed_number temporary (does (LocalSet (handle_local bases temporary)) after)
   to_value (Answered answer.Truth) temporary after = boxed_number temporary (does (LocalSet (handle_local bases temporary)) after)
-  to_value Bare temporary after = number_is (number_local bases temporary) text_beside (either Done (boxed_perhaps temporary (LocalSet (handle_local bases temporary)) Done) after)
+  to_value Bare temporary after =
+      number_is (number_local bases temporary) text_beside (either Done (boxed_perhaps temporary (LocalSet (handle_local bases temporary)) Done) after)
   to_value Perhaps temporary after = boxed_perhaps temporary (LocalSet (handle_local bases temporary)) after
   to_value _ temporary after = ask_row row.Uninit (does (LocalSet (handle_local bases temporary)) after)
 
@@ -145,7 +151,9 @@ module _ (bases : Bases) where
 
   -- 1 stays, 3 is -1, and all else is 0
   abbrev pub code_number : ℕ → Instructions → Instructions
-  code_number temporary after = number_is (number_local bases temporary) 1 (number_is (number_local bases temporary) 3 (does (Binary I32 Sub) (does (Convert I64ExtendI32S) (does (LocalSet (number_local bases temporary)) after))))
+  code_number temporary after =
+      number_is (number_local bases temporary) 1
+      (number_is (number_local bases temporary) 3 (does (Binary I32 Sub) (does (Convert I64ExtendI32S) (does (LocalSet (number_local bases temporary)) after))))
 
   abbrev pub number_of_value : ℕ → ℕ → Instructions → Instructions
   number_of_value temporary exit after = moved_out (handle_local bases temporary) (ask_row row.ToNum (kept_number true temporary exit after))
@@ -156,7 +164,9 @@ module _ (bases : Bases) where
 
   -- the number of a text beside, and 0 where there is none yet
   abbrev pub number_made : ℕ → ℕ → Instructions → Instructions
-  number_made temporary exit after = number_is (number_local bases temporary) text_beside (either (number_of_value temporary (suc (suc exit)) Done) (does (I64Const 0) (does (LocalSet (number_local bases temporary)) Done)) after)
+  number_made temporary exit after =
+      number_is (number_local bases temporary) text_beside
+      (either (number_of_value temporary (suc (suc exit)) Done) (does (I64Const 0) (does (LocalSet (number_local bases temporary)) Done)) after)
 
   abbrev pub to_number : Form → ℕ → ℕ → Instructions → Instructions
   to_number (Answered (answer.Of sort.Value)) temporary exit after = number_of_value temporary exit after
@@ -206,8 +216,10 @@ module _ (bases : Bases) where
   moved_from _ from to after = number_copied from to after
 
   abbrev pub copied_from : Form → ℕ → ℕ → Instructions → Instructions
-  copied_from (Answered (answer.Of sort.Value)) from to after = copied (LocalGet (handle_local bases from)) (LocalSet (handle_local bases from)) (handle_local bases to) after
-  copied_from Bare from to after = number_copied from to (copied_if_any (LocalGet (handle_local bases from)) (LocalSet (handle_local bases from)) (handle_local bases to) after)
+  copied_from (Answered (answer.Of sort.Value)) from to after =
+      copied (LocalGet (handle_local bases from)) (LocalSet (handle_local bases from)) (handle_local bases to) after
+  copied_from Bare from to after =
+      number_copied from to (copied_if_any (LocalGet (handle_local bases from)) (LocalSet (handle_local bases from)) (handle_local bases to) after)
   copied_from _ from to after = number_copied from to after
 
   abbrev pub bound_from : Bool → Form → ℕ → ℕ → Instructions → Instructions

@@ -83,11 +83,15 @@ module _ (layout : Layout) where
 
   -- of the text beside a name
   abbrev pub number_there : ℕ → (temporary exit : ℕ) → Instructions → Instructions
-  number_there name temporary exit after = copied (GlobalGet (handle_global layout.ranges name)) (GlobalSet (handle_global layout.ranges name)) (handle_local bases temporary) (number_of_value bases temporary exit after)
+  number_there name temporary exit after =
+      copied (GlobalGet (handle_global layout.ranges name)) (GlobalSet (handle_global layout.ranges name)) (handle_local bases temporary)
+      (number_of_value bases temporary exit after)
 
   -- of what a name has that has no number
   abbrev pub number_found : ℕ → (temporary exit : ℕ) → Instructions → Instructions
-  number_found name temporary exit after = number_is (number_local bases temporary) text_beside (either (number_there name temporary (suc (suc exit)) Done) (does (I64Const 0) (does (LocalSet (number_local bases temporary)) Done)) after)
+  number_found name temporary exit after =
+      number_is (number_local bases temporary) text_beside
+      (either (number_there name temporary (suc (suc exit)) Done) (does (I64Const 0) (does (LocalSet (number_local bases temporary)) Done)) after)
 
   -- a name's number in a temporary
   abbrev pub name_numbered : ℕ → (temporary exit : ℕ) → Instructions → Instructions
@@ -110,7 +114,8 @@ module _ (layout : Layout) where
 
   -- the same, and a name takes it
   abbrev pub sum_taken : IBinOp → ℕ → (temporary exit : ℕ) → Instructions → Instructions
-  sum_taken op name temporary exit after = sum_kept op temporary exit (text_dropped layout name (does (LocalGet (number_local bases temporary)) (does (GlobalSet (name_number name)) after)))
+  sum_taken op name temporary exit after =
+      sum_kept op temporary exit (text_dropped layout name (does (LocalGet (number_local bases temporary)) (does (GlobalSet (name_number name)) after)))
 
   abbrev pub summed_anyway : Sum → ℕ → Instructions → Instructions
   summed_anyway sum exit after =
@@ -143,14 +148,17 @@ module _ (layout : Layout) where
 
   -- the element takes that number, and the key is given away
   abbrev pub element_given : ArrayName → Instructions → Instructions
-  element_given array after = array_pushed layout array (moved_out (handle_local bases zero) (does (LocalGet (number_local bases 2)) (ask_row row.Num (ask_row row.SetElem (kept_done bases false zero after)))))
+  element_given array after =
+      array_pushed layout array
+      (moved_out (handle_local bases zero) (does (LocalGet (number_local bases 2)) (ask_row row.Num (ask_row row.SetElem (kept_done bases false zero after)))))
 
   abbrev pub tallied : Tally → ℕ → Instructions → Instructions
   tallied tally exit after =
       let form = form_of [] tally.key in
       emitted layout false [] [] tally.key zero zero exit (emitted layout false (form ∷ []) (zero ∷ []) tally.added 1 zero exit
       (to_value bases form zero (element_numbered tally.read exit (to_number bases (form_of (form ∷ []) tally.added) 1 exit
-      (does (LocalGet (number_local bases 2)) (does (LocalGet (number_local bases 1)) (sum_kept (sum_op tally.op) 2 exit (element_given tally.written after))))))))
+      (does (LocalGet (number_local bases 2))
+      (does (LocalGet (number_local bases 1)) (sum_kept (sum_op tally.op) 2 exit (element_given tally.written after))))))))
 
   -- A name takes a remainder that is in range: by the module itself where no product leaves it.
 
@@ -163,7 +171,8 @@ module _ (layout : Layout) where
   remainder_dropped None code exit after = dropped layout [] [] code zero zero exit after
   remainder_dropped (Some remainder) code exit after =
       let most = most_multiplied remainder.multiple.factor in
-      all_unsure name_read (remainder_names remainder) (pos most) (most + most) (either (dropped layout [] [] code zero zero (suc exit) Done) (remainder_taken remainder Done) after)
+      all_unsure name_read (remainder_names remainder) (pos most) (most + most)
+      (either (dropped layout [] [] code zero zero (suc exit) Done) (remainder_taken remainder Done) after)
 
   abbrev pub barely_dropped : Option Tally → Code → ℕ → Instructions → Instructions
   barely_dropped None code exit after = remainder_dropped (remainder_in code) code exit after
@@ -175,7 +184,8 @@ module _ (layout : Layout) where
 
   abbrev pub quickly_dropped : Option Sum → Code → ℕ → Instructions → Instructions
   quickly_dropped None code exit after = plainly_dropped (update_in code) code exit after
-  quickly_dropped (Some sum) code exit after = all_unsure name_read (sum_names sum) (pos (2 ^ 52)) (2 ^ 53) (either (summed_anyway sum (suc exit) Done) (summed sum Done) after)
+  quickly_dropped (Some sum) code exit after =
+      all_unsure name_read (sum_names sum) (pos (2 ^ 52)) (2 ^ 53) (either (summed_anyway sum (suc exit) Done) (summed sum Done) after)
 
   -- both ways of a comparison are quick
   abbrev pub pair_left : Pair → ℕ → Instructions → Instructions
@@ -203,7 +213,8 @@ module _ (layout : Layout) where
   abbrev pub left_unless : Option Within → Code → (exit out : ℕ) → Instructions → Instructions
   left_unless None test exit out after = left_unless_pair (pair_in test) test exit out after
   left_unless (Some within) test exit out after =
-      unsure (name_read within.name) within.shift within.width (when (tested layout [] [] test zero zero (suc exit) (does (Test I32 Eqz) (does (BrIf (suc out)) Done))) after)
+      unsure (name_read within.name) within.shift within.width
+      (when (tested layout [] [] test zero zero (suc exit) (does (Test I32 Eqz) (does (BrIf (suc out)) Done))) after)
 
   -- Steps: so many iterators are in use; so many labels are between the code and the function's exit, the place where `break` goes, and the one where
   -- `continue` goes.
@@ -214,18 +225,23 @@ module _ (layout : Layout) where
     step_emitted (Either test so otherwise) iterators exit break_to continue_to after =
         does Nop (if is_some (pair_in test)
         then block (block (left_unless_pair (pair_in test) test (suc (suc exit)) zero
-        (step_emitted so iterators (suc (suc exit)) (suc (suc break_to)) (suc (suc continue_to)) (does (Br 1) Done))) (step_emitted otherwise iterators (suc exit) (suc break_to) (suc continue_to) Done)) after
-        else tested layout [] [] test zero zero exit (either (step_emitted so iterators (suc exit) (suc break_to) (suc continue_to) Done) (step_emitted otherwise iterators (suc exit) (suc break_to) (suc continue_to) Done) after))
+        (step_emitted so iterators (suc (suc exit)) (suc (suc break_to)) (suc (suc continue_to)) (does (Br 1) Done)))
+        (step_emitted otherwise iterators (suc exit) (suc break_to) (suc continue_to) Done)) after
+        else tested layout [] [] test zero zero exit (either (step_emitted so iterators (suc exit) (suc break_to) (suc continue_to) Done)
+        (step_emitted otherwise iterators (suc exit) (suc break_to) (suc continue_to) Done) after))
     step_emitted (Loop true test body last) iterators exit break_to continue_to after =
         let rest = if is_nothing last then does (Br zero) Done else step_emitted last iterators (suc (suc exit)) 1 zero (does (Br zero) Done) in
         does Nop (block (again (left_unless (test_within test) test (suc (suc exit)) 1
-        (if step_jumps body then block (step_emitted body iterators (suc (suc (suc exit))) 2 zero Done) rest else step_emitted body iterators (suc (suc exit)) 1 zero rest)) Done) after)
+        (if step_jumps body then block (step_emitted body iterators (suc (suc (suc exit))) 2 zero Done) rest
+        else step_emitted body iterators (suc (suc exit)) 1 zero rest)) Done) after)
     step_emitted (Loop false test body last) iterators exit break_to continue_to after =
         does Nop (block (again (block (step_emitted body iterators (suc (suc (suc exit))) 2 zero Done)
-        (step_emitted last iterators (suc (suc exit)) 1 zero (does Nop (tested layout [] [] test zero zero (suc (suc exit)) (does (BrIf zero) Done))))) Done) after)
+        (step_emitted last iterators (suc (suc exit)) 1 zero
+        (does Nop (tested layout [] [] test zero zero (suc (suc exit)) (does (BrIf zero) Done))))) Done) after)
     step_emitted (Each array store body) iterators exit break_to continue_to after =
         does Nop (array_pushed layout array (ask_row row.Iter (does (LocalSet (iterator_local bases iterators))
-        (block (again (key_stored iterators store (suc (suc exit)) (block (step_emitted body (suc iterators) (suc (suc (suc exit))) 2 zero Done) (does (Br zero) Done))) Done)
+        (block (again (key_stored iterators store (suc (suc exit))
+        (block (step_emitted body (suc iterators) (suc (suc (suc exit))) 2 zero Done) (does (Br zero) Done))) Done)
         (iterator_left iterators after)))))
     step_emitted Break iterators exit break_to continue_to after = does Nop (does (Br break_to) after)
     step_emitted Continue iterators exit break_to continue_to after = does Nop (does (Br continue_to) after)
@@ -237,11 +253,13 @@ module _ (layout : Layout) where
     step_emitted (Return code) iterators exit break_to continue_to after =
         does Nop (emitted layout false [] [] code zero zero exit (to_value bases (form_of [] code) zero
         (moved_out (handle_local bases zero) (does (LocalSet (answer_local bases)) (does (Br exit) after)))))
-    step_emitted (Mark item opens) iterators exit break_to continue_to after = does Nop (does (I32Const (flag_number opens)) (does (GlobalSet (range_global item)) after))
+    step_emitted (Mark item opens) iterators exit break_to continue_to after =
+        does Nop (does (I32Const (flag_number opens)) (does (GlobalSet (range_global item)) after))
 
     pub steps_emitted : Steps → (iterators exit break_to continue_to : ℕ) → Instructions → Instructions
     steps_emitted NoStep iterators exit break_to continue_to after = after
-    steps_emitted (AndThen step steps) iterators exit break_to continue_to after = step_emitted step iterators exit break_to continue_to (steps_emitted steps iterators exit break_to continue_to after)
+    steps_emitted (AndThen step steps) iterators exit break_to continue_to after =
+        step_emitted step iterators exit break_to continue_to (steps_emitted steps iterators exit break_to continue_to after)
 
   -- At a function's beginning its locals for handles, iterators and arrays are empty, and on every way out what they have is let go.
 
@@ -258,7 +276,9 @@ module _ (layout : Layout) where
   arrays_emptied arrays (suc count) after = emptied (array_local bases arrays) (arrays_emptied (suc arrays) count after)
 
   abbrev pub all_emptied : Instructions → Instructions
-  all_emptied after = emptied (answer_local bases) (temporaries_emptied zero bases.temporaries (iterators_emptied zero bases.iterators (arrays_emptied zero bases.arrays after)))
+  all_emptied after =
+      emptied (answer_local bases)
+      (temporaries_emptied zero bases.temporaries (iterators_emptied zero bases.iterators (arrays_emptied zero bases.arrays after)))
 
   abbrev pub temporaries_swept : ℕ → ℕ → Instructions → Instructions
   temporaries_swept temporary zero after = after
@@ -353,7 +373,8 @@ module _ (layout : Layout) where
       after
 
   abbrev pub first_part : Program → Instructions
-  first_part program = steps_emitted program.begin zero zero zero zero (if program.reads then records_read program.items zero (does (Br 1) Done) else does (Br 1) Done)
+  first_part program =
+      steps_emitted program.begin zero zero zero zero (if program.reads then records_read program.items zero (does (Br 1) Done) else does (Br 1) Done)
 
   abbrev pub last_part : Program → Instructions
   last_part program = steps_emitted program.end zero zero zero zero (does (Br 1) Done)

@@ -35,7 +35,8 @@ abbrev pub view_update : Update → plain.Update
 view_update update = record { target = update.target; op = update.op; name = update.name; added = view update.added.now }
 
 abbrev pub view_tally : Tally → plain.Tally
-view_tally tally = record { read = view_array tally.read; written = view_array tally.written; key = view tally.key.now; op = tally.op; added = view tally.added.now }
+view_tally tally =
+    record { read = view_array tally.read; written = view_array tally.written; key = view tally.key.now; op = tally.op; added = view tally.added.now }
 
 abbrev pub view_multiple : Multiple → plain.Multiple
 view_multiple multiple = record { name = multiple.name; factor = multiple.factor }

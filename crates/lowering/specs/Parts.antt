@@ -1,6 +1,6 @@
--- Parts of the definitions, which are added by functions of their own. The words are those of the definitions (lower_model, `Emission`): `after` is the code that
--- comes after, `temporary` the one that the value goes to, `arrays` how many arrays of calls are in use, `exit` how many labels further out the exit is; `iterators`
--- counts those in use.
+-- Parts of the definitions, which are added by functions of their own. The words are those of the definitions (lower_model, `Emission`): `after` is the
+-- code that comes after, `temporary` the one that the value goes to, `arrays` how many arrays of calls are in use, `exit` how many labels further out the
+-- exit is, and `iterators` how many of them are in use.
 use Rattle.std.specs.Prelude.{ℕ, zero, suc, ◌+◌, Bool, true, false, if◌then◌else◌, List, [], ◌∷◌, length, Some, is_some, ℤ, pos, ◌^◌}
 use Rattle.std.specs.Int.{w64, cast_unsigned}
 use Rattle.awk_values.specs.declared.fault.Fault.TheVariants.{NextOutside}
@@ -23,7 +23,8 @@ use Rattle.lowering.specs.declared.around.Around.{Around}
 
 -- the status of this form is set, and the function left by `exit`
 abbrev pub status_left : Bases → Form → ℕ → Instructions → Instructions
-status_left bases form exit after = to_number bases form zero exit (does (LocalGet (number_local bases zero)) (does (GlobalSet status_global) (left_by way_exit exit after)))
+status_left bases form exit after =
+    to_number bases form zero exit (does (LocalGet (number_local bases zero)) (does (GlobalSet status_global) (left_by way_exit exit after)))
 
 -- an answer of this form is given
 abbrev pub answer_left : Bases → Form → ℕ → Instructions → Instructions
@@ -75,7 +76,8 @@ zero_put bases temporary after = does (I64Const 0) (does (LocalSet (number_local
 -- the numbers of a name and of what is added, on the stack
 abbrev pub number_asked : Layout → ℕ → Form → ℕ → Instructions → Instructions
 number_asked layout name form exit after =
-    name_numbered layout name 1 exit (to_number layout.bases form zero exit (does (LocalGet (number_local layout.bases 1)) (does (LocalGet (number_local layout.bases zero)) after)))
+    name_numbered layout name 1 exit
+    (to_number layout.bases form zero exit (does (LocalGet (number_local layout.bases 1)) (does (LocalGet (number_local layout.bases zero)) after)))
 
 -- the number of temporary 0 is put on the stack, and that of the field that a constant gives, by its bits
 abbrev pub field_added : Bases → (bits : ℕ) → Instructions → Instructions
@@ -92,7 +94,8 @@ tally_evaluated layout tally exit after =
 
 -- a second handle of the key asks for the element's number
 abbrev pub element_asked : Bases → Instructions → Instructions
-element_asked bases after = does (LocalGet (handle_local bases zero)) (does (LocalTee (handle_local bases zero)) (ask_row row.Dup (ask_row row.Elem (ask_row row.ToNum after))))
+element_asked bases after =
+    does (LocalGet (handle_local bases zero)) (does (LocalTee (handle_local bases zero)) (ask_row row.Dup (ask_row row.Elem (ask_row row.ToNum after))))
 
 -- the number of the third temporary goes to an element, whose array and key are on the stack
 abbrev pub number_given : Bases → Instructions → Instructions
@@ -101,7 +104,8 @@ number_given bases after = does (LocalGet (number_local bases 2)) (ask_row row.N
 -- an element takes the sum
 abbrev pub sum_given : Layout → Tally → ℕ → Instructions → Instructions
 sum_given layout tally exit after =
-    does (LocalGet (number_local layout.bases 2)) (does (LocalGet (number_local layout.bases 1)) (sum_kept layout (sum_op tally.op) 2 exit (element_given layout tally.written after)))
+    does (LocalGet (number_local layout.bases 2))
+    (does (LocalGet (number_local layout.bases 1)) (sum_kept layout (sum_op tally.op) 2 exit (element_given layout tally.written after)))
 
 -- a turn begins again where the test holds
 abbrev pub tested_on : Layout → Code → ℕ → Instructions → Instructions
@@ -119,7 +123,8 @@ plainly_chosen layout test so otherwise at after =
 abbrev pub quick_way : Layout → Code → Step → Around → Instructions → Instructions
 quick_way layout test so at after =
     let exit = suc (suc at.exit) in
-    left_unless_pair layout (pair_in test) test exit zero (step_emitted layout so at.iterators exit (suc (suc at.break_to)) (suc (suc at.continue_to)) (does (Br 1) after))
+    left_unless_pair layout (pair_in test) test exit zero
+    (step_emitted layout so at.iterators exit (suc (suc at.break_to)) (suc (suc at.continue_to)) (does (Br 1) after))
 
 abbrev pub quick_ways : Layout → Code → Step → Step → Around → Instructions → Instructions
 quick_ways layout test so otherwise at after =
@@ -129,7 +134,8 @@ abbrev pub quickly_chosen : Layout → Code → Step → Step → Around → Ins
 quickly_chosen layout test so otherwise at after = block (quick_ways layout test so otherwise at Done) after
 
 abbrev pub chosen : Layout → Code → Step → Step → Around → Instructions → Instructions
-chosen layout test so otherwise at after = if is_some (pair_in test) then quickly_chosen layout test so otherwise at after else plainly_chosen layout test so otherwise at after
+chosen layout test so otherwise at after =
+    if is_some (pair_in test) then quickly_chosen layout test so otherwise at after else plainly_chosen layout test so otherwise at after
 
 -- the body of a loop
 abbrev pub body_code : Layout → Step → (iterators exit : ℕ) → Instructions
@@ -137,19 +143,23 @@ body_code layout body iterators exit = step_emitted layout body iterators (suc (
 
 -- the body of a loop that begins with its test: in a block where `break` or `continue` leaves it
 abbrev pub turn_body : Layout → Step → (iterators exit : ℕ) → Instructions → Instructions
-turn_body layout body iterators exit after = if step_jumps body then block (body_code layout body iterators exit) after else step_emitted layout body iterators (suc (suc exit)) 1 zero after
+turn_body layout body iterators exit after =
+    if step_jumps body then block (body_code layout body iterators exit) after else step_emitted layout body iterators (suc (suc exit)) 1 zero after
 
 -- what comes after it, and the next turn
 abbrev pub turn_ended : Layout → Step → (iterators exit : ℕ) → Instructions → Instructions
-turn_ended layout last iterators exit after = if is_nothing last then does (Br zero) after else step_emitted layout last iterators (suc (suc exit)) 1 zero (does (Br zero) after)
+turn_ended layout last iterators exit after =
+    if is_nothing last then does (Br zero) after else step_emitted layout last iterators (suc (suc exit)) 1 zero (does (Br zero) after)
 
 -- a turn of a loop that begins with its test
 abbrev pub tested_turn : Layout → Code → Step → Step → (iterators exit : ℕ) → Instructions → Instructions
-tested_turn layout test body last iterators exit after = left_unless layout (test_within test) test (suc (suc exit)) 1 (turn_body layout body iterators exit (turn_ended layout last iterators exit after))
+tested_turn layout test body last iterators exit after =
+    left_unless layout (test_within test) test (suc (suc exit)) 1 (turn_body layout body iterators exit (turn_ended layout last iterators exit after))
 
 -- a turn of a loop that ends with its test
 abbrev pub first_turn : Layout → Code → Step → Step → (iterators exit : ℕ) → Instructions → Instructions
-first_turn layout test body last iterators exit after = block (body_code layout body iterators exit) (step_emitted layout last iterators (suc (suc exit)) 1 zero (tested_on layout test exit after))
+first_turn layout test body last iterators exit after =
+    block (body_code layout body iterators exit) (step_emitted layout last iterators (suc (suc exit)) 1 zero (tested_on layout test exit after))
 
 abbrev pub turn : Bool → Layout → Code → Step → Step → (iterators exit : ℕ) → Instructions → Instructions
 turn true layout test body last iterators exit after = tested_turn layout test body last iterators exit after
@@ -167,11 +177,13 @@ key_asked bases iterators after =
 
 -- a turn of a loop over keys
 abbrev pub key_turn : Layout → Code → Step → (iterators exit : ℕ) → Instructions → Instructions
-key_turn layout store body iterators exit after = key_stored layout iterators store (suc (suc exit)) (block (body_code layout body (suc iterators) exit) (does (Br zero) after))
+key_turn layout store body iterators exit after =
+    key_stored layout iterators store (suc (suc exit)) (block (body_code layout body (suc iterators) exit) (does (Br zero) after))
 
 -- a loop over the keys of an array
 abbrev pub keys_walked : Layout → ArrayName → Code → Step → (iterators exit : ℕ) → Instructions → Instructions
-keys_walked layout array store body iterators exit after = iterator_made layout array iterators (rounds (key_turn layout store body iterators exit Done) (iterator_left layout iterators after))
+keys_walked layout array store body iterators exit after =
+    iterator_made layout array iterators (rounds (key_turn layout store body iterators exit Done) (iterator_left layout iterators after))
 
 -- the value of a parameter of this kind is dropped
 abbrev pub parameter_dropped : Kind → ℕ → Instructions → Instructions
@@ -241,7 +253,8 @@ first_code layout program after = steps_emitted layout program.begin zero zero z
 -- both parts, and what goes before them
 abbrev pub parts_code : Layout → Program → Instructions → Instructions
 parts_code layout program after =
-    before_parts layout program (part_done layout (first_part layout program) zero (ask_row row.BeginEnd (part_done layout (last_part layout program) zero after)))
+    before_parts layout program
+    (part_done layout (first_part layout program) zero (ask_row row.BeginEnd (part_done layout (last_part layout program) zero after)))
 
 -- what `main` has is let go, and the status given
 abbrev pub status_given : Layout → Instructions → Instructions
@@ -253,7 +266,8 @@ main_code layout program after = all_emptied layout (block (parts_code layout pr
 -- names are announced, then functions
 abbrev pub names_told : Layout → Program → Instructions → Instructions
 names_told layout program after =
-    names_declared layout (length program.texts) layout.names (routines_declared layout (length program.texts + length program.globals) (length program.routines) after)
+    names_declared layout (length program.texts) layout.names
+    (routines_declared layout (length program.texts + length program.globals) (length program.routines) after)
 
 -- what a name of this kind has before the script runs
 abbrev pub name_made : Layout → Kind → ℕ → Instructions → Instructions

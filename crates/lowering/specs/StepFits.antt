@@ -29,11 +29,15 @@ abbrev mutual
   pub StepFits : Layout → Step → (iterators exit : ℕ) → Type 0
   StepFits layout (Eval code) iterators exit = (suc (suc (suc exit)) ≤ most_labels) × Fits layout code zero zero exit
   StepFits layout (Block steps) iterators exit = StepsFit layout steps iterators exit
-  StepFits layout (If test so otherwise) iterators exit = ChoiceFits layout test exit × (StepFits layout so iterators (suc (more_if (is_some (pair_in test)) exit)) × StepFits layout otherwise iterators (suc exit))
+  StepFits layout (If test so otherwise) iterators exit =
+      ChoiceFits layout test exit
+      × (StepFits layout so iterators (suc (more_if (is_some (pair_in test)) exit)) × StepFits layout otherwise iterators (suc exit))
   StepFits layout (Loop first test body last) iterators exit =
-      LoopFits exit × (TestFits layout test (suc (suc exit)) × (StepFits layout body iterators (suc (suc (more_if (has_block first body) exit))) × StepFits layout last iterators (suc (suc exit))))
+      LoopFits exit × (TestFits layout test (suc (suc exit))
+      × (StepFits layout body iterators (suc (suc (more_if (has_block first body) exit))) × StepFits layout last iterators (suc (suc exit))))
   StepFits layout (Each array store body) iterators exit =
-      LoopFits exit × ((suc iterators ≤ most_places) × (ArrayFits array × (Fits layout store 1 zero (suc (suc exit)) × StepFits layout body (suc iterators) (suc (suc (suc exit))))))
+      LoopFits exit × ((suc iterators ≤ most_places)
+      × (ArrayFits array × (Fits layout store 1 zero (suc (suc exit)) × StepFits layout body (suc iterators) (suc (suc (suc exit))))))
   StepFits layout Break iterators exit = Unit {0}
   StepFits layout Continue iterators exit = Unit {0}
   StepFits layout Next iterators exit = Unit {0}
