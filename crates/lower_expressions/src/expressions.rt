@@ -60,7 +60,9 @@ pub fn expression(
         Code::Ask => line(layout, out, at),
         Code::AskLine(store) => line_into(layout, kept, out, store, at),
         Code::FileLine(file, store) => file_line(layout, kept, out, file, store, at),
-        Code::Replace(all, operands, store) => replacement(layout, kept, out, *all, operands, store, at),
+        Code::Replace(all, operands, store) => replacement(
+            layout, kept, out, *all, operands, store, at,
+        ),
         Code::Number(number) => constant(layout, out, number.cast_unsigned(), at),
         Code::Text(place) => text(layout, out, *place, at),
         Code::Unset => unset(layout, out, at),
@@ -240,7 +242,16 @@ fn comparison(
         return immediately_compared(layout, out, op, first, operand, temporary, at.exit);
     }
     let second = expression(layout, kept, out, false, right, next(at))?;
-    compared(layout.alloc, layout.bases, out, op, first, second, temporary, at.exit)?;
+    compared(
+        layout.alloc,
+        layout.bases,
+        out,
+        op,
+        first,
+        second,
+        temporary,
+        at.exit,
+    )?;
     Ok(Form::Answered(Answer::Truth))
 }
 

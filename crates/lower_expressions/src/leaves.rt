@@ -27,7 +27,11 @@ use std::alloc::AllocError;
 use wasm_types::{CvtOp, Instr, Simple};
 
 /// Adds the reading of a record of the main input.
-pub(crate) fn line(layout: &FunctionLayout<'_>, out: &mut Vec<Instr>, at: At) -> Result<Form, AllocError>
+pub(crate) fn line(
+    layout: &FunctionLayout<'_>,
+    out: &mut Vec<Instr>,
+    at: At,
+) -> Result<Form, AllocError>
     requires { Within at.temporary at.arrays at.exit }
     ensures form { IfOk result (λ form. view_form form ≡ a_number) }
     ensures emits { OnOk result (Emits out.old.items out.new.items

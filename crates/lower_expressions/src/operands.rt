@@ -153,8 +153,17 @@ fn performed(
         (performed (view_layout layout.now) operation (views operands.now) temporary exit)) }
 {
     match operation {
-        Operation::Host(primitive) => host_performed(layout, out, primitive, operands, temporary, exit),
-        Operation::Inline(operator) => calculated(layout.alloc, layout.bases, out, operator, temporary, exit),
+        Operation::Host(primitive) => host_performed(
+            layout, out, primitive, operands, temporary, exit,
+        ),
+        Operation::Inline(operator) => calculated(
+            layout.alloc,
+            layout.bases,
+            out,
+            operator,
+            temporary,
+            exit,
+        ),
         Operation::AsNumber => Ok(()),
         Operation::FieldNumber => field_checked(layout.alloc, layout.bases, out, temporary, exit),
     }
@@ -177,7 +186,16 @@ pub(crate) fn operated(
         (map view_form forms.now) operation (views operands.now) temporary exit)) }
 {
     let wanted = arguments(operation);
-    all_converted(layout.alloc, layout.bases, out, forms, wanted, operands, temporary, exit)?;
+    all_converted(
+        layout.alloc,
+        layout.bases,
+        out,
+        forms,
+        wanted,
+        operands,
+        temporary,
+        exit,
+    )?;
     performed(layout, out, operation, operands, temporary, exit)
 }
 
@@ -209,7 +227,15 @@ fn joined(
 {
     let values = [Operand::Code(Code::Unset), Operand::Code(Code::Unset)];
     let join = Operation::Host(Primitive::Join);
-    operated(layout, out, &[first, second], join, &values, temporary, exit)
+    operated(
+        layout,
+        out,
+        &[first, second],
+        join,
+        &values,
+        temporary,
+        exit,
+    )
 }
 
 /// Joins subscripts that are evaluated: the last one, whose form stands apart, to the one before it, and so on.

@@ -98,7 +98,11 @@ fn number_assigned(
         (number_assigned (view_layout layout.now) (view_kind kind) name temporary)) }
 {
     number_is(out, layout.bases.number(temporary), name as u64)?;
-    when(layout.alloc, out, assigned_code(layout, kind, name, temporary)?)
+    when(
+        layout.alloc,
+        out,
+        assigned_code(layout, kind, name, temporary)?,
+    )
 }
 
 /// Gives a name the value of a temporary, where its number is the one there.
@@ -233,5 +237,9 @@ pub fn asked(
     ensures { OnOk result (Emits out.old.items out.new.items
         (asked (view_layout layout.now) primitive temporary exit)) }
 {
-    again(layout.alloc, out, one_asked(layout, primitive, temporary, exit)?)
+    again(
+        layout.alloc,
+        out,
+        one_asked(layout, primitive, temporary, exit)?,
+    )
 }

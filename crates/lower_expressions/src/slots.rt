@@ -37,7 +37,11 @@ pub(crate) fn slot_form(slot: Slot) -> Form
 }
 
 /// What copies the handle of a global.
-fn handle_copied(layout: &FunctionLayout<'_>, name: usize, temporary: u32) -> Result<Vec<Instr>, AllocError>
+fn handle_copied(
+    layout: &FunctionLayout<'_>,
+    name: usize,
+    temporary: u32,
+) -> Result<Vec<Instr>, AllocError>
     requires name { name ≤ most_places }
     requires places { temporary ≤ most_places }
     ensures { IfOk result (λ code. Emits [] code.items
@@ -98,7 +102,10 @@ pub(crate) fn slot_read(
         }
         Slot::Parameter(true, place) => {
             let get = Simple::LocalGet(place as u32);
-            does_all(out, &[get, Simple::LocalSet(layout.bases.number(temporary))])
+            does_all(
+                out,
+                &[get, Simple::LocalSet(layout.bases.number(temporary))],
+            )
         }
     }
 }
@@ -142,7 +149,11 @@ fn handle_code(
 }
 
 /// What stores a number, or that there is none yet, as a value.
-fn perhaps_code(layout: &FunctionLayout<'_>, temporary: u32, put: Simple) -> Result<Vec<Instr>, AllocError>
+fn perhaps_code(
+    layout: &FunctionLayout<'_>,
+    temporary: u32,
+    put: Simple,
+) -> Result<Vec<Instr>, AllocError>
     requires { temporary ≤ most_places }
     ensures { IfOk result
         (λ code. Emits [] code.items (boxed_perhaps layout.now.bases.now temporary put)) }
@@ -166,7 +177,12 @@ fn bare_stored(
 {
     number_is(out, layout.bases.number(temporary), TEXT_BESIDE)?;
     let text = handle_code(layout, only, temporary, put)?;
-    either(layout.alloc, out, text, perhaps_code(layout, temporary, put)?)
+    either(
+        layout.alloc,
+        out,
+        text,
+        perhaps_code(layout, temporary, put)?,
+    )
 }
 
 /// Stores what stands in a temporary, as a value.
@@ -270,7 +286,14 @@ pub(crate) fn slot_set(
             let global = global_handle(layout, name);
             does(out, Simple::GlobalGet(global))?;
             ask(out, Import::Drop)?;
-            value_stored(layout, out, only, form, temporary, Simple::GlobalSet(global))
+            value_stored(
+                layout,
+                out,
+                only,
+                form,
+                temporary,
+                Simple::GlobalSet(global),
+            )
         }
         Slot::Global(true, name) => bare_set(layout, out, name, temporary),
         Slot::Parameter(false, place) => {
@@ -281,7 +304,10 @@ pub(crate) fn slot_set(
         }
         Slot::Parameter(true, place) => {
             let put = Simple::LocalSet(place as u32);
-            does_all(out, &[Simple::LocalGet(layout.bases.number(temporary)), put])
+            does_all(
+                out,
+                &[Simple::LocalGet(layout.bases.number(temporary)), put],
+            )
         }
     }
 }

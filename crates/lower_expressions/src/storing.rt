@@ -185,7 +185,14 @@ fn replaced_asked(
     all_pushed(layout, out, &wanted, operands, temporary)?;
     does(out, Simple::I32Const(u32::from(every)))?;
     ask_row(out, Primitive::Sub)?;
-    kept(layout.bases, out, true, Answer::Of(Sort::Number), temporary, exit)
+    kept(
+        layout.bases,
+        out,
+        true,
+        Answer::Of(Sort::Number),
+        temporary,
+        exit,
+    )
 }
 
 /// Adds a replacement, whose operands are evaluated, and the test whether nothing was replaced.
@@ -209,7 +216,16 @@ pub(crate) fn replaced(
         Argument::Of(Sort::Value),
         Argument::Of(Sort::Value),
     ];
-    all_converted(layout.alloc, layout.bases, out, forms, &wanted, operands, temporary, exit)?;
+    all_converted(
+        layout.alloc,
+        layout.bases,
+        out,
+        forms,
+        &wanted,
+        operands,
+        temporary,
+        exit,
+    )?;
     replaced_asked(layout, out, every, operands, temporary, exit)?;
     let all = [
         Simple::LocalGet(layout.bases.number(temporary)),

@@ -41,7 +41,16 @@ pub(crate) fn all_converted(
     match (first, operand, forms.split_first()) {
         (Argument::Of(sort), Operand::Code(_), Some((form, forms))) => {
             converted(alloc, bases, out, *form, *sort, temporary, exit)?;
-            all_converted(alloc, bases, out, forms, wanted, operands, temporary + 1, exit)
+            all_converted(
+                alloc,
+                bases,
+                out,
+                forms,
+                wanted,
+                operands,
+                temporary + 1,
+                exit,
+            )
         }
         (_, Operand::Constant(_), _) => {
             all_converted(alloc, bases, out, forms, wanted, operands, temporary, exit)

@@ -85,8 +85,10 @@ guarded false next = Stuck
 abbrev pub at : List Kind → List Cell → List Label → List Cell → List Frame → Instructions → Store → Conf
 at kinds stack labels locals callers Done store = Run kinds stack labels locals callers Done store
 at kinds stack labels locals callers (Then instruction rest) store =
-    elim (constant_of instruction) [ Some word ↦ at kinds (Bits word ∷ stack) labels locals callers rest store
-    | None ↦ Run kinds stack labels locals callers (Then instruction rest) store ]
+    elim (constant_of instruction) [
+      | Some word ↦ at kinds (Bits word ∷ stack) labels locals callers rest store
+      | None ↦ Run kinds stack labels locals callers (Then instruction rest) store
+    ]
 
 -- what may come next after a look
 abbrev pub takes_look : Instructions → Bool

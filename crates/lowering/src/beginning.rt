@@ -151,7 +151,10 @@ fn names_made(layout: &FunctionLayout<'_>, out: &mut Vec<Instr>) -> Result<(), A
 }
 
 /// Adds what is done before the script's own statements.
-pub(crate) fn before_parts(layout: &FunctionLayout<'_>, out: &mut Vec<Instr>) -> Result<(), AllocError>
+pub(crate) fn before_parts(
+    layout: &FunctionLayout<'_>,
+    out: &mut Vec<Instr>,
+) -> Result<(), AllocError>
     requires { length (view_mid layout.now.script.now.program.now).routines ≤ most_places }
     ensures { OnOk result (Emits out.old.items out.new.items
         (before_parts (view_layout layout.now) (view_mid layout.now.script.now.program.now))) }

@@ -239,7 +239,10 @@ fn status_left(
         (Emits out.old.items out.new.items (status_left bases.now (view_form form) exit)) }
 {
     to_number(alloc, bases, out, form, 0, exit)?;
-    does_all(out, &[Simple::LocalGet(bases.number(0)), Simple::GlobalSet(1)])?;
+    does_all(
+        out,
+        &[Simple::LocalGet(bases.number(0)), Simple::GlobalSet(1)],
+    )?;
     left_by(out, WAY_EXIT, exit)
 }
 

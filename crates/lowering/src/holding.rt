@@ -68,7 +68,10 @@ fn held_emptied(bases: &Bases, out: &mut Vec<Instr>, held: Held) -> Result<(), A
 }
 
 /// Empties what a function has, at its beginning.
-pub(crate) fn all_emptied(layout: &FunctionLayout<'_>, out: &mut Vec<Instr>) -> Result<(), AllocError>
+pub(crate) fn all_emptied(
+    layout: &FunctionLayout<'_>,
+    out: &mut Vec<Instr>,
+) -> Result<(), AllocError>
     ensures { OnOk result
         (Emits out.old.items out.new.items (all_emptied (view_layout layout.now))) }
 {
@@ -79,7 +82,11 @@ pub(crate) fn all_emptied(layout: &FunctionLayout<'_>, out: &mut Vec<Instr>) -> 
 }
 
 /// Lets all of one sort go.
-fn held_swept(layout: &FunctionLayout<'_>, out: &mut Vec<Instr>, held: Held) -> Result<(), AllocError>
+fn held_swept(
+    layout: &FunctionLayout<'_>,
+    out: &mut Vec<Instr>,
+    held: Held,
+) -> Result<(), AllocError>
     ensures { OnOk result (Emits out.old.items out.new.items
         (held_swept held layout.now.bases.now 0 (held_count held layout.now.bases.now))) }
 {
@@ -101,7 +108,10 @@ pub(crate) fn swept(layout: &FunctionLayout<'_>, out: &mut Vec<Instr>) -> Result
 }
 
 /// Lets go of what `next` or `exit` left in `main`: where the script has no functions, that is no more than iterators.
-pub(crate) fn left_swept(layout: &FunctionLayout<'_>, out: &mut Vec<Instr>) -> Result<(), AllocError>
+pub(crate) fn left_swept(
+    layout: &FunctionLayout<'_>,
+    out: &mut Vec<Instr>,
+) -> Result<(), AllocError>
     ensures { OnOk result (Emits out.old.items out.new.items
         (left_swept (view_layout layout.now) (has_functions (view_layout layout.now).calls))) }
 {

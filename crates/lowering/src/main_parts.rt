@@ -118,7 +118,12 @@ fn parts_code(layout: &FunctionLayout<'_>) -> Result<Vec<Instr>, AllocError>
     before_parts(layout, &mut code)?;
     part_done(layout, &mut code, first_code(layout)?, 0)?;
     ask_row(&mut code, Primitive::BeginEnd)?;
-    part_done(layout, &mut code, items_code(layout, &layout.script.program.end)?, 0)?;
+    part_done(
+        layout,
+        &mut code,
+        items_code(layout, &layout.script.program.end)?,
+        0,
+    )?;
     Ok(code)
 }
 

@@ -28,7 +28,11 @@ pub(crate) fn goes_on(layout: &FunctionLayout<'_>, out: &mut Vec<Instr>) -> Resu
 }
 
 /// Goes on after `next`; all else leads out.
-fn next_taken(layout: &FunctionLayout<'_>, out: &mut Vec<Instr>, exit: u32) -> Result<(), AllocError>
+fn next_taken(
+    layout: &FunctionLayout<'_>,
+    out: &mut Vec<Instr>,
+    exit: u32,
+) -> Result<(), AllocError>
     requires { exit ≤ most_labels }
     ensures { OnOk result
         (Emits out.old.items out.new.items (next_taken (view_layout layout.now) exit)) }
@@ -44,7 +48,10 @@ fn next_taken(layout: &FunctionLayout<'_>, out: &mut Vec<Instr>, exit: u32) -> R
 }
 
 /// Statements of `main` that nothing left.
-pub(crate) fn items_code(layout: &FunctionLayout<'_>, items: &[Step]) -> Result<Vec<Instr>, AllocError>
+pub(crate) fn items_code(
+    layout: &FunctionLayout<'_>,
+    items: &[Step],
+) -> Result<Vec<Instr>, AllocError>
     requires { StepsFit (view_layout layout.now) (view_steps items.now) 0 0 }
     ensures { IfOk result
         (λ code. Emits [] code.items (items_code (view_layout layout.now) (view_steps items.now))) }
@@ -56,7 +63,11 @@ pub(crate) fn items_code(layout: &FunctionLayout<'_>, items: &[Step]) -> Result<
 }
 
 /// The items for a record, and how they were left.
-fn record_code(layout: &FunctionLayout<'_>, items: &[Step], exit: u32) -> Result<Vec<Instr>, AllocError>
+fn record_code(
+    layout: &FunctionLayout<'_>,
+    items: &[Step],
+    exit: u32,
+) -> Result<Vec<Instr>, AllocError>
     requires labels { exit ≤ most_labels }
     requires fit { StepsFit (view_layout layout.now) (view_steps items.now) 0 0 }
     ensures { IfOk result (λ code. Emits [] code.items
@@ -96,7 +107,11 @@ fn record_asked(bases: &Bases, out: &mut Vec<Instr>, exit: u32) -> Result<(), Al
 }
 
 /// What is done where there is a record.
-fn record_way(layout: &FunctionLayout<'_>, items: &[Step], exit: u32) -> Result<Vec<Instr>, AllocError>
+fn record_way(
+    layout: &FunctionLayout<'_>,
+    items: &[Step],
+    exit: u32,
+) -> Result<Vec<Instr>, AllocError>
     requires labels { exit ≤ most_labels }
     requires fit { StepsFit (view_layout layout.now) (view_steps items.now) 0 0 }
     ensures { IfOk result (λ code. Emits [] code.items
@@ -118,7 +133,11 @@ fn assignment_made(layout: &FunctionLayout<'_>, out: &mut Vec<Instr>) -> Result<
 }
 
 /// One record, or one assignment.
-fn record_turn(layout: &FunctionLayout<'_>, items: &[Step], exit: u32) -> Result<Vec<Instr>, AllocError>
+fn record_turn(
+    layout: &FunctionLayout<'_>,
+    items: &[Step],
+    exit: u32,
+) -> Result<Vec<Instr>, AllocError>
     requires labels { LoopFits exit }
     requires fit { StepsFit (view_layout layout.now) (view_steps items.now) 0 0 }
     ensures { IfOk result (λ code. Emits [] code.items
@@ -126,7 +145,11 @@ fn record_turn(layout: &FunctionLayout<'_>, items: &[Step], exit: u32) -> Result
 {
     let mut code = Vec::new(layout.alloc);
     record_asked(layout.bases, &mut code, exit)?;
-    when(layout.alloc, &mut code, record_way(layout, items, exit + 2)?)?;
+    when(
+        layout.alloc,
+        &mut code,
+        record_way(layout, items, exit + 2)?,
+    )?;
     assignment_made(layout, &mut code)?;
     Ok(code)
 }

@@ -46,7 +46,14 @@ fn number_there(
     let (get, set) = (Simple::GlobalGet(global), Simple::GlobalSet(global));
     copied_by(&mut code, get, set, layout.bases.handle(temporary))?;
     let value = Form::Answered(Answer::Of(Sort::Value));
-    to_number(layout.alloc, layout.bases, &mut code, value, temporary, exit + 2)?;
+    to_number(
+        layout.alloc,
+        layout.bases,
+        &mut code,
+        value,
+        temporary,
+        exit + 2,
+    )?;
     Ok(code)
 }
 
@@ -58,7 +65,10 @@ fn zero_put(layout: &FunctionLayout<'_>, temporary: u32) -> Result<Vec<Instr>, A
     let mut code = Vec::new(layout.alloc);
     does_all(
         &mut code,
-        &[Simple::I64Const(0), Simple::LocalSet(layout.bases.number(temporary))],
+        &[
+            Simple::I64Const(0),
+            Simple::LocalSet(layout.bases.number(temporary)),
+        ],
     )?;
     Ok(code)
 }
@@ -104,7 +114,11 @@ fn name_numbered(
         Simple::Compare(ValType::I64, IRelOp::LeS),
     ];
     does_all(out, &all)?;
-    when(layout.alloc, out, number_found(layout, name, temporary, exit)?)
+    when(
+        layout.alloc,
+        out,
+        number_found(layout, name, temporary, exit)?,
+    )
 }
 
 /// The same of a source: a constant needs no temporary.
@@ -249,7 +263,11 @@ fn number_asked(
 }
 
 /// Puts the number of the first temporary on the stack, and that of the field that a constant gives, by its bits.
-fn field_added(layout: &FunctionLayout<'_>, out: &mut Vec<Instr>, bits: u64) -> Result<(), AllocError>
+fn field_added(
+    layout: &FunctionLayout<'_>,
+    out: &mut Vec<Instr>,
+    bits: u64,
+) -> Result<(), AllocError>
     ensures { OnOk result
         (Emits out.old.items out.new.items (field_added layout.now.bases.now bits)) }
 {
