@@ -1,5 +1,5 @@
 -- Comparisons with an operand that is immediate: what it gives comes onto the stack where it is asked for.
-use Rattle.std.proofs.Common.{◌≡◌, inl, ℕ, suc, ◌+◌, ◌<◌, ◌≤◌, Bool, true, false, List, [], ◌∷◌, Option, Some, None, Ok, refl, sym, ap, ◌∙◌, subst, arith, ℤ}
+use Rattle.std.proofs.Common.{◌≡◌, inl, ℕ, suc, ◌<◌, Bool, true, false, List, [], ◌∷◌, Option, Some, None, Ok, refl, sym, ap, subst, arith, ℤ}
 use Rattle.std.specs.Prelude.{◌&&◌, get_or}
 use Rattle.std.proofs.lemmas.Bool.{and_parts}
 use Rattle.awk_values.specs.Comparison.{comparison}
@@ -26,7 +26,7 @@ use Rattle.lower_model.specs.Arithmetic.{is_value, compared}
 use Rattle.lower_model.specs.Cells.{Cell, Bits, Held}
 use Rattle.lower_model.specs.Emission.{Immediate, FieldOf, TextOf, NumberOf, immediate_field, immediate_in, immediate_pushed, immediately_compared, immediate_or, field_in, emitted, all_emitted}
 use Rattle.lower_model.specs.ImportCalls.{with_some, and_rest, row_in}
-use Rattle.lower_model.specs.Machine.{Conf, Label, Frame, at}
+use Rattle.lower_model.specs.Machine.{Label, Frame, at}
 use Rattle.lower_model.specs.Places.{Bases, handle_local}
 use Rattle.lower_model.specs.Small.{does, ask_row, moved_out, kept_code}
 use Rattle.lower_model.proofs.Watch.{Watch}
