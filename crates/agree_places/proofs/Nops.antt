@@ -31,8 +31,8 @@ use Rattle.lower_model.specs.Boundaries.{is_nop}
 use Rattle.lower_model.specs.Emission.{Layout, Immediate, FieldOf, TextOf, NumberOf, immediate_in, immediate_or, immediate_pushed, all_appended, all_boxed, all_converted, all_emitted, all_freed, all_given, all_given_pushed, all_pushed, array_meant, array_pushed, asked, assigned, assigned_by_number, bound_read, dropped, emitted, field_in, field_or, function_number, handle_stored, keeping_closed, left_over, listed_asked, one_given, one_pushed, pending_assigned, performed, sequence_closed, slot_read, slot_set, tested, text_kept, text_let_go, value_stored}
 use Rattle.host_imports.specs.Imports.{import_count, import_number, imports}
 use Rattle.lower_model.specs.Machine.{answers_to}
-use Rattle.lower_model.specs.Places.{Bases, made_in}
-use Rattle.lower_model.specs.Small.{ask_row, bound_from, boxed_perhaps, code_number, converted, does, either, h, kept, kept_code, kept_done, kept_number, kept_value, moved_from, n, number_is, released, to_number, to_value, truth, unused, when}
+use Rattle.lower_model.specs.Places.{Bases, made_in, handle_local, number_local}
+use Rattle.lower_model.specs.Small.{ask_row, bound_from, boxed_perhaps, code_number, converted, does, either, kept, kept_code, kept_done, kept_number, kept_value, moved_from, number_is, released, to_number, to_value, truth, unused, when}
 use Rattle.lower_model.specs.Statements.{again}
 use Rattle.host_imports.specs.declared.import.Import.{Import}
 use Rattle.host_imports.specs.declared.import.Import.TheVariants.{Of}
@@ -242,7 +242,7 @@ module _ (y : Layout) (asks : Bool) (most : ℕ) where
     pub asked_nops : (p : Primitive) (t d : ℕ) → Nops l k m → Nops l (asked y p t d k) m
     asked_nops p t d r = rounds asking r
       where
-        asking : Nops l (ask_row p (kept_code b true t (suc d) (number_is (n b t) 2 (when (pending_assigned y t (does (Br 1) Done)) Done)))) []
+        asking : Nops l (ask_row p (kept_code b true t (suc d) (number_is (number_local b t) 2 (when (pending_assigned y t (does (Br 1) Done)) Done)))) []
         asking = plain _ (import_low (Of p)) (kept_code_nops b true t (suc d) (plain _ refl (plain _ refl (plain _ refl (choice (pending_nops t (plain (Br 1) refl none)) none none)))))
 
   converts_nops : {k : Instructions} {m : List Instructions} (fs : List Form) (given : List Argument) (es : Codes) (t d : ℕ) → Nops l k m → Nops l (all_converted y fs given es t d k) m
@@ -350,7 +350,7 @@ module _ (y : Layout) (asks : Bool) (most : ℕ) where
   function_nops {k = k} f t d lo r = record {
     are = r.are;
     calls = λ z. and_from (simple_fits l (CallOf (function_number f)) (kept_value b true t d k)) (calls_fit l k)
-        (ap (λ c. cond c true (nat_le (h b t) (last_local l))) (le-ltb (function_number f) import_count (omega arith)) ∙ le-leb (h b t) (last_local l) (let x = lo z in omega (arith, x)))
+        (ap (λ c. cond c true (nat_le (handle_local b t) (last_local l))) (le-ltb (function_number f) import_count (omega arith)) ∙ le-leb (handle_local b t) (last_local l) (let x = lo z in omega (arith, x)))
         (r.calls z);
   }
 

@@ -20,8 +20,8 @@ use Rattle.mid_program.specs.declared.mid.Arithmetic.TheVariants as inline
 use Rattle.mid_program.specs.Mid.{Kind, Program, Form, Answered, Bare, Perhaps}
 use Rattle.lower_model.specs.Arithmetic.{out_of_range, ranged, factors_differ, times, unless_zero, divided, unless_broken, is_value, may_be_text, calculated, field_checked, values_compared, zeroed_if, numbers_compared, texts_beside, bare_compared, compared}
 use Rattle.host_imports.specs.Imports.{import_type, import_number, result_of}
-use Rattle.lower_model.specs.Places.{Bases}
-use Rattle.lower_model.specs.Small.{moved_out, moved, emptied, let_go, copied, copied_if_any, fail_if, number_is, n, kept_code, kept_value, kept_number, kept_done, kept, boxed_number, boxed_perhaps, to_value, zeroed, code_number, number_of_value, to_number, converted, not_zero, truth, unused, released, number_copied, moved_from, copied_from, bound_from}
+use Rattle.lower_model.specs.Places.{Bases, number_local}
+use Rattle.lower_model.specs.Small.{moved_out, moved, emptied, let_go, copied, copied_if_any, fail_if, number_is, kept_code, kept_value, kept_number, kept_done, kept, boxed_number, boxed_perhaps, to_value, zeroed, code_number, number_of_value, to_number, converted, not_zero, truth, unused, released, number_copied, moved_from, copied_from, bound_from}
 use Rattle.host_imports.specs.declared.import.Import.{Import}
 use Rattle.host_imports.specs.declared.import.Import.TheVariants.{Of, Drop}
 use Rattle.lower_model.proofs.Answers.{IsPlain}
@@ -234,10 +234,10 @@ module _ {p : Program} {ks : List Kind} {b : Bases} {C : Context} (at : Stands p
     pub calculated_ok : (a : Arithmetic) {t : ℕ} → suc (suc t) < b.temporaries → CodeOk C L k ps rs → CodeOk C L (calculated b a t d k) ps rs
     calculated_ok a {t = t} lt r = by a
       where
-        left : slice_get C.locals (n b t) ≡ Some I64
+        left : slice_get C.locals (number_local b t) ≡ Some I64
         left = at.number t (omega (arith, lt))
 
-        right : slice_get C.locals (n b (suc t)) ≡ Some I64
+        right : slice_get C.locals (number_local b (suc t)) ≡ Some I64
         right = at.number (suc t) (omega (arith, lt))
 
         by : (a : Arithmetic) → CodeOk C L (calculated b a t d k) ps rs

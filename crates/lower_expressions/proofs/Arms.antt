@@ -17,8 +17,8 @@ use Rattle.mid_program.specs.declared.code.Operand.{Operand}
 use Rattle.mid_program.specs.declared.mid.Operation.{Operation}
 use Rattle.lower_model.specs.Arithmetic.{compared, is_value}
 use Rattle.lower_model.specs.Emission.{Layout, Immediate, immediate_in, immediate_or, immediately_compared, all_appended, all_boxed, all_converted, all_emitted, all_freed, all_given, all_given_pushed, asked, emitted, field_in, field_or, field_read, function_number, keeping_closed, left_over, listed_asked, performed, sequence_closed, slot_set}
-use Rattle.lower_model.specs.Places.{made_in, array_local}
-use Rattle.lower_model.specs.Small.{ask_row, code_number, converted, does, either, h, kept_value, let_go, truth}
+use Rattle.lower_model.specs.Places.{made_in, array_local, handle_local}
+use Rattle.lower_model.specs.Small.{ask_row, code_number, converted, does, either, kept_value, let_go, truth}
 use Rattle.host_imports.specs.declared.import.Import.TheVariants.{Drop}
 use Rattle.lower_pieces.specs.Emits.{followed, Emits}
 use Rattle.lower_pieces.specs.Forms.{view_form}
@@ -185,12 +185,12 @@ keeping_emitted y v o m l r f g t w d a b c z h e j p q u k =
 -- Lists of their own.
 
 pub stored_emitted : (y : Layout) (o m : Keeping) (p : Primitive) (s : Code) (f : plain.Form) (t w d : ℕ) (a b c i z : List Instr) → m ≡ kept_more plain.a_value (suc t) o → f ≡ form_of m.forms s
-    → Emits a b (λ k. ask_row p (does (LocalSet (h y.bases (suc t))) k)) → Emits b c (emitted y true m.forms m.temporaries s (suc (suc t)) w (suc d))
-    → Emits c i (left_over y s f (suc (suc t))) → Emits i z (let_go Drop (h y.bases (suc t))) → Emits a z (stored_with y o.forms o.temporaries p s t w d)
+    → Emits a b (λ k. ask_row p (does (LocalSet (handle_local y.bases (suc t))) k)) → Emits b c (emitted y true m.forms m.temporaries s (suc (suc t)) w (suc d))
+    → Emits c i (left_over y s f (suc (suc t))) → Emits i z (let_go Drop (handle_local y.bases (suc t))) → Emits a z (stored_with y o.forms o.temporaries p s t w d)
 stored_emitted y o m p s f t w d a b c i z e j q u x v k =
     v k ∙ x _ ∙ u _
-    ∙ ap (λ (n : Keeping). followed b (emitted y true n.forms n.temporaries s (suc (suc t)) w (suc d) (left_over y s f (suc (suc t)) (let_go Drop (h y.bases (suc t)) k)))) e
-    ∙ ap (λ (g : plain.Form). followed b (emitted y true (plain.a_value ∷ o.forms) (suc t ∷ o.temporaries) s (suc (suc t)) w (suc d) (left_over y s g (suc (suc t)) (let_go Drop (h y.bases (suc t)) k)))) (j ∙ ap (λ (n : Keeping). form_of n.forms s) e)
+    ∙ ap (λ (n : Keeping). followed b (emitted y true n.forms n.temporaries s (suc (suc t)) w (suc d) (left_over y s f (suc (suc t)) (let_go Drop (handle_local y.bases (suc t)) k)))) e
+    ∙ ap (λ (g : plain.Form). followed b (emitted y true (plain.a_value ∷ o.forms) (suc t ∷ o.temporaries) s (suc (suc t)) w (suc d) (left_over y s g (suc (suc t)) (let_go Drop (handle_local y.bases (suc t)) k)))) (j ∙ ap (λ (n : Keeping). form_of n.forms s) e)
     ∙ q _
 
 pub branch_emitted : (y : Layout) (fs : List plain.Form) (ts : List ℕ) (s : Sort) (e : Code) (f : plain.Form) (t w d : ℕ) (a b z : List Instr) → f ≡ form_of fs e

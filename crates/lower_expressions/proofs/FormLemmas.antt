@@ -8,8 +8,8 @@ use Rattle.mid_program.specs.Mid as plain
 use Rattle.mid_program.specs.Mid.{Kind, Boxed, Unboxed, Many, Codes, End, At, Fixed, Fresh, form_of}
 use Rattle.mid_program.specs.Sorted.{count_of}
 use Rattle.lower_model.specs.Emission.{Layout, all_appended, all_boxed, all_converted, all_freed, all_given, all_given_pushed, one_given}
-use Rattle.lower_model.specs.Places.{Bases, array_local}
-use Rattle.lower_model.specs.Small.{ask, converted, does, h, moved_out, to_value}
+use Rattle.lower_model.specs.Places.{Bases, array_local, handle_local}
+use Rattle.lower_model.specs.Small.{ask, converted, does, moved_out, to_value}
 use Rattle.host_imports.specs.declared.import.Import.TheVariants.{Arg, FreeArray}
 use Rattle.lower_expressions.specs.Fits.{AllCode, IsGiven}
 use Rattle.lower_expressions.specs.Parts.{appended_with, boxed_with, converted_with, forms_in, freed_with, given_with, pushed_with}
@@ -54,7 +54,7 @@ boxed_are y fs (Fresh es) t k q = absurd q
 
 pub appended_are : (y : Layout) (fs : List plain.Form) (es : Codes) (t : ℕ) (k : Instructions) → AllCode es → appended_with y.bases (forms_in fs es) t k ≡ all_appended y es t k
 appended_are y fs End t k q = refl
-appended_are y fs (At e es) t k q = ap (λ (x : Instructions). moved_out (h y.bases t) (ask Arg x)) (appended_are y fs es (suc t) k q)
+appended_are y fs (At e es) t k q = ap (λ (x : Instructions). moved_out (handle_local y.bases t) (ask Arg x)) (appended_are y fs es (suc t) k q)
 appended_are y fs (Fixed m es) t k q = absurd q
 appended_are y fs (Fresh es) t k q = absurd q
 

@@ -7,70 +7,80 @@ use Rattle.lower_model.specs.Emission.{Layout, Immediate, FieldOf, TextOf, Numbe
 use Rattle.lower_model.specs.Places.{made_in}
 
 -- two more temporaries and two more labels are there
-abbrev pub Within : (t w d : ℕ) → Type 0
-Within t w d = (suc (suc t) ≤ most_places) × ((w ≤ most_places) × (suc (suc d) ≤ most_labels))
+abbrev pub Within : (temporary arrays exit : ℕ) → Type 0
+Within temporary arrays exit = (suc (suc temporary) ≤ most_places) × ((arrays ≤ most_places) × (suc (suc exit) ≤ most_labels))
 
 abbrev pub SlotFits : Slot → Type 0
-SlotFits (Global u i) = i ≤ most_places
-SlotFits (Parameter u i) = i ≤ most_places
+SlotFits (Global bare name) = name ≤ most_places
+SlotFits (Parameter bare place) = place ≤ most_places
 
 abbrev pub ArrayFits : ArrayName → Type 0
-ArrayFits (Numbered i) = Unit {0}
-ArrayFits (Given i) = i ≤ most_places
+ArrayFits (Numbered number) = Unit {0}
+ArrayFits (Given parameter) = parameter ≤ most_places
 
 -- the text of an immediate operand is there
 abbrev pub ImmediateFits : Layout → Immediate → Type 0
-ImmediateFits layout (FieldOf z) = Unit {0}
-ImmediateFits layout (TextOf i) = i < length layout.texts
-ImmediateFits layout (NumberOf z) = Unit {0}
+ImmediateFits layout (FieldOf number) = Unit {0}
+ImmediateFits layout (TextOf text) = text < length layout.texts
+ImmediateFits layout (NumberOf number) = Unit {0}
 
 -- operands that are arrays
 abbrev pub ArraysFit : Codes → Type 0
 ArraysFit End = Unit {0}
-ArraysFit (At e es) = ArrayFits (array_meant e) × ArraysFit es
-ArraysFit (Fixed m es) = ArraysFit es
-ArraysFit (Fresh es) = ArraysFit es
+ArraysFit (At code operands) = ArrayFits (array_meant code) × ArraysFit operands
+ArraysFit (Fixed number operands) = ArraysFit operands
+ArraysFit (Fresh operands) = ArraysFit operands
 
 -- operands that are all code
 abbrev pub AllCode : Codes → Type 0
 AllCode End = Unit {0}
-AllCode (At e es) = AllCode es
-AllCode (Fixed m es) = ⊥
-AllCode (Fresh es) = ⊥
+AllCode (At code operands) = AllCode operands
+AllCode (Fixed number operands) = ⊥
+AllCode (Fresh operands) = ⊥
 
 -- an operand for each parameter, none of them a constant, and an array that is made only for one that is an array
 abbrev pub IsGiven : List Kind → Codes → Type 0
 IsGiven [] End = Unit {0}
-IsGiven (kind ∷ kinds) (At e es) = IsGiven kinds es
-IsGiven (Many ∷ kinds) (Fresh es) = IsGiven kinds es
+IsGiven (kind ∷ kinds) (At code operands) = IsGiven kinds operands
+IsGiven (Many ∷ kinds) (Fresh operands) = IsGiven kinds operands
 IsGiven _ _ = ⊥
 
--- code that is emitted for temporary t, with w arrays of calls in use and d labels around it
+-- code that is emitted for a temporary, with so many arrays of calls in use and so many labels around it
 abbrev mutual
-  pub Fits : (layout : Layout) → Code → (t w d : ℕ) → Type 0
-  Fits layout (Do o es) t w d = AllFit layout es t w d
-  Fits layout (Over l es) t w d = AllCode es × AllFit layout es t w d
-  Fits layout (Compare c a b) t w d = Within t w d × (Fits layout a t w d × Fits layout b (suc t) w d)
-  Fits layout (Call f es) t w d = IsGiven (parameters_at layout.calls f) es × ((f ≤ most_places) × ((w + made_in es ≤ most_places) × AllFit layout es t w d))
-  Fits layout Ask t w d = Within t w d
-  Fits layout (AskLine s) t w d = Within t w d × Fits layout s (suc (suc t)) w (suc d)
-  Fits layout (FileLine e s) t w d = Within t w d × (Fits layout e t w d × Fits layout s (suc (suc t)) w (suc d))
-  Fits layout (Replace all es s) t w d = Within t w d × (AllFit layout es t w d × Fits layout s (suc (suc t)) w (suc d))
-  Fits layout (Number z) t w d = Within t w d
-  Fits layout (Text i) t w d = Within t w d × (i < length layout.texts)
-  Fits layout Unset t w d = Within t w d
-  Fits layout (Get x) t w d = Within t w d × SlotFits x
-  Fits layout (Set x e) t w d = Within t w d × (SlotFits x × Fits layout e t w d)
-  Fits layout (Array a) t w d = ArrayFits a
-  Fits layout (IsOpen i) t w d = Within t w d × (i ≤ most_places)
-  Fits layout (Choose s c a b) t w d = Within t w d × (Fits layout c t w d × (Fits layout a t w (suc d) × Fits layout b t w (suc d)))
-  Fits layout (Seq a b) t w d = Within t w d × (Fits layout a t w d × Fits layout b t w d)
-  Fits layout (Let a b) t w d = Within t w d × (Fits layout a t w d × Fits layout b (suc t) w d)
-  Fits layout (Bound m i) t w d = Within t w d
+  pub Fits : (layout : Layout) → Code → (temporary arrays exit : ℕ) → Type 0
+  Fits layout (Do operation operands) temporary arrays exit = AllFit layout operands temporary arrays exit
+  Fits layout (Over what operands) temporary arrays exit = AllCode operands × AllFit layout operands temporary arrays exit
+  Fits layout (Compare op left right) temporary arrays exit =
+      Within temporary arrays exit × (Fits layout left temporary arrays exit × Fits layout right (suc temporary) arrays exit)
+  Fits layout (Call function operands) temporary arrays exit =
+      IsGiven (parameters_at layout.calls function) operands
+      × ((function ≤ most_places) × ((arrays + made_in operands ≤ most_places) × AllFit layout operands temporary arrays exit))
+  Fits layout Ask temporary arrays exit = Within temporary arrays exit
+  Fits layout (AskLine store) temporary arrays exit = Within temporary arrays exit × Fits layout store (suc (suc temporary)) arrays (suc exit)
+  Fits layout (FileLine file store) temporary arrays exit =
+      Within temporary arrays exit × (Fits layout file temporary arrays exit × Fits layout store (suc (suc temporary)) arrays (suc exit))
+  Fits layout (Replace all operands store) temporary arrays exit =
+      Within temporary arrays exit × (AllFit layout operands temporary arrays exit × Fits layout store (suc (suc temporary)) arrays (suc exit))
+  Fits layout (Number number) temporary arrays exit = Within temporary arrays exit
+  Fits layout (Text text) temporary arrays exit = Within temporary arrays exit × (text < length layout.texts)
+  Fits layout Unset temporary arrays exit = Within temporary arrays exit
+  Fits layout (Get slot) temporary arrays exit = Within temporary arrays exit × SlotFits slot
+  Fits layout (Set slot value) temporary arrays exit = Within temporary arrays exit × (SlotFits slot × Fits layout value temporary arrays exit)
+  Fits layout (Array array) temporary arrays exit = ArrayFits array
+  Fits layout (IsOpen item) temporary arrays exit = Within temporary arrays exit × (item ≤ most_places)
+  Fits layout (Choose wanted test so otherwise) temporary arrays exit =
+      Within temporary arrays exit
+      × (Fits layout test temporary arrays exit × (Fits layout so temporary arrays (suc exit) × Fits layout otherwise temporary arrays (suc exit)))
+  Fits layout (Seq first second) temporary arrays exit =
+      Within temporary arrays exit × (Fits layout first temporary arrays exit × Fits layout second temporary arrays exit)
+  Fits layout (Let value rest) temporary arrays exit =
+      Within temporary arrays exit × (Fits layout value temporary arrays exit × Fits layout rest (suc temporary) arrays exit)
+  Fits layout (Bound moves place) temporary arrays exit = Within temporary arrays exit
 
   -- operands one after the other
-  pub AllFit : (layout : Layout) → Codes → (t w d : ℕ) → Type 0
-  AllFit layout End t w d = Within t w d
-  AllFit layout (At e es) t w d = Within t w d × (Fits layout e t w d × AllFit layout es (suc t) w d)
-  AllFit layout (Fixed m es) t w d = AllFit layout es t w d
-  AllFit layout (Fresh es) t w d = Within t w d × AllFit layout es t (suc w) d
+  pub AllFit : (layout : Layout) → Codes → (temporary arrays exit : ℕ) → Type 0
+  AllFit layout End temporary arrays exit = Within temporary arrays exit
+  AllFit layout (At code operands) temporary arrays exit =
+      Within temporary arrays exit × (Fits layout code temporary arrays exit × AllFit layout operands (suc temporary) arrays exit)
+  AllFit layout (Fixed number operands) temporary arrays exit = AllFit layout operands temporary arrays exit
+  AllFit layout (Fresh operands) temporary arrays exit = Within temporary arrays exit × AllFit layout operands temporary (suc arrays) exit

@@ -17,11 +17,11 @@ kept_more form temporary keeping = record { forms = form ∷ keeping.forms; temp
 
 abbrev pub rest_of : {A : Type 0} → List A → List A
 rest_of [] = []
-rest_of (x ∷ xs) = xs
+rest_of (first ∷ rest) = rest
 
 abbrev pub kept_but_one : Keeping → Keeping
 kept_but_one keeping = record { forms = rest_of keeping.forms; temporaries = rest_of keeping.temporaries }
 
 abbrev pub keeping_of : List Entry → Keeping
 keeping_of [] = kept_none
-keeping_of (e ∷ es) = kept_more (view_form e.form) e.temporary (keeping_of es)
+keeping_of (entry ∷ entries) = kept_more (view_form entry.form) entry.temporary (keeping_of entries)

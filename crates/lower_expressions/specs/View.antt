@@ -10,6 +10,6 @@ abbrev pub view_layout : FunctionLayout → plain.Layout
 view_layout layout = layout_of (view_mid layout.script.now.program.now) layout.bases.now
 
 abbrev pub view_immediate : Immediate → plain.Immediate
-view_immediate (Field z) = plain.FieldOf z
-view_immediate (Text i) = plain.TextOf i
-view_immediate (Number z) = plain.NumberOf z
+view_immediate (Field number) = plain.FieldOf number
+view_immediate (Text text) = plain.TextOf text
+view_immediate (Number number) = plain.NumberOf number

@@ -26,38 +26,38 @@ use wasm_types::{Instr, Simple};
 
 /// Puts what a parameter is given on the stack.
 fn one_given(
-    y: &FunctionLayout<'_>,
+    layout: &FunctionLayout<'_>,
     out: &mut Vec<Instr>,
     kind: Kind,
     code: &Code,
-    t: u32,
+    temporary: u32,
 ) -> Result<(), AllocError>
-    requires places { t ≤ most_places }
+    requires places { temporary ≤ most_places }
     requires array { ArrayFits (array_meant (view code.now)) }
     ensures { OnOk result (Emits out.old.items out.new.items
-        (one_given (view_layout y.now) (view_kind kind) (view code.now) t)) }
+        (one_given (view_layout layout.now) (view_kind kind) (view code.now) temporary)) }
 {
     match kind {
-        Kind::Boxed => moved_out(out, y.bases.handle(t)),
-        Kind::Unboxed => does(out, Simple::LocalGet(y.bases.number(t))),
-        Kind::Many => array_pushed(y, out, array_meant(code)),
+        Kind::Boxed => moved_out(out, layout.bases.handle(temporary)),
+        Kind::Unboxed => does(out, Simple::LocalGet(layout.bases.number(temporary))),
+        Kind::Many => array_pushed(layout, out, array_meant(code)),
     }
 }
 
 /// Puts what parameters are given on the stack.
 fn all_pushed(
-    y: &FunctionLayout<'_>,
+    layout: &FunctionLayout<'_>,
     out: &mut Vec<Instr>,
     kinds: &[Kind],
     operands: &[Operand],
-    t: u32,
+    temporary: u32,
     arrays: u32,
 ) -> Result<(), AllocError>
-    requires places { t + count_of (views operands.now) ≤ most_places }
+    requires places { temporary + count_of (views operands.now) ≤ most_places }
     requires made { arrays + made_in (views operands.now) ≤ most_places }
     requires fit { ArraysFit (views operands.now) }
-    ensures { OnOk result (Emits out.old.items out.new.items
-        (pushed_with (view_layout y.now) (map view_kind kinds.now) (views operands.now) t arrays)) }
+    ensures { OnOk result (Emits out.old.items out.new.items (pushed_with (view_layout layout.now)
+        (map view_kind kinds.now) (views operands.now) temporary arrays)) }
 {
     let Some((operand, operands)) = operands.split_first() else {
         return Ok(());
@@ -67,23 +67,23 @@ fn all_pushed(
     };
     match operand {
         Operand::Code(code) => {
-            one_given(y, out, *kind, code, t)?;
-            all_pushed(y, out, kinds, operands, t + 1, arrays)
+            one_given(layout, out, *kind, code, temporary)?;
+            all_pushed(layout, out, kinds, operands, temporary + 1, arrays)
         }
-        Operand::Constant(_) => all_pushed(y, out, kinds, operands, t, arrays),
+        Operand::Constant(_) => all_pushed(layout, out, kinds, operands, temporary, arrays),
         Operand::Fresh => {
-            let local = y.bases.array(arrays);
+            let local = layout.bases.array(arrays);
             does_all(out, &[Simple::LocalGet(local), Simple::LocalTee(local)])?;
-            all_pushed(y, out, kinds, operands, t, arrays + 1)
+            all_pushed(layout, out, kinds, operands, temporary, arrays + 1)
         }
     }
 }
 
 /// The parameters of a function; of one that is not there, none.
-fn parameters<'a>(y: &FunctionLayout<'a>, function: usize) -> &'a [Kind]
-    ensures { map view_kind result.now ≡ parameters_at (view_layout y.now).calls function }
+fn parameters<'a>(layout: &FunctionLayout<'a>, function: usize) -> &'a [Kind]
+    ensures { map view_kind result.now ≡ parameters_at (view_layout layout.now).calls function }
 {
-    match y.script.program.routines.get(function) {
+    match layout.script.program.routines.get(function) {
         Some(routine) => &routine.parameters,
         None => &[],
     }
@@ -91,43 +91,53 @@ fn parameters<'a>(y: &FunctionLayout<'a>, function: usize) -> &'a [Kind]
 
 /// Adds what a function is given, whose operands are evaluated.
 fn all_passed(
-    y: &FunctionLayout<'_>,
+    layout: &FunctionLayout<'_>,
     out: &mut Vec<Instr>,
     forms: &[Form],
     kinds: &[Kind],
     operands: &[Operand],
-    t: u32,
+    temporary: u32,
     arrays: u32,
 ) -> Result<(), AllocError>
-    requires places { t + count_of (views operands.now) ≤ most_places }
+    requires places { temporary + count_of (views operands.now) ≤ most_places }
     requires made { arrays + made_in (views operands.now) ≤ most_places }
     requires fit { ArraysFit (views operands.now) }
-    ensures { OnOk result (Emits out.old.items out.new.items (passed_with (view_layout y.now)
-        (map view_form forms.now) (map view_kind kinds.now) (views operands.now) t arrays)) }
+    ensures { OnOk result (Emits out.old.items out.new.items
+        (passed_with (view_layout layout.now) (map view_form forms.now)
+        (map view_kind kinds.now) (views operands.now) temporary arrays)) }
 {
-    all_given(y.alloc, y.bases, out, forms, kinds, operands, t)?;
-    all_pushed(y, out, kinds, operands, t, arrays)
+    all_given(
+        layout.alloc,
+        layout.bases,
+        out,
+        forms,
+        kinds,
+        operands,
+        temporary,
+    )?;
+    all_pushed(layout, out, kinds, operands, temporary, arrays)
 }
 
 /// Enters a function, and keeps what it answers.
 fn entered(
-    b: &Bases,
+    bases: &Bases,
     out: &mut Vec<Instr>,
     function: usize,
-    t: u32,
+    temporary: u32,
     exit: u32,
 ) -> Result<(), AllocError>
     requires function { function ≤ most_places }
-    requires places { t ≤ most_places }
-    ensures { OnOk result (Emits out.old.items out.new.items (entered b.now function t exit)) }
+    requires places { temporary ≤ most_places }
+    ensures { OnOk result
+        (Emits out.old.items out.new.items (entered bases.now function temporary exit)) }
 {
     does(out, Simple::Call(function as u32 + IMPORT_COUNT as u32))?;
-    kept_value(b, out, true, t, exit)
+    kept_value(bases, out, true, temporary, exit)
 }
 
 /// Adds a call of a function, whose operands are evaluated.
 pub(crate) fn called(
-    y: &FunctionLayout<'_>,
+    layout: &FunctionLayout<'_>,
     out: &mut Vec<Instr>,
     forms: &[Form],
     function: usize,
@@ -138,11 +148,11 @@ pub(crate) fn called(
     requires places { at.temporary + count_of (views operands.now) ≤ most_places }
     requires made { at.arrays + made_in (views operands.now) ≤ most_places }
     requires fit { ArraysFit (views operands.now) }
-    ensures { OnOk result (Emits out.old.items out.new.items (called_with (view_layout y.now)
+    ensures { OnOk result (Emits out.old.items out.new.items (called_with (view_layout layout.now)
         (map view_form forms.now) function (views operands.now) at.temporary at.arrays at.exit)) }
 {
-    let kinds = parameters(y, function);
-    all_passed(y, out, forms, kinds, operands, at.temporary, at.arrays)?;
-    entered(y.bases, out, function, at.temporary, at.exit)?;
-    all_freed(y.bases, out, at.arrays, made_in(operands))
+    let kinds = parameters(layout, function);
+    all_passed(layout, out, forms, kinds, operands, at.temporary, at.arrays)?;
+    entered(layout.bases, out, function, at.temporary, at.exit)?;
+    all_freed(layout.bases, out, at.arrays, made_in(operands))
 }

@@ -85,18 +85,18 @@ pub fn field_at(code: &Code) -> Option<i64>
 
 /// Adds the reading of such a field, which cannot fail.
 pub(crate) fn field_read(
-    y: &FunctionLayout<'_>,
+    layout: &FunctionLayout<'_>,
     out: &mut Vec<Instr>,
     number: i64,
-    t: u32,
+    temporary: u32,
 ) -> Result<Form, AllocError>
-    requires { t ≤ most_places }
+    requires { temporary ≤ most_places }
     ensures form { IfOk result (λ form. view_form form ≡ a_value) }
     ensures emits { OnOk result
-        (Emits out.old.items out.new.items (field_read (view_layout y.now) number t)) }
+        (Emits out.old.items out.new.items (field_read (view_layout layout.now) number temporary)) }
 {
     does(out, Simple::I64Const(number.cast_unsigned()))?;
     ask_row(out, Primitive::Field)?;
-    does(out, Simple::LocalSet(y.bases.handle(t)))?;
+    does(out, Simple::LocalSet(layout.bases.handle(temporary)))?;
     Ok(Form::Answered(Answer::Of(Sort::Value)))
 }

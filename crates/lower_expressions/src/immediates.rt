@@ -70,18 +70,18 @@ fn constant_asked(out: &mut Vec<Instr>, bits: u64, primitive: Primitive) -> Resu
 
 /// Puts the value of such an operand on the stack.
 fn immediate_pushed(
-    y: &FunctionLayout<'_>,
+    layout: &FunctionLayout<'_>,
     out: &mut Vec<Instr>,
     operand: Immediate,
 ) -> Result<(), AllocError>
-    requires { ImmediateFits (view_layout y.now) (view_immediate operand) }
+    requires { ImmediateFits (view_layout layout.now) (view_immediate operand) }
     ensures { OnOk result (Emits out.old.items out.new.items
-        (immediate_pushed (view_layout y.now) (view_immediate operand))) }
+        (immediate_pushed (view_layout layout.now) (view_immediate operand))) }
 {
     match operand {
         Immediate::Field(number) => constant_asked(out, number.cast_unsigned(), Primitive::Field),
         Immediate::Text(text) => {
-            text_pushed(y, out, text)?;
+            text_pushed(layout, out, text)?;
             ask_row(out, Primitive::Lit)
         }
         Immediate::Number(number) => constant_asked(out, number.cast_unsigned(), Primitive::Num),
@@ -90,26 +90,25 @@ fn immediate_pushed(
 
 /// Compares what stands in a temporary with such an operand.
 pub(crate) fn immediately_compared(
-    y: &FunctionLayout<'_>,
+    layout: &FunctionLayout<'_>,
     out: &mut Vec<Instr>,
     op: CompareOp,
     form: Form,
     operand: Immediate,
-    t: u32,
+    temporary: u32,
     exit: u32,
 ) -> Result<Form, AllocError>
-    requires places { suc t ≤ most_places }
-    requires operand { ImmediateFits (view_layout y.now) (view_immediate operand) }
+    requires places { suc temporary ≤ most_places }
+    requires operand { ImmediateFits (view_layout layout.now) (view_immediate operand) }
     ensures form { IfOk result (λ form. view_form form ≡ Answered Truth) }
-    ensures emits { OnOk result (Emits out.old.items out.new.items
-        (immediately_compared (view_layout y.now) op (view_form form) (view_immediate operand) t
-        exit)) }
+    ensures emits { OnOk result (Emits out.old.items out.new.items (immediately_compared
+        (view_layout layout.now) op (view_form form) (view_immediate operand) temporary exit)) }
 {
-    to_value(y.alloc, y.bases, out, form, t)?;
+    to_value(layout.alloc, layout.bases, out, form, temporary)?;
     does(out, Simple::I32Const(comparison_number(op)))?;
-    moved_out(out, y.bases.handle(t))?;
-    immediate_pushed(y, out, operand)?;
+    moved_out(out, layout.bases.handle(temporary))?;
+    immediate_pushed(layout, out, operand)?;
     ask_row(out, Primitive::Compare)?;
-    kept_code(y.bases, out, true, t, exit)?;
+    kept_code(layout.bases, out, true, temporary, exit)?;
     Ok(Form::Answered(Answer::Truth))
 }

@@ -31,9 +31,9 @@ impl Model for Kept {
 
     ghost Value = { Keeping };
 
-    ghost view = { λ k. keeping_of (reverse k.entries.items) };
+    ghost view = { λ kept. keeping_of (reverse kept.entries.items) };
 
-    ghost invariant = { λ k. All (λ e. e.temporary ≤ most_places) k.entries.items };
+    ghost invariant = { λ kept. All (λ entry. entry.temporary ≤ most_places) kept.entries.items };
 }
 
 impl Kept {

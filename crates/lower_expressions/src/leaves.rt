@@ -6,8 +6,8 @@ ghost use Rattle.wasm_types.specs.declared.instr.Simple.TheVariants.{Convert, Gl
 ghost use Rattle.mid_program.specs.Mid.{Answered, Perhaps, a_number, a_value, form_at, slot_form};
 ghost use Rattle.mid_program.specs.ViewCode.{view_slot};
 ghost use Rattle.lower_model.specs.Emission.{asked, bound_read, slot_read, text_pushed};
-ghost use Rattle.lower_model.specs.Places.{range_global};
-ghost use Rattle.lower_model.specs.Small.{ask_row, code_number, does, h, least, n};
+ghost use Rattle.lower_model.specs.Places.{range_global, handle_local, number_local};
+ghost use Rattle.lower_model.specs.Small.{ask_row, code_number, does, least};
 ghost use Rattle.lower_pieces.specs.Bounds.{most_places};
 ghost use Rattle.lower_pieces.specs.Emits.{Emits};
 ghost use Rattle.lower_pieces.specs.Forms.{view_form};
@@ -27,72 +27,78 @@ use std::alloc::AllocError;
 use wasm_types::{CvtOp, Instr, Simple};
 
 /// Adds the reading of a record of the main input.
-pub(crate) fn line(y: &FunctionLayout<'_>, out: &mut Vec<Instr>, at: At) -> Result<Form, AllocError>
+pub(crate) fn line(
+    layout: &FunctionLayout<'_>,
+    out: &mut Vec<Instr>,
+    at: At,
+) -> Result<Form, AllocError>
     requires { Within at.temporary at.arrays at.exit }
     ensures form { IfOk result (λ form. view_form form ≡ a_number) }
-    ensures emits { OnOk result (Emits out.old.items out.new.items (λ k. asked (view_layout y.now)
-        Getline at.temporary at.exit (code_number y.now.bases.now at.temporary k))) }
+    ensures emits { OnOk result (Emits out.old.items out.new.items
+        (λ after. asked (view_layout layout.now) Getline at.temporary at.exit
+        (code_number layout.now.bases.now at.temporary after))) }
 {
-    asked(y, out, Primitive::Getline, at.temporary, at.exit)?;
-    code_number(y.bases, out, at.temporary)?;
+    asked(layout, out, Primitive::Getline, at.temporary, at.exit)?;
+    code_number(layout.bases, out, at.temporary)?;
     Ok(Form::Answered(Answer::Of(Sort::Number)))
 }
 
 /// Adds a number, by its bits.
 pub(crate) fn constant(
-    y: &FunctionLayout<'_>,
+    layout: &FunctionLayout<'_>,
     out: &mut Vec<Instr>,
     bits: u64,
     at: At,
 ) -> Result<Form, AllocError>
     requires { Within at.temporary at.arrays at.exit }
     ensures form { IfOk result (λ form. view_form form ≡ a_number) }
-    ensures emits { OnOk result (Emits out.old.items out.new.items
-        (λ k. does (I64Const bits) (does (LocalSet (n y.now.bases.now at.temporary)) k))) }
+    ensures emits { OnOk result (Emits out.old.items out.new.items (λ after. does
+        (I64Const bits) (does (LocalSet (number_local layout.now.bases.now at.temporary)) after))) }
 {
-    let put = Simple::LocalSet(y.bases.number(at.temporary));
+    let put = Simple::LocalSet(layout.bases.number(at.temporary));
     does_all(out, &[Simple::I64Const(bits), put])?;
     Ok(Form::Answered(Answer::Of(Sort::Number)))
 }
 
 /// Adds a text of the script.
 pub(crate) fn text(
-    y: &FunctionLayout<'_>,
+    layout: &FunctionLayout<'_>,
     out: &mut Vec<Instr>,
     place: usize,
     at: At,
 ) -> Result<Form, AllocError>
     requires within { Within at.temporary at.arrays at.exit }
-    requires there { place < length (view_layout y.now).texts }
+    requires there { place < length (view_layout layout.now).texts }
     ensures form { IfOk result (λ form. view_form form ≡ a_value) }
-    ensures emits { OnOk result (Emits out.old.items out.new.items (λ k. text_pushed (view_layout
-        y.now) place (ask_row Lit (does (LocalSet (h y.now.bases.now at.temporary)) k)))) }
+    ensures emits { OnOk result
+        (Emits out.old.items out.new.items (λ after. text_pushed (view_layout layout.now) place
+        (ask_row Lit (does (LocalSet (handle_local layout.now.bases.now at.temporary)) after)))) }
 {
-    text_pushed(y, out, place)?;
+    text_pushed(layout, out, place)?;
     ask_row(out, Primitive::Lit)?;
-    does(out, Simple::LocalSet(y.bases.handle(at.temporary)))?;
+    does(out, Simple::LocalSet(layout.bases.handle(at.temporary)))?;
     Ok(Form::Answered(Answer::Of(Sort::Value)))
 }
 
 /// Adds what a parameter is without an argument.
 pub(crate) fn unset(
-    y: &FunctionLayout<'_>,
+    layout: &FunctionLayout<'_>,
     out: &mut Vec<Instr>,
     at: At,
 ) -> Result<Form, AllocError>
     requires { Within at.temporary at.arrays at.exit }
     ensures form { IfOk result (λ form. view_form form ≡ Perhaps) }
-    ensures emits { OnOk result (Emits out.old.items out.new.items
-        (λ k. does (I64Const least) (does (LocalSet (n y.now.bases.now at.temporary)) k))) }
+    ensures emits { OnOk result (Emits out.old.items out.new.items (λ after. does (I64Const least)
+        (does (LocalSet (number_local layout.now.bases.now at.temporary)) after))) }
 {
-    let put = Simple::LocalSet(y.bases.number(at.temporary));
+    let put = Simple::LocalSet(layout.bases.number(at.temporary));
     does_all(out, &[Simple::I64Const(LEAST), put])?;
     Ok(Form::Perhaps)
 }
 
 /// Adds the reading of a scalar.
 pub(crate) fn variable(
-    y: &FunctionLayout<'_>,
+    layout: &FunctionLayout<'_>,
     out: &mut Vec<Instr>,
     slot: Slot,
     at: At,
@@ -101,15 +107,15 @@ pub(crate) fn variable(
     requires slot { SlotFits (view_slot slot) }
     ensures form { IfOk result (λ form. view_form form ≡ slot_form (view_slot slot)) }
     ensures emits { OnOk result (Emits out.old.items out.new.items
-        (slot_read (view_layout y.now) (view_slot slot) at.temporary)) }
+        (slot_read (view_layout layout.now) (view_slot slot) at.temporary)) }
 {
-    slot_read(y, out, slot, at.temporary)?;
+    slot_read(layout, out, slot, at.temporary)?;
     Ok(slot_form(slot))
 }
 
 /// Adds whether the range of an item is open.
 pub(crate) fn is_open(
-    y: &FunctionLayout<'_>,
+    layout: &FunctionLayout<'_>,
     out: &mut Vec<Instr>,
     item: usize,
     at: At,
@@ -117,14 +123,14 @@ pub(crate) fn is_open(
     requires within { Within at.temporary at.arrays at.exit }
     requires few { item ≤ most_places }
     ensures form { IfOk result (λ form. view_form form ≡ Answered Answer.Truth) }
-    ensures emits { OnOk result
-        (Emits out.old.items out.new.items (λ k. does (GlobalGet (range_global item))
-        (does (Convert I64ExtendI32U) (does (LocalSet (n y.now.bases.now at.temporary)) k)))) }
+    ensures emits { OnOk result (Emits out.old.items out.new.items
+        (λ after. does (GlobalGet (range_global item)) (does (Convert I64ExtendI32U)
+        (does (LocalSet (number_local layout.now.bases.now at.temporary)) after)))) }
 {
     let all = [
         Simple::GlobalGet(item as u32 + 2),
         Simple::Convert(CvtOp::I64ExtendI32U),
-        Simple::LocalSet(y.bases.number(at.temporary)),
+        Simple::LocalSet(layout.bases.number(at.temporary)),
     ];
     does_all(out, &all)?;
     Ok(Form::Answered(Answer::Truth))
@@ -132,7 +138,7 @@ pub(crate) fn is_open(
 
 /// Adds what was kept. Where `only` what is done counts, that is nothing.
 pub(crate) fn bound(
-    y: &FunctionLayout<'_>,
+    layout: &FunctionLayout<'_>,
     kept: &Kept,
     out: &mut Vec<Instr>,
     only: bool,
@@ -143,7 +149,7 @@ pub(crate) fn bound(
     requires { Within at.temporary at.arrays at.exit }
     ensures form { IfOk result (λ form. view_form form ≡ form_at kept.now.forms after) }
     ensures emits { OnOk result
-        (Emits out.old.items out.new.items (bound_read (view_layout y.now) only moves
+        (Emits out.old.items out.new.items (bound_read (view_layout layout.now) only moves
         (form_at kept.now.forms after) (get_or kept.now.temporaries after 0) at.temporary)) }
 {
     let entry = kept.at(after);
@@ -152,8 +158,8 @@ pub(crate) fn bound(
     }
     let to = at.temporary;
     bound_from(
-        y.alloc,
-        y.bases,
+        layout.alloc,
+        layout.bases,
         out,
         moves,
         entry.form,

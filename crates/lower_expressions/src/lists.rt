@@ -38,22 +38,22 @@ fn values_counted(to: Destination, count: u32) -> u32
 
 /// Asks the host for what takes a list of values.
 fn listed_asked(
-    y: &FunctionLayout<'_>,
+    layout: &FunctionLayout<'_>,
     out: &mut Vec<Instr>,
     listed: Listed,
     count: u32,
-    t: u32,
+    temporary: u32,
     exit: u32,
 ) -> Result<(), AllocError>
-    requires { t ≤ most_places }
-    ensures { OnOk result
-        (Emits out.old.items out.new.items (listed_asked (view_layout y.now) listed count t exit)) }
+    requires { temporary ≤ most_places }
+    ensures { OnOk result (Emits out.old.items out.new.items
+        (listed_asked (view_layout layout.now) listed count temporary exit)) }
 {
     let (listing, to) = match listed {
         Listed::Sprintf => {
             does(out, Simple::I32Const(count))?;
             ask(out, Import::Over(Listing::Sprintf))?;
-            return kept_value(y.bases, out, true, t, exit);
+            return kept_value(layout.bases, out, true, temporary, exit);
         }
         Listed::Print(to) => (Listing::Print, to),
         Listed::Printf(to) => (Listing::Printf, to),
@@ -61,23 +61,23 @@ fn listed_asked(
     let count = Simple::I32Const(values_counted(to, count));
     does_all(out, &[count, Simple::I32Const(destination_number(to))])?;
     ask(out, Import::Over(listing))?;
-    kept(y.bases, out, true, Answer::Done, t, exit)
+    kept(layout.bases, out, true, Answer::Done, temporary, exit)
 }
 
 /// Adds what takes a list of values that are evaluated.
 pub(crate) fn listed(
-    y: &FunctionLayout<'_>,
+    layout: &FunctionLayout<'_>,
     out: &mut Vec<Instr>,
     forms: &[Form],
     listed: Listed,
-    t: u32,
+    temporary: u32,
     exit: u32,
 ) -> Result<(), AllocError>
-    requires { t + length forms.now ≤ most_places }
+    requires { temporary + length forms.now ≤ most_places }
     ensures { OnOk result (Emits out.old.items out.new.items
-        (listed_with (view_layout y.now) (map view_form forms.now) listed t exit)) }
+        (listed_with (view_layout layout.now) (map view_form forms.now) listed temporary exit)) }
 {
-    all_boxed(y.alloc, y.bases, out, forms, t)?;
-    all_appended(y.bases, out, forms, t)?;
-    listed_asked(y, out, listed, forms.len() as u32, t, exit)
+    all_boxed(layout.alloc, layout.bases, out, forms, temporary)?;
+    all_appended(layout.bases, out, forms, temporary)?;
+    listed_asked(layout, out, listed, forms.len() as u32, temporary, exit)
 }

@@ -60,37 +60,37 @@ fn arguments(operation: Operation) -> &'static [Argument]
 
 /// Puts an operand on the stack.
 fn one_pushed(
-    y: &FunctionLayout<'_>,
+    layout: &FunctionLayout<'_>,
     out: &mut Vec<Instr>,
     wanted: Argument,
     code: &Code,
-    t: u32,
+    temporary: u32,
 ) -> Result<(), AllocError>
-    requires places { t ≤ most_places }
+    requires places { temporary ≤ most_places }
     requires array { ArrayFits (array_meant (view code.now)) }
     ensures { OnOk result (Emits out.old.items out.new.items
-        (one_pushed (view_layout y.now) wanted (view code.now) t)) }
+        (one_pushed (view_layout layout.now) wanted (view code.now) temporary)) }
 {
     match wanted {
-        Argument::Of(Sort::Value) => moved_out(out, y.bases.handle(t)),
-        Argument::Of(Sort::Number) => does(out, Simple::LocalGet(y.bases.number(t))),
-        Argument::Of(Sort::Array) => array_pushed(y, out, array_meant(code)),
+        Argument::Of(Sort::Value) => moved_out(out, layout.bases.handle(temporary)),
+        Argument::Of(Sort::Number) => does(out, Simple::LocalGet(layout.bases.number(temporary))),
+        Argument::Of(Sort::Array) => array_pushed(layout, out, array_meant(code)),
         Argument::Of(Sort::Iterator) | Argument::Constant(_) | Argument::Place => Ok(()),
     }
 }
 
 /// Puts operands on the stack.
 pub(crate) fn all_pushed(
-    y: &FunctionLayout<'_>,
+    layout: &FunctionLayout<'_>,
     out: &mut Vec<Instr>,
     wanted: &[Argument],
     operands: &[Operand],
-    t: u32,
+    temporary: u32,
 ) -> Result<(), AllocError>
-    requires places { t + count_of (views operands.now) ≤ most_places }
+    requires places { temporary + count_of (views operands.now) ≤ most_places }
     requires arrays { ArraysFit (views operands.now) }
     ensures { OnOk result (Emits out.old.items out.new.items
-        (all_pushed (view_layout y.now) wanted.now (views operands.now) t)) }
+        (all_pushed (view_layout layout.now) wanted.now (views operands.now) temporary)) }
 {
     let Some((operand, operands)) = operands.split_first() else {
         return Ok(());
@@ -100,12 +100,12 @@ pub(crate) fn all_pushed(
     };
     match operand {
         Operand::Code(code) => {
-            one_pushed(y, out, *first, code, t)?;
-            all_pushed(y, out, wanted, operands, t + 1)
+            one_pushed(layout, out, *first, code, temporary)?;
+            all_pushed(layout, out, wanted, operands, temporary + 1)
         }
         Operand::Constant(number) => {
             does(out, Simple::I32Const(*number))?;
-            all_pushed(y, out, wanted, operands, t)
+            all_pushed(layout, out, wanted, operands, temporary)
         }
         Operand::Fresh => Ok(()),
     }
@@ -113,72 +113,90 @@ pub(crate) fn all_pushed(
 
 /// Asks the host for an operation on operands.
 fn host_performed(
-    y: &FunctionLayout<'_>,
+    layout: &FunctionLayout<'_>,
     out: &mut Vec<Instr>,
     primitive: Primitive,
     operands: &[Operand],
-    t: u32,
+    temporary: u32,
     exit: u32,
 ) -> Result<(), AllocError>
-    requires places { suc (suc t) + count_of (views operands.now) ≤ most_places }
+    requires places { suc (suc temporary) + count_of (views operands.now) ≤ most_places }
     requires arrays { ArraysFit (views operands.now) }
     ensures { OnOk result (Emits out.old.items out.new.items
-        (host_performed (view_layout y.now) primitive (views operands.now) t exit)) }
+        (host_performed (view_layout layout.now) primitive (views operands.now) temporary exit)) }
 {
-    all_pushed(y, out, primitive.arguments(), operands, t)?;
+    all_pushed(layout, out, primitive.arguments(), operands, temporary)?;
     ask_row(out, primitive)?;
     kept(
-        y.bases,
+        layout.bases,
         out,
         primitive.can_fault(),
         primitive.answer(),
-        t,
+        temporary,
         exit,
     )
 }
 
 /// Adds an operation on operands that are converted.
 fn performed(
-    y: &FunctionLayout<'_>,
+    layout: &FunctionLayout<'_>,
     out: &mut Vec<Instr>,
     operation: Operation,
     operands: &[Operand],
-    t: u32,
+    temporary: u32,
     exit: u32,
 ) -> Result<(), AllocError>
-    requires places { suc (suc t) + count_of (views operands.now) ≤ most_places }
+    requires places { suc (suc temporary) + count_of (views operands.now) ≤ most_places }
     requires labels { exit ≤ most_labels }
     requires arrays { ArraysFit (views operands.now) }
     ensures { OnOk result (Emits out.old.items out.new.items
-        (performed (view_layout y.now) operation (views operands.now) t exit)) }
+        (performed (view_layout layout.now) operation (views operands.now) temporary exit)) }
 {
     match operation {
-        Operation::Host(primitive) => host_performed(y, out, primitive, operands, t, exit),
-        Operation::Inline(operator) => calculated(y.alloc, y.bases, out, operator, t, exit),
+        Operation::Host(primitive) => host_performed(
+            layout, out, primitive, operands, temporary, exit,
+        ),
+        Operation::Inline(operator) => calculated(
+            layout.alloc,
+            layout.bases,
+            out,
+            operator,
+            temporary,
+            exit,
+        ),
         Operation::AsNumber => Ok(()),
-        Operation::FieldNumber => field_checked(y.alloc, y.bases, out, t, exit),
+        Operation::FieldNumber => field_checked(layout.alloc, layout.bases, out, temporary, exit),
     }
 }
 
 /// Adds an operation on operands that are evaluated.
 pub(crate) fn operated(
-    y: &FunctionLayout<'_>,
+    layout: &FunctionLayout<'_>,
     out: &mut Vec<Instr>,
     forms: &[Form],
     operation: Operation,
     operands: &[Operand],
-    t: u32,
+    temporary: u32,
     exit: u32,
 ) -> Result<(), AllocError>
-    requires places { suc (suc t) + count_of (views operands.now) ≤ most_places }
+    requires places { suc (suc temporary) + count_of (views operands.now) ≤ most_places }
     requires labels { exit ≤ most_labels }
     requires arrays { ArraysFit (views operands.now) }
-    ensures { OnOk result (Emits out.old.items out.new.items (operated (view_layout y.now)
-        (map view_form forms.now) operation (views operands.now) t exit)) }
+    ensures { OnOk result (Emits out.old.items out.new.items (operated (view_layout layout.now)
+        (map view_form forms.now) operation (views operands.now) temporary exit)) }
 {
     let wanted = arguments(operation);
-    all_converted(y.alloc, y.bases, out, forms, wanted, operands, t, exit)?;
-    performed(y, out, operation, operands, t, exit)
+    all_converted(
+        layout.alloc,
+        layout.bases,
+        out,
+        forms,
+        wanted,
+        operands,
+        temporary,
+        exit,
+    )?;
+    performed(layout, out, operation, operands, temporary, exit)
 }
 
 /// What an operation answers.
@@ -195,42 +213,50 @@ pub(crate) fn operation_form(operation: Operation) -> Form
 
 /// Joins two subscripts that are evaluated.
 fn joined(
-    y: &FunctionLayout<'_>,
+    layout: &FunctionLayout<'_>,
     out: &mut Vec<Instr>,
     first: Form,
     second: Form,
-    t: u32,
+    temporary: u32,
     exit: u32,
 ) -> Result<(), AllocError>
-    requires places { suc (suc (suc (suc t))) ≤ most_places }
+    requires places { suc (suc (suc (suc temporary))) ≤ most_places }
     requires labels { exit ≤ most_labels }
-    ensures { OnOk result (Emits out.old.items out.new.items
-        (joined_with (view_layout y.now) (view_form first) (view_form second) t exit)) }
+    ensures { OnOk result (Emits out.old.items out.new.items (joined_with (view_layout layout.now)
+        (view_form first) (view_form second) temporary exit)) }
 {
     let values = [Operand::Code(Code::Unset), Operand::Code(Code::Unset)];
     let join = Operation::Host(Primitive::Join);
-    operated(y, out, &[first, second], join, &values, t, exit)
+    operated(
+        layout,
+        out,
+        &[first, second],
+        join,
+        &values,
+        temporary,
+        exit,
+    )
 }
 
 /// Joins subscripts that are evaluated: the last one, whose form stands apart, to the one before it, and so on.
 pub(crate) fn all_joined(
-    y: &FunctionLayout<'_>,
+    layout: &FunctionLayout<'_>,
     out: &mut Vec<Instr>,
     forms: &[Form],
     last: Form,
-    t: u32,
+    temporary: u32,
     exit: u32,
 ) -> Result<(), AllocError>
-    requires places { suc (suc (suc t)) + length forms.now ≤ most_places }
+    requires places { suc (suc (suc temporary)) + length forms.now ≤ most_places }
     requires labels { exit ≤ most_labels }
-    ensures { OnOk result (Emits out.old.items out.new.items
-        (all_joined (view_layout y.now) (map view_form forms.now) (view_form last) t exit)) }
+    ensures { OnOk result (Emits out.old.items out.new.items (all_joined (view_layout layout.now)
+        (map view_form forms.now) (view_form last) temporary exit)) }
 {
     let mut second = last;
     let mut left = forms;
     while let Some((first, before)) = left.split_last() {
-        let place = t + before.len() as u32;
-        joined(y, out, *first, second, place, exit)?;
+        let place = temporary + before.len() as u32;
+        joined(layout, out, *first, second, place, exit)?;
         second = operation_form(Operation::Host(Primitive::Join));
         left = before;
     }

@@ -24,61 +24,61 @@ use wasm_types::{CvtOp, Instr, Simple};
 
 /// Gives a boxed name the value of a temporary.
 fn boxed_assigned(
-    y: &FunctionLayout<'_>,
+    layout: &FunctionLayout<'_>,
     out: &mut Vec<Instr>,
     name: usize,
-    t: u32,
+    temporary: u32,
 ) -> Result<(), AllocError>
     requires name { name ≤ most_places }
-    requires places { t ≤ most_places }
-    ensures { OnOk result
-        (Emits out.old.items out.new.items (assigned (view_layout y.now) Boxed name t)) }
+    requires places { temporary ≤ most_places }
+    ensures { OnOk result (Emits out.old.items out.new.items
+        (assigned (view_layout layout.now) Boxed name temporary)) }
 {
-    let global = global_handle(y, name);
+    let global = global_handle(layout, name);
     does(out, Simple::GlobalGet(global))?;
     ask(out, Import::Drop)?;
-    moved_out(out, y.bases.handle(t))?;
+    moved_out(out, layout.bases.handle(temporary))?;
     does(out, Simple::GlobalSet(global))
 }
 
 /// Gives an unboxed name the text of a temporary.
 fn text_assigned(
-    y: &FunctionLayout<'_>,
+    layout: &FunctionLayout<'_>,
     out: &mut Vec<Instr>,
     name: usize,
-    t: u32,
+    temporary: u32,
 ) -> Result<(), AllocError>
     requires name { name ≤ most_places }
-    requires places { t ≤ most_places }
-    ensures { OnOk result
-        (Emits out.old.items out.new.items (assigned (view_layout y.now) Unboxed name t)) }
+    requires places { temporary ≤ most_places }
+    ensures { OnOk result (Emits out.old.items out.new.items
+        (assigned (view_layout layout.now) Unboxed name temporary)) }
 {
-    text_dropped(y, out, name)?;
-    moved_out(out, y.bases.handle(t))?;
+    text_dropped(layout, out, name)?;
+    moved_out(out, layout.bases.handle(temporary))?;
     let all = [
-        Simple::GlobalSet(global_handle(y, name)),
+        Simple::GlobalSet(global_handle(layout, name)),
         Simple::I64Const(TEXT_BESIDE),
-        Simple::GlobalSet(global_number(y, name)),
+        Simple::GlobalSet(global_number(layout, name)),
     ];
     does_all(out, &all)
 }
 
 /// What gives a name the value of a temporary.
 fn assigned_code(
-    y: &FunctionLayout<'_>,
+    layout: &FunctionLayout<'_>,
     kind: Kind,
     name: usize,
-    t: u32,
+    temporary: u32,
 ) -> Result<Vec<Instr>, AllocError>
     requires name { name ≤ most_places }
-    requires places { suc t ≤ most_places }
-    ensures { IfOk result
-        (λ v. Emits [] v.items (assigned (view_layout y.now) (view_kind kind) name t)) }
+    requires places { suc temporary ≤ most_places }
+    ensures { IfOk result (λ code. Emits [] code.items
+        (assigned (view_layout layout.now) (view_kind kind) name temporary)) }
 {
-    let mut code = Vec::new(y.alloc);
+    let mut code = Vec::new(layout.alloc);
     match kind {
-        Kind::Boxed => boxed_assigned(y, &mut code, name, t)?,
-        Kind::Unboxed => text_assigned(y, &mut code, name, t)?,
+        Kind::Boxed => boxed_assigned(layout, &mut code, name, temporary)?,
+        Kind::Unboxed => text_assigned(layout, &mut code, name, temporary)?,
         Kind::Many => {}
     }
     Ok(code)
@@ -86,53 +86,57 @@ fn assigned_code(
 
 /// Gives a scalar the value of a temporary, where its number is the one there.
 fn number_assigned(
-    y: &FunctionLayout<'_>,
+    layout: &FunctionLayout<'_>,
     out: &mut Vec<Instr>,
     kind: Kind,
     name: usize,
-    t: u32,
+    temporary: u32,
 ) -> Result<(), AllocError>
     requires name { name ≤ most_places }
-    requires places { suc t ≤ most_places }
+    requires places { suc temporary ≤ most_places }
     ensures { OnOk result (Emits out.old.items out.new.items
-        (number_assigned (view_layout y.now) (view_kind kind) name t)) }
+        (number_assigned (view_layout layout.now) (view_kind kind) name temporary)) }
 {
-    number_is(out, y.bases.number(t), name as u64)?;
-    when(y.alloc, out, assigned_code(y, kind, name, t)?)
+    number_is(out, layout.bases.number(temporary), name as u64)?;
+    when(
+        layout.alloc,
+        out,
+        assigned_code(layout, kind, name, temporary)?,
+    )
 }
 
 /// Gives a name the value of a temporary, where its number is the one there.
 fn one_assigned(
-    y: &FunctionLayout<'_>,
+    layout: &FunctionLayout<'_>,
     out: &mut Vec<Instr>,
     kind: Kind,
     name: usize,
-    t: u32,
+    temporary: u32,
 ) -> Result<(), AllocError>
     requires name { name ≤ most_places }
-    requires places { suc t ≤ most_places }
+    requires places { suc temporary ≤ most_places }
     ensures { OnOk result (Emits out.old.items out.new.items
-        (one_assigned (view_layout y.now) (view_kind kind) name t)) }
+        (one_assigned (view_layout layout.now) (view_kind kind) name temporary)) }
 {
     match kind {
-        Kind::Boxed | Kind::Unboxed => number_assigned(y, out, kind, name, t),
+        Kind::Boxed | Kind::Unboxed => number_assigned(layout, out, kind, name, temporary),
         Kind::Many => Ok(()),
     }
 }
 
 /// Gives the name that has the number in a temporary the value there.
 fn assigned_by_number(
-    y: &FunctionLayout<'_>,
+    layout: &FunctionLayout<'_>,
     out: &mut Vec<Instr>,
-    t: u32,
+    temporary: u32,
 ) -> Result<(), AllocError>
-    requires { suc t ≤ most_places }
-    ensures { OnOk result (Emits out.old.items out.new.items
-        (assigned_by_number (view_layout y.now) (view_layout y.now).names zero t)) }
+    requires { suc temporary ≤ most_places }
+    ensures { OnOk result (Emits out.old.items out.new.items (assigned_by_number
+        (view_layout layout.now) (view_layout layout.now).names zero temporary)) }
 {
     let mut name = 0;
-    for declared in y.script.names() {
-        one_assigned(y, out, declared.kind, name, t)?;
+    for declared in layout.script.names() {
+        one_assigned(layout, out, declared.kind, name, temporary)?;
         name += 1;
     }
     Ok(())
@@ -140,96 +144,102 @@ fn assigned_by_number(
 
 /// Makes an assignment of the command line, whose number and value go to a temporary.
 pub fn pending_assigned(
-    y: &FunctionLayout<'_>,
+    layout: &FunctionLayout<'_>,
     out: &mut Vec<Instr>,
-    t: u32,
+    temporary: u32,
 ) -> Result<(), AllocError>
-    requires { suc t ≤ most_places }
+    requires { suc temporary ≤ most_places }
     ensures { OnOk result
-        (Emits out.old.items out.new.items (pending_assigned (view_layout y.now) t)) }
+        (Emits out.old.items out.new.items (pending_assigned (view_layout layout.now) temporary)) }
 {
     ask_row(out, Primitive::PendingName)?;
-    let number = Simple::LocalSet(y.bases.number(t));
+    let number = Simple::LocalSet(layout.bases.number(temporary));
     does_all(out, &[Simple::Convert(CvtOp::I64ExtendI32U), number])?;
     ask_row(out, Primitive::PendingValue)?;
-    does(out, Simple::LocalSet(y.bases.handle(t)))?;
-    assigned_by_number(y, out, t)
+    does(out, Simple::LocalSet(layout.bases.handle(temporary)))?;
+    assigned_by_number(layout, out, temporary)
 }
 
 /// What makes an assignment and begins again.
-pub fn pending_code(y: &FunctionLayout<'_>, t: u32) -> Result<Vec<Instr>, AllocError>
-    requires { suc t ≤ most_places }
-    ensures { IfOk result
-        (λ v. Emits [] v.items (λ k. pending_assigned (view_layout y.now) t (does (Br 1) k))) }
+pub fn pending_code(layout: &FunctionLayout<'_>, temporary: u32) -> Result<Vec<Instr>, AllocError>
+    requires { suc temporary ≤ most_places }
+    ensures { IfOk result (λ code. Emits [] code.items
+        (λ after. pending_assigned (view_layout layout.now) temporary (does (Br 1) after))) }
 {
-    let mut code = Vec::new(y.alloc);
-    pending_assigned(y, &mut code, t)?;
+    let mut code = Vec::new(layout.alloc);
+    pending_assigned(layout, &mut code, temporary)?;
     does(&mut code, Simple::Br(1))?;
     Ok(code)
 }
 
 /// Asks an import, and adds the test whether an assignment is pending.
 fn asked_once(
-    b: &Bases,
+    bases: &Bases,
     out: &mut Vec<Instr>,
     primitive: Primitive,
-    t: u32,
+    temporary: u32,
     exit: u32,
 ) -> Result<(), AllocError>
-    requires places { t ≤ most_places }
+    requires places { temporary ≤ most_places }
     requires labels { exit ≤ most_labels }
-    ensures { OnOk result (Emits out.old.items out.new.items (asked_once b.now primitive t exit)) }
+    ensures { OnOk result
+        (Emits out.old.items out.new.items (asked_once bases.now primitive temporary exit)) }
 {
     ask_row(out, primitive)?;
-    kept_code(b, out, true, t, exit + 1)?;
-    number_is(out, b.number(t), 2)
+    kept_code(bases, out, true, temporary, exit + 1)?;
+    number_is(out, bases.number(temporary), 2)
 }
 
 /// Adds one turn of asking.
 fn one_turn(
-    y: &FunctionLayout<'_>,
+    layout: &FunctionLayout<'_>,
     out: &mut Vec<Instr>,
     primitive: Primitive,
-    t: u32,
+    temporary: u32,
     exit: u32,
 ) -> Result<(), AllocError>
-    requires places { suc t ≤ most_places }
+    requires places { suc temporary ≤ most_places }
     requires labels { exit ≤ most_labels }
-    ensures { OnOk result
-        (Emits out.old.items out.new.items (one_asked (view_layout y.now) primitive t exit)) }
+    ensures { OnOk result (Emits out.old.items out.new.items
+        (one_asked (view_layout layout.now) primitive temporary exit)) }
 {
-    asked_once(y.bases, out, primitive, t, exit)?;
-    when(y.alloc, out, pending_code(y, t)?)
+    asked_once(layout.bases, out, primitive, temporary, exit)?;
+    when(layout.alloc, out, pending_code(layout, temporary)?)
 }
 
 /// One turn of asking.
 fn one_asked(
-    y: &FunctionLayout<'_>,
+    layout: &FunctionLayout<'_>,
     primitive: Primitive,
-    t: u32,
+    temporary: u32,
     exit: u32,
 ) -> Result<Vec<Instr>, AllocError>
-    requires places { suc t ≤ most_places }
+    requires places { suc temporary ≤ most_places }
     requires labels { exit ≤ most_labels }
-    ensures { IfOk result (λ v. Emits [] v.items (one_asked (view_layout y.now) primitive t exit)) }
+    ensures { IfOk result (λ code. Emits [] code.items
+        (one_asked (view_layout layout.now) primitive temporary exit)) }
 {
-    let mut code = Vec::new(y.alloc);
-    one_turn(y, &mut code, primitive, t, exit)?;
+    let mut code = Vec::new(layout.alloc);
+    one_turn(layout, &mut code, primitive, temporary, exit)?;
     Ok(code)
 }
 
 /// Asks an import until no assignment is pending.
 pub fn asked(
-    y: &FunctionLayout<'_>,
+    layout: &FunctionLayout<'_>,
     out: &mut Vec<Instr>,
     primitive: Primitive,
-    t: u32,
+    temporary: u32,
     exit: u32,
 ) -> Result<(), AllocError>
-    requires places { suc t ≤ most_places }
+    requires places { suc temporary ≤ most_places }
     requires labels { exit ≤ most_labels }
-    ensures { OnOk result
-        (Emits out.old.items out.new.items (asked (view_layout y.now) primitive t exit)) }
+    ensures { OnOk result (Emits out.old.items out.new.items
+        (asked (view_layout layout.now) primitive temporary exit)) }
 {
-    again(y.alloc, out, one_asked(y, primitive, t, exit)?)
+    again(
+        layout.alloc,
+        out,
+        one_asked(layout, primitive, temporary, exit)?,
+    )
 }

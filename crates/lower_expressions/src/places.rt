@@ -14,39 +14,39 @@ use std::alloc::AllocError;
 use wasm_types::{Instr, Simple};
 
 /// The global of a name's handle.
-pub fn global_handle(y: &FunctionLayout<'_>, name: usize) -> u32
+pub fn global_handle(layout: &FunctionLayout<'_>, name: usize) -> u32
     requires { name ≤ most_places }
-    ensures { result ≡ global_handle (view_layout y.now) name }
+    ensures { result ≡ global_handle (view_layout layout.now) name }
 {
     let name = name as u32;
-    y.script.ranges() + 2 + (name + name)
+    layout.script.ranges() + 2 + (name + name)
 }
 
 /// The global of a name's number.
-pub fn global_number(y: &FunctionLayout<'_>, name: usize) -> u32
+pub fn global_number(layout: &FunctionLayout<'_>, name: usize) -> u32
     requires { name ≤ most_places }
-    ensures { result ≡ global_number (view_layout y.now) name }
+    ensures { result ≡ global_number (view_layout layout.now) name }
 {
     let name = name as u32;
-    y.script.ranges() + 3 + (name + name)
+    layout.script.ranges() + 3 + (name + name)
 }
 
 /// Adds an array.
 pub fn array_pushed(
-    y: &FunctionLayout<'_>,
+    layout: &FunctionLayout<'_>,
     out: &mut Vec<Instr>,
     array: ArrayName,
 ) -> Result<(), AllocError>
     requires { ArrayFits (view_array array) }
-    ensures { OnOk result
-        (Emits out.old.items out.new.items (array_pushed (view_layout y.now) (view_array array))) }
+    ensures { OnOk result (Emits out.old.items out.new.items
+        (array_pushed (view_layout layout.now) (view_array array))) }
 {
     match array {
         ArrayName::Numbered(0) => does(out, Simple::I32Const(0)),
         ArrayName::Numbered(1) => does(out, Simple::I32Const(1)),
         ArrayName::Numbered(number) => {
-            let name = y.script.array_name(number - 2);
-            does(out, Simple::GlobalGet(global_handle(y, name)))
+            let name = layout.script.array_name(number - 2);
+            does(out, Simple::GlobalGet(global_handle(layout, name)))
         }
         ArrayName::Given(parameter) => does(out, Simple::LocalGet(parameter as u32)),
     }
@@ -54,15 +54,15 @@ pub fn array_pushed(
 
 /// Adds a text's place and its length.
 pub fn text_pushed(
-    y: &FunctionLayout<'_>,
+    layout: &FunctionLayout<'_>,
     out: &mut Vec<Instr>,
     text: usize,
 ) -> Result<(), AllocError>
-    requires { text < length (view_layout y.now).texts }
+    requires { text < length (view_layout layout.now).texts }
     ensures { OnOk result
-        (Emits out.old.items out.new.items (text_pushed (view_layout y.now) text)) }
+        (Emits out.old.items out.new.items (text_pushed (view_layout layout.now) text)) }
 {
-    let span = y.script.span(text);
+    let span = layout.script.span(text);
     does_all(
         out,
         &[Simple::I32Const(span.place), Simple::I32Const(span.size)],

@@ -37,85 +37,92 @@ pub(crate) fn slot_form(slot: Slot) -> Form
 }
 
 /// What copies the handle of a global.
-fn handle_copied(y: &FunctionLayout<'_>, name: usize, t: u32) -> Result<Vec<Instr>, AllocError>
+fn handle_copied(
+    layout: &FunctionLayout<'_>,
+    name: usize,
+    temporary: u32,
+) -> Result<Vec<Instr>, AllocError>
     requires name { name ≤ most_places }
-    requires places { t ≤ most_places }
-    ensures { IfOk result
-        (λ v. Emits [] v.items (slot_read (view_layout y.now) (GlobalSlot false name) t)) }
+    requires places { temporary ≤ most_places }
+    ensures { IfOk result (λ code. Emits [] code.items
+        (slot_read (view_layout layout.now) (GlobalSlot false name) temporary)) }
 {
-    let mut code = Vec::new(y.alloc);
-    let global = global_handle(y, name);
+    let mut code = Vec::new(layout.alloc);
+    let global = global_handle(layout, name);
     let (get, set) = (Simple::GlobalGet(global), Simple::GlobalSet(global));
-    copied_by(&mut code, get, set, y.bases.handle(t))?;
+    copied_by(&mut code, get, set, layout.bases.handle(temporary))?;
     Ok(code)
 }
 
 /// Reads an unboxed global. Its number says whether a text stands beside it.
 fn bare_read(
-    y: &FunctionLayout<'_>,
+    layout: &FunctionLayout<'_>,
     out: &mut Vec<Instr>,
     name: usize,
-    t: u32,
+    temporary: u32,
 ) -> Result<(), AllocError>
     requires name { name ≤ most_places }
-    requires places { t ≤ most_places }
+    requires places { temporary ≤ most_places }
     ensures { OnOk result (Emits out.old.items out.new.items
-        (slot_read (view_layout y.now) (GlobalSlot true name) t)) }
+        (slot_read (view_layout layout.now) (GlobalSlot true name) temporary)) }
 {
     let all = [
-        Simple::GlobalGet(global_number(y, name)),
-        Simple::LocalTee(y.bases.number(t)),
+        Simple::GlobalGet(global_number(layout, name)),
+        Simple::LocalTee(layout.bases.number(temporary)),
         Simple::I64Const(TEXT_BESIDE),
         Simple::Compare(ValType::I64, IRelOp::Eq),
     ];
     does_all(out, &all)?;
-    when(y.alloc, out, handle_copied(y, name, t)?)
+    when(layout.alloc, out, handle_copied(layout, name, temporary)?)
 }
 
 /// Reads a scalar.
 pub(crate) fn slot_read(
-    y: &FunctionLayout<'_>,
+    layout: &FunctionLayout<'_>,
     out: &mut Vec<Instr>,
     slot: Slot,
-    t: u32,
+    temporary: u32,
 ) -> Result<(), AllocError>
     requires slot { SlotFits (view_slot slot) }
-    requires places { t ≤ most_places }
-    ensures { OnOk result
-        (Emits out.old.items out.new.items (slot_read (view_layout y.now) (view_slot slot) t)) }
+    requires places { temporary ≤ most_places }
+    ensures { OnOk result (Emits out.old.items out.new.items
+        (slot_read (view_layout layout.now) (view_slot slot) temporary)) }
 {
     match slot {
         Slot::Global(false, name) => {
-            let global = global_handle(y, name);
+            let global = global_handle(layout, name);
             let (get, set) = (Simple::GlobalGet(global), Simple::GlobalSet(global));
-            copied_by(out, get, set, y.bases.handle(t))
+            copied_by(out, get, set, layout.bases.handle(temporary))
         }
-        Slot::Global(true, name) => bare_read(y, out, name, t),
+        Slot::Global(true, name) => bare_read(layout, out, name, temporary),
         Slot::Parameter(false, place) => {
             let local = place as u32;
             let (get, set) = (Simple::LocalGet(local), Simple::LocalSet(local));
-            copied_by(out, get, set, y.bases.handle(t))
+            copied_by(out, get, set, layout.bases.handle(temporary))
         }
         Slot::Parameter(true, place) => {
             let get = Simple::LocalGet(place as u32);
-            does_all(out, &[get, Simple::LocalSet(y.bases.number(t))])
+            does_all(
+                out,
+                &[get, Simple::LocalSet(layout.bases.number(temporary))],
+            )
         }
     }
 }
 
 /// Stores a value: a second handle, where the first stays the answer, or the only one.
 fn handle_stored(
-    y: &FunctionLayout<'_>,
+    layout: &FunctionLayout<'_>,
     out: &mut Vec<Instr>,
     only: bool,
-    t: u32,
+    temporary: u32,
     put: Simple,
 ) -> Result<(), AllocError>
-    requires { t ≤ most_places }
-    ensures { OnOk result
-        (Emits out.old.items out.new.items (handle_stored (view_layout y.now) only t put)) }
+    requires { temporary ≤ most_places }
+    ensures { OnOk result (Emits out.old.items out.new.items
+        (handle_stored (view_layout layout.now) only temporary put)) }
 {
-    let local = y.bases.handle(t);
+    let local = layout.bases.handle(temporary);
     if only {
         moved_out(out, local)?;
     } else {
@@ -127,67 +134,78 @@ fn handle_stored(
 
 /// What stores a value.
 fn handle_code(
-    y: &FunctionLayout<'_>,
+    layout: &FunctionLayout<'_>,
     only: bool,
-    t: u32,
+    temporary: u32,
     put: Simple,
 ) -> Result<Vec<Instr>, AllocError>
-    requires { t ≤ most_places }
-    ensures { IfOk result (λ v. Emits [] v.items (handle_stored (view_layout y.now) only t put)) }
+    requires { temporary ≤ most_places }
+    ensures { IfOk result
+        (λ code. Emits [] code.items (handle_stored (view_layout layout.now) only temporary put)) }
 {
-    let mut code = Vec::new(y.alloc);
-    handle_stored(y, &mut code, only, t, put)?;
+    let mut code = Vec::new(layout.alloc);
+    handle_stored(layout, &mut code, only, temporary, put)?;
     Ok(code)
 }
 
 /// What stores a number, or that there is none yet, as a value.
-fn perhaps_code(y: &FunctionLayout<'_>, t: u32, put: Simple) -> Result<Vec<Instr>, AllocError>
-    requires { t ≤ most_places }
-    ensures { IfOk result (λ v. Emits [] v.items (boxed_perhaps y.now.bases.now t put)) }
+fn perhaps_code(
+    layout: &FunctionLayout<'_>,
+    temporary: u32,
+    put: Simple,
+) -> Result<Vec<Instr>, AllocError>
+    requires { temporary ≤ most_places }
+    ensures { IfOk result
+        (λ code. Emits [] code.items (boxed_perhaps layout.now.bases.now temporary put)) }
 {
-    let mut code = Vec::new(y.alloc);
-    boxed_perhaps(y.alloc, y.bases, &mut code, t, put)?;
+    let mut code = Vec::new(layout.alloc);
+    boxed_perhaps(layout.alloc, layout.bases, &mut code, temporary, put)?;
     Ok(code)
 }
 
 /// Stores what an unboxed name has, as a value.
 fn bare_stored(
-    y: &FunctionLayout<'_>,
+    layout: &FunctionLayout<'_>,
     out: &mut Vec<Instr>,
     only: bool,
-    t: u32,
+    temporary: u32,
     put: Simple,
 ) -> Result<(), AllocError>
-    requires { t ≤ most_places }
-    ensures { OnOk result
-        (Emits out.old.items out.new.items (value_stored (view_layout y.now) only Bare t put)) }
+    requires { temporary ≤ most_places }
+    ensures { OnOk result (Emits out.old.items out.new.items
+        (value_stored (view_layout layout.now) only Bare temporary put)) }
 {
-    number_is(out, y.bases.number(t), TEXT_BESIDE)?;
-    let text = handle_code(y, only, t, put)?;
-    either(y.alloc, out, text, perhaps_code(y, t, put)?)
+    number_is(out, layout.bases.number(temporary), TEXT_BESIDE)?;
+    let text = handle_code(layout, only, temporary, put)?;
+    either(
+        layout.alloc,
+        out,
+        text,
+        perhaps_code(layout, temporary, put)?,
+    )
 }
 
 /// Stores what stands in a temporary, as a value.
 fn value_stored(
-    y: &FunctionLayout<'_>,
+    layout: &FunctionLayout<'_>,
     out: &mut Vec<Instr>,
     only: bool,
     form: Form,
-    t: u32,
+    temporary: u32,
     put: Simple,
 ) -> Result<(), AllocError>
-    requires { t ≤ most_places }
+    requires { temporary ≤ most_places }
     ensures { OnOk result (Emits out.old.items out.new.items
-        (value_stored (view_layout y.now) only (view_form form) t put)) }
+        (value_stored (view_layout layout.now) only (view_form form) temporary put)) }
 {
     match form {
-        Form::Answered(Answer::Of(Sort::Value)) => handle_stored(y, out, only, t, put),
+        Form::Answered(Answer::Of(Sort::Value)) => handle_stored(layout, out, only, temporary, put),
         Form::Answered(Answer::Of(Sort::Number) | Answer::Truth) => {
-            boxed_number(y.bases, out, t)?;
+            boxed_number(layout.bases, out, temporary)?;
             does(out, put)
         }
-        Form::Bare => bare_stored(y, out, only, t, put),
-        Form::Perhaps => boxed_perhaps(y.alloc, y.bases, out, t, put),
+        Form::Bare => bare_stored(layout, out, only, temporary, put),
+        Form::Perhaps => boxed_perhaps(layout.alloc, layout.bases, out, temporary, put),
         Form::Answered(_) => {
             ask_row(out, Primitive::Uninit)?;
             does(out, put)
@@ -196,12 +214,13 @@ fn value_stored(
 }
 
 /// What drops the text beside an unboxed name.
-fn text_let_go(y: &FunctionLayout<'_>, name: usize) -> Result<Vec<Instr>, AllocError>
+fn text_let_go(layout: &FunctionLayout<'_>, name: usize) -> Result<Vec<Instr>, AllocError>
     requires { name ≤ most_places }
-    ensures { IfOk result (λ v. Emits [] v.items (handle_dropped (view_layout y.now) name)) }
+    ensures { IfOk result
+        (λ code. Emits [] code.items (handle_dropped (view_layout layout.now) name)) }
 {
-    let mut code = Vec::new(y.alloc);
-    let global = global_handle(y, name);
+    let mut code = Vec::new(layout.alloc);
+    let global = global_handle(layout, name);
     does(&mut code, Simple::GlobalGet(global))?;
     ask(&mut code, Import::Drop)?;
     let none = Simple::I32Const(MINUS_ONE);
@@ -211,74 +230,84 @@ fn text_let_go(y: &FunctionLayout<'_>, name: usize) -> Result<Vec<Instr>, AllocE
 
 /// Drops the text beside an unboxed name, if its number says that there is one.
 pub fn text_dropped(
-    y: &FunctionLayout<'_>,
+    layout: &FunctionLayout<'_>,
     out: &mut Vec<Instr>,
     name: usize,
 ) -> Result<(), AllocError>
     requires { name ≤ most_places }
     ensures { OnOk result
-        (Emits out.old.items out.new.items (text_dropped (view_layout y.now) name)) }
+        (Emits out.old.items out.new.items (text_dropped (view_layout layout.now) name)) }
 {
     let all = [
-        Simple::GlobalGet(global_number(y, name)),
+        Simple::GlobalGet(global_number(layout, name)),
         Simple::I64Const(TEXT_BESIDE),
         Simple::Compare(ValType::I64, IRelOp::Eq),
     ];
     does_all(out, &all)?;
-    when(y.alloc, out, text_let_go(y, name)?)
+    when(layout.alloc, out, text_let_go(layout, name)?)
 }
 
 /// Writes an unboxed global.
 fn bare_set(
-    y: &FunctionLayout<'_>,
+    layout: &FunctionLayout<'_>,
     out: &mut Vec<Instr>,
     name: usize,
-    t: u32,
+    temporary: u32,
 ) -> Result<(), AllocError>
     requires name { name ≤ most_places }
-    requires places { t ≤ most_places }
+    requires places { temporary ≤ most_places }
     ensures { OnOk result
-        (Emits out.old.items out.new.items (bare_set (view_layout y.now) name t)) }
+        (Emits out.old.items out.new.items (bare_set (view_layout layout.now) name temporary)) }
 {
-    text_dropped(y, out, name)?;
+    text_dropped(layout, out, name)?;
     let all = [
-        Simple::LocalGet(y.bases.number(t)),
-        Simple::GlobalSet(global_number(y, name)),
+        Simple::LocalGet(layout.bases.number(temporary)),
+        Simple::GlobalSet(global_number(layout, name)),
     ];
     does_all(out, &all)
 }
 
 /// Writes a scalar.
 pub(crate) fn slot_set(
-    y: &FunctionLayout<'_>,
+    layout: &FunctionLayout<'_>,
     out: &mut Vec<Instr>,
     only: bool,
     slot: Slot,
     form: Form,
-    t: u32,
+    temporary: u32,
 ) -> Result<(), AllocError>
     requires slot { SlotFits (view_slot slot) }
-    requires places { t ≤ most_places }
+    requires places { temporary ≤ most_places }
     ensures { OnOk result (Emits out.old.items out.new.items
-        (slot_set (view_layout y.now) only (view_slot slot) (view_form form) t)) }
+        (slot_set (view_layout layout.now) only (view_slot slot) (view_form form) temporary)) }
 {
     match slot {
         Slot::Global(false, name) => {
-            let global = global_handle(y, name);
+            let global = global_handle(layout, name);
             does(out, Simple::GlobalGet(global))?;
             ask(out, Import::Drop)?;
-            value_stored(y, out, only, form, t, Simple::GlobalSet(global))
+            value_stored(
+                layout,
+                out,
+                only,
+                form,
+                temporary,
+                Simple::GlobalSet(global),
+            )
         }
-        Slot::Global(true, name) => bare_set(y, out, name, t),
+        Slot::Global(true, name) => bare_set(layout, out, name, temporary),
         Slot::Parameter(false, place) => {
             let local = place as u32;
             does(out, Simple::LocalGet(local))?;
             ask(out, Import::Drop)?;
-            value_stored(y, out, only, form, t, Simple::LocalSet(local))
+            value_stored(layout, out, only, form, temporary, Simple::LocalSet(local))
         }
         Slot::Parameter(true, place) => {
             let put = Simple::LocalSet(place as u32);
-            does_all(out, &[Simple::LocalGet(y.bases.number(t)), put])
+            does_all(
+                out,
+                &[Simple::LocalGet(layout.bases.number(temporary)), put],
+            )
         }
     }
 }

@@ -6,8 +6,8 @@ ghost use Rattle.wasm_types.specs.declared.instr.Simple.TheVariants.{LocalSet};
 ghost use Rattle.mid_program.specs.Sorted.{count_of};
 ghost use Rattle.mid_program.specs.ViewCode.{view, views};
 ghost use Rattle.lower_model.specs.Emission.{keeping_closed, left_over, sequence_closed};
-ghost use Rattle.lower_model.specs.Places.{array_local};
-ghost use Rattle.lower_model.specs.Small.{ask_row, does, h};
+ghost use Rattle.lower_model.specs.Places.{array_local, handle_local};
+ghost use Rattle.lower_model.specs.Small.{ask_row, does};
 ghost use Rattle.lower_pieces.specs.Bounds.{most_labels, most_places};
 ghost use Rattle.lower_pieces.specs.Emits.{Emits};
 ghost use Rattle.lower_pieces.specs.Forms.{view_form};
@@ -28,42 +28,42 @@ use std::alloc::AllocError;
 use wasm_types::{ITestOp, Instr, Simple, ValType};
 
 /// Adds an array that is made for a call.
-pub(crate) fn array_made(b: &Bases, out: &mut Vec<Instr>, arrays: u32) -> Result<(), AllocError>
+pub(crate) fn array_made(bases: &Bases, out: &mut Vec<Instr>, arrays: u32) -> Result<(), AllocError>
     requires { arrays ≤ most_places }
     ensures { OnOk result (Emits out.old.items out.new.items
-        (λ k. ask_row NewArray (does (LocalSet (array_local b.now arrays)) k))) }
+        (λ after. ask_row NewArray (does (LocalSet (array_local bases.now arrays)) after))) }
 {
     ask_row(out, Primitive::NewArray)?;
-    does(out, Simple::LocalSet(b.array(arrays)))
+    does(out, Simple::LocalSet(bases.array(arrays)))
 }
 
 /// Keeps a text that was read or replaced.
 pub(crate) fn text_kept(
-    b: &Bases,
+    bases: &Bases,
     out: &mut Vec<Instr>,
     primitive: Primitive,
-    t: u32,
+    temporary: u32,
 ) -> Result<(), AllocError>
-    requires { suc t ≤ most_places }
-    ensures { OnOk result (Emits out.old.items out.new.items
-        (λ k. ask_row primitive (does (LocalSet (h b.now (suc t))) k))) }
+    requires { suc temporary ≤ most_places }
+    ensures { OnOk result (Emits out.old.items out.new.items (λ after. ask_row primitive
+        (does (LocalSet (handle_local bases.now (suc temporary))) after))) }
 {
     ask_row(out, primitive)?;
-    does(out, Simple::LocalSet(b.handle(t + 1)))
+    does(out, Simple::LocalSet(bases.handle(temporary + 1)))
 }
 
 /// Drops what code left that was evaluated for what it does alone. An assignment has given its value away then, what was kept is dropped where it was kept, and
 /// code in which something comes last has dropped that.
 pub fn left_over(
-    y: &FunctionLayout<'_>,
+    layout: &FunctionLayout<'_>,
     out: &mut Vec<Instr>,
     code: &Code,
     form: Form,
-    t: u32,
+    temporary: u32,
 ) -> Result<(), AllocError>
-    requires { t ≤ most_places }
+    requires { temporary ≤ most_places }
     ensures { OnOk result (Emits out.old.items out.new.items
-        (left_over (view_layout y.now) (view code.now) (view_form form) t)) }
+        (left_over (view_layout layout.now) (view code.now) (view_form form) temporary)) }
 {
     match code {
         Code::Set(_, _) | Code::Seq(_, _) | Code::Let(_, _) | Code::Bound(_, _) => Ok(()),
@@ -82,25 +82,25 @@ pub fn left_over(
         | Code::Get(_)
         | Code::Array(_)
         | Code::IsOpen(_)
-        | Code::Choose(_, _, _, _) => unused(y.alloc, y.bases, out, form, t),
+        | Code::Choose(_, _, _, _) => unused(layout.alloc, layout.bases, out, form, temporary),
     }
 }
 
 /// Adds the end of a sequence, whose last code is given, with the form of its answer. Where `only` what it does counts, the answer is dropped.
 pub(crate) fn sequence_closed(
-    y: &FunctionLayout<'_>,
+    layout: &FunctionLayout<'_>,
     out: &mut Vec<Instr>,
     only: bool,
     code: &Code,
     form: Form,
-    t: u32,
+    temporary: u32,
 ) -> Result<(), AllocError>
-    requires { t ≤ most_places }
-    ensures { OnOk result (Emits out.old.items out.new.items
-        (sequence_closed (view_layout y.now) only (view code.now) (view_form form) t)) }
+    requires { temporary ≤ most_places }
+    ensures { OnOk result (Emits out.old.items out.new.items (sequence_closed
+        (view_layout layout.now) only (view code.now) (view_form form) temporary)) }
 {
     if only {
-        left_over(y, out, code, form, t)
+        left_over(layout, out, code, form, temporary)
     } else {
         Ok(())
     }
@@ -109,110 +109,126 @@ pub(crate) fn sequence_closed(
 /// Adds the end of what is kept: it is dropped, unless it was moved away. The answer of the code that was evaluated meanwhile takes its place; where `only` what
 /// it does counts, the answer is dropped.
 pub(crate) fn keeping_closed(
-    y: &FunctionLayout<'_>,
+    layout: &FunctionLayout<'_>,
     out: &mut Vec<Instr>,
     only: bool,
     code: &Code,
     held: Form,
     form: Form,
-    t: u32,
+    temporary: u32,
 ) -> Result<(), AllocError>
-    requires { suc t ≤ most_places }
-    ensures { OnOk result (Emits out.old.items out.new.items (keeping_closed (view_layout y.now)
-        only (view code.now) (view_form held) (view_form form) t)) }
+    requires { suc temporary ≤ most_places }
+    ensures { OnOk result (Emits out.old.items out.new.items (keeping_closed (view_layout
+        layout.now) only (view code.now) (view_form held) (view_form form) temporary)) }
 {
     if only {
-        left_over(y, out, code, form, t + 1)?;
-        released(y.alloc, y.bases, out, held, t)
+        left_over(layout, out, code, form, temporary + 1)?;
+        released(layout.alloc, layout.bases, out, held, temporary)
     } else {
-        released(y.alloc, y.bases, out, held, t)?;
-        moved_from(y.bases, out, form, t + 1, t)
+        released(layout.alloc, layout.bases, out, held, temporary)?;
+        moved_from(layout.bases, out, form, temporary + 1, temporary)
     }
 }
 
 /// Asks for a record of a file, whose name is evaluated.
 pub(crate) fn file_asked(
-    y: &FunctionLayout<'_>,
+    layout: &FunctionLayout<'_>,
     out: &mut Vec<Instr>,
     form: Form,
-    t: u32,
+    temporary: u32,
     exit: u32,
 ) -> Result<(), AllocError>
-    requires { t ≤ most_places }
-    ensures { OnOk result
-        (Emits out.old.items out.new.items (file_asked y.now.bases.now (view_form form) t exit)) }
+    requires { temporary ≤ most_places }
+    ensures { OnOk result (Emits out.old.items out.new.items
+        (file_asked layout.now.bases.now (view_form form) temporary exit)) }
 {
-    to_value(y.alloc, y.bases, out, form, t)?;
-    moved_out(out, y.bases.handle(t))?;
+    to_value(layout.alloc, layout.bases, out, form, temporary)?;
+    moved_out(out, layout.bases.handle(temporary))?;
     ask_row(out, Primitive::GetlineVarFile)?;
-    kept_code(y.bases, out, true, t, exit)
+    kept_code(layout.bases, out, true, temporary, exit)
 }
 
 /// Stores a text where one was read.
 pub(crate) fn stored_when(
-    y: &FunctionLayout<'_>,
+    layout: &FunctionLayout<'_>,
     out: &mut Vec<Instr>,
     store: Vec<Instr>,
-    t: u32,
+    temporary: u32,
 ) -> Result<(), AllocError>
-    requires { t ≤ most_places }
-    ensures { (a : Instructions → Instructions) → Emits [] store.items a
-        → OnOk result (Emits out.old.items out.new.items (stored_when y.now.bases.now (a Done) t)) }
+    requires { temporary ≤ most_places }
+    ensures { (adds : Instructions → Instructions) → Emits [] store.items adds → OnOk result (Emits
+        out.old.items out.new.items (stored_when layout.now.bases.now (adds Done) temporary)) }
 {
-    number_is(out, y.bases.number(t), 1)?;
-    when(y.alloc, out, store)
+    number_is(out, layout.bases.number(temporary), 1)?;
+    when(layout.alloc, out, store)
 }
 
 /// Asks the host for a replacement, whose operands are converted.
 fn replaced_asked(
-    y: &FunctionLayout<'_>,
+    layout: &FunctionLayout<'_>,
     out: &mut Vec<Instr>,
     every: bool,
     operands: &[Operand],
-    t: u32,
+    temporary: u32,
     exit: u32,
 ) -> Result<(), AllocError>
-    requires places { t + count_of (views operands.now) ≤ most_places }
+    requires places { temporary + count_of (views operands.now) ≤ most_places }
     requires arrays { ArraysFit (views operands.now) }
     ensures { OnOk result (Emits out.old.items out.new.items
-        (replaced_asked (view_layout y.now) every (views operands.now) t exit)) }
+        (replaced_asked (view_layout layout.now) every (views operands.now) temporary exit)) }
 {
     let wanted = [
         Argument::Of(Sort::Value),
         Argument::Of(Sort::Value),
         Argument::Of(Sort::Value),
     ];
-    all_pushed(y, out, &wanted, operands, t)?;
+    all_pushed(layout, out, &wanted, operands, temporary)?;
     does(out, Simple::I32Const(u32::from(every)))?;
     ask_row(out, Primitive::Sub)?;
-    kept(y.bases, out, true, Answer::Of(Sort::Number), t, exit)
+    kept(
+        layout.bases,
+        out,
+        true,
+        Answer::Of(Sort::Number),
+        temporary,
+        exit,
+    )
 }
 
 /// Adds a replacement, whose operands are evaluated, and the test whether nothing was replaced.
 pub(crate) fn replaced(
-    y: &FunctionLayout<'_>,
+    layout: &FunctionLayout<'_>,
     out: &mut Vec<Instr>,
     forms: &[Form],
     every: bool,
     operands: &[Operand],
-    t: u32,
+    temporary: u32,
     exit: u32,
 ) -> Result<(), AllocError>
-    requires places { t + count_of (views operands.now) ≤ most_places }
+    requires places { temporary + count_of (views operands.now) ≤ most_places }
     requires labels { exit ≤ most_labels }
     requires arrays { ArraysFit (views operands.now) }
-    ensures { OnOk result (Emits out.old.items out.new.items (replaced_with (view_layout y.now)
-        (map view_form forms.now) every (views operands.now) t exit)) }
+    ensures { OnOk result (Emits out.old.items out.new.items (replaced_with (view_layout layout.now)
+        (map view_form forms.now) every (views operands.now) temporary exit)) }
 {
     let wanted = [
         Argument::Of(Sort::Value),
         Argument::Of(Sort::Value),
         Argument::Of(Sort::Value),
     ];
-    all_converted(y.alloc, y.bases, out, forms, &wanted, operands, t, exit)?;
-    replaced_asked(y, out, every, operands, t, exit)?;
+    all_converted(
+        layout.alloc,
+        layout.bases,
+        out,
+        forms,
+        &wanted,
+        operands,
+        temporary,
+        exit,
+    )?;
+    replaced_asked(layout, out, every, operands, temporary, exit)?;
     let all = [
-        Simple::LocalGet(y.bases.number(t)),
+        Simple::LocalGet(layout.bases.number(temporary)),
         Simple::Test(ValType::I64, ITestOp::Eqz),
     ];
     does_all(out, &all)

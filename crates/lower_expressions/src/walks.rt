@@ -19,18 +19,18 @@ use wasm_types::Instr;
 /// Converts operands to what is wanted.
 pub(crate) fn all_converted(
     alloc: Global,
-    b: &Bases,
+    bases: &Bases,
     out: &mut Vec<Instr>,
     forms: &[Form],
     wanted: &[Argument],
     operands: &[Operand],
-    t: u32,
+    temporary: u32,
     exit: u32,
 ) -> Result<(), AllocError>
-    requires places { t + count_of (views operands.now) ≤ most_places }
+    requires places { temporary + count_of (views operands.now) ≤ most_places }
     requires labels { exit ≤ most_labels }
-    ensures { OnOk result (Emits out.old.items out.new.items
-        (converted_with b.now (map view_form forms.now) wanted.now (views operands.now) t exit)) }
+    ensures { OnOk result (Emits out.old.items out.new.items (converted_with bases.now
+        (map view_form forms.now) wanted.now (views operands.now) temporary exit)) }
 {
     let Some((operand, operands)) = operands.split_first() else {
         return Ok(());
@@ -40,11 +40,20 @@ pub(crate) fn all_converted(
     };
     match (first, operand, forms.split_first()) {
         (Argument::Of(sort), Operand::Code(_), Some((form, forms))) => {
-            converted(alloc, b, out, *form, *sort, t, exit)?;
-            all_converted(alloc, b, out, forms, wanted, operands, t + 1, exit)
+            converted(alloc, bases, out, *form, *sort, temporary, exit)?;
+            all_converted(
+                alloc,
+                bases,
+                out,
+                forms,
+                wanted,
+                operands,
+                temporary + 1,
+                exit,
+            )
         }
         (_, Operand::Constant(_), _) => {
-            all_converted(alloc, b, out, forms, wanted, operands, t, exit)
+            all_converted(alloc, bases, out, forms, wanted, operands, temporary, exit)
         }
         _ => Ok(()),
     }
@@ -53,19 +62,19 @@ pub(crate) fn all_converted(
 /// Makes values of what stands in temporaries.
 pub(crate) fn all_boxed(
     alloc: Global,
-    b: &Bases,
+    bases: &Bases,
     out: &mut Vec<Instr>,
     forms: &[Form],
-    t: u32,
+    temporary: u32,
 ) -> Result<(), AllocError>
-    requires { t + length forms.now ≤ most_places }
-    ensures { OnOk result
-        (Emits out.old.items out.new.items (boxed_with b.now (map view_form forms.now) t)) }
+    requires { temporary + length forms.now ≤ most_places }
+    ensures { OnOk result (Emits out.old.items out.new.items
+        (boxed_with bases.now (map view_form forms.now) temporary)) }
 {
     let mut left = forms;
-    let mut place = t;
+    let mut place = temporary;
     while let Some((form, rest)) = left.split_first() {
-        to_value(alloc, b, out, *form, place)?;
+        to_value(alloc, bases, out, *form, place)?;
         left = rest;
         place += 1;
     }
@@ -74,19 +83,19 @@ pub(crate) fn all_boxed(
 
 /// Puts the values of temporaries onto the argument list.
 pub(crate) fn all_appended(
-    b: &Bases,
+    bases: &Bases,
     out: &mut Vec<Instr>,
     forms: &[Form],
-    t: u32,
+    temporary: u32,
 ) -> Result<(), AllocError>
-    requires { t + length forms.now ≤ most_places }
-    ensures { OnOk result
-        (Emits out.old.items out.new.items (appended_with b.now (map view_form forms.now) t)) }
+    requires { temporary + length forms.now ≤ most_places }
+    ensures { OnOk result (Emits out.old.items out.new.items
+        (appended_with bases.now (map view_form forms.now) temporary)) }
 {
     let mut left = forms;
-    let mut place = t;
+    let mut place = temporary;
     while let Some((_, rest)) = left.split_first() {
-        moved_out(out, b.handle(place))?;
+        moved_out(out, bases.handle(place))?;
         ask(out, Import::Arg)?;
         left = rest;
         place += 1;
@@ -97,18 +106,18 @@ pub(crate) fn all_appended(
 /// Makes a value of what a boxed parameter is given.
 pub(crate) fn given_one(
     alloc: Global,
-    b: &Bases,
+    bases: &Bases,
     out: &mut Vec<Instr>,
     kind: Kind,
     form: Form,
-    t: u32,
+    temporary: u32,
 ) -> Result<(), AllocError>
-    requires { t ≤ most_places }
-    ensures { OnOk result
-        (Emits out.old.items out.new.items (given_one b.now (view_kind kind) (view_form form) t)) }
+    requires { temporary ≤ most_places }
+    ensures { OnOk result (Emits out.old.items out.new.items
+        (given_one bases.now (view_kind kind) (view_form form) temporary)) }
 {
     match kind {
-        Kind::Boxed => to_value(alloc, b, out, form, t),
+        Kind::Boxed => to_value(alloc, bases, out, form, temporary),
         Kind::Unboxed | Kind::Many => Ok(()),
     }
 }
@@ -116,16 +125,16 @@ pub(crate) fn given_one(
 /// Makes values of what boxed parameters are given.
 pub(crate) fn all_given(
     alloc: Global,
-    b: &Bases,
+    bases: &Bases,
     out: &mut Vec<Instr>,
     forms: &[Form],
     kinds: &[Kind],
     operands: &[Operand],
-    t: u32,
+    temporary: u32,
 ) -> Result<(), AllocError>
-    requires { t + count_of (views operands.now) ≤ most_places }
-    ensures { OnOk result (Emits out.old.items out.new.items (given_with b.now
-        (map view_form forms.now) (map view_kind kinds.now) (views operands.now) t)) }
+    requires { temporary + count_of (views operands.now) ≤ most_places }
+    ensures { OnOk result (Emits out.old.items out.new.items (given_with bases.now
+        (map view_form forms.now) (map view_kind kinds.now) (views operands.now) temporary)) }
 {
     let Some((operand, operands)) = operands.split_first() else {
         return Ok(());
@@ -135,10 +144,10 @@ pub(crate) fn all_given(
     };
     match (operand, forms.split_first()) {
         (Operand::Code(_), Some((form, forms))) => {
-            given_one(alloc, b, out, *kind, *form, t)?;
-            all_given(alloc, b, out, forms, kinds, operands, t + 1)
+            given_one(alloc, bases, out, *kind, *form, temporary)?;
+            all_given(alloc, bases, out, forms, kinds, operands, temporary + 1)
         }
-        _ => all_given(alloc, b, out, forms, kinds, operands, t),
+        _ => all_given(alloc, bases, out, forms, kinds, operands, temporary),
     }
 }
 
@@ -158,18 +167,18 @@ pub(crate) fn made_in(operands: &[Operand]) -> u32
 
 /// Frees the arrays of a call, the last one first.
 pub(crate) fn all_freed(
-    b: &Bases,
+    bases: &Bases,
     out: &mut Vec<Instr>,
     arrays: u32,
     count: u32,
 ) -> Result<(), AllocError>
     requires { arrays + count ≤ most_places }
-    ensures { OnOk result (Emits out.old.items out.new.items (freed_with b.now arrays count)) }
+    ensures { OnOk result (Emits out.old.items out.new.items (freed_with bases.now arrays count)) }
 {
     let mut left = count;
     while left > 0 {
         left -= 1;
-        moved_out(out, b.array(arrays + left))?;
+        moved_out(out, bases.array(arrays + left))?;
         ask(out, Import::FreeArray)?;
     }
     Ok(())

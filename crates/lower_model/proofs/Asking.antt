@@ -26,9 +26,8 @@ use Rattle.lower_model.specs.Emission.{pending_assigned}
 use Rattle.host_imports.specs.Codes.{input_code}
 use Rattle.lower_model.specs.Machine.{Conf, Label, Frame, at, label, carried_if}
 use Rattle.lower_model.specs.Machine
-use Rattle.lower_model.specs.Places.{Bases}
+use Rattle.lower_model.specs.Places.{Bases, number_local}
 use Rattle.lower_model.specs.Small.{does, ask_row, when, number_is, kept_code}
-use Rattle.lower_model.specs.Small
 use Rattle.host_imports.specs.declared.import.Import.TheVariants.{Of}
 use Rattle.lower_model.proofs.Watch.{Watch}
 use Rattle.lower_model.proofs.Runs.{Goes, then_goes, goes_to, by_steps, there, faulted, turned, weaker}
@@ -69,7 +68,7 @@ module _ (p : Program) (deepest : Watch) (ks : List Kind) (F : List Frame) (b : 
   -- The loop: a call is made until no assignment is pending.
 
   abbrev pub behind_call : (t d : ℕ) → Instructions
-  behind_call t d = kept_code b true t (suc d) (number_is (Small.n b t) 2 (when (pending_assigned (layout p deepest ks F b M n) t (does (Br 1) NoMore)) NoMore))
+  behind_call t d = kept_code b true t (suc d) (number_is (number_local b t) 2 (when (pending_assigned (layout p deepest ks F b M n) t (does (Br 1) NoMore)) NoMore))
 
   abbrev pub loop_at : (code : Instructions → Instructions) → (t d : ℕ) → Instructions → Label
   loop_at code t d k = label [] (Some (code (behind_call t d))) k

@@ -13,9 +13,8 @@ use Rattle.mid_program.specs.Sorted.{sorted, all_sorted, held_after, keeps_well,
 use Rattle.sem_scripts.specs.Steps.{input_number}
 use Rattle.lower_model.specs.Emission.{emitted, all_emitted, text_kept, text_let_go}
 use Rattle.lower_model.specs.Machine.{Frame, loops_walked}
-use Rattle.lower_model.specs.Places.{Bases}
+use Rattle.lower_model.specs.Places.{Bases, number_local}
 use Rattle.lower_model.specs.Small.{number_is, when, code_number}
-use Rattle.lower_model.specs.Small
 use Rattle.lower_model.proofs.Watch.{Watch}
 use Rattle.lower_model.proofs.Runs.{by_steps, first, then_on, weaker, weaker_settled}
 use Rattle.lower_model.proofs.Relation.{kept_same, same_then, Away}
@@ -66,7 +65,7 @@ module _ (p : Program) (deepest : Watch) (ks : List Kind) (F : List Frame) (b : 
       let s1 = and_parts (stores_well fs s) (sorted (context p deepest ks F b M n) (a_value ∷ fs) s) so in
       let s2 = and_parts (keeps_well s) (is_dropped (form_of (a_value ∷ fs) s)) s1.0 in
       let block = text_kept lay row.Line t (emitted lay true (a_value ∷ fs) (suc t ∷ ts) s (suc (suc t)) w (suc d) (text_let_go lay fs s t NoMore)) in
-      let k1 = number_is (Small.n b t) 1 (when block (code_number b t k)) in
+      let k1 = number_is (number_local b t) 1 (when block (code_number b t k)) in
       let a = asks_line p deepest ks F b M n in
       let stored = when_read (storing_meant p deepest ks F b M n s fs env) in
       first mach M 1 (work_of s + 50) (work_of (AskLine s)) σ.turns _ _ P Q _ (by_steps 1 refl) (omega arith)

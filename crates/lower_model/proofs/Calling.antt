@@ -21,7 +21,7 @@ use Rattle.lower_model.specs.Emission.{array_meant, emitted, all_emitted, all_gi
 use Rattle.lower_model.specs.Machine.{Conf, Deep, Label, Frame, at, br, owner_waits, loops_walked, waits}
 use Rattle.lower_model.specs.Noted.{noted_called}
 use Rattle.lower_model.specs.Places.{Bases, made_in, arrays_among as arrays_in_codes}
-use Rattle.lower_model.specs.Small.{does, kept_value, h}
+use Rattle.lower_model.specs.Small.{does, kept_value}
 use Rattle.lower_model.proofs.Watch.{Watch}
 use Rattle.lower_model.proofs.Runs.{Goes, then_goes, goes_to, goes_from, stays, Arrives, Onward, reaches_on, first, then_on, then_step, within}
 use Rattle.lower_model.proofs.Regions.{upd_same, upd_other}

@@ -27,8 +27,8 @@ use Rattle.mid_program.specs.Sorted.{Held as Standing, There, Moved, Misused, ei
 use Rattle.lower_model.specs.Cells.{Cell, Bits, Held}
 use Rattle.lower_model.specs.Emission.{emitted, all_emitted}
 use Rattle.lower_model.specs.Machine.{Conf, Label, Frame, at, label, loops_walked}
-use Rattle.lower_model.specs.Places.{Bases, room, arrays_in}
-use Rattle.lower_model.specs.Small.{does, ask_row, either, moved_out, not_zero, zeroed, truth, text_beside, h}
+use Rattle.lower_model.specs.Places.{Bases, room, arrays_in, handle_local, number_local}
+use Rattle.lower_model.specs.Small.{does, ask_row, either, moved_out, not_zero, zeroed, truth, text_beside}
 use Rattle.lower_model.specs.Small
 use Rattle.lower_model.proofs.Watch.{Watch}
 use Rattle.lower_model.proofs.Runs.{Goes, then_goes, goes_to, goes_from, by_steps, first, then_on, step_settled, within, weaker}
@@ -147,7 +147,7 @@ module _ (p : Program) (deepest : Watch) (ks : List Kind) (F : List Frame) (b : 
   zeroed_tested : (t u w : ℕ) (k : Instructions) (K : List Label) (l : Locals) (σ : State) (v : Value) (x : Number) → t < b.temporaries → Fit p deepest ks F (suc t) u w l σ → HoldsAt Bare t l v → beside v ≡ empty → nat_eq (bare v) text_beside ≡ false → ZeroedIs p deepest ks F b (bare v) x → truth_of_value v ≡ not (is_zero x.number) →
       Tested t u w k K l σ (truth_of_value v) (at ks [] K (laid b l) F (truth b Bare t k) (beside_state p deepest ks F σ))
   zeroed_tested t u w k K l σ v x lt ft hd eh nb zi tv =
-      let a1 = moved_out (h b t) (ask_row row.Truth (does (Convert I64ExtendI32U) (does (LocalSet (Small.n b t)) NoMore))) in
+      let a1 = moved_out (handle_local b t) (ask_row row.Truth (does (Convert I64ExtendI32U) (does (LocalSet (number_local b t)) NoMore))) in
       let z = zeroed_ok p deepest ks F b NoMore (label [] None (not_zero b t k) ∷ K) l t (bare v) σ x lt hd.1 zi in
       let l1 = with_at l (NumberAt t) (Bits (I64 (number_word x))) in
       record {
@@ -165,7 +165,7 @@ module _ (p : Program) (deepest : Watch) (ks : List Kind) (F : List Frame) (b : 
   bare_tested : (t u w : ℕ) (k : Instructions) (K : List Label) (l : Locals) (σ : State) (v : Value) → t < b.temporaries → Fit p deepest ks F (suc t) u w l σ → HoldsAt Bare t l v → BareIs v → Tested t u w k K l σ (truth_of_value v) (at ks [] K (laid b l) F (truth b Bare t k) (beside_state p deepest ks F σ))
   bare_tested t u w k K l σ v lt ft hd (IsBeside e e1) =
       let x = truth_of_value v in
-      let a1 = moved_out (h b t) (ask_row row.Truth (does (Convert I64ExtendI32U) (does (LocalSet (Small.n b t)) NoMore))) in
+      let a1 = moved_out (handle_local b t) (ask_row row.Truth (does (Convert I64ExtendI32U) (does (LocalSet (number_local b t)) NoMore))) in
       let l1 = with_at l (Hand t) empty in
       let l2 = with_at l1 (NumberAt t) (Bits (I64 (flag_number x))) in
       record {

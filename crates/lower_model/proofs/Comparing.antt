@@ -31,8 +31,8 @@ use Rattle.lower_model.specs.Emission.{emitted, all_emitted}
 use Rattle.lower_model.specs.ImportCalls.{with_some, and_rest, row_in}
 use Rattle.lower_model.specs.Machine
 use Rattle.lower_model.specs.Machine.{Conf, Label, Frame, at, label, loops_walked}
-use Rattle.lower_model.specs.Places.{Bases, room, arrays_in}
-use Rattle.lower_model.specs.Small.{does, ask_row, text_beside, moved_out, kept_code, to_value, h}
+use Rattle.lower_model.specs.Places.{Bases, room, arrays_in, handle_local, number_local}
+use Rattle.lower_model.specs.Small.{does, ask_row, text_beside, moved_out, kept_code, to_value}
 use Rattle.lower_model.specs.Small
 use Rattle.lower_model.proofs.Watch.{Watch}
 use Rattle.lower_model.proofs.Runs.{Goes, then_goes, goes_to, goes_from, by_steps, stays, there, first, then_on, within, weaker, weaker_settled, Onward}
@@ -102,7 +102,7 @@ module _ (p : Program) (deepest : Watch) (ks : List Kind) (F : List Frame) (b : 
       let P = Put p deepest ks F b t u w (Answered answer.Truth) k K l in
       let Q = Away p deepest ks F b d K in
       let k3 = kept_code b true t d k in
-      let k2 = does (I32Const (comparison_number c)) (moved_out (h b t) (moved_out (h b (suc t)) (ask_row row.Compare k3))) in
+      let k2 = does (I32Const (comparison_number c)) (moved_out (handle_local b t) (moved_out (handle_local b (suc t)) (ask_row row.Compare k3))) in
       let k1 = to_value b g (suc t) k2 in
       then_on mach M 16 25 41 σ.turns _ (Converted p deepest ks F b M (suc (suc t)) u w t a_value k1 K l) P Q (settled (Ok (boxed f x)) σ) (λ v. settled (comparison v (boxed g y) c)) (omega arith)
       (converted_ok p deepest ks F b M f sort.Value x (suc (suc t)) u w t d k1 K l σ ef (omega arith) (omega (arith, lt)) ft hx)
@@ -179,9 +179,9 @@ module _ (p : Program) (deepest : Watch) (ks : List Kind) (F : List Frame) (b : 
       let P = Put p deepest ks F b t u w (Answered answer.Truth) k K l in
       let Q = Away p deepest ks F b d K in
       let S = beside_state p deepest ks F σ in
-      let k4 = does (Convert I64ExtendI32U) (does (LocalSet (Small.n b t)) k) in
+      let k4 = does (Convert I64ExtendI32U) (does (LocalSet (number_local b t)) k) in
       let k3 = does (Comparing ty.I64 (relation c)) k4 in
-      let k2 = does (LocalGet (Small.n b t)) (does (LocalGet (Small.n b (suc t))) k3) in
+      let k2 = does (LocalGet (number_local b t)) (does (LocalGet (number_local b (suc t))) k3) in
       let s1 = side_ok f x t (zeroed_if b g (suc t) k2) K l σ ivf nf (omega (arith, lt)) hx in
       let m1 = s1.number in
       let l1 = with_at l (NumberAt t) (Bits (I64 (number_word m1))) in
@@ -204,7 +204,7 @@ module _ (p : Program) (deepest : Watch) (ks : List Kind) (F : List Frame) (b : 
       (then_goes s1.goes (then_goes s2.goes
       (then_goes (get_copied b l2 (NumberAt t) (Bits (I64 (number_word m1))) (omega (arith, lt)) e1 refl)
       (then_goes (get_copied b l2 (NumberAt (suc t)) (Bits (I64 (number_word m2))) lt e2 refl)
-      (then_goes (goes_to (by_steps 2 refl) (ap (λ q. at ks (Bits (I64 q) ∷ []) K (laid b l2) F (does (LocalSet (Small.n b t)) k) S) (ap (λ q. if q then 1 else 0) (words_compared m1 m2 c) ∙ flag_numbered z)))
+      (then_goes (goes_to (by_steps 2 refl) (ap (λ q. at ks (Bits (I64 q) ∷ []) K (laid b l2) F (does (LocalSet (number_local b t)) k) S) (ap (λ q. if q then 1 else 0) (words_compared m1 m2 c) ∙ flag_numbered z)))
       (set_ok b l2 (NumberAt t) (Bits (I64 (flag_number z))) (omega (arith, lt)) (f2.numbers t))))))) (omega (arith, q1, q2))
       (record {
         next = l3;

@@ -29,8 +29,8 @@ use Rattle.sem_scripts.specs.Steps.{zero_number, one_number, minus_one, numeric,
 use Rattle.sem_scripts.specs.ScriptState.{State, Faulted, Outcome, Gives, settled}
 use Rattle.lower_model.specs.Cells.{Cell, Bits, Held, is_owned}
 use Rattle.lower_model.specs.Machine.{Code, Conf, Label, Frame, Store, at, br, label}
-use Rattle.lower_model.specs.Places.{Bases}
-use Rattle.lower_model.specs.Small.{does, either, least, text_beside, boxed_perhaps, number_of_value, number_made, unnumbered, kept_number, h, n}
+use Rattle.lower_model.specs.Places.{Bases, handle_local, number_local}
+use Rattle.lower_model.specs.Small.{does, either, least, text_beside, boxed_perhaps, number_of_value, number_made, unnumbered, kept_number}
 use Rattle.lower_model.specs.Small
 use Rattle.lower_model.proofs.Watch.{Watch}
 use Rattle.lower_model.proofs.Runs.{Goes, by_steps, then_goes, goes_to, goes_from, stays, there, faulted, first, within, weaker, then_step, Onward}
@@ -107,18 +107,18 @@ module _ (p : Program) (deepest : Watch) (ks : List Kind) (F : List Frame) (b : 
       Reached p deepest ks F b M 16 σ.turns (at ks [] K (laid b l) F (Small.to_value b Bare t k) (beside_state p deepest ks F σ)) (Converted q i w t (Answered (answer.Of sort.Value)) k K l) (Away p deepest ks F b d K) (settled (Ok v) σ)
   bare_boxed q i w t d k K l v σ lq lt ft hd (IsBeside e e1) =
       there u M 16 4 _ _ v σ (Converted q i w t (Answered (answer.Of sort.Value)) k K l) (Away p deepest ks F b d K)
-      (then_goes (number_is_ok b l t text_beside text_beside lt (hd.1 ∙ ap (λ m. Bits (I64 m)) e)) (then_goes (chooses Done (boxed_perhaps b t (LocalSet (h b t)) Done) 1) closes)) (omega arith)
+      (then_goes (number_is_ok b l t text_beside text_beside lt (hd.1 ∙ ap (λ m. Bits (I64 m)) e)) (then_goes (chooses Done (boxed_perhaps b t (LocalSet (handle_local b t)) Done) 1) closes)) (omega arith)
       (conv_self q i w t (Answered (answer.Of sort.Value)) k K l v σ ft (hd.0 ∙ e1, tt))
   bare_boxed q i w t d k K l v σ lq lt ft hd (IsNone e e1 e2) =
       let x = boxed_perhaps_ok p deepest ks F b Done (label [] None k ∷ K) l t (bare v) σ v lt hd.1 (ap is_owned (hd.0 ∙ e2)) (NoNumber e1 e) in
       there u M 16 (3 + (x.steps + 1)) _ _ v σ (Converted q i w t (Answered (answer.Of sort.Value)) k K l) (Away p deepest ks F b d K)
-      (then_goes (then_goes (number_is_ok b l t least text_beside lt (hd.1 ∙ ap (λ m. Bits (I64 m)) e1)) (chooses Done (boxed_perhaps b t (LocalSet (h b t)) Done) 0)) (then_goes x.goes closes)) (omega (arith, x.few))
+      (then_goes (then_goes (number_is_ok b l t least text_beside lt (hd.1 ∙ ap (λ m. Bits (I64 m)) e1)) (chooses Done (boxed_perhaps b t (LocalSet (handle_local b t)) Done) 0)) (then_goes x.goes closes)) (omega (arith, x.few))
       (conv_hand q i w t k K l v σ lq ft)
   bare_boxed q i w t d k K l v σ lq lt ft hd (IsNumber m e e1 e2) =
       let x = boxed_perhaps_ok p deepest ks F b Done (label [] None k ∷ K) l t (bare v) σ v lt hd.1 (ap is_owned (hd.0 ∙ e2)) (There m e1 e) in
       there u M 16 (3 + (x.steps + 1)) _ _ v σ (Converted q i w t (Answered (answer.Of sort.Value)) k K l) (Away p deepest ks F b d K)
-      (then_goes (then_goes (goes_to (number_is_ok b l t (number_word m) text_beside lt (hd.1 ∙ ap (λ z. Bits (I64 z)) e1)) (ap (λ f. at ks (Bits (flag f) ∷ []) K (laid b l) F (either Done (boxed_perhaps b t (LocalSet (h b t)) Done) k) (beside_state p deepest ks F σ)) (word_not_beside m)))
-      (chooses Done (boxed_perhaps b t (LocalSet (h b t)) Done) 0)) (then_goes x.goes closes)) (omega (arith, x.few))
+      (then_goes (then_goes (goes_to (number_is_ok b l t (number_word m) text_beside lt (hd.1 ∙ ap (λ z. Bits (I64 z)) e1)) (ap (λ f. at ks (Bits (flag f) ∷ []) K (laid b l) F (either Done (boxed_perhaps b t (LocalSet (handle_local b t)) Done) k) (beside_state p deepest ks F σ)) (word_not_beside m)))
+      (chooses Done (boxed_perhaps b t (LocalSet (handle_local b t)) Done) 0)) (then_goes x.goes closes)) (omega (arith, x.few))
       (conv_hand q i w t k K l v σ lq ft)
 
   pub perhaps_is : (o : Option Number) → PerhapsIs p deepest ks F b (perhaps o) (boxed Perhaps o)
@@ -195,7 +195,7 @@ module _ (p : Program) (deepest : Watch) (ks : List Kind) (F : List Frame) (b : 
   bare_numbered q i w t d k K l v σ lq lt ft hd (IsBeside e e1) =
       let K1 = label [] None k ∷ K in
       let K2 = label [] None Done ∷ K1 in
-      let zero_put = does (I64Const 0) (does (LocalSet (n b t)) Done) in
+      let zero_put = does (I64Const 0) (does (LocalSet (number_local b t)) Done) in
       let N = Answered (answer.Of sort.Number) in
       let he = hd.1 ∙ ap (λ m. Bits (I64 m)) e in
       first u M 6 8 14 σ.turns _ _ (Converted q i w t N k K l) (Away p deepest ks F b d K) (settled (number_of_row v) σ)
@@ -207,7 +207,7 @@ module _ (p : Program) (deepest : Watch) (ks : List Kind) (F : List Frame) (b : 
       (λ x τ c1 a. conv_closes q i w t N Done K1 l x τ c1 a)
       (value_numbered q i w t (suc (suc d)) Done K2 l v σ lq lt ft (hd.0 ∙ e1))))
   bare_numbered q i w t d k K l v σ lq lt ft hd (IsNone e e1 e2) =
-      let zero_put = does (I64Const 0) (does (LocalSet (n b t)) Done) in
+      let zero_put = does (I64Const 0) (does (LocalSet (number_local b t)) Done) in
       let he = hd.1 ∙ ap (λ m. Bits (I64 m)) e1 in
       subst (λ r. Reached p deepest ks F b M 14 σ.turns (at ks [] K (laid b l) F (Small.to_number b Bare t d k) (beside_state p deepest ks F σ)) (Converted q i w t (Answered (answer.Of sort.Number)) k K l) (Away p deepest ks F b d K) (settled r σ)) (sym (none_number v e))
       (there u M 14 9 _ _ zero_number σ (Converted q i w t (Answered (answer.Of sort.Number)) k K l) (Away p deepest ks F b d K)

@@ -14,8 +14,8 @@ use Rattle.mid_program.specs.Sorted.{kinds_of}
 use Rattle.sem_scripts.specs.ScriptState.{State}
 use Rattle.lower_model.specs.Cells.{Cell, Bits, Held, Gone, is_owned, cell_at}
 use Rattle.lower_model.specs.Machine.{Look, Label, Frame, Store, at, label, ask_looking, with_operands, push_word, looked_compared}
-use Rattle.lower_model.specs.Places.{Bases}
-use Rattle.lower_model.specs.Small.{does, ask_row, copied, copied_if_any, when, minus_one, h}
+use Rattle.lower_model.specs.Places.{Bases, handle_local}
+use Rattle.lower_model.specs.Small.{does, ask_row, copied, copied_if_any, when, minus_one}
 use Rattle.host_imports.specs.declared.import.Import.TheVariants.{Of}
 use Rattle.lower_model.proofs.Watch.{Watch}
 use Rattle.lower_model.proofs.Runs.{Goes, then_goes, goes_to, by_steps}
@@ -67,20 +67,20 @@ module _ (p : Program) (deepest : Watch) (ks : List Kind) (F : List Frame) (b : 
   looked {vs = vs} {K = K} {c = c} x L G v e = by_steps 1 (ap (λ w. with_operands (push_word vs (looked_compared Ne w minus_one)) ks K L F c G) e)
 
   -- from a local
-  pub copied_local : {K : List Label} {k : Instructions} → (l : Locals) (P : Place) (t : ℕ) (v : Value) (σ : State) → IsPlace b P → t < b.temporaries → local_of b P ≢ h b t → has l P ≡ Held v → is_owned (l.hand t) ≡ false →
-      Goes (machine p deepest ks F) 4 (at ks [] K (laid b l) F (copied (LocalGet (local_of b P)) (LocalSet (local_of b P)) (h b t) k) (beside_state p deepest ks F σ)) (at ks [] K (laid b (with_at l (Hand t) (Held v))) F k (beside_state p deepest ks F σ))
+  pub copied_local : {K : List Label} {k : Instructions} → (l : Locals) (P : Place) (t : ℕ) (v : Value) (σ : State) → IsPlace b P → t < b.temporaries → local_of b P ≢ handle_local b t → has l P ≡ Held v → is_owned (l.hand t) ≡ false →
+      Goes (machine p deepest ks F) 4 (at ks [] K (laid b l) F (copied (LocalGet (local_of b P)) (LocalSet (local_of b P)) (handle_local b t) k) (beside_state p deepest ks F σ)) (at ks [] K (laid b (with_at l (Hand t) (Held v))) F k (beside_state p deepest ks F σ))
   copied_local {K = K} {k = k} l P t v σ pp lt ne e o =
       let l1 = with_at l P Gone in
       let l2 = with_at l1 (Hand t) (Held v) in
       let gs = (beside_state p deepest ks F σ).globals in
       then_goes (get_moved b l P (Held v) pp e)
       (then_goes (tee_ok b l1 (Hand t) (Held v) lt (ap is_owned (other_still b l P (Hand t) Gone (Held v) pp lt ne) ∙ o))
-      (then_goes (dup_ok (h b t) (laid b l2) gs v σ (laid_at b l2 (Hand t) lt ∙ has_with l1 (Hand t) (Held v)))
+      (then_goes (dup_ok (handle_local b t) (laid b l2) gs v σ (laid_at b l2 (Hand t) lt ∙ has_with l1 (Hand t) (Held v)))
       (goes_to (set_ok b l2 P (Held v) pp (ap is_owned (first_still b l P (Hand t) Gone (Held v) pp lt ne))) (ap (λ L. at ks [] K L F k (beside_state p deepest ks F σ)) (given_back b l P (Hand t) Gone (Held v) pp lt ne (Held v) e)))))
 
   -- from a global
   pub copied_global : {K : List Label} {k : Instructions} → (l : Locals) (P : Global) (t : ℕ) (v : Value) (σ : State) → IsGlobal p.ranges (length (kinds_of p.globals)) P → t < b.temporaries → has_global p.ranges (length (kinds_of p.globals)) (cells_of (kinds_of p.globals) 0 σ) P ≡ Held v → is_owned (l.hand t) ≡ false →
-      Goes (machine p deepest ks F) 4 (at ks [] K (laid b l) F (copied (GlobalGet (global_of p.ranges (length (kinds_of p.globals)) P)) (GlobalSet (global_of p.ranges (length (kinds_of p.globals)) P)) (h b t) k) (beside_state p deepest ks F σ)) (at ks [] K (laid b (with_at l (Hand t) (Held v))) F k (beside_state p deepest ks F σ))
+      Goes (machine p deepest ks F) 4 (at ks [] K (laid b l) F (copied (GlobalGet (global_of p.ranges (length (kinds_of p.globals)) P)) (GlobalSet (global_of p.ranges (length (kinds_of p.globals)) P)) (handle_local b t) k) (beside_state p deepest ks F σ)) (at ks [] K (laid b (with_at l (Hand t) (Held v))) F k (beside_state p deepest ks F σ))
   copied_global {K = K} {k = k} l P t v σ pp lt e o =
       let nn = length (kinds_of p.globals) in
       let g = cells_of (kinds_of p.globals) 0 σ in
@@ -88,14 +88,14 @@ module _ (p : Program) (deepest : Watch) (ks : List Kind) (F : List Frame) (b : 
       let l1 = with_at l (Hand t) (Held v) in
       then_goes (global_moved p.ranges nn g P (Held v) pp e)
       (then_goes (tee_ok b l (Hand t) (Held v) lt o)
-      (then_goes (dup_ok (h b t) (laid b l1) (placed p.ranges nn g1) v σ (laid_at b l1 (Hand t) lt ∙ has_with l (Hand t) (Held v)))
+      (then_goes (dup_ok (handle_local b t) (laid b l1) (placed p.ranges nn g1) v σ (laid_at b l1 (Hand t) lt ∙ has_with l (Hand t) (Held v)))
       (goes_to (global_set_ok p.ranges nn g1 P (Held v) pp (ap is_owned (has_global_with p.ranges nn g P Gone)) (comes_back p.ranges (kinds_of p.globals) None g P (Held v)))
       (ap (λ m. at ks [] K (laid b l1) F k (storing m (host_of σ None))) (placed_twice p.ranges nn g P Gone (Held v) pp ∙ placed_again p.ranges nn g P (Held v) pp e)))))
 
   -- The same where there may be no handle.
 
   pub if_any_global : {K : List Label} {k : Instructions} → (l : Locals) (P : Global) (t : ℕ) (v : Value) (σ : State) → IsGlobal p.ranges (length (kinds_of p.globals)) P → t < b.temporaries → has_global p.ranges (length (kinds_of p.globals)) (cells_of (kinds_of p.globals) 0 σ) P ≡ Held v → is_owned (l.hand t) ≡ false →
-      Goes (machine p deepest ks F) 9 (at ks [] K (laid b l) F (copied_if_any (GlobalGet (global_of p.ranges (length (kinds_of p.globals)) P)) (GlobalSet (global_of p.ranges (length (kinds_of p.globals)) P)) (h b t) k) (beside_state p deepest ks F σ)) (at ks [] K (laid b (with_at l (Hand t) (Held v))) F k (beside_state p deepest ks F σ))
+      Goes (machine p deepest ks F) 9 (at ks [] K (laid b l) F (copied_if_any (GlobalGet (global_of p.ranges (length (kinds_of p.globals)) P)) (GlobalSet (global_of p.ranges (length (kinds_of p.globals)) P)) (handle_local b t) k) (beside_state p deepest ks F σ)) (at ks [] K (laid b (with_at l (Hand t) (Held v))) F k (beside_state p deepest ks F σ))
   if_any_global {K = K} {k = k} l P t v σ pp lt e o =
       let nn = length (kinds_of p.globals) in
       let g = cells_of (kinds_of p.globals) 0 σ in
@@ -104,32 +104,32 @@ module _ (p : Program) (deepest : Watch) (ks : List Kind) (F : List Frame) (b : 
       let l2 = with_at l1 (Hand t) Gone in
       let x = global_of p.ranges nn P in
       let e1 = laid_at b l1 (Hand t) lt ∙ has_with l (Hand t) (Held v) in
-      let k1 = copied (LocalGet (h b t)) (GlobalSet x) (h b t) Done in
+      let k1 = copied (LocalGet (handle_local b t)) (GlobalSet x) (handle_local b t) Done in
       then_goes (global_moved p.ranges nn g P (Held v) pp e)
       (then_goes (tee_ok b l (Hand t) (Held v) lt o)
-      (then_goes (looked (h b t) (laid b l1) (storing (placed p.ranges nn g1) (host_of σ None)) v e1)
+      (then_goes (looked (handle_local b t) (laid b l1) (storing (placed p.ranges nn g1) (host_of σ None)) v e1)
       (then_goes (chooses k1 Done 1)
       (then_goes (get_moved b l1 (Hand t) (Held v) lt (has_with l (Hand t) (Held v)))
       (then_goes (goes_to (tee_ok b l2 (Hand t) (Held v) lt (ap is_owned (has_with l1 (Hand t) Gone)))
-      (ap (λ L. Look (h b t) ks [] (label [] None k ∷ K) L F (ask_row row.Dup (does (GlobalSet x) Done)) (storing (placed p.ranges nn g1) (host_of σ None))) (laid_twice b l1 (Hand t) Gone (Held v) lt ∙ laid_again b l1 (Hand t) (Held v) lt (has_with l (Hand t) (Held v)))))
-      (then_goes (dup_ok (h b t) (laid b l1) (placed p.ranges nn g1) v σ e1)
+      (ap (λ L. Look (handle_local b t) ks [] (label [] None k ∷ K) L F (ask_row row.Dup (does (GlobalSet x) Done)) (storing (placed p.ranges nn g1) (host_of σ None))) (laid_twice b l1 (Hand t) Gone (Held v) lt ∙ laid_again b l1 (Hand t) (Held v) lt (has_with l (Hand t) (Held v)))))
+      (then_goes (dup_ok (handle_local b t) (laid b l1) (placed p.ranges nn g1) v σ e1)
       (then_goes (goes_to (global_set_ok p.ranges nn g1 P (Held v) pp (ap is_owned (has_global_with p.ranges nn g P Gone)) (comes_back p.ranges (kinds_of p.globals) None g P (Held v)))
       (ap (λ m. at ks [] (label [] None k ∷ K) (laid b l1) F Done (storing m (host_of σ None))) (placed_twice p.ranges nn g P Gone (Held v) pp ∙ placed_again p.ranges nn g P (Held v) pp e)))
       closes)))))))
 
   pub if_none_global : {K : List Label} {k : Instructions} → (l : Locals) (P : Global) (t : ℕ) (σ : State) → IsGlobal p.ranges (length (kinds_of p.globals)) P → t < b.temporaries → has_global p.ranges (length (kinds_of p.globals)) (cells_of (kinds_of p.globals) 0 σ) P ≡ empty → l.hand t ≡ empty →
-      Goes (machine p deepest ks F) 5 (at ks [] K (laid b l) F (copied_if_any (GlobalGet (global_of p.ranges (length (kinds_of p.globals)) P)) (GlobalSet (global_of p.ranges (length (kinds_of p.globals)) P)) (h b t) k) (beside_state p deepest ks F σ)) (at ks [] K (laid b l) F k (beside_state p deepest ks F σ))
+      Goes (machine p deepest ks F) 5 (at ks [] K (laid b l) F (copied_if_any (GlobalGet (global_of p.ranges (length (kinds_of p.globals)) P)) (GlobalSet (global_of p.ranges (length (kinds_of p.globals)) P)) (handle_local b t) k) (beside_state p deepest ks F σ)) (at ks [] K (laid b l) F k (beside_state p deepest ks F σ))
   if_none_global {K = K} {k = k} l P t σ pp lt e o =
       let nn = length (kinds_of p.globals) in
       let x = global_of p.ranges nn P in
-      let k1 = copied (LocalGet (h b t)) (GlobalSet x) (h b t) Done in
+      let k1 = copied (LocalGet (handle_local b t)) (GlobalSet x) (handle_local b t) Done in
       then_goes (global_copied p.ranges nn (cells_of (kinds_of p.globals) 0 σ) P empty pp e refl)
       (then_goes (goes_to (tee_ok b l (Hand t) empty lt (ap is_owned o)) (ap (λ L. at ks (empty ∷ []) K L F (does (I32Const minus_one) (does (Compare ty.I32 Ne) (when k1 k))) (beside_state p deepest ks F σ)) (laid_again b l (Hand t) empty lt o)))
       (then_goes (by_steps 1 refl)
       (then_goes (chooses k1 Done 0) closes)))
 
-  pub if_any_local : {K : List Label} {k : Instructions} → (l : Locals) (P : Place) (t : ℕ) (v : Value) (σ : State) → IsPlace b P → t < b.temporaries → local_of b P ≢ h b t → has l P ≡ Held v → is_owned (l.hand t) ≡ false →
-      Goes (machine p deepest ks F) 9 (at ks [] K (laid b l) F (copied_if_any (LocalGet (local_of b P)) (LocalSet (local_of b P)) (h b t) k) (beside_state p deepest ks F σ)) (at ks [] K (laid b (with_at l (Hand t) (Held v))) F k (beside_state p deepest ks F σ))
+  pub if_any_local : {K : List Label} {k : Instructions} → (l : Locals) (P : Place) (t : ℕ) (v : Value) (σ : State) → IsPlace b P → t < b.temporaries → local_of b P ≢ handle_local b t → has l P ≡ Held v → is_owned (l.hand t) ≡ false →
+      Goes (machine p deepest ks F) 9 (at ks [] K (laid b l) F (copied_if_any (LocalGet (local_of b P)) (LocalSet (local_of b P)) (handle_local b t) k) (beside_state p deepest ks F σ)) (at ks [] K (laid b (with_at l (Hand t) (Held v))) F k (beside_state p deepest ks F σ))
   if_any_local {K = K} {k = k} l P t v σ pp lt ne e o =
       let l0 = with_at l P Gone in
       let l1 = with_at l0 (Hand t) (Held v) in
@@ -137,23 +137,23 @@ module _ (p : Program) (deepest : Watch) (ks : List Kind) (F : List Frame) (b : 
       let x = local_of b P in
       let gs = (beside_state p deepest ks F σ).globals in
       let e1 = laid_at b l1 (Hand t) lt ∙ has_with l0 (Hand t) (Held v) in
-      let k1 = copied (LocalGet (h b t)) (LocalSet x) (h b t) Done in
+      let k1 = copied (LocalGet (handle_local b t)) (LocalSet x) (handle_local b t) Done in
       then_goes (get_moved b l P (Held v) pp e)
       (then_goes (tee_ok b l0 (Hand t) (Held v) lt (ap is_owned (other_still b l P (Hand t) Gone (Held v) pp lt ne) ∙ o))
-      (then_goes (looked (h b t) (laid b l1) (storing gs (host_of σ None)) v e1)
+      (then_goes (looked (handle_local b t) (laid b l1) (storing gs (host_of σ None)) v e1)
       (then_goes (chooses k1 Done 1)
       (then_goes (get_moved b l1 (Hand t) (Held v) lt (has_with l0 (Hand t) (Held v)))
       (then_goes (goes_to (tee_ok b l2 (Hand t) (Held v) lt (ap is_owned (has_with l1 (Hand t) Gone)))
-      (ap (λ L. Look (h b t) ks [] (label [] None k ∷ K) L F (ask_row row.Dup (does (LocalSet x) Done)) (beside_state p deepest ks F σ)) (laid_twice b l1 (Hand t) Gone (Held v) lt ∙ laid_again b l1 (Hand t) (Held v) lt (has_with l0 (Hand t) (Held v)))))
-      (then_goes (dup_ok (h b t) (laid b l1) gs v σ e1)
+      (ap (λ L. Look (handle_local b t) ks [] (label [] None k ∷ K) L F (ask_row row.Dup (does (LocalSet x) Done)) (beside_state p deepest ks F σ)) (laid_twice b l1 (Hand t) Gone (Held v) lt ∙ laid_again b l1 (Hand t) (Held v) lt (has_with l0 (Hand t) (Held v)))))
+      (then_goes (dup_ok (handle_local b t) (laid b l1) gs v σ e1)
       (then_goes (goes_to (set_ok b l1 P (Held v) pp (ap is_owned (first_still b l P (Hand t) Gone (Held v) pp lt ne))) (ap (λ L. at ks [] (label [] None k ∷ K) L F Done (beside_state p deepest ks F σ)) (given_back b l P (Hand t) Gone (Held v) pp lt ne (Held v) e)))
       closes)))))))
 
   pub if_none_local : {K : List Label} {k : Instructions} → (l : Locals) (P : Place) (t : ℕ) (σ : State) → IsPlace b P → t < b.temporaries → has l P ≡ empty → l.hand t ≡ empty →
-      Goes (machine p deepest ks F) 5 (at ks [] K (laid b l) F (copied_if_any (LocalGet (local_of b P)) (LocalSet (local_of b P)) (h b t) k) (beside_state p deepest ks F σ)) (at ks [] K (laid b l) F k (beside_state p deepest ks F σ))
+      Goes (machine p deepest ks F) 5 (at ks [] K (laid b l) F (copied_if_any (LocalGet (local_of b P)) (LocalSet (local_of b P)) (handle_local b t) k) (beside_state p deepest ks F σ)) (at ks [] K (laid b l) F k (beside_state p deepest ks F σ))
   if_none_local {K = K} {k = k} l P t σ pp lt e o =
       let x = local_of b P in
-      let k1 = copied (LocalGet (h b t)) (LocalSet x) (h b t) Done in
+      let k1 = copied (LocalGet (handle_local b t)) (LocalSet x) (handle_local b t) Done in
       then_goes (get_copied b l P empty pp e refl)
       (then_goes (goes_to (tee_ok b l (Hand t) empty lt (ap is_owned o)) (ap (λ L. at ks (empty ∷ []) K L F (does (I32Const minus_one) (does (Compare ty.I32 Ne) (when k1 k))) (beside_state p deepest ks F σ)) (laid_again b l (Hand t) empty lt o)))
       (then_goes (by_steps 1 refl)

@@ -10,8 +10,8 @@ use Rattle.lower_model.specs.Cells.{Cell, Held, Gone, is_owned, left_by, none_ow
 use Rattle.lower_model.specs.Emission.{Layout}
 use Rattle.lower_model.specs.Functions.{layout_of}
 use Rattle.lower_model.specs.Machine.{Code, Label, Frame, Store, at, guarded, leave_function}
-use Rattle.lower_model.specs.Places.{Bases, answer_local, iterator_local, array_local}
-use Rattle.lower_model.specs.Small.{does, emptied, let_go, h}
+use Rattle.lower_model.specs.Places.{Bases, answer_local, iterator_local, array_local, handle_local}
+use Rattle.lower_model.specs.Small.{does, emptied, let_go}
 use Rattle.lower_model.specs.Statements.{temporaries_emptied, iterators_emptied, arrays_emptied, temporaries_swept, iterators_swept, arrays_swept, swept, left_swept, has_functions, parameters_dropped}
 use Rattle.host_imports.specs.declared.import.Import.{Import}
 use Rattle.host_imports.specs.declared.import.Import.TheVariants.{Drop, IterFree, FreeArray}
@@ -158,9 +158,9 @@ module _ (p : Program) (deepest : Watch) (ks : List Kind) (F : List Frame) (b : 
   abbrev y : Layout
   y = layout_of p b
 
-  hands_begun : (t m : ℕ) (k : Instructions) → temporaries_emptied y t m k ≡ in_order (λ x. emptied (h b x)) t m k
+  hands_begun : (t m : ℕ) (k : Instructions) → temporaries_emptied y t m k ≡ in_order (λ x. emptied (handle_local b x)) t m k
   hands_begun t zero k = refl
-  hands_begun t (suc m) k = ap (emptied (h b t)) (hands_begun (suc t) m k)
+  hands_begun t (suc m) k = ap (emptied (handle_local b t)) (hands_begun (suc t) m k)
 
   walks_begun : (t m : ℕ) (k : Instructions) → iterators_emptied y t m k ≡ in_order (λ x. emptied (iterator_local b x)) t m k
   walks_begun t zero k = refl
@@ -170,9 +170,9 @@ module _ (p : Program) (deepest : Watch) (ks : List Kind) (F : List Frame) (b : 
   yards_begun t zero k = refl
   yards_begun t (suc m) k = ap (emptied (array_local b t)) (yards_begun (suc t) m k)
 
-  hands_swept : (t m : ℕ) (k : Instructions) → temporaries_swept y t m k ≡ in_order (λ x. let_go Drop (h b x)) t m k
+  hands_swept : (t m : ℕ) (k : Instructions) → temporaries_swept y t m k ≡ in_order (λ x. let_go Drop (handle_local b x)) t m k
   hands_swept t zero k = refl
-  hands_swept t (suc m) k = ap (let_go Drop (h b t)) (hands_swept (suc t) m k)
+  hands_swept t (suc m) k = ap (let_go Drop (handle_local b t)) (hands_swept (suc t) m k)
 
   walks_swept : (t m : ℕ) (k : Instructions) → iterators_swept y t m k ≡ in_order (λ x. let_go IterFree (iterator_local b x)) t m k
   walks_swept t zero k = refl
@@ -199,7 +199,7 @@ module _ (p : Program) (deepest : Watch) (ks : List Kind) (F : List Frame) (b : 
   -- whatever a function holds in temporaries, iterators and arrays of calls is let go
   pub sweep_ok : (K : List Label) (G : Store) (l : Locals) (k : Instructions) → Loose p deepest ks F l → Cleared (machine p deepest ks F) ks F b K G (8 * (b.temporaries + (b.iterators + b.arrays))) l (swept y k) k
   sweep_ok K G l k lo =
-      let f : ℕ → Instructions → Instructions = λ x. let_go Drop (h b x) in
+      let f : ℕ → Instructions → Instructions = λ x. let_go Drop (handle_local b x) in
       let g : ℕ → Instructions → Instructions = λ x. let_go IterFree (iterator_local b x) in
       let e : ℕ → Instructions → Instructions = λ x. let_go FreeArray (array_local b x) in
       cleared_by (8 * (b.temporaries + (b.iterators + b.arrays))) l (swept y k) (in_order f zero b.temporaries (in_order g zero b.iterators (in_order e zero b.arrays k))) k
@@ -236,7 +236,7 @@ module _ (p : Program) (deepest : Watch) (ks : List Kind) (F : List Frame) (b : 
   pub begin_ok : (K : List Label) (G : Store) (l : Locals) (k : Instructions) → is_owned l.answer ≡ false → ((x : ℕ) → is_owned (l.hand x) ≡ false) → ((x : ℕ) → is_owned (l.iterator x) ≡ false) → ((x : ℕ) → is_owned (l.array x) ≡ false) →
       Cleared (machine p deepest ks F) ks F b K G (8 * (b.temporaries + (b.iterators + b.arrays))) (with_at l Answer empty) (temporaries_emptied y zero b.temporaries (iterators_emptied y zero b.iterators (arrays_emptied y zero b.arrays k))) k
   begin_ok K G l k o oh ow oy =
-      let f : ℕ → Instructions → Instructions = λ x. emptied (h b x) in
+      let f : ℕ → Instructions → Instructions = λ x. emptied (handle_local b x) in
       let g : ℕ → Instructions → Instructions = λ x. emptied (iterator_local b x) in
       let e : ℕ → Instructions → Instructions = λ x. emptied (array_local b x) in
       cleared_by (8 * (b.temporaries + (b.iterators + b.arrays))) (with_at l Answer empty) _ (in_order f zero b.temporaries (in_order g zero b.iterators (in_order e zero b.arrays k))) k

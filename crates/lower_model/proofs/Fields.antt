@@ -27,8 +27,8 @@ use Rattle.lower_model.specs.Cells.{Cell, Bits, Held, is_owned}
 use Rattle.lower_model.specs.Emission.{emitted, all_emitted, all_converted, performed, field_in, field_at, one_field, constant_field, field_or}
 use Rattle.lower_model.specs.ImportCalls.{with_some, and_rest, row_in}
 use Rattle.lower_model.specs.Machine.{Label, Frame, at}
-use Rattle.lower_model.specs.Places.{Bases}
-use Rattle.lower_model.specs.Small.{h, ask_row, does as then_does}
+use Rattle.lower_model.specs.Places.{Bases, handle_local}
+use Rattle.lower_model.specs.Small.{ask_row, does as then_does}
 use Rattle.wasm_types.specs.declared.instr.Simple.TheVariants.{LocalSet}
 use Rattle.lower_model.proofs.Watch.{Watch}
 use Rattle.lower_model.proofs.Runs.{Goes, goes_to, then_goes, there}
@@ -122,7 +122,7 @@ module _ (p : Program) (deepest : Watch) (ks : List Kind) (F : List Frame) (b : 
       subst (λ (o : Option ℤ). R o (does row.Field (or_zero (number_of z), tt) σ)) (sym (ap (λ (c : Bool). if c then Some z else None) is))
       (subst (λ (r : Outcome Value). R (Some z) r) (sym found.means)
       (there mach M (work_of e) 2 _ _ found.value σ P Q
-      (then_goes (found.pushes [] K (laid b l) (then_does (LocalSet (h b t)) k))
+      (then_goes (found.pushes [] K (laid b l) (then_does (LocalSet (handle_local b t)) k))
       (set_ok b l (Hand t) (Held found.value) (omega (arith, rm)) (ap is_owned (rd.fit.free t (omega arith))))) (omega arith)
       (put_done p deepest ks F b M n e v fs env ts st t u w k K l l σ σ found.value _ rd.below (same_self ts t w l) (λ i q. refl) rd.kept refl tt (put_value p deepest ks F b M t u w k K l found.value σ rd.fit))))
 

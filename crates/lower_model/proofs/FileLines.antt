@@ -18,9 +18,8 @@ use Rattle.mid_program.specs.Sorted.{Held as Standing, sorted, all_sorted, held_
 use Rattle.lower_model.specs.Cells.{Held}
 use Rattle.lower_model.specs.Emission.{emitted, all_emitted, text_kept, text_let_go}
 use Rattle.lower_model.specs.Machine.{Frame, loops_walked}
-use Rattle.lower_model.specs.Places.{Bases}
-use Rattle.lower_model.specs.Small.{ask_row, number_is, when, code_number, moved_out, kept_code, to_value, h}
-use Rattle.lower_model.specs.Small
+use Rattle.lower_model.specs.Places.{Bases, handle_local, number_local}
+use Rattle.lower_model.specs.Small.{ask_row, number_is, when, code_number, moved_out, kept_code, to_value}
 use Rattle.lower_model.proofs.Watch.{Watch}
 use Rattle.lower_model.proofs.Runs.{then_goes, goes_from, first, then_on, then_settled, weaker}
 use Rattle.lower_model.proofs.Regions.{upd_same}
@@ -61,9 +60,9 @@ module _ (p : Program) (deepest : Watch) (ks : List Kind) (F : List Frame) (b : 
       let s3 = and_parts (stores_well fs s) (sorted ctx (a_value ∷ fs) s) s2.1 in
       let s4 = and_parts (keeps_well s) (is_dropped (form_of (a_value ∷ fs) s)) s3.0 in
       let block = text_kept lay row.Line t (emitted lay true (a_value ∷ fs) (suc t ∷ ts) s (suc (suc t)) w (suc d) (text_let_go lay fs s t NoMore)) in
-      let k4 = number_is (Small.n b t) 1 (when block (code_number b t k)) in
+      let k4 = number_is (number_local b t) 1 (when block (code_number b t k)) in
       let k3 = kept_code b true t d k4 in
-      let k2 = moved_out (h b t) (ask_row row.GetlineVarFile k3) in
+      let k2 = moved_out (handle_local b t) (ask_row row.GetlineVarFile k3) in
       let k1 = to_value b f t k2 in
       let r1 = room_one e in
       let stored = when_read (storing_meant p deepest ks F b M n s fs env) in

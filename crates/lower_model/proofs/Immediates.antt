@@ -1,5 +1,5 @@
 -- Comparisons with an operand that is immediate: what it gives comes onto the stack where it is asked for.
-use Rattle.std.proofs.Common.{◌≡◌, inl, ℕ, suc, ◌+◌, ◌<◌, ◌≤◌, Bool, true, false, List, [], ◌∷◌, Option, Some, None, Ok, refl, sym, ap, ◌∙◌, subst, arith, ℤ}
+use Rattle.std.proofs.Common.{◌≡◌, inl, ℕ, suc, ◌<◌, Bool, true, false, List, [], ◌∷◌, Option, Some, None, Ok, refl, sym, ap, subst, arith, ℤ}
 use Rattle.std.specs.Prelude.{◌&&◌, get_or}
 use Rattle.std.proofs.lemmas.Bool.{and_parts}
 use Rattle.awk_values.specs.Comparison.{comparison}
@@ -26,10 +26,9 @@ use Rattle.lower_model.specs.Arithmetic.{is_value, compared}
 use Rattle.lower_model.specs.Cells.{Cell, Bits, Held}
 use Rattle.lower_model.specs.Emission.{Immediate, FieldOf, TextOf, NumberOf, immediate_field, immediate_in, immediate_pushed, immediately_compared, immediate_or, field_in, emitted, all_emitted}
 use Rattle.lower_model.specs.ImportCalls.{with_some, and_rest, row_in}
-use Rattle.lower_model.specs.Machine.{Conf, Label, Frame, at}
-use Rattle.lower_model.specs.Places.{Bases}
+use Rattle.lower_model.specs.Machine.{Label, Frame, at}
+use Rattle.lower_model.specs.Places.{Bases, handle_local}
 use Rattle.lower_model.specs.Small.{does, ask_row, moved_out, kept_code}
-use Rattle.lower_model.specs.Small
 use Rattle.lower_model.proofs.Watch.{Watch}
 use Rattle.lower_model.proofs.Runs.{Goes, then_goes, goes_to, goes_from, same_goes, first, then_on, then_settled, weaker, weaker_settled}
 use Rattle.lower_model.proofs.Regions.{upd_same}
@@ -119,7 +118,7 @@ module _ (p : Program) (deepest : Watch) (ks : List Kind) (F : List Frame) (b : 
       let Q = Away p deepest ks F b d K in
       let k4 = kept_code b true t d k in
       let k3 = ask_row row.Compare k4 in
-      let k2 = does (I32Const (comparison_number c)) (moved_out (Small.h b t) (immediate_pushed y i k3)) in
+      let k2 = does (I32Const (comparison_number c)) (moved_out (handle_local b t) (immediate_pushed y i k3)) in
       then_settled mach M 16 9 25 _ σ (Converted p deepest ks F b M (suc t) u w t a_value k2 K l) P Q (Ok (boxed f x)) (λ v. settled (comparison v a c)) (omega arith)
       (converted_ok p deepest ks F b M f sort.Value x (suc t) u w t d k2 K l σ ef (omega arith) lt ft hx)
       (λ v c1 e1 a1.

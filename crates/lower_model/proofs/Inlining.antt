@@ -34,9 +34,8 @@ use Rattle.lower_model.specs.Arithmetic.{out_of_range, two_numbers, ranged, time
 use Rattle.lower_model.specs.Cells.{Cell, Bits}
 use Rattle.lower_model.specs.Emission.{emitted, all_emitted}
 use Rattle.lower_model.specs.Machine.{Conf, Label, Frame, at, br, with_operands, push_result}
-use Rattle.lower_model.specs.Places.{Bases}
+use Rattle.lower_model.specs.Places.{Bases, number_local}
 use Rattle.lower_model.specs.Small.{does, fail_if}
-use Rattle.lower_model.specs.Small
 use Rattle.lower_model.proofs.Watch.{Watch}
 use Rattle.lower_model.proofs.Runs.{Goes, then_goes, goes_to, by_steps, stays, there, faulted, first, within, weaker_settled}
 use Rattle.lower_model.proofs.Regions.{upd_same, upd_other}
@@ -145,14 +144,14 @@ module _ (p : Program) (deepest : Watch) (ks : List Kind) (F : List Frame) (b : 
 
   -- both come onto the stack, and what an operator gives of them
   computed_ok : {K : List Label} {k : Instructions} → (op : IBinOp) (x y : Number) (m t u w : ℕ) (l : Locals) (σ : State) → suc t < b.temporaries → Pair x y t u w l σ → binary_at w64 op (number_word x) (number_word y) ≡ Ok m →
-      Goes (machine p deepest ks F) 3 (at ks [] K (laid b l) F (two_numbers (Small.n b t) (Small.n b (suc t)) op k) (beside_state p deepest ks F σ)) (at ks (Bits (I64 m) ∷ []) K (laid b l) F k (beside_state p deepest ks F σ))
+      Goes (machine p deepest ks F) 3 (at ks [] K (laid b l) F (two_numbers (number_local b t) (number_local b (suc t)) op k) (beside_state p deepest ks F σ)) (at ks (Bits (I64 m) ∷ []) K (laid b l) F k (beside_state p deepest ks F σ))
   computed_ok {K = K} {k = k} op x y m t u w l σ lt a e =
       then_goes (get_copied b l (NumberAt t) (Bits (I64 (number_word x))) (omega (arith, lt)) a.left refl)
       (then_goes (get_copied b l (NumberAt (suc t)) (Bits (I64 (number_word y))) lt a.right refl)
       (by_steps 1 (ap (λ r. with_operands (push_result [] (Some (given_by I64 r))) ks K (laid b l) F k (beside_state p deepest ks F σ)) e)))
 
   range_told : {vs : List Cell} {K : List Label} {k : Instructions} → (l : Locals) (t m : ℕ) (σ : State) → t < b.temporaries → l.number t ≡ Bits (I64 m) →
-      Goes (machine p deepest ks F) 3 (at ks vs K (laid b l) F (out_of_range (Small.n b t) k) (beside_state p deepest ks F σ)) (at ks (Bits (flag (is_out m)) ∷ vs) K (laid b l) F k (beside_state p deepest ks F σ))
+      Goes (machine p deepest ks F) 3 (at ks vs K (laid b l) F (out_of_range (number_local b t) k) (beside_state p deepest ks F σ)) (at ks (Bits (flag (is_out m)) ∷ vs) K (laid b l) F k (beside_state p deepest ks F σ))
   range_told l t m σ lt e = then_goes (get_copied b l (NumberAt t) (Bits (I64 m)) lt e refl) (by_steps 2 refl)
 
   -- the test of the range, once it is made
@@ -178,7 +177,7 @@ module _ (p : Program) (deepest : Watch) (ks : List Kind) (F : List Frame) (b : 
 
   -- a sum or a difference
   ranged_ok : (op : IBinOp) (x y : Number) (z : ℤ) (t u w d : ℕ) (k : Instructions) (K : List Label) (l0 l : Locals) (σ : State) → FitsSigned w64 z → binary_at w64 op (number_word x) (number_word y) ≡ Ok (word z) → suc t < b.temporaries → Same [] t w l0 l → Pair x y t u w l σ →
-      Reached p deepest ks F b M 30 σ.turns (at ks [] K (laid b l) F (ranged op (Small.n b t) (Small.n b (suc t)) d k) (beside_state p deepest ks F σ)) (Put p deepest ks F b t u w a_number k K l0) (Away p deepest ks F b d K) (settled (outcome_of (checked z)) σ)
+      Reached p deepest ks F b M 30 σ.turns (at ks [] K (laid b l) F (ranged op (number_local b t) (number_local b (suc t)) d k) (beside_state p deepest ks F σ)) (Put p deepest ks F b t u w a_number k K l0) (Away p deepest ks F b d K) (settled (outcome_of (checked z)) σ)
   ranged_ok op x y z t u w d k K l0 l σ fz e lt sm a =
       let c = Bits (I64 (word z)) in
       let l1 = with_at l (NumberAt t) c in
@@ -188,7 +187,7 @@ module _ (p : Program) (deepest : Watch) (ks : List Kind) (F : List Frame) (b : 
       (tested z (is_out (word z)) t u w d (suc t) 0 k k K l0 l1 l1 σ (out_word z fz) f1 (omega arith) stays f1 (same_then [] t t w w l0 l l1 (omega arith) (omega arith) sm (same_number [] t w t l c (omega arith))) a.hand (λ i. upd_same l.number t c))
 
   times_ok : (x y : Number) (t u w d : ℕ) (k : Instructions) (K : List Label) (l0 l : Locals) (σ : State) → suc (suc t) < b.temporaries → Same [] t w l0 l → Pair x y t u w l σ →
-      Reached p deepest ks F b M 30 σ.turns (at ks [] K (laid b l) F (times (Small.n b t) (Small.n b (suc t)) (Small.n b (suc (suc t))) d k) (beside_state p deepest ks F σ)) (Put p deepest ks F b t u w a_number k K l0) (Away p deepest ks F b d K) (settled (outcome_of (checked (x.number *ℤ y.number))) σ)
+      Reached p deepest ks F b M 30 σ.turns (at ks [] K (laid b l) F (times (number_local b t) (number_local b (suc t)) (number_local b (suc (suc t))) d k) (beside_state p deepest ks F σ)) (Put p deepest ks F b t u w a_number k K l0) (Away p deepest ks F b d K) (settled (outcome_of (checked (x.number *ℤ y.number))) σ)
   times_ok x y t u w d k K l0 l σ lt sm a =
       let mach = machine p deepest ks F in
       let S = beside_state p deepest ks F σ in
@@ -200,9 +199,9 @@ module _ (p : Program) (deepest : Watch) (ks : List Kind) (F : List Frame) (b : 
       let c = Bits (I64 q) in
       let cx = Bits (I64 (number_word x)) in
       let cy = Bits (I64 (number_word y)) in
-      let xx = Small.n b t in
-      let yy = Small.n b (suc t) in
-      let pp = Small.n b (suc (suc t)) in
+      let xx = number_local b t in
+      let yy = number_local b (suc t) in
+      let pp = number_local b (suc (suc t)) in
       let l1 = with_at l (NumberAt (suc (suc t))) c in
       let l2 = with_at l1 (NumberAt t) c in
       let ex = upd_other l.number (suc (suc t)) t c (λ e. omega (arith, e)) ∙ a.left in
@@ -242,7 +241,7 @@ module _ (p : Program) (deepest : Watch) (ks : List Kind) (F : List Frame) (b : 
   -- where the divisor is 0 the function is left
   divisor_ok : (y : Number) (o : Checked) (t u w d j q : ℕ) (k : Instructions) (K : List Label) (l : Locals) (σ : State) → t < b.temporaries → l.number t ≡ Bits (I64 (number_word y)) → Fit p deepest ks F q u w l σ → (P : Number → State → Conf → Type 0) →
       (is_zero y.number ≡ false → Reached p deepest ks F b M j σ.turns (at ks [] K (laid b l) F k (beside_state p deepest ks F σ)) P (Away p deepest ks F b d K) (settled (outcome_of o) σ)) →
-      Reached p deepest ks F b M (5 + j) σ.turns (at ks [] K (laid b l) F (unless_zero (Small.n b t) d k) (beside_state p deepest ks F σ)) P (Away p deepest ks F b d K) (settled (outcome_of (if is_zero y.number then Err DivisionByZero else o)) σ)
+      Reached p deepest ks F b M (5 + j) σ.turns (at ks [] K (laid b l) F (unless_zero (number_local b t) d k) (beside_state p deepest ks F σ)) P (Away p deepest ks F b d K) (settled (outcome_of (if is_zero y.number then Err DivisionByZero else o)) σ)
   divisor_ok y o t u w d j q k K l σ lt e ft P go =
       first (machine p deepest ks F) M 2 (3 + j) (5 + j) σ.turns _ _ P (Away p deepest ks F b d K) (settled (outcome_of (if is_zero y.number then Err DivisionByZero else o)) σ)
       (then_goes (get_copied b l (NumberAt t) (Bits (I64 (number_word y))) lt e refl) (goes_to (by_steps 1 refl) (ap (λ f. at ks (Bits (flag f) ∷ []) K (laid b l) F (fail_if DivisionByZero d k) (beside_state p deepest ks F σ)) (zero_word y)))) (omega arith)
@@ -254,29 +253,29 @@ module _ (p : Program) (deepest : Watch) (ks : List Kind) (F : List Frame) (b : 
 
   -- what is in range needs no test
   whole_ok : (op : IBinOp) (x y : Number) (z : ℤ) (t u w d : ℕ) (k : Instructions) (K : List Label) (l0 l : Locals) (σ : State) → unsigned_abs z ≤ 2 ^ 53 → binary_at w64 op (number_word x) (number_word y) ≡ Ok (word z) → suc t < b.temporaries → Same [] t w l0 l → Pair x y t u w l σ →
-      Reached p deepest ks F b M 4 σ.turns (at ks [] K (laid b l) F (divided op (Small.n b t) (Small.n b (suc t)) k) (beside_state p deepest ks F σ)) (Put p deepest ks F b t u w a_number k K l0) (Away p deepest ks F b d K) (settled (outcome_of (Ok z)) σ)
+      Reached p deepest ks F b M 4 σ.turns (at ks [] K (laid b l) F (divided op (number_local b t) (number_local b (suc t)) k) (beside_state p deepest ks F σ)) (Put p deepest ks F b t u w a_number k K l0) (Away p deepest ks F b d K) (settled (outcome_of (Ok z)) σ)
   whole_ok op x y z t u w d k K l0 l σ bd e lt sm a =
       let i = le-leb (unsigned_abs z) (2 ^ 53) bd in
       let v : Number = record { number = z; in_range = subst T (sym i) tt } in
-      subst (λ r. Reached p deepest ks F b M 4 σ.turns (at ks [] K (laid b l) F (divided op (Small.n b t) (Small.n b (suc t)) k) (beside_state p deepest ks F σ)) (Put p deepest ks F b t u w a_number k K l0) (Away p deepest ks F b d K) (settled r σ)) (sym (in_range z i))
+      subst (λ r. Reached p deepest ks F b M 4 σ.turns (at ks [] K (laid b l) F (divided op (number_local b t) (number_local b (suc t)) k) (beside_state p deepest ks F σ)) (Put p deepest ks F b t u w a_number k K l0) (Away p deepest ks F b d K) (settled r σ)) (sym (in_range z i))
       (there (machine p deepest ks F) M 4 4 _ _ v σ (Put p deepest ks F b t u w a_number k K l0) (Away p deepest ks F b d K)
       (then_goes (computed_ok op x y (word z) t u w l σ lt a e) (set_ok b l (NumberAt t) (Bits (I64 (word z))) (omega (arith, lt)) (a.fit.numbers t))) (omega arith)
       (put_number t u w k K l0 l v σ a.fit sm a.hand))
 
   -- a quotient is whole, or the function is left
   broken_ok : (x y : Number) (t u w d : ℕ) (k : Instructions) (K : List Label) (l0 l : Locals) (σ : State) → is_zero y.number ≡ false → suc t < b.temporaries → Same [] t w l0 l → Pair x y t u w l σ →
-      Reached p deepest ks F b M 11 σ.turns (at ks [] K (laid b l) F (unless_broken (Small.n b t) (Small.n b (suc t)) d (divided bin.DivS (Small.n b t) (Small.n b (suc t)) k)) (beside_state p deepest ks F σ)) (Put p deepest ks F b t u w a_number k K l0) (Away p deepest ks F b d K)
+      Reached p deepest ks F b M 11 σ.turns (at ks [] K (laid b l) F (unless_broken (number_local b t) (number_local b (suc t)) d (divided bin.DivS (number_local b t) (number_local b (suc t)) k)) (beside_state p deepest ks F σ)) (Put p deepest ks F b t u w a_number k K l0) (Away p deepest ks F b d K)
       (settled (outcome_of (if is_zero (int_rem x.number y.number) then Ok (int_div x.number y.number) else Err Inexact)) σ)
   broken_ok x y t u w d k K l0 l σ nz lt sm a =
       let r = int_rem x.number y.number in
       let i = le-leb (unsigned_abs r) (2 ^ 53) (remainder_small x y nz) in
       let v : Number = record { number = r; in_range = subst T (sym i) tt } in
-      let k1 = divided bin.DivS (Small.n b t) (Small.n b (suc t)) k in
+      let k1 = divided bin.DivS (number_local b t) (number_local b (suc t)) k in
       first (machine p deepest ks F) M 4 7 11 σ.turns _ _ (Put p deepest ks F b t u w a_number k K l0) (Away p deepest ks F b d K) (settled (outcome_of (if is_zero r then Ok (int_div x.number y.number) else Err Inexact)) σ)
       (then_goes (computed_ok bin.RemS x y (word r) t u w l σ lt a (remainder_word x y nz)) (goes_to (by_steps 1 refl) (ap (λ f. at ks (Bits (flag (not f)) ∷ []) K (laid b l) F (fail_if Inexact d k1) (beside_state p deepest ks F σ)) (zero_word v)))) (omega arith)
       (by (is_zero r))
     where
-      by : (z : Bool) → Reached p deepest ks F b M 7 σ.turns (at ks (Bits (flag (not z)) ∷ []) K (laid b l) F (fail_if Inexact d (divided bin.DivS (Small.n b t) (Small.n b (suc t)) k)) (beside_state p deepest ks F σ)) (Put p deepest ks F b t u w a_number k K l0) (Away p deepest ks F b d K) (settled (outcome_of (if z then Ok (int_div x.number y.number) else Err Inexact)) σ)
+      by : (z : Bool) → Reached p deepest ks F b M 7 σ.turns (at ks (Bits (flag (not z)) ∷ []) K (laid b l) F (fail_if Inexact d (divided bin.DivS (number_local b t) (number_local b (suc t)) k)) (beside_state p deepest ks F σ)) (Put p deepest ks F b t u w a_number k K l0) (Away p deepest ks F b d K) (settled (outcome_of (if z then Ok (int_div x.number y.number) else Err Inexact)) σ)
       by true = first (machine p deepest ks F) M 2 4 7 σ.turns _ _ (Put p deepest ks F b t u w a_number k K l0) (Away p deepest ks F b d K) (settled (outcome_of (Ok (int_div x.number y.number))) σ) (passes_ok p deepest ks F b M n Inexact d σ) (omega arith)
           (whole_ok bin.DivS x y (int_div x.number y.number) t u w d k K l0 l σ (quotient_small x y nz) (quotient_word x y nz) lt sm a)
       by false = faulted (machine p deepest ks F) M 7 3 _ _ Inexact σ (Put p deepest ks F b t u w a_number k K l0) (Away p deepest ks F b d K) (fails_ok p deepest ks F b M n Inexact d σ) (omega arith) (left_with (suc t) u w d K l σ Inexact a.fit)

@@ -17,8 +17,8 @@ use Rattle.sem_scripts.specs.Statements.{Flow, Normal, Broke, Continued, with_st
 use Rattle.lower_model.specs.Cells.{Cell, Bits, Held, is_owned}
 use Rattle.lower_model.specs.Machine.{Conf, Label, Frame, at, br}
 use Rattle.lower_model.specs.Noted.{step_noted, steps_noted}
-use Rattle.lower_model.specs.Places.{Bases, answer_local, status_global}
-use Rattle.lower_model.specs.Small.{does, moved_out, h, n as number_at, to_number, to_value}
+use Rattle.lower_model.specs.Places.{Bases, answer_local, status_global, handle_local, number_local}
+use Rattle.lower_model.specs.Small.{does, moved_out, to_number, to_value}
 use Rattle.lower_model.specs.Statements.{way_next, way_exit, left_by, step_emitted, steps_emitted}
 use Rattle.lower_model.proofs.Watch.{Watch}
 use Rattle.lower_model.proofs.Runs.{Goes, goes_to, goes_from, then_goes, by_steps, first, then_on, then_settled, there, Reaches}
@@ -92,7 +92,7 @@ module _ (p : Program) (deepest : Watch) (ks : List Kind) (F : List Frame) (b : 
 
   -- the status is told too
   exits_with : {k : Instructions} {K : List Label} → (d : ℕ) (l : Locals) (m : Number) (σ : State) → zero < b.temporaries → l.number zero ≡ Bits (I64 (number_word m)) →
-      Goes (machine p deepest ks F) 4 (at ks [] K (laid b l) F (does (LocalGet (number_at b zero)) (does (GlobalSet status_global) (left_by way_exit d k))) (beside_state p deepest ks F σ))
+      Goes (machine p deepest ks F) 4 (at ks [] K (laid b l) F (does (LocalGet (number_local b zero)) (does (GlobalSet status_global) (left_by way_exit d k))) (beside_state p deepest ks F σ))
       (br d ks K (laid b l) F (gone p.ranges (kinds_of p.globals) Exited (with_status m σ)))
   exits_with d l m σ lt e =
       then_goes (get_copied b l (NumberAt zero) (Bits (I64 (number_word m))) lt e refl)
@@ -106,7 +106,7 @@ module _ (p : Program) (deepest : Watch) (ks : List Kind) (F : List Frame) (b : 
       let Q = Away p deepest ks F b d K in
       let P = StepDone p deepest ks F b M n lo u bk ct k K l in
       let f = form_of [] e in
-      let k2 = does (LocalGet (number_at b zero)) (does (GlobalSet status_global) (left_by way_exit d k)) in
+      let k2 = does (LocalGet (number_local b zero)) (does (GlobalSet status_global) (left_by way_exit d k)) in
       let k1 = to_number b f zero d k2 in
       let s1 = and_parts (fits f sort.Number) (sorted ctx [] e) so in
       let r1 = room_one e in
@@ -136,7 +136,7 @@ module _ (p : Program) (deepest : Watch) (ks : List Kind) (F : List Frame) (b : 
       let Q = Away p deepest ks F b d K in
       let P = StepDone p deepest ks F b M n lo u bk ct k K l in
       let f = form_of [] e in
-      let k2 = moved_out (h b zero) (does (LocalSet (answer_local b)) (does (Br d) k)) in
+      let k2 = moved_out (handle_local b zero) (does (LocalSet (answer_local b)) (does (Br d) k)) in
       let k1 = to_value b f zero k2 in
       let s0 = and_parts r (fits f sort.Value && sorted ctx [] e) so in
       let s1 = and_parts (fits f sort.Value) (sorted ctx [] e) s0.1 in

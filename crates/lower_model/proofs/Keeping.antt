@@ -12,8 +12,8 @@ use Rattle.mid_program.specs.Sorted.{Held as Standing, There, Moved, Misused, so
 use Rattle.lower_model.specs.Cells.{Cell, Bits, Held, IteratorOf, OwnedArray, LentArray, Gone, is_owned, left_by}
 use Rattle.lower_model.specs.Emission.{emitted, all_emitted, left_over, sequence_closed, keeping_closed}
 use Rattle.lower_model.specs.Machine.{Conf, Label, Frame, at, loops_walked}
-use Rattle.lower_model.specs.Places.{Bases}
-use Rattle.lower_model.specs.Small.{unused, released, moved_from, number_copied, let_go, h, moved}
+use Rattle.lower_model.specs.Places.{Bases, handle_local}
+use Rattle.lower_model.specs.Small.{unused, released, moved_from, number_copied, let_go, moved}
 use Rattle.host_imports.specs.declared.import.Import.TheVariants.{Drop}
 use Rattle.lower_model.proofs.Watch.{Watch}
 use Rattle.lower_model.proofs.Runs.{Goes, then_goes, stays, goes_from, first, then_on, then_step}
@@ -73,7 +73,7 @@ module _ (p : Program) (deepest : Watch) (ks : List Kind) (F : List Frame) (b : 
   fit_emptied : (t u w : ℕ) (l : Locals) (σ : State) → Fit p deepest ks F (suc t) u w l σ → Fit p deepest ks F t u w (with_at l (Hand t) empty) σ
   fit_emptied t u w l σ ft = fit_less p deepest ks F t u w (with_at l (Hand t) empty) σ (upd_same l.hand t empty) (fit_hand p deepest ks F t (suc t) u w l σ empty (inl refl) (omega arith) ft)
 
-  freed_hand : (t u w : ℕ) (k : Instructions) (K : List Label) (l : Locals) (σ : State) → t < b.temporaries → Fit p deepest ks F (suc t) u w l σ → Freed t u w 8 (at ks [] K (laid b l) F (let_go Drop (h b t) k) (beside_state p deepest ks F σ)) k K l σ
+  freed_hand : (t u w : ℕ) (k : Instructions) (K : List Label) (l : Locals) (σ : State) → t < b.temporaries → Fit p deepest ks F (suc t) u w l σ → Freed t u w 8 (at ks [] K (laid b l) F (let_go Drop (handle_local b t) k) (beside_state p deepest ks F σ)) k K l σ
   freed_hand t u w k K l σ lt ft =
       let g = let_go_hand {u = machine p deepest ks F} {ks = ks} {F = F} b (Hand t) K l k (beside_state p deepest ks F σ) lt (ft.hands t) in
       record { next = with_at l (Hand t) empty; steps = g.steps; few = g.few; goes = g.goes; fit = fit_emptied t u w l σ ft; hand = upd_same l.hand t empty; keeps = keeps_hand t l empty }
@@ -178,7 +178,7 @@ module _ (p : Program) (deepest : Watch) (ks : List Kind) (F : List Frame) (b : 
 
   -- a handle is moved
   moved_ok : {k : Instructions} {K : List Label} → (s t : ℕ) (l : Locals) (σ : State) → s < b.temporaries → t < b.temporaries → t ≢ s → l.hand t ≡ empty →
-      Goes (machine p deepest ks F) 3 (at ks [] K (laid b l) F (moved (h b s) (h b t) k) (beside_state p deepest ks F σ)) (at ks [] K (laid b (with_at (with_at l (Hand s) empty) (Hand t) (l.hand s))) F k (beside_state p deepest ks F σ))
+      Goes (machine p deepest ks F) 3 (at ks [] K (laid b l) F (moved (handle_local b s) (handle_local b t) k) (beside_state p deepest ks F σ)) (at ks [] K (laid b (with_at (with_at l (Hand s) empty) (Hand t) (l.hand s))) F k (beside_state p deepest ks F σ))
   moved_ok s t l σ ls lt ne e = then_goes (moved_out_ok b l (Hand s) (l.hand s) ls refl) (set_ok b (with_at l (Hand s) empty) (Hand t) (l.hand s) lt (ap is_owned (upd_other l.hand s t empty ne ∙ e)))
 
   fit_moved : (s t q u w : ℕ) (l : Locals) (σ : State) → s < q → t < q → IsHand (l.hand s) → Fit p deepest ks F q u w l σ → Fit p deepest ks F q u w (with_at (with_at l (Hand s) empty) (Hand t) (l.hand s)) σ
@@ -241,7 +241,7 @@ module _ (p : Program) (deepest : Watch) (ks : List Kind) (F : List Frame) (b : 
     pub keeps : Keeps t l next
     pub fit : (q u w : ℕ) → t < q → Fit p deepest ks F q u w l σ → Fit p deepest ks F q u w next σ
 
-  released_hand : (t : ℕ) (k : Instructions) (K : List Label) (l : Locals) (σ : State) → t < b.temporaries → IsHand (l.hand t) → Released t (at ks [] K (laid b l) F (let_go Drop (h b t) k) (beside_state p deepest ks F σ)) k K l σ
+  released_hand : (t : ℕ) (k : Instructions) (K : List Label) (l : Locals) (σ : State) → t < b.temporaries → IsHand (l.hand t) → Released t (at ks [] K (laid b l) F (let_go Drop (handle_local b t) k) (beside_state p deepest ks F σ)) k K l σ
   released_hand t k K l σ lt hd =
       let g = let_go_hand {u = machine p deepest ks F} {ks = ks} {F = F} b (Hand t) K l k (beside_state p deepest ks F σ) lt hd in
       record { next = with_at l (Hand t) empty; steps = g.steps; few = g.few; goes = g.goes; hand = upd_same l.hand t empty; keeps = keeps_hand t l empty; fit = λ q u w lq f. fit_hand p deepest ks F t q u w l σ empty (inl refl) lq f }

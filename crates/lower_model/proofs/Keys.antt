@@ -22,8 +22,8 @@ use Rattle.host_imports.specs.Codes.{end_word}
 use Rattle.lower_model.specs.ImportCalls.{key_or_end, with_some, and_rest, row_in}
 use Rattle.lower_model.specs.Machine.{Conf, Look, Label, Frame, at, label, ask_looking, with_operands, push_word, looked_compared, go}
 use Rattle.lower_model.specs.Noted.{noted_called, step_noted, steps_noted}
-use Rattle.lower_model.specs.Places.{Bases, room, arrays_in, iterator_local, step_room, step_iterators, step_arrays}
-use Rattle.lower_model.specs.Small.{does as instruction, ask_row, ask, let_go, moved_out, end_code, h}
+use Rattle.lower_model.specs.Places.{Bases, room, arrays_in, iterator_local, step_room, step_iterators, step_arrays, handle_local}
+use Rattle.lower_model.specs.Small.{does as instruction, ask_row, ask, let_go, moved_out, end_code}
 use Rattle.lower_model.specs.Statements.{block, again, key_stored, iterator_left, step_emitted, steps_emitted}
 use Rattle.host_imports.specs.declared.import.Import.TheVariants.{Of, Drop, IterFree}
 use Rattle.lower_model.proofs.Watch.{Watch}
@@ -135,7 +135,7 @@ module _ (p : Program) (deepest : Watch) (ks : List Kind) (F : List Frame) (b : 
 
     -- once the key stands in the first temporary, it is stored and dropped
     abbrev drop_code : Instructions
-    drop_code = let_go Drop (h b zero) body_code
+    drop_code = let_go Drop (handle_local b zero) body_code
 
     abbrev left_code : Instructions
     left_code = left_over (layout p deepest ks F b M n) e (form_of (a_value ∷ []) e) 1 drop_code
@@ -243,7 +243,7 @@ module _ (p : Program) (deepest : Watch) (ks : List Kind) (F : List Frame) (b : 
         (by (meaning row.IterNext (t, tt) σ.shared).answer τ a.next refl st a.iterators)
       where
         by : (o : Option Value) (τ : State) (l1 : Locals) → τ.turns ≡ σ.turns → Starts p deepest ks F b M n (suc u) key_labels l1 τ → ((x : ℕ) → l1.iterator x ≡ walking.iterator x) →
-            Reached p deepest ks F b M 3 τ.turns (at ks (key_or_end o ∷ []) key_labels (laid b l1) F (instruction (LocalTee (h b zero)) (instruction (I32Const end_code) (instruction (Compare I32 Eq) (instruction (BrIf 1) (dropped (layout p deepest ks F b M n) (a_value ∷ []) (zero ∷ []) e 1 zero (suc (suc d)) drop_code))))) (beside_state p deepest ks F τ)) (after_loop Passed) (Away p deepest ks F b d K) (at_key G o τ)
+            Reached p deepest ks F b M 3 τ.turns (at ks (key_or_end o ∷ []) key_labels (laid b l1) F (instruction (LocalTee (handle_local b zero)) (instruction (I32Const end_code) (instruction (Compare I32 Eq) (instruction (BrIf 1) (dropped (layout p deepest ks F b M n) (a_value ∷ []) (zero ∷ []) e 1 zero (suc (suc d)) drop_code))))) (beside_state p deepest ks F τ)) (after_loop Passed) (Away p deepest ks F b d K) (at_key G o τ)
         by None τ l1 et st same =
             there (machine p deepest ks F) M 3 3 _ _ Normal τ (after_loop Passed) (Away p deepest ks F b d K)
             (then_goes (tee_ok b l1 (Hand zero) (Bits end_word) roomy (ap is_owned (st.fit.free zero (omega arith)))) (by_steps 2 refl)) (omega arith)

@@ -22,8 +22,8 @@ use Rattle.mid_program.specs.Sorted.{has_kind, same_kind, scalar_kind, kinds_of}
 use Rattle.lower_model.specs.Cells.{Bits, Held, Gone, is_owned}
 use Rattle.lower_model.specs.Emission.{assigned, assigned_by_number, pending_assigned}
 use Rattle.lower_model.specs.Machine.{Label, Frame, at, label, number_pending}
-use Rattle.lower_model.specs.Places.{Bases}
-use Rattle.lower_model.specs.Small.{does, ask_row, when, text_beside, moved_out, h}
+use Rattle.lower_model.specs.Places.{Bases, handle_local, number_local}
+use Rattle.lower_model.specs.Small.{does, ask_row, when, text_beside, moved_out}
 use Rattle.lower_model.specs.Small
 use Rattle.lower_model.proofs.Watch.{Watch}
 use Rattle.lower_model.proofs.Runs.{Goes, then_goes, goes_to, by_steps, stays}
@@ -127,7 +127,7 @@ module _ (p : Program) (deepest : Watch) (ks : List Kind) (F : List Frame) (b : 
       let l1 = with_at l (Hand t) empty in
       let k3 = does (I64Const text_beside) (does (GlobalSet (global_of p.ranges nn (NameNumber i))) k) in
       let k2 = does (GlobalSet (global_of p.ranges nn (NameHand i))) k3 in
-      let s = text_dropped_ok p deepest ks F b M n (Some i) i (moved_out (h b t) k2) K l σ hk (bare_is (global_value i σ)) in
+      let s = text_dropped_ok p deepest ks F b M n (Some i) i (moved_out (handle_local b t) k2) K l σ hk (bare_is (global_value i σ)) in
       let q = s.few in
       record {
         steps = s.steps + 4;
@@ -147,7 +147,7 @@ module _ (p : Program) (deepest : Watch) (ks : List Kind) (F : List Frame) (b : 
 
   module _ (t m : ℕ) (K : List Label) (k : Instructions) (σ : State) (lt : suc t < b.temporaries) where
     not_this : (name : Option ℕ) (i : ℕ) (l : Locals) (block rest : Instructions) → l.number t ≡ Bits (I64 m) → nat_eq m i ≡ false →
-        Goes (machine p deepest ks F) 4 (at ks [] K (laid b l) F (Small.number_is (Small.n b t) i (when block rest)) (while_assigning name (beside_state p deepest ks F σ))) (at ks [] K (laid b l) F rest (while_assigning name (beside_state p deepest ks F σ)))
+        Goes (machine p deepest ks F) 4 (at ks [] K (laid b l) F (Small.number_is (number_local b t) i (when block rest)) (while_assigning name (beside_state p deepest ks F σ))) (at ks [] K (laid b l) F rest (while_assigning name (beside_state p deepest ks F σ)))
     not_this name i l block rest e ne =
         then_goes (goes_to (number_is_ok b l t m i (omega (arith, lt)) e) (ap (λ f. at ks (Bits (flag f) ∷ []) K (laid b l) F (when block rest) (while_assigning name (beside_state p deepest ks F σ))) ne))
         (then_goes (chooses block NoMore 0) closes)
@@ -160,7 +160,7 @@ module _ (p : Program) (deepest : Watch) (ks : List Kind) (F : List Frame) (b : 
 
     -- the name that it is
     this_one : (t1 : Bool) (kinds : List Kind) (i : ℕ) (text : List ℕ) (l : Locals) → m ≡ i → has_kind (kinds_of p.globals) m (scalar_kind t1) ≡ true → length σ.globals ≡ length p.globals → l.number t ≡ Bits (I64 m) → l.hand t ≡ Held (StrNum text) → l.hand (suc t) ≡ empty → (rest : Instructions) →
-        Makes 16 (Small.number_is (Small.n b t) i (when (assigned (layout p deepest ks F b M n) (scalar_kind t1) i t NoMore) rest)) rest K l (Some m) σ (with_at l (Hand t) empty) (with_global m (StrNum text) σ)
+        Makes 16 (Small.number_is (number_local b t) i (when (assigned (layout p deepest ks F b M n) (scalar_kind t1) i t NoMore) rest)) rest K l (Some m) σ (with_at l (Hand t) empty) (with_global m (StrNum text) σ)
     this_one t1 kinds i text l q hk sz e e1 e2 rest =
         let code = assigned (layout p deepest ks F b M n) (scalar_kind t1) i t NoMore in
         let a = one_assigned t1 i t text NoMore (label [] None rest ∷ K) l σ (ap (λ z. has_kind (kinds_of p.globals) z (scalar_kind t1)) (sym q) ∙ hk) sz lt e1 e2 in
@@ -233,8 +233,8 @@ module _ (p : Program) (deepest : Watch) (ks : List Kind) (F : List Frame) (b : 
       let l1 = with_at l (NumberAt t) (Bits (I64 m)) in
       let l2 = with_at l1 (Hand t) (Held v) in
       let k3 = assigned_by_number (layout p deepest ks F b M n) (kinds_of p.globals) 0 t k in
-      let k2 = does (LocalSet (h b t)) k3 in
-      let k1 = does (Convert I64ExtendI32U) (does (LocalSet (Small.n b t)) (ask_row row.PendingValue k2)) in
+      let k2 = does (LocalSet (handle_local b t)) k3 in
+      let k1 = does (Convert I64ExtendI32U) (does (LocalSet (number_local b t)) (ask_row row.PendingValue k2)) in
       let τ = done_by p deepest ks F row.PendingValue tt σ in
       let z = tl.it in
       let pm : m ≡ tl.place = omega (arith, z) in

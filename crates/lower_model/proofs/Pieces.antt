@@ -15,8 +15,8 @@ use Rattle.mid_program.specs.Mid.{Kind}
 use Rattle.lower_model.specs.Cells.{Cell, Bits, Held, IteratorOf, OwnedArray, LentArray, is_owned, left_by, Gone}
 use Rattle.lower_model.specs.ImportCalls.{Host, call}
 use Rattle.lower_model.specs.Machine.{Code, Look, Label, Frame, Store, at, br, label, with_operands, push_word, looked_compared, go}
-use Rattle.lower_model.specs.Places.{Bases}
-use Rattle.lower_model.specs.Small.{does, ask, minus_one, least, moved_out, has_handle, either, let_go, number_is, h, n, kept_code, kept_value, kept_number, kept_done}
+use Rattle.lower_model.specs.Places.{Bases, number_local}
+use Rattle.lower_model.specs.Small.{does, ask, minus_one, least, moved_out, has_handle, either, let_go, number_is, kept_code, kept_value, kept_number, kept_done}
 use Rattle.host_imports.specs.declared.import.Import.{Import}
 use Rattle.host_imports.specs.declared.import.Import.TheVariants.{Drop, IterFree, FreeArray}
 use Rattle.lower_model.proofs.Runs.{Goes, then_goes, goes_to, by_steps}
@@ -166,7 +166,7 @@ module _ {u : Code} {ks : List Kind} {F : List Frame} (b : Bases) where
 
   -- whether a temporary's number is a given one
   pub number_is_ok : {vs : List Cell} {K : List Label} {c : Instructions} {G : Store} → (l : Locals) (t m x : ℕ) → t < b.temporaries → l.number t ≡ Bits (I64 m) →
-      Goes u 2 (at ks vs K (laid b l) F (number_is (n b t) x c) G) (at ks (Bits (flag (nat_eq m x)) ∷ vs) K (laid b l) F c G)
+      Goes u 2 (at ks vs K (laid b l) F (number_is (number_local b t) x c) G) (at ks (Bits (flag (nat_eq m x)) ∷ vs) K (laid b l) F c G)
   number_is_ok l t m x h e = then_goes (get_copied b l (Number t) (Bits (I64 m)) h e refl) (by_steps 1 refl)
 
   -- Answers.
@@ -176,7 +176,7 @@ module _ {u : Code} {ks : List Kind} {F : List Frame} (b : Bases) where
       Goes u 4 (at ks (Bits (I32 m) ∷ []) K (laid b l) F (kept_code b true t d c) G) (at ks [] K (laid b (with_at l (Number t) (Bits (I64 m)))) F c G)
   code_kept {K = K} {c = c} {G = G} l t d m h o e ne =
       let l1 = with_at l (Number t) (Bits (I64 m)) in
-      then_goes (goes_to (by_steps 1 refl) (ap (λ x. at ks (Bits (I64 x) ∷ []) K (laid b l) F (does (LocalTee (n b t)) (does (I64Const (2 ^ 64 - 1)) (does (Compare ty.I64 Eq) (does (BrIf d) c)))) G) e))
+      then_goes (goes_to (by_steps 1 refl) (ap (λ x. at ks (Bits (I64 x) ∷ []) K (laid b l) F (does (LocalTee (number_local b t)) (does (I64Const (2 ^ 64 - 1)) (does (Compare ty.I64 Eq) (does (BrIf d) c)))) G) e))
       (then_goes (tee_ok b l (Number t) (Bits (I64 m)) h o)
       (then_goes (goes_to (by_steps 1 refl) (ap (λ f. at ks (Bits (flag f) ∷ []) K (laid b l1) F (does (BrIf d) c) G) ne)) (by_steps 1 refl)))
 

@@ -27,9 +27,8 @@ use Rattle.lower_model.specs.Emission.{emitted, text_kept, text_let_go}
 use Rattle.host_imports.specs.Codes.{input_code}
 use Rattle.lower_model.specs.Machine
 use Rattle.lower_model.specs.Machine.{Conf, Label, Frame, at, label, loops_walked}
-use Rattle.lower_model.specs.Places.{Bases, room, arrays_in}
-use Rattle.lower_model.specs.Small.{does, number_is, when, either, code_number, let_go, h}
-use Rattle.lower_model.specs.Small
+use Rattle.lower_model.specs.Places.{Bases, room, arrays_in, handle_local, number_local}
+use Rattle.lower_model.specs.Small.{does, number_is, when, either, code_number, let_go}
 use Rattle.host_imports.specs.declared.import.Import.TheVariants.{Drop}
 use Rattle.lower_model.proofs.Watch.{Watch}
 use Rattle.lower_model.proofs.Runs.{Goes, then_goes, goes_to, goes_from, by_steps, stays, there, first, then_on, weaker_settled, within, Onward}
@@ -112,7 +111,7 @@ module _ (p : Program) (deepest : Watch) (ks : List Kind) (F : List Frame) (b : 
         none = g.none;
       }))
       (λ x τ c1 le a.
-      let z = left_ok p deepest ks F b M n s (form_of gs s) x (suc (suc t)) u w (let_go Drop (h b (suc t)) k) K a.next τ (room_there s q) a.fit a.stands in
+      let z = left_ok p deepest ks F b M n s (form_of gs s) x (suc (suc t)) u w (let_go Drop (handle_local b (suc t)) k) K a.next τ (room_there s q) a.fit a.stands in
       let y = let_go_hand {u = mach} {ks = ks} {F = F} b (Hand (suc t)) K z.next k (beside_state p deepest ks F τ) (omega (arith, q)) (z.fit.hands (suc t)) in
       let l2 = with_at z.next (Hand (suc t)) empty in
       let fz = z.few in
@@ -219,7 +218,7 @@ module _ (p : Program) (deepest : Watch) (ks : List Kind) (F : List Frame) (b : 
 
   -- nothing was read
   passed : (s : Code) (fs : List Form) (env : Env fs) (ts : List ℕ) (st : ℕ → Standing) (t u w d : ℕ) (k : Instructions) (K : List Label) (l : Locals) (σ : State) (x : InputAnswer) → Stores s fs env ts st t u w (loops_walked K) l σ → HoldsAt (Answered answer.Input) t l x → nat_eq (input_code x) 1 ≡ false → (block : Instructions) →
-      Reached p deepest ks F b M (work_of s + 40) σ.turns (at ks [] K (laid b l) F (number_is (Small.n b t) 1 (when block (code_number b t k))) (beside_state p deepest ks F σ)) (Received s fs env ts st t u w k K l σ) (Away p deepest ks F b d K) (give (input_number x) σ)
+      Reached p deepest ks F b M (work_of s + 40) σ.turns (at ks [] K (laid b l) F (number_is (number_local b t) 1 (when block (code_number b t k))) (beside_state p deepest ks F σ)) (Received s fs env ts st t u w k K l σ) (Away p deepest ks F b d K) (give (input_number x) σ)
   passed s fs env ts st t u w d k K l σ x g hd e block =
       let q = g.room_enough in
       first (machine p deepest ks F) M 4 16 (work_of s + 40) σ.turns _ _ (Received s fs env ts st t u w k K l σ) (Away p deepest ks F b d K) (give (input_number x) σ)
@@ -229,7 +228,7 @@ module _ (p : Program) (deepest : Watch) (ks : List Kind) (F : List Frame) (b : 
 
   pub received_ok : (s : Code) (fs : List Form) (env : Env fs) (ts : List ℕ) (st : ℕ → Standing) (t u w d : ℕ) (k : Instructions) (K : List Label) (l : Locals) (σ : State) (x : InputAnswer) → Stores s fs env ts st t u w (loops_walked K) l σ → HoldsAt (Answered answer.Input) t l x → LineAt σ.shared.inner x →
       Reached p deepest ks F b M (work_of s + 40) σ.turns
-      (at ks [] K (laid b l) F (number_is (Small.n b t) 1 (when (text_kept (layout p deepest ks F b M n) row.Line t (emitted (layout p deepest ks F b M n) true (a_value ∷ fs) (suc t ∷ ts) s (suc (suc t)) w (suc d) (text_let_go (layout p deepest ks F b M n) fs s t NoMore))) (code_number b t k))) (beside_state p deepest ks F σ))
+      (at ks [] K (laid b l) F (number_is (number_local b t) 1 (when (text_kept (layout p deepest ks F b M n) row.Line t (emitted (layout p deepest ks F b M n) true (a_value ∷ fs) (suc t ∷ ts) s (suc (suc t)) w (suc d) (text_let_go (layout p deepest ks F b M n) fs s t NoMore))) (code_number b t k))) (beside_state p deepest ks F σ))
       (Received s fs env ts st t u w k K l σ) (Away p deepest ks F b d K) (when_read (storing_meant s fs env) x σ)
   received_ok s fs env ts st t u w d k K l σ input.Read g hd la =
       let mach = machine p deepest ks F in
@@ -259,7 +258,7 @@ module _ (p : Program) (deepest : Watch) (ks : List Kind) (F : List Frame) (b : 
 
   pub replaced_ok : (s : Code) (fs : List Form) (env : Env fs) (ts : List ℕ) (st : ℕ → Standing) (t u w d : ℕ) (k : Instructions) (K : List Label) (l : Locals) (σ : State) (x : Number) → Stores s fs env ts st t u w (loops_walked K) l σ → HoldsAt a_number t l x → is_some σ.shared.inner.substituted ≡ true →
       Reached p deepest ks F b M (work_of s + 30) σ.turns
-      (at ks [] K (laid b l) F (does (LocalGet (Small.n b t)) (does (Test ty.I64 Eqz) (either NoMore (text_kept (layout p deepest ks F b M n) row.SubResult t (emitted (layout p deepest ks F b M n) true (a_value ∷ fs) (suc t ∷ ts) s (suc (suc t)) w (suc d) (text_let_go (layout p deepest ks F b M n) fs s t NoMore))) k))) (beside_state p deepest ks F σ))
+      (at ks [] K (laid b l) F (does (LocalGet (number_local b t)) (does (Test ty.I64 Eqz) (either NoMore (text_kept (layout p deepest ks F b M n) row.SubResult t (emitted (layout p deepest ks F b M n) true (a_value ∷ fs) (suc t ∷ ts) s (suc (suc t)) w (suc d) (text_let_go (layout p deepest ks F b M n) fs s t NoMore))) k))) (beside_state p deepest ks F σ))
       (Received s fs env ts st t u w k K l σ) (Away p deepest ks F b d K) (when_replaced (storing_meant s fs env) x σ)
   replaced_ok s fs env ts st t u w d k K l σ x g hd la =
       first mach M 2 (work_of s + 28) (work_of s + 30) σ.turns _ _ P Q _

@@ -19,8 +19,8 @@ use Rattle.lower_model.specs.Functions.{layout_of}
 use Rattle.host_imports.specs.Codes.{input_code}
 use Rattle.lower_model.specs.Machine.{Conf, Label, at, label, ending_at, loops_walked}
 use Rattle.lower_model.specs.Noted.{noted_done, out_of_part}
-use Rattle.lower_model.specs.Places.{Bases, steps_room, steps_iterators, steps_arrays}
-use Rattle.lower_model.specs.Small.{does, ask_row, when, number_is, kept_code, n as number_at}
+use Rattle.lower_model.specs.Places.{Bases, steps_room, steps_iterators, steps_arrays, number_local}
+use Rattle.lower_model.specs.Small.{does, ask_row, when, number_is, kept_code}
 use Rattle.lower_model.specs.Statements.{record_done, records_read}
 use Rattle.lower_model.proofs.Watch.{Watch}
 use Rattle.lower_model.proofs.Runs.{Goes, goes_from, goes_to, then_goes, by_steps, first, then_on, then_step, there, turned, weaker, Arrives}
@@ -62,13 +62,13 @@ module _ (p : Program) (deepest : Watch) (b : Bases) (M n : ℕ) where
     pending_code = pending_assigned (layout_of p b) zero (does (Br 1) Done)
 
     abbrev else_code : Instructions
-    else_code = number_is (number_at b zero) 2 (when pending_code Done)
+    else_code = number_is (number_local b zero) 2 (when pending_code Done)
 
     abbrev record_code : Instructions
     record_code = record_done (layout_of p b) items (suc (suc d)) (does (Br 1) Done)
 
     abbrev answer_code : Instructions
-    answer_code = number_is (number_at b zero) 1 (when record_code else_code)
+    answer_code = number_is (number_local b zero) 1 (when record_code else_code)
 
     abbrev read_code : Instructions
     read_code = ask_row row.NextMain (kept_code b true zero (suc d) answer_code)

@@ -24,9 +24,8 @@ use Rattle.sem_scripts.specs.ScriptState.{go_on, does}
 use Rattle.mid_program.specs.Sorted.{Held as Standing, sorted, all_sorted, held_after, held_after_all, fits, fit_row, is_constant, keeps_well, is_dropped, stores_well}
 use Rattle.lower_model.specs.Emission.{emitted, all_emitted, text_kept, text_let_go}
 use Rattle.lower_model.specs.Machine.{Frame, loops_walked}
-use Rattle.lower_model.specs.Places.{Bases}
-use Rattle.lower_model.specs.Small.{does as do_it, either, h}
-use Rattle.lower_model.specs.Small
+use Rattle.lower_model.specs.Places.{Bases, number_local}
+use Rattle.lower_model.specs.Small.{does as do_it, either}
 use Rattle.lower_model.proofs.Watch.{Watch}
 use Rattle.lower_model.proofs.Runs.{first, then_settled, weaker}
 use Rattle.lower_model.proofs.Relation.{kept_same, same_then, Away}
@@ -99,7 +98,7 @@ module _ (p : Program) (deepest : Watch) (ks : List Kind) (F : List Frame) (b : 
       let p3 = and_parts (fits (form_of fs e2) sort.Value) true p2.1 in
       let fr : fit_row fs (arguments_of row.Sub) es1 ≡ true = ap₂ (λ x y. x && y) p1.0 (ap₂ (λ x y. x && y) p2.0 (ap₂ (λ x y. x && (y && true)) p3.0 (flag_constant all))) in
       let block = text_kept lay row.SubResult t (emitted lay true (a_value ∷ fs) (suc t ∷ ts) s (suc (suc t)) w (suc d) (text_let_go lay fs s t NoMore)) in
-      let k4 = do_it (LocalGet (Small.n b t)) (do_it (Test ty.I64 Eqz) (either NoMore block k)) in
+      let k4 = do_it (LocalGet (number_local b t)) (do_it (Test ty.I64 Eqz) (either NoMore block k)) in
       let stored = when_replaced (storing_meant p deepest ks F b M n s fs env) in
       row_then p deepest ks F b M n three_values es oke fs env ts st t u w d _ K l σ (work_of s + 41) (work_of (Replace all es s)) P (λ r τ. go_on (does row.Sub (r.0, (r.1.0, (r.1.1.0, (all, tt)))) τ) stored)
       s1.0 s2.0 (λ i lt. well_left (st1 i) (held_after (suc i) s (st1 i)) (us i lt)) (omega (arith, rm)) (omega (arith, ar)) rd (omega arith)

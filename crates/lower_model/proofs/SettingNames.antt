@@ -22,7 +22,7 @@ use Rattle.lower_model.specs.Cells.{Cell, Bits, Held, Gone, is_owned}
 use Rattle.lower_model.specs.Emission.{emitted, all_emitted, slot_set, text_dropped}
 use Rattle.lower_model.specs.Machine.{Conf, Label, Frame, at}
 use Rattle.lower_model.specs.Places.{Bases}
-use Rattle.lower_model.specs.Small.{does, ask, when, minus_one, least, text_beside, h}
+use Rattle.lower_model.specs.Small.{does, ask, when, minus_one, least, text_beside}
 use Rattle.host_imports.specs.declared.import.Import.TheVariants.{Drop}
 use Rattle.lower_model.proofs.Watch.{Watch}
 use Rattle.lower_model.proofs.Runs.{Goes, then_goes, goes_to, goes_from, by_steps, there, then_on}

@@ -20,8 +20,8 @@ use Rattle.lower_model.specs.Cells.{Cell, Bits, Held, Gone, is_owned}
 use Rattle.lower_model.specs.Emission.{handle_stored, value_stored}
 use Rattle.lower_model.specs.ImportCalls.{with_some, and_rest, row_in, acted}
 use Rattle.lower_model.specs.Machine.{Look, Label, Frame, Store, at, label}
-use Rattle.lower_model.specs.Places.{Bases}
-use Rattle.lower_model.specs.Small.{does, ask_row, either, least, text_beside, boxed_number, boxed_perhaps, h}
+use Rattle.lower_model.specs.Places.{Bases, handle_local}
+use Rattle.lower_model.specs.Small.{does, ask_row, either, least, text_beside, boxed_number, boxed_perhaps}
 use Rattle.host_imports.specs.declared.import.Import.TheVariants.{Of}
 use Rattle.lower_model.proofs.Watch.{Watch}
 use Rattle.lower_model.proofs.Runs.{Goes, then_goes, goes_to}
@@ -90,8 +90,8 @@ module _ (p : Program) (deepest : Watch) (ks : List Kind) (F : List Frame) (b : 
       let l1 = with_at l (Hand t) Gone in
       then_goes (get_moved b l (Hand t) (Held v) lt e)
       (then_goes (goes_to (tee_ok b l1 (Hand t) (Held v) lt (ap is_owned (has_with l (Hand t) Gone)))
-      (ap (λ L. Look (h b t) ks [] K L F (ask_row row.Dup (does put k)) (storing gs (host_of σ None))) (laid_twice b l (Hand t) Gone (Held v) lt ∙ laid_again b l (Hand t) (Held v) lt e)))
-      (then_goes (dup_ok p deepest ks F b (h b t) (laid b l) gs v σ (laid_at b l (Hand t) lt ∙ e)) (puts v K k)))
+      (ap (λ L. Look (handle_local b t) ks [] K L F (ask_row row.Dup (does put k)) (storing gs (host_of σ None))) (laid_twice b l (Hand t) Gone (Held v) lt ∙ laid_again b l (Hand t) (Held v) lt e)))
+      (then_goes (dup_ok p deepest ks F b (handle_local b t) (laid b l) gs v σ (laid_at b l (Hand t) lt ∙ e)) (puts v K k)))
 
   number_stored : (o : Bool) (t : ℕ) (l : Locals) (put : Simple) (gs : List Cell) (σ : State) (L1 : Value → List Cell) (G1 : Value → Store) → t < b.temporaries → Puts o t l put gs σ L1 G1 → (x : Number) (K : List Label) (k : Instructions) → l.hand t ≡ empty → l.number t ≡ Bits (I64 (number_word x)) →
       Goes (machine p deepest ks F) 3 (at ks [] K (laid b l) F (boxed_number b t (does put k)) (storing gs (host_of σ None))) (at ks [] K (L1 (value.Num x.number)) F k (G1 (value.Num x.number)))

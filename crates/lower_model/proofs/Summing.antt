@@ -27,10 +27,9 @@ use Rattle.sem_scripts.specs.Steps.{zero_number}
 use Rattle.lower_model.specs.Cells.{Cell, Bits, Held, is_owned}
 use Rattle.lower_model.specs.Emission.{slot_set}
 use Rattle.lower_model.specs.Machine.{Conf, Label, Frame, Store, at, label, with_operands, push_result}
-use Rattle.lower_model.specs.Places.{Bases}
+use Rattle.lower_model.specs.Places.{Bases, number_local}
 use Rattle.lower_model.specs.Quick.{Source, Named, Constant, Sum, is_sum, sum_op}
 use Rattle.lower_model.specs.Small.{does, fail_if, when, either, number_is, least, text_beside}
-use Rattle.lower_model.specs.Small
 use Rattle.lower_model.specs.Statements.{number_there, name_numbered, source_numbered, source_taken, sum_kept, sum_taken, summed_anyway}
 use Rattle.lower_model.proofs.Watch.{Watch}
 use Rattle.lower_model.proofs.Runs.{Goes, then_goes, goes_to, goes_from, same_goes, by_steps, stays, there, first, weaker, then_settled}
@@ -78,8 +77,8 @@ module _ (p : Program) (deepest : Watch) (ks : List Kind) (F : List Frame) (b : 
       let f1 = fit_number p deepest ks F t q u w l σ c refl ft in
       let e1 = upd_same l.number t c in
       let there_code = number_there (layout p deepest ks F b M n) i t (suc (suc d)) NoMore in
-      let zero_put = does (I64Const 0) (does (LocalSet (Small.n b t)) NoMore) in
-      let made = number_is (Small.n b t) text_beside (either there_code zero_put NoMore) in
+      let zero_put = does (I64Const 0) (does (LocalSet (number_local b t)) NoMore) in
+      let made = number_is (number_local b t) text_beside (either there_code zero_put NoMore) in
       let K1 = label [] None k ∷ K in
       let K2 = label [] None NoMore ∷ K1 in
       let start : Goes (machine p deepest ks F) 3 (at ks [] K (laid b l) F (name_numbered (layout p deepest ks F b M n) i t d k) S) (at ks (Bits (flag (compare_at w64 LeS (bare v) text_beside)) ∷ []) K (laid b l1) F (when made k) S) =
@@ -184,7 +183,7 @@ module _ (p : Program) (deepest : Watch) (ks : List Kind) (F : List Frame) (b : 
       let l1 = with_at l (NumberAt t) c in
       let f1 = fit_number p deepest ks F t (suc t) u 0 l σ c refl ft in
       first (machine p deepest ks F) M 4 4 8 σ.turns _ _ (Put p deepest ks F b t u 0 a_number k K l) (Away p deepest ks F b d K) (settled (outcome_of (checked z)) σ)
-      (then_goes (by_steps 1 (ap (λ o. with_operands (push_result [] (Some (given_by I64 o))) ks K (laid b l) F (does (LocalTee (Small.n b t)) (does (I64Const (2 ^ 53)) (does (Binary ty.I64 Add) (does (I64Const (2 ^ 54)) (does (Compare ty.I64 GtU) (fail_if Range d k)))))) S) e))
+      (then_goes (by_steps 1 (ap (λ o. with_operands (push_result [] (Some (given_by I64 o))) ks K (laid b l) F (does (LocalTee (number_local b t)) (does (I64Const (2 ^ 53)) (does (Binary ty.I64 Add) (does (I64Const (2 ^ 54)) (does (Compare ty.I64 GtU) (fail_if Range d k)))))) S) e))
       (then_goes (tee_ok b l (NumberAt t) c lt (ft.numbers t)) (by_steps 2 refl))) (omega arith)
       (tested p deepest ks F b M n z (is_out (word z)) t u 0 d (suc t) 0 k k K l l1 l1 σ (out_word z fz) f1 (omega arith) stays f1 (same_number [] t 0 t l c (omega arith)) he (λ q. upd_same l.number t c))
 

@@ -25,7 +25,7 @@ use Rattle.lower_model.specs.Cells.{Bits, Held, Gone, is_owned}
 use Rattle.lower_model.specs.Emission.{emitted}
 use Rattle.lower_model.specs.ImportCalls.{with_some, and_rest, row_in}
 use Rattle.lower_model.specs.Machine.{Conf, Look, Label, Frame, at, loops_walked}
-use Rattle.lower_model.specs.Places.{Bases, room, arrays_in}
+use Rattle.lower_model.specs.Places.{Bases, room, arrays_in, handle_local, number_local}
 use Rattle.lower_model.specs.Quick.{Tally, is_sum, sum_op}
 use Rattle.lower_model.specs.Small.{does as instruction, ask_row, moved_out}
 use Rattle.lower_model.specs.Small
@@ -65,7 +65,7 @@ module _ (p : Program) (deepest : Watch) (ks : List Kind) (F : List Frame) (b : 
       let x : Value = (meaning row.Elem r σ.shared).answer in
       let lh : 0 < b.temporaries = omega (arith, lt) in
       let k1 = ask_row row.Elem (ask_row row.ToNum (Small.kept_number b true 2 d k)) in
-      let y = array_pushed_ok p deepest ks F b a 2 u 0 [] (instruction (LocalGet (Small.h b zero)) (instruction (LocalTee (Small.h b zero)) (ask_row row.Dup k1))) K l σ pl pk ft in
+      let y = array_pushed_ok p deepest ks F b a 2 u 0 [] (instruction (LocalGet (handle_local b zero)) (instruction (LocalTee (handle_local b zero)) (ask_row row.Dup k1))) K l σ pl pk ft in
       let f1 = fit_shared p deepest ks F 2 u 0 l σ σ1.shared (calm_after p row.Elem r σ.shared refl ft.sound.calm) ft in
       let decoded : row_in mach.memory (arguments_of row.Elem) (y.cell ∷ (Held v ∷ [])) ≡ Some r =
       ap (λ o. with_some (and_rest o (Held v ∷ [])) (λ z. with_some (row_in mach.memory (argument.Of sort.Value ∷ []) z.1) (λ rest. Some (z.0, rest)))) (array_in_sort p deepest ks F i y.cell y.array) in
@@ -73,8 +73,8 @@ module _ (p : Program) (deepest : Watch) (ks : List Kind) (F : List Frame) (b : 
       (then_goes y.goes
       (then_goes (get_moved b l (Hand 0) (Held v) lh e)
       (then_goes (goes_to (tee_ok b (with_at l (Hand 0) Gone) (Hand 0) (Held v) lh (ap is_owned (has_with l (Hand 0) Gone)))
-      (ap (λ L. Look (Small.h b 0) ks (y.cell ∷ []) K L F (ask_row row.Dup k1) S) (laid_twice b l (Hand 0) Gone (Held v) lh ∙ laid_again b l (Hand 0) (Held v) lh e)))
-      (then_goes (dup_ok p deepest ks F b (Small.h b 0) (laid b l) S.globals v σ (laid_at b l (Hand 0) lh ∙ e))
+      (ap (λ L. Look (handle_local b 0) ks (y.cell ∷ []) K L F (ask_row row.Dup k1) S) (laid_twice b l (Hand 0) Gone (Held v) lh ∙ laid_again b l (Hand 0) (Held v) lh e)))
+      (then_goes (dup_ok p deepest ks F b (handle_local b 0) (laid b l) S.globals v σ (laid_at b l (Hand 0) lh ∙ e))
       (then_goes (row_called p deepest ks F row.Elem r (y.cell ∷ (Held v ∷ [])) [] σ refl refl (ap (λ t. t && true) (array_live p deepest ks F i y.cell (laid b l) σ y.array)) decoded refl)
       (ask_to_num p deepest ks F [] σ1 x)))))) (omega (arith, y.few))
       (kept_ok p deepest ks F b M true (answer.Of sort.Number) (number_of_row x) 2 u 0 d k K l σ1 tt lt f1)
@@ -93,7 +93,7 @@ module _ (p : Program) (deepest : Watch) (ks : List Kind) (F : List Frame) (b : 
       let lh : 0 < b.temporaries = omega (arith, lt) in
       let l1 = with_at l (Hand 0) empty in
       let k1 = ask_row row.SetElem (Small.kept_done b false zero k) in
-      let y = array_pushed_ok p deepest ks F b a 3 u 0 [] (moved_out (Small.h b zero) (instruction (LocalGet (Small.n b 2)) (ask_row row.Num k1))) K l σ pl pk ft in
+      let y = array_pushed_ok p deepest ks F b a 3 u 0 [] (moved_out (handle_local b zero) (instruction (LocalGet (number_local b 2)) (ask_row row.Num k1))) K l σ pl pk ft in
       let f3 = fit_hand p deepest ks F 0 3 u 0 l σ empty (inl refl) (omega arith) ft in
       let f0 = fit_less p deepest ks F 0 u 0 l1 σ (upd_same l.hand 0 empty) (fit_less p deepest ks F 1 u 0 l1 σ (upd_other l.hand 0 1 empty (λ q. omega (arith, q)) ∙ e1) (fit_less p deepest ks F 2 u 0 l1 σ (upd_other l.hand 0 2 empty (λ q. omega (arith, q)) ∙ e2) f3)) in
       let decoded : row_in mach.memory (arguments_of row.SetElem) (y.cell ∷ (Held v ∷ (Held c ∷ []))) ≡ Some r =
@@ -110,7 +110,7 @@ module _ (p : Program) (deepest : Watch) (ks : List Kind) (F : List Frame) (b : 
   -- the sum of temporaries 2 and 1 goes to an element
   added_ok : (w : ArrayName) (o : Arithmetic) (v : Value) (x y : AnyNumber) (u d : ℕ) (k : Instructions) (K : List Label) (l : Locals) (σ : State) → is_sum o ≡ true → is_array_place (context_of p ks) w ≡ true → length ks ≡ b.parameters → 2 < b.temporaries → Fit p deepest ks F 3 u 0 l σ →
       l.hand 0 ≡ Held v → HoldsAt a_number 1 l y → HoldsAt a_number 2 l x →
-      Reached p deepest ks F b M 20 σ.turns (at ks [] K (laid b l) F (instruction (LocalGet (Small.n b 2)) (instruction (LocalGet (Small.n b 1)) (sum_kept (layout p deepest ks F b M n) (sum_op o) 2 d (element_given (layout p deepest ks F b M n) w k)))) (beside_state p deepest ks F σ))
+      Reached p deepest ks F b M 20 σ.turns (at ks [] K (laid b l) F (instruction (LocalGet (number_local b 2)) (instruction (LocalGet (number_local b 1)) (sum_kept (layout p deepest ks F b M n) (sum_op o) 2 d (element_given (layout p deepest ks F b M n) w k)))) (beside_state p deepest ks F σ))
       (λ x. Summed p deepest ks F b M n u k K l) (Away p deepest ks F b d K) (go_on (settled (outcome_of (arithmetic_of o x.number y.number)) σ) (λ s. given_to w v s))
   added_ok w o v x y u d k K l σ so pl pk lt ft e h1 h2 =
       let mach = machine p deepest ks F in
@@ -119,7 +119,7 @@ module _ (p : Program) (deepest : Watch) (ks : List Kind) (F : List Frame) (b : 
       let P : Unit {0} → State → Conf → Type 0 = λ z. Summed p deepest ks F b M n u k K l in
       let k1 = element_given (layout p deepest ks F b M n) w k in
       let s = any_sum p deepest ks F b M n o x y so in
-      let start = at ks [] K (laid b l) F (instruction (LocalGet (Small.n b 2)) (instruction (LocalGet (Small.n b 1)) (sum_kept (layout p deepest ks F b M n) (sum_op o) 2 d k1))) S in
+      let start = at ks [] K (laid b l) F (instruction (LocalGet (number_local b 2)) (instruction (LocalGet (number_local b 1)) (sum_kept (layout p deepest ks F b M n) (sum_op o) 2 d k1))) S in
       subst (λ r. Reached p deepest ks F b M 20 σ.turns start P Q (go_on (settled (outcome_of r) σ) (λ s. given_to w v s))) (sym s.means)
       (first mach M 2 18 20 σ.turns _ _ P Q _
       (then_goes (get_copied b l (NumberAt 2) (Bits (I64 (number_word x))) lt h2.1 refl) (get_copied b l (NumberAt 1) (Bits (I64 (number_word y))) (omega (arith, lt)) h1.1 refl)) (omega arith)
@@ -135,14 +135,14 @@ module _ (p : Program) (deepest : Watch) (ks : List Kind) (F : List Frame) (b : 
   element_counts : (a w : ArrayName) (o : Arithmetic) (g f : Form) (x : Holds g) (y : Holds f) (u d : ℕ) (k : Instructions) (K : List Label) (l : Locals) (σ : State) → is_sum o ≡ true → fits_sort g sort.Value ≡ true → fits_sort f sort.Number ≡ true →
       is_array_place (context_of p ks) a ≡ true → is_array_place (context_of p ks) w ≡ true → length ks ≡ b.parameters → 2 < b.temporaries → Fit p deepest ks F 2 u 0 l σ → HoldsAt g 0 l x → HoldsAt f 1 l y →
       Reached p deepest ks F b M 80 σ.turns (at ks [] K (laid b l) F (Small.to_value b g zero (element_numbered (layout p deepest ks F b M n) a d (Small.to_number b f 1 d
-      (instruction (LocalGet (Small.n b 2)) (instruction (LocalGet (Small.n b 1)) (sum_kept (layout p deepest ks F b M n) (sum_op o) 2 d (element_given (layout p deepest ks F b M n) w k))))))) (beside_state p deepest ks F σ))
+      (instruction (LocalGet (number_local b 2)) (instruction (LocalGet (number_local b 1)) (sum_kept (layout p deepest ks F b M n) (sum_op o) 2 d (element_given (layout p deepest ks F b M n) w k))))))) (beside_state p deepest ks F σ))
       (λ z. Summed p deepest ks F b M n u k K l) (Away p deepest ks F b d K) (tally_meant a w o (boxed g x) (converted f sort.Number y) σ)
   element_counts a w o g f x y u d k K l σ so fg ff pa pw pk lt ft hg hf =
       let mach = machine p deepest ks F in
       let ly = layout p deepest ks F b M n in
       let Q = Away p deepest ks F b d K in
       let P : Unit {0} → State → Conf → Type 0 = λ z. Summed p deepest ks F b M n u k K l in
-      let k3 = instruction (LocalGet (Small.n b 2)) (instruction (LocalGet (Small.n b 1)) (sum_kept ly (sum_op o) 2 d (element_given ly w k))) in
+      let k3 = instruction (LocalGet (number_local b 2)) (instruction (LocalGet (number_local b 1)) (sum_kept ly (sum_op o) 2 d (element_given ly w k))) in
       let k2 = Small.to_number b f 1 d k3 in
       let k1 = element_numbered ly a d k2 in
       then_settled mach M 16 64 80 _ σ (Converted p deepest ks F b M 2 u 0 0 a_value k1 K l) P Q (Ok (boxed g x)) (λ v τ. tally_meant a w o v (converted f sort.Number y) τ) (omega arith)
@@ -191,7 +191,7 @@ module _ (p : Program) (deepest : Watch) (ks : List Kind) (F : List Frame) (b : 
       let P = StepDone p deepest ks F b M n lo u bk ct k K l in
       let W = work_of (tally_code s q) in
       let lt : 2 < b.temporaries = omega (arith, rm, enough.three) in
-      let k2 = Small.to_value b g zero (element_numbered ly q.read d (Small.to_number b f 1 d (instruction (LocalGet (Small.n b 2)) (instruction (LocalGet (Small.n b 1)) (sum_kept ly (sum_op q.op) 2 d (element_given ly q.written k)))))) in
+      let k2 = Small.to_value b g zero (element_numbered ly q.read d (Small.to_number b f 1 d (instruction (LocalGet (number_local b 2)) (instruction (LocalGet (number_local b 1)) (sum_kept ly (sum_op q.op) 2 d (element_given ly q.written k)))))) in
       let k1 = emitted ly false (g ∷ []) (zero ∷ []) q.added 1 zero d k2 in
       let rd = ready p deepest ks F b M n u K l σ st in
       subst (λ o. Reached p deepest ks F b M (W + 80) σ.turns (at ks [] K (laid b l) F (tallied ly q d k) (beside_state p deepest ks F σ)) P Q o) (sym (tally_means p deepest ks F b M n s q i σ))

@@ -19,8 +19,8 @@ use Rattle.lower_model.specs.Emission.{emitted, all_emitted, slot_read, text_pus
 use Rattle.lower_model.specs.Functions.{texts_of}
 use Rattle.lower_model.specs.ImportCalls.{with_some, and_rest, row_in, text_at}
 use Rattle.lower_model.specs.Machine.{Conf, Label, Frame, at}
-use Rattle.lower_model.specs.Places.{Bases, place_of, memory_of}
-use Rattle.lower_model.specs.Small.{does, ask_row, when, copied, text_beside, h}
+use Rattle.lower_model.specs.Places.{Bases, place_of, memory_of, handle_local}
+use Rattle.lower_model.specs.Small.{does, ask_row, when, copied, text_beside}
 use Rattle.lower_model.proofs.Watch.{Watch}
 use Rattle.lower_model.proofs.Runs.{Goes, then_goes, goes_to, by_steps, there}
 use Rattle.lower_model.proofs.Regions.{upd_same}
@@ -76,7 +76,7 @@ module _ (p : Program) (deepest : Watch) (ks : List Kind) (F : List Frame) (b : 
   text_expr i v fs env ts st t u w d k K l σ so us rm ar rd =
       let x : Value = value.Text (get_or p.texts i []) in
       there (machine p deepest ks F) M 2 2 _ _ x σ (Done p deepest ks F b M n v (Text i) fs env ts st t u w k K l σ) (Away p deepest ks F b d K)
-      (then_goes (text_found i σ [] K (laid b l) (does (LocalSet (h b t)) k) so)
+      (then_goes (text_found i σ [] K (laid b l) (does (LocalSet (handle_local b t)) k) so)
       (set_ok b l (Hand t) (Held x) (omega (arith, rm)) (ap is_owned (rd.fit.free t (omega arith))))) (omega arith)
       (put_done p deepest ks F b M n (Text i) v fs env ts st t u w k K l l σ σ x _ rd.below (same_self ts t w l) (λ j q. refl) rd.kept refl tt (put_value p deepest ks F b M t u w k K l x σ rd.fit))
 
@@ -110,7 +110,7 @@ module _ (p : Program) (deepest : Watch) (ks : List Kind) (F : List Frame) (b : 
           let x = global_value i σ in
           let e0 = ft.free t (omega arith) in
           let l1 = with_at l (NumberAt t) (Bits (I64 (bare x))) in
-          let copy = copied (GlobalGet (global_of p.ranges (length kinds) (NameHand i))) (GlobalSet (global_of p.ranges (length kinds) (NameHand i))) (h b t) NoMore in
+          let copy = copied (GlobalGet (global_of p.ranges (length kinds) (NameHand i))) (GlobalSet (global_of p.ranges (length kinds) (NameHand i))) (handle_local b t) NoMore in
           let start = then_goes (global_copied p.ranges (length kinds) g (NameNumber i) (Bits (I64 (bare x))) li (ap (λ c. Bits (I64 (name_word c x))) kh) refl) (then_goes (tee_ok b l (NumberAt t) (Bits (I64 (bare x))) lt (ft.numbers t)) (by_steps 1 refl)) in
           let f1 = fit_number p deepest ks F t (suc t) u w l σ (Bits (I64 (bare x))) refl (fit_more p deepest ks F t u w l σ ft) in
           let hand : name_hand (kind_here kinds i) (suc (suc (arrays_before kinds i))) x ≡ beside x = ap (λ c. name_hand c (suc (suc (arrays_before kinds i))) x) kh in

@@ -33,7 +33,7 @@ use Rattle.sem_scripts.specs.Statements.{Normal}
 use Rattle.lower_model.specs.Cells.{Bits}
 use Rattle.lower_model.specs.Emission.{field_at, text_dropped}
 use Rattle.lower_model.specs.Machine.{Conf, Label, Frame, at, with_operands, push_result}
-use Rattle.lower_model.specs.Places.{Bases, room, arrays_in}
+use Rattle.lower_model.specs.Places.{Bases, room, arrays_in, number_local}
 use Rattle.lower_model.specs.Quick.{Update, is_sum, sum_op, name_in, update_of, kept_update, set_update, let_update, update_in}
 use Rattle.lower_model.specs.Small.{does, ask_row, fail_if}
 use Rattle.lower_model.specs.Small
@@ -157,7 +157,7 @@ module _ (p : Program) (deepest : Watch) (ks : List Kind) (F : List Frame) (b : 
 
   -- the name takes the sum, once what is added is there
   name_takes : (q : Update) (u d : ℕ) (k : Instructions) (K : List Label) (l : Locals) (x : Holds (form_of [] q.added)) (τ : State) → UpdateParts q → is_sum q.op ≡ true → 1 < b.temporaries → Fit p deepest ks F 1 u 0 l τ → HoldsAt (form_of [] q.added) 0 l x →
-      Reached p deepest ks F b M 70 τ.turns (at ks [] K (laid b l) F (name_numbered (layout p deepest ks F b M n) q.name 1 d (Small.to_number b (form_of [] q.added) zero d (does (LocalGet (Small.n b 1)) (does (LocalGet (Small.n b zero)) (sum_taken (layout p deepest ks F b M n) (sum_op q.op) q.target zero d k))))) (beside_state p deepest ks F τ))
+      Reached p deepest ks F b M 70 τ.turns (at ks [] K (laid b l) F (name_numbered (layout p deepest ks F b M n) q.name 1 d (Small.to_number b (form_of [] q.added) zero d (does (LocalGet (number_local b 1)) (does (LocalGet (number_local b zero)) (sum_taken (layout p deepest ks F b M n) (sum_op q.op) q.target zero d k))))) (beside_state p deepest ks F τ))
       (λ a. Summed p deepest ks F b M n u k K l) (Away p deepest ks F b d K) (added_meant q x τ)
   name_takes q u d k K l x τ parts so lt ft hd =
       let mach = machine p deepest ks F in
@@ -166,7 +166,7 @@ module _ (p : Program) (deepest : Watch) (ks : List Kind) (F : List Frame) (b : 
       let Q = Away p deepest ks F b d K in
       let P : AnyNumber → State → Conf → Type 0 = λ a. Summed p deepest ks F b M n u k K l in
       let k3 = sum_taken y (sum_op q.op) q.target zero d k in
-      let k2 = does (LocalGet (Small.n b 1)) (does (LocalGet (Small.n b zero)) k3) in
+      let k2 = does (LocalGet (number_local b 1)) (does (LocalGet (number_local b zero)) k3) in
       let k1 = Small.to_number b g zero d k2 in
       let own = number_of_row (global_value q.name τ) in
       let f2 = fit_more p deepest ks F 1 u 0 l τ ft in
@@ -195,7 +195,7 @@ module _ (p : Program) (deepest : Watch) (ks : List Kind) (F : List Frame) (b : 
       let Q = Away p deepest ks F b d K in
       let P0 : AnyNumber → State → Conf → Type 0 = λ a. Summed p deepest ks F b M n u k K l in
       let P = StepDone p deepest ks F b M n lo u bk ct k K l in
-      let k2 = does (LocalGet (Small.n b 1)) (does (LocalGet (Small.n b zero)) (sum_taken y (sum_op q.op) q.target zero d k)) in
+      let k2 = does (LocalGet (number_local b 1)) (does (LocalGet (number_local b zero)) (sum_taken y (sum_op q.op) q.target zero d k)) in
       let k1 = name_numbered y q.name 1 d (Small.to_number b g zero d k2) in
       let r1 = room_one q.added in
       then_on mach M (work_of q.added + 70) 0 (work_of q.added + 70) σ.turns _ P0 P Q (meant p deepest ks F b M n [] tt (added_code q) σ) _ (omega arith)
@@ -221,11 +221,11 @@ module _ (p : Program) (deepest : Watch) (ks : List Kind) (F : List Frame) (b : 
       let w = (number_word m + 2 ^ 63) % 2 ^ 64 in
       let c = Bits (I64 w) in
       let l1 = with_at l (NumberAt 0) c in
-      let k2 = text_dropped (layout p deepest ks F b M n) i (does (LocalGet (Small.n b zero)) (does (GlobalSet (name_number (layout p deepest ks F b M n) i)) k)) in
+      let k2 = text_dropped (layout p deepest ks F b M n) i (does (LocalGet (number_local b zero)) (does (GlobalSet (name_number (layout p deepest ks F b M n) i)) k)) in
       let k1 = does (I64Const (2 ^ 53)) (does (Binary ty.I64 bin.Add) (does (I64Const (2 ^ 54)) (does (Comparing ty.I64 GtU) (fail_if Range d k2)))) in
       let P : AnyNumber → State → Conf → Type 0 = λ a. Summed p deepest ks F b M n u k K l in
       faulted mach M 30 7 _ _ f σ P (Away p deepest ks F b d K)
-      (then_goes (by_steps 1 (ap (λ r. with_operands (push_result [] (Some (given_by I64 r))) ks K (laid b l) F (does (LocalTee (Small.n b zero)) k1) G) (fault_summed o m so)))
+      (then_goes (by_steps 1 (ap (λ r. with_operands (push_result [] (Some (given_by I64 r))) ks K (laid b l) F (does (LocalTee (number_local b zero)) k1) G) (fault_summed o m so)))
       (then_goes (tee_ok b l (NumberAt 0) c lt (ft.numbers 0))
       (then_goes (goes_to (by_steps 2 refl) (ap (λ t. at ks (Bits (flag t) ∷ []) K (laid b l1) F (fail_if Range d k2) G) (left_out m)))
       (then_goes (chooses (does (I32Const (fault_number Range)) (ask_row row.Fail (does (Br (suc d)) NoMore))) NoMore 1)
@@ -260,7 +260,7 @@ module _ (p : Program) (deepest : Watch) (ks : List Kind) (F : List Frame) (b : 
       let P0 : AnyNumber → State → Conf → Type 0 = λ x. Summed p deepest ks F b M n u k K l in
       let P = StepDone p deepest ks F b M n lo u bk ct k K l in
       let k3 = sum_taken y (sum_op q.op) q.target zero d k in
-      let k1 = does (LocalGet (Small.n b zero)) (field_numbered y z k3) in
+      let k1 = does (LocalGet (number_local b zero)) (field_numbered y z k3) in
       let own = number_of_row (global_value q.name σ) in
       let ft = (ready p deepest ks F b M n u K l σ s).fit in
       let lt : 0 < b.temporaries = omega (arith, rm) in

@@ -11,37 +11,37 @@ use Rattle.lower_model.specs.Quick.{is_nothing}
 -- which there is nothing has no code.
 abbrev mutual
   pub step_places : Step → ℕ
-  step_places (Eval e) = 1
-  step_places (Body ss) = suc (steps_places ss)
-  step_places (Either e a b) = suc (step_places a + step_places b)
-  step_places (Rounds true e a b) = suc (step_places a + (if is_nothing b then 0 else step_places b))
-  step_places (Rounds false e a b) = suc (suc (step_places a + step_places b))
-  step_places (Each a e s) = suc (step_places s)
+  step_places (Eval code) = 1
+  step_places (Body steps) = suc (steps_places steps)
+  step_places (Either test so otherwise) = suc (step_places so + step_places otherwise)
+  step_places (Rounds true test body last) = suc (step_places body + (if is_nothing last then 0 else step_places last))
+  step_places (Rounds false test body last) = suc (suc (step_places body + step_places last))
+  step_places (Each array store body) = suc (step_places body)
   step_places Break = 1
   step_places Continue = 1
   step_places Next = 1
   step_places Exit = 1
-  step_places (ExitWith e) = 1
-  step_places (Return e) = 1
-  step_places (Mark i b) = 1
+  step_places (ExitWith code) = 1
+  step_places (Return code) = 1
+  step_places (Mark item opens) = 1
 
   pub steps_places : Steps → ℕ
   steps_places NoStep = 0
-  steps_places (AndThen s ss) = step_places s + steps_places ss
+  steps_places (AndThen step steps) = step_places step + steps_places steps
 
 abbrev pub is_nop : Simple → ℕ
 is_nop Nop = 1
-is_nop p = 0
+is_nop simple = 0
 
 -- the `nop`s of code
 abbrev mutual
   pub nops_in : Instructions → ℕ
   nops_in Done = 0
-  nops_in (Then i k) = nops_of i + nops_in k
+  nops_in (Then instruction after) = nops_of instruction + nops_in after
 
   pub nops_of : Instruction → ℕ
-  nops_of (Plain p) = is_nop p
-  nops_of (BrTable ds d) = 0
-  nops_of (Block r a) = nops_in a
-  nops_of (Loop r a) = nops_in a
-  nops_of (If r a b) = nops_in a + nops_in b
+  nops_of (Plain simple) = is_nop simple
+  nops_of (BrTable targets other) = 0
+  nops_of (Block result inside) = nops_in inside
+  nops_of (Loop result inside) = nops_in inside
+  nops_of (If result so otherwise) = nops_in so + nops_in otherwise

@@ -21,183 +21,184 @@ pub data Cell : Type 0 where
   Gone : Cell
 
 abbrev pub is_owned : Cell → Bool
-is_owned (Bits w) = false
-is_owned (Held v) = true
-is_owned (IteratorOf t) = true
-is_owned (OwnedArray a) = true
-is_owned (LentArray a) = false
+is_owned (Bits word) = false
+is_owned (Held value) = true
+is_owned (IteratorOf keys) = true
+is_owned (OwnedArray array) = true
+is_owned (LentArray array) = false
 is_owned Gone = false
 
 -- what stays in a local where it was read
 abbrev pub left_by : Cell → Cell
-left_by (Bits w) = Bits w
-left_by (Held v) = Gone
-left_by (IteratorOf t) = Gone
-left_by (OwnedArray a) = Gone
-left_by (LentArray a) = LentArray a
+left_by (Bits word) = Bits word
+left_by (Held value) = Gone
+left_by (IteratorOf keys) = Gone
+left_by (OwnedArray array) = Gone
+left_by (LentArray array) = LentArray array
 left_by Gone = Gone
 
 -- what is read from a global, and what stays there: a global array is only lent
 abbrev pub read_global : Cell → Cell
-read_global (OwnedArray a) = LentArray a
-read_global c = c
+read_global (OwnedArray array) = LentArray array
+read_global cell = cell
 
 abbrev pub left_in_global : Cell → Cell
-left_in_global (OwnedArray a) = OwnedArray a
-left_in_global c = left_by c
+left_in_global (OwnedArray array) = OwnedArray array
+left_in_global cell = left_by cell
 
 -- nothing is past the last place
 abbrev pub cell_at : List Cell → ℕ → Cell
-cell_at cells x = get_or cells x Gone
+cell_at cells place = get_or cells place Gone
 
 -- there is such a place, and nothing in it would be lost
 abbrev pub has_room : List Cell → ℕ → Bool
-has_room cells x = nat_lt x (length cells) && not (is_owned (cell_at cells x))
+has_room cells place = nat_lt place (length cells) && not (is_owned (cell_at cells place))
 
 abbrev pub none_owned : List Cell → Bool
 none_owned [] = true
-none_owned (c ∷ cs) = not (is_owned c) && none_owned cs
+none_owned (cell ∷ cells) = not (is_owned cell) && none_owned cells
 
 -- Arrays that are lent are there: somebody owns them. ARGV and ENVIRON are always there.
 
 abbrev pub owns : ℕ → Cell → Bool
-owns a (OwnedArray b) = nat_eq a b
-owns a _ = false
+owns array (OwnedArray other) = nat_eq array other
+owns array _ = false
 
 abbrev pub has_owner : ℕ → List Cell → Bool
-has_owner a [] = false
-has_owner a (c ∷ cs) = owns a c || has_owner a cs
+has_owner array [] = false
+has_owner array (cell ∷ cells) = owns array cell || has_owner array cells
 
 -- Boundaries: where a statement begins.
 
 abbrev pub is_held : Cell → Bool
-is_held (Held v) = true
+is_held (Held value) = true
 is_held _ = false
 
 abbrev pub is_array : Cell → Bool
-is_array (OwnedArray a) = true
+is_array (OwnedArray array) = true
 is_array _ = false
 
 abbrev pub is_iterator : Cell → Bool
-is_iterator (IteratorOf t) = true
+is_iterator (IteratorOf keys) = true
 is_iterator _ = false
 
 -- no value, and no array that is to be freed
 abbrev pub no_temporary : List Cell → Bool
 no_temporary [] = true
-no_temporary (c ∷ cs) = (not (is_held c) && not (is_array c)) && no_temporary cs
+no_temporary (cell ∷ cells) = (not (is_held cell) && not (is_array cell)) && no_temporary cells
 
 abbrev pub count_cells : (Cell → Bool) → List Cell → ℕ
-count_cells q [] = 0
-count_cells q (c ∷ cs) = cond (q c) (suc (count_cells q cs)) (count_cells q cs)
+count_cells holds [] = 0
+count_cells holds (cell ∷ cells) = cond (holds cell) (suc (count_cells holds cells)) (count_cells holds cells)
 
 abbrev pub iterators_in : List Cell → ℕ
-iterators_in cs = count_cells is_iterator cs
+iterators_in cells = count_cells is_iterator cells
 
 -- arrays that are to be freed
 abbrev pub arrays_owned : List Cell → ℕ
-arrays_owned cs = count_cells is_array cs
+arrays_owned cells = count_cells is_array cells
 
 -- the number of an unboxed name, beside which no text stands
 abbrev pub is_bare : Cell → Bool
-is_bare (Bits (I64 n)) = not (nat_eq n text_beside)
+is_bare (Bits (I64 number)) = not (nat_eq number text_beside)
 is_bare _ = false
 
 -- the first locals are parameters of these kinds; the others hold nothing, iterators aside
 abbrev pub tidy_locals : List Kind → List Cell → Bool
-tidy_locals [] cs = no_temporary cs
-tidy_locals (Boxed ∷ ks) (c ∷ cs) = is_held c && tidy_locals ks cs
-tidy_locals (Unboxed ∷ ks) (c ∷ cs) = is_bare c && tidy_locals ks cs
-tidy_locals (Many ∷ ks) (c ∷ cs) = not (is_owned c) && tidy_locals ks cs
-tidy_locals (k ∷ ks) [] = false
+tidy_locals [] cells = no_temporary cells
+tidy_locals (Boxed ∷ kinds) (cell ∷ cells) = is_held cell && tidy_locals kinds cells
+tidy_locals (Unboxed ∷ kinds) (cell ∷ cells) = is_bare cell && tidy_locals kinds cells
+tidy_locals (Many ∷ kinds) (cell ∷ cells) = not (is_owned cell) && tidy_locals kinds cells
+tidy_locals (kind ∷ kinds) [] = false
 
 -- Where a caller waits for the answer of a call: its parameters have what they are to have, temporaries before the answer's may have a value each,
 -- and no other local has one.
 
 abbrev pub no_value : List Cell → Bool
 no_value [] = true
-no_value (c ∷ cs) = not (is_held c) && no_value cs
+no_value (cell ∷ cells) = not (is_held cell) && no_value cells
 
 abbrev pub is_operand : Cell → Bool
-is_operand c = is_held c || not (is_owned c)
+is_operand cell = is_held cell || not (is_owned cell)
 
 -- so many locals of temporaries, one for a handle and one for a number each
 abbrev pub operands_wait : ℕ → List Cell → Bool
-operands_wait zero cs = no_value cs
-operands_wait (suc zero) cs = false
-operands_wait (suc (suc m)) [] = false
-operands_wait (suc (suc m)) (h ∷ []) = false
-operands_wait (suc (suc m)) (h ∷ (n ∷ cs)) = (is_operand h && not (is_owned n)) && operands_wait m cs
+operands_wait zero cells = no_value cells
+operands_wait (suc zero) cells = false
+operands_wait (suc (suc count)) [] = false
+operands_wait (suc (suc count)) (handle ∷ []) = false
+operands_wait (suc (suc count)) (handle ∷ (number ∷ cells)) = (is_operand handle && not (is_owned number)) && operands_wait count cells
 
--- x is the local that the call's answer goes to
-abbrev pub locals_wait : (x : ℕ) → List Kind → List Cell → Bool
-locals_wait zero ks cs = false
-locals_wait (suc x) ks [] = false
-locals_wait (suc x) [] (a ∷ cs) = not (is_owned a) && operands_wait x cs
-locals_wait (suc x) (Boxed ∷ ks) (c ∷ cs) = is_held c && locals_wait x ks cs
-locals_wait (suc x) (Unboxed ∷ ks) (c ∷ cs) = not (is_owned c) && locals_wait x ks cs
-locals_wait (suc x) (Many ∷ ks) (c ∷ cs) = not (is_owned c) && locals_wait x ks cs
+-- `answer` is the local that the call's answer goes to
+abbrev pub locals_wait : (answer : ℕ) → List Kind → List Cell → Bool
+locals_wait zero kinds cells = false
+locals_wait (suc answer) kinds [] = false
+locals_wait (suc answer) [] (cell ∷ cells) = not (is_owned cell) && operands_wait answer cells
+locals_wait (suc answer) (Boxed ∷ kinds) (cell ∷ cells) = is_held cell && locals_wait answer kinds cells
+locals_wait (suc answer) (Unboxed ∷ kinds) (cell ∷ cells) = not (is_owned cell) && locals_wait answer kinds cells
+locals_wait (suc answer) (Many ∷ kinds) (cell ∷ cells) = not (is_owned cell) && locals_wait answer kinds cells
 
 -- A name has two globals, for a handle and for a number. A boxed name's handle is there; beside a number there may be one of a text.
 
 abbrev pub tidy_name : Kind → Cell → Bool
-tidy_name Boxed c = is_held c
-tidy_name Unboxed c = not (is_array c) && not (is_iterator c)
-tidy_name Many c = is_array c
+tidy_name Boxed cell = is_held cell
+tidy_name Unboxed cell = not (is_array cell) && not (is_iterator cell)
+tidy_name Many cell = is_array cell
 
 -- the number of an unboxed name says whether a text stands beside it
 abbrev pub is_marked : Cell → Bool
-is_marked (Bits (I64 n)) = nat_eq n text_beside
+is_marked (Bits (I64 number)) = nat_eq number text_beside
 is_marked _ = false
 
 abbrev pub mark_fits : Kind → (handle number : Cell) → Bool
-mark_fits Unboxed (Held v) n = is_marked n
-mark_fits Unboxed (Bits (I32 m)) n = nat_eq m minus_one && is_bare n
-mark_fits Unboxed c n = false
-mark_fits Boxed c n = true
-mark_fits Many c n = true
+mark_fits Unboxed (Held value) number = is_marked number
+mark_fits Unboxed (Bits (I32 word)) number = nat_eq word minus_one && is_bare number
+mark_fits Unboxed cell number = false
+mark_fits Boxed cell number = true
+mark_fits Many cell number = true
 
 abbrev pub marks_fit : List Kind → List Cell → Bool
-marks_fit [] cs = true
-marks_fit (k ∷ ks) (c ∷ (n ∷ cs)) = mark_fits k c n && marks_fit ks cs
-marks_fit (k ∷ ks) _ = false
+marks_fit [] cells = true
+marks_fit (kind ∷ kinds) (cell ∷ (number ∷ cells)) = mark_fits kind cell number && marks_fit kinds cells
+marks_fit (kind ∷ kinds) _ = false
 
 -- A handle comes into the global of an unboxed name only while the command line assigns to that name, or back to where it was moved from.
 
 abbrev pub is_word : Cell → Bool
-is_word (Bits w) = true
+is_word (Bits word) = true
 is_word _ = false
 
 abbrev pub is_gone : Cell → Bool
 is_gone Gone = true
 is_gone _ = false
 
--- whether the x-th global of names is the handle of an unboxed one
-abbrev pub is_bare_handle : List Kind → (x : ℕ) → Bool
-is_bare_handle [] x = false
-is_bare_handle (k ∷ ks) zero = same_kind k Unboxed
-is_bare_handle (k ∷ ks) (suc zero) = false
-is_bare_handle (k ∷ ks) (suc (suc x)) = is_bare_handle ks x
+-- whether a global of names, by its place among them, is the handle of an unboxed one
+abbrev pub is_bare_handle : List Kind → (place : ℕ) → Bool
+is_bare_handle [] place = false
+is_bare_handle (kind ∷ kinds) zero = same_kind kind Unboxed
+is_bare_handle (kind ∷ kinds) (suc zero) = false
+is_bare_handle (kind ∷ kinds) (suc (suc place)) = is_bare_handle kinds place
 
-abbrev pub is_handle_of : Option ℕ → (x : ℕ) → Bool
-is_handle_of None x = false
-is_handle_of (Some i) x = nat_eq x (i + i)
+abbrev pub is_handle_of : Option ℕ → (place : ℕ) → Bool
+is_handle_of None place = false
+is_handle_of (Some name) place = nat_eq place (name + name)
 
 -- names begin with global `before`
-abbrev pub may_come : (before : ℕ) → List Kind → (assigning : Option ℕ) → (x : ℕ) → (old new : Cell) → Bool
-may_come before ks assigning x old new = is_word new || (is_gone old || (not (is_bare_handle ks (x - before)) || is_handle_of assigning (x - before)))
+abbrev pub may_come : (before : ℕ) → List Kind → (assigning : Option ℕ) → (place : ℕ) → (old new : Cell) → Bool
+may_come before kinds assigning place old new =
+    is_word new || (is_gone old || (not (is_bare_handle kinds (place - before)) || is_handle_of assigning (place - before)))
 
 -- once a fault is kept this is a bound from above: a name may have nothing
 abbrev pub ended_name : Kind → Cell → Bool
-ended_name Boxed c = not (is_array c) && not (is_iterator c)
-ended_name Unboxed c = not (is_array c) && not (is_iterator c)
-ended_name Many c = not (is_held c) && not (is_iterator c)
+ended_name Boxed cell = not (is_array cell) && not (is_iterator cell)
+ended_name Unboxed cell = not (is_array cell) && not (is_iterator cell)
+ended_name Many cell = not (is_held cell) && not (is_iterator cell)
 
 abbrev pub each_name : (Kind → Cell → Bool) → List Kind → List Cell → Bool
-each_name ok [] [] = true
-each_name ok (k ∷ ks) (c ∷ (n ∷ cs)) = (ok k c && not (is_owned n)) && each_name ok ks cs
-each_name ok _ _ = false
+each_name fits [] [] = true
+each_name fits (kind ∷ kinds) (cell ∷ (number ∷ cells)) = (fits kind cell && not (is_owned number)) && each_name fits kinds cells
+each_name fits _ _ = false
 
 -- before the names stand so many that hold no handle
 abbrev pub globals_by : (Kind → Cell → Bool) → ℕ → List Kind → List Cell → Bool
-globals_by ok before ks cs = none_owned (take before cs) && each_name ok ks (drop before cs)
+globals_by fits before kinds cells = none_owned (take before cells) && each_name fits kinds (drop before cells)

@@ -9,30 +9,31 @@ use Rattle.lower_model.specs.Statements.{routine_body, main_body}
 
 -- the texts of the script, and the names that it announces
 abbrev pub texts_of : Program → List (List ℕ)
-texts_of p = p.texts ++ announced_names p
+texts_of program = program.texts ++ announced_names program
 
 abbrev pub layout_of : Program → Bases → Layout
-layout_of p b = record { texts = texts_of p; ranges = p.ranges; names = kinds_of p.globals; calls = calls_of p; bases = b }
+layout_of program bases =
+    record { texts = texts_of program; ranges = program.ranges; names = kinds_of program.globals; calls = calls_of program; bases = bases }
 
 abbrev pub routine_bases : Routine → Bases
-routine_bases r = bases_for r.parameters r.body
+routine_bases routine = bases_for routine.parameters routine.body
 
 -- those of all the steps of `main`, which reads records and makes assignments with two temporaries
 abbrev pub main_bases : Program → Bases
-main_bases p = record {
+main_bases program = record {
   parameters = zero;
-  temporaries = max 2 (max (steps_room p.begin) (max (steps_room p.items) (steps_room p.end)));
-  iterators = max (steps_iterators p.begin) (max (steps_iterators p.items) (steps_iterators p.end));
-  arrays = max (steps_arrays p.begin) (max (steps_arrays p.items) (steps_arrays p.end));
+  temporaries = max 2 (max (steps_room program.begin) (max (steps_room program.items) (steps_room program.end)));
+  iterators = max (steps_iterators program.begin) (max (steps_iterators program.items) (steps_iterators program.end));
+  arrays = max (steps_arrays program.begin) (max (steps_arrays program.items) (steps_arrays program.end));
 }
 
 abbrev pub routine_callee : Program → Routine → Callee
-routine_callee p r = record {
-  kinds = r.parameters;
-  locals = local_types (routine_bases r);
+routine_callee program routine = record {
+  kinds = routine.parameters;
+  locals = local_types (routine_bases routine);
   body = routine_body
-      (layout_of p (routine_bases r)) r.parameters r.body;
+      (layout_of program (routine_bases routine)) routine.parameters routine.body;
 }
 
 abbrev pub main_callee : Program → Callee
-main_callee p = record { kinds = []; locals = local_types (main_bases p); body = main_body (layout_of p (main_bases p)) p }
+main_callee program = record { kinds = []; locals = local_types (main_bases program); body = main_body (layout_of program (main_bases program)) program }

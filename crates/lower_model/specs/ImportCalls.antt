@@ -36,35 +36,35 @@ pub record Host : Type 0 where
   pub fault : Option Fault
 
 abbrev pub with_some : {A B : Type 0} → Option A → (A → Option B) → Option B
-with_some None f = None
-with_some (Some a) f = f a
+with_some None next = None
+with_some (Some found) next = next found
 
 abbrev pub where_so : {A : Type 0} → Bool → Option A → Option A
-where_so true a = a
-where_so false a = None
+where_so true found = found
+where_so false found = None
 
 -- Arguments: what is owned is taken.
 
 -- ARGV and ENVIRON
 abbrev pub array_of_word : Word → Option ℕ
-array_of_word (I32 n) = if nat_lt n 2 then Some n else None
-array_of_word (I64 n) = None
+array_of_word (I32 number) = if nat_lt number 2 then Some number else None
+array_of_word (I64 number) = None
 
 abbrev pub number_in_word : Word → Option (In sort.Number)
-number_in_word (I64 n) = number_of_word n
-number_in_word (I32 n) = None
+number_in_word (I64 number) = number_of_word number
+number_in_word (I32 number) = None
 
-abbrev pub in_sort : (s : Sort) → Cell → Option (In s)
-in_sort sort.Value (Held v) = Some v
-in_sort sort.Number (Bits w) = number_in_word w
-in_sort sort.Array (LentArray a) = Some a
-in_sort sort.Array (Bits w) = array_of_word w
-in_sort sort.Iterator (IteratorOf t) = Some t
+abbrev pub in_sort : (wanted : Sort) → Cell → Option (In wanted)
+in_sort sort.Value (Held value) = Some value
+in_sort sort.Number (Bits word) = number_in_word word
+in_sort sort.Array (LentArray array) = Some array
+in_sort sort.Array (Bits word) = array_of_word word
+in_sort sort.Iterator (IteratorOf keys) = Some keys
 in_sort _ _ = None
 
-abbrev pub in_constant : (c : Constant) → Cell → Option (InConstant c)
-in_constant c (Bits (I32 n)) = constant_at c n
-in_constant c _ = None
+abbrev pub in_constant : (constant : Constant) → Cell → Option (InConstant constant)
+in_constant constant (Bits (I32 number)) = constant_at constant number
+in_constant constant _ = None
 
 -- the bytes of a place in memory; none where the place is not within it
 abbrev pub text_at : List ℕ → ℕ → ℕ → Option (List ℕ)
@@ -72,54 +72,55 @@ text_at memory place size = if nat_le (place + size) (length memory) then Some (
 
 abbrev pub and_rest : {A : Type 0} → Option A → List Cell → Option (A × List Cell)
 and_rest None rest = None
-and_rest (Some a) rest = Some (a, rest)
+and_rest (Some found) rest = Some (found, rest)
 
-abbrev pub first_argument : List ℕ → (a : Argument) → List Cell → Option (InArgument a × List Cell)
-first_argument memory (argument.Of s) (c ∷ rest) = and_rest (in_sort s c) rest
-first_argument memory (argument.Constant k) (c ∷ rest) = and_rest (in_constant k c) rest
+abbrev pub first_argument : List ℕ → (wanted : Argument) → List Cell → Option (InArgument wanted × List Cell)
+first_argument memory (argument.Of wanted) (cell ∷ rest) = and_rest (in_sort wanted cell) rest
+first_argument memory (argument.Constant constant) (cell ∷ rest) = and_rest (in_constant constant cell) rest
 first_argument memory argument.Place (Bits (I32 place) ∷ (Bits (I32 size) ∷ rest)) = and_rest (text_at memory place size) rest
 first_argument memory _ _ = None
 
 abbrev pub row_in : List ℕ → (wanted : List Argument) → List Cell → Option (Row wanted)
 row_in memory [] [] = Some tt
-row_in memory [] (c ∷ cs) = None
-row_in memory (a ∷ wanted) cs = with_some (first_argument memory a cs) (λ x. with_some (row_in memory wanted x.1) (λ rest. Some (x.0, rest)))
+row_in memory [] (cell ∷ cells) = None
+row_in memory (first ∷ wanted) cells =
+    with_some (first_argument memory first cells) (λ found. with_some (row_in memory wanted found.1) (λ rest. Some (found.0, rest)))
 
 -- `dup` and `iter_next` take nothing: they only look. An array is freed by who owns it.
-abbrev pub taken : List ℕ → (i : Import) → List Cell → Option (Row (import_arguments i))
-taken memory (Of row.Dup) cs = None
-taken memory (Of row.IterNext) cs = None
-taken memory FreeArray (OwnedArray a ∷ []) = Some (a, tt)
-taken memory FreeArray cs = None
-taken memory i cs = row_in memory (import_arguments i) cs
+abbrev pub taken : List ℕ → (import : Import) → List Cell → Option (Row (import_arguments import))
+taken memory (Of row.Dup) cells = None
+taken memory (Of row.IterNext) cells = None
+taken memory FreeArray (OwnedArray array ∷ []) = Some (array, tt)
+taken memory FreeArray cells = None
+taken memory import cells = row_in memory (import_arguments import) cells
 
-abbrev pub looked_at : (i : Import) → Cell → Option (Row (import_arguments i))
-looked_at (Of row.Dup) (Held v) = Some (v, tt)
-looked_at (Of row.IterNext) (IteratorOf t) = Some (t, tt)
-looked_at i c = None
+abbrev pub looked_at : (import : Import) → Cell → Option (Row (import_arguments import))
+looked_at (Of row.Dup) (Held value) = Some (value, tt)
+looked_at (Of row.IterNext) (IteratorOf keys) = Some (keys, tt)
+looked_at import cell = None
 
 -- Answers.
 
-abbrev pub cell_of_sort : (s : Sort) → In s → Cell
-cell_of_sort sort.Value v = Held v
-cell_of_sort sort.Number n = Bits (I64 (number_word n))
-cell_of_sort sort.Array a = OwnedArray a
-cell_of_sort sort.Iterator t = IteratorOf t
+abbrev pub cell_of_sort : (wanted : Sort) → In wanted → Cell
+cell_of_sort sort.Value value = Held value
+cell_of_sort sort.Number number = Bits (I64 (number_word number))
+cell_of_sort sort.Array array = OwnedArray array
+cell_of_sort sort.Iterator keys = IteratorOf keys
 
 abbrev pub key_or_end : Option AnyValue → Cell
 key_or_end None = Bits end_word
-key_or_end (Some v) = Held v
+key_or_end (Some value) = Held value
 
-abbrev pub cell_of : (a : Answer) → InAnswer a → Option Cell
-cell_of answer.Nothing x = None
-cell_of (answer.Of s) x = Some (cell_of_sort s x)
-cell_of answer.Truth b = Some (Bits (I32 (flag_number b)))
-cell_of answer.Done x = Some (Bits (I32 0))
-cell_of answer.Input x = Some (Bits (I32 (input_code x)))
-cell_of answer.Assign x = Some (Bits (I32 (assign_code x)))
-cell_of answer.Stream x = Some (Bits (I32 (stream_code x)))
-cell_of answer.ValueOrEnd x = Some (key_or_end x)
-cell_of answer.Name n = Some (Bits (I32 n))
+abbrev pub cell_of : (wanted : Answer) → InAnswer wanted → Option Cell
+cell_of answer.Nothing given = None
+cell_of (answer.Of wanted) given = Some (cell_of_sort wanted given)
+cell_of answer.Truth holds = Some (Bits (I32 (flag_number holds)))
+cell_of answer.Done given = Some (Bits (I32 0))
+cell_of answer.Input given = Some (Bits (I32 (input_code given)))
+cell_of answer.Assign given = Some (Bits (I32 (assign_code given)))
+cell_of answer.Stream given = Some (Bits (I32 (stream_code given)))
+cell_of answer.ValueOrEnd given = Some (key_or_end given)
+cell_of answer.Name number = Some (Bits (I32 number))
 
 -- a fault: -1, or the least number of 64 bits
 abbrev pub fault_cell : Answer → Option Cell
@@ -134,58 +135,64 @@ pub record Acts (A : Type 0) : Type 0 where
   pub arguments : List AnyValue
 
 abbrev pub or_fault : {A : Type 0} → (faults : Bool) → OrFault faults A → Result A Fault
-or_fault true x = x
-or_fault false x = Ok x
+or_fault true given = given
+or_fault false given = Ok given
 
 -- a primitive leaves the argument list as it is
 abbrev pub primitive_acts : {A : Type 0} → List AnyValue → (faults : Bool) → Does (OrFault faults A) → Acts A
-primitive_acts arguments faults d = record { does = record { added = d.added; inner = d.inner; answer = or_fault faults d.answer }; arguments = arguments }
+primitive_acts arguments faults done =
+    record { does = record { added = done.added; inner = done.inner; answer = or_fault faults done.answer }; arguments = arguments }
 
 -- the last values of the argument list, and those before them
 abbrev pub last_of : ℕ → List AnyValue → List AnyValue
-last_of n values = drop (length values - n) values
+last_of count values = drop (length values - count) values
 
 abbrev pub before_last_of : ℕ → List AnyValue → List AnyValue
-before_last_of n values = take (length values - n) values
+before_last_of count values = take (length values - count) values
 
-abbrev pub listed_acts : (l : Listed) → ℕ → Host → Option (Acts (InAnswer (listed_answer l)))
-listed_acts l n h = where_so (nat_le n (length h.arguments) && listed_in_turn l (last_of n h.arguments))
-    (Some (record { does = listed_meaning l (last_of n h.arguments) h.shared; arguments = before_last_of n h.arguments }))
+abbrev pub listed_acts : (what : Listed) → ℕ → Host → Option (Acts (InAnswer (listed_answer what)))
+listed_acts what count host = where_so (nat_le count (length host.arguments) && listed_in_turn what (last_of count host.arguments))
+    (Some (record { does = listed_meaning what (last_of count host.arguments) host.shared; arguments = before_last_of count host.arguments }))
 
 abbrev pub only_answers : Host → List AnyValue → Acts (Unit {0})
-only_answers h arguments = record { does = gives h.shared (Ok tt); arguments = arguments }
+only_answers host arguments = record { does = gives host.shared (Ok tt); arguments = arguments }
 
 -- a call that is out of turn does nothing here: a module makes none
-abbrev pub acts : (i : Import) → Row (import_arguments i) → Host → Option (Acts (InAnswer (import_answer i)))
-acts (Of p) given h = where_so (in_turn p given h.shared) (Some (primitive_acts h.arguments (can_fault p) (meaning p given h.shared)))
-acts (Over Sprintf) given h = listed_acts listed.Sprintf (values_taken listed.Sprintf given.0) h
-acts (Over Print) given h = listed_acts (listed.Print given.1.0) (values_taken (listed.Print given.1.0) given.0) h
-acts (Over Printf) given h = listed_acts (listed.Printf given.1.0) (values_taken (listed.Printf given.1.0) given.0) h
-acts Arg given h = Some (only_answers h (h.arguments ++ given.0 ∷ []))
-acts Drop given h = Some (only_answers h h.arguments)
-acts IterFree given h = Some (only_answers h h.arguments)
-acts FreeArray given h = Some (only_answers h h.arguments)
+abbrev pub acts : (import : Import) → Row (import_arguments import) → Host → Option (Acts (InAnswer (import_answer import)))
+acts (Of primitive) given host =
+    where_so (in_turn primitive given host.shared) (Some (primitive_acts host.arguments (can_fault primitive) (meaning primitive given host.shared)))
+acts (Over Sprintf) given host = listed_acts listed.Sprintf (values_taken listed.Sprintf given.0) host
+acts (Over Print) given host = listed_acts (listed.Print given.1.0) (values_taken (listed.Print given.1.0) given.0) host
+acts (Over Printf) given host = listed_acts (listed.Printf given.1.0) (values_taken (listed.Printf given.1.0) given.0) host
+acts Arg given host = Some (only_answers host (host.arguments ++ given.0 ∷ []))
+acts Drop given host = Some (only_answers host host.arguments)
+acts IterFree given host = Some (only_answers host host.arguments)
+acts FreeArray given host = Some (only_answers host host.arguments)
 
-abbrev pub replied : (a : Answer) → Host → Acts (InAnswer a) → Result (InAnswer a) Fault → Option Cell × Host
-replied a h d (Ok x) = (cell_of a x, record { shared = shared_after h.shared d.does; arguments = d.arguments; fault = h.fault })
-replied a h d (Err f) = (fault_cell a, record { shared = shared_after h.shared d.does; arguments = d.arguments; fault = Some f })
+abbrev pub replied : (wanted : Answer) → Host → Acts (InAnswer wanted) → Result (InAnswer wanted) Fault → Option Cell × Host
+replied wanted host done (Ok given) =
+    (cell_of wanted given, record { shared = shared_after host.shared done.does; arguments = done.arguments; fault = host.fault })
+replied wanted host done (Err fault) =
+    (fault_cell wanted, record { shared = shared_after host.shared done.does; arguments = done.arguments; fault = Some fault })
 
-abbrev pub acted : (i : Import) → Host → Option (Row (import_arguments i)) → Option (Option Cell × Host)
-acted i h given = with_some given (λ r. with_some (acts i r h) (λ d. Some (replied (import_answer i) h d d.does.answer)))
+abbrev pub acted : (import : Import) → Host → Option (Row (import_arguments import)) → Option (Option Cell × Host)
+acted import host given =
+    with_some given (λ operands. with_some (acts import operands host) (λ done. Some (replied (import_answer import) host done done.does.answer)))
 
 -- once a fault is kept these still let go, and the others only refuse: nothing that is owned may be given to them
 
-abbrev pub after_fault : List ℕ → (i : Import) → List Cell → Host → Option (Option Cell × Host)
-after_fault memory i cs h = if lets_go i then acted i h (taken memory i cs) else where_so (none_owned cs) (Some (fault_cell (import_answer i), h))
+abbrev pub after_fault : List ℕ → (import : Import) → List Cell → Host → Option (Option Cell × Host)
+after_fault memory import cells host =
+    if lets_go import then acted import host (taken memory import cells) else where_so (none_owned cells) (Some (fault_cell (import_answer import), host))
 
-abbrev pub call : List ℕ → (i : Import) → List Cell → Host → Option (Option Cell × Host)
-call memory i cs h = elim h.fault [ None ↦ acted i h (taken memory i cs) | Some f ↦ after_fault memory i cs h ]
+abbrev pub call : List ℕ → (import : Import) → List Cell → Host → Option (Option Cell × Host)
+call memory import cells host = elim host.fault [ None ↦ acted import host (taken memory import cells) | Some fault ↦ after_fault memory import cells host ]
 
 -- the same for an import that looks at its argument
-abbrev pub look : (i : Import) → Cell → Host → Option (Option Cell × Host)
-look i c h = elim h.fault [ None ↦ acted i h (looked_at i c) | Some f ↦ None ]
+abbrev pub look : (import : Import) → Cell → Host → Option (Option Cell × Host)
+look import cell host = elim host.fault [ None ↦ acted import host (looked_at import cell) | Some fault ↦ None ]
 
 -- how many turns a script spends on assignments that a call carries out by itself
 abbrev pub carried_by : Import → Shared → ℕ
-carried_by (Of p) shared = carried_out p shared
+carried_by (Of primitive) shared = carried_out primitive shared
 carried_by _ shared = 0

@@ -18,96 +18,97 @@ use Rattle.host_imports.specs.declared.import.Import.{Import}
 
 -- the functions, `main` last
 abbrev pub all_callees : Program → List Callee
-all_callees p = map (routine_callee p) p.routines ++ main_callee p ∷ []
+all_callees program = map (routine_callee program) program.routines ++ main_callee program ∷ []
 
 -- Which imports are called.
 
 abbrev pub is_call : ℕ → Simple → Bool
-is_call i (Call n) = nat_eq i n
-is_call i p = false
+is_call import (Call number) = nat_eq import number
+is_call import simple = false
 
 abbrev mutual
   pub calls_in : ℕ → Instructions → Bool
-  calls_in i Done = false
-  calls_in i (Then a k) = calls_by i a || calls_in i k
+  calls_in import Done = false
+  calls_in import (Then instruction after) = calls_by import instruction || calls_in import after
 
   pub calls_by : ℕ → Instruction → Bool
-  calls_by i (Plain p) = is_call i p
-  calls_by i (BrTable ds d) = false
-  calls_by i (Block r a) = calls_in i a
-  calls_by i (Loop r a) = calls_in i a
-  calls_by i (If r a c) = calls_in i a || calls_in i c
+  calls_by import (Plain simple) = is_call import simple
+  calls_by import (BrTable targets other) = false
+  calls_by import (Block result inside) = calls_in import inside
+  calls_by import (Loop result inside) = calls_in import inside
+  calls_by import (If result so otherwise) = calls_in import so || calls_in import otherwise
 
 abbrev pub any_calls : ℕ → List Callee → Bool
-any_calls i [] = false
-any_calls i (f ∷ fs) = calls_in i f.body || any_calls i fs
+any_calls import [] = false
+any_calls import (function ∷ functions) = calls_in import function.body || any_calls import functions
 
--- for each import from the i-th on, whether it is called
+-- for each import from this one on, whether it is called
 abbrev pub called_from : ℕ → List Import → List Callee → List Bool
-called_from i [] fs = []
-called_from i (x ∷ xs) fs = any_calls i fs ∷ called_from (suc i) xs fs
+called_from import [] functions = []
+called_from import (first ∷ rest) functions = any_calls import functions ∷ called_from (suc import) rest functions
 
 abbrev pub called_imports : Program → List Bool
-called_imports p = called_from zero imports (all_callees p)
+called_imports program = called_from zero imports (all_callees program)
 
 abbrev pub chosen : {A : Type 0} → List Bool → List A → List A
-chosen (true ∷ bs) (x ∷ xs) = x ∷ chosen bs xs
-chosen (false ∷ bs) (x ∷ xs) = chosen bs xs
+chosen (true ∷ called) (first ∷ rest) = first ∷ chosen called rest
+chosen (false ∷ called) (first ∷ rest) = chosen called rest
 chosen _ _ = []
 
 abbrev pub imports_of : Program → List Import
-imports_of p = chosen (called_imports p) imports
+imports_of program = chosen (called_imports program) imports
 
 -- the number of a function, an import or one after them, once those that are not called are left out
 abbrev pub new_number : List Bool → ℕ → ℕ
-new_number [] n = n
-new_number (b ∷ bs) zero = zero
-new_number (true ∷ bs) (suc n) = suc (new_number bs n)
-new_number (false ∷ bs) (suc n) = new_number bs n
+new_number [] number = number
+new_number (first ∷ called) zero = zero
+new_number (true ∷ called) (suc number) = suc (new_number called number)
+new_number (false ∷ called) (suc number) = new_number called number
 
 abbrev pub renumbered_simple : List Bool → Simple → Simple
-renumbered_simple bs (Call n) = Call (new_number bs n)
-renumbered_simple bs p = p
+renumbered_simple called (Call function) = Call (new_number called function)
+renumbered_simple called simple = simple
 
 abbrev mutual
   pub renumbered : List Bool → Instructions → Instructions
-  renumbered bs Done = Done
-  renumbered bs (Then a k) = Then (renumbered_one bs a) (renumbered bs k)
+  renumbered called Done = Done
+  renumbered called (Then instruction after) = Then (renumbered_one called instruction) (renumbered called after)
 
   pub renumbered_one : List Bool → Instruction → Instruction
-  renumbered_one bs (Plain p) = Plain (renumbered_simple bs p)
-  renumbered_one bs (BrTable ds d) = BrTable ds d
-  renumbered_one bs (Block r a) = Block r (renumbered bs a)
-  renumbered_one bs (Loop r a) = Loop r (renumbered bs a)
-  renumbered_one bs (If r a c) = If r (renumbered bs a) (renumbered bs c)
+  renumbered_one called (Plain simple) = Plain (renumbered_simple called simple)
+  renumbered_one called (BrTable targets other) = BrTable targets other
+  renumbered_one called (Block result inside) = Block result (renumbered called inside)
+  renumbered_one called (Loop result inside) = Loop result (renumbered called inside)
+  renumbered_one called (If result so otherwise) = If result (renumbered called so) (renumbered called otherwise)
 
 -- Types: of the imports, of the functions, each with a type of its own.
 
 abbrev pub callee_type : Callee → Signature
-callee_type f = record { params = map kind_type f.kinds; result = Some I32 }
+callee_type function = record { params = map kind_type function.kinds; result = Some I32 }
 
 abbrev pub imported_from : ℕ → List Import → List ImportForm
-imported_from n [] = []
-imported_from n (i ∷ rest) = (record { from = module_name; name = import_name i; ty = n }) ∷ imported_from (suc n) rest
+imported_from number [] = []
+imported_from number (import ∷ rest) = (record { from = module_name; name = import_name import; ty = number }) ∷ imported_from (suc number) rest
 
 abbrev pub functions_from : List Bool → ℕ → List Callee → List FuncForm
-functions_from bs n [] = []
-functions_from bs n (f ∷ fs) = (record { ty = n; locals = f.locals; body = renumbered bs f.body }) ∷ functions_from bs (suc n) fs
+functions_from called number [] = []
+functions_from called number (function ∷ functions) =
+    (record { ty = number; locals = function.locals; body = renumbered called function.body }) ∷ functions_from called (suc number) functions
 
 -- Globals: the two of the module, those of ranges, and those of names, which have nothing yet.
 
 abbrev pub word_global : ℕ → GlobalForm
-word_global n = record { ty = record { value = I32; mutable = true }; init = does (I32Const n) Done }
+word_global number = record { ty = record { value = I32; mutable = true }; init = does (I32Const number) Done }
 
 abbrev pub long_global : ℕ → GlobalForm
-long_global n = record { ty = record { value = I64; mutable = true }; init = does (I64Const n) Done }
+long_global number = record { ty = record { value = I64; mutable = true }; init = does (I64Const number) Done }
 
 abbrev pub name_globals : List Kind → List GlobalForm
 name_globals [] = []
-name_globals (k ∷ ks) = word_global minus_one ∷ (long_global least ∷ name_globals ks)
+name_globals (kind ∷ kinds) = word_global minus_one ∷ (long_global least ∷ name_globals kinds)
 
 abbrev pub globals_of : Program → List GlobalForm
-globals_of p = word_global 0 ∷ (long_global 0 ∷ (replicate p.ranges (word_global 0) ++ name_globals (kinds_of p.globals)))
+globals_of program = word_global 0 ∷ (long_global 0 ∷ (replicate program.ranges (word_global 0) ++ name_globals (kinds_of program.globals)))
 
 -- pages of 65,536 bytes
 abbrev pub pages_for : ℕ → ℕ
@@ -117,18 +118,18 @@ abbrev pub memory_for : ℕ → Limits
 memory_for bytes = record { min = pages_for bytes; max = Some (pages_for bytes) }
 
 abbrev pub module_of : Program → ModuleForm
-module_of p =
-    let bs = called_imports p in
-    let used = chosen bs imports in
-    let memory = memory_of (texts_of p) in
+module_of program =
+    let called = called_imports program in
+    let used = chosen called imports in
+    let memory = memory_of (texts_of program) in
     record {
-      types = map import_type used ++ map callee_type (all_callees p);
+      types = map import_type used ++ map callee_type (all_callees program);
       imports = imported_from zero used;
-      funcs = functions_from bs (length used) (all_callees p);
+      funcs = functions_from called (length used) (all_callees program);
       tables = [];
       memories = memory_for (length memory) ∷ [];
-      globals = globals_of p;
-      exports = (record { name = codes "main"; desc = Func (length used + length p.routines) }) ∷ [];
+      globals = globals_of program;
+      exports = (record { name = codes "main"; desc = Func (length used + length program.routines) }) ∷ [];
       start = None;
       elems = [];
       data_segments = (record { memory = 0; offset = does (I32Const 0) Done; init = memory }) ∷ [];

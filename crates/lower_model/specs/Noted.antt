@@ -22,88 +22,107 @@ use Rattle.lower_model.specs.Small.{ask_row, does as instruction}
 use Rattle.lower_model.specs.Statements.{records_read, step_emitted, steps_emitted}
 
 abbrev pub noting : Notes → Instructions → State → State
-noting notes c state = record state { shared = record state.shared { output = notes c state.shared.output } }
+noting notes code state = record state { shared = record state.shared { output = notes code state.shared.output } }
 
 -- a step that begins with this code is begun
 abbrev pub noted : Notes → Instructions → Doing (Unit {0})
-noted notes c = change (noting notes c)
+noted notes code = change (noting notes code)
 
 -- The test of a loop whose first round goes without it.
-abbrev pub test_place : Layout → Code → (d : ℕ) → Instructions
-test_place y e d = instruction Nop (tested y [] [] e zero zero d (instruction (BrIf zero) Done))
+abbrev pub test_place : Layout → Code → (exit : ℕ) → Instructions
+test_place layout test exit = instruction Nop (tested layout [] [] test zero zero exit (instruction (BrIf zero) Done))
 
-module _ (notes : Notes) (y : Layout) (texts : List (List ℕ)) (parameters : List (List Kind)) (n : ℕ) (calls : Calls) where
+module _ (notes : Notes) (layout : Layout) (texts : List (List ℕ)) (parameters : List (List Kind)) (turns : ℕ) (calls : Calls) where
   -- a step of its own
   abbrev pub plain_noted : Step → Instructions → Doing Flow
-  plain_noted s c = noted notes c >> stepped texts parameters n calls s
+  plain_noted step code = noted notes code >> stepped texts parameters turns calls step
 
   unfoldable mutual
-    pub step_noted : Step → (u d bk ct : ℕ) → Instructions → Doing Flow
-    step_noted (Eval e) u d bk ct k = plain_noted (Eval e) (step_emitted y (Eval e) u d bk ct k)
-    step_noted (Block ss) u d bk ct k = noted notes (step_emitted y (Block ss) u d bk ct k) >> steps_noted ss u d bk ct k
-    step_noted (If e a b) u d bk ct k =
-        let yes = if is_some (pair_in e) then step_noted a u (suc (suc d)) (suc (suc bk)) (suc (suc ct)) (instruction (Br 1) Done) else
-        step_noted a u (suc d) (suc bk) (suc ct) Done in
-        noted notes (step_emitted y (If e a b) u d bk ct k) >> holds texts parameters n calls e >>= λ truth. if truth then yes else
-        step_noted b u (suc d) (suc bk) (suc ct) Done
-    step_noted (Loop true e a b) u d bk ct k =
+    pub step_noted : Step → (iterators exit break_to continue_to : ℕ) → Instructions → Doing Flow
+    step_noted (Eval code) iterators exit break_to continue_to following =
+        plain_noted (Eval code) (step_emitted layout (Eval code) iterators exit break_to continue_to following)
+    step_noted (Block steps) iterators exit break_to continue_to following =
+        noted notes (step_emitted layout (Block steps) iterators exit break_to continue_to following)
+        >> steps_noted steps iterators exit break_to continue_to following
+    step_noted (If test so otherwise) iterators exit break_to continue_to following =
+        let when_so = if is_some (pair_in test)
+        then step_noted so iterators (suc (suc exit)) (suc (suc break_to)) (suc (suc continue_to)) (instruction (Br 1) Done) else
+        step_noted so iterators (suc exit) (suc break_to) (suc continue_to) Done in
+        noted notes (step_emitted layout (If test so otherwise) iterators exit break_to continue_to following)
+        >> holds texts parameters turns calls test >>= λ truth. if truth then when_so else
+        step_noted otherwise iterators (suc exit) (suc break_to) (suc continue_to) Done
+    step_noted (Loop true test body last) iterators exit break_to continue_to following =
         let back = instruction (Br zero) Done in
-        let rest = if is_nothing b then back else step_emitted y b u (suc (suc d)) 1 zero back in
-        let body = if step_jumps a then step_noted a u (suc (suc (suc d))) 2 zero Done else step_noted a u (suc (suc d)) 1 zero rest in
-        let between = if is_nothing b then nothing else (step_noted b u (suc (suc d)) 1 zero back >> nothing) in
-        noted notes (step_emitted y (Loop true e a b) u d bk ct k) >> loop n (holds texts parameters n calls e) body between
-    step_noted (Loop false e a b) u d bk ct k =
-        let test = noted notes (test_place y e (suc (suc d))) >> holds texts parameters n calls e in
-        let body = step_noted a u (suc (suc (suc d))) 2 zero Done in
-        let between = step_noted b u (suc (suc d)) 1 zero (test_place y e (suc (suc d))) >> nothing in
-        noted notes (step_emitted y (Loop false e a b) u d bk ct k) >> body >>= λ flow. after_round flow (between >> loop n test body between)
-    step_noted (Each a e s) u d bk ct k =
-        noted notes (step_emitted y (Each a e s) u d bk ct k) >> array_number a >>= λ i. does row.Iter (i, tt) >>= λ keys.
-        over_keys n keys (keyed texts parameters n calls e) (step_noted s (suc u) (suc (suc (suc d))) 2 zero Done)
-    step_noted Break u d bk ct k = plain_noted Break (step_emitted y Break u d bk ct k)
-    step_noted Continue u d bk ct k = plain_noted Continue (step_emitted y Continue u d bk ct k)
-    step_noted Next u d bk ct k = plain_noted Next (step_emitted y Next u d bk ct k)
-    step_noted Exit u d bk ct k = plain_noted Exit (step_emitted y Exit u d bk ct k)
-    step_noted (ExitWith e) u d bk ct k = plain_noted (ExitWith e) (step_emitted y (ExitWith e) u d bk ct k)
-    step_noted (Return e) u d bk ct k = plain_noted (Return e) (step_emitted y (Return e) u d bk ct k)
-    step_noted (Mark i b) u d bk ct k = plain_noted (Mark i b) (step_emitted y (Mark i b) u d bk ct k)
+        let rest = if is_nothing last then back else step_emitted layout last iterators (suc (suc exit)) 1 zero back in
+        let round = if step_jumps body
+        then step_noted body iterators (suc (suc (suc exit))) 2 zero Done else step_noted body iterators (suc (suc exit)) 1 zero rest in
+        let between = if is_nothing last then nothing else (step_noted last iterators (suc (suc exit)) 1 zero back >> nothing) in
+        noted notes (step_emitted layout (Loop true test body last) iterators exit break_to continue_to following)
+        >> loop turns (holds texts parameters turns calls test) round between
+    step_noted (Loop false test body last) iterators exit break_to continue_to following =
+        let tests = noted notes (test_place layout test (suc (suc exit))) >> holds texts parameters turns calls test in
+        let round = step_noted body iterators (suc (suc (suc exit))) 2 zero Done in
+        let between = step_noted last iterators (suc (suc exit)) 1 zero (test_place layout test (suc (suc exit))) >> nothing in
+        noted notes (step_emitted layout (Loop false test body last) iterators exit break_to continue_to following)
+        >> round >>= λ flow. after_round flow (between >> loop turns tests round between)
+    step_noted (Each array store body) iterators exit break_to continue_to following =
+        noted notes (step_emitted layout (Each array store body) iterators exit break_to continue_to following)
+        >> array_number array >>= λ owner. does row.Iter (owner, tt) >>= λ keys.
+        over_keys turns keys (keyed texts parameters turns calls store) (step_noted body (suc iterators) (suc (suc (suc exit))) 2 zero Done)
+    step_noted Break iterators exit break_to continue_to following = plain_noted Break (step_emitted layout Break iterators exit break_to continue_to following)
+    step_noted Continue iterators exit break_to continue_to following =
+        plain_noted Continue (step_emitted layout Continue iterators exit break_to continue_to following)
+    step_noted Next iterators exit break_to continue_to following = plain_noted Next (step_emitted layout Next iterators exit break_to continue_to following)
+    step_noted Exit iterators exit break_to continue_to following = plain_noted Exit (step_emitted layout Exit iterators exit break_to continue_to following)
+    step_noted (ExitWith code) iterators exit break_to continue_to following =
+        plain_noted (ExitWith code) (step_emitted layout (ExitWith code) iterators exit break_to continue_to following)
+    step_noted (Return code) iterators exit break_to continue_to following =
+        plain_noted (Return code) (step_emitted layout (Return code) iterators exit break_to continue_to following)
+    step_noted (Mark item opens) iterators exit break_to continue_to following =
+        plain_noted (Mark item opens) (step_emitted layout (Mark item opens) iterators exit break_to continue_to following)
 
-    pub steps_noted : Steps → (u d bk ct : ℕ) → Instructions → Doing Flow
-    steps_noted NoStep u d bk ct k = give Normal
-    steps_noted (Then s ss) u d bk ct k = step_noted s u d bk ct (steps_emitted y ss u d bk ct k) >>= λ flow. after flow (steps_noted ss u d bk ct k)
+    pub steps_noted : Steps → (iterators exit break_to continue_to : ℕ) → Instructions → Doing Flow
+    steps_noted NoStep iterators exit break_to continue_to following = give Normal
+    steps_noted (Then step steps) iterators exit break_to continue_to following =
+        step_noted step iterators exit break_to continue_to (steps_emitted layout steps iterators exit break_to continue_to following)
+        >>= λ flow. after flow (steps_noted steps iterators exit break_to continue_to following)
 
 -- Calls, and whole programs.
 
 -- the code after a function's steps
 abbrev pub routine_rest : Bases → Instructions
-routine_rest b = ask_row row.Uninit (instruction (LocalSet (answer_local b)) Done)
+routine_rest bases = ask_row row.Uninit (instruction (LocalSet (answer_local bases)) Done)
 
 unfoldable pub noted_called : Notes → Program → ℕ → Calls
-noted_called notes p zero f locals = stop OutOfTurns
-noted_called notes p (suc n) f locals =
-    let r = routine_at p.routines f in
-    entered locals (steps_noted notes (layout_of p (routine_bases r)) p.texts (calls_of p) n (noted_called notes p n) r.body zero zero zero zero
-    (routine_rest (routine_bases r)))
+noted_called notes program zero function locals = stop OutOfTurns
+noted_called notes program (suc turns) function locals =
+    let routine = routine_at program.routines function in
+    entered locals
+    (steps_noted notes (layout_of program (routine_bases routine)) program.texts (calls_of program) turns (noted_called notes program turns) routine.body
+    zero zero zero zero
+    (routine_rest (routine_bases routine)))
 
 -- steps of `main`, with the code after them
 abbrev pub noted_done : Notes → Program → Bases → ℕ → Steps → Instructions → Doing (Unit {0})
-noted_done notes p b n ss k = steps_noted notes (layout_of p b) p.texts (calls_of p) n (noted_called notes p n) ss zero zero zero zero k >> nothing
+noted_done notes program bases turns steps following =
+    steps_noted notes (layout_of program bases) program.texts (calls_of program) turns (noted_called notes program turns) steps zero zero zero zero following
+    >> nothing
 
 abbrev pub out_of_part : Instructions
 out_of_part = instruction (Br 1) Done
 
 abbrev pub begin_rest : Program → Bases → Instructions
-begin_rest p b = if p.reads then records_read (layout_of p b) p.items zero out_of_part else out_of_part
+begin_rest program bases = if program.reads then records_read (layout_of program bases) program.items zero out_of_part else out_of_part
 
 abbrev pub noted_parts : Notes → ℕ → Program → Parts
-noted_parts notes n p = record {
-  globals = map global_name p.globals;
-  functions = map routine_name p.routines;
-  begin = noted_done notes p (main_bases p) n p.begin (begin_rest p (main_bases p));
-  reads = p.reads;
-  items = noted_done notes p (main_bases p) n p.items out_of_part;
-  end = noted_done notes p (main_bases p) n p.end out_of_part;
+noted_parts notes turns program = record {
+  globals = map global_name program.globals;
+  functions = map routine_name program.routines;
+  begin = noted_done notes program (main_bases program) turns program.begin (begin_rest program (main_bases program));
+  reads = program.reads;
+  items = noted_done notes program (main_bases program) turns program.items out_of_part;
+  end = noted_done notes program (main_bases program) turns program.end out_of_part;
 }
 
 abbrev pub noted_run_in : Notes → Program → Setting → ℕ → Ending
-noted_run_in notes p setting turns = run_with setting turns (noted_parts notes turns p)
+noted_run_in notes program setting turns = run_with setting turns (noted_parts notes turns program)

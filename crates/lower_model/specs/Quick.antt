@@ -32,35 +32,36 @@ pub record Within : Type 0 where
 
 -- 1 where the word that is read is none of them
 abbrev pub unsure : Simple → ℤ → ℕ → Instructions → Instructions
-unsure get shift width k = does get (does (I64Const (cast_unsigned w64 shift)) (does (Binary I64 Add) (does (I64Const width) (does (Comparing I64 GtU) k))))
+unsure get shift width after =
+    does get (does (I64Const (cast_unsigned w64 shift)) (does (Binary I64 Add) (does (I64Const width) (does (Comparing I64 GtU) after))))
 
 abbrev pub name_in : Code → Option ℕ
-name_in (Get (Global true i)) = Some i
-name_in e = None
+name_in (Get (Global true name)) = Some name
+name_in code = None
 
 abbrev pub constant_in : Code → Option ℤ
-constant_in (Number z) = Some z
-constant_in e = None
+constant_in (Number number) = Some number
+constant_in code = None
 
 -- Tests: where a name is compared with a constant, the numbers of which the comparison is true.
 
 -- so many numbers from -2^53 on
 abbrev pub first_ones : ℕ → ℕ → Option Within
-first_ones i zero = None
-first_ones i (suc k) = Some (record { name = i; shift = pos largest; width = k })
+first_ones name zero = None
+first_ones name (suc count) = Some (record { name = name; shift = pos largest; width = count })
 
 abbrev pub compared_within : CompareOp → ℕ → ℤ → Option Within
-compared_within compare.Less i z = first_ones i (unsigned_abs (z +ℤ pos largest))
-compared_within compare.LessOrEqual i z = first_ones i (suc (unsigned_abs (z +ℤ pos largest)))
-compared_within c i z = None
+compared_within compare.Less name number = first_ones name (unsigned_abs (number +ℤ pos largest))
+compared_within compare.LessOrEqual name number = first_ones name (suc (unsigned_abs (number +ℤ pos largest)))
+compared_within op name number = None
 
 abbrev pub both_within : CompareOp → Option ℕ → Option ℤ → Option Within
-both_within c (Some i) (Some z) = compared_within c i z
-both_within c o q = None
+both_within op (Some name) (Some number) = compared_within op name number
+both_within op name number = None
 
 abbrev pub test_within : Code → Option Within
-test_within (Compare c a e) = both_within c (name_in a) (constant_in e)
-test_within e = None
+test_within (Compare op left right) = both_within op (name_in left) (constant_in right)
+test_within code = None
 
 -- What is read without a handle: an unboxed name, or a constant.
 pub data Source : Type 0 where
@@ -68,34 +69,34 @@ pub data Source : Type 0 where
   Constant : ℤ → Source
 
 abbrev pub source_in : Code → Option Source
-source_in (Get (Global true i)) = Some (Named i)
-source_in (Number z) = Some (Constant z)
-source_in e = None
+source_in (Get (Global true name)) = Some (Named name)
+source_in (Number number) = Some (Constant number)
+source_in code = None
 
 -- names, each once
 abbrev pub is_among : ℕ → List ℕ → Bool
-is_among i [] = false
-is_among i (j ∷ js) = nat_eq i j || is_among i js
+is_among name [] = false
+is_among name (first ∷ rest) = nat_eq name first || is_among name rest
 
 abbrev pub and_name : ℕ → List ℕ → List ℕ
-and_name i is = if is_among i is then is else i ∷ is
+and_name name names = if is_among name names then names else name ∷ names
 
 abbrev pub and_source : Source → List ℕ → List ℕ
-and_source (Named i) is = and_name i is
-and_source (Constant z) is = is
+and_source (Named name) names = and_name name names
+and_source (Constant number) names = names
 
 -- Whether one of several names is not within the bounds: their words, each with the shift, are joined, and what is joined is no less than each.
 
 abbrev pub shifted : Simple → ℤ → Instructions → Instructions
-shifted get shift k = does get (does (I64Const (cast_unsigned w64 shift)) (does (Binary I64 Add) k))
+shifted get shift after = does get (does (I64Const (cast_unsigned w64 shift)) (does (Binary I64 Add) after))
 
 abbrev pub joined : (ℕ → Simple) → List ℕ → ℤ → Instructions → Instructions
-joined read [] shift k = k
-joined read (i ∷ is) shift k = shifted (read i) shift (does (Binary I64 Or) (joined read is shift k))
+joined read [] shift after = after
+joined read (name ∷ names) shift after = shifted (read name) shift (does (Binary I64 Or) (joined read names shift after))
 
 abbrev pub all_unsure : (ℕ → Simple) → List ℕ → ℤ → ℕ → Instructions → Instructions
-all_unsure read [] shift width k = does (I32Const 0) k
-all_unsure read (i ∷ is) shift width k = shifted (read i) shift (joined read is shift (does (I64Const width) (does (Comparing I64 GtU) k)))
+all_unsure read [] shift width after = does (I32Const 0) after
+all_unsure read (name ∷ names) shift width after = shifted (read name) shift (joined read names shift (does (I64Const width) (does (Comparing I64 GtU) after)))
 
 -- Sums and differences of sources that go to a name. Sources of at most 2^52 have a sum in range.
 pub record Sum : Type 0 where
@@ -105,70 +106,71 @@ pub record Sum : Type 0 where
   pub right : Source
 
 abbrev pub sum_names : Sum → List ℕ
-sum_names s = and_name s.target (and_source s.left (and_source s.right []))
+sum_names sum = and_name sum.target (and_source sum.left (and_source sum.right []))
 
 abbrev pub is_near : Source → Bool
-is_near (Named i) = true
-is_near (Constant z) = nat_le (unsigned_abs z) (2 ^ 52)
+is_near (Named name) = true
+is_near (Constant number) = nat_le (unsigned_abs number) (2 ^ 52)
 
 abbrev pub is_sum : Arithmetic → Bool
 is_sum inline.Plus = true
 is_sum inline.Minus = true
-is_sum o = false
+is_sum op = false
 
 abbrev pub sum_op : Arithmetic → IBinOp
 sum_op inline.Minus = Sub
-sum_op o = Add
+sum_op op = Add
 
 abbrev pub sum_of : ℕ → Arithmetic → Option Source → Option Source → Option Sum
-sum_of i o (Some a) (Some e) = if is_sum o && (is_near a && is_near e) then Some (record { target = i; op = o; left = a; right = e }) else None
-sum_of i o a e = None
+sum_of target op (Some left) (Some right) =
+    if is_sum op && (is_near left && is_near right) then Some (record { target = target; op = op; left = left; right = right }) else None
+sum_of target op left right = None
 
 -- `n = a + e`
 abbrev pub two_sum : ℕ → Arithmetic → Codes → Option Sum
-two_sum i o (At a (At e End)) = sum_of i o (source_in a) (source_in e)
-two_sum i o es = None
+two_sum target op (At left (At right End)) = sum_of target op (source_in left) (source_in right)
+two_sum target op operands = None
 
 abbrev pub set_sum : ℕ → Code → Option Sum
-set_sum i (Do (Inline o) es) = two_sum i o es
-set_sum i e = None
+set_sum target (Do (Inline operator) operands) = two_sum target operator operands
+set_sum target code = None
 
--- `n += e`, where e is kept first
+-- `n += e`, where what is added is kept first
 abbrev pub kept_sum : ℕ → Arithmetic → Code → Codes → Option Sum
-kept_sum i o a (At x (At (Bound true zero) End)) = sum_of i o (source_in x) (source_in a)
-kept_sum i o a es = None
+kept_sum target op value (At before (At (Bound true zero) End)) = sum_of target op (source_in before) (source_in value)
+kept_sum target op value operands = None
 
 abbrev pub update_sum : ℕ → Code → Code → Option Sum
-update_sum i a (Do (Inline o) es) = kept_sum i o a es
-update_sum i a e = None
+update_sum target value (Do (Inline operator) operands) = kept_sum target operator value operands
+update_sum target value code = None
 
 -- `n++`: the number before is kept, then the one after
 abbrev pub old_source : Code → Option Source
-old_source (Do AsNumber (At a End)) = source_in a
-old_source e = None
+old_source (Do AsNumber (At value End)) = source_in value
+old_source code = None
 
 abbrev pub stored_name : Code → Option ℕ
-stored_name (Seq (Set (Global true i) (Bound true zero)) (Bound true (suc zero))) = Some i
-stored_name e = None
+stored_name (Seq (Set (Global true name) (Bound true zero)) (Bound true (suc zero))) = Some name
+stored_name code = None
 
 abbrev pub new_sum : Option Source → Option ℕ → Code → Option Sum
-new_sum a (Some i) (Do (Inline o) (At (Bound false zero) (At (Number z) End))) = sum_of i o a (Some (Constant z))
-new_sum a i e = None
+new_sum source (Some target) (Do (Inline operator) (At (Bound false zero) (At (Number number) End))) = sum_of target operator source (Some (Constant number))
+new_sum source target code = None
 
 abbrev pub step_sum : Code → Code → Code → Option Sum
-step_sum a x y = new_sum (old_source a) (stored_name y) x
+step_sum old new last = new_sum (old_source old) (stored_name last) new
 
 abbrev pub let_sum : Code → Code → Option Sum
-let_sum a (Set (Global true i) e) = update_sum i a e
-let_sum a (Let x y) = step_sum a x y
-let_sum a e = None
+let_sum value (Set (Global true target) code) = update_sum target value code
+let_sum value (Let new last) = step_sum value new last
+let_sum value code = None
 
 abbrev pub sum_in : Code → Option Sum
-sum_in (Set (Global true i) e) = set_sum i e
-sum_in (Let a e) = let_sum a e
-sum_in e = None
+sum_in (Set (Global true target) code) = set_sum target code
+sum_in (Let value rest) = let_sum value rest
+sum_in code = None
 
--- `n += e` and `n -= e`, where e is no source: what is added is evaluated first.
+-- `n += e` and `n -= e`, where `e` is no source: what is added is evaluated first.
 pub record Update : Type 0 where
   pub target : ℕ
   pub op : Arithmetic
@@ -176,24 +178,24 @@ pub record Update : Type 0 where
   pub added : Code
 
 abbrev pub update_of : ℕ → Arithmetic → Option ℕ → Code → Option Update
-update_of i o (Some j) a = if is_sum o then Some (record { target = i; op = o; name = j; added = a }) else None
-update_of i o None a = None
+update_of target op (Some name) added = if is_sum op then Some (record { target = target; op = op; name = name; added = added }) else None
+update_of target op None added = None
 
 abbrev pub kept_update : ℕ → Arithmetic → Code → Codes → Option Update
-kept_update i o a (At x (At (Bound true zero) End)) = update_of i o (name_in x) a
-kept_update i o a es = None
+kept_update target op added (At before (At (Bound true zero) End)) = update_of target op (name_in before) added
+kept_update target op added operands = None
 
 abbrev pub set_update : ℕ → Code → Code → Option Update
-set_update i a (Do (Inline o) es) = kept_update i o a es
-set_update i a e = None
+set_update target added (Do (Inline operator) operands) = kept_update target operator added operands
+set_update target added code = None
 
 abbrev pub let_update : Code → Code → Option Update
-let_update a (Set (Global true i) e) = set_update i a e
-let_update a e = None
+let_update added (Set (Global true target) value) = set_update target added value
+let_update added code = None
 
 abbrev pub update_in : Code → Option Update
-update_in (Let a e) = let_update a e
-update_in e = None
+update_in (Let added rest) = let_update added rest
+update_in code = None
 
 -- Counters in arrays, `a[k]++`, `a[k] += e` and their like: the key is kept, what is added is evaluated after it, and an element takes the sum of its
 -- number and that. Nobody asks for an answer.
@@ -205,91 +207,93 @@ pub record Tally : Type 0 where
   pub added : Code
 
 abbrev pub is_bound : (moves : Bool) → ℕ → Code → Bool
-is_bound true i (Bound true j) = nat_eq j i
-is_bound false i (Bound false j) = nat_eq j i
-is_bound m i e = false
+is_bound true others (Bound true place) = nat_eq place others
+is_bound false others (Bound false place) = nat_eq place others
+is_bound moves others code = false
 
 abbrev pub array_here : Code → Option ArrayName
-array_here (Array a) = Some a
-array_here e = None
+array_here (Array array) = Some array
+array_here code = None
 
 abbrev pub array_where : Bool → Option ArrayName → Option ArrayName
-array_where t a = if t then a else None
+array_where so array = if so then array else None
 
--- `a[k]`, where i others were kept after the key
+-- `a[k]`, where so many others were kept after the key
 abbrev pub element_at : ℕ → Codes → Option ArrayName
-element_at i (At x (At k End)) = array_where (is_bound false i k) (array_here x)
-element_at i es = None
+element_at others (At array (At key End)) = array_where (is_bound false others key) (array_here array)
+element_at others operands = None
 
 abbrev pub element_read : ℕ → Code → Option ArrayName
-element_read i (Do (Host row.Elem) es) = element_at i es
-element_read i e = None
+element_read others (Do (Host row.Elem) operands) = element_at others operands
+element_read others code = None
 
 abbrev pub number_at : Codes → Option ArrayName
-number_at (At e End) = element_read zero e
-number_at es = None
+number_at (At code End) = element_read zero code
+number_at operands = None
 
 -- its number, where the key was kept last
 abbrev pub number_read : Code → Option ArrayName
-number_read (Do AsNumber es) = number_at es
-number_read e = None
+number_read (Do AsNumber operands) = number_at operands
+number_read code = None
 
--- `a[k] = v`, where v was kept last, and i others after the key
+-- `a[k] = v`, where the value was kept last, and so many others after the key
 abbrev pub taker_at : (moves : Bool) → ℕ → Codes → Option ArrayName
-taker_at m i (At x (At k (At v End))) = array_where (is_bound true i k && is_bound m zero v) (array_here x)
-taker_at m i es = None
+taker_at moves others (At array (At key (At value End))) = array_where (is_bound true others key && is_bound moves zero value) (array_here array)
+taker_at moves others operands = None
 
 abbrev pub element_set : (moves : Bool) → ℕ → Code → Option ArrayName
-element_set m i (Do (Host row.SetElem) es) = taker_at m i es
-element_set m i e = None
+element_set moves others (Do (Host row.SetElem) operands) = taker_at moves others operands
+element_set moves others code = None
 
--- the same, and the answer is what was kept with j others after it
-abbrev pub element_last : (moves : Bool) → (i j : ℕ) → Code → Option ArrayName
-element_last m i j (Seq s e) = array_where (is_bound true j e) (element_set m i s)
-element_last m i j e = None
+-- the same, and the answer is what was kept with `last` others after it
+abbrev pub element_last : (moves : Bool) → (others last : ℕ) → Code → Option ArrayName
+element_last moves others last (Seq store answer) = array_where (is_bound true last answer) (element_set moves others store)
+element_last moves others last answer = None
 
 abbrev pub tally_of : Arithmetic → Code → Code → Option ArrayName → Option ArrayName → Option Tally
-tally_of o k e (Some a) (Some s) = if is_sum o then Some (record { read = a; written = s; key = k; op = o; added = e }) else None
-tally_of o k e a s = None
+tally_of op key added (Some read) (Some written) =
+    if is_sum op then Some (record { read = read; written = written; key = key; op = op; added = added }) else None
+tally_of op key added read written = None
 
--- an operator with operands y and z, where x was kept after the key: `a[k] += x`, or `a[k]++`, whose number before is x
-abbrev pub tally_by : Arithmetic → (k x y z c : Code) → Option Tally
-tally_by o k x y (Bound true zero) c = tally_of o k x (element_read 1 y) (element_last false 2 zero c)
-tally_by o k x y (Number z) c = tally_of o k (Number z) (array_where (is_bound false zero y) (number_read x)) (element_last true 2 1 c)
-tally_by o k x y z c = None
+-- an operator with two operands, where something was kept after the key: `a[k] += e`, what is added, or `a[k]++`, the number before
+abbrev pub tally_by : Arithmetic → (key kept left right store : Code) → Option Tally
+tally_by op key kept left (Bound true zero) store = tally_of op key kept (element_read 1 left) (element_last false 2 zero store)
+tally_by op key kept left (Number right) store =
+    tally_of op key (Number right) (array_where (is_bound false zero left) (number_read kept)) (element_last true 2 1 store)
+tally_by op key kept left right store = None
 
-abbrev pub tally_two : Arithmetic → (k x : Code) → Codes → Code → Option Tally
-tally_two o k x (At y (At z End)) c = tally_by o k x y z c
-tally_two o k x es c = None
+abbrev pub tally_two : Arithmetic → (key kept : Code) → Codes → Code → Option Tally
+tally_two op key kept (At left (At right End)) store = tally_by op key kept left right store
+tally_two op key kept operands store = None
 
-abbrev pub tally_sum : (k x e c : Code) → Option Tally
-tally_sum k x (Do (Inline o) es) c = tally_two o k x es c
-tally_sum k x e c = None
+abbrev pub tally_sum : (key kept value store : Code) → Option Tally
+tally_sum key kept (Do (Inline operator) operands) store = tally_two operator key kept operands store
+tally_sum key kept value store = None
 
 -- `++a[k]`
-abbrev pub tally_first : Arithmetic → (k y z c : Code) → Option Tally
-tally_first o k y (Number z) c = tally_of o k (Number z) (element_read zero y) (element_last false 1 zero c)
-tally_first o k y z c = None
+abbrev pub tally_first : Arithmetic → (key left right store : Code) → Option Tally
+tally_first op key left (Number right) store = tally_of op key (Number right) (element_read zero left) (element_last false 1 zero store)
+tally_first op key left right store = None
 
 abbrev pub first_two : Arithmetic → Code → Codes → Code → Option Tally
-first_two o k (At y (At z End)) c = tally_first o k y z c
-first_two o k es c = None
+first_two op key (At left (At right End)) store = tally_first op key left right store
+first_two op key operands store = None
 
-abbrev pub first_sum : (k e c : Code) → Option Tally
-first_sum k (Do (Inline o) es) c = first_two o k es c
-first_sum k e c = None
+abbrev pub first_sum : (key value store : Code) → Option Tally
+first_sum key (Do (Inline operator) operands) store = first_two operator key operands store
+first_sum key value store = None
 
-abbrev pub tally_after : (k x c : Code) → Option Tally
-tally_after k x (Let e c) = tally_sum k x e c
-tally_after k x c = first_sum k x c
+abbrev pub tally_after : (key kept store : Code) → Option Tally
+tally_after key kept (Let value store) = tally_sum key kept value store
+tally_after key kept store = first_sum key kept store
 
-abbrev pub tally_kept : (k c : Code) → Option Tally
-tally_kept k (Let x c) = tally_after k x c
-tally_kept k c = None
+abbrev pub tally_kept : (key rest : Code) → Option Tally
+tally_kept key (Let kept rest) = tally_after key kept rest
+tally_kept key rest = None
 
 abbrev pub tally_in : Code → Option Tally
-tally_in (Let k c) = tally_kept k c
-tally_in e = None
+tally_in (Let key rest) = tally_kept key rest
+tally_in code = None
 
 -- Remainders that go to a name: of a name by a constant, or of its product with a constant, `x = y % m` and `x = y * c % m`. Neither constant is 0.
 
@@ -304,50 +308,50 @@ pub record Remainder : Type 0 where
   pub divisor : ℤ
 
 abbrev pub factor_in : Code → Option ℤ
-factor_in (Number z) = if is_zero z then None else Some z
-factor_in e = None
+factor_in (Number number) = if is_zero number then None else Some number
+factor_in code = None
 
 abbrev pub product_of : Option ℕ → Option ℤ → Option Multiple
-product_of (Some i) (Some c) = Some (record { name = i; factor = Some c })
-product_of i c = None
+product_of (Some name) (Some factor) = Some (record { name = name; factor = Some factor })
+product_of name factor = None
 
 abbrev pub two_product : Arithmetic → Codes → Option Multiple
-two_product inline.Times (At a (At e End)) = product_of (name_in a) (factor_in e)
-two_product o es = None
+two_product inline.Times (At left (At right End)) = product_of (name_in left) (factor_in right)
+two_product op operands = None
 
 abbrev pub multiple_in : Code → Option Multiple
-multiple_in (Get (Global true i)) = Some (record { name = i; factor = None })
-multiple_in (Do (Inline o) es) = two_product o es
-multiple_in e = None
+multiple_in (Get (Global true name)) = Some (record { name = name; factor = None })
+multiple_in (Do (Inline operator) operands) = two_product operator operands
+multiple_in code = None
 
 abbrev pub remainder_of : ℕ → Option Multiple → Option ℤ → Option Remainder
-remainder_of i (Some m) (Some z) = Some (record { target = i; multiple = m; divisor = z })
-remainder_of i m z = None
+remainder_of target (Some multiple) (Some divisor) = Some (record { target = target; multiple = multiple; divisor = divisor })
+remainder_of target multiple divisor = None
 
 abbrev pub two_remainder : ℕ → Arithmetic → Codes → Option Remainder
-two_remainder i inline.Modulo (At a (At e End)) = remainder_of i (multiple_in a) (factor_in e)
-two_remainder i o es = None
+two_remainder target inline.Modulo (At left (At right End)) = remainder_of target (multiple_in left) (factor_in right)
+two_remainder target op operands = None
 
 abbrev pub set_remainder : ℕ → Code → Option Remainder
-set_remainder i (Do (Inline o) es) = two_remainder i o es
-set_remainder i e = None
+set_remainder target (Do (Inline operator) operands) = two_remainder target operator operands
+set_remainder target code = None
 
 abbrev pub remainder_in : Code → Option Remainder
-remainder_in (Set (Global true i) e) = set_remainder i e
-remainder_in e = None
+remainder_in (Set (Global true target) value) = set_remainder target value
+remainder_in code = None
 
 abbrev pub remainder_names : Remainder → List ℕ
-remainder_names q = and_name q.target (q.multiple.name ∷ [])
+remainder_names remainder = and_name remainder.target (remainder.multiple.name ∷ [])
 
 -- a number of at most so much has a product in range
 abbrev pub most_multiplied : Option ℤ → ℕ
 most_multiplied None = largest
-most_multiplied (Some c) = largest / unsigned_abs c
+most_multiplied (Some factor) = largest / unsigned_abs factor
 
 -- the number on the stack is multiplied
 abbrev pub multiplied : Option ℤ → Instructions → Instructions
-multiplied None k = k
-multiplied (Some c) k = does (I64Const (cast_unsigned w64 c)) (does (Binary I64 Mul) k)
+multiplied None after = after
+multiplied (Some factor) after = does (I64Const (cast_unsigned w64 factor)) (does (Binary I64 Mul) after)
 
 -- Comparisons of sources: where all names are in range the module compares.
 pub record Pair : Type 0 where
@@ -356,15 +360,15 @@ pub record Pair : Type 0 where
   pub right : Source
 
 abbrev pub pair_names : Pair → List ℕ
-pair_names q = and_source q.left (and_source q.right [])
+pair_names pair = and_source pair.left (and_source pair.right [])
 
 abbrev pub pair_of : CompareOp → Option Source → Option Source → Option Pair
-pair_of c (Some a) (Some e) = Some (record { op = c; left = a; right = e })
-pair_of c a e = None
+pair_of op (Some left) (Some right) = Some (record { op = op; left = left; right = right })
+pair_of op left right = None
 
 abbrev pub pair_in : Code → Option Pair
-pair_in (Compare c a e) = pair_of c (source_in a) (source_in e)
-pair_in e = None
+pair_in (Compare op left right) = pair_of op (source_in left) (source_in right)
+pair_in code = None
 
 abbrev pub contrary : CompareOp → CompareOp
 contrary compare.Less = compare.GreaterOrEqual
@@ -380,42 +384,42 @@ pub record Counted : Type 0 where
   pub name : ℕ
 
 abbrev pub is_count : Codes → Bool
-is_count (Fixed m End) = nat_eq m (special_number Nf)
-is_count es = false
+is_count (Fixed number End) = nat_eq number (special_number Nf)
+is_count operands = false
 
 abbrev pub field_count : Code → Bool
-field_count (Do (Host row.GetSpecial) es) = is_count es
-field_count e = false
+field_count (Do (Host row.GetSpecial) operands) = is_count operands
+field_count code = false
 
 abbrev pub counted_of : CompareOp → Option ℕ → Bool → Option Counted
-counted_of c (Some i) true = Some (record { op = c; name = i })
-counted_of c i t = None
+counted_of op (Some name) true = Some (record { op = op; name = name })
+counted_of op name so = None
 
 abbrev pub counted_in : Code → Option Counted
-counted_in (Compare c a e) = counted_of c (name_in a) (field_count e)
-counted_in e = None
+counted_in (Compare op left right) = counted_of op (name_in left) (field_count right)
+counted_in code = None
 
 -- Whether a step's code leaves it by `break` or `continue` of the loop around it.
 abbrev mutual
   pub step_jumps : Step → Bool
-  step_jumps (Block ss) = steps_jump ss
-  step_jumps (If e a b) = step_jumps a || step_jumps b
+  step_jumps (Block steps) = steps_jump steps
+  step_jumps (If test so otherwise) = step_jumps so || step_jumps otherwise
   step_jumps Break = true
   step_jumps Continue = true
-  step_jumps (Eval e) = false
-  step_jumps (Loop first e a b) = false
-  step_jumps (Each a e s) = false
+  step_jumps (Eval code) = false
+  step_jumps (Loop first test body last) = false
+  step_jumps (Each array store body) = false
   step_jumps Next = false
   step_jumps Exit = false
-  step_jumps (ExitWith e) = false
-  step_jumps (Return e) = false
-  step_jumps (Mark i b) = false
+  step_jumps (ExitWith code) = false
+  step_jumps (Return code) = false
+  step_jumps (Mark item opens) = false
 
   pub steps_jump : Steps → Bool
   steps_jump NoStep = false
-  steps_jump (Then s ss) = step_jumps s || steps_jump ss
+  steps_jump (Then step steps) = step_jumps step || steps_jump steps
 
 -- nothing stands between a body and the next test
 abbrev pub is_nothing : Step → Bool
 is_nothing (Block NoStep) = true
-is_nothing s = false
+is_nothing step = false

@@ -18,36 +18,36 @@ zero_ranges ranges = replicate ranges (Bits (word.I32 0))
 
 abbrev pub empty_names : List Kind → List Cell
 empty_names [] = []
-empty_names (k ∷ ks) = Bits (word.I32 minus_one) ∷ (Bits (word.I64 least) ∷ empty_names ks)
+empty_names (kind ∷ kinds) = Bits (word.I32 minus_one) ∷ (Bits (word.I64 least) ∷ empty_names kinds)
 
 abbrev pub first_globals : Program → List Cell
-first_globals p = Bits (word.I32 0) ∷ (Bits (word.I64 0) ∷ (zero_ranges p.ranges ++ empty_names (kinds_of p.globals)))
+first_globals program = Bits (word.I32 0) ∷ (Bits (word.I64 0) ∷ (zero_ranges program.ranges ++ empty_names (kinds_of program.globals)))
 
 abbrev pub noting_code : Notes → Program → ℕ → Code
-noting_code notes p deepest = record {
-  memory = memory_of (texts_of p);
-  before = suc (suc p.ranges);
-  names = kinds_of p.globals;
-  callees = map (routine_callee p) p.routines;
+noting_code notes program deepest = record {
+  memory = memory_of (texts_of program);
+  before = suc (suc program.ranges);
+  names = kinds_of program.globals;
+  callees = map (routine_callee program) program.routines;
   deepest = deepest;
   notes = notes;
 }
 
 abbrev pub code_of : Program → ℕ → Code
-code_of p deepest = noting_code no_notes p deepest
+code_of program deepest = noting_code no_notes program deepest
 
 abbrev pub host_at_start : Setting → Host
 host_at_start s = record { shared = shared_in s.job s.input s.outside; arguments = []; fault = fault_of_job s.job }
 
 abbrev pub begun : Program → Setting → Conf
-begun p s =
-    let f = main_callee p in
-    at [] [] [] (zeros f.locals) [] f.body (record { globals = first_globals p; host = host_at_start s; assigning = None })
+begun program setting =
+    let main = main_callee program in
+    at [] [] [] (zeros main.locals) [] main.body (record { globals = first_globals program; host = host_at_start setting; assigning = None })
 
 -- how a run with notes shows after so many steps; none where the machine is stuck
 abbrev pub noting_run : Notes → Program → Setting → ℕ → Option Ending
-noting_run notes p s steps = ending_at (go (noting_code notes p s.deepest) steps (begun p s))
+noting_run notes program setting steps = ending_at (go (noting_code notes program setting.deepest) steps (begun program setting))
 
 -- how the module's run shows
 abbrev pub value_run : Program → Setting → ℕ → Option Ending
-value_run p s steps = ending_at (go (code_of p s.deepest) steps (begun p s))
+value_run program setting steps = ending_at (go (code_of program setting.deepest) steps (begun program setting))

@@ -25,19 +25,19 @@ use Rattle.host_imports.specs.declared.import.Import.TheVariants.{Of, Drop}
 
 -- one instruction before others
 abbrev pub does : Simple → Instructions → Instructions
-does i k = Then (Plain i) k
+does simple after = Then (Plain simple) after
 
 abbrev pub ask : Import → Instructions → Instructions
-ask i k = does (Call (import_number i)) k
+ask import after = does (Call (import_number import)) after
 
 abbrev pub ask_row : Primitive → Instructions → Instructions
-ask_row p k = ask (Of p) k
+ask_row primitive after = ask (Of primitive) after
 
 abbrev pub when : Instructions → Instructions → Instructions
-when a k = Then (If None a Done) k
+when so after = Then (If None so Done) after
 
 abbrev pub either : Instructions → Instructions → Instructions → Instructions
-either a b k = Then (If None a b) k
+either so otherwise after = Then (If None so otherwise) after
 
 -- -1 and the least number of 64 bits stand for a fault. In an unboxed name the least one says that there is no number yet, and the next one that a
 -- text stands beside.
@@ -57,165 +57,171 @@ text_beside = 2 ^ 63 + 1
 
 -- out of its local onto the stack
 abbrev pub moved_out : ℕ → Instructions → Instructions
-moved_out x k = does (LocalGet x) (does (I32Const minus_one) (does (LocalSet x) k))
+moved_out local after = does (LocalGet local) (does (I32Const minus_one) (does (LocalSet local) after))
 
 -- from local to local
 abbrev pub moved : ℕ → ℕ → Instructions → Instructions
-moved x y k = moved_out x (does (LocalSet y) k)
+moved from to after = moved_out from (does (LocalSet to) after)
 
 abbrev pub emptied : ℕ → Instructions → Instructions
-emptied x k = does (I32Const minus_one) (does (LocalSet x) k)
+emptied local after = does (I32Const minus_one) (does (LocalSet local) after)
 
--- whether local x has a handle
+-- whether a local has a handle
 abbrev pub has_handle : ℕ → Instructions → Instructions
-has_handle x k = does (LocalGet x) (does (LocalTee x) (does (I32Const minus_one) (does (Compare I32 Ne) k)))
+has_handle local after = does (LocalGet local) (does (LocalTee local) (does (I32Const minus_one) (does (Compare I32 Ne) after)))
 
 -- what a local has is let go, if it has anything
 abbrev pub let_go : Import → ℕ → Instructions → Instructions
-let_go i x k = has_handle x (when (moved_out x (ask i Done)) k)
+let_go import local after = has_handle local (when (moved_out local (ask import Done)) after)
 
--- a second handle for the value of a place, which goes to local y and stays where it was: `get` and `set` read and write the place
+-- a second handle for the value of a place, which goes to a local and stays where it was: `get` and `set` read and write the place
 abbrev pub copied : Simple → Simple → ℕ → Instructions → Instructions
-copied get set y k = does get (does (LocalTee y) (ask_row row.Dup (does set k)))
+copied get set to after = does get (does (LocalTee to) (ask_row row.Dup (does set after)))
 
 -- the same where there may be none
 abbrev pub copied_if_any : Simple → Simple → ℕ → Instructions → Instructions
-copied_if_any get set y k =
-    does get (does (LocalTee y) (does (I32Const minus_one) (does (Compare I32 Ne)
-    (when (copied (LocalGet y) set y Done) k))))
+copied_if_any get set to after =
+    does get (does (LocalTee to) (does (I32Const minus_one) (does (Compare I32 Ne)
+    (when (copied (LocalGet to) set to Done) after))))
 
 -- Faults.
 
--- where the topmost operand is not 0 a fault is kept and the function is left, whose exit is d labels further out
+-- where the topmost operand is not 0 a fault is kept and the function is left, whose exit is so many labels further out
 abbrev pub fail_if : Fault → ℕ → Instructions → Instructions
-fail_if f d k = when (does (I32Const (fault_number f)) (ask_row row.Fail (does (Br (suc d)) Done))) k
+fail_if fault exit after = when (does (I32Const (fault_number fault)) (ask_row row.Fail (does (Br (suc exit)) Done))) after
 
 abbrev pub number_is : ℕ → ℕ → Instructions → Instructions
-number_is x n k = does (LocalGet x) (does (I64Const n) (does (Compare I64 Eq) k))
+number_is local number after = does (LocalGet local) (does (I64Const number) (does (Compare I64 Eq) after))
 
-module _ (b : Bases) where
-  abbrev pub h : ℕ → ℕ
-  h t = handle_local b t
-
-  abbrev pub n : ℕ → ℕ
-  n t = number_local b t
-
-  -- An answer goes to temporary t: a value's handle, a number, or a code as a number. Where it may stand for a fault, and does, the function is left.
+module _ (bases : Bases) where
+  -- An answer goes to a temporary: a value's handle, a number, or a code as a number. Where it may stand for a fault, and does, the function is left.
 
   abbrev pub kept_code : Bool → ℕ → ℕ → Instructions → Instructions
-  kept_code true t d k = does (Convert I64ExtendI32S) (does (LocalTee (n t)) (does (I64Const (2 ^ 64 - 1)) (does (Compare I64 Eq) (does (BrIf d) k))))
-  kept_code false t d k = does (Convert I64ExtendI32U) (does (LocalSet (n t)) k)
+  kept_code true temporary exit after =
+      does (Convert I64ExtendI32S)
+      (does (LocalTee (number_local bases temporary)) (does (I64Const (2 ^ 64 - 1)) (does (Compare I64 Eq) (does (BrIf exit) after))))
+  kept_code false temporary exit after = does (Convert I64ExtendI32U) (does (LocalSet (number_local bases temporary)) after)
 
   abbrev pub kept_value : Bool → ℕ → ℕ → Instructions → Instructions
-  kept_value true t d k = does (LocalTee (h t)) (does (I32Const minus_one) (does (Compare I32 Eq) (does (BrIf d) k)))
-  kept_value false t d k = does (LocalSet (h t)) k
+  kept_value true temporary exit after =
+      does (LocalTee (handle_local bases temporary)) (does (I32Const minus_one) (does (Compare I32 Eq) (does (BrIf exit) after)))
+  kept_value false temporary exit after = does (LocalSet (handle_local bases temporary)) after
 
   abbrev pub kept_number : Bool → ℕ → ℕ → Instructions → Instructions
-  kept_number true t d k = does (LocalTee (n t)) (does (I64Const least) (does (Compare I64 Eq) (does (BrIf d) k)))
-  kept_number false t d k = does (LocalSet (n t)) k
+  kept_number true temporary exit after =
+      does (LocalTee (number_local bases temporary)) (does (I64Const least) (does (Compare I64 Eq) (does (BrIf exit) after)))
+  kept_number false temporary exit after = does (LocalSet (number_local bases temporary)) after
 
   abbrev pub kept_done : Bool → ℕ → Instructions → Instructions
-  kept_done true d k = does (I32Const minus_one) (does (Compare I32 Eq) (does (BrIf d) k))
-  kept_done false d k = does Discard k
+  kept_done true exit after = does (I32Const minus_one) (does (Compare I32 Eq) (does (BrIf exit) after))
+  kept_done false exit after = does Discard after
 
   abbrev pub kept : Bool → Answer → ℕ → ℕ → Instructions → Instructions
-  kept f (answer.Of sort.Value) t d k = kept_value f t d k
-  kept f (answer.Of sort.Number) t d k = kept_number f t d k
-  kept f answer.Truth t d k = kept_code f t d k
-  kept f answer.Input t d k = kept_code f t d k
-  kept f answer.Assign t d k = kept_code f t d k
-  kept f answer.Stream t d k = kept_code f t d k
-  kept f answer.Done t d k = kept_done f d k
-  kept f _ t d k = k
+  kept faults (answer.Of sort.Value) temporary exit after = kept_value faults temporary exit after
+  kept faults (answer.Of sort.Number) temporary exit after = kept_number faults temporary exit after
+  kept faults answer.Truth temporary exit after = kept_code faults temporary exit after
+  kept faults answer.Input temporary exit after = kept_code faults temporary exit after
+  kept faults answer.Assign temporary exit after = kept_code faults temporary exit after
+  kept faults answer.Stream temporary exit after = kept_code faults temporary exit after
+  kept faults answer.Done temporary exit after = kept_done faults exit after
+  kept faults _ temporary exit after = after
 
-  -- Conversions in place: temporary t has something of this form, and gets what is wanted.
+  -- Conversions in place: a temporary has something of this form, and gets what is wanted.
 
   abbrev pub boxed_number : ℕ → Instructions → Instructions
-  boxed_number t k = does (LocalGet (n t)) (ask_row row.Num k)
+  boxed_number temporary after = does (LocalGet (number_local bases temporary)) (ask_row row.Num after)
 
   -- a number, or none yet, as a value on the stack, where `put` takes it
   abbrev pub boxed_perhaps : ℕ → (put : Simple) → Instructions → Instructions
-  boxed_perhaps t put k = number_is (n t) least (either (ask_row row.Uninit (does put Done)) (boxed_number t (does put Done)) k)
+  boxed_perhaps temporary put after =
+      number_is (number_local bases temporary) least (either (ask_row row.Uninit (does put Done)) (boxed_number temporary (does put Done)) after)
 
   abbrev pub to_value : Form → ℕ → Instructions → Instructions
-  to_value (Answered (answer.Of sort.Value)) t k = k
-  to_value (Answered (answer.Of sort.Number)) t k = boxed_number t (does (LocalSet (h t)) k)
-  to_value (Answered answer.Truth) t k = boxed_number t (does (LocalSet (h t)) k)
-  to_value Bare t k = number_is (n t) text_beside (either Done (boxed_perhaps t (LocalSet (h t)) Done) k)
-  to_value Perhaps t k = boxed_perhaps t (LocalSet (h t)) k
-  to_value _ t k = ask_row row.Uninit (does (LocalSet (h t)) k)
+  to_value (Answered (answer.Of sort.Value)) temporary after = after
+  to_value (Answered (answer.Of sort.Number)) temporary after = boxed_number temporary (does (LocalSet (handle_local bases temporary)) after)
+  to_value (Answered answer.Truth) temporary after = boxed_number temporary (does (LocalSet (handle_local bases temporary)) after)
+  to_value Bare temporary after =
+      number_is (number_local bases temporary) text_beside (either Done (boxed_perhaps temporary (LocalSet (handle_local bases temporary)) Done) after)
+  to_value Perhaps temporary after = boxed_perhaps temporary (LocalSet (handle_local bases temporary)) after
+  to_value _ temporary after = ask_row row.Uninit (does (LocalSet (handle_local bases temporary)) after)
 
   -- 0 where there is no number yet
   abbrev pub zeroed : ℕ → Instructions → Instructions
-  zeroed t k = number_is (n t) least (when (does (I64Const 0) (does (LocalSet (n t)) Done)) k)
+  zeroed temporary after = number_is (number_local bases temporary) least (when (does (I64Const 0) (does (LocalSet (number_local bases temporary)) Done)) after)
 
   -- 1 stays, 3 is -1, and all else is 0
   abbrev pub code_number : ℕ → Instructions → Instructions
-  code_number t k = number_is (n t) 1 (number_is (n t) 3 (does (Binary I32 Sub) (does (Convert I64ExtendI32S) (does (LocalSet (n t)) k))))
+  code_number temporary after =
+      number_is (number_local bases temporary) 1
+      (number_is (number_local bases temporary) 3 (does (Binary I32 Sub) (does (Convert I64ExtendI32S) (does (LocalSet (number_local bases temporary)) after))))
 
   abbrev pub number_of_value : ℕ → ℕ → Instructions → Instructions
-  number_of_value t d k = moved_out (h t) (ask_row row.ToNum (kept_number true t d k))
+  number_of_value temporary exit after = moved_out (handle_local bases temporary) (ask_row row.ToNum (kept_number true temporary exit after))
 
   -- whether an unboxed name has no number: the two words that are none are the least ones
   abbrev pub unnumbered : ℕ → Instructions → Instructions
-  unnumbered t k = does (LocalGet (n t)) (does (I64Const text_beside) (does (Compare I64 LeS) k))
+  unnumbered temporary after = does (LocalGet (number_local bases temporary)) (does (I64Const text_beside) (does (Compare I64 LeS) after))
 
   -- the number of a text beside, and 0 where there is none yet
   abbrev pub number_made : ℕ → ℕ → Instructions → Instructions
-  number_made t d k = number_is (n t) text_beside (either (number_of_value t (suc (suc d)) Done) (does (I64Const 0) (does (LocalSet (n t)) Done)) k)
+  number_made temporary exit after =
+      number_is (number_local bases temporary) text_beside
+      (either (number_of_value temporary (suc (suc exit)) Done) (does (I64Const 0) (does (LocalSet (number_local bases temporary)) Done)) after)
 
   abbrev pub to_number : Form → ℕ → ℕ → Instructions → Instructions
-  to_number (Answered (answer.Of sort.Value)) t d k = number_of_value t d k
-  to_number (Answered answer.Input) t d k = code_number t k
-  to_number (Answered answer.Stream) t d k = code_number t k
-  to_number Bare t d k = unnumbered t (when (number_made t d Done) k)
-  to_number Perhaps t d k = zeroed t k
-  to_number _ t d k = k
+  to_number (Answered (answer.Of sort.Value)) temporary exit after = number_of_value temporary exit after
+  to_number (Answered answer.Input) temporary exit after = code_number temporary after
+  to_number (Answered answer.Stream) temporary exit after = code_number temporary after
+  to_number Bare temporary exit after = unnumbered temporary (when (number_made temporary exit Done) after)
+  to_number Perhaps temporary exit after = zeroed temporary after
+  to_number _ temporary exit after = after
 
   abbrev pub converted : Form → Sort → ℕ → ℕ → Instructions → Instructions
-  converted f sort.Value t d k = to_value f t k
-  converted f sort.Number t d k = to_number f t d k
-  converted f _ t d k = k
+  converted form sort.Value temporary exit after = to_value form temporary after
+  converted form sort.Number temporary exit after = to_number form temporary exit after
+  converted form _ temporary exit after = after
 
-  -- the truth of temporary t, on the stack
+  -- the truth of a temporary, on the stack
   abbrev pub not_zero : ℕ → Instructions → Instructions
-  not_zero t k = does (LocalGet (n t)) (does (Test I64 Eqz) (does (Test I32 Eqz) k))
+  not_zero temporary after = does (LocalGet (number_local bases temporary)) (does (Test I64 Eqz) (does (Test I32 Eqz) after))
 
   abbrev pub truth : Form → ℕ → Instructions → Instructions
-  truth (Answered (answer.Of sort.Value)) t k = moved_out (h t) (ask_row row.Truth k)
-  truth Bare t k =
-      number_is (n t) text_beside (either
-      (moved_out (h t) (ask_row row.Truth (does (Convert I64ExtendI32U) (does (LocalSet (n t)) Done))))
-      (zeroed t Done) (not_zero t k))
-  truth Perhaps t k = zeroed t (not_zero t k)
-  truth _ t k = not_zero t k
+  truth (Answered (answer.Of sort.Value)) temporary after = moved_out (handle_local bases temporary) (ask_row row.Truth after)
+  truth Bare temporary after =
+      number_is (number_local bases temporary) text_beside (either
+      (moved_out (handle_local bases temporary) (ask_row row.Truth (does (Convert I64ExtendI32U) (does (LocalSet (number_local bases temporary)) Done))))
+      (zeroed temporary Done) (not_zero temporary after))
+  truth Perhaps temporary after = zeroed temporary (not_zero temporary after)
+  truth _ temporary after = not_zero temporary after
 
   -- What is in a temporary is dropped, moved to another one, or copied there.
 
   abbrev pub unused : Form → ℕ → Instructions → Instructions
-  unused (Answered (answer.Of sort.Value)) t k = moved_out (h t) (ask Drop k)
-  unused Bare t k = let_go Drop (h t) k
-  unused _ t k = k
+  unused (Answered (answer.Of sort.Value)) temporary after = moved_out (handle_local bases temporary) (ask Drop after)
+  unused Bare temporary after = let_go Drop (handle_local bases temporary) after
+  unused _ temporary after = after
 
   -- what was kept is dropped, unless it was moved away
   abbrev pub released : Form → ℕ → Instructions → Instructions
-  released (Answered (answer.Of sort.Value)) t k = let_go Drop (h t) k
-  released Bare t k = let_go Drop (h t) k
-  released _ t k = k
+  released (Answered (answer.Of sort.Value)) temporary after = let_go Drop (handle_local bases temporary) after
+  released Bare temporary after = let_go Drop (handle_local bases temporary) after
+  released _ temporary after = after
 
   abbrev pub number_copied : ℕ → ℕ → Instructions → Instructions
-  number_copied s t k = does (LocalGet (n s)) (does (LocalSet (n t)) k)
+  number_copied from to after = does (LocalGet (number_local bases from)) (does (LocalSet (number_local bases to)) after)
 
   abbrev pub moved_from : Form → ℕ → ℕ → Instructions → Instructions
-  moved_from (Answered (answer.Of sort.Value)) s t k = moved (h s) (h t) k
-  moved_from Bare s t k = number_copied s t (moved (h s) (h t) k)
-  moved_from _ s t k = number_copied s t k
+  moved_from (Answered (answer.Of sort.Value)) from to after = moved (handle_local bases from) (handle_local bases to) after
+  moved_from Bare from to after = number_copied from to (moved (handle_local bases from) (handle_local bases to) after)
+  moved_from _ from to after = number_copied from to after
 
   abbrev pub copied_from : Form → ℕ → ℕ → Instructions → Instructions
-  copied_from (Answered (answer.Of sort.Value)) s t k = copied (LocalGet (h s)) (LocalSet (h s)) (h t) k
-  copied_from Bare s t k = number_copied s t (copied_if_any (LocalGet (h s)) (LocalSet (h s)) (h t) k)
-  copied_from _ s t k = number_copied s t k
+  copied_from (Answered (answer.Of sort.Value)) from to after =
+      copied (LocalGet (handle_local bases from)) (LocalSet (handle_local bases from)) (handle_local bases to) after
+  copied_from Bare from to after =
+      number_copied from to (copied_if_any (LocalGet (handle_local bases from)) (LocalSet (handle_local bases from)) (handle_local bases to) after)
+  copied_from _ from to after = number_copied from to after
 
   abbrev pub bound_from : Bool → Form → ℕ → ℕ → Instructions → Instructions
-  bound_from true f s t k = moved_from f s t k
-  bound_from false f s t k = copied_from f s t k
+  bound_from true form from to after = moved_from form from to after
+  bound_from false form from to after = copied_from form from to after

@@ -20,18 +20,18 @@ use Rattle.wasm_types.specs.declared.instr.ITestOp.TheVariants.{Eqz}
 use Rattle.wasm_types.specs.declared.instr.CvtOp.TheVariants.{I32WrapI64}
 use Rattle.sem_scripts.specs.Names.{ArrayName}
 use Rattle.mid_program.specs.Mid.{Kind, Boxed, Unboxed, Many, Code, Step, Eval, Block as Steps_, If as Either, Loop, Each, Break, Continue, Next, Exit, ExitWith, Return, Mark, Steps, NoStep, Then as AndThen, Program, a_value, form_of}
-use Rattle.lower_model.specs.Places.{Bases, way_global, status_global, range_global, handle_global, number_global, answer_local, iterator_local, array_local}
-use Rattle.lower_model.specs.Small.{does, ask, ask_row, when, either, end_code, text_beside, copied, moved_out, emptied, let_go, fail_if, number_is, h, n, kept_code, kept_number, kept_done, to_value, number_of_value, to_number}
+use Rattle.lower_model.specs.Places.{Bases, way_global, status_global, range_global, handle_global, number_global, answer_local, iterator_local, array_local, handle_local, number_local}
+use Rattle.lower_model.specs.Small.{does, ask, ask_row, when, either, end_code, text_beside, copied, moved_out, emptied, let_go, fail_if, number_is, kept_code, kept_number, kept_done, to_value, number_of_value, to_number}
 use Rattle.lower_model.specs.Quick.{Within, unsure, test_within, Source, Named, Constant, all_unsure, Sum, sum_names, sum_op, sum_in, Update, update_in, Tally, tally_in, Remainder, remainder_in, remainder_names, most_multiplied, multiplied, Counted, counted_in, Pair, pair_names, pair_in, contrary, step_jumps, is_nothing}
 use Rattle.lower_model.specs.Arithmetic.{relation}
 use Rattle.lower_model.specs.Emission.{Layout, array_pushed, text_pushed, pending_assigned, asked, text_dropped, field_at, emitted, dropped, tested}
 use Rattle.host_imports.specs.declared.import.Import.TheVariants.{Drop, IterFree, FreeArray}
 
 abbrev pub block : Instructions → Instructions → Instructions
-block a k = Then (Block None a) k
+block inside after = Then (Block None inside) after
 
 abbrev pub again : Instructions → Instructions → Instructions
-again a k = Then (Again None a) k
+again inside after = Then (Again None inside) after
 
 -- how a function is being left: by a fault, or `return`; by `next`; by `exit`
 abbrev pub way_none : ℕ
@@ -44,259 +44,279 @@ abbrev pub way_exit : ℕ
 way_exit = 2
 
 abbrev pub left_by : ℕ → ℕ → Instructions → Instructions
-left_by way d k = does (I32Const way) (does (GlobalSet way_global) (does (Br d) k))
+left_by way exit after = does (I32Const way) (does (GlobalSet way_global) (does (Br exit) after))
 
 abbrev pub has_functions : List (List Kind) → Bool
 has_functions [] = false
-has_functions (ks ∷ rest) = true
+has_functions (kinds ∷ rest) = true
 
-module _ (y : Layout) where
-  abbrev pub b : Bases
-  b = y.bases
+module _ (layout : Layout) where
+  abbrev pub bases : Bases
+  bases = layout.bases
 
   -- the next key goes to temporary 0, and is stored from there; past the last one the loop is left
   abbrev pub key_stored : ℕ → Code → ℕ → Instructions → Instructions
-  key_stored u e d k =
-      does (LocalGet (iterator_local b u)) (does (LocalTee (iterator_local b u)) (ask_row row.IterNext
-      (does (LocalTee (h b zero)) (does (I32Const end_code) (does (Comparing I32 Eq) (does (BrIf 1)
-      (dropped y (a_value ∷ []) (zero ∷ []) e 1 zero d (let_go Drop (h b zero) k))))))))
+  key_stored iterators store exit after =
+      does (LocalGet (iterator_local bases iterators)) (does (LocalTee (iterator_local bases iterators)) (ask_row row.IterNext
+      (does (LocalTee (handle_local bases zero)) (does (I32Const end_code) (does (Comparing I32 Eq) (does (BrIf 1)
+      (dropped layout (a_value ∷ []) (zero ∷ []) store 1 zero exit (let_go Drop (handle_local bases zero) after))))))))
 
   abbrev pub iterator_left : ℕ → Instructions → Instructions
-  iterator_left u k = emptied (h b zero) (moved_out (iterator_local b u) (ask IterFree k))
+  iterator_left iterators after = emptied (handle_local bases zero) (moved_out (iterator_local bases iterators) (ask IterFree after))
 
   -- Quick ways: sums that go to a name, and tests.
 
   abbrev pub name_number : ℕ → ℕ
-  name_number i = number_global y.ranges i
+  name_number name = number_global layout.ranges name
 
   abbrev pub name_read : ℕ → Simple
-  name_read i = GlobalGet (name_number i)
+  name_read name = GlobalGet (name_number name)
 
   abbrev pub source_pushed : Source → Instructions → Instructions
-  source_pushed (Named i) k = does (name_read i) k
-  source_pushed (Constant z) k = does (I64Const (cast_unsigned w64 z)) k
+  source_pushed (Named name) after = does (name_read name) after
+  source_pushed (Constant number) after = does (I64Const (cast_unsigned w64 number)) after
 
   abbrev pub summed : Sum → Instructions → Instructions
-  summed s k = source_pushed s.left (source_pushed s.right (does (Binary I64 (sum_op s.op)) (does (GlobalSet (name_number s.target)) k)))
+  summed sum after = source_pushed sum.left (source_pushed sum.right (does (Binary I64 (sum_op sum.op)) (does (GlobalSet (name_number sum.target)) after)))
 
   -- Sums in all cases: where a name has no number it is 0, or that of the text beside.
 
   -- of the text beside a name
-  abbrev pub number_there : ℕ → (t d : ℕ) → Instructions → Instructions
-  number_there i t d k = copied (GlobalGet (handle_global y.ranges i)) (GlobalSet (handle_global y.ranges i)) (h b t) (number_of_value b t d k)
+  abbrev pub number_there : ℕ → (temporary exit : ℕ) → Instructions → Instructions
+  number_there name temporary exit after =
+      copied (GlobalGet (handle_global layout.ranges name)) (GlobalSet (handle_global layout.ranges name)) (handle_local bases temporary)
+      (number_of_value bases temporary exit after)
 
   -- of what a name has that has no number
-  abbrev pub number_found : ℕ → (t d : ℕ) → Instructions → Instructions
-  number_found i t d k = number_is (n b t) text_beside (either (number_there i t (suc (suc d)) Done) (does (I64Const 0) (does (LocalSet (n b t)) Done)) k)
+  abbrev pub number_found : ℕ → (temporary exit : ℕ) → Instructions → Instructions
+  number_found name temporary exit after =
+      number_is (number_local bases temporary) text_beside
+      (either (number_there name temporary (suc (suc exit)) Done) (does (I64Const 0) (does (LocalSet (number_local bases temporary)) Done)) after)
 
-  -- a name's number in temporary t
-  abbrev pub name_numbered : ℕ → (t d : ℕ) → Instructions → Instructions
-  name_numbered i t d k =
-      does (name_read i) (does (LocalTee (n b t)) (does (I64Const text_beside) (does (Comparing I64 LeS)
-      (when (number_found i t d Done) k))))
+  -- a name's number in a temporary
+  abbrev pub name_numbered : ℕ → (temporary exit : ℕ) → Instructions → Instructions
+  name_numbered name temporary exit after =
+      does (name_read name) (does (LocalTee (number_local bases temporary)) (does (I64Const text_beside) (does (Comparing I64 LeS)
+      (when (number_found name temporary exit Done) after))))
 
-  abbrev pub source_numbered : Source → (t d : ℕ) → Instructions → Instructions
-  source_numbered (Named i) t d k = name_numbered i t d k
-  source_numbered s t d k = k
+  abbrev pub source_numbered : Source → (temporary exit : ℕ) → Instructions → Instructions
+  source_numbered (Named name) temporary exit after = name_numbered name temporary exit after
+  source_numbered source temporary exit after = after
 
   abbrev pub source_taken : Source → ℕ → Instructions → Instructions
-  source_taken (Constant z) t k = does (I64Const (cast_unsigned w64 z)) k
-  source_taken s t k = does (LocalGet (n b t)) k
+  source_taken (Constant number) temporary after = does (I64Const (cast_unsigned w64 number)) after
+  source_taken source temporary after = does (LocalGet (number_local bases temporary)) after
 
-  -- two numbers are on the stack: what an operator gives of them goes to temporary t, and is tested
-  abbrev pub sum_kept : IBinOp → (t d : ℕ) → Instructions → Instructions
-  sum_kept op t d k = does (Binary I64 op) (does (LocalTee (n b t))
-      (does (I64Const largest) (does (Binary I64 Add) (does (I64Const (2 ^ 54)) (does (Comparing I64 GtU) (fail_if Range d k))))))
+  -- two numbers are on the stack: what an operator gives of them goes to a temporary, and is tested
+  abbrev pub sum_kept : IBinOp → (temporary exit : ℕ) → Instructions → Instructions
+  sum_kept op temporary exit after = does (Binary I64 op) (does (LocalTee (number_local bases temporary))
+      (does (I64Const largest) (does (Binary I64 Add) (does (I64Const (2 ^ 54)) (does (Comparing I64 GtU) (fail_if Range exit after))))))
 
   -- the same, and a name takes it
-  abbrev pub sum_taken : IBinOp → ℕ → (t d : ℕ) → Instructions → Instructions
-  sum_taken op i t d k = sum_kept op t d (text_dropped y i (does (LocalGet (n b t)) (does (GlobalSet (name_number i)) k)))
+  abbrev pub sum_taken : IBinOp → ℕ → (temporary exit : ℕ) → Instructions → Instructions
+  sum_taken op name temporary exit after =
+      sum_kept op temporary exit (text_dropped layout name (does (LocalGet (number_local bases temporary)) (does (GlobalSet (name_number name)) after)))
 
   abbrev pub summed_anyway : Sum → ℕ → Instructions → Instructions
-  summed_anyway s d k =
-      source_numbered s.left zero d (source_numbered s.right 1 d
-      (source_taken s.left zero (source_taken s.right 1 (sum_taken (sum_op s.op) s.target zero d k))))
+  summed_anyway sum exit after =
+      source_numbered sum.left zero exit (source_numbered sum.right 1 exit
+      (source_taken sum.left zero (source_taken sum.right 1 (sum_taken (sum_op sum.op) sum.target zero exit after))))
 
   -- The number of a field that a constant gives, on the stack, above another number. Where the field's text has none a fault is kept, and the least
   -- number of 64 bits stands for it: no sum with that is in range, so the test of the sum finds the fault too.
   abbrev pub field_numbered : ℤ → Instructions → Instructions
-  field_numbered z k = does (I64Const (cast_unsigned w64 z)) (ask_row row.Field (ask_row row.ToNum k))
+  field_numbered number after = does (I64Const (cast_unsigned w64 number)) (ask_row row.Field (ask_row row.ToNum after))
 
   -- The number of a name and that of what is added, on the stack. What is added stands in temporary 0, the name's number in the next one; a field that
   -- a constant gives needs no temporary.
   abbrev pub both_asked : Option ℤ → Update → ℕ → Instructions → Instructions
-  both_asked (Some z) q d k = name_numbered q.name zero d (does (LocalGet (n b zero)) (field_numbered z k))
-  both_asked None q d k =
-      emitted y false [] [] q.added zero zero d (name_numbered q.name 1 d (to_number b (form_of [] q.added) zero d
-      (does (LocalGet (n b 1)) (does (LocalGet (n b zero)) k))))
+  both_asked (Some number) update exit after = name_numbered update.name zero exit (does (LocalGet (number_local bases zero)) (field_numbered number after))
+  both_asked None update exit after =
+      emitted layout false [] [] update.added zero zero exit (name_numbered update.name 1 exit (to_number bases (form_of [] update.added) zero exit
+      (does (LocalGet (number_local bases 1)) (does (LocalGet (number_local bases zero)) after))))
 
   abbrev pub updated : Update → ℕ → Instructions → Instructions
-  updated q d k = both_asked (field_at q.added) q d (sum_taken (sum_op q.op) q.target zero d k)
+  updated update exit after = both_asked (field_at update.added) update exit (sum_taken (sum_op update.op) update.target zero exit after)
 
   -- Counters in arrays: the key stands in temporary 0, what is added in the next one, and the element's number comes to the one after.
 
   -- the number of the element, whose key stays where it is
   abbrev pub element_numbered : ArrayName → ℕ → Instructions → Instructions
-  element_numbered a d k =
-      array_pushed y a (does (LocalGet (h b zero)) (does (LocalTee (h b zero))
-      (ask_row row.Dup (ask_row row.Elem (ask_row row.ToNum (kept_number b true 2 d k))))))
+  element_numbered array exit after =
+      array_pushed layout array (does (LocalGet (handle_local bases zero)) (does (LocalTee (handle_local bases zero))
+      (ask_row row.Dup (ask_row row.Elem (ask_row row.ToNum (kept_number bases true 2 exit after))))))
 
   -- the element takes that number, and the key is given away
   abbrev pub element_given : ArrayName → Instructions → Instructions
-  element_given a k = array_pushed y a (moved_out (h b zero) (does (LocalGet (n b 2)) (ask_row row.Num (ask_row row.SetElem (kept_done b false zero k)))))
+  element_given array after =
+      array_pushed layout array
+      (moved_out (handle_local bases zero) (does (LocalGet (number_local bases 2)) (ask_row row.Num (ask_row row.SetElem (kept_done bases false zero after)))))
 
   abbrev pub tallied : Tally → ℕ → Instructions → Instructions
-  tallied q d k =
-      let g = form_of [] q.key in
-      emitted y false [] [] q.key zero zero d (emitted y false (g ∷ []) (zero ∷ []) q.added 1 zero d
-      (to_value b g zero (element_numbered q.read d (to_number b (form_of (g ∷ []) q.added) 1 d
-      (does (LocalGet (n b 2)) (does (LocalGet (n b 1)) (sum_kept (sum_op q.op) 2 d (element_given q.written k))))))))
+  tallied tally exit after =
+      let form = form_of [] tally.key in
+      emitted layout false [] [] tally.key zero zero exit (emitted layout false (form ∷ []) (zero ∷ []) tally.added 1 zero exit
+      (to_value bases form zero (element_numbered tally.read exit (to_number bases (form_of (form ∷ []) tally.added) 1 exit
+      (does (LocalGet (number_local bases 2))
+      (does (LocalGet (number_local bases 1)) (sum_kept (sum_op tally.op) 2 exit (element_given tally.written after))))))))
 
   -- A name takes a remainder that is in range: by the module itself where no product leaves it.
 
   abbrev pub remainder_taken : Remainder → Instructions → Instructions
-  remainder_taken q k =
-      does (name_read q.multiple.name) (multiplied q.multiple.factor
-      (does (I64Const (cast_unsigned w64 q.divisor)) (does (Binary I64 RemS) (does (GlobalSet (name_number q.target)) k))))
+  remainder_taken remainder after =
+      does (name_read remainder.multiple.name) (multiplied remainder.multiple.factor
+      (does (I64Const (cast_unsigned w64 remainder.divisor)) (does (Binary I64 RemS) (does (GlobalSet (name_number remainder.target)) after))))
 
   abbrev pub remainder_dropped : Option Remainder → Code → ℕ → Instructions → Instructions
-  remainder_dropped None e d k = dropped y [] [] e zero zero d k
-  remainder_dropped (Some q) e d k =
-      let most = most_multiplied q.multiple.factor in
-      all_unsure name_read (remainder_names q) (pos most) (most + most) (either (dropped y [] [] e zero zero (suc d) Done) (remainder_taken q Done) k)
+  remainder_dropped None code exit after = dropped layout [] [] code zero zero exit after
+  remainder_dropped (Some remainder) code exit after =
+      let most = most_multiplied remainder.multiple.factor in
+      all_unsure name_read (remainder_names remainder) (pos most) (most + most)
+      (either (dropped layout [] [] code zero zero (suc exit) Done) (remainder_taken remainder Done) after)
 
   abbrev pub barely_dropped : Option Tally → Code → ℕ → Instructions → Instructions
-  barely_dropped None e d k = remainder_dropped (remainder_in e) e d k
-  barely_dropped (Some q) e d k = tallied q d k
+  barely_dropped None code exit after = remainder_dropped (remainder_in code) code exit after
+  barely_dropped (Some tally) code exit after = tallied tally exit after
 
   abbrev pub plainly_dropped : Option Update → Code → ℕ → Instructions → Instructions
-  plainly_dropped None e d k = barely_dropped (tally_in e) e d k
-  plainly_dropped (Some q) e d k = updated q d k
+  plainly_dropped None code exit after = barely_dropped (tally_in code) code exit after
+  plainly_dropped (Some update) code exit after = updated update exit after
 
   abbrev pub quickly_dropped : Option Sum → Code → ℕ → Instructions → Instructions
-  quickly_dropped None e d k = plainly_dropped (update_in e) e d k
-  quickly_dropped (Some s) e d k = all_unsure name_read (sum_names s) (pos (2 ^ 52)) (2 ^ 53) (either (summed_anyway s (suc d) Done) (summed s Done) k)
+  quickly_dropped None code exit after = plainly_dropped (update_in code) code exit after
+  quickly_dropped (Some sum) code exit after =
+      all_unsure name_read (sum_names sum) (pos (2 ^ 52)) (2 ^ 53) (either (summed_anyway sum (suc exit) Done) (summed sum Done) after)
 
   -- both ways of a comparison are quick
   abbrev pub pair_left : Pair → ℕ → Instructions → Instructions
-  pair_left q out k = source_pushed q.left (source_pushed q.right (does (Comparing I64 (relation (contrary q.op))) (does (BrIf out) k)))
+  pair_left pair out after = source_pushed pair.left (source_pushed pair.right (does (Comparing I64 (relation (contrary pair.op))) (does (BrIf out) after)))
 
   -- a name's number is compared with that of the fields, which is in range: no fault comes of asking for it
   abbrev pub counted_left : Counted → ℕ → Instructions → Instructions
-  counted_left q out k =
-      does (name_read q.name) (does (I32Const (special_number Nf)) (ask_row row.GetSpecial (ask_row row.ToNum
-      (does (Comparing I64 (relation (contrary q.op))) (does (BrIf out) k)))))
+  counted_left counted out after =
+      does (name_read counted.name) (does (I32Const (special_number Nf)) (ask_row row.GetSpecial (ask_row row.ToNum
+      (does (Comparing I64 (relation (contrary counted.op))) (does (BrIf out) after)))))
 
-  abbrev pub left_unless_counted : Option Counted → Code → (d out : ℕ) → Instructions → Instructions
-  left_unless_counted None e d out k = tested y [] [] e zero zero d (does (Test I32 Eqz) (does (BrIf out) k))
-  left_unless_counted (Some q) e d out k =
-      does (name_read q.name) (does (I64Const text_beside) (does (Comparing I64 LeS)
-      (either (tested y [] [] e zero zero (suc d) (does (Test I32 Eqz) (does (BrIf (suc out)) Done))) (counted_left q (suc out) Done) k)))
+  abbrev pub left_unless_counted : Option Counted → Code → (exit out : ℕ) → Instructions → Instructions
+  left_unless_counted None test exit out after = tested layout [] [] test zero zero exit (does (Test I32 Eqz) (does (BrIf out) after))
+  left_unless_counted (Some counted) test exit out after =
+      does (name_read counted.name) (does (I64Const text_beside) (does (Comparing I64 LeS)
+      (either (tested layout [] [] test zero zero (suc exit) (does (Test I32 Eqz) (does (BrIf (suc out)) Done))) (counted_left counted (suc out) Done) after)))
 
-  abbrev pub left_unless_pair : Option Pair → Code → (d out : ℕ) → Instructions → Instructions
-  left_unless_pair None e d out k = left_unless_counted (counted_in e) e d out k
-  left_unless_pair (Some q) e d out k =
-      all_unsure name_read (pair_names q) (pos largest) (2 ^ 54)
-      (either (tested y [] [] e zero zero (suc d) (does (Test I32 Eqz) (does (BrIf (suc out)) Done))) (pair_left q (suc out) Done) k)
+  abbrev pub left_unless_pair : Option Pair → Code → (exit out : ℕ) → Instructions → Instructions
+  left_unless_pair None test exit out after = left_unless_counted (counted_in test) test exit out after
+  left_unless_pair (Some pair) test exit out after =
+      all_unsure name_read (pair_names pair) (pos largest) (2 ^ 54)
+      (either (tested layout [] [] test zero zero (suc exit) (does (Test I32 Eqz) (does (BrIf (suc out)) Done))) (pair_left pair (suc out) Done) after)
 
   -- where a test fails `out` labels further out are left
-  abbrev pub left_unless : Option Within → Code → (d out : ℕ) → Instructions → Instructions
-  left_unless None e d out k = left_unless_pair (pair_in e) e d out k
-  left_unless (Some q) e d out k =
-      unsure (name_read q.name) q.shift q.width (when (tested y [] [] e zero zero (suc d) (does (Test I32 Eqz) (does (BrIf (suc out)) Done))) k)
+  abbrev pub left_unless : Option Within → Code → (exit out : ℕ) → Instructions → Instructions
+  left_unless None test exit out after = left_unless_pair (pair_in test) test exit out after
+  left_unless (Some within) test exit out after =
+      unsure (name_read within.name) within.shift within.width
+      (when (tested layout [] [] test zero zero (suc exit) (does (Test I32 Eqz) (does (BrIf (suc out)) Done))) after)
 
-  -- Steps: u iterators are in use; so many labels are between the code and the function's exit, the place where `break` goes, and the one where
+  -- Steps: so many iterators are in use; so many labels are between the code and the function's exit, the place where `break` goes, and the one where
   -- `continue` goes.
   unfoldable mutual
-    pub step_emitted : Step → (u d bk ct : ℕ) → Instructions → Instructions
-    step_emitted (Eval e) u d bk ct k = does Nop (quickly_dropped (sum_in e) e d k)
-    step_emitted (Steps_ ss) u d bk ct k = does Nop (steps_emitted ss u d bk ct k)
-    step_emitted (Either e a c) u d bk ct k =
-        does Nop (if is_some (pair_in e)
-        then block (block (left_unless_pair (pair_in e) e (suc (suc d)) zero
-        (step_emitted a u (suc (suc d)) (suc (suc bk)) (suc (suc ct)) (does (Br 1) Done))) (step_emitted c u (suc d) (suc bk) (suc ct) Done)) k
-        else tested y [] [] e zero zero d (either (step_emitted a u (suc d) (suc bk) (suc ct) Done) (step_emitted c u (suc d) (suc bk) (suc ct) Done) k))
-    step_emitted (Loop true e a c) u d bk ct k =
-        let rest = if is_nothing c then does (Br zero) Done else step_emitted c u (suc (suc d)) 1 zero (does (Br zero) Done) in
-        does Nop (block (again (left_unless (test_within e) e (suc (suc d)) 1
-        (if step_jumps a then block (step_emitted a u (suc (suc (suc d))) 2 zero Done) rest else step_emitted a u (suc (suc d)) 1 zero rest)) Done) k)
-    step_emitted (Loop false e a c) u d bk ct k =
-        does Nop (block (again (block (step_emitted a u (suc (suc (suc d))) 2 zero Done)
-        (step_emitted c u (suc (suc d)) 1 zero (does Nop (tested y [] [] e zero zero (suc (suc d)) (does (BrIf zero) Done))))) Done) k)
-    step_emitted (Each a e s) u d bk ct k =
-        does Nop (array_pushed y a (ask_row row.Iter (does (LocalSet (iterator_local b u))
-        (block (again (key_stored u e (suc (suc d)) (block (step_emitted s (suc u) (suc (suc (suc d))) 2 zero Done) (does (Br zero) Done))) Done)
-        (iterator_left u k)))))
-    step_emitted Break u d bk ct k = does Nop (does (Br bk) k)
-    step_emitted Continue u d bk ct k = does Nop (does (Br ct) k)
-    step_emitted Next u d bk ct k = does Nop (left_by way_next d k)
-    step_emitted Exit u d bk ct k = does Nop (left_by way_exit d k)
-    step_emitted (ExitWith e) u d bk ct k =
-        does Nop (emitted y false [] [] e zero zero d (to_number b (form_of [] e) zero d
-        (does (LocalGet (n b zero)) (does (GlobalSet status_global) (left_by way_exit d k)))))
-    step_emitted (Return e) u d bk ct k =
-        does Nop (emitted y false [] [] e zero zero d (to_value b (form_of [] e) zero
-        (moved_out (h b zero) (does (LocalSet (answer_local b)) (does (Br d) k)))))
-    step_emitted (Mark i c) u d bk ct k = does Nop (does (I32Const (flag_number c)) (does (GlobalSet (range_global i)) k))
+    pub step_emitted : Step → (iterators exit break_to continue_to : ℕ) → Instructions → Instructions
+    step_emitted (Eval code) iterators exit break_to continue_to after = does Nop (quickly_dropped (sum_in code) code exit after)
+    step_emitted (Steps_ steps) iterators exit break_to continue_to after = does Nop (steps_emitted steps iterators exit break_to continue_to after)
+    step_emitted (Either test so otherwise) iterators exit break_to continue_to after =
+        does Nop (if is_some (pair_in test)
+        then block (block (left_unless_pair (pair_in test) test (suc (suc exit)) zero
+        (step_emitted so iterators (suc (suc exit)) (suc (suc break_to)) (suc (suc continue_to)) (does (Br 1) Done)))
+        (step_emitted otherwise iterators (suc exit) (suc break_to) (suc continue_to) Done)) after
+        else tested layout [] [] test zero zero exit (either (step_emitted so iterators (suc exit) (suc break_to) (suc continue_to) Done)
+        (step_emitted otherwise iterators (suc exit) (suc break_to) (suc continue_to) Done) after))
+    step_emitted (Loop true test body last) iterators exit break_to continue_to after =
+        let rest = if is_nothing last then does (Br zero) Done else step_emitted last iterators (suc (suc exit)) 1 zero (does (Br zero) Done) in
+        does Nop (block (again (left_unless (test_within test) test (suc (suc exit)) 1
+        (if step_jumps body then block (step_emitted body iterators (suc (suc (suc exit))) 2 zero Done) rest
+        else step_emitted body iterators (suc (suc exit)) 1 zero rest)) Done) after)
+    step_emitted (Loop false test body last) iterators exit break_to continue_to after =
+        does Nop (block (again (block (step_emitted body iterators (suc (suc (suc exit))) 2 zero Done)
+        (step_emitted last iterators (suc (suc exit)) 1 zero
+        (does Nop (tested layout [] [] test zero zero (suc (suc exit)) (does (BrIf zero) Done))))) Done) after)
+    step_emitted (Each array store body) iterators exit break_to continue_to after =
+        does Nop (array_pushed layout array (ask_row row.Iter (does (LocalSet (iterator_local bases iterators))
+        (block (again (key_stored iterators store (suc (suc exit))
+        (block (step_emitted body (suc iterators) (suc (suc (suc exit))) 2 zero Done) (does (Br zero) Done))) Done)
+        (iterator_left iterators after)))))
+    step_emitted Break iterators exit break_to continue_to after = does Nop (does (Br break_to) after)
+    step_emitted Continue iterators exit break_to continue_to after = does Nop (does (Br continue_to) after)
+    step_emitted Next iterators exit break_to continue_to after = does Nop (left_by way_next exit after)
+    step_emitted Exit iterators exit break_to continue_to after = does Nop (left_by way_exit exit after)
+    step_emitted (ExitWith code) iterators exit break_to continue_to after =
+        does Nop (emitted layout false [] [] code zero zero exit (to_number bases (form_of [] code) zero exit
+        (does (LocalGet (number_local bases zero)) (does (GlobalSet status_global) (left_by way_exit exit after)))))
+    step_emitted (Return code) iterators exit break_to continue_to after =
+        does Nop (emitted layout false [] [] code zero zero exit (to_value bases (form_of [] code) zero
+        (moved_out (handle_local bases zero) (does (LocalSet (answer_local bases)) (does (Br exit) after)))))
+    step_emitted (Mark item opens) iterators exit break_to continue_to after =
+        does Nop (does (I32Const (flag_number opens)) (does (GlobalSet (range_global item)) after))
 
-    pub steps_emitted : Steps → (u d bk ct : ℕ) → Instructions → Instructions
-    steps_emitted NoStep u d bk ct k = k
-    steps_emitted (AndThen s ss) u d bk ct k = step_emitted s u d bk ct (steps_emitted ss u d bk ct k)
+    pub steps_emitted : Steps → (iterators exit break_to continue_to : ℕ) → Instructions → Instructions
+    steps_emitted NoStep iterators exit break_to continue_to after = after
+    steps_emitted (AndThen step steps) iterators exit break_to continue_to after =
+        step_emitted step iterators exit break_to continue_to (steps_emitted steps iterators exit break_to continue_to after)
 
   -- At a function's beginning its locals for handles, iterators and arrays are empty, and on every way out what they have is let go.
 
   abbrev pub temporaries_emptied : ℕ → ℕ → Instructions → Instructions
-  temporaries_emptied t zero k = k
-  temporaries_emptied t (suc m) k = emptied (h b t) (temporaries_emptied (suc t) m k)
+  temporaries_emptied temporary zero after = after
+  temporaries_emptied temporary (suc count) after = emptied (handle_local bases temporary) (temporaries_emptied (suc temporary) count after)
 
   abbrev pub iterators_emptied : ℕ → ℕ → Instructions → Instructions
-  iterators_emptied u zero k = k
-  iterators_emptied u (suc m) k = emptied (iterator_local b u) (iterators_emptied (suc u) m k)
+  iterators_emptied iterators zero after = after
+  iterators_emptied iterators (suc count) after = emptied (iterator_local bases iterators) (iterators_emptied (suc iterators) count after)
 
   abbrev pub arrays_emptied : ℕ → ℕ → Instructions → Instructions
-  arrays_emptied w zero k = k
-  arrays_emptied w (suc m) k = emptied (array_local b w) (arrays_emptied (suc w) m k)
+  arrays_emptied arrays zero after = after
+  arrays_emptied arrays (suc count) after = emptied (array_local bases arrays) (arrays_emptied (suc arrays) count after)
 
   abbrev pub all_emptied : Instructions → Instructions
-  all_emptied k = emptied (answer_local b) (temporaries_emptied zero b.temporaries (iterators_emptied zero b.iterators (arrays_emptied zero b.arrays k)))
+  all_emptied after =
+      emptied (answer_local bases)
+      (temporaries_emptied zero bases.temporaries (iterators_emptied zero bases.iterators (arrays_emptied zero bases.arrays after)))
 
   abbrev pub temporaries_swept : ℕ → ℕ → Instructions → Instructions
-  temporaries_swept t zero k = k
-  temporaries_swept t (suc m) k = let_go Drop (h b t) (temporaries_swept (suc t) m k)
+  temporaries_swept temporary zero after = after
+  temporaries_swept temporary (suc count) after = let_go Drop (handle_local bases temporary) (temporaries_swept (suc temporary) count after)
 
   abbrev pub iterators_swept : ℕ → ℕ → Instructions → Instructions
-  iterators_swept u zero k = k
-  iterators_swept u (suc m) k = let_go IterFree (iterator_local b u) (iterators_swept (suc u) m k)
+  iterators_swept iterators zero after = after
+  iterators_swept iterators (suc count) after = let_go IterFree (iterator_local bases iterators) (iterators_swept (suc iterators) count after)
 
   abbrev pub arrays_swept : ℕ → ℕ → Instructions → Instructions
-  arrays_swept w zero k = k
-  arrays_swept w (suc m) k = let_go FreeArray (array_local b w) (arrays_swept (suc w) m k)
+  arrays_swept arrays zero after = after
+  arrays_swept arrays (suc count) after = let_go FreeArray (array_local bases arrays) (arrays_swept (suc arrays) count after)
 
   abbrev pub swept : Instructions → Instructions
-  swept k = temporaries_swept zero b.temporaries (iterators_swept zero b.iterators (arrays_swept zero b.arrays k))
+  swept after = temporaries_swept zero bases.temporaries (iterators_swept zero bases.iterators (arrays_swept zero bases.arrays after))
 
   -- the values of parameters; numbers and arrays of the caller's are not the function's to drop
   abbrev pub parameters_dropped : ℕ → List Kind → Instructions → Instructions
-  parameters_dropped x [] k = k
-  parameters_dropped x (Boxed ∷ ks) k = does (LocalGet x) (ask Drop (parameters_dropped (suc x) ks k))
-  parameters_dropped x (Unboxed ∷ ks) k = parameters_dropped (suc x) ks k
-  parameters_dropped x (Many ∷ ks) k = parameters_dropped (suc x) ks k
+  parameters_dropped place [] after = after
+  parameters_dropped place (Boxed ∷ kinds) after = does (LocalGet place) (ask Drop (parameters_dropped (suc place) kinds after))
+  parameters_dropped place (Unboxed ∷ kinds) after = parameters_dropped (suc place) kinds after
+  parameters_dropped place (Many ∷ kinds) after = parameters_dropped (suc place) kinds after
 
   -- A function that ends without `return` gives the uninitialised value. The block is its exit.
   abbrev pub routine_body : List Kind → Steps → Instructions
-  routine_body ks body =
-      all_emptied (block (steps_emitted body zero zero zero zero (ask_row row.Uninit (does (LocalSet (answer_local b)) Done)))
-      (swept (parameters_dropped zero ks (does (LocalGet (answer_local b)) Done))))
+  routine_body kinds body =
+      all_emptied (block (steps_emitted body zero zero zero zero (ask_row row.Uninit (does (LocalSet (answer_local bases)) Done)))
+      (swept (parameters_dropped zero kinds (does (LocalGet (answer_local bases)) Done))))
 
   -- `main`.
 
   -- A job with a text past the limit keeps a fault from the start: this is the first import that may fault, and does nothing else.
   abbrev pub started : Instructions → Instructions
-  started k = does (I64Const 1) (does (I64Const 1) (ask_row row.Pow (kept_number b true zero zero k)))
+  started after = does (I64Const 1) (does (I64Const 1) (ask_row row.Pow (kept_number bases true zero zero after)))
 
   -- names stand in memory after the script's texts
   abbrev pub declared : NameKind → ℕ → Instructions → Instructions
-  declared kind i k = text_pushed y i (does (I32Const (kind_number kind)) (ask_row row.Declare k))
+  declared kind text after = text_pushed layout text (does (I32Const (kind_number kind)) (ask_row row.Declare after))
 
   abbrev pub declared_kind : Kind → NameKind
   declared_kind Many = ArrayOrFunction
@@ -304,67 +324,68 @@ module _ (y : Layout) where
   declared_kind Unboxed = Scalar
 
   abbrev pub names_declared : ℕ → List Kind → Instructions → Instructions
-  names_declared i [] k = k
-  names_declared i (kind ∷ ks) k = declared (declared_kind kind) i (names_declared (suc i) ks k)
+  names_declared text [] after = after
+  names_declared text (kind ∷ kinds) after = declared (declared_kind kind) text (names_declared (suc text) kinds after)
 
   abbrev pub routines_declared : ℕ → ℕ → Instructions → Instructions
-  routines_declared i zero k = k
-  routines_declared i (suc m) k = declared ArrayOrFunction i (routines_declared (suc i) m k)
+  routines_declared text zero after = after
+  routines_declared text (suc count) after = declared ArrayOrFunction text (routines_declared (suc text) count after)
 
   -- what a name has before the script runs; an unboxed one has nothing
   abbrev pub names_made : ℕ → List Kind → Instructions → Instructions
-  names_made i [] k = k
-  names_made i (Boxed ∷ ks) k = ask_row row.Uninit (does (GlobalSet (handle_global y.ranges i)) (names_made (suc i) ks k))
-  names_made i (Unboxed ∷ ks) k = names_made (suc i) ks k
-  names_made i (Many ∷ ks) k = ask_row row.NewArray (does (GlobalSet (handle_global y.ranges i)) (names_made (suc i) ks k))
+  names_made name [] after = after
+  names_made name (Boxed ∷ kinds) after = ask_row row.Uninit (does (GlobalSet (handle_global layout.ranges name)) (names_made (suc name) kinds after))
+  names_made name (Unboxed ∷ kinds) after = names_made (suc name) kinds after
+  names_made name (Many ∷ kinds) after = ask_row row.NewArray (does (GlobalSet (handle_global layout.ranges name)) (names_made (suc name) kinds after))
 
   -- what `next` or `exit` left held is let go: where no function may have been called it is no more than iterators
   abbrev pub left_swept : (calls : Bool) → Instructions → Instructions
-  left_swept true k = swept k
-  left_swept false k = iterators_swept zero b.iterators k
+  left_swept true after = swept after
+  left_swept false after = iterators_swept zero bases.iterators after
 
   -- what was left by `next` or by `exit` goes on once what it held is let go
   abbrev pub goes_on : Instructions → Instructions
-  goes_on k = does (I32Const way_none) (does (GlobalSet way_global) (left_swept (has_functions y.calls) k))
+  goes_on after = does (I32Const way_none) (does (GlobalSet way_global) (left_swept (has_functions layout.calls) after))
 
-  -- the items for a record; d labels out is where all but `next` goes on to
+  -- the items for a record; `exit` labels out is where all but `next` goes on to
   abbrev pub record_done : Steps → ℕ → Instructions → Instructions
-  record_done items d k =
+  record_done items exit after =
       block
       (block (steps_emitted items zero zero zero zero (does (Br 1) Done))
-      (does (GlobalGet way_global) (does (I32Const way_next) (does (Comparing I32 Ne) (does (BrIf (suc d)) (goes_on Done))))))
-      k
+      (does (GlobalGet way_global) (does (I32Const way_next) (does (Comparing I32 Ne) (does (BrIf (suc exit)) (goes_on Done))))))
+      after
 
   abbrev pub records_read : Steps → ℕ → Instructions → Instructions
-  records_read items d k =
-      again (ask_row row.NextMain (kept_code b true zero (suc d)
-      (number_is (n b zero) 1 (when (record_done items (suc (suc d)) (does (Br 1) Done))
-      (number_is (n b zero) 2 (when (pending_assigned y zero (does (Br 1) Done)) Done)))))) k
+  records_read items exit after =
+      again (ask_row row.NextMain (kept_code bases true zero (suc exit)
+      (number_is (number_local bases zero) 1 (when (record_done items (suc (suc exit)) (does (Br 1) Done))
+      (number_is (number_local bases zero) 2 (when (pending_assigned layout zero (does (Br 1) Done)) Done)))))) after
 
-  -- a part, left by `exit` or at its end; d labels out is the exit of `main`
+  -- a part, left by `exit` or at its end; so many labels out is the exit of `main`
   abbrev pub part_done : Instructions → ℕ → Instructions → Instructions
-  part_done actions d k =
+  part_done actions exit after =
       block
       (block actions
-      (does (GlobalGet way_global) (does (Test I32 Eqz) (does (BrIf (suc d))
+      (does (GlobalGet way_global) (does (Test I32 Eqz) (does (BrIf (suc exit))
       (does (GlobalGet way_global) (does (I32Const way_next) (does (Comparing I32 Eq)
-      (when (does (I32Const (fault_number NextOutside)) (ask_row row.Fail (does (Br (suc (suc d))) Done)))
+      (when (does (I32Const (fault_number NextOutside)) (ask_row row.Fail (does (Br (suc (suc exit))) Done)))
       (goes_on Done)))))))))
-      k
+      after
 
   abbrev pub first_part : Program → Instructions
-  first_part p = steps_emitted p.begin zero zero zero zero (if p.reads then records_read p.items zero (does (Br 1) Done) else does (Br 1) Done)
+  first_part program =
+      steps_emitted program.begin zero zero zero zero (if program.reads then records_read program.items zero (does (Br 1) Done) else does (Br 1) Done)
 
   abbrev pub last_part : Program → Instructions
-  last_part p = steps_emitted p.end zero zero zero zero (does (Br 1) Done)
+  last_part program = steps_emitted program.end zero zero zero zero (does (Br 1) Done)
 
   abbrev pub before_parts : Program → Instructions → Instructions
-  before_parts p k =
-      started (names_declared (length p.texts) y.names (routines_declared (length p.texts + length p.globals) (length p.routines)
-      (names_made zero y.names (asked y row.StartAssign zero zero k))))
+  before_parts program after =
+      started (names_declared (length program.texts) layout.names (routines_declared (length program.texts + length program.globals) (length program.routines)
+      (names_made zero layout.names (asked layout row.StartAssign zero zero after))))
 
   -- the outer block is the exit of `main`, whose answer is the status
   abbrev pub main_body : Program → Instructions
-  main_body p =
-      all_emptied (block (before_parts p (part_done (first_part p) zero (ask_row row.BeginEnd (part_done (last_part p) zero Done))))
+  main_body program =
+      all_emptied (block (before_parts program (part_done (first_part program) zero (ask_row row.BeginEnd (part_done (last_part program) zero Done))))
       (swept (does (GlobalGet status_global) (does (Convert I32WrapI64) Done))))

@@ -13,4 +13,6 @@ most_bytes = most_module_bytes
 
 -- its texts alone, or its functions of a byte each, pass that; or no bytes are its module
 abbrev pub IsTooLarge : Program → Type 0
-IsTooLarge p = (most_bytes < length (memory_of (texts_of p))) ⊎ ((most_bytes < length p.routines) ⊎ ((bytes : List ℕ) → IsModule bytes (module_of p) → ⊥))
+IsTooLarge program =
+    (most_bytes < length (memory_of (texts_of program)))
+    ⊎ ((most_bytes < length program.routines) ⊎ ((bytes : List ℕ) → IsModule bytes (module_of program) → ⊥))

@@ -6,7 +6,7 @@ use Rattle.lower_model.specs.Machine.{Callee}
 use Rattle.lower_modules.specs.declared.function.Function.{Function}
 
 abbrev pub view_function : Function → Callee
-view_function f = record { kinds = map view_kind f.kinds.items; locals = f.locals.items; body = views f.body.items }
+view_function function = record { kinds = map view_kind function.kinds.items; locals = function.locals.items; body = views function.body.items }
 
 abbrev pub view_functions : List Function → List Callee
-view_functions fs = map view_function fs
+view_functions functions = map view_function functions

@@ -2,4 +2,4 @@
 use Rattle.std.specs.Prelude.{ℕ, ◌-◌, ◌^◌, min}
 
 abbrev pub counted : ℕ → ℕ
-counted n = min n (2 ^ 32 - 1)
+counted number = min number (2 ^ 32 - 1)

@@ -8,17 +8,18 @@ use Rattle.lower_needs.specs.declared.needs.Needs.{Needs}
 abbrev pub most_parameters : ℕ
 most_parameters = most_module_bytes
 
-pub record FewLocals (b : Bases) : Type 0 where
-  pub parameters : b.parameters ≤ most_parameters
-  pub locals : length (local_types b) ≤ most_locals
+pub record FewLocals (bases : Bases) : Type 0 where
+  pub parameters : bases.parameters ≤ most_parameters
+  pub locals : length (local_types bases) ≤ most_locals
 
 abbrev pub view_needs : Needs → Bases
-view_needs n = record { parameters = n.parameters; temporaries = n.temporaries; iterators = n.iterators; arrays = n.arrays }
+view_needs needs = record { parameters = needs.parameters; temporaries = needs.temporaries; iterators = needs.iterators; arrays = needs.arrays }
 
 -- the needs are these, and there are few locals; without needs there are too many
 abbrev pub IsNeeds : Option Needs → Bases → Type 0
-IsNeeds r b = MatchOption r (FewLocals b → ⊥) (λ n. (view_needs n ≡ b) × FewLocals b)
+IsNeeds found bases = MatchOption found (FewLocals bases → ⊥) (λ needs. (view_needs needs ≡ bases) × FewLocals bases)
 
 -- these needs, or too many locals
 abbrev pub IsFew : Option Needs → Needs → Type 0
-IsFew r n = MatchOption r (most_locals < length (local_types (view_needs n))) (λ m. (m ≡ n) × (length (local_types (view_needs n)) ≤ most_locals))
+IsFew found needs =
+    MatchOption found (most_locals < length (local_types (view_needs needs))) (λ own. (own ≡ needs) × (length (local_types (view_needs needs)) ≤ most_locals))

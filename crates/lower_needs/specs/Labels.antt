@@ -6,65 +6,66 @@ use Rattle.lower_model.specs.Quick.{pair_in, step_jumps, sum_in}
 -- what is stored of a read, and what is chosen, is done within an `if`
 abbrev mutual
   pub labels_in : Code → ℕ
-  labels_in (Do o es) = labels_among es
-  labels_in (Over l es) = labels_among es
-  labels_in (Compare c a b) = max (labels_in a) (labels_in b)
-  labels_in (Call f es) = labels_among es
+  labels_in (Do operation operands) = labels_among operands
+  labels_in (Over what operands) = labels_among operands
+  labels_in (Compare op left right) = max (labels_in left) (labels_in right)
+  labels_in (Call function operands) = labels_among operands
   labels_in Ask = 0
-  labels_in (AskLine s) = suc (labels_in s)
-  labels_in (FileLine e s) = max (labels_in e) (suc (labels_in s))
-  labels_in (Replace all es s) = max (labels_among es) (suc (labels_in s))
-  labels_in (Number z) = 0
-  labels_in (Text i) = 0
+  labels_in (AskLine store) = suc (labels_in store)
+  labels_in (FileLine file store) = max (labels_in file) (suc (labels_in store))
+  labels_in (Replace all operands store) = max (labels_among operands) (suc (labels_in store))
+  labels_in (Number number) = 0
+  labels_in (Text text) = 0
   labels_in Unset = 0
-  labels_in (Get x) = 0
-  labels_in (Set x e) = labels_in e
-  labels_in (Array a) = 0
-  labels_in (IsOpen i) = 0
-  labels_in (Choose s c a b) = max (labels_in c) (suc (max (labels_in a) (labels_in b)))
-  labels_in (Seq a b) = max (labels_in a) (labels_in b)
-  labels_in (Let a b) = max (labels_in a) (labels_in b)
-  labels_in (Bound m i) = 0
+  labels_in (Get slot) = 0
+  labels_in (Set slot value) = labels_in value
+  labels_in (Array array) = 0
+  labels_in (IsOpen item) = 0
+  labels_in (Choose wanted test so otherwise) = max (labels_in test) (suc (max (labels_in so) (labels_in otherwise)))
+  labels_in (Seq first second) = max (labels_in first) (labels_in second)
+  labels_in (Let value rest) = max (labels_in value) (labels_in rest)
+  labels_in (Bound moves place) = 0
 
   pub labels_among : Codes → ℕ
   labels_among End = 0
-  labels_among (At e es) = max (labels_in e) (labels_among es)
-  labels_among (Fixed n es) = labels_among es
-  labels_among (Fresh es) = labels_among es
+  labels_among (At code operands) = max (labels_in code) (labels_among operands)
+  labels_among (Fixed number operands) = labels_among operands
+  labels_among (Fresh operands) = labels_among operands
 
 -- one more where this is so
 abbrev pub more_if : Bool → ℕ → ℕ
-more_if true n = suc n
-more_if false n = n
+more_if true count = suc count
+more_if false count = count
 
 -- Where a choice's test has a quick way, what is done where it holds stands in two blocks, and the test with it; what is done elsewhere in the outer
 -- one. Else the two ways are those of an `if`.
 abbrev pub choice_labels : (quick : Bool) → (test whole other : ℕ) → ℕ
-choice_labels true t a b = max (suc (suc (suc t))) (suc (max (suc a) b))
-choice_labels false t a b = max t (suc (max a b))
+choice_labels true test whole other = max (suc (suc (suc test))) (suc (max (suc whole) other))
+choice_labels false test whole other = max test (suc (max whole other))
 
 -- a loop is a `block` with a `loop` in it
 abbrev pub loop_labels : (test body last : ℕ) → ℕ
-loop_labels t a b = max (suc (suc t)) (max (suc (suc a)) (suc (suc b)))
+loop_labels test body last = max (suc (suc test)) (max (suc (suc body)) (suc (suc last)))
 
 -- Where a sum or a test has a quick way, the code of all cases stands in an `if` beside it. A loop's body is a `block`; where a test comes first,
 -- only one that `break` or `continue` leaves is.
 abbrev mutual
   pub step_labels : Step → ℕ
-  step_labels (Eval e) = more_if (is_some (sum_in e)) (labels_in e)
-  step_labels (Block ss) = steps_labels ss
-  step_labels (If e a b) = choice_labels (is_some (pair_in e)) (labels_in e) (step_labels a) (step_labels b)
-  step_labels (Loop true e a b) = loop_labels (more_if (is_some (pair_in e)) (labels_in e)) (more_if (step_jumps a) (step_labels a)) (step_labels b)
-  step_labels (Loop false e a b) = loop_labels (labels_in e) (suc (step_labels a)) (step_labels b)
-  step_labels (Each a e s) = max (suc (suc (labels_in e))) (suc (suc (suc (step_labels s))))
+  step_labels (Eval code) = more_if (is_some (sum_in code)) (labels_in code)
+  step_labels (Block steps) = steps_labels steps
+  step_labels (If test so otherwise) = choice_labels (is_some (pair_in test)) (labels_in test) (step_labels so) (step_labels otherwise)
+  step_labels (Loop true test body last) =
+      loop_labels (more_if (is_some (pair_in test)) (labels_in test)) (more_if (step_jumps body) (step_labels body)) (step_labels last)
+  step_labels (Loop false test body last) = loop_labels (labels_in test) (suc (step_labels body)) (step_labels last)
+  step_labels (Each array store body) = max (suc (suc (labels_in store))) (suc (suc (suc (step_labels body))))
   step_labels Break = 0
   step_labels Continue = 0
   step_labels Next = 0
   step_labels Exit = 0
-  step_labels (ExitWith e) = labels_in e
-  step_labels (Return e) = labels_in e
-  step_labels (Mark i b) = 0
+  step_labels (ExitWith code) = labels_in code
+  step_labels (Return code) = labels_in code
+  step_labels (Mark item opens) = 0
 
   pub steps_labels : Steps → ℕ
   steps_labels NoStep = 0
-  steps_labels (Then s ss) = max (step_labels s) (steps_labels ss)
+  steps_labels (Then step steps) = max (step_labels step) (steps_labels steps)

@@ -7,13 +7,13 @@ use Rattle.wasm_types.specs.declared.instr.Simple.{Simple}
 use Rattle.lower_model.specs.Small.{does}
 
 abbrev pub followed : List Instr → Instructions → Instructions
-followed [] k = k
-followed (i ∷ is) k = Then (view i) (followed is k)
+followed [] rest = rest
+followed (first ∷ others) rest = Then (view first) (followed others rest)
 
 -- between the two lists this code was added, whatever comes after it
 abbrev pub Emits : List Instr → List Instr → (Instructions → Instructions) → Type 0
-Emits before after code = (k : Instructions) → followed after k ≡ followed before (code k)
+Emits before after code = (rest : Instructions) → followed after rest ≡ followed before (code rest)
 
 abbrev pub does_all : List Simple → Instructions → Instructions
-does_all [] k = k
-does_all (i ∷ is) k = does i (does_all is k)
+does_all [] after = after
+does_all (first ∷ others) after = does first (does_all others after)

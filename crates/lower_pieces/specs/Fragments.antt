@@ -8,18 +8,24 @@ use Rattle.wasm_types.specs.declared.instr.CvtOp.TheVariants.{I64ExtendI32U}
 use Rattle.wasm_types.specs.declared.instr.Simple.TheVariants.{Convert, I32Const, LocalSet}
 use Rattle.mid_program.specs.Mid.{Form}
 use Rattle.lower_model.specs.Arithmetic.{numbers_compared, texts_beside, values_compared}
-use Rattle.lower_model.specs.Places.{Bases}
-use Rattle.lower_model.specs.Small.{ask_row, does, either, h, kept_code, moved_out, n, number_is, text_beside, zeroed}
+use Rattle.lower_model.specs.Places.{Bases, handle_local, number_local}
+use Rattle.lower_model.specs.Small.{ask_row, does, either, kept_code, moved_out, number_is, text_beside, zeroed}
 
 -- what an unboxed name has becomes a number with its truth
 abbrev pub told : Bases → ℕ → Instructions → Instructions
-told b t k = number_is (n b t) text_beside (either (moved_out (h b t) (ask_row Truth (does (Convert I64ExtendI32U) (does (LocalSet (n b t)) Done))))
-    (zeroed b t Done) k)
+told bases temporary after =
+    number_is (number_local bases temporary) text_beside
+    (either (moved_out (handle_local bases temporary) (ask_row Truth (does (Convert I64ExtendI32U) (does (LocalSet (number_local bases temporary)) Done))))
+    (zeroed bases temporary Done) after)
 
 -- the host is asked for a comparison of two values
 abbrev pub host_compared : Bases → CompareOp → ℕ → ℕ → Instructions → Instructions
-host_compared b c t d k = does (I32Const (comparison_number c)) (moved_out (h b t) (moved_out (h b (suc t)) (ask_row Compare (kept_code b true t d k))))
+host_compared bases op temporary exit after =
+    does (I32Const (comparison_number op))
+    (moved_out (handle_local bases temporary) (moved_out (handle_local bases (suc temporary)) (ask_row Compare (kept_code bases true temporary exit after))))
 
 -- both comparisons, and the test which of them is made
 abbrev pub parted : Bases → CompareOp → Form → Form → ℕ → ℕ → Instructions → Instructions
-parted b c f g t d k = texts_beside b f g t (either (values_compared b c f g t (suc d) Done) (numbers_compared b c f g t Done) k)
+parted bases op left right temporary exit after =
+    texts_beside bases left right temporary
+    (either (values_compared bases op left right temporary (suc exit) Done) (numbers_compared bases op left right temporary Done) after)

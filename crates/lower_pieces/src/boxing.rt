@@ -2,7 +2,8 @@
 ghost use Rattle.std.specs.Prelude.{[], ◌≤◌, IfOk, OnOk};
 ghost use Rattle.sem_primitives.specs.declared.table.Primitive.TheVariants.{Uninit};
 ghost use Rattle.wasm_types.specs.declared.instr.Simple.TheVariants.{LocalSet};
-ghost use Rattle.lower_model.specs.Small.{ask_row, boxed_number, boxed_perhaps, does, h, least, n, text_beside, to_value};
+ghost use Rattle.lower_model.specs.Places.{handle_local, number_local};
+ghost use Rattle.lower_model.specs.Small.{ask_row, boxed_number, boxed_perhaps, does, least, text_beside, to_value};
 ghost use Rattle.lower_pieces.specs.Bounds.{most_places};
 ghost use Rattle.lower_pieces.specs.Emits.{Emits};
 ghost use Rattle.lower_pieces.specs.Forms.{view_form};

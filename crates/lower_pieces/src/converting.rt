@@ -2,7 +2,8 @@
 ghost use Rattle.std.specs.Prelude.{[], ◌≤◌, IfOk, OnOk};
 ghost use Rattle.mid_program.specs.Mid.{Bare};
 ghost use Rattle.wasm_types.specs.declared.instr.Simple.TheVariants.{LocalSet};
-ghost use Rattle.lower_model.specs.Small.{boxed_perhaps, h, n, text_beside, to_value};
+ghost use Rattle.lower_model.specs.Places.{handle_local, number_local};
+ghost use Rattle.lower_model.specs.Small.{boxed_perhaps, text_beside, to_value};
 ghost use Rattle.lower_pieces.specs.Bounds.{most_places};
 ghost use Rattle.lower_pieces.specs.Emits.{Emits};
 ghost use Rattle.lower_pieces.specs.Forms.{view_form};
@@ -21,7 +22,7 @@ fn perhaps_code(alloc: Global, bases: &Bases, temporary: u32) -> Result<Vec<Inst
     requires { temporary ≤ most_places }
     ensures { IfOk result
         (λ code. Emits [] code.items
-        (boxed_perhaps bases.now temporary (LocalSet (h bases.now temporary)))) }
+        (boxed_perhaps bases.now temporary (LocalSet (handle_local bases.now temporary)))) }
 {
     let mut code = Vec::new(alloc);
     boxed_perhaps(

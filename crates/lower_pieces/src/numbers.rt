@@ -4,7 +4,8 @@ ghost use Rattle.sem_primitives.specs.declared.table.Primitive.TheVariants.{ToNu
 ghost use Rattle.mid_program.specs.Mid.{Bare};
 ghost use Rattle.wasm_types.specs.Syntax.{Done};
 ghost use Rattle.wasm_types.specs.declared.instr.Simple.TheVariants.{I64Const, LocalSet};
-ghost use Rattle.lower_model.specs.Small.{code_number, converted, does, n, number_made, number_of_value, to_number, zeroed};
+ghost use Rattle.lower_model.specs.Places.{number_local};
+ghost use Rattle.lower_model.specs.Small.{code_number, converted, does, number_made, number_of_value, to_number, zeroed};
 ghost use Rattle.lower_pieces.specs.Bounds.{most_labels, most_places};
 ghost use Rattle.lower_pieces.specs.Emits.{Emits};
 ghost use Rattle.lower_pieces.specs.Forms.{view_form};

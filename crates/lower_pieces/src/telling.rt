@@ -4,7 +4,8 @@ ghost use Rattle.sem_primitives.specs.declared.table.Primitive.TheVariants.{Trut
 ghost use Rattle.mid_program.specs.Mid.{Bare};
 ghost use Rattle.wasm_types.specs.declared.instr.CvtOp.TheVariants.{I64ExtendI32U};
 ghost use Rattle.wasm_types.specs.declared.instr.Simple.TheVariants.{Convert, LocalSet};
-ghost use Rattle.lower_model.specs.Small.{ask_row, does, h, moved_out, n, not_zero, truth, zeroed};
+ghost use Rattle.lower_model.specs.Places.{handle_local, number_local};
+ghost use Rattle.lower_model.specs.Small.{ask_row, does, moved_out, not_zero, truth, zeroed};
 ghost use Rattle.lower_pieces.specs.Bounds.{most_places};
 ghost use Rattle.lower_pieces.specs.Emits.{Emits};
 ghost use Rattle.lower_pieces.specs.Forms.{view_form};
@@ -37,9 +38,9 @@ fn not_zero(bases: &Bases, out: &mut Vec<Instr>, temporary: u32) -> Result<(), A
 /// What puts a value's truth in the place of the number.
 fn truth_put(alloc: Global, bases: &Bases, temporary: u32) -> Result<Vec<Instr>, AllocError>
     requires { temporary ≤ most_places }
-    ensures { IfOk result (λ code. Emits [] code.items (λ after. moved_out (h bases.now temporary)
+    ensures { IfOk result (λ code. Emits [] code.items (λ after. moved_out (handle_local bases.now temporary)
         (ask_row Truth (does (Convert I64ExtendI32U)
-        (does (LocalSet (n bases.now temporary)) after))))) }
+        (does (LocalSet (number_local bases.now temporary)) after))))) }
 {
     let mut code = Vec::new(alloc);
     moved_out(&mut code, bases.handle(temporary))?;

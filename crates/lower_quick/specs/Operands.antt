@@ -10,67 +10,67 @@ use Rattle.mid_program.specs.Mid.{Global, Code, Do, Set, Let, Bound, Codes, End,
 use Rattle.lower_model.specs.Quick.{Multiple, Remainder, factor_in, multiple_in, name_in, product_of, remainder_of, two_product}
 
 abbrev pub one_code : Codes → Option Code
-one_code (At e End) = Some e
-one_code es = None
+one_code (At code End) = Some code
+one_code operands = None
 
 abbrev pub two_codes : Codes → Option (Code × Code)
-two_codes (At a (At e End)) = Some (a, e)
-two_codes es = None
+two_codes (At left (At right End)) = Some (left, right)
+two_codes operands = None
 
 abbrev pub three_codes : Codes → Option (Code × Code × Code)
-three_codes (At a (At e (At f End))) = Some (a, e, f)
-three_codes es = None
+three_codes (At first (At second (At third End))) = Some (first, second, third)
+three_codes operands = None
 
 abbrev pub let_in : Code → Option (Code × Code)
-let_in (Let a e) = Some (a, e)
-let_in e = None
+let_in (Let kept rest) = Some (kept, rest)
+let_in code = None
 
 abbrev pub calculated_in : Code → Option (Arithmetic × Codes)
-calculated_in (Do (Inline o) es) = Some (o, es)
-calculated_in e = None
+calculated_in (Do (Inline operator) operands) = Some (operator, operands)
+calculated_in code = None
 
 abbrev pub number_of : Code → Option Codes
-number_of (Do AsNumber es) = Some es
-number_of e = None
+number_of (Do AsNumber operands) = Some operands
+number_of code = None
 
 -- the unboxed name that takes what was kept last
 abbrev pub set_last : Code → Option ℕ
-set_last (Set (Global true i) (Bound true zero)) = Some i
-set_last e = None
+set_last (Set (Global true name) (Bound true zero)) = Some name
+set_last code = None
 
 abbrev pub reads_special : Primitive → Bool
 reads_special row.GetSpecial = true
-reads_special p = false
+reads_special primitive = false
 
 abbrev pub is_elem : Primitive → Bool
 is_elem row.Elem = true
-is_elem p = false
+is_elem primitive = false
 
 abbrev pub is_set_elem : Primitive → Bool
 is_set_elem row.SetElem = true
-is_set_elem p = false
+is_set_elem primitive = false
 
 -- products and remainders
 
 abbrev pub is_times : Arithmetic → Bool
 is_times inline.Times = true
-is_times o = false
+is_times op = false
 
 abbrev pub is_modulo : Arithmetic → Bool
 is_modulo inline.Modulo = true
-is_modulo o = false
+is_modulo op = false
 
 abbrev pub unless_zero : ℤ → Option ℤ
-unless_zero z = if is_zero z then None else Some z
+unless_zero number = if is_zero number then None else Some number
 
 abbrev pub two_factors : Codes → Option Multiple
-two_factors (At a (At e End)) = product_of (name_in a) (factor_in e)
-two_factors es = None
+two_factors (At left (At right End)) = product_of (name_in left) (factor_in right)
+two_factors operands = None
 
 abbrev pub product_in : Code → Option Multiple
-product_in (Do (Inline o) es) = two_product o es
-product_in e = None
+product_in (Do (Inline operator) operands) = two_product operator operands
+product_in code = None
 
 abbrev pub divided_by : ℕ → Codes → Option Remainder
-divided_by i (At a (At e End)) = remainder_of i (multiple_in a) (factor_in e)
-divided_by i es = None
+divided_by target (At left (At right End)) = remainder_of target (multiple_in left) (factor_in right)
+divided_by target operands = None

@@ -15,30 +15,31 @@ use Rattle.lower_quick.specs.declared.update.Update.{Update}
 use Rattle.lower_quick.specs.declared.within.Within.{Within}
 
 abbrev pub view_source : Source → plain.Source
-view_source (Named i) = plain.Named i
-view_source (Constant z) = plain.Constant z
+view_source (Named name) = plain.Named name
+view_source (Constant number) = plain.Constant number
 
 abbrev pub view_sum : Sum → plain.Sum
-view_sum s = record { target = s.target; op = s.op; left = view_source s.left; right = view_source s.right }
+view_sum sum = record { target = sum.target; op = sum.op; left = view_source sum.left; right = view_source sum.right }
 
 abbrev pub view_pair : Pair → plain.Pair
-view_pair q = record { op = q.op; left = view_source q.left; right = view_source q.right }
+view_pair pair = record { op = pair.op; left = view_source pair.left; right = view_source pair.right }
 
 -- numbers from -2^53 on
 abbrev pub view_within : Within → plain.Within
-view_within w = record { name = w.name; shift = pos largest; width = w.width }
+view_within within = record { name = within.name; shift = pos largest; width = within.width }
 
 abbrev pub view_counted : Counted → plain.Counted
-view_counted q = record { op = q.op; name = q.name }
+view_counted counted = record { op = counted.op; name = counted.name }
 
 abbrev pub view_update : Update → plain.Update
-view_update u = record { target = u.target; op = u.op; name = u.name; added = view u.added.now }
+view_update update = record { target = update.target; op = update.op; name = update.name; added = view update.added.now }
 
 abbrev pub view_tally : Tally → plain.Tally
-view_tally t = record { read = view_array t.read; written = view_array t.written; key = view t.key.now; op = t.op; added = view t.added.now }
+view_tally tally =
+    record { read = view_array tally.read; written = view_array tally.written; key = view tally.key.now; op = tally.op; added = view tally.added.now }
 
 abbrev pub view_multiple : Multiple → plain.Multiple
-view_multiple m = record { name = m.name; factor = m.factor }
+view_multiple multiple = record { name = multiple.name; factor = multiple.factor }
 
 abbrev pub view_remainder : Remainder → plain.Remainder
-view_remainder q = record { target = q.target; multiple = view_multiple q.multiple; divisor = q.divisor }
+view_remainder remainder = record { target = remainder.target; multiple = view_multiple remainder.multiple; divisor = remainder.divisor }

@@ -10,7 +10,7 @@ use mid_program::{Arithmetic, Code, Operand, Operation};
 
 /// The code that an operand is.
 fn code_in(operand: &Operand) -> Option<&Code>
-    ensures { option_map (λ e. view e.now) result ≡ one_code (before operand.now End) }
+    ensures { option_map (λ code. view code.now) result ≡ one_code (before operand.now End) }
 {
     match operand {
         Operand::Code(code) => Some(code),
@@ -20,7 +20,7 @@ fn code_in(operand: &Operand) -> Option<&Code>
 
 /// The code that two operands are.
 fn codes_in<'a>(left: &'a Operand, right: &'a Operand) -> Option<(&'a Code, &'a Code)>
-    ensures { option_map (λ p. (view p.0.now, view p.1.now)) result
+    ensures { option_map (λ both. (view both.0.now, view both.1.now)) result
         ≡ two_codes (before left.now (before right.now End)) }
 {
     match (left, right) {
@@ -35,7 +35,7 @@ fn codes_of<'a>(
     second: &'a Operand,
     third: &'a Operand,
 ) -> Option<(&'a Code, &'a Code, &'a Code)>
-    ensures { option_map (λ p. (view p.0.now, view p.1.now, view p.2.now)) result
+    ensures { option_map (λ all. (view all.0.now, view all.1.now, view all.2.now)) result
         ≡ three_codes (before first.now (before second.now (before third.now End))) }
 {
     match (first, second, third) {
@@ -48,7 +48,7 @@ fn codes_of<'a>(
 
 /// The operand, where there is one and it is code.
 pub(crate) fn one_code(operands: &[Operand]) -> Option<&Code>
-    ensures { option_map (λ e. view e.now) result ≡ one_code (views operands.now) }
+    ensures { option_map (λ code. view code.now) result ≡ one_code (views operands.now) }
 {
     if operands.len() != 1 {
         return None;
@@ -58,7 +58,7 @@ pub(crate) fn one_code(operands: &[Operand]) -> Option<&Code>
 
 /// The operands, where there are two and both are code.
 pub(crate) fn two_codes(operands: &[Operand]) -> Option<(&Code, &Code)>
-    ensures { option_map (λ p. (view p.0.now, view p.1.now)) result
+    ensures { option_map (λ both. (view both.0.now, view both.1.now)) result
         ≡ two_codes (views operands.now) }
 {
     if operands.len() != 2 {
@@ -69,7 +69,7 @@ pub(crate) fn two_codes(operands: &[Operand]) -> Option<(&Code, &Code)>
 
 /// The operands, where there are three and all are code.
 pub(crate) fn three_codes(operands: &[Operand]) -> Option<(&Code, &Code, &Code)>
-    ensures { option_map (λ p. (view p.0.now, view p.1.now, view p.2.now)) result
+    ensures { option_map (λ all. (view all.0.now, view all.1.now, view all.2.now)) result
         ≡ three_codes (views operands.now) }
 {
     if operands.len() != 3 {
@@ -80,7 +80,8 @@ pub(crate) fn three_codes(operands: &[Operand]) -> Option<(&Code, &Code, &Code)>
 
 /// What is kept, and the code after it.
 pub(crate) fn let_in(code: &Code) -> Option<(&Code, &Code)>
-    ensures { option_map (λ p. (view p.0.now, view p.1.now)) result ≡ let_in (view code.now) }
+    ensures { option_map
+        (λ parts. (view parts.0.now, view parts.1.now)) result ≡ let_in (view code.now) }
 {
     match code {
         Code::Let(kept, body) => Some((kept, body)),
@@ -90,7 +91,8 @@ pub(crate) fn let_in(code: &Code) -> Option<(&Code, &Code)>
 
 /// The operator and the operands of arithmetic that the module carries out.
 pub(crate) fn calculated_in(code: &Code) -> Option<(Arithmetic, &[Operand])>
-    ensures { option_map (λ p. (p.0, views p.1.now)) result ≡ calculated_in (view code.now) }
+    ensures { option_map
+        (λ parts. (parts.0, views parts.1.now)) result ≡ calculated_in (view code.now) }
 {
     let Code::Do(operation, operands) = code else {
         return None;
@@ -103,7 +105,7 @@ pub(crate) fn calculated_in(code: &Code) -> Option<(Arithmetic, &[Operand])>
 
 /// The operands whose number code is.
 pub(crate) fn number_of(code: &Code) -> Option<&[Operand]>
-    ensures { option_map (λ es. views es.now) result ≡ number_of (view code.now) }
+    ensures { option_map (λ operands. views operands.now) result ≡ number_of (view code.now) }
 {
     let Code::Do(operation, operands) = code else {
         return None;

@@ -14,20 +14,20 @@ held_count Iterators bases = bases.iterators
 held_count Arrays bases = bases.arrays
 
 abbrev pub held_local : Held → Bases → ℕ → ℕ
-held_local Temporaries bases i = handle_local bases i
-held_local Iterators bases i = iterator_local bases i
-held_local Arrays bases i = array_local bases i
+held_local Temporaries bases place = handle_local bases place
+held_local Iterators bases place = iterator_local bases place
+held_local Arrays bases place = array_local bases place
 
 abbrev pub held_import : Held → Import
 held_import Temporaries = Drop
 held_import Iterators = IterFree
 held_import Arrays = FreeArray
 
--- from the i-th on, so many
+-- from this one on, so many
 abbrev pub held_emptied : Held → Bases → ℕ → ℕ → Instructions → Instructions
-held_emptied s bases i zero after = after
-held_emptied s bases i (suc m) after = emptied (held_local s bases i) (held_emptied s bases (suc i) m after)
+held_emptied held bases place zero after = after
+held_emptied held bases place (suc count) after = emptied (held_local held bases place) (held_emptied held bases (suc place) count after)
 
 abbrev pub held_swept : Held → Bases → ℕ → ℕ → Instructions → Instructions
-held_swept s bases i zero after = after
-held_swept s bases i (suc m) after = let_go (held_import s) (held_local s bases i) (held_swept s bases (suc i) m after)
+held_swept held bases place zero after = after
+held_swept held bases place (suc count) after = let_go (held_import held) (held_local held bases place) (held_swept held bases (suc place) count after)

@@ -10,14 +10,14 @@ use Rattle.lower_pieces.specs.Bounds.{most_places}
 
 -- labels stand in one another as far as blocks do in a module
 abbrev pub IsShallow : Steps → Type 0
-IsShallow ss = steps_labels ss ≤ most_nesting
+IsShallow steps = steps_labels steps ≤ most_nesting
 
 abbrev pub RoutineIsSmall : Routine → Type 0
-RoutineIsSmall r = FewLocals (routine_bases r) × IsShallow r.body
+RoutineIsSmall routine = FewLocals (routine_bases routine) × IsShallow routine.body
 
 abbrev pub MainIsSmall : Program → Type 0
-MainIsSmall p = FewLocals (main_bases p) × (IsShallow p.begin × (IsShallow p.items × IsShallow p.end))
+MainIsSmall program = FewLocals (main_bases program) × (IsShallow program.begin × (IsShallow program.items × IsShallow program.end))
 
 -- few functions, and each of them small
 abbrev pub AreSmallEnough : Program → Type 0
-AreSmallEnough p = (length p.routines ≤ most_places) × (AllByRecursion RoutineIsSmall p.routines × MainIsSmall p)
+AreSmallEnough program = (length program.routines ≤ most_places) × (AllByRecursion RoutineIsSmall program.routines × MainIsSmall program)

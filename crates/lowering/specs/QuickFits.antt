@@ -7,26 +7,26 @@ use Rattle.lower_expressions.specs.Fits.{ArrayFits, Fits}
 
 abbrev pub NamesFit : List ℕ → Type 0
 NamesFit [] = Unit {0}
-NamesFit (i ∷ is) = (i ≤ most_places) × NamesFit is
+NamesFit (name ∷ names) = (name ≤ most_places) × NamesFit names
 
 abbrev pub SourceFits : Source → Type 0
-SourceFits (Named i) = i ≤ most_places
-SourceFits (Constant z) = Unit {0}
+SourceFits (Named name) = name ≤ most_places
+SourceFits (Constant number) = Unit {0}
 
 abbrev pub SumFits : Sum → Type 0
-SumFits s = (s.target ≤ most_places) × (SourceFits s.left × SourceFits s.right)
+SumFits sum = (sum.target ≤ most_places) × (SourceFits sum.left × SourceFits sum.right)
 
 abbrev pub PairFits : Pair → Type 0
-PairFits q = SourceFits q.left × SourceFits q.right
+PairFits pair = SourceFits pair.left × SourceFits pair.right
 
 -- a factor is not 0
 abbrev pub FactorFits : Option ℤ → Type 0
 FactorFits None = Unit {0}
-FactorFits (Some c) = 0 < unsigned_abs c
+FactorFits (Some factor) = 0 < unsigned_abs factor
 
 abbrev pub RemainderFits : Remainder → Type 0
-RemainderFits q = (q.target ≤ most_places) × ((q.multiple.name ≤ most_places) × FactorFits q.multiple.factor)
+RemainderFits remainder = (remainder.target ≤ most_places) × ((remainder.multiple.name ≤ most_places) × FactorFits remainder.multiple.factor)
 
 -- a counter's key in temporary 0, and what is added in the next one
 abbrev pub TallyFits : Layout → Tally → ℕ → Type 0
-TallyFits layout q d = Fits layout q.key 0 0 d × (Fits layout q.added 1 0 d × (ArrayFits q.read × ArrayFits q.written))
+TallyFits layout tally exit = Fits layout tally.key 0 0 exit × (Fits layout tally.added 1 0 exit × (ArrayFits tally.read × ArrayFits tally.written))

@@ -9,43 +9,47 @@ use Rattle.lower_expressions.specs.Fits.{ArrayFits, Fits}
 
 -- the labels of a loop are there
 abbrev pub LoopFits : ℕ → Type 0
-LoopFits d = suc (suc (suc d)) ≤ most_labels
+LoopFits exit = suc (suc (suc exit)) ≤ most_labels
 
 -- code that may stand one label deeper, beside a quick way
-abbrev pub TestFits : Layout → Code → (d : ℕ) → Type 0
-TestFits layout e d = Fits layout e zero zero d × Fits layout e zero zero (suc d)
+abbrev pub TestFits : Layout → Code → (exit : ℕ) → Type 0
+TestFits layout test exit = Fits layout test zero zero exit × Fits layout test zero zero (suc exit)
 
 -- the test of a choice, in an `if` or in two blocks
-abbrev pub ChoiceFits : Layout → Code → (d : ℕ) → Type 0
-ChoiceFits layout e d = (suc (suc (suc d)) ≤ most_labels) × (Fits layout e zero zero d × TestFits layout e (suc (suc d)))
+abbrev pub ChoiceFits : Layout → Code → (exit : ℕ) → Type 0
+ChoiceFits layout test exit = (suc (suc (suc exit)) ≤ most_labels) × (Fits layout test zero zero exit × TestFits layout test (suc (suc exit)))
 
 -- whether the body of a loop stands in a block of its own: where a test comes first, only one that `break` or `continue` leaves
 abbrev pub has_block : (first : Bool) → Step → Bool
-has_block true a = step_jumps a
-has_block false a = true
+has_block true body = step_jumps body
+has_block false body = true
 
--- with u iterators in use and d labels around
+-- with so many iterators in use and so many labels around
 abbrev mutual
-  pub StepFits : Layout → Step → (u d : ℕ) → Type 0
-  StepFits layout (Eval e) u d = (suc (suc (suc d)) ≤ most_labels) × Fits layout e zero zero d
-  StepFits layout (Block ss) u d = StepsFit layout ss u d
-  StepFits layout (If e a b) u d = ChoiceFits layout e d × (StepFits layout a u (suc (more_if (is_some (pair_in e)) d)) × StepFits layout b u (suc d))
-  StepFits layout (Loop first e a b) u d =
-      LoopFits d × (TestFits layout e (suc (suc d)) × (StepFits layout a u (suc (suc (more_if (has_block first a) d))) × StepFits layout b u (suc (suc d))))
-  StepFits layout (Each a e s) u d =
-      LoopFits d × ((suc u ≤ most_places) × (ArrayFits a × (Fits layout e 1 zero (suc (suc d)) × StepFits layout s (suc u) (suc (suc (suc d))))))
-  StepFits layout Break u d = Unit {0}
-  StepFits layout Continue u d = Unit {0}
-  StepFits layout Next u d = Unit {0}
-  StepFits layout Exit u d = Unit {0}
-  StepFits layout (ExitWith e) u d = (d ≤ most_labels) × Fits layout e zero zero d
-  StepFits layout (Return e) u d = Fits layout e zero zero d
-  StepFits layout (Mark i c) u d = i ≤ most_places
+  pub StepFits : Layout → Step → (iterators exit : ℕ) → Type 0
+  StepFits layout (Eval code) iterators exit = (suc (suc (suc exit)) ≤ most_labels) × Fits layout code zero zero exit
+  StepFits layout (Block steps) iterators exit = StepsFit layout steps iterators exit
+  StepFits layout (If test so otherwise) iterators exit =
+      ChoiceFits layout test exit
+      × (StepFits layout so iterators (suc (more_if (is_some (pair_in test)) exit)) × StepFits layout otherwise iterators (suc exit))
+  StepFits layout (Loop first test body last) iterators exit =
+      LoopFits exit × (TestFits layout test (suc (suc exit))
+      × (StepFits layout body iterators (suc (suc (more_if (has_block first body) exit))) × StepFits layout last iterators (suc (suc exit))))
+  StepFits layout (Each array store body) iterators exit =
+      LoopFits exit × ((suc iterators ≤ most_places)
+      × (ArrayFits array × (Fits layout store 1 zero (suc (suc exit)) × StepFits layout body (suc iterators) (suc (suc (suc exit))))))
+  StepFits layout Break iterators exit = Unit {0}
+  StepFits layout Continue iterators exit = Unit {0}
+  StepFits layout Next iterators exit = Unit {0}
+  StepFits layout Exit iterators exit = Unit {0}
+  StepFits layout (ExitWith code) iterators exit = (exit ≤ most_labels) × Fits layout code zero zero exit
+  StepFits layout (Return code) iterators exit = Fits layout code zero zero exit
+  StepFits layout (Mark item opens) iterators exit = item ≤ most_places
 
-  pub StepsFit : Layout → Steps → (u d : ℕ) → Type 0
-  StepsFit layout NoStep u d = Unit {0}
-  StepsFit layout (Then s ss) u d = StepFits layout s u d × StepsFit layout ss u d
+  pub StepsFit : Layout → Steps → (iterators exit : ℕ) → Type 0
+  StepsFit layout NoStep iterators exit = Unit {0}
+  StepsFit layout (Then step steps) iterators exit = StepFits layout step iterators exit × StepsFit layout steps iterators exit
 
 -- the three parts of `main`
 abbrev pub PartsFit : Layout → Program → Type 0
-PartsFit layout p = StepsFit layout p.begin zero zero × (StepsFit layout p.items zero zero × StepsFit layout p.end zero zero)
+PartsFit layout program = StepsFit layout program.begin zero zero × (StepsFit layout program.items zero zero × StepsFit layout program.end zero zero)

@@ -17,12 +17,12 @@ use std::alloc::AllocError;
 use wasm_types::{Instr, Simple};
 
 /// Asks for a power, the first import that may fault, so that a fault that is there from the start is seen.
-fn started(y: &FunctionLayout<'_>, out: &mut Vec<Instr>) -> Result<(), AllocError>
-    ensures { OnOk result (Emits out.old.items out.new.items (started (view_layout y.now))) }
+fn started(layout: &FunctionLayout<'_>, out: &mut Vec<Instr>) -> Result<(), AllocError>
+    ensures { OnOk result (Emits out.old.items out.new.items (started (view_layout layout.now))) }
 {
     does_all(out, &[Simple::I64Const(1), Simple::I64Const(1)])?;
     ask_row(out, Primitive::Pow)?;
-    kept_number(y.bases, out, true, 0, 0)
+    kept_number(layout.bases, out, true, 0, 0)
 }
 
 /// The number of what a name is.
@@ -37,23 +37,23 @@ fn kind_number(kind: NameKind) -> u32
 
 /// Announces a name, which is a text.
 fn declared(
-    y: &FunctionLayout<'_>,
+    layout: &FunctionLayout<'_>,
     out: &mut Vec<Instr>,
     kind: NameKind,
     text: usize,
 ) -> Result<(), AllocError>
-    requires { text < length (view_layout y.now).texts }
+    requires { text < length (view_layout layout.now).texts }
     ensures { OnOk result
-        (Emits out.old.items out.new.items (declared (view_layout y.now) kind text)) }
+        (Emits out.old.items out.new.items (declared (view_layout layout.now) kind text)) }
 {
-    text_pushed(y, out, text)?;
+    text_pushed(layout, out, text)?;
     does(out, Simple::I32Const(kind_number(kind)))?;
     ask_row(out, Primitive::Declare)
 }
 
 /// What the host is told of a name of this kind.
-fn declared_kind(y: &FunctionLayout<'_>, kind: Kind) -> NameKind
-    ensures { result ≡ declared_kind (view_layout y.now) (view_kind kind) }
+fn declared_kind(layout: &FunctionLayout<'_>, kind: Kind) -> NameKind
+    ensures { result ≡ declared_kind (view_layout layout.now) (view_kind kind) }
 {
     match kind {
         Kind::Boxed | Kind::Unboxed => NameKind::Scalar,
@@ -63,18 +63,19 @@ fn declared_kind(y: &FunctionLayout<'_>, kind: Kind) -> NameKind
 
 /// Announces the names of the script, whose texts begin at this place.
 fn names_declared(
-    y: &FunctionLayout<'_>,
+    layout: &FunctionLayout<'_>,
     out: &mut Vec<Instr>,
     first: usize,
 ) -> Result<(), AllocError>
-    requires there { first + length (view_layout y.now).names ≤ length (view_layout y.now).texts }
-    requires few { length (view_layout y.now).texts < 2 ^ 64 }
+    requires there { first + length
+        (view_layout layout.now).names ≤ length (view_layout layout.now).texts }
+    requires few { length (view_layout layout.now).texts < 2 ^ 64 }
     ensures { OnOk result (Emits out.old.items out.new.items
-        (names_declared (view_layout y.now) first (view_layout y.now).names)) }
+        (names_declared (view_layout layout.now) first (view_layout layout.now).names)) }
 {
     let mut text = first;
-    for name in y.script.names() {
-        declared(y, out, declared_kind(y, name.kind), text)?;
+    for name in layout.script.names() {
+        declared(layout, out, declared_kind(layout, name.kind), text)?;
         text += 1;
     }
     Ok(())
@@ -82,80 +83,84 @@ fn names_declared(
 
 /// Announces the functions of the script, whose texts begin at this place.
 fn routines_declared(
-    y: &FunctionLayout<'_>,
+    layout: &FunctionLayout<'_>,
     out: &mut Vec<Instr>,
     first: usize,
 ) -> Result<(), AllocError>
-    requires there { first + length (view_layout y.now).calls ≤ length (view_layout y.now).texts }
-    requires few { length (view_layout y.now).texts < 2 ^ 64 }
-    ensures { OnOk result (Emits out.old.items out.new.items
-        (routines_declared (view_layout y.now) first (length (view_layout y.now).calls))) }
+    requires there { first + length
+        (view_layout layout.now).calls ≤ length (view_layout layout.now).texts }
+    requires few { length (view_layout layout.now).texts < 2 ^ 64 }
+    ensures { OnOk result (Emits out.old.items out.new.items (routines_declared
+        (view_layout layout.now) first (length (view_layout layout.now).calls))) }
 {
     let mut text = first;
-    for _routine in y.script.routines() {
-        declared(y, out, NameKind::ArrayOrFunction, text)?;
+    for _routine in layout.script.routines() {
+        declared(layout, out, NameKind::ArrayOrFunction, text)?;
         text += 1;
     }
     Ok(())
 }
 
 /// Announces the names of the script, and its functions.
-fn names_told(y: &FunctionLayout<'_>, out: &mut Vec<Instr>) -> Result<(), AllocError>
-    requires { length (view_mid y.now.script.now.program.now).routines ≤ most_places }
+fn names_told(layout: &FunctionLayout<'_>, out: &mut Vec<Instr>) -> Result<(), AllocError>
+    requires { length (view_mid layout.now.script.now.program.now).routines ≤ most_places }
     ensures { OnOk result (Emits out.old.items out.new.items
-        (names_told (view_layout y.now) (view_mid y.now.script.now.program.now))) }
+        (names_told (view_layout layout.now) (view_mid layout.now.script.now.program.now))) }
 {
-    let texts = y.script.program.texts.as_slice().len();
-    let names = y.script.names().len();
-    names_declared(y, out, texts)?;
-    routines_declared(y, out, texts + names)
+    let texts = layout.script.program.texts.as_slice().len();
+    let names = layout.script.names().len();
+    names_declared(layout, out, texts)?;
+    routines_declared(layout, out, texts + names)
 }
 
 /// Gives a name what it has before the script runs.
 fn name_made(
-    y: &FunctionLayout<'_>,
+    layout: &FunctionLayout<'_>,
     out: &mut Vec<Instr>,
     kind: Kind,
     name: usize,
 ) -> Result<(), AllocError>
     requires { name ≤ most_places }
-    ensures { OnOk result
-        (Emits out.old.items out.new.items (name_made (view_layout y.now) (view_kind kind) name)) }
+    ensures { OnOk result (Emits out.old.items out.new.items
+        (name_made (view_layout layout.now) (view_kind kind) name)) }
 {
     match kind {
         Kind::Boxed => {
             ask_row(out, Primitive::Uninit)?;
-            does(out, Simple::GlobalSet(global_handle(y, name)))
+            does(out, Simple::GlobalSet(global_handle(layout, name)))
         }
         Kind::Many => {
             ask_row(out, Primitive::NewArray)?;
-            does(out, Simple::GlobalSet(global_handle(y, name)))
+            does(out, Simple::GlobalSet(global_handle(layout, name)))
         }
         Kind::Unboxed => Ok(()),
     }
 }
 
 /// Gives the names what they have before the script runs.
-fn names_made(y: &FunctionLayout<'_>, out: &mut Vec<Instr>) -> Result<(), AllocError>
+fn names_made(layout: &FunctionLayout<'_>, out: &mut Vec<Instr>) -> Result<(), AllocError>
     ensures { OnOk result (Emits out.old.items out.new.items
-        (names_made (view_layout y.now) zero (view_layout y.now).names)) }
+        (names_made (view_layout layout.now) zero (view_layout layout.now).names)) }
 {
     let mut name = 0;
-    for declared in y.script.names() {
-        name_made(y, out, declared.kind, name)?;
+    for declared in layout.script.names() {
+        name_made(layout, out, declared.kind, name)?;
         name += 1;
     }
     Ok(())
 }
 
 /// Adds what is done before the script's own statements.
-pub(crate) fn before_parts(y: &FunctionLayout<'_>, out: &mut Vec<Instr>) -> Result<(), AllocError>
-    requires { length (view_mid y.now.script.now.program.now).routines ≤ most_places }
+pub(crate) fn before_parts(
+    layout: &FunctionLayout<'_>,
+    out: &mut Vec<Instr>,
+) -> Result<(), AllocError>
+    requires { length (view_mid layout.now.script.now.program.now).routines ≤ most_places }
     ensures { OnOk result (Emits out.old.items out.new.items
-        (before_parts (view_layout y.now) (view_mid y.now.script.now.program.now))) }
+        (before_parts (view_layout layout.now) (view_mid layout.now.script.now.program.now))) }
 {
-    started(y, out)?;
-    names_told(y, out)?;
-    names_made(y, out)?;
-    asked(y, out, Primitive::StartAssign, 0, 0)
+    started(layout, out)?;
+    names_told(layout, out)?;
+    names_made(layout, out)?;
+    asked(layout, out, Primitive::StartAssign, 0, 0)
 }

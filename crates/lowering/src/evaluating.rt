@@ -30,19 +30,19 @@ use wasm_types::{Instr, Simple};
 
 /// Adds code that is evaluated for what it does alone.
 pub(crate) fn dropped(
-    y: &FunctionLayout<'_>,
+    layout: &FunctionLayout<'_>,
     kept: &mut Kept,
     out: &mut Vec<Instr>,
     code: &Code,
     at: At,
 ) -> Result<(), AllocError>
-    requires fit { Fits (view_layout y.now) (view code.now) at.temporary at.arrays at.exit }
+    requires fit { Fits (view_layout layout.now) (view code.now) at.temporary at.arrays at.exit }
     requires few { at.temporary ≤ most_places }
-    ensures { OnOk result (Emits out.old.items out.new.items (dropped (view_layout y.now)
+    ensures { OnOk result (Emits out.old.items out.new.items (dropped (view_layout layout.now)
         kept.old.forms kept.old.temporaries (view code.now) at.temporary at.arrays at.exit)) }
 {
-    let form = expression(y, kept, out, true, code, at)?;
-    left_over(y, out, code, form, at.temporary)
+    let form = expression(layout, kept, out, true, code, at)?;
+    left_over(layout, out, code, form, at.temporary)
 }
 
 /// Where a statement's code is evaluated.
@@ -58,33 +58,33 @@ pub(crate) fn at_first(exit: u32) -> At
 
 /// Adds code for what it does alone, in all cases, where nothing is kept.
 fn done_alone(
-    y: &FunctionLayout<'_>,
+    layout: &FunctionLayout<'_>,
     out: &mut Vec<Instr>,
     code: &Code,
     exit: u32,
 ) -> Result<(), AllocError>
-    requires { Fits (view_layout y.now) (view code.now) 0 0 exit }
+    requires { Fits (view_layout layout.now) (view code.now) 0 0 exit }
     ensures { OnOk result (Emits out.old.items out.new.items
-        (dropped (view_layout y.now) [] [] (view code.now) 0 0 exit)) }
+        (dropped (view_layout layout.now) [] [] (view code.now) 0 0 exit)) }
 {
-    let mut kept = Kept::none(y.alloc);
-    dropped(y, &mut kept, out, code, at_first(exit))
+    let mut kept = Kept::none(layout.alloc);
+    dropped(layout, &mut kept, out, code, at_first(exit))
 }
 
 /// The same in a list of its own.
-fn alone_code(y: &FunctionLayout<'_>, code: &Code, exit: u32) -> Result<Vec<Instr>, AllocError>
-    requires { Fits (view_layout y.now) (view code.now) 0 0 exit }
-    ensures { IfOk result
-        (λ v. Emits [] v.items (dropped (view_layout y.now) [] [] (view code.now) 0 0 exit)) }
+fn alone_code(layout: &FunctionLayout<'_>, code: &Code, exit: u32) -> Result<Vec<Instr>, AllocError>
+    requires { Fits (view_layout layout.now) (view code.now) 0 0 exit }
+    ensures { IfOk result (λ made. Emits [] made.items
+        (dropped (view_layout layout.now) [] [] (view code.now) 0 0 exit)) }
 {
-    let mut all = Vec::new(y.alloc);
-    done_alone(y, &mut all, code, exit)?;
+    let mut all = Vec::new(layout.alloc);
+    done_alone(layout, &mut all, code, exit)?;
     Ok(all)
 }
 
 /// Adds a remainder that a name takes: by the module itself where no product leaves the range.
 fn remainder_done(
-    y: &FunctionLayout<'_>,
+    layout: &FunctionLayout<'_>,
     out: &mut Vec<Instr>,
     remainder: Remainder,
     code: &Code,
@@ -92,202 +92,205 @@ fn remainder_done(
 ) -> Result<(), AllocError>
     requires labels { suc (suc (suc exit)) ≤ most_labels }
     requires remainder { RemainderFits (view_remainder remainder) }
-    requires fit { Fits (view_layout y.now) (view code.now) 0 0 (suc exit) }
+    requires fit { Fits (view_layout layout.now) (view code.now) 0 0 (suc exit) }
     ensures { OnOk result (Emits out.old.items out.new.items
-        (remainder_done (view_layout y.now) (view_remainder remainder) (view code.now) exit)) }
+        (remainder_done (view_layout layout.now) (view_remainder remainder) (view code.now) exit)) }
 {
-    let names = remainder_names(y.alloc, remainder)?;
+    let names = remainder_names(layout.alloc, remainder)?;
     let most = most_multiplied(remainder.multiple.factor);
-    all_unsure(y, out, &names, most, most + most)?;
-    let all_cases = alone_code(y, code, exit + 1)?;
-    let quick = remainder_code(y, remainder)?;
-    either(y.alloc, out, all_cases, quick)
+    all_unsure(layout, out, &names, most, most + most)?;
+    let all_cases = alone_code(layout, code, exit + 1)?;
+    let quick = remainder_code(layout, remainder)?;
+    either(layout.alloc, out, all_cases, quick)
 }
 
 /// Adds code for what it does alone that is no sum for a name, and no counter.
 fn rest_done(
-    y: &FunctionLayout<'_>,
+    layout: &FunctionLayout<'_>,
     out: &mut Vec<Instr>,
     code: &Code,
     exit: u32,
 ) -> Result<(), AllocError>
     requires labels { suc (suc (suc exit)) ≤ most_labels }
-    requires fit { Fits (view_layout y.now) (view code.now) 0 0 exit }
-    ensures { OnOk result (Emits out.old.items out.new.items (remainder_dropped (view_layout y.now)
-        (remainder_in (view code.now)) (view code.now) exit)) }
+    requires fit { Fits (view_layout layout.now) (view code.now) 0 0 exit }
+    ensures { OnOk result (Emits out.old.items out.new.items (remainder_dropped
+        (view_layout layout.now) (remainder_in (view code.now)) (view code.now) exit)) }
 {
     match remainder_in(code) {
-        Some(remainder) => remainder_done(y, out, remainder, code, exit),
-        None => done_alone(y, out, code, exit),
+        Some(remainder) => remainder_done(layout, out, remainder, code, exit),
+        None => done_alone(layout, out, code, exit),
     }
 }
 
 /// Adds a sum that a name takes: by the module itself where all numbers are near.
 fn sum_done(
-    y: &FunctionLayout<'_>,
+    layout: &FunctionLayout<'_>,
     out: &mut Vec<Instr>,
     sum: Sum,
     exit: u32,
 ) -> Result<(), AllocError>
     requires labels { suc (suc (suc exit)) ≤ most_labels }
     requires sum { SumFits (view_sum sum) }
-    ensures { OnOk result
-        (Emits out.old.items out.new.items (sum_done (view_layout y.now) (view_sum sum) exit)) }
+    ensures { OnOk result (Emits out.old.items out.new.items
+        (sum_done (view_layout layout.now) (view_sum sum) exit)) }
 {
-    let names = sum_names(y.alloc, sum)?;
-    all_unsure(y, out, &names, 1 << 52, 1 << 53)?;
-    let all_cases = anyway_code(y, sum, exit + 1)?;
-    let quick = sum_code(y, sum)?;
-    either(y.alloc, out, all_cases, quick)
+    let names = sum_names(layout.alloc, sum)?;
+    all_unsure(layout, out, &names, 1 << 52, 1 << 53)?;
+    let all_cases = anyway_code(layout, sum, exit + 1)?;
+    let quick = sum_code(layout, sum)?;
+    either(layout.alloc, out, all_cases, quick)
 }
 
 /// Adds code for what it does alone that is no sum for a name.
 fn barely_done(
-    y: &FunctionLayout<'_>,
+    layout: &FunctionLayout<'_>,
     out: &mut Vec<Instr>,
     code: &Code,
     exit: u32,
 ) -> Result<(), AllocError>
     requires labels { suc (suc (suc exit)) ≤ most_labels }
-    requires fit { Fits (view_layout y.now) (view code.now) 0 0 exit }
+    requires fit { Fits (view_layout layout.now) (view code.now) 0 0 exit }
     ensures { OnOk result (Emits out.old.items out.new.items
-        (barely_dropped (view_layout y.now) (tally_in (view code.now)) (view code.now) exit)) }
+        (barely_dropped (view_layout layout.now) (tally_in (view code.now)) (view code.now) exit)) }
 {
     match tally_in(code) {
-        Some(tally) => tallied(y, out, tally, exit),
-        None => rest_done(y, out, code, exit),
+        Some(tally) => tallied(layout, out, tally, exit),
+        None => rest_done(layout, out, code, exit),
     }
 }
 
 /// Adds code for what it does alone that is no sum of sources.
 fn plainly_done(
-    y: &FunctionLayout<'_>,
+    layout: &FunctionLayout<'_>,
     out: &mut Vec<Instr>,
     code: &Code,
     exit: u32,
 ) -> Result<(), AllocError>
     requires labels { suc (suc (suc exit)) ≤ most_labels }
-    requires fit { Fits (view_layout y.now) (view code.now) 0 0 exit }
-    ensures { OnOk result (Emits out.old.items out.new.items
-        (plainly_dropped (view_layout y.now) (update_in (view code.now)) (view code.now) exit)) }
+    requires fit { Fits (view_layout layout.now) (view code.now) 0 0 exit }
+    ensures { OnOk result (Emits out.old.items out.new.items (plainly_dropped
+        (view_layout layout.now) (update_in (view code.now)) (view code.now) exit)) }
 {
     match update_in(code) {
-        Some(update) => updated(y, out, update, exit),
-        None => barely_done(y, out, code, exit),
+        Some(update) => updated(layout, out, update, exit),
+        None => barely_done(layout, out, code, exit),
     }
 }
 
 /// Adds code for what it does alone, where nothing is kept.
 pub(crate) fn done(
-    y: &FunctionLayout<'_>,
+    layout: &FunctionLayout<'_>,
     out: &mut Vec<Instr>,
     code: &Code,
     exit: u32,
 ) -> Result<(), AllocError>
     requires labels { suc (suc (suc exit)) ≤ most_labels }
-    requires fit { Fits (view_layout y.now) (view code.now) 0 0 exit }
+    requires fit { Fits (view_layout layout.now) (view code.now) 0 0 exit }
     ensures { OnOk result (Emits out.old.items out.new.items
-        (quickly_dropped (view_layout y.now) (sum_in (view code.now)) (view code.now) exit)) }
+        (quickly_dropped (view_layout layout.now) (sum_in (view code.now)) (view code.now) exit)) }
 {
     match sum_in(code) {
-        Some(sum) => sum_done(y, out, sum, exit),
-        None => plainly_done(y, out, code, exit),
+        Some(sum) => sum_done(layout, out, sum, exit),
+        None => plainly_done(layout, out, code, exit),
     }
 }
 
 /// Adds code whose answer goes to the first temporary, where nothing is kept.
 pub(crate) fn answered(
-    y: &FunctionLayout<'_>,
+    layout: &FunctionLayout<'_>,
     out: &mut Vec<Instr>,
     code: &Code,
     exit: u32,
 ) -> Result<Form, AllocError>
-    requires { Fits (view_layout y.now) (view code.now) 0 0 exit }
+    requires { Fits (view_layout layout.now) (view code.now) 0 0 exit }
     ensures form { IfOk result (λ form. view_form form ≡ form_of [] (view code.now)) }
     ensures emits { OnOk result (Emits out.old.items out.new.items
-        (emitted (view_layout y.now) false [] [] (view code.now) 0 0 exit)) }
+        (emitted (view_layout layout.now) false [] [] (view code.now) 0 0 exit)) }
 {
-    let mut kept = Kept::none(y.alloc);
-    expression(y, &mut kept, out, false, code, at_first(exit))
+    let mut kept = Kept::none(layout.alloc);
+    expression(layout, &mut kept, out, false, code, at_first(exit))
 }
 
 /// Adds a test, whose truth is put on the stack.
 pub(crate) fn tested(
-    y: &FunctionLayout<'_>,
+    layout: &FunctionLayout<'_>,
     out: &mut Vec<Instr>,
     test: &Code,
     exit: u32,
 ) -> Result<(), AllocError>
-    requires { Fits (view_layout y.now) (view test.now) 0 0 exit }
+    requires { Fits (view_layout layout.now) (view test.now) 0 0 exit }
     ensures { OnOk result (Emits out.old.items out.new.items
-        (tested (view_layout y.now) [] [] (view test.now) 0 0 exit)) }
+        (tested (view_layout layout.now) [] [] (view test.now) 0 0 exit)) }
 {
-    let form = answered(y, out, test, exit)?;
-    truth(y.alloc, y.bases, out, form, 0)
+    let form = answered(layout, out, test, exit)?;
+    truth(layout.alloc, layout.bases, out, form, 0)
 }
 
 /// Sets the status, and leaves the function by `exit`.
 fn status_left(
     alloc: Global,
-    b: &Bases,
+    bases: &Bases,
     out: &mut Vec<Instr>,
     form: Form,
     exit: u32,
 ) -> Result<(), AllocError>
     requires { exit ≤ most_labels }
     ensures { OnOk result
-        (Emits out.old.items out.new.items (status_left b.now (view_form form) exit)) }
+        (Emits out.old.items out.new.items (status_left bases.now (view_form form) exit)) }
 {
-    to_number(alloc, b, out, form, 0, exit)?;
-    does_all(out, &[Simple::LocalGet(b.number(0)), Simple::GlobalSet(1)])?;
+    to_number(alloc, bases, out, form, 0, exit)?;
+    does_all(
+        out,
+        &[Simple::LocalGet(bases.number(0)), Simple::GlobalSet(1)],
+    )?;
     left_by(out, WAY_EXIT, exit)
 }
 
 /// Adds `exit` with a status.
 pub(crate) fn exit_with(
-    y: &FunctionLayout<'_>,
+    layout: &FunctionLayout<'_>,
     out: &mut Vec<Instr>,
     code: &Code,
     exit: u32,
 ) -> Result<(), AllocError>
-    requires fit { Fits (view_layout y.now) (view code.now) 0 0 exit }
+    requires fit { Fits (view_layout layout.now) (view code.now) 0 0 exit }
     requires labels { exit ≤ most_labels }
     ensures { OnOk result (Emits out.old.items out.new.items
-        (λ k. emitted (view_layout y.now) false [] [] (view code.now) 0 0 exit
-        (status_left y.now.bases.now (form_of [] (view code.now)) exit k))) }
+        (λ after. emitted (view_layout layout.now) false [] [] (view code.now) 0 0 exit
+        (status_left layout.now.bases.now (form_of [] (view code.now)) exit after))) }
 {
-    let form = answered(y, out, code, exit)?;
-    status_left(y.alloc, y.bases, out, form, exit)
+    let form = answered(layout, out, code, exit)?;
+    status_left(layout.alloc, layout.bases, out, form, exit)
 }
 
 /// Gives the answer of a function.
 fn answer_left(
     alloc: Global,
-    b: &Bases,
+    bases: &Bases,
     out: &mut Vec<Instr>,
     form: Form,
     exit: u32,
 ) -> Result<(), AllocError>
     ensures { OnOk result
-        (Emits out.old.items out.new.items (answer_left b.now (view_form form) exit)) }
+        (Emits out.old.items out.new.items (answer_left bases.now (view_form form) exit)) }
 {
-    to_value(alloc, b, out, form, 0)?;
-    moved_out(out, b.handle(0))?;
-    does_all(out, &[Simple::LocalSet(b.answer()), Simple::Br(exit)])
+    to_value(alloc, bases, out, form, 0)?;
+    moved_out(out, bases.handle(0))?;
+    does_all(out, &[Simple::LocalSet(bases.answer()), Simple::Br(exit)])
 }
 
 /// Adds `return`.
 pub(crate) fn returned(
-    y: &FunctionLayout<'_>,
+    layout: &FunctionLayout<'_>,
     out: &mut Vec<Instr>,
     code: &Code,
     exit: u32,
 ) -> Result<(), AllocError>
-    requires { Fits (view_layout y.now) (view code.now) 0 0 exit }
+    requires { Fits (view_layout layout.now) (view code.now) 0 0 exit }
     ensures { OnOk result (Emits out.old.items out.new.items
-        (λ k. emitted (view_layout y.now) false [] [] (view code.now) 0 0 exit
-        (answer_left y.now.bases.now (form_of [] (view code.now)) exit k))) }
+        (λ after. emitted (view_layout layout.now) false [] [] (view code.now) 0 0 exit
+        (answer_left layout.now.bases.now (form_of [] (view code.now)) exit after))) }
 {
-    let form = answered(y, out, code, exit)?;
-    answer_left(y.alloc, y.bases, out, form, exit)
+    let form = answered(layout, out, code, exit)?;
+    answer_left(layout.alloc, layout.bases, out, form, exit)
 }

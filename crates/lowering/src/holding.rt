@@ -21,26 +21,26 @@ pub enum Held {
 }
 
 /// How many of them there are.
-fn count(b: &Bases, held: Held) -> u32
-    ensures count { result ≡ held_count held b.now }
+fn count(bases: &Bases, held: Held) -> u32
+    ensures count { result ≡ held_count held bases.now }
     ensures few { result ≤ most_places }
 {
     match held {
-        Held::Temporaries => b.temporaries(),
-        Held::Iterators => b.iterators(),
-        Held::Arrays => b.arrays(),
+        Held::Temporaries => bases.temporaries(),
+        Held::Iterators => bases.iterators(),
+        Held::Arrays => bases.arrays(),
     }
 }
 
 /// The local of one of them.
-fn local(b: &Bases, held: Held, place: u32) -> u32
+fn local(bases: &Bases, held: Held, place: u32) -> u32
     requires { place ≤ most_places }
-    ensures { result ≡ held_local held b.now place }
+    ensures { result ≡ held_local held bases.now place }
 {
     match held {
-        Held::Temporaries => b.handle(place),
-        Held::Iterators => b.iterator(place),
-        Held::Arrays => b.array(place),
+        Held::Temporaries => bases.handle(place),
+        Held::Iterators => bases.iterator(place),
+        Held::Arrays => bases.array(place),
     }
 }
 
@@ -56,57 +56,68 @@ fn import(held: Held) -> Import
 }
 
 /// Empties all of one sort.
-fn held_emptied(b: &Bases, out: &mut Vec<Instr>, held: Held) -> Result<(), AllocError>
-    ensures { OnOk result
-        (Emits out.old.items out.new.items (held_emptied held b.now 0 (held_count held b.now))) }
+fn held_emptied(bases: &Bases, out: &mut Vec<Instr>, held: Held) -> Result<(), AllocError>
+    ensures { OnOk result (Emits out.old.items out.new.items
+        (held_emptied held bases.now 0 (held_count held bases.now))) }
 {
-    let count = count(b, held);
+    let count = count(bases, held);
     for place in 0..count {
-        emptied(out, local(b, held, place))?;
+        emptied(out, local(bases, held, place))?;
     }
     Ok(())
 }
 
 /// Empties what a function has, at its beginning.
-pub(crate) fn all_emptied(y: &FunctionLayout<'_>, out: &mut Vec<Instr>) -> Result<(), AllocError>
-    ensures { OnOk result (Emits out.old.items out.new.items (all_emptied (view_layout y.now))) }
+pub(crate) fn all_emptied(
+    layout: &FunctionLayout<'_>,
+    out: &mut Vec<Instr>,
+) -> Result<(), AllocError>
+    ensures { OnOk result
+        (Emits out.old.items out.new.items (all_emptied (view_layout layout.now))) }
 {
-    emptied(out, y.bases.answer())?;
-    held_emptied(y.bases, out, Held::Temporaries)?;
-    held_emptied(y.bases, out, Held::Iterators)?;
-    held_emptied(y.bases, out, Held::Arrays)
+    emptied(out, layout.bases.answer())?;
+    held_emptied(layout.bases, out, Held::Temporaries)?;
+    held_emptied(layout.bases, out, Held::Iterators)?;
+    held_emptied(layout.bases, out, Held::Arrays)
 }
 
 /// Lets all of one sort go.
-fn held_swept(y: &FunctionLayout<'_>, out: &mut Vec<Instr>, held: Held) -> Result<(), AllocError>
+fn held_swept(
+    layout: &FunctionLayout<'_>,
+    out: &mut Vec<Instr>,
+    held: Held,
+) -> Result<(), AllocError>
     ensures { OnOk result (Emits out.old.items out.new.items
-        (held_swept held y.now.bases.now 0 (held_count held y.now.bases.now))) }
+        (held_swept held layout.now.bases.now 0 (held_count held layout.now.bases.now))) }
 {
     let import = import(held);
-    let count = count(y.bases, held);
+    let count = count(layout.bases, held);
     for place in 0..count {
-        let_go(y.alloc, out, import, local(y.bases, held, place))?;
+        let_go(layout.alloc, out, import, local(layout.bases, held, place))?;
     }
     Ok(())
 }
 
 /// Lets go of what a function has.
-pub(crate) fn swept(y: &FunctionLayout<'_>, out: &mut Vec<Instr>) -> Result<(), AllocError>
-    ensures { OnOk result (Emits out.old.items out.new.items (swept (view_layout y.now))) }
+pub(crate) fn swept(layout: &FunctionLayout<'_>, out: &mut Vec<Instr>) -> Result<(), AllocError>
+    ensures { OnOk result (Emits out.old.items out.new.items (swept (view_layout layout.now))) }
 {
-    held_swept(y, out, Held::Temporaries)?;
-    held_swept(y, out, Held::Iterators)?;
-    held_swept(y, out, Held::Arrays)
+    held_swept(layout, out, Held::Temporaries)?;
+    held_swept(layout, out, Held::Iterators)?;
+    held_swept(layout, out, Held::Arrays)
 }
 
 /// Lets go of what `next` or `exit` left in `main`: where the script has no functions, that is no more than iterators.
-pub(crate) fn left_swept(y: &FunctionLayout<'_>, out: &mut Vec<Instr>) -> Result<(), AllocError>
+pub(crate) fn left_swept(
+    layout: &FunctionLayout<'_>,
+    out: &mut Vec<Instr>,
+) -> Result<(), AllocError>
     ensures { OnOk result (Emits out.old.items out.new.items
-        (left_swept (view_layout y.now) (has_functions (view_layout y.now).calls))) }
+        (left_swept (view_layout layout.now) (has_functions (view_layout layout.now).calls))) }
 {
-    if y.script.routines().is_empty() {
-        held_swept(y, out, Held::Iterators)
+    if layout.script.routines().is_empty() {
+        held_swept(layout, out, Held::Iterators)
     } else {
-        swept(y, out)
+        swept(layout, out)
     }
 }

@@ -36,8 +36,8 @@ pub(crate) fn left_by(out: &mut Vec<Instr>, way: u32, exit: u32) -> Result<(), A
 /// Opens the range of an item, or closes it.
 pub(crate) fn marked(out: &mut Vec<Instr>, item: usize, opens: bool) -> Result<(), AllocError>
     requires { item ≤ most_places }
-    ensures { OnOk result (Emits out.old.items out.new.items
-        (λ k. does (I32Const (flag_number opens)) (does (GlobalSet (range_global item)) k))) }
+    ensures { OnOk result (Emits out.old.items out.new.items (λ after. does
+        (I32Const (flag_number opens)) (does (GlobalSet (range_global item)) after))) }
 {
     let all = [
         Simple::I32Const(u32::from(opens)),

@@ -22,15 +22,15 @@ pub(crate) const MOST_BYTES: u64 = MAX_MODULE_BYTES as u64;
 
 /// How long the code of a statement is at least; that of a block by its statements, of which a script may have all in one.
 #[cycle(lengths)]
-fn step_length(y: &FunctionLayout<'_>, step: &Step) -> Result<u64, AllocError>
-    requires { StepFits (view_layout y.now) (view_step step.now) 0 0 }
-    ensures { IfOk result
-        (λ n. Weighs n (step_emitted (view_layout y.now) (view_step step.now) 0 0 0 0)) }
+fn step_length(layout: &FunctionLayout<'_>, step: &Step) -> Result<u64, AllocError>
+    requires { StepFits (view_layout layout.now) (view_step step.now) 0 0 }
+    ensures { IfOk result (λ bytes. Weighs bytes
+        (step_emitted (view_layout layout.now) (view_step step.now) 0 0 0 0)) }
 {
     match step {
-        Step::Block(steps) => steps_length(y, steps),
+        Step::Block(steps) => steps_length(layout, steps),
         _ => {
-            let code = inner(y, step, OUTERMOST)?;
+            let code = inner(layout, step, OUTERMOST)?;
             Ok(least_in(&code))
         }
     }
@@ -38,14 +38,14 @@ fn step_length(y: &FunctionLayout<'_>, step: &Step) -> Result<u64, AllocError>
 
 /// How long the code of statements is at least. What comes after too much is not looked at.
 #[cycle(lengths)]
-fn steps_length(y: &FunctionLayout<'_>, steps: &[Step]) -> Result<u64, AllocError>
-    requires { StepsFit (view_layout y.now) (view_steps steps.now) 0 0 }
-    ensures { IfOk result
-        (λ n. Weighs n (steps_emitted (view_layout y.now) (view_steps steps.now) 0 0 0 0)) }
+fn steps_length(layout: &FunctionLayout<'_>, steps: &[Step]) -> Result<u64, AllocError>
+    requires { StepsFit (view_layout layout.now) (view_steps steps.now) 0 0 }
+    ensures { IfOk result (λ bytes. Weighs bytes
+        (steps_emitted (view_layout layout.now) (view_steps steps.now) 0 0 0 0)) }
 {
     let mut bytes: u64 = 0;
     for step in steps {
-        bytes = bytes.saturating_add(step_length(y, step)?);
+        bytes = bytes.saturating_add(step_length(layout, step)?);
         if bytes > MOST_BYTES {
             return Ok(bytes);
         }
@@ -54,17 +54,17 @@ fn steps_length(y: &FunctionLayout<'_>, steps: &[Step]) -> Result<u64, AllocErro
 }
 
 /// How long the code of `main` is at least.
-pub(crate) fn main_length(y: &FunctionLayout<'_>) -> Result<u64, AllocError>
-    requires { PartsFit (view_layout y.now) (view_mid y.now.script.now.program.now) }
-    ensures { IfOk result (λ n. n
-        ≤ least_in (main_body (view_layout y.now) (view_mid y.now.script.now.program.now))) }
+pub(crate) fn main_length(layout: &FunctionLayout<'_>) -> Result<u64, AllocError>
+    requires { PartsFit (view_layout layout.now) (view_mid layout.now.script.now.program.now) }
+    ensures { IfOk result (λ bytes. bytes ≤ least_in
+        (main_body (view_layout layout.now) (view_mid layout.now.script.now.program.now))) }
 {
-    let program = y.script.program;
-    let begin = steps_length(y, &program.begin)?;
+    let program = layout.script.program;
+    let begin = steps_length(layout, &program.begin)?;
     if begin > MOST_BYTES {
         return Ok(begin);
     }
-    let end = steps_length(y, &program.end)?;
+    let end = steps_length(layout, &program.end)?;
     if end > MOST_BYTES {
         return Ok(end);
     }
@@ -72,7 +72,7 @@ pub(crate) fn main_length(y: &FunctionLayout<'_>) -> Result<u64, AllocError>
     if !program.reads {
         return Ok(outside);
     }
-    let items = steps_length(y, &program.items)?;
+    let items = steps_length(layout, &program.items)?;
     if items > MOST_BYTES {
         return Ok(items);
     }

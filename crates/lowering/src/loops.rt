@@ -31,8 +31,8 @@ pub(crate) fn rounds(
     out: &mut Vec<Instr>,
     turn: Vec<Instr>,
 ) -> Result<(), AllocError>
-    ensures { (a : Instructions → Instructions) → Emits [] turn.items a
-        → OnOk result (Emits out.old.items out.new.items (rounds (a Done))) }
+    ensures { (adds : Instructions → Instructions) → Emits [] turn.items adds
+        → OnOk result (Emits out.old.items out.new.items (rounds (adds Done))) }
 {
     let mut code = Vec::new(alloc);
     again(alloc, &mut code, turn)?;
@@ -41,24 +41,24 @@ pub(crate) fn rounds(
 
 /// Begins a turn again where a test holds.
 pub(crate) fn tested_on(
-    y: &FunctionLayout<'_>,
+    layout: &FunctionLayout<'_>,
     out: &mut Vec<Instr>,
     test: &Code,
     exit: u32,
 ) -> Result<(), AllocError>
-    requires fit { Fits (view_layout y.now) (view test.now) 0 0 (suc (suc exit)) }
+    requires fit { Fits (view_layout layout.now) (view test.now) 0 0 (suc (suc exit)) }
     requires labels { suc (suc exit) ≤ most_labels }
-    ensures { OnOk result
-        (Emits out.old.items out.new.items (tested_on (view_layout y.now) (view test.now) exit)) }
+    ensures { OnOk result (Emits out.old.items out.new.items
+        (tested_on (view_layout layout.now) (view test.now) exit)) }
 {
     does(out, Simple::Nop)?;
-    tested(y, out, test, exit + 2)?;
+    tested(layout, out, test, exit + 2)?;
     does(out, Simple::BrIf(0))
 }
 
 /// Makes an iterator over an array.
 pub(crate) fn iterator_made(
-    y: &FunctionLayout<'_>,
+    layout: &FunctionLayout<'_>,
     out: &mut Vec<Instr>,
     array: ArrayName,
     iterator: u32,
@@ -66,23 +66,23 @@ pub(crate) fn iterator_made(
     requires array { ArrayFits (view_array array) }
     requires few { iterator ≤ most_places }
     ensures { OnOk result (Emits out.old.items out.new.items
-        (iterator_made (view_layout y.now) (view_array array) iterator)) }
+        (iterator_made (view_layout layout.now) (view_array array) iterator)) }
 {
-    array_pushed(y, out, array)?;
+    array_pushed(layout, out, array)?;
     ask_row(out, Primitive::Iter)?;
-    does(out, Simple::LocalSet(y.bases.iterator(iterator)))
+    does(out, Simple::LocalSet(layout.bases.iterator(iterator)))
 }
 
 /// Asks for the next key, and leaves the loop where there is none.
-fn key_asked(b: &Bases, out: &mut Vec<Instr>, iterator: u32) -> Result<(), AllocError>
+fn key_asked(bases: &Bases, out: &mut Vec<Instr>, iterator: u32) -> Result<(), AllocError>
     requires { iterator ≤ most_places }
-    ensures { OnOk result (Emits out.old.items out.new.items (key_asked b.now iterator)) }
+    ensures { OnOk result (Emits out.old.items out.new.items (key_asked bases.now iterator)) }
 {
-    let local = b.iterator(iterator);
+    let local = bases.iterator(iterator);
     does_all(out, &[Simple::LocalGet(local), Simple::LocalTee(local)])?;
     ask_row(out, Primitive::IterNext)?;
     let all = [
-        Simple::LocalTee(b.handle(0)),
+        Simple::LocalTee(bases.handle(0)),
         Simple::I32Const(END_CODE),
         Simple::Compare(ValType::I32, IRelOp::Eq),
         Simple::BrIf(1),
@@ -92,54 +92,54 @@ fn key_asked(b: &Bases, out: &mut Vec<Instr>, iterator: u32) -> Result<(), Alloc
 
 /// Stores the next key, which is kept in the first temporary meanwhile.
 pub(crate) fn key_stored(
-    y: &FunctionLayout<'_>,
+    layout: &FunctionLayout<'_>,
     out: &mut Vec<Instr>,
     store: &Code,
     iterator: u32,
     exit: u32,
 ) -> Result<(), AllocError>
     requires few { iterator ≤ most_places }
-    requires fit { Fits (view_layout y.now) (view store.now) 1 0 exit }
+    requires fit { Fits (view_layout layout.now) (view store.now) 1 0 exit }
     ensures { OnOk result (Emits out.old.items out.new.items
-        (key_stored (view_layout y.now) iterator (view store.now) exit)) }
+        (key_stored (view_layout layout.now) iterator (view store.now) exit)) }
 {
-    key_asked(y.bases, out, iterator)?;
-    key_kept(y, out, store, exit)?;
-    let_go(y.alloc, out, Import::Drop, y.bases.handle(0))
+    key_asked(layout.bases, out, iterator)?;
+    key_kept(layout, out, store, exit)?;
+    let_go(layout.alloc, out, Import::Drop, layout.bases.handle(0))
 }
 
 /// Adds the code that stores what is kept in the first temporary.
 fn key_kept(
-    y: &FunctionLayout<'_>,
+    layout: &FunctionLayout<'_>,
     out: &mut Vec<Instr>,
     store: &Code,
     exit: u32,
 ) -> Result<(), AllocError>
-    requires { Fits (view_layout y.now) (view store.now) 1 0 exit }
+    requires { Fits (view_layout layout.now) (view store.now) 1 0 exit }
     ensures { OnOk result (Emits out.old.items out.new.items
-        (dropped (view_layout y.now) (a_value ∷ []) (zero ∷ []) (view store.now) 1 0 exit)) }
+        (dropped (view_layout layout.now) (a_value ∷ []) (zero ∷ []) (view store.now) 1 0 exit)) }
 {
-    let mut kept = Kept::none(y.alloc);
+    let mut kept = Kept::none(layout.alloc);
     kept.push(Form::Answered(Answer::Of(Sort::Value)), 0)?;
     let at = At {
         temporary: 1,
         arrays: 0,
         exit,
     };
-    dropped(y, &mut kept, out, store, at)
+    dropped(layout, &mut kept, out, store, at)
 }
 
 /// Lets an iterator go.
 pub(crate) fn iterator_left(
-    y: &FunctionLayout<'_>,
+    layout: &FunctionLayout<'_>,
     out: &mut Vec<Instr>,
     iterator: u32,
 ) -> Result<(), AllocError>
     requires { iterator ≤ most_places }
     ensures { OnOk result
-        (Emits out.old.items out.new.items (iterator_left (view_layout y.now) iterator)) }
+        (Emits out.old.items out.new.items (iterator_left (view_layout layout.now) iterator)) }
 {
-    emptied(out, y.bases.handle(0))?;
-    moved_out(out, y.bases.iterator(iterator))?;
+    emptied(out, layout.bases.handle(0))?;
+    moved_out(out, layout.bases.iterator(iterator))?;
     ask(out, Import::IterFree)
 }

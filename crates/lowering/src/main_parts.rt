@@ -26,9 +26,10 @@ use std::alloc::AllocError;
 use wasm_types::{CvtOp, IRelOp, ITestOp, Instr, Simple, ValType};
 
 /// Goes on after `exit`; a fault leads out, and `next`, which is not to be there, is one.
-fn part_left(y: &FunctionLayout<'_>, out: &mut Vec<Instr>, exit: u32) -> Result<(), AllocError>
+fn part_left(layout: &FunctionLayout<'_>, out: &mut Vec<Instr>, exit: u32) -> Result<(), AllocError>
     requires { LoopFits exit }
-    ensures { OnOk result (Emits out.old.items out.new.items (part_left (view_layout y.now) exit)) }
+    ensures { OnOk result
+        (Emits out.old.items out.new.items (part_left (view_layout layout.now) exit)) }
 {
     let all = [
         Simple::GlobalGet(0),
@@ -39,118 +40,124 @@ fn part_left(y: &FunctionLayout<'_>, out: &mut Vec<Instr>, exit: u32) -> Result<
         Simple::Compare(ValType::I32, IRelOp::Eq),
     ];
     does_all(out, &all)?;
-    fail_if(y.alloc, out, Fault::NextOutside, exit + 1)?;
-    goes_on(y, out)
+    fail_if(layout.alloc, out, Fault::NextOutside, exit + 1)?;
+    goes_on(layout, out)
 }
 
 /// A part, and how it was left.
 fn part_code(
-    y: &FunctionLayout<'_>,
+    layout: &FunctionLayout<'_>,
     actions: Vec<Instr>,
     exit: u32,
 ) -> Result<Vec<Instr>, AllocError>
     requires { LoopFits exit }
-    ensures { (a : Instructions → Instructions) → Emits [] actions.items a
-        → IfOk result (λ v. Emits [] v.items (part_code (view_layout y.now) (a Done) exit)) }
+    ensures { (adds : Instructions → Instructions) → Emits [] actions.items adds → IfOk result
+        (λ code. Emits [] code.items (part_code (view_layout layout.now) (adds Done) exit)) }
 {
-    let mut code = Vec::new(y.alloc);
-    block(y.alloc, &mut code, actions)?;
-    part_left(y, &mut code, exit)?;
+    let mut code = Vec::new(layout.alloc);
+    block(layout.alloc, &mut code, actions)?;
+    part_left(layout, &mut code, exit)?;
     Ok(code)
 }
 
 /// Adds a part of `main`, whose exit is `exit` labels further out.
 fn part_done(
-    y: &FunctionLayout<'_>,
+    layout: &FunctionLayout<'_>,
     out: &mut Vec<Instr>,
     actions: Vec<Instr>,
     exit: u32,
 ) -> Result<(), AllocError>
     requires { LoopFits exit }
-    ensures { (a : Instructions → Instructions) → Emits [] actions.items a → OnOk result
-        (Emits out.old.items out.new.items (part_done (view_layout y.now) (a Done) exit)) }
+    ensures { (adds : Instructions → Instructions) → Emits [] actions.items adds → OnOk result
+        (Emits out.old.items out.new.items (part_done (view_layout layout.now) (adds Done) exit)) }
 {
-    let inside = part_code(y, actions, exit)?;
-    block(y.alloc, out, inside)
+    let inside = part_code(layout, actions, exit)?;
+    block(layout.alloc, out, inside)
 }
 
 /// Reads records, if the script has any use for them.
 fn records_if(
-    y: &FunctionLayout<'_>,
+    layout: &FunctionLayout<'_>,
     out: &mut Vec<Instr>,
     reads: bool,
     items: &[Step],
 ) -> Result<(), AllocError>
-    requires { StepsFit (view_layout y.now) (view_steps items.now) 0 0 }
+    requires { StepsFit (view_layout layout.now) (view_steps items.now) 0 0 }
     ensures { OnOk result (Emits out.old.items out.new.items
-        (records_if (view_layout y.now) reads (view_steps items.now))) }
+        (records_if (view_layout layout.now) reads (view_steps items.now))) }
 {
     if reads {
-        records_read(y, out, items, 0)
+        records_read(layout, out, items, 0)
     } else {
         Ok(())
     }
 }
 
 /// What is done at the beginning, and for each record.
-fn first_code(y: &FunctionLayout<'_>) -> Result<Vec<Instr>, AllocError>
-    requires { PartsFit (view_layout y.now) (view_mid y.now.script.now.program.now) }
-    ensures { IfOk result (λ v. Emits [] v.items
-        (first_code (view_layout y.now) (view_mid y.now.script.now.program.now))) }
+fn first_code(layout: &FunctionLayout<'_>) -> Result<Vec<Instr>, AllocError>
+    requires { PartsFit (view_layout layout.now) (view_mid layout.now.script.now.program.now) }
+    ensures { IfOk result (λ code. Emits [] code.items
+        (first_code (view_layout layout.now) (view_mid layout.now.script.now.program.now))) }
 {
-    let program = y.script.program;
-    let mut code = Vec::new(y.alloc);
-    statements(y, &mut code, &program.begin, OUTERMOST)?;
-    records_if(y, &mut code, program.reads, &program.items)?;
+    let program = layout.script.program;
+    let mut code = Vec::new(layout.alloc);
+    statements(layout, &mut code, &program.begin, OUTERMOST)?;
+    records_if(layout, &mut code, program.reads, &program.items)?;
     does(&mut code, Simple::Br(1))?;
     Ok(code)
 }
 
 /// Both parts, and what goes before them.
-fn parts_code(y: &FunctionLayout<'_>) -> Result<Vec<Instr>, AllocError>
-    requires fit { PartsFit (view_layout y.now) (view_mid y.now.script.now.program.now) }
-    requires few { length (view_mid y.now.script.now.program.now).routines ≤ most_places }
-    ensures { IfOk result (λ v. Emits [] v.items
-        (parts_code (view_layout y.now) (view_mid y.now.script.now.program.now))) }
+fn parts_code(layout: &FunctionLayout<'_>) -> Result<Vec<Instr>, AllocError>
+    requires fit { PartsFit (view_layout layout.now) (view_mid layout.now.script.now.program.now) }
+    requires few { length (view_mid layout.now.script.now.program.now).routines ≤ most_places }
+    ensures { IfOk result (λ code. Emits [] code.items
+        (parts_code (view_layout layout.now) (view_mid layout.now.script.now.program.now))) }
 {
-    let mut code = Vec::new(y.alloc);
-    before_parts(y, &mut code)?;
-    part_done(y, &mut code, first_code(y)?, 0)?;
+    let mut code = Vec::new(layout.alloc);
+    before_parts(layout, &mut code)?;
+    part_done(layout, &mut code, first_code(layout)?, 0)?;
     ask_row(&mut code, Primitive::BeginEnd)?;
-    part_done(y, &mut code, items_code(y, &y.script.program.end)?, 0)?;
+    part_done(
+        layout,
+        &mut code,
+        items_code(layout, &layout.script.program.end)?,
+        0,
+    )?;
     Ok(code)
 }
 
 /// Lets go of what `main` has, and gives the status.
-fn status_given(y: &FunctionLayout<'_>, out: &mut Vec<Instr>) -> Result<(), AllocError>
-    ensures { OnOk result (Emits out.old.items out.new.items (status_given (view_layout y.now))) }
+fn status_given(layout: &FunctionLayout<'_>, out: &mut Vec<Instr>) -> Result<(), AllocError>
+    ensures { OnOk result
+        (Emits out.old.items out.new.items (status_given (view_layout layout.now))) }
 {
-    swept(y, out)?;
+    swept(layout, out)?;
     let all = [Simple::GlobalGet(1), Simple::Convert(CvtOp::I32WrapI64)];
     does_all(out, &all)
 }
 
 /// Adds the code of `main`.
-fn main_added(y: &FunctionLayout<'_>, out: &mut Vec<Instr>) -> Result<(), AllocError>
-    requires fit { PartsFit (view_layout y.now) (view_mid y.now.script.now.program.now) }
-    requires few { length (view_mid y.now.script.now.program.now).routines ≤ most_places }
+fn main_added(layout: &FunctionLayout<'_>, out: &mut Vec<Instr>) -> Result<(), AllocError>
+    requires fit { PartsFit (view_layout layout.now) (view_mid layout.now.script.now.program.now) }
+    requires few { length (view_mid layout.now.script.now.program.now).routines ≤ most_places }
     ensures { OnOk result (Emits out.old.items out.new.items
-        (main_code (view_layout y.now) (view_mid y.now.script.now.program.now))) }
+        (main_code (view_layout layout.now) (view_mid layout.now.script.now.program.now))) }
 {
-    all_emptied(y, out)?;
-    let inside = parts_code(y)?;
-    block(y.alloc, out, inside)?;
-    status_given(y, out)
+    all_emptied(layout, out)?;
+    let inside = parts_code(layout)?;
+    block(layout.alloc, out, inside)?;
+    status_given(layout, out)
 }
 
 /// The code of `main`.
-pub(crate) fn main_code(y: &FunctionLayout<'_>) -> Result<Vec<Instr>, AllocError>
-    requires fit { PartsFit (view_layout y.now) (view_mid y.now.script.now.program.now) }
-    requires few { length (view_mid y.now.script.now.program.now).routines ≤ most_places }
-    ensures { IfOk result (λ v. views v.items
-        ≡ main_body (view_layout y.now) (view_mid y.now.script.now.program.now)) }
+pub(crate) fn main_code(layout: &FunctionLayout<'_>) -> Result<Vec<Instr>, AllocError>
+    requires fit { PartsFit (view_layout layout.now) (view_mid layout.now.script.now.program.now) }
+    requires few { length (view_mid layout.now.script.now.program.now).routines ≤ most_places }
+    ensures { IfOk result (λ code. views code.items
+        ≡ main_body (view_layout layout.now) (view_mid layout.now.script.now.program.now)) }
 {
-    let mut code = Vec::new(y.alloc);
-    main_added(y, &mut code)?;
+    let mut code = Vec::new(layout.alloc);
+    main_added(layout, &mut code)?;
     Ok(code)
 }

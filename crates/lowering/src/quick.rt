@@ -21,11 +21,11 @@ use std::alloc::AllocError;
 use wasm_types::{IBinOp, IRelOp, Instr, Simple, ValType};
 
 /// What reads an unboxed name's number.
-fn name_read(y: &FunctionLayout<'_>, name: usize) -> Simple
+fn name_read(layout: &FunctionLayout<'_>, name: usize) -> Simple
     requires { name ≤ most_places }
-    ensures { result ≡ name_read (view_layout y.now) name }
+    ensures { result ≡ name_read (view_layout layout.now) name }
 {
-    Simple::GlobalGet(global_number(y, name))
+    Simple::GlobalGet(global_number(layout, name))
 }
 
 /// Adds a word and what is added to it.
@@ -53,31 +53,31 @@ fn past(out: &mut Vec<Instr>, width: u64) -> Result<(), AllocError>
 
 /// Adds the test whether a name has none of these numbers.
 pub(crate) fn unsure(
-    y: &FunctionLayout<'_>,
+    layout: &FunctionLayout<'_>,
     out: &mut Vec<Instr>,
     within: Within,
 ) -> Result<(), AllocError>
     requires { within.name ≤ most_places }
     ensures { OnOk result (Emits out.old.items out.new.items
-        (unsure (name_read (view_layout y.now) within.name) (pos largest) within.width)) }
+        (unsure (name_read (view_layout layout.now) within.name) (pos largest) within.width)) }
 {
-    shifted(out, name_read(y, within.name), MAX_NUMBER)?;
+    shifted(out, name_read(layout, within.name), MAX_NUMBER)?;
     past(out, within.width)
 }
 
 /// Joins the words of names, each shifted, to the one on the stack.
 fn joined(
-    y: &FunctionLayout<'_>,
+    layout: &FunctionLayout<'_>,
     out: &mut Vec<Instr>,
     names: &[usize],
     shift: u64,
 ) -> Result<(), AllocError>
     requires { NamesFit names.now }
     ensures { OnOk result (Emits out.old.items out.new.items
-        (joined (name_read (view_layout y.now)) names.now (pos shift))) }
+        (joined (name_read (view_layout layout.now)) names.now (pos shift))) }
 {
     for name in names {
-        shifted(out, name_read(y, *name), shift)?;
+        shifted(out, name_read(layout, *name), shift)?;
         does(out, Simple::Binary(ValType::I64, IBinOp::Or))?;
     }
     Ok(())
@@ -85,7 +85,7 @@ fn joined(
 
 /// Adds the test whether one of several names has no number, or one that is not from 0 to a width once it is shifted.
 pub(crate) fn all_unsure(
-    y: &FunctionLayout<'_>,
+    layout: &FunctionLayout<'_>,
     out: &mut Vec<Instr>,
     names: &[usize],
     shift: u64,
@@ -93,28 +93,28 @@ pub(crate) fn all_unsure(
 ) -> Result<(), AllocError>
     requires { NamesFit names.now }
     ensures { OnOk result (Emits out.old.items out.new.items
-        (all_unsure (name_read (view_layout y.now)) names.now (pos shift) width)) }
+        (all_unsure (name_read (view_layout layout.now)) names.now (pos shift) width)) }
 {
     let [first, others @ ..] = names else {
         return does(out, Simple::I32Const(0));
     };
-    shifted(out, name_read(y, *first), shift)?;
-    joined(y, out, others, shift)?;
+    shifted(out, name_read(layout, *first), shift)?;
+    joined(layout, out, others, shift)?;
     past(out, width)
 }
 
 /// Puts a source on the stack.
 fn source_pushed(
-    y: &FunctionLayout<'_>,
+    layout: &FunctionLayout<'_>,
     out: &mut Vec<Instr>,
     source: Source,
 ) -> Result<(), AllocError>
     requires { SourceFits (view_source source) }
     ensures { OnOk result (Emits out.old.items out.new.items
-        (source_pushed (view_layout y.now) (view_source source))) }
+        (source_pushed (view_layout layout.now) (view_source source))) }
 {
     match source {
-        Source::Named(name) => does(out, name_read(y, name)),
+        Source::Named(name) => does(out, name_read(layout, name)),
         Source::Constant(number) => does(out, Simple::I64Const(number.cast_unsigned())),
     }
 }
@@ -133,27 +133,28 @@ pub(crate) fn sum_op(op: Arithmetic) -> IBinOp
 }
 
 /// Adds a sum in range, which its name takes.
-fn summed(y: &FunctionLayout<'_>, out: &mut Vec<Instr>, sum: Sum) -> Result<(), AllocError>
+fn summed(layout: &FunctionLayout<'_>, out: &mut Vec<Instr>, sum: Sum) -> Result<(), AllocError>
     requires { SumFits (view_sum sum) }
     ensures { OnOk result
-        (Emits out.old.items out.new.items (summed (view_layout y.now) (view_sum sum))) }
+        (Emits out.old.items out.new.items (summed (view_layout layout.now) (view_sum sum))) }
 {
-    source_pushed(y, out, sum.left)?;
-    source_pushed(y, out, sum.right)?;
+    source_pushed(layout, out, sum.left)?;
+    source_pushed(layout, out, sum.right)?;
     let all = [
         Simple::Binary(ValType::I64, sum_op(sum.op)),
-        Simple::GlobalSet(global_number(y, sum.target)),
+        Simple::GlobalSet(global_number(layout, sum.target)),
     ];
     does_all(out, &all)
 }
 
 /// The same in a list of its own.
-pub(crate) fn sum_code(y: &FunctionLayout<'_>, sum: Sum) -> Result<Vec<Instr>, AllocError>
+pub(crate) fn sum_code(layout: &FunctionLayout<'_>, sum: Sum) -> Result<Vec<Instr>, AllocError>
     requires { SumFits (view_sum sum) }
-    ensures { IfOk result (λ v. Emits [] v.items (summed (view_layout y.now) (view_sum sum))) }
+    ensures { IfOk result
+        (λ code. Emits [] code.items (summed (view_layout layout.now) (view_sum sum))) }
 {
-    let mut code = Vec::new(y.alloc);
-    summed(y, &mut code, sum)?;
+    let mut code = Vec::new(layout.alloc);
+    summed(layout, &mut code, sum)?;
     Ok(code)
 }
 
@@ -183,51 +184,51 @@ fn multiplied(out: &mut Vec<Instr>, factor: Option<i64>) -> Result<(), AllocErro
 
 /// Adds a remainder of a number in range, which its name takes.
 fn remainder_taken(
-    y: &FunctionLayout<'_>,
+    layout: &FunctionLayout<'_>,
     out: &mut Vec<Instr>,
     remainder: Remainder,
 ) -> Result<(), AllocError>
     requires { RemainderFits (view_remainder remainder) }
     ensures { OnOk result (Emits out.old.items out.new.items
-        (remainder_taken (view_layout y.now) (view_remainder remainder))) }
+        (remainder_taken (view_layout layout.now) (view_remainder remainder))) }
 {
-    does(out, name_read(y, remainder.multiple.name))?;
+    does(out, name_read(layout, remainder.multiple.name))?;
     multiplied(out, remainder.multiple.factor)?;
     let all = [
         Simple::I64Const(remainder.divisor.cast_unsigned()),
         Simple::Binary(ValType::I64, IBinOp::RemS),
-        Simple::GlobalSet(global_number(y, remainder.target)),
+        Simple::GlobalSet(global_number(layout, remainder.target)),
     ];
     does_all(out, &all)
 }
 
 /// The same in a list of its own.
 pub(crate) fn remainder_code(
-    y: &FunctionLayout<'_>,
+    layout: &FunctionLayout<'_>,
     remainder: Remainder,
 ) -> Result<Vec<Instr>, AllocError>
     requires { RemainderFits (view_remainder remainder) }
-    ensures { IfOk result
-        (λ v. Emits [] v.items (remainder_taken (view_layout y.now) (view_remainder remainder))) }
+    ensures { IfOk result (λ code. Emits [] code.items
+        (remainder_taken (view_layout layout.now) (view_remainder remainder))) }
 {
-    let mut code = Vec::new(y.alloc);
-    remainder_taken(y, &mut code, remainder)?;
+    let mut code = Vec::new(layout.alloc);
+    remainder_taken(layout, &mut code, remainder)?;
     Ok(code)
 }
 
 /// Adds a comparison of numbers, and leaves to a label where it does not hold.
 fn pair_left(
-    y: &FunctionLayout<'_>,
+    layout: &FunctionLayout<'_>,
     out: &mut Vec<Instr>,
     pair: Pair,
     label: u32,
 ) -> Result<(), AllocError>
     requires { PairFits (view_pair pair) }
-    ensures { OnOk result
-        (Emits out.old.items out.new.items (pair_left (view_layout y.now) (view_pair pair) label)) }
+    ensures { OnOk result (Emits out.old.items out.new.items
+        (pair_left (view_layout layout.now) (view_pair pair) label)) }
 {
-    source_pushed(y, out, pair.left)?;
-    source_pushed(y, out, pair.right)?;
+    source_pushed(layout, out, pair.left)?;
+    source_pushed(layout, out, pair.right)?;
     let all = [
         Simple::Compare(ValType::I64, relation(contrary(pair.op))),
         Simple::BrIf(label),
@@ -237,32 +238,32 @@ fn pair_left(
 
 /// The same in a list of its own, from within one label more.
 pub(crate) fn pair_code(
-    y: &FunctionLayout<'_>,
+    layout: &FunctionLayout<'_>,
     pair: Pair,
     label: u32,
 ) -> Result<Vec<Instr>, AllocError>
     requires label { label ≤ most_labels }
     requires pair { PairFits (view_pair pair) }
-    ensures { IfOk result
-        (λ v. Emits [] v.items (pair_left (view_layout y.now) (view_pair pair) (suc label))) }
+    ensures { IfOk result (λ code. Emits [] code.items
+        (pair_left (view_layout layout.now) (view_pair pair) (suc label))) }
 {
-    let mut code = Vec::new(y.alloc);
-    pair_left(y, &mut code, pair, label + 1)?;
+    let mut code = Vec::new(layout.alloc);
+    pair_left(layout, &mut code, pair, label + 1)?;
     Ok(code)
 }
 
 /// Adds a comparison of a name's number with how many fields there are, and leaves to a label where it does not hold.
 fn counted_left(
-    y: &FunctionLayout<'_>,
+    layout: &FunctionLayout<'_>,
     out: &mut Vec<Instr>,
     counted: Counted,
     label: u32,
 ) -> Result<(), AllocError>
     requires { counted.name ≤ most_places }
     ensures { OnOk result (Emits out.old.items out.new.items
-        (counted_left (view_layout y.now) (view_counted counted) label)) }
+        (counted_left (view_layout layout.now) (view_counted counted) label)) }
 {
-    does(out, name_read(y, counted.name))?;
+    does(out, name_read(layout, counted.name))?;
     does(out, Simple::I32Const(u32::from(Special::Nf.number())))?;
     ask_row(out, Primitive::GetSpecial)?;
     ask_row(out, Primitive::ToNum)?;
@@ -275,32 +276,32 @@ fn counted_left(
 
 /// The same in a list of its own, from within one label more.
 pub(crate) fn counted_code(
-    y: &FunctionLayout<'_>,
+    layout: &FunctionLayout<'_>,
     counted: Counted,
     label: u32,
 ) -> Result<Vec<Instr>, AllocError>
     requires label { label ≤ most_labels }
     requires name { counted.name ≤ most_places }
-    ensures { IfOk result (λ v. Emits [] v.items
-        (counted_left (view_layout y.now) (view_counted counted) (suc label))) }
+    ensures { IfOk result (λ code. Emits [] code.items
+        (counted_left (view_layout layout.now) (view_counted counted) (suc label))) }
 {
-    let mut code = Vec::new(y.alloc);
-    counted_left(y, &mut code, counted, label + 1)?;
+    let mut code = Vec::new(layout.alloc);
+    counted_left(layout, &mut code, counted, label + 1)?;
     Ok(code)
 }
 
 /// Adds the test whether a name has no number.
 pub(crate) fn unnumbered(
-    y: &FunctionLayout<'_>,
+    layout: &FunctionLayout<'_>,
     out: &mut Vec<Instr>,
     name: usize,
 ) -> Result<(), AllocError>
     requires { name ≤ most_places }
     ensures { OnOk result
-        (Emits out.old.items out.new.items (unnumbered (view_layout y.now) name)) }
+        (Emits out.old.items out.new.items (unnumbered (view_layout layout.now) name)) }
 {
     let all = [
-        name_read(y, name),
+        name_read(layout, name),
         Simple::I64Const(TEXT_BESIDE),
         Simple::Compare(ValType::I64, IRelOp::LeS),
     ];

@@ -20,18 +20,22 @@ use std::alloc::AllocError;
 use wasm_types::{IRelOp, Instr, Simple, ValType};
 
 /// Goes on after `next` or `exit`, once what was held is let go.
-pub(crate) fn goes_on(y: &FunctionLayout<'_>, out: &mut Vec<Instr>) -> Result<(), AllocError>
-    ensures { OnOk result (Emits out.old.items out.new.items (goes_on (view_layout y.now))) }
+pub(crate) fn goes_on(layout: &FunctionLayout<'_>, out: &mut Vec<Instr>) -> Result<(), AllocError>
+    ensures { OnOk result (Emits out.old.items out.new.items (goes_on (view_layout layout.now))) }
 {
     does_all(out, &[Simple::I32Const(WAY_NONE), Simple::GlobalSet(0)])?;
-    left_swept(y, out)
+    left_swept(layout, out)
 }
 
 /// Goes on after `next`; all else leads out.
-fn next_taken(y: &FunctionLayout<'_>, out: &mut Vec<Instr>, exit: u32) -> Result<(), AllocError>
+fn next_taken(
+    layout: &FunctionLayout<'_>,
+    out: &mut Vec<Instr>,
+    exit: u32,
+) -> Result<(), AllocError>
     requires { exit ≤ most_labels }
     ensures { OnOk result
-        (Emits out.old.items out.new.items (next_taken (view_layout y.now) exit)) }
+        (Emits out.old.items out.new.items (next_taken (view_layout layout.now) exit)) }
 {
     let all = [
         Simple::GlobalGet(0),
@@ -40,109 +44,128 @@ fn next_taken(y: &FunctionLayout<'_>, out: &mut Vec<Instr>, exit: u32) -> Result
         Simple::BrIf(exit + 1),
     ];
     does_all(out, &all)?;
-    goes_on(y, out)
+    goes_on(layout, out)
 }
 
 /// Statements of `main` that nothing left.
-pub(crate) fn items_code(y: &FunctionLayout<'_>, items: &[Step]) -> Result<Vec<Instr>, AllocError>
-    requires { StepsFit (view_layout y.now) (view_steps items.now) 0 0 }
+pub(crate) fn items_code(
+    layout: &FunctionLayout<'_>,
+    items: &[Step],
+) -> Result<Vec<Instr>, AllocError>
+    requires { StepsFit (view_layout layout.now) (view_steps items.now) 0 0 }
     ensures { IfOk result
-        (λ v. Emits [] v.items (items_code (view_layout y.now) (view_steps items.now))) }
+        (λ code. Emits [] code.items (items_code (view_layout layout.now) (view_steps items.now))) }
 {
-    let mut code = Vec::new(y.alloc);
-    statements(y, &mut code, items, OUTERMOST)?;
+    let mut code = Vec::new(layout.alloc);
+    statements(layout, &mut code, items, OUTERMOST)?;
     does(&mut code, Simple::Br(1))?;
     Ok(code)
 }
 
 /// The items for a record, and how they were left.
-fn record_code(y: &FunctionLayout<'_>, items: &[Step], exit: u32) -> Result<Vec<Instr>, AllocError>
+fn record_code(
+    layout: &FunctionLayout<'_>,
+    items: &[Step],
+    exit: u32,
+) -> Result<Vec<Instr>, AllocError>
     requires labels { exit ≤ most_labels }
-    requires fit { StepsFit (view_layout y.now) (view_steps items.now) 0 0 }
-    ensures { IfOk result
-        (λ v. Emits [] v.items (record_code (view_layout y.now) (view_steps items.now) exit)) }
+    requires fit { StepsFit (view_layout layout.now) (view_steps items.now) 0 0 }
+    ensures { IfOk result (λ code. Emits [] code.items
+        (record_code (view_layout layout.now) (view_steps items.now) exit)) }
 {
-    let mut code = Vec::new(y.alloc);
-    let inside = items_code(y, items)?;
-    block(y.alloc, &mut code, inside)?;
-    next_taken(y, &mut code, exit)?;
+    let mut code = Vec::new(layout.alloc);
+    let inside = items_code(layout, items)?;
+    block(layout.alloc, &mut code, inside)?;
+    next_taken(layout, &mut code, exit)?;
     Ok(code)
 }
 
 /// Adds the items for a record.
 fn record_done(
-    y: &FunctionLayout<'_>,
+    layout: &FunctionLayout<'_>,
     out: &mut Vec<Instr>,
     items: &[Step],
     exit: u32,
 ) -> Result<(), AllocError>
     requires labels { exit ≤ most_labels }
-    requires fit { StepsFit (view_layout y.now) (view_steps items.now) 0 0 }
+    requires fit { StepsFit (view_layout layout.now) (view_steps items.now) 0 0 }
     ensures { OnOk result (Emits out.old.items out.new.items
-        (record_done (view_layout y.now) (view_steps items.now) exit)) }
+        (record_done (view_layout layout.now) (view_steps items.now) exit)) }
 {
-    let inside = record_code(y, items, exit)?;
-    block(y.alloc, out, inside)
+    let inside = record_code(layout, items, exit)?;
+    block(layout.alloc, out, inside)
 }
 
 /// Asks for a record, and adds the test whether there is one.
-fn record_asked(b: &Bases, out: &mut Vec<Instr>, exit: u32) -> Result<(), AllocError>
+fn record_asked(bases: &Bases, out: &mut Vec<Instr>, exit: u32) -> Result<(), AllocError>
     requires { exit ≤ most_labels }
-    ensures { OnOk result (Emits out.old.items out.new.items (record_asked b.now exit)) }
+    ensures { OnOk result (Emits out.old.items out.new.items (record_asked bases.now exit)) }
 {
     ask_row(out, Primitive::NextMain)?;
-    kept_code(b, out, true, 0, exit + 1)?;
-    number_is(out, b.number(0), 1)
+    kept_code(bases, out, true, 0, exit + 1)?;
+    number_is(out, bases.number(0), 1)
 }
 
 /// What is done where there is a record.
-fn record_way(y: &FunctionLayout<'_>, items: &[Step], exit: u32) -> Result<Vec<Instr>, AllocError>
+fn record_way(
+    layout: &FunctionLayout<'_>,
+    items: &[Step],
+    exit: u32,
+) -> Result<Vec<Instr>, AllocError>
     requires labels { exit ≤ most_labels }
-    requires fit { StepsFit (view_layout y.now) (view_steps items.now) 0 0 }
-    ensures { IfOk result
-        (λ v. Emits [] v.items (record_way (view_layout y.now) (view_steps items.now) exit)) }
+    requires fit { StepsFit (view_layout layout.now) (view_steps items.now) 0 0 }
+    ensures { IfOk result (λ code. Emits [] code.items
+        (record_way (view_layout layout.now) (view_steps items.now) exit)) }
 {
-    let mut code = Vec::new(y.alloc);
-    record_done(y, &mut code, items, exit)?;
+    let mut code = Vec::new(layout.alloc);
+    record_done(layout, &mut code, items, exit)?;
     does(&mut code, Simple::Br(1))?;
     Ok(code)
 }
 
 /// Makes an assignment of the command line, where one stands before the next record.
-fn assignment_made(y: &FunctionLayout<'_>, out: &mut Vec<Instr>) -> Result<(), AllocError>
+fn assignment_made(layout: &FunctionLayout<'_>, out: &mut Vec<Instr>) -> Result<(), AllocError>
     ensures { OnOk result
-        (Emits out.old.items out.new.items (assignment_made (view_layout y.now))) }
+        (Emits out.old.items out.new.items (assignment_made (view_layout layout.now))) }
 {
-    number_is(out, y.bases.number(0), 2)?;
-    when(y.alloc, out, pending_code(y, 0)?)
+    number_is(out, layout.bases.number(0), 2)?;
+    when(layout.alloc, out, pending_code(layout, 0)?)
 }
 
 /// One record, or one assignment.
-fn record_turn(y: &FunctionLayout<'_>, items: &[Step], exit: u32) -> Result<Vec<Instr>, AllocError>
+fn record_turn(
+    layout: &FunctionLayout<'_>,
+    items: &[Step],
+    exit: u32,
+) -> Result<Vec<Instr>, AllocError>
     requires labels { LoopFits exit }
-    requires fit { StepsFit (view_layout y.now) (view_steps items.now) 0 0 }
-    ensures { IfOk result
-        (λ v. Emits [] v.items (record_turn (view_layout y.now) (view_steps items.now) exit)) }
+    requires fit { StepsFit (view_layout layout.now) (view_steps items.now) 0 0 }
+    ensures { IfOk result (λ code. Emits [] code.items
+        (record_turn (view_layout layout.now) (view_steps items.now) exit)) }
 {
-    let mut code = Vec::new(y.alloc);
-    record_asked(y.bases, &mut code, exit)?;
-    when(y.alloc, &mut code, record_way(y, items, exit + 2)?)?;
-    assignment_made(y, &mut code)?;
+    let mut code = Vec::new(layout.alloc);
+    record_asked(layout.bases, &mut code, exit)?;
+    when(
+        layout.alloc,
+        &mut code,
+        record_way(layout, items, exit + 2)?,
+    )?;
+    assignment_made(layout, &mut code)?;
     Ok(code)
 }
 
 /// Reads records to the last one, with the items for each.
 pub(crate) fn records_read(
-    y: &FunctionLayout<'_>,
+    layout: &FunctionLayout<'_>,
     out: &mut Vec<Instr>,
     items: &[Step],
     exit: u32,
 ) -> Result<(), AllocError>
     requires labels { LoopFits exit }
-    requires fit { StepsFit (view_layout y.now) (view_steps items.now) 0 0 }
+    requires fit { StepsFit (view_layout layout.now) (view_steps items.now) 0 0 }
     ensures { OnOk result (Emits out.old.items out.new.items
-        (records_read (view_layout y.now) (view_steps items.now) exit)) }
+        (records_read (view_layout layout.now) (view_steps items.now) exit)) }
 {
-    let turn = record_turn(y, items, exit)?;
-    again(y.alloc, out, turn)
+    let turn = record_turn(layout, items, exit)?;
+    again(layout.alloc, out, turn)
 }

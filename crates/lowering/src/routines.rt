@@ -37,13 +37,13 @@ fn parameter_dropped(out: &mut Vec<Instr>, kind: Kind, local: u32) -> Result<(),
 
 /// Drops the values of parameters.
 fn parameters_dropped(
-    y: &FunctionLayout<'_>,
+    layout: &FunctionLayout<'_>,
     out: &mut Vec<Instr>,
     kinds: &[Kind],
 ) -> Result<(), AllocError>
     requires { length kinds.now ≤ most_places }
     ensures { OnOk result (Emits out.old.items out.new.items
-        (parameters_dropped (view_layout y.now) 0 (map view_kind kinds.now))) }
+        (parameters_dropped (view_layout layout.now) 0 (map view_kind kinds.now))) }
 {
     let mut local = 0;
     for kind in kinds {
@@ -54,63 +54,63 @@ fn parameters_dropped(
 }
 
 /// The statements of a function, after which the answer is the uninitialised value.
-fn body_code(y: &FunctionLayout<'_>, body: &[Step]) -> Result<Vec<Instr>, AllocError>
-    requires { StepsFit (view_layout y.now) (view_steps body.now) 0 0 }
-    ensures { IfOk result
-        (λ v. Emits [] v.items (routine_steps (view_layout y.now) (view_steps body.now))) }
+fn body_code(layout: &FunctionLayout<'_>, body: &[Step]) -> Result<Vec<Instr>, AllocError>
+    requires { StepsFit (view_layout layout.now) (view_steps body.now) 0 0 }
+    ensures { IfOk result (λ code. Emits [] code.items
+        (routine_steps (view_layout layout.now) (view_steps body.now))) }
 {
-    let mut code = Vec::new(y.alloc);
-    statements(y, &mut code, body, OUTERMOST)?;
+    let mut code = Vec::new(layout.alloc);
+    statements(layout, &mut code, body, OUTERMOST)?;
     ask_row(&mut code, Primitive::Uninit)?;
-    does(&mut code, Simple::LocalSet(y.bases.answer()))?;
+    does(&mut code, Simple::LocalSet(layout.bases.answer()))?;
     Ok(code)
 }
 
 /// Lets go of what a function has, and gives its answer.
 fn answer_given(
-    y: &FunctionLayout<'_>,
+    layout: &FunctionLayout<'_>,
     out: &mut Vec<Instr>,
     kinds: &[Kind],
 ) -> Result<(), AllocError>
     requires { length kinds.now ≤ most_places }
     ensures { OnOk result (Emits out.old.items out.new.items
-        (answer_given (view_layout y.now) (map view_kind kinds.now))) }
+        (answer_given (view_layout layout.now) (map view_kind kinds.now))) }
 {
-    swept(y, out)?;
-    parameters_dropped(y, out, kinds)?;
-    does(out, Simple::LocalGet(y.bases.answer()))
+    swept(layout, out)?;
+    parameters_dropped(layout, out, kinds)?;
+    does(out, Simple::LocalGet(layout.bases.answer()))
 }
 
 /// Adds the code of a function.
 fn routine_added(
-    y: &FunctionLayout<'_>,
+    layout: &FunctionLayout<'_>,
     out: &mut Vec<Instr>,
     kinds: &[Kind],
     body: &[Step],
 ) -> Result<(), AllocError>
     requires parameters { length kinds.now ≤ most_places }
-    requires fit { StepsFit (view_layout y.now) (view_steps body.now) 0 0 }
+    requires fit { StepsFit (view_layout layout.now) (view_steps body.now) 0 0 }
     ensures { OnOk result (Emits out.old.items out.new.items
-        (routine_code (view_layout y.now) (map view_kind kinds.now) (view_steps body.now))) }
+        (routine_code (view_layout layout.now) (map view_kind kinds.now) (view_steps body.now))) }
 {
-    all_emptied(y, out)?;
-    let inside = body_code(y, body)?;
-    block(y.alloc, out, inside)?;
-    answer_given(y, out, kinds)
+    all_emptied(layout, out)?;
+    let inside = body_code(layout, body)?;
+    block(layout.alloc, out, inside)?;
+    answer_given(layout, out, kinds)
 }
 
 /// The code of a function: its body is a block, whose end is the function's exit.
 pub(crate) fn routine_code(
-    y: &FunctionLayout<'_>,
+    layout: &FunctionLayout<'_>,
     kinds: &[Kind],
     body: &[Step],
 ) -> Result<Vec<Instr>, AllocError>
     requires parameters { length kinds.now ≤ most_places }
-    requires fit { StepsFit (view_layout y.now) (view_steps body.now) 0 0 }
-    ensures { IfOk result (λ v. views v.items
-        ≡ routine_body (view_layout y.now) (map view_kind kinds.now) (view_steps body.now)) }
+    requires fit { StepsFit (view_layout layout.now) (view_steps body.now) 0 0 }
+    ensures { IfOk result (λ code. views code.items
+        ≡ routine_body (view_layout layout.now) (map view_kind kinds.now) (view_steps body.now)) }
 {
-    let mut code = Vec::new(y.alloc);
-    routine_added(y, &mut code, kinds, body)?;
+    let mut code = Vec::new(layout.alloc);
+    routine_added(layout, &mut code, kinds, body)?;
     Ok(code)
 }

@@ -46,8 +46,9 @@ fn bases(needs: Needs) -> Bases
 
 /// What a function needs, if it is small enough.
 fn small_routine(routine: &Routine) -> Option<Needs>
-    ensures { MatchOption result (RoutineIsSmall (view_routine routine.now) → ⊥) (λ n. (view_needs n
-        ≡ routine_bases (view_routine routine.now)) × RoutineIsSmall (view_routine routine.now)) }
+    ensures { MatchOption result (RoutineIsSmall (view_routine routine.now) → ⊥)
+        (λ needs. (view_needs needs ≡ routine_bases (view_routine routine.now))
+        × RoutineIsSmall (view_routine routine.now)) }
 {
     if steps_labels(&routine.body) > MOST_NESTED {
         return None;
@@ -64,7 +65,7 @@ fn routine_function(
     requires few { length (view_mid layout.now.program.now).routines ≤ most_places }
     requires sorted { steps_sorted (context_of (view_mid layout.now.program.now)
         (view_routine routine.now).parameters) true false (view_routine routine.now).body ≡ true }
-    ensures function { IfOk result (λ f. view_function f
+    ensures function { IfOk result (λ made. view_function made
         ≡ routine_callee (view_mid layout.now.program.now) (view_routine routine.now)) }
     ensures small { OnOk result (RoutineIsSmall (view_routine routine.now)) }
     ensures too_large { IfErr result
@@ -74,12 +75,12 @@ fn routine_function(
         return Err(LowerFault::TooLarge);
     };
     let bases = bases(needs);
-    let y = FunctionLayout {
+    let function_layout = FunctionLayout {
         alloc,
         script: layout,
         bases: &bases,
     };
-    let body = routine_code(&y, &routine.parameters, &routine.body)?;
+    let body = routine_code(&function_layout, &routine.parameters, &routine.body)?;
     let kinds = routine.parameters.as_slice().to_vec(alloc)?;
     let locals = local_types(alloc, needs)?;
     Ok(Function {
@@ -91,8 +92,8 @@ fn routine_function(
 
 /// What `main` needs, if it is small enough.
 fn small_main(mid: &Mid) -> Option<Needs>
-    ensures { MatchOption result (MainIsSmall (view_mid mid.now) → ⊥)
-        (λ n. (view_needs n ≡ main_bases (view_mid mid.now)) × MainIsSmall (view_mid mid.now)) }
+    ensures { MatchOption result (MainIsSmall (view_mid mid.now) → ⊥) (λ needs.
+        (view_needs needs ≡ main_bases (view_mid mid.now)) × MainIsSmall (view_mid mid.now)) }
 {
     if steps_labels(&mid.begin) > MOST_NESTED
         || steps_labels(&mid.items) > MOST_NESTED
@@ -109,7 +110,7 @@ fn main_function(alloc: Global, layout: &Layout<'_>) -> Result<Function, LowerFa
     requires sorted { parts_sorted (view_mid layout.now.program.now)
         (context_of (view_mid layout.now.program.now) []) ≡ true }
     ensures function { IfOk result
-        (λ f. view_function f ≡ main_callee (view_mid layout.now.program.now)) }
+        (λ made. view_function made ≡ main_callee (view_mid layout.now.program.now)) }
     ensures small { OnOk result (MainIsSmall (view_mid layout.now.program.now)) }
     ensures too_large { IfErr result
         (λ fault. fault ≡ LowerFault.TooLarge → MainIsSmall (view_mid layout.now.program.now)
@@ -119,15 +120,15 @@ fn main_function(alloc: Global, layout: &Layout<'_>) -> Result<Function, LowerFa
         return Err(LowerFault::TooLarge);
     };
     let bases = bases(needs);
-    let y = FunctionLayout {
+    let function_layout = FunctionLayout {
         alloc,
         script: layout,
         bases: &bases,
     };
-    if main_length(&y)? > MOST_BYTES {
+    if main_length(&function_layout)? > MOST_BYTES {
         return Err(LowerFault::TooLarge);
     }
-    let body = main_code(&y)?;
+    let body = main_code(&function_layout)?;
     let locals = local_types(alloc, needs)?;
     Ok(Function {
         kinds: Vec::new(alloc),
@@ -141,7 +142,7 @@ fn routine_functions(alloc: Global, layout: &Layout<'_>) -> Result<Vec<Function>
     requires few { length (view_mid layout.now.program.now).routines ≤ most_places }
     requires sorted { routines_sorted (view_mid layout.now.program.now)
         (view_mid layout.now.program.now).routines ≡ true }
-    ensures functions { IfOk result (λ fs. view_functions fs.items ≡ map (routine_callee
+    ensures functions { IfOk result (λ made. view_functions made.items ≡ map (routine_callee
         (view_mid layout.now.program.now)) (view_mid layout.now.program.now).routines) }
     ensures small { OnOk result
         (AllByRecursion RoutineIsSmall (view_mid layout.now.program.now).routines) }
@@ -165,7 +166,7 @@ fn routine_functions(alloc: Global, layout: &Layout<'_>) -> Result<Vec<Function>
 pub fn functions(alloc: Global, layout: &Layout<'_>) -> Result<Vec<Function>, LowerFault>
     requires { IsSorted (view_mid layout.now.program.now) }
     ensures functions { IfOk result
-        (λ fs. view_functions fs.items ≡ all_callees (view_mid layout.now.program.now)) }
+        (λ made. view_functions made.items ≡ all_callees (view_mid layout.now.program.now)) }
     ensures small { OnOk result (AreSmallEnough (view_mid layout.now.program.now)) }
     ensures too_large { IfErr result (λ fault. fault ≡ LowerFault.TooLarge → AreSmallEnough
         (view_mid layout.now.program.now) → IsTooLarge (view_mid layout.now.program.now)) }
@@ -187,10 +188,10 @@ pub fn functions(alloc: Global, layout: &Layout<'_>) -> Result<Vec<Function>, Lo
 pub fn lower(alloc: Global, layout: &Layout<'_>) -> Result<Module, LowerFault>
     requires { IsSorted (view_mid layout.now.program.now) }
     ensures module { IfOk result
-        (λ m. view_module m ≡ module_of (view_mid layout.now.program.now)) }
+        (λ made. view_module made ≡ module_of (view_mid layout.now.program.now)) }
     ensures too_large { IfErr result (λ fault. fault ≡ LowerFault.TooLarge → AreSmallEnough
         (view_mid layout.now.program.now) → IsTooLarge (view_mid layout.now.program.now)) }
 {
-    let fs = functions(alloc, layout)?;
-    module_for(alloc, layout.program, &fs)
+    let callees = functions(alloc, layout)?;
+    module_for(alloc, layout.program, &callees)
 }

@@ -29,18 +29,18 @@ use wasm_types::{Instr, Simple};
 #[cycle(statements)]
 #[tactic(auto, unfolding(lower_model::specs::Statements::step_emitted, lower_model::specs::Statements::steps_emitted))]
 pub(crate) fn statements(
-    y: &FunctionLayout<'_>,
+    layout: &FunctionLayout<'_>,
     out: &mut Vec<Instr>,
     steps: &[Step],
     at: Around,
 ) -> Result<(), AllocError>
-    requires fit { StepsFit (view_layout y.now) (view_steps steps.now) at.iterators at.exit }
+    requires fit { StepsFit (view_layout layout.now) (view_steps steps.now) at.iterators at.exit }
     requires own { OwnLabels at }
-    ensures { OnOk result (Emits out.old.items out.new.items (steps_emitted (view_layout y.now)
+    ensures { OnOk result (Emits out.old.items out.new.items (steps_emitted (view_layout layout.now)
         (view_steps steps.now) at.iterators at.exit at.break_to at.continue_to)) }
 {
     for step in steps {
-        statement(y, out, step, at)?;
+        statement(layout, out, step, at)?;
     }
     Ok(())
 }
@@ -49,31 +49,31 @@ pub(crate) fn statements(
 #[cycle(statements)]
 #[tactic(auto, unfolding(lower_model::specs::Statements::step_emitted, lower_model::specs::Statements::steps_emitted))]
 fn statement(
-    y: &FunctionLayout<'_>,
+    layout: &FunctionLayout<'_>,
     out: &mut Vec<Instr>,
     step: &Step,
     at: Around,
 ) -> Result<(), AllocError>
-    requires fit { StepFits (view_layout y.now) (view_step step.now) at.iterators at.exit }
+    requires fit { StepFits (view_layout layout.now) (view_step step.now) at.iterators at.exit }
     requires own { OwnLabels at }
-    ensures { OnOk result (Emits out.old.items out.new.items (step_emitted (view_layout y.now)
+    ensures { OnOk result (Emits out.old.items out.new.items (step_emitted (view_layout layout.now)
         (view_step step.now) at.iterators at.exit at.break_to at.continue_to)) }
 {
     does(out, Simple::Nop)?;
     match step {
-        Step::Eval(code) => done(y, out, code, at.exit),
-        Step::Block(steps) => statements(y, out, steps, at),
-        Step::If(test, yes, no) => choice(y, out, test, yes, no, at),
+        Step::Eval(code) => done(layout, out, code, at.exit),
+        Step::Block(steps) => statements(layout, out, steps, at),
+        Step::If(test, yes, no) => choice(layout, out, test, yes, no, at),
         Step::Loop(tests_first, test, body, last) => {
-            looped(y, out, *tests_first, test, body, last, at)
+            looped(layout, out, *tests_first, test, body, last, at)
         }
-        Step::Each(array, store, body) => keys(y, out, *array, store, body, at),
+        Step::Each(array, store, body) => keys(layout, out, *array, store, body, at),
         Step::Break => does(out, Simple::Br(at.break_to)),
         Step::Continue => does(out, Simple::Br(at.continue_to)),
         Step::Next => left_by(out, WAY_NEXT, at.exit),
         Step::Exit => left_by(out, WAY_EXIT, at.exit),
-        Step::ExitWith(code) => exit_with(y, out, code, at.exit),
-        Step::Return(code) => returned(y, out, code, at.exit),
+        Step::ExitWith(code) => exit_with(layout, out, code, at.exit),
+        Step::Return(code) => returned(layout, out, code, at.exit),
         Step::Mark(item, opens) => marked(out, *item, *opens),
     }
 }
@@ -81,24 +81,24 @@ fn statement(
 /// The code of a statement in a list of its own.
 #[cycle(statements)]
 pub(crate) fn inner(
-    y: &FunctionLayout<'_>,
+    layout: &FunctionLayout<'_>,
     step: &Step,
     at: Around,
 ) -> Result<Vec<Instr>, AllocError>
-    requires fit { StepFits (view_layout y.now) (view_step step.now) at.iterators at.exit }
+    requires fit { StepFits (view_layout layout.now) (view_step step.now) at.iterators at.exit }
     requires own { OwnLabels at }
-    ensures { IfOk result (λ v. Emits [] v.items (step_emitted (view_layout y.now)
+    ensures { IfOk result (λ code. Emits [] code.items (step_emitted (view_layout layout.now)
         (view_step step.now) at.iterators at.exit at.break_to at.continue_to)) }
 {
-    let mut code = Vec::new(y.alloc);
-    statement(y, &mut code, step, at)?;
+    let mut code = Vec::new(layout.alloc);
+    statement(layout, &mut code, step, at)?;
     Ok(code)
 }
 
 /// Adds a choice of two statements by an `if`.
 #[cycle(statements)]
 fn plain_choice(
-    y: &FunctionLayout<'_>,
+    layout: &FunctionLayout<'_>,
     out: &mut Vec<Instr>,
     test: &Code,
     yes: &Step,
@@ -107,37 +107,38 @@ fn plain_choice(
 ) -> Result<(), AllocError>
     requires labels { suc at.exit ≤ most_labels }
     requires own { OwnLabels at }
-    requires test { Fits (view_layout y.now) (view test.now) 0 0 at.exit }
-    requires yes { StepFits (view_layout y.now) (view_step yes.now) at.iterators (suc at.exit) }
-    requires no { StepFits (view_layout y.now) (view_step no.now) at.iterators (suc at.exit) }
-    ensures { OnOk result (Emits out.old.items out.new.items (plainly_chosen (view_layout y.now)
-        (view test.now) (view_step yes.now) (view_step no.now) at)) }
+    requires test { Fits (view_layout layout.now) (view test.now) 0 0 at.exit }
+    requires yes { StepFits
+        (view_layout layout.now) (view_step yes.now) at.iterators (suc at.exit) }
+    requires no { StepFits (view_layout layout.now) (view_step no.now) at.iterators (suc at.exit) }
+    ensures { OnOk result (Emits out.old.items out.new.items (plainly_chosen
+        (view_layout layout.now) (view test.now) (view_step yes.now) (view_step no.now) at)) }
 {
-    tested(y, out, test, at.exit)?;
-    let yes = inner(y, yes, in_branch(at))?;
-    let no = inner(y, no, in_branch(at))?;
-    either(y.alloc, out, yes, no)
+    tested(layout, out, test, at.exit)?;
+    let yes = inner(layout, yes, in_branch(at))?;
+    let no = inner(layout, no, in_branch(at))?;
+    either(layout.alloc, out, yes, no)
 }
 
 /// The test of a choice, and what is done where it holds; elsewhere the block around it is left.
 #[cycle(statements)]
 fn quick_way(
-    y: &FunctionLayout<'_>,
+    layout: &FunctionLayout<'_>,
     test: &Code,
     yes: &Step,
     at: Around,
 ) -> Result<Vec<Instr>, AllocError>
     requires labels { suc (suc (suc at.exit)) ≤ most_labels }
     requires own { OwnLabels at }
-    requires test { TestFits (view_layout y.now) (view test.now) (suc (suc at.exit)) }
-    requires yes { StepFits (view_layout y.now) (view_step yes.now) at.iterators
+    requires test { TestFits (view_layout layout.now) (view test.now) (suc (suc at.exit)) }
+    requires yes { StepFits (view_layout layout.now) (view_step yes.now) at.iterators
         (suc (suc at.exit)) }
-    ensures { IfOk result (λ v. Emits [] v.items
-        (quick_way (view_layout y.now) (view test.now) (view_step yes.now) at)) }
+    ensures { IfOk result (λ code. Emits [] code.items
+        (quick_way (view_layout layout.now) (view test.now) (view_step yes.now) at)) }
 {
-    let mut code = Vec::new(y.alloc);
-    left_unless_pair(y, &mut code, test, at.exit + 2, 0)?;
-    statement(y, &mut code, yes, in_branch(in_branch(at)))?;
+    let mut code = Vec::new(layout.alloc);
+    left_unless_pair(layout, &mut code, test, at.exit + 2, 0)?;
+    statement(layout, &mut code, yes, in_branch(in_branch(at)))?;
     does(&mut code, Simple::Br(1))?;
     Ok(code)
 }
@@ -145,7 +146,7 @@ fn quick_way(
 /// Adds a choice of two statements by a comparison of sources.
 #[cycle(statements)]
 fn quick_choice(
-    y: &FunctionLayout<'_>,
+    layout: &FunctionLayout<'_>,
     out: &mut Vec<Instr>,
     test: &Code,
     yes: &Step,
@@ -154,24 +155,24 @@ fn quick_choice(
 ) -> Result<(), AllocError>
     requires labels { suc (suc (suc at.exit)) ≤ most_labels }
     requires own { OwnLabels at }
-    requires test { TestFits (view_layout y.now) (view test.now) (suc (suc at.exit)) }
-    requires yes { StepFits (view_layout y.now) (view_step yes.now) at.iterators
+    requires test { TestFits (view_layout layout.now) (view test.now) (suc (suc at.exit)) }
+    requires yes { StepFits (view_layout layout.now) (view_step yes.now) at.iterators
         (suc (suc at.exit)) }
-    requires no { StepFits (view_layout y.now) (view_step no.now) at.iterators (suc at.exit) }
-    ensures { OnOk result (Emits out.old.items out.new.items (quickly_chosen (view_layout y.now)
-        (view test.now) (view_step yes.now) (view_step no.now) at)) }
+    requires no { StepFits (view_layout layout.now) (view_step no.now) at.iterators (suc at.exit) }
+    ensures { OnOk result (Emits out.old.items out.new.items (quickly_chosen
+        (view_layout layout.now) (view test.now) (view_step yes.now) (view_step no.now) at)) }
 {
-    let way = quick_way(y, test, yes, at)?;
-    let mut ways = Vec::new(y.alloc);
-    block(y.alloc, &mut ways, way)?;
-    statement(y, &mut ways, no, in_branch(at))?;
-    block(y.alloc, out, ways)
+    let way = quick_way(layout, test, yes, at)?;
+    let mut ways = Vec::new(layout.alloc);
+    block(layout.alloc, &mut ways, way)?;
+    statement(layout, &mut ways, no, in_branch(at))?;
+    block(layout.alloc, out, ways)
 }
 
 /// Adds a choice of two statements.
 #[cycle(statements)]
 fn choice(
-    y: &FunctionLayout<'_>,
+    layout: &FunctionLayout<'_>,
     out: &mut Vec<Instr>,
     test: &Code,
     yes: &Step,
@@ -179,60 +180,60 @@ fn choice(
     at: Around,
 ) -> Result<(), AllocError>
     requires own { OwnLabels at }
-    requires fit { ChoiceFits (view_layout y.now) (view test.now) at.exit }
-    requires yes { StepFits (view_layout y.now) (view_step yes.now) at.iterators
+    requires fit { ChoiceFits (view_layout layout.now) (view test.now) at.exit }
+    requires yes { StepFits (view_layout layout.now) (view_step yes.now) at.iterators
         (suc (more_if (is_some (pair_in (view test.now))) at.exit)) }
-    requires no { StepFits (view_layout y.now) (view_step no.now) at.iterators (suc at.exit) }
-    ensures { OnOk result (Emits out.old.items out.new.items
-        (chosen (view_layout y.now) (view test.now) (view_step yes.now) (view_step no.now) at)) }
+    requires no { StepFits (view_layout layout.now) (view_step no.now) at.iterators (suc at.exit) }
+    ensures { OnOk result (Emits out.old.items out.new.items (chosen (view_layout layout.now)
+        (view test.now) (view_step yes.now) (view_step no.now) at)) }
 {
     if pair_in(test).is_some() {
-        quick_choice(y, out, test, yes, no, at)
+        quick_choice(layout, out, test, yes, no, at)
     } else {
-        plain_choice(y, out, test, yes, no, at)
+        plain_choice(layout, out, test, yes, no, at)
     }
 }
 
 /// Adds the body of a loop that begins with its test.
 #[cycle(statements)]
 fn turn_body(
-    y: &FunctionLayout<'_>,
+    layout: &FunctionLayout<'_>,
     out: &mut Vec<Instr>,
     body: &Step,
     at: Around,
 ) -> Result<(), AllocError>
     requires labels { LoopFits at.exit }
-    requires body { StepFits (view_layout y.now) (view_step body.now) at.iterators
+    requires body { StepFits (view_layout layout.now) (view_step body.now) at.iterators
         (suc (suc (more_if (step_jumps (view_step body.now)) at.exit))) }
     ensures { OnOk result (Emits out.old.items out.new.items
-        (turn_body (view_layout y.now) (view_step body.now) at.iterators at.exit)) }
+        (turn_body (view_layout layout.now) (view_step body.now) at.iterators at.exit)) }
 {
     if step_jumps(body) {
-        let inside = inner(y, body, in_body(at))?;
-        block(y.alloc, out, inside)
+        let inside = inner(layout, body, in_body(at))?;
+        block(layout.alloc, out, inside)
     } else {
-        statement(y, out, body, in_last(at))
+        statement(layout, out, body, in_last(at))
     }
 }
 
 /// Adds what stands between the body of a loop and the next turn.
 #[cycle(statements)]
 fn turn_ended(
-    y: &FunctionLayout<'_>,
+    layout: &FunctionLayout<'_>,
     out: &mut Vec<Instr>,
     last: &Step,
     at: Around,
 ) -> Result<(), AllocError>
     requires labels { LoopFits at.exit }
-    requires last { StepFits (view_layout y.now) (view_step last.now) at.iterators
+    requires last { StepFits (view_layout layout.now) (view_step last.now) at.iterators
         (suc (suc at.exit)) }
     ensures { OnOk result (Emits out.old.items out.new.items
-        (turn_ended (view_layout y.now) (view_step last.now) at.iterators at.exit)) }
+        (turn_ended (view_layout layout.now) (view_step last.now) at.iterators at.exit)) }
 {
     if is_nothing(last) {
         does(out, Simple::Br(0))
     } else {
-        statement(y, out, last, in_last(at))?;
+        statement(layout, out, last, in_last(at))?;
         does(out, Simple::Br(0))
     }
 }
@@ -240,58 +241,58 @@ fn turn_ended(
 /// A turn of a loop that begins with its test.
 #[cycle(statements)]
 fn tested_turn(
-    y: &FunctionLayout<'_>,
+    layout: &FunctionLayout<'_>,
     test: &Code,
     body: &Step,
     last: &Step,
     at: Around,
 ) -> Result<Vec<Instr>, AllocError>
     requires labels { LoopFits at.exit }
-    requires test { TestFits (view_layout y.now) (view test.now) (suc (suc at.exit)) }
-    requires body { StepFits (view_layout y.now) (view_step body.now) at.iterators
+    requires test { TestFits (view_layout layout.now) (view test.now) (suc (suc at.exit)) }
+    requires body { StepFits (view_layout layout.now) (view_step body.now) at.iterators
         (suc (suc (more_if (step_jumps (view_step body.now)) at.exit))) }
-    requires last { StepFits (view_layout y.now) (view_step last.now) at.iterators
+    requires last { StepFits (view_layout layout.now) (view_step last.now) at.iterators
         (suc (suc at.exit)) }
-    ensures { IfOk result (λ v. Emits [] v.items (tested_turn (view_layout y.now) (view test.now)
-        (view_step body.now) (view_step last.now) at.iterators at.exit)) }
+    ensures { IfOk result (λ code. Emits [] code.items (tested_turn (view_layout layout.now)
+        (view test.now) (view_step body.now) (view_step last.now) at.iterators at.exit)) }
 {
-    let mut code = Vec::new(y.alloc);
-    left_unless(y, &mut code, test, at.exit + 2, 1)?;
-    turn_body(y, &mut code, body, at)?;
-    turn_ended(y, &mut code, last, at)?;
+    let mut code = Vec::new(layout.alloc);
+    left_unless(layout, &mut code, test, at.exit + 2, 1)?;
+    turn_body(layout, &mut code, body, at)?;
+    turn_ended(layout, &mut code, last, at)?;
     Ok(code)
 }
 
 /// A turn of a loop that ends with its test.
 #[cycle(statements)]
 fn first_turn(
-    y: &FunctionLayout<'_>,
+    layout: &FunctionLayout<'_>,
     test: &Code,
     body: &Step,
     last: &Step,
     at: Around,
 ) -> Result<Vec<Instr>, AllocError>
     requires labels { LoopFits at.exit }
-    requires test { Fits (view_layout y.now) (view test.now) 0 0 (suc (suc at.exit)) }
-    requires body { StepFits (view_layout y.now) (view_step body.now) at.iterators
+    requires test { Fits (view_layout layout.now) (view test.now) 0 0 (suc (suc at.exit)) }
+    requires body { StepFits (view_layout layout.now) (view_step body.now) at.iterators
         (suc (suc (suc at.exit))) }
-    requires last { StepFits (view_layout y.now) (view_step last.now) at.iterators
+    requires last { StepFits (view_layout layout.now) (view_step last.now) at.iterators
         (suc (suc at.exit)) }
-    ensures { IfOk result (λ v. Emits [] v.items (first_turn (view_layout y.now) (view test.now)
-        (view_step body.now) (view_step last.now) at.iterators at.exit)) }
+    ensures { IfOk result (λ code. Emits [] code.items (first_turn (view_layout layout.now)
+        (view test.now) (view_step body.now) (view_step last.now) at.iterators at.exit)) }
 {
-    let mut code = Vec::new(y.alloc);
-    let inside = inner(y, body, in_body(at))?;
-    block(y.alloc, &mut code, inside)?;
-    statement(y, &mut code, last, in_last(at))?;
-    tested_on(y, &mut code, test, at.exit)?;
+    let mut code = Vec::new(layout.alloc);
+    let inside = inner(layout, body, in_body(at))?;
+    block(layout.alloc, &mut code, inside)?;
+    statement(layout, &mut code, last, in_last(at))?;
+    tested_on(layout, &mut code, test, at.exit)?;
     Ok(code)
 }
 
 /// Adds a loop.
 #[cycle(statements)]
 fn looped(
-    y: &FunctionLayout<'_>,
+    layout: &FunctionLayout<'_>,
     out: &mut Vec<Instr>,
     tests_first: bool,
     test: &Code,
@@ -300,44 +301,44 @@ fn looped(
     at: Around,
 ) -> Result<(), AllocError>
     requires labels { LoopFits at.exit }
-    requires test { TestFits (view_layout y.now) (view test.now) (suc (suc at.exit)) }
-    requires body { StepFits (view_layout y.now) (view_step body.now) at.iterators
+    requires test { TestFits (view_layout layout.now) (view test.now) (suc (suc at.exit)) }
+    requires body { StepFits (view_layout layout.now) (view_step body.now) at.iterators
         (suc (suc (more_if (has_block tests_first (view_step body.now)) at.exit))) }
-    requires last { StepFits (view_layout y.now) (view_step last.now) at.iterators
+    requires last { StepFits (view_layout layout.now) (view_step last.now) at.iterators
         (suc (suc at.exit)) }
     ensures { OnOk result
-        (Emits out.old.items out.new.items (rounds (turn tests_first (view_layout y.now)
+        (Emits out.old.items out.new.items (rounds (turn tests_first (view_layout layout.now)
         (view test.now) (view_step body.now) (view_step last.now) at.iterators at.exit Done))) }
 {
     if tests_first {
-        let turn = tested_turn(y, test, body, last, at)?;
-        rounds(y.alloc, out, turn)
+        let turn = tested_turn(layout, test, body, last, at)?;
+        rounds(layout.alloc, out, turn)
     } else {
-        let turn = first_turn(y, test, body, last, at)?;
-        rounds(y.alloc, out, turn)
+        let turn = first_turn(layout, test, body, last, at)?;
+        rounds(layout.alloc, out, turn)
     }
 }
 
 /// A turn of a loop over keys.
 #[cycle(statements)]
 fn key_turn(
-    y: &FunctionLayout<'_>,
+    layout: &FunctionLayout<'_>,
     store: &Code,
     body: &Step,
     at: Around,
 ) -> Result<Vec<Instr>, AllocError>
     requires labels { LoopFits at.exit }
     requires few { suc at.iterators ≤ most_places }
-    requires store { Fits (view_layout y.now) (view store.now) 1 0 (suc (suc at.exit)) }
-    requires body { StepFits (view_layout y.now) (view_step body.now) (suc at.iterators)
+    requires store { Fits (view_layout layout.now) (view store.now) 1 0 (suc (suc at.exit)) }
+    requires body { StepFits (view_layout layout.now) (view_step body.now) (suc at.iterators)
         (suc (suc (suc at.exit))) }
-    ensures { IfOk result (λ v. Emits [] v.items
-        (key_turn (view_layout y.now) (view store.now) (view_step body.now) at.iterators at.exit)) }
+    ensures { IfOk result (λ code. Emits [] code.items (key_turn (view_layout layout.now)
+        (view store.now) (view_step body.now) at.iterators at.exit)) }
 {
-    let mut code = Vec::new(y.alloc);
-    key_stored(y, &mut code, store, at.iterators, at.exit + 2)?;
-    let inside = inner(y, body, in_keys(at))?;
-    block(y.alloc, &mut code, inside)?;
+    let mut code = Vec::new(layout.alloc);
+    key_stored(layout, &mut code, store, at.iterators, at.exit + 2)?;
+    let inside = inner(layout, body, in_keys(at))?;
+    block(layout.alloc, &mut code, inside)?;
     does(&mut code, Simple::Br(0))?;
     Ok(code)
 }
@@ -345,7 +346,7 @@ fn key_turn(
 /// Adds a loop over the keys of an array.
 #[cycle(statements)]
 fn keys(
-    y: &FunctionLayout<'_>,
+    layout: &FunctionLayout<'_>,
     out: &mut Vec<Instr>,
     array: ArrayName,
     store: &Code,
@@ -355,14 +356,14 @@ fn keys(
     requires labels { LoopFits at.exit }
     requires few { suc at.iterators ≤ most_places }
     requires array { ArrayFits (view_array array) }
-    requires store { Fits (view_layout y.now) (view store.now) 1 0 (suc (suc at.exit)) }
-    requires body { StepFits (view_layout y.now) (view_step body.now) (suc at.iterators)
+    requires store { Fits (view_layout layout.now) (view store.now) 1 0 (suc (suc at.exit)) }
+    requires body { StepFits (view_layout layout.now) (view_step body.now) (suc at.iterators)
         (suc (suc (suc at.exit))) }
-    ensures { OnOk result (Emits out.old.items out.new.items (keys_walked (view_layout y.now)
+    ensures { OnOk result (Emits out.old.items out.new.items (keys_walked (view_layout layout.now)
         (view_array array) (view store.now) (view_step body.now) at.iterators at.exit)) }
 {
-    iterator_made(y, out, array, at.iterators)?;
-    let turn = key_turn(y, store, body, at)?;
-    rounds(y.alloc, out, turn)?;
-    iterator_left(y, out, at.iterators)
+    iterator_made(layout, out, array, at.iterators)?;
+    let turn = key_turn(layout, store, body, at)?;
+    rounds(layout.alloc, out, turn)?;
+    iterator_left(layout, out, at.iterators)
 }

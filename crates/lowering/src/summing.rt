@@ -30,147 +30,162 @@ use wasm_types::{IBinOp, IRelOp, Instr, Simple, ValType};
 
 /// What makes a number of the text beside a name, from within two labels more.
 fn number_there(
-    y: &FunctionLayout<'_>,
+    layout: &FunctionLayout<'_>,
     name: usize,
-    t: u32,
+    temporary: u32,
     exit: u32,
 ) -> Result<Vec<Instr>, AllocError>
     requires name { name ≤ most_places }
-    requires places { t ≤ most_places }
+    requires places { temporary ≤ most_places }
     requires labels { suc (suc exit) ≤ most_labels }
-    ensures { IfOk result
-        (λ v. Emits [] v.items (number_there (view_layout y.now) name t (suc (suc exit)))) }
+    ensures { IfOk result (λ code. Emits [] code.items
+        (number_there (view_layout layout.now) name temporary (suc (suc exit)))) }
 {
-    let mut code = Vec::new(y.alloc);
-    let global = global_handle(y, name);
+    let mut code = Vec::new(layout.alloc);
+    let global = global_handle(layout, name);
     let (get, set) = (Simple::GlobalGet(global), Simple::GlobalSet(global));
-    copied_by(&mut code, get, set, y.bases.handle(t))?;
+    copied_by(&mut code, get, set, layout.bases.handle(temporary))?;
     let value = Form::Answered(Answer::Of(Sort::Value));
-    to_number(y.alloc, y.bases, &mut code, value, t, exit + 2)?;
+    to_number(
+        layout.alloc,
+        layout.bases,
+        &mut code,
+        value,
+        temporary,
+        exit + 2,
+    )?;
     Ok(code)
 }
 
 /// What makes 0 of what is no number yet.
-fn zero_put(y: &FunctionLayout<'_>, t: u32) -> Result<Vec<Instr>, AllocError>
-    requires { t ≤ most_places }
-    ensures { IfOk result (λ v. Emits [] v.items (zero_put y.now.bases.now t)) }
+fn zero_put(layout: &FunctionLayout<'_>, temporary: u32) -> Result<Vec<Instr>, AllocError>
+    requires { temporary ≤ most_places }
+    ensures { IfOk result (λ code. Emits [] code.items (zero_put layout.now.bases.now temporary)) }
 {
-    let mut code = Vec::new(y.alloc);
+    let mut code = Vec::new(layout.alloc);
     does_all(
         &mut code,
-        &[Simple::I64Const(0), Simple::LocalSet(y.bases.number(t))],
+        &[
+            Simple::I64Const(0),
+            Simple::LocalSet(layout.bases.number(temporary)),
+        ],
     )?;
     Ok(code)
 }
 
 /// What makes a number of what a name has that has none, from within one label more.
 fn number_found(
-    y: &FunctionLayout<'_>,
+    layout: &FunctionLayout<'_>,
     name: usize,
-    t: u32,
+    temporary: u32,
     exit: u32,
 ) -> Result<Vec<Instr>, AllocError>
     requires name { name ≤ most_places }
-    requires places { t ≤ most_places }
+    requires places { temporary ≤ most_places }
     requires labels { suc (suc exit) ≤ most_labels }
-    ensures { IfOk result (λ v. Emits [] v.items (number_found (view_layout y.now) name t exit)) }
+    ensures { IfOk result
+        (λ code. Emits [] code.items (number_found (view_layout layout.now) name temporary exit)) }
 {
-    let mut code = Vec::new(y.alloc);
-    number_is(&mut code, y.bases.number(t), TEXT_BESIDE)?;
-    let some = number_there(y, name, t, exit)?;
-    either(y.alloc, &mut code, some, zero_put(y, t)?)?;
+    let mut code = Vec::new(layout.alloc);
+    number_is(&mut code, layout.bases.number(temporary), TEXT_BESIDE)?;
+    let some = number_there(layout, name, temporary, exit)?;
+    either(layout.alloc, &mut code, some, zero_put(layout, temporary)?)?;
     Ok(code)
 }
 
 /// Puts a name's number into a temporary.
 fn name_numbered(
-    y: &FunctionLayout<'_>,
+    layout: &FunctionLayout<'_>,
     out: &mut Vec<Instr>,
     name: usize,
-    t: u32,
+    temporary: u32,
     exit: u32,
 ) -> Result<(), AllocError>
     requires name { name ≤ most_places }
-    requires places { t ≤ most_places }
+    requires places { temporary ≤ most_places }
     requires labels { suc (suc exit) ≤ most_labels }
-    ensures { OnOk result
-        (Emits out.old.items out.new.items (name_numbered (view_layout y.now) name t exit)) }
+    ensures { OnOk result (Emits out.old.items out.new.items
+        (name_numbered (view_layout layout.now) name temporary exit)) }
 {
     let all = [
-        Simple::GlobalGet(global_number(y, name)),
-        Simple::LocalTee(y.bases.number(t)),
+        Simple::GlobalGet(global_number(layout, name)),
+        Simple::LocalTee(layout.bases.number(temporary)),
         Simple::I64Const(TEXT_BESIDE),
         Simple::Compare(ValType::I64, IRelOp::LeS),
     ];
     does_all(out, &all)?;
-    when(y.alloc, out, number_found(y, name, t, exit)?)
+    when(
+        layout.alloc,
+        out,
+        number_found(layout, name, temporary, exit)?,
+    )
 }
 
 /// The same of a source: a constant needs no temporary.
 fn source_numbered(
-    y: &FunctionLayout<'_>,
+    layout: &FunctionLayout<'_>,
     out: &mut Vec<Instr>,
     source: Source,
-    t: u32,
+    temporary: u32,
     exit: u32,
 ) -> Result<(), AllocError>
     requires fits { SourceFits (view_source source) }
-    requires places { t ≤ most_places }
+    requires places { temporary ≤ most_places }
     requires labels { suc (suc exit) ≤ most_labels }
     ensures { OnOk result (Emits out.old.items out.new.items
-        (source_numbered (view_layout y.now) (view_source source) t exit)) }
+        (source_numbered (view_layout layout.now) (view_source source) temporary exit)) }
 {
     match source {
-        Source::Named(name) => name_numbered(y, out, name, t, exit),
+        Source::Named(name) => name_numbered(layout, out, name, temporary, exit),
         Source::Constant(_) => Ok(()),
     }
 }
 
 /// Puts a source's number on the stack.
 fn source_taken(
-    y: &FunctionLayout<'_>,
+    layout: &FunctionLayout<'_>,
     out: &mut Vec<Instr>,
     source: Source,
-    t: u32,
+    temporary: u32,
 ) -> Result<(), AllocError>
-    requires places { t ≤ most_places }
+    requires places { temporary ≤ most_places }
     ensures { OnOk result (Emits out.old.items out.new.items
-        (source_taken (view_layout y.now) (view_source source) t)) }
+        (source_taken (view_layout layout.now) (view_source source) temporary)) }
 {
     match source {
-        Source::Named(_) => does(out, Simple::LocalGet(y.bases.number(t))),
+        Source::Named(_) => does(out, Simple::LocalGet(layout.bases.number(temporary))),
         Source::Constant(number) => does(out, Simple::I64Const(number.cast_unsigned())),
     }
 }
 
 /// Puts what an operator gives of two numbers on the stack into a temporary, and tests it.
 pub(crate) fn sum_kept(
-    y: &FunctionLayout<'_>,
+    layout: &FunctionLayout<'_>,
     out: &mut Vec<Instr>,
     op: IBinOp,
-    t: u32,
+    temporary: u32,
     exit: u32,
 ) -> Result<(), AllocError>
-    requires places { t ≤ most_places }
+    requires places { temporary ≤ most_places }
     requires labels { exit ≤ most_labels }
     ensures { OnOk result
-        (Emits out.old.items out.new.items (sum_kept (view_layout y.now) op t exit)) }
+        (Emits out.old.items out.new.items (sum_kept (view_layout layout.now) op temporary exit)) }
 {
     let all = [
         Simple::Binary(ValType::I64, op),
-        Simple::LocalTee(y.bases.number(t)),
+        Simple::LocalTee(layout.bases.number(temporary)),
         Simple::I64Const(MAX_NUMBER),
         Simple::Binary(ValType::I64, IBinOp::Add),
         Simple::I64Const(1 << 54),
         Simple::Compare(ValType::I64, IRelOp::GtU),
     ];
     does_all(out, &all)?;
-    fail_if(y.alloc, out, Fault::Range, exit)
+    fail_if(layout.alloc, out, Fault::Range, exit)
 }
 
 /// A name takes what an operator gives of two numbers on the stack.
 fn sum_taken(
-    y: &FunctionLayout<'_>,
+    layout: &FunctionLayout<'_>,
     out: &mut Vec<Instr>,
     op: IBinOp,
     name: usize,
@@ -179,20 +194,20 @@ fn sum_taken(
     requires name { name ≤ most_places }
     requires labels { exit ≤ most_labels }
     ensures { OnOk result
-        (Emits out.old.items out.new.items (sum_taken (view_layout y.now) op name 0 exit)) }
+        (Emits out.old.items out.new.items (sum_taken (view_layout layout.now) op name 0 exit)) }
 {
-    sum_kept(y, out, op, 0, exit)?;
-    text_dropped(y, out, name)?;
+    sum_kept(layout, out, op, 0, exit)?;
+    text_dropped(layout, out, name)?;
     let all = [
-        Simple::LocalGet(y.bases.number(0)),
-        Simple::GlobalSet(global_number(y, name)),
+        Simple::LocalGet(layout.bases.number(0)),
+        Simple::GlobalSet(global_number(layout, name)),
     ];
     does_all(out, &all)
 }
 
 /// Adds a sum of sources.
 fn summed_anyway(
-    y: &FunctionLayout<'_>,
+    layout: &FunctionLayout<'_>,
     out: &mut Vec<Instr>,
     sum: Sum,
     exit: u32,
@@ -200,34 +215,34 @@ fn summed_anyway(
     requires sum { SumFits (view_sum sum) }
     requires labels { suc (suc exit) ≤ most_labels }
     ensures { OnOk result (Emits out.old.items out.new.items
-        (summed_anyway (view_layout y.now) (view_sum sum) exit)) }
+        (summed_anyway (view_layout layout.now) (view_sum sum) exit)) }
 {
-    source_numbered(y, out, sum.left, 0, exit)?;
-    source_numbered(y, out, sum.right, 1, exit)?;
-    source_taken(y, out, sum.left, 0)?;
-    source_taken(y, out, sum.right, 1)?;
-    sum_taken(y, out, sum_op(sum.op), sum.target, exit)
+    source_numbered(layout, out, sum.left, 0, exit)?;
+    source_numbered(layout, out, sum.right, 1, exit)?;
+    source_taken(layout, out, sum.left, 0)?;
+    source_taken(layout, out, sum.right, 1)?;
+    sum_taken(layout, out, sum_op(sum.op), sum.target, exit)
 }
 
 /// The same in a list of its own.
 pub(crate) fn anyway_code(
-    y: &FunctionLayout<'_>,
+    layout: &FunctionLayout<'_>,
     sum: Sum,
     exit: u32,
 ) -> Result<Vec<Instr>, AllocError>
     requires sum { SumFits (view_sum sum) }
     requires labels { suc (suc exit) ≤ most_labels }
     ensures { IfOk result
-        (λ v. Emits [] v.items (summed_anyway (view_layout y.now) (view_sum sum) exit)) }
+        (λ code. Emits [] code.items (summed_anyway (view_layout layout.now) (view_sum sum) exit)) }
 {
-    let mut code = Vec::new(y.alloc);
-    summed_anyway(y, &mut code, sum, exit)?;
+    let mut code = Vec::new(layout.alloc);
+    summed_anyway(layout, &mut code, sum, exit)?;
     Ok(code)
 }
 
 /// Asks for the number of a name, and then for that of what is added; both are put on the stack.
 fn number_asked(
-    y: &FunctionLayout<'_>,
+    layout: &FunctionLayout<'_>,
     out: &mut Vec<Instr>,
     name: usize,
     form: Form,
@@ -236,22 +251,27 @@ fn number_asked(
     requires name { name ≤ most_places }
     requires labels { suc (suc exit) ≤ most_labels }
     ensures { OnOk result (Emits out.old.items out.new.items
-        (number_asked (view_layout y.now) name (view_form form) exit)) }
+        (number_asked (view_layout layout.now) name (view_form form) exit)) }
 {
-    name_numbered(y, out, name, 1, exit)?;
-    to_number(y.alloc, y.bases, out, form, 0, exit)?;
+    name_numbered(layout, out, name, 1, exit)?;
+    to_number(layout.alloc, layout.bases, out, form, 0, exit)?;
     let all = [
-        Simple::LocalGet(y.bases.number(1)),
-        Simple::LocalGet(y.bases.number(0)),
+        Simple::LocalGet(layout.bases.number(1)),
+        Simple::LocalGet(layout.bases.number(0)),
     ];
     does_all(out, &all)
 }
 
 /// Puts the number of the first temporary on the stack, and that of the field that a constant gives, by its bits.
-fn field_added(y: &FunctionLayout<'_>, out: &mut Vec<Instr>, bits: u64) -> Result<(), AllocError>
-    ensures { OnOk result (Emits out.old.items out.new.items (field_added y.now.bases.now bits)) }
+fn field_added(
+    layout: &FunctionLayout<'_>,
+    out: &mut Vec<Instr>,
+    bits: u64,
+) -> Result<(), AllocError>
+    ensures { OnOk result
+        (Emits out.old.items out.new.items (field_added layout.now.bases.now bits)) }
 {
-    let number = y.bases.number(0);
+    let number = layout.bases.number(0);
     does_all(out, &[Simple::LocalGet(number), Simple::I64Const(bits)])?;
     ask_row(out, Primitive::Field)?;
     ask_row(out, Primitive::ToNum)
@@ -259,7 +279,7 @@ fn field_added(y: &FunctionLayout<'_>, out: &mut Vec<Instr>, bits: u64) -> Resul
 
 /// Asks for the number of a name, and for that of the field with this number; both are put on the stack.
 fn field_asked(
-    y: &FunctionLayout<'_>,
+    layout: &FunctionLayout<'_>,
     out: &mut Vec<Instr>,
     name: usize,
     number: i64,
@@ -267,63 +287,63 @@ fn field_asked(
 ) -> Result<(), AllocError>
     requires name { name ≤ most_places }
     requires labels { suc (suc exit) ≤ most_labels }
-    ensures { OnOk result
-        (Emits out.old.items out.new.items (field_asked (view_layout y.now) name number exit)) }
+    ensures { OnOk result (Emits out.old.items out.new.items
+        (field_asked (view_layout layout.now) name number exit)) }
 {
-    name_numbered(y, out, name, 0, exit)?;
-    field_added(y, out, number.cast_unsigned())
+    name_numbered(layout, out, name, 0, exit)?;
+    field_added(layout, out, number.cast_unsigned())
 }
 
 /// Evaluates what is added to a name, and asks for both numbers.
 fn added_asked(
-    y: &FunctionLayout<'_>,
+    layout: &FunctionLayout<'_>,
     out: &mut Vec<Instr>,
     update: Update<'_>,
     exit: u32,
 ) -> Result<(), AllocError>
     requires name { update.name ≤ most_places }
-    requires fit { Fits (view_layout y.now) (view update.added.now) 0 0 exit }
+    requires fit { Fits (view_layout layout.now) (view update.added.now) 0 0 exit }
     requires labels { suc (suc exit) ≤ most_labels }
     ensures { OnOk result (Emits out.old.items out.new.items
-        (both_asked (view_layout y.now) None (view_update update.entry) exit)) }
+        (both_asked (view_layout layout.now) None (view_update update.entry) exit)) }
 {
-    let form = answered(y, out, update.added, exit)?;
-    number_asked(y, out, update.name, form, exit)
+    let form = answered(layout, out, update.added, exit)?;
+    number_asked(layout, out, update.name, form, exit)
 }
 
 /// Puts the number of a name and that of what is added on the stack.
 fn both_asked(
-    y: &FunctionLayout<'_>,
+    layout: &FunctionLayout<'_>,
     out: &mut Vec<Instr>,
     update: Update<'_>,
     exit: u32,
 ) -> Result<(), AllocError>
     requires name { update.name ≤ most_places }
-    requires fit { Fits (view_layout y.now) (view update.added.now) 0 0 exit }
+    requires fit { Fits (view_layout layout.now) (view update.added.now) 0 0 exit }
     requires labels { suc (suc exit) ≤ most_labels }
-    ensures { OnOk result (Emits out.old.items out.new.items (both_asked (view_layout y.now)
+    ensures { OnOk result (Emits out.old.items out.new.items (both_asked (view_layout layout.now)
         (field_at (view update.entry.added.now)) (view_update update.entry) exit)) }
 {
     match field_at(update.added) {
-        Some(number) => field_asked(y, out, update.name, number, exit),
-        None => added_asked(y, out, update, exit),
+        Some(number) => field_asked(layout, out, update.name, number, exit),
+        None => added_asked(layout, out, update, exit),
     }
 }
 
 /// Adds a sum of a name and what is evaluated first.
 pub(crate) fn updated(
-    y: &FunctionLayout<'_>,
+    layout: &FunctionLayout<'_>,
     out: &mut Vec<Instr>,
     update: Update<'_>,
     exit: u32,
 ) -> Result<(), AllocError>
     requires target { update.target ≤ most_places }
     requires name { update.name ≤ most_places }
-    requires fit { Fits (view_layout y.now) (view update.added.now) 0 0 exit }
+    requires fit { Fits (view_layout layout.now) (view update.added.now) 0 0 exit }
     requires labels { suc (suc exit) ≤ most_labels }
     ensures { OnOk result (Emits out.old.items out.new.items
-        (updated (view_layout y.now) (view_update update.entry) exit)) }
+        (updated (view_layout layout.now) (view_update update.entry) exit)) }
 {
-    both_asked(y, out, update, exit)?;
-    sum_taken(y, out, sum_op(update.op), update.target, exit)
+    both_asked(layout, out, update, exit)?;
+    sum_taken(layout, out, sum_op(update.op), update.target, exit)
 }

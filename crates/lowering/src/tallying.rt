@@ -25,35 +25,35 @@ use wasm_types::{Instr, Simple};
 
 /// Adds a counter's key and what is added, in the first two temporaries, and gives their forms.
 fn tally_evaluated(
-    y: &FunctionLayout<'_>,
+    layout: &FunctionLayout<'_>,
     out: &mut Vec<Instr>,
     tally: Tally<'_>,
     exit: u32,
 ) -> Result<(Form, Form), AllocError>
-    requires { TallyFits (view_layout y.now) (view_tally tally) exit }
+    requires { TallyFits (view_layout layout.now) (view_tally tally) exit }
     ensures key { IfOk result (λ forms. view_form forms.0 ≡ form_of [] (view tally.entry.key.now)) }
     ensures added { IfOk result (λ forms. view_form forms.1
         ≡ form_of (form_of [] (view tally.entry.key.now) ∷ []) (view tally.entry.added.now)) }
     ensures emits { OnOk result (Emits out.old.items out.new.items
-        (tally_evaluated (view_layout y.now) (view_tally tally.entry) exit)) }
+        (tally_evaluated (view_layout layout.now) (view_tally tally.entry) exit)) }
 {
-    let mut kept = Kept::none(y.alloc);
-    let key = expression(y, &mut kept, out, false, tally.key, at_first(exit))?;
+    let mut kept = Kept::none(layout.alloc);
+    let key = expression(layout, &mut kept, out, false, tally.key, at_first(exit))?;
     kept.push(key, 0)?;
     let at = At {
         temporary: 1,
         arrays: 0,
         exit,
     };
-    let added = expression(y, &mut kept, out, false, tally.added, at)?;
+    let added = expression(layout, &mut kept, out, false, tally.added, at)?;
     Ok((key, added))
 }
 
 /// Puts a second handle of the key on the stack, and asks for the element's number.
-fn element_asked(y: &FunctionLayout<'_>, out: &mut Vec<Instr>) -> Result<(), AllocError>
-    ensures { OnOk result (Emits out.old.items out.new.items (element_asked y.now.bases.now)) }
+fn element_asked(layout: &FunctionLayout<'_>, out: &mut Vec<Instr>) -> Result<(), AllocError>
+    ensures { OnOk result (Emits out.old.items out.new.items (element_asked layout.now.bases.now)) }
 {
-    let key = y.bases.handle(0);
+    let key = layout.bases.handle(0);
     does_all(out, &[Simple::LocalGet(key), Simple::LocalTee(key)])?;
     ask_row(out, Primitive::Dup)?;
     ask_row(out, Primitive::Elem)?;
@@ -62,25 +62,25 @@ fn element_asked(y: &FunctionLayout<'_>, out: &mut Vec<Instr>) -> Result<(), All
 
 /// Adds the number of an element, whose key stays where it is.
 fn element_numbered(
-    y: &FunctionLayout<'_>,
+    layout: &FunctionLayout<'_>,
     out: &mut Vec<Instr>,
     array: ArrayName,
     exit: u32,
 ) -> Result<(), AllocError>
     requires { ArrayFits (view_array array) }
     ensures { OnOk result (Emits out.old.items out.new.items
-        (element_numbered (view_layout y.now) (view_array array) exit)) }
+        (element_numbered (view_layout layout.now) (view_array array) exit)) }
 {
-    array_pushed(y, out, array)?;
-    element_asked(y, out)?;
-    kept_number(y.bases, out, true, 2, exit)
+    array_pushed(layout, out, array)?;
+    element_asked(layout, out)?;
+    kept_number(layout.bases, out, true, 2, exit)
 }
 
 /// Gives the number of the third temporary to an element, whose array and key are on the stack.
-fn number_given(y: &FunctionLayout<'_>, out: &mut Vec<Instr>) -> Result<(), AllocError>
-    ensures { OnOk result (Emits out.old.items out.new.items (number_given y.now.bases.now)) }
+fn number_given(layout: &FunctionLayout<'_>, out: &mut Vec<Instr>) -> Result<(), AllocError>
+    ensures { OnOk result (Emits out.old.items out.new.items (number_given layout.now.bases.now)) }
 {
-    does(out, Simple::LocalGet(y.bases.number(2)))?;
+    does(out, Simple::LocalGet(layout.bases.number(2)))?;
     ask_row(out, Primitive::Num)?;
     ask_row(out, Primitive::SetElem)?;
     does(out, Simple::Drop)
@@ -88,22 +88,22 @@ fn number_given(y: &FunctionLayout<'_>, out: &mut Vec<Instr>) -> Result<(), Allo
 
 /// Gives the number of the third temporary to an element, and the key with it.
 fn element_given(
-    y: &FunctionLayout<'_>,
+    layout: &FunctionLayout<'_>,
     out: &mut Vec<Instr>,
     array: ArrayName,
 ) -> Result<(), AllocError>
     requires { ArrayFits (view_array array) }
-    ensures { OnOk result
-        (Emits out.old.items out.new.items (element_given (view_layout y.now) (view_array array))) }
+    ensures { OnOk result (Emits out.old.items out.new.items
+        (element_given (view_layout layout.now) (view_array array))) }
 {
-    array_pushed(y, out, array)?;
-    moved_out(out, y.bases.handle(0))?;
-    number_given(y, out)
+    array_pushed(layout, out, array)?;
+    moved_out(out, layout.bases.handle(0))?;
+    number_given(layout, out)
 }
 
 /// Adds the sum of the element's number and what is added, and gives it to an element.
 fn sum_given(
-    y: &FunctionLayout<'_>,
+    layout: &FunctionLayout<'_>,
     out: &mut Vec<Instr>,
     tally: Tally<'_>,
     exit: u32,
@@ -111,32 +111,32 @@ fn sum_given(
     requires array { ArrayFits (view_array tally.written) }
     requires labels { exit ≤ most_labels }
     ensures { OnOk result (Emits out.old.items out.new.items
-        (sum_given (view_layout y.now) (view_tally tally.entry) exit)) }
+        (sum_given (view_layout layout.now) (view_tally tally.entry) exit)) }
 {
     let all = [
-        Simple::LocalGet(y.bases.number(2)),
-        Simple::LocalGet(y.bases.number(1)),
+        Simple::LocalGet(layout.bases.number(2)),
+        Simple::LocalGet(layout.bases.number(1)),
     ];
     does_all(out, &all)?;
-    sum_kept(y, out, sum_op(tally.op), 2, exit)?;
-    element_given(y, out, tally.written)
+    sum_kept(layout, out, sum_op(tally.op), 2, exit)?;
+    element_given(layout, out, tally.written)
 }
 
 /// Adds a counter.
 pub(crate) fn tallied(
-    y: &FunctionLayout<'_>,
+    layout: &FunctionLayout<'_>,
     out: &mut Vec<Instr>,
     tally: Tally<'_>,
     exit: u32,
 ) -> Result<(), AllocError>
-    requires fit { TallyFits (view_layout y.now) (view_tally tally) exit }
+    requires fit { TallyFits (view_layout layout.now) (view_tally tally) exit }
     requires labels { suc (suc exit) ≤ most_labels }
     ensures { OnOk result (Emits out.old.items out.new.items
-        (tallied (view_layout y.now) (view_tally tally.entry) exit)) }
+        (tallied (view_layout layout.now) (view_tally tally.entry) exit)) }
 {
-    let (key, added) = tally_evaluated(y, out, tally, exit)?;
-    to_value(y.alloc, y.bases, out, key, 0)?;
-    element_numbered(y, out, tally.read, exit)?;
-    to_number(y.alloc, y.bases, out, added, 1, exit)?;
-    sum_given(y, out, tally, exit)
+    let (key, added) = tally_evaluated(layout, out, tally, exit)?;
+    to_value(layout.alloc, layout.bases, out, key, 0)?;
+    element_numbered(layout, out, tally.read, exit)?;
+    to_number(layout.alloc, layout.bases, out, added, 1, exit)?;
+    sum_given(layout, out, tally, exit)
 }

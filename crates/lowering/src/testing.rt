@@ -25,17 +25,17 @@ use wasm_types::{ITestOp, Instr, Simple, ValType};
 
 /// Adds a test in all cases, and leaves to a label where it does not hold.
 fn test_left(
-    y: &FunctionLayout<'_>,
+    layout: &FunctionLayout<'_>,
     out: &mut Vec<Instr>,
     test: &Code,
     exit: u32,
     label: u32,
 ) -> Result<(), AllocError>
-    requires { Fits (view_layout y.now) (view test.now) 0 0 exit }
+    requires { Fits (view_layout layout.now) (view test.now) 0 0 exit }
     ensures { OnOk result (Emits out.old.items out.new.items
-        (test_left (view_layout y.now) (view test.now) exit label)) }
+        (test_left (view_layout layout.now) (view test.now) exit label)) }
 {
-    tested(y, out, test, exit)?;
+    tested(layout, out, test, exit)?;
     let all = [
         Simple::Test(ValType::I32, ITestOp::Eqz),
         Simple::BrIf(label),
@@ -45,25 +45,25 @@ fn test_left(
 
 /// The same in a list of its own, from within one label more.
 fn test_code(
-    y: &FunctionLayout<'_>,
+    layout: &FunctionLayout<'_>,
     test: &Code,
     exit: u32,
     label: u32,
 ) -> Result<Vec<Instr>, AllocError>
     requires labels { suc exit ≤ most_labels }
     requires label { label ≤ exit }
-    requires fit { Fits (view_layout y.now) (view test.now) 0 0 (suc exit) }
-    ensures { IfOk result (λ v. Emits [] v.items
-        (test_left (view_layout y.now) (view test.now) (suc exit) (suc label))) }
+    requires fit { Fits (view_layout layout.now) (view test.now) 0 0 (suc exit) }
+    ensures { IfOk result (λ code. Emits [] code.items
+        (test_left (view_layout layout.now) (view test.now) (suc exit) (suc label))) }
 {
-    let mut code = Vec::new(y.alloc);
-    test_left(y, &mut code, test, exit + 1, label + 1)?;
+    let mut code = Vec::new(layout.alloc);
+    test_left(layout, &mut code, test, exit + 1, label + 1)?;
     Ok(code)
 }
 
 /// Adds a comparison of sources: by the module itself where their numbers are in range.
 fn pair_tested(
-    y: &FunctionLayout<'_>,
+    layout: &FunctionLayout<'_>,
     out: &mut Vec<Instr>,
     pair: Pair,
     test: &Code,
@@ -73,20 +73,20 @@ fn pair_tested(
     requires labels { suc exit ≤ most_labels }
     requires label { label ≤ exit }
     requires pair { PairFits (view_pair pair) }
-    requires fit { Fits (view_layout y.now) (view test.now) 0 0 (suc exit) }
+    requires fit { Fits (view_layout layout.now) (view test.now) 0 0 (suc exit) }
     ensures { OnOk result (Emits out.old.items out.new.items
-        (pair_tested (view_layout y.now) (view_pair pair) (view test.now) exit label)) }
+        (pair_tested (view_layout layout.now) (view_pair pair) (view test.now) exit label)) }
 {
-    let names = pair_names(y.alloc, pair)?;
-    all_unsure(y, out, &names, MAX_NUMBER, 1 << 54)?;
-    let all_cases = test_code(y, test, exit, label)?;
-    let quick = pair_code(y, pair, label)?;
-    either(y.alloc, out, all_cases, quick)
+    let names = pair_names(layout.alloc, pair)?;
+    all_unsure(layout, out, &names, MAX_NUMBER, 1 << 54)?;
+    let all_cases = test_code(layout, test, exit, label)?;
+    let quick = pair_code(layout, pair, label)?;
+    either(layout.alloc, out, all_cases, quick)
 }
 
 /// Adds a comparison of a name with how many fields there are: of two numbers where the name has one.
 fn counted_tested(
-    y: &FunctionLayout<'_>,
+    layout: &FunctionLayout<'_>,
     out: &mut Vec<Instr>,
     counted: Counted,
     test: &Code,
@@ -96,19 +96,19 @@ fn counted_tested(
     requires labels { suc exit ≤ most_labels }
     requires label { label ≤ exit }
     requires name { counted.name ≤ most_places }
-    requires fit { Fits (view_layout y.now) (view test.now) 0 0 (suc exit) }
-    ensures { OnOk result (Emits out.old.items out.new.items
-        (counted_tested (view_layout y.now) (view_counted counted) (view test.now) exit label)) }
+    requires fit { Fits (view_layout layout.now) (view test.now) 0 0 (suc exit) }
+    ensures { OnOk result (Emits out.old.items out.new.items (counted_tested
+        (view_layout layout.now) (view_counted counted) (view test.now) exit label)) }
 {
-    unnumbered(y, out, counted.name)?;
-    let all_cases = test_code(y, test, exit, label)?;
-    let quick = counted_code(y, counted, label)?;
-    either(y.alloc, out, all_cases, quick)
+    unnumbered(layout, out, counted.name)?;
+    let all_cases = test_code(layout, test, exit, label)?;
+    let quick = counted_code(layout, counted, label)?;
+    either(layout.alloc, out, all_cases, quick)
 }
 
 /// Adds a test that may compare a name with how many fields there are, and leaves to a label where it does not hold.
 fn left_unless_counted(
-    y: &FunctionLayout<'_>,
+    layout: &FunctionLayout<'_>,
     out: &mut Vec<Instr>,
     test: &Code,
     exit: u32,
@@ -116,19 +116,19 @@ fn left_unless_counted(
 ) -> Result<(), AllocError>
     requires labels { suc exit ≤ most_labels }
     requires label { label ≤ exit }
-    requires fit { TestFits (view_layout y.now) (view test.now) exit }
+    requires fit { TestFits (view_layout layout.now) (view test.now) exit }
     ensures { OnOk result (Emits out.old.items out.new.items (left_unless_counted
-        (view_layout y.now) (counted_in (view test.now)) (view test.now) exit label)) }
+        (view_layout layout.now) (counted_in (view test.now)) (view test.now) exit label)) }
 {
     match counted_in(test) {
-        Some(counted) => counted_tested(y, out, counted, test, exit, label),
-        None => test_left(y, out, test, exit, label),
+        Some(counted) => counted_tested(layout, out, counted, test, exit, label),
+        None => test_left(layout, out, test, exit, label),
     }
 }
 
 /// Adds a test that may compare sources, and leaves to a label where it does not hold.
 pub(crate) fn left_unless_pair(
-    y: &FunctionLayout<'_>,
+    layout: &FunctionLayout<'_>,
     out: &mut Vec<Instr>,
     test: &Code,
     exit: u32,
@@ -136,19 +136,19 @@ pub(crate) fn left_unless_pair(
 ) -> Result<(), AllocError>
     requires labels { suc exit ≤ most_labels }
     requires label { label ≤ exit }
-    requires fit { TestFits (view_layout y.now) (view test.now) exit }
-    ensures { OnOk result (Emits out.old.items out.new.items (left_unless_pair (view_layout y.now)
-        (pair_in (view test.now)) (view test.now) exit label)) }
+    requires fit { TestFits (view_layout layout.now) (view test.now) exit }
+    ensures { OnOk result (Emits out.old.items out.new.items (left_unless_pair
+        (view_layout layout.now) (pair_in (view test.now)) (view test.now) exit label)) }
 {
     match pair_in(test) {
-        Some(pair) => pair_tested(y, out, pair, test, exit, label),
-        None => left_unless_counted(y, out, test, exit, label),
+        Some(pair) => pair_tested(layout, out, pair, test, exit, label),
+        None => left_unless_counted(layout, out, test, exit, label),
     }
 }
 
 /// Adds a test that holds of some numbers of a name.
 fn within_tested(
-    y: &FunctionLayout<'_>,
+    layout: &FunctionLayout<'_>,
     out: &mut Vec<Instr>,
     within: Within,
     test: &Code,
@@ -158,18 +158,18 @@ fn within_tested(
     requires labels { suc exit ≤ most_labels }
     requires label { label ≤ exit }
     requires name { within.name ≤ most_places }
-    requires fit { Fits (view_layout y.now) (view test.now) 0 0 (suc exit) }
+    requires fit { Fits (view_layout layout.now) (view test.now) 0 0 (suc exit) }
     ensures { OnOk result (Emits out.old.items out.new.items
-        (within_tested (view_layout y.now) (view_within within) (view test.now) exit label)) }
+        (within_tested (view_layout layout.now) (view_within within) (view test.now) exit label)) }
 {
-    unsure(y, out, within)?;
-    let all_cases = test_code(y, test, exit, label)?;
-    when(y.alloc, out, all_cases)
+    unsure(layout, out, within)?;
+    let all_cases = test_code(layout, test, exit, label)?;
+    when(layout.alloc, out, all_cases)
 }
 
 /// Adds a test, and leaves to a label where it does not hold.
 pub(crate) fn left_unless(
-    y: &FunctionLayout<'_>,
+    layout: &FunctionLayout<'_>,
     out: &mut Vec<Instr>,
     test: &Code,
     exit: u32,
@@ -177,12 +177,12 @@ pub(crate) fn left_unless(
 ) -> Result<(), AllocError>
     requires labels { suc exit ≤ most_labels }
     requires label { label ≤ exit }
-    requires fit { TestFits (view_layout y.now) (view test.now) exit }
-    ensures { OnOk result (Emits out.old.items out.new.items (left_unless (view_layout y.now)
+    requires fit { TestFits (view_layout layout.now) (view test.now) exit }
+    ensures { OnOk result (Emits out.old.items out.new.items (left_unless (view_layout layout.now)
         (test_within (view test.now)) (view test.now) exit label)) }
 {
     match test_within(test) {
-        Some(within) => within_tested(y, out, within, test, exit, label),
-        None => left_unless_pair(y, out, test, exit, label),
+        Some(within) => within_tested(layout, out, within, test, exit, label),
+        None => left_unless_pair(layout, out, test, exit, label),
     }
 }

@@ -6,4 +6,4 @@ use Rattle.lower_expressions.proofs.WalkLemmas.{none_pushed}
 use Rattle.lower_expressions.proofs.calls.+all_pushed.Goals as goal
 
 pub returns-in_default : goal.returns-in_default
-returns-in_default t c = λ k. ap (followed c.args.out.now.items) (none_pushed (view_layout c.args.y.now) (map view_kind c.args.kinds.now) c.args.operands.now c.args.t c.args.arrays k c.in_default.ensures.cases)
+returns-in_default t c = λ k. ap (followed c.args.out.now.items) (none_pushed (view_layout c.args.layout.now) (map view_kind c.args.kinds.now) c.args.operands.now c.args.temporary c.args.arrays k c.in_default.ensures.cases)

@@ -6,7 +6,7 @@ use Rattle.lower_expressions.proofs.calls.parameters.Goals as goal
 
 pub returns-in-Some : goal.returns-in-Some
 returns-in-Some c =
-    let rs = c.args.y.now.script.now.program.now.routines.items in
+    let rs = c.args.layout.now.script.now.program.now.routines.items in
     let r = c.in-Some.routine.now in
     ap (map view_kind) c.deref-in-Some.ensures.value
     ∙ parameters_are rs c.args.function r (subst (λ (xs : List Routine). c.args.function < length xs) c.deref.ensures.value (omega (arith, c.in-Some.ensures.lookup.3.0)))
@@ -14,5 +14,5 @@ returns-in-Some c =
 
 pub returns-in-None : goal.returns-in-None
 returns-in-None c =
-    no_parameters c.args.y.now.script.now.program.now.routines.items c.args.function
+    no_parameters c.args.layout.now.script.now.program.now.routines.items c.args.function
     (subst (λ (xs : List Routine). length xs ≤ c.args.function) c.deref.ensures.value (omega (arith, c.in-None.ensures.lookup)))

@@ -37,72 +37,72 @@ use Rattle.lower_expressions.proofs.expressions.+expressions.Goals as goal
 
 pub expression-operation-requires : goal.expression-operation-requires
 expression-operation-requires t c =
-    let is = do_view c.args.code.now c.in-Do.what c.in-Do.es c.deref.result.now c.in-Do.is c.deref.ensures.value in
+    let is = do_view c.args.code.now c.in-Do.what c.in-Do.operands c.deref.result.now c.in-Do.is c.deref.ensures.value in
     let w = ap weight is in (
       omega (arith, w, c.decreases),
-      subst (λ (x : plain.Code). Fits (view_layout c.args.y.now) x c.args.at.temporary c.args.at.arrays c.args.at.exit)
+      subst (λ (x : plain.Code). Fits (view_layout c.args.layout.now) x c.args.at.temporary c.args.at.arrays c.args.at.exit)
           (sym is) c.requires,
     )
 
 pub expression-listing-requires : goal.expression-listing-requires
 expression-listing-requires t c =
-    let is = over_view c.args.code.now c.in-Over.what c.in-Over.es c.deref-in-Over.result.now c.in-Over.is c.deref-in-Over.ensures.value in
+    let is = over_view c.args.code.now c.in-Over.what c.in-Over.operands c.deref-in-Over.result.now c.in-Over.is c.deref-in-Over.ensures.value in
     let w = ap weight is in (
       omega (arith, w, c.decreases),
-      subst (λ (x : plain.Code). Fits (view_layout c.args.y.now) x c.args.at.temporary c.args.at.arrays c.args.at.exit)
+      subst (λ (x : plain.Code). Fits (view_layout c.args.layout.now) x c.args.at.temporary c.args.at.arrays c.args.at.exit)
           (sym is) c.requires,
     )
 
 pub expression-call-requires : goal.expression-call-requires
 expression-call-requires t c =
-    let is = call_view c.args.code.now c.in-Call.function c.in-Call.es c.deref-in-Call.result.now c.in-Call.is c.deref-in-Call.ensures.value in
+    let is = call_view c.args.code.now c.in-Call.function c.in-Call.operands c.deref-in-Call.result.now c.in-Call.is c.deref-in-Call.ensures.value in
     let w = ap weight is in (
       omega (arith, w, c.decreases),
-      subst (λ (x : plain.Code). Fits (view_layout c.args.y.now) x c.args.at.temporary c.args.at.arrays c.args.at.exit)
+      subst (λ (x : plain.Code). Fits (view_layout c.args.layout.now) x c.args.at.temporary c.args.at.arrays c.args.at.exit)
           (sym is) c.requires,
     )
 
 pub expression-replacement-requires : goal.expression-replacement-requires
 expression-replacement-requires t c =
-    let is = replace_view c.args.code.now c.in-Replace.all c.in-Replace.es c.deref-in-Replace.result.now c.in-Replace.store
+    let is = replace_view c.args.code.now c.in-Replace.all c.in-Replace.operands c.deref-in-Replace.result.now c.in-Replace.store
     c.deref-in-Replace-2.result.now c.in-Replace.is c.deref-in-Replace.ensures.value c.deref-in-Replace-2.ensures in
     let w = ap weight is in (
       omega (arith, w, c.decreases),
-      subst (λ (x : plain.Code). Fits (view_layout c.args.y.now) x c.args.at.temporary c.args.at.arrays c.args.at.exit)
+      subst (λ (x : plain.Code). Fits (view_layout c.args.layout.now) x c.args.at.temporary c.args.at.arrays c.args.at.exit)
           (sym is) c.requires,
     )
 
 pub expression-returns-in-Do-clause-form : goal.expression-returns-in-Do-clause-form
 expression-returns-in-Do-clause-form t c = IfOk-weaker c.operation.result _ _ (λ r h. h ∙ ap (form_of c.args.kept.now.forms) (do_view c.args.code.now
-    c.in-Do.what c.in-Do.es c.deref.result.now c.in-Do.is c.deref.ensures.value)) c.operation.ensures.form
+    c.in-Do.what c.in-Do.operands c.deref.result.now c.in-Do.is c.deref.ensures.value)) c.operation.ensures.form
 
 pub expression-returns-in-Do-clause-emits : goal.expression-returns-in-Do-clause-emits
-expression-returns-in-Do-clause-emits t c = rw (do_view c.args.code.now c.in-Do.what c.in-Do.es c.deref.result.now c.in-Do.is c.deref.ensures.value)
+expression-returns-in-Do-clause-emits t c = rw (do_view c.args.code.now c.in-Do.what c.in-Do.operands c.deref.result.now c.in-Do.is c.deref.ensures.value)
     at (c.operation.ensures.emits c.args.only)
 
 pub expression-returns-in-Over-clause-form : goal.expression-returns-in-Over-clause-form
 expression-returns-in-Over-clause-form t c = IfOk-weaker c.listing.result _ _ (λ r h. h ∙ ap (form_of c.args.kept.now.forms) (over_view
-    c.args.code.now c.in-Over.what c.in-Over.es c.deref-in-Over.result.now c.in-Over.is c.deref-in-Over.ensures.value)) c.listing.ensures.form
+    c.args.code.now c.in-Over.what c.in-Over.operands c.deref-in-Over.result.now c.in-Over.is c.deref-in-Over.ensures.value)) c.listing.ensures.form
 
 pub expression-returns-in-Over-clause-emits : goal.expression-returns-in-Over-clause-emits
-expression-returns-in-Over-clause-emits t c = rw (over_view c.args.code.now c.in-Over.what c.in-Over.es c.deref-in-Over.result.now c.in-Over.is
+expression-returns-in-Over-clause-emits t c = rw (over_view c.args.code.now c.in-Over.what c.in-Over.operands c.deref-in-Over.result.now c.in-Over.is
     c.deref-in-Over.ensures.value) at (c.listing.ensures.emits c.args.only)
 
 pub expression-returns-in-Call-clause-form : goal.expression-returns-in-Call-clause-form
 expression-returns-in-Call-clause-form t c = IfOk-weaker c.call.result _ _ (λ r h. h ∙ ap (form_of c.args.kept.now.forms) (call_view c.args.code.now
-    c.in-Call.function c.in-Call.es c.deref-in-Call.result.now c.in-Call.is c.deref-in-Call.ensures.value)) c.call.ensures.form
+    c.in-Call.function c.in-Call.operands c.deref-in-Call.result.now c.in-Call.is c.deref-in-Call.ensures.value)) c.call.ensures.form
 
 pub expression-returns-in-Call-clause-emits : goal.expression-returns-in-Call-clause-emits
-expression-returns-in-Call-clause-emits t c = rw (call_view c.args.code.now c.in-Call.function c.in-Call.es c.deref-in-Call.result.now c.in-Call.is
+expression-returns-in-Call-clause-emits t c = rw (call_view c.args.code.now c.in-Call.function c.in-Call.operands c.deref-in-Call.result.now c.in-Call.is
     c.deref-in-Call.ensures.value) at (c.call.ensures.emits c.args.only)
 
 pub expression-returns-in-Replace-clause-form : goal.expression-returns-in-Replace-clause-form
 expression-returns-in-Replace-clause-form t c = IfOk-weaker c.replacement.result _ _ (λ r h. h ∙ ap (form_of c.args.kept.now.forms) (replace_view
-    c.args.code.now c.in-Replace.all c.in-Replace.es c.deref-in-Replace.result.now c.in-Replace.store c.deref-in-Replace-2.result.now c.in-Replace.is
+    c.args.code.now c.in-Replace.all c.in-Replace.operands c.deref-in-Replace.result.now c.in-Replace.store c.deref-in-Replace-2.result.now c.in-Replace.is
     c.deref-in-Replace.ensures.value c.deref-in-Replace-2.ensures)) c.replacement.ensures.form
 
 pub expression-returns-in-Replace-clause-emits : goal.expression-returns-in-Replace-clause-emits
-expression-returns-in-Replace-clause-emits t c = rw (replace_view c.args.code.now c.in-Replace.all c.in-Replace.es c.deref-in-Replace.result.now
+expression-returns-in-Replace-clause-emits t c = rw (replace_view c.args.code.now c.in-Replace.all c.in-Replace.operands c.deref-in-Replace.result.now
     c.in-Replace.store c.deref-in-Replace-2.result.now c.in-Replace.is c.deref-in-Replace.ensures.value c.deref-in-Replace-2.ensures) at
     (c.replacement.ensures.emits c.args.only)
 
@@ -138,7 +138,7 @@ expression-key-requires t c =
     c.deref-in-Joined-3.result.now c.in-Joined.is c.deref-in-Joined.ensures c.deref-in-Joined-2.ensures.value c.deref-in-Joined-3.ensures in
     let w = ap weight is in (
       omega (arith, w, c.decreases),
-      subst (λ (x : plain.Code). Fits (view_layout c.args.y.now) x c.args.at.temporary c.args.at.arrays c.args.at.exit)
+      subst (λ (x : plain.Code). Fits (view_layout c.args.layout.now) x c.args.at.temporary c.args.at.arrays c.args.at.exit)
           (sym is) c.requires,
     )
 
@@ -162,7 +162,7 @@ key-next-place-requires t c = c.requires.0
 
 pub key-loop-other-init : goal.key-loop-other-init
 key-loop-other-init t c =
-    let y = view_layout c.args.y.now in
+    let y = view_layout c.args.layout.now in
     let fs = c.args.kept.now.forms in
     let ts = c.args.kept.now.temporaries in
     let w = c.args.at.arrays in
@@ -188,7 +188,7 @@ key-loop-other-init t c =
 
 pub key-loop-other-preserved : goal.key-loop-other-preserved
 key-loop-other-preserved t c =
-    let y = view_layout c.args.y.now in
+    let y = view_layout c.args.layout.now in
     let fs = c.args.kept.now.forms in
     let ts = c.args.kept.now.temporaries in
     let w = c.args.at.arrays in
@@ -233,7 +233,7 @@ key-expression-requires-2 t c =
     let w = ap (λ (xs : List Code). weight (joined (map view xs) last)) none in
     let most = c.loop-other.invariant.lighter in (
       omega (arith, c.decreases, w, most),
-      (subst (λ (xs : List Code). AllFit (view_layout c.args.y.now) (plain.At (joined (map view xs) last) plain.End) c.loop-other.place.temporary
+      (subst (λ (xs : List Code). AllFit (view_layout c.args.layout.now) (plain.At (joined (map view xs) last) plain.End) c.loop-other.place.temporary
           c.loop-other.place.arrays c.loop-other.place.exit) (sym none) c.loop-other.invariant.fit).1.0,
     )
 
@@ -251,7 +251,7 @@ key-all_joined-requires-clause-labels t c =
 
 pub key-returns-clause-emits : goal.key-returns-clause-emits
 key-returns-clause-emits t c =
-    let y = view_layout c.args.y.now in
+    let y = view_layout c.args.layout.now in
     let fs = c.args.kept.now.forms in
     let ts = c.args.kept.now.temporaries in
     let w = c.args.at.arrays in
@@ -272,215 +272,215 @@ key-returns-clause-emits t c =
 
 -- operands
 
-pub operands-returns-in_default-clause-forms : goal.operands-returns-in_default-clause-forms
-operands-returns-in_default-clause-forms t c = no_form c.args.kept.now.forms (map view_form c.args.forms.now.items) c.args.es.now
+pub all_operands-returns-in_default-clause-forms : goal.all_operands-returns-in_default-clause-forms
+all_operands-returns-in_default-clause-forms t c = no_form c.args.kept.now.forms (map view_form c.args.forms.now.items) c.args.operands.now
     c.in_default.ensures.cases
 
-pub operands-returns-in_default-clause-emits : goal.operands-returns-in_default-clause-emits
-operands-returns-in_default-clause-emits t c = none_emitted (view_layout c.args.y.now) c.args.kept.now.forms c.args.kept.now.temporaries c.args.es.now
+pub all_operands-returns-in_default-clause-emits : goal.all_operands-returns-in_default-clause-emits
+all_operands-returns-in_default-clause-emits t c = none_emitted (view_layout c.args.layout.now) c.args.kept.now.forms c.args.kept.now.temporaries c.args.operands.now
     c.args.at.temporary c.args.at.arrays c.args.at.exit c.args.out.now.items c.in_default.ensures.cases
 
-pub operands-expression-requires : goal.operands-expression-requires
-operands-expression-requires t c =
-    let e = next_operand c.args.es.now c.in-Some.rest.now c.in-Some.operand.now _ c.in-Some.ensures.cases.0 c.in-Code.is in
-    let fit = subst (λ (x : Codes). AllFit (view_layout c.args.y.now) x c.args.at.temporary c.args.at.arrays c.args.at.exit) (sym e) c.requires in
+pub all_operands-expression-requires : goal.all_operands-expression-requires
+all_operands-expression-requires t c =
+    let e = next_operand c.args.operands.now c.in-Some.rest.now c.in-Some.operand.now _ c.in-Some.ensures.cases.0 c.in-Code.is in
+    let fit = subst (λ (x : Codes). AllFit (view_layout c.args.layout.now) x c.args.at.temporary c.args.at.arrays c.args.at.exit) (sym e) c.requires in
     let w = ap weights e in
     (omega (arith, w, c.decreases), fit.1.0)
 
-pub operands-next-requires : goal.operands-next-requires
-operands-next-requires t c =
-    let e = next_operand c.args.es.now c.in-Some.rest.now c.in-Some.operand.now _ c.in-Some.ensures.cases.0 c.in-Code.is in
-    let fit = subst (λ (x : Codes). AllFit (view_layout c.args.y.now) x c.args.at.temporary c.args.at.arrays c.args.at.exit) (sym e) c.requires in
+pub all_operands-next-requires : goal.all_operands-next-requires
+all_operands-next-requires t c =
+    let e = next_operand c.args.operands.now c.in-Some.rest.now c.in-Some.operand.now _ c.in-Some.ensures.cases.0 c.in-Code.is in
+    let fit = subst (λ (x : Codes). AllFit (view_layout c.args.layout.now) x c.args.at.temporary c.args.at.arrays c.args.at.exit) (sym e) c.requires in
     fit.0
 
-pub operands-operands-requires : goal.operands-operands-requires
-operands-operands-requires t c =
-    let e = next_operand c.args.es.now c.in-Some.rest.now c.in-Some.operand.now _ c.in-Some.ensures.cases.0 c.in-Code.is in
-    let fit = subst (λ (x : Codes). AllFit (view_layout c.args.y.now) x c.args.at.temporary c.args.at.arrays c.args.at.exit) (sym e) c.requires in
+pub all_operands-all_operands-requires : goal.all_operands-all_operands-requires
+all_operands-all_operands-requires t c =
+    let e = next_operand c.args.operands.now c.in-Some.rest.now c.in-Some.operand.now _ c.in-Some.ensures.cases.0 c.in-Code.is in
+    let fit = subst (λ (x : Codes). AllFit (view_layout c.args.layout.now) x c.args.at.temporary c.args.at.arrays c.args.at.exit) (sym e) c.requires in
     let w = ap weights e in
     (omega (arith, w, c.decreases), rw c.next.ensures fit.1.1)
 
-pub operands-operands-requires-in-Constant : goal.operands-operands-requires-in-Constant
-operands-operands-requires-in-Constant t c =
-    let e = next_operand c.args.es.now c.in-Some.rest.now c.in-Some.operand.now _ c.in-Some.ensures.cases.0 c.in-Constant.is in
-    let fit = subst (λ (x : Codes). AllFit (view_layout c.args.y.now) x c.args.at.temporary c.args.at.arrays c.args.at.exit) (sym e) c.requires in
+pub all_operands-all_operands-requires-in-Constant : goal.all_operands-all_operands-requires-in-Constant
+all_operands-all_operands-requires-in-Constant t c =
+    let e = next_operand c.args.operands.now c.in-Some.rest.now c.in-Some.operand.now _ c.in-Some.ensures.cases.0 c.in-Constant.is in
+    let fit = subst (λ (x : Codes). AllFit (view_layout c.args.layout.now) x c.args.at.temporary c.args.at.arrays c.args.at.exit) (sym e) c.requires in
     let w = ap weights e in
     (omega (arith, w, c.decreases), fit)
 
-pub operands-array_made-requires : goal.operands-array_made-requires
-operands-array_made-requires t c =
-    let e = next_operand c.args.es.now c.in-Some.rest.now c.in-Some.operand.now _ c.in-Some.ensures.cases.0 c.in-Fresh.is in
-    let fit = subst (λ (x : Codes). AllFit (view_layout c.args.y.now) x c.args.at.temporary c.args.at.arrays c.args.at.exit) (sym e) c.requires in
+pub all_operands-array_made-requires : goal.all_operands-array_made-requires
+all_operands-array_made-requires t c =
+    let e = next_operand c.args.operands.now c.in-Some.rest.now c.in-Some.operand.now _ c.in-Some.ensures.cases.0 c.in-Fresh.is in
+    let fit = subst (λ (x : Codes). AllFit (view_layout c.args.layout.now) x c.args.at.temporary c.args.at.arrays c.args.at.exit) (sym e) c.requires in
     let a = fit.0.1.0 in
     omega (arith, a)
 
-pub operands-after_array-requires : goal.operands-after_array-requires
-operands-after_array-requires t c =
-    let e = next_operand c.args.es.now c.in-Some.rest.now c.in-Some.operand.now _ c.in-Some.ensures.cases.0 c.in-Fresh.is in
-    let fit = subst (λ (x : Codes). AllFit (view_layout c.args.y.now) x c.args.at.temporary c.args.at.arrays c.args.at.exit) (sym e) c.requires in
+pub all_operands-after_array-requires : goal.all_operands-after_array-requires
+all_operands-after_array-requires t c =
+    let e = next_operand c.args.operands.now c.in-Some.rest.now c.in-Some.operand.now _ c.in-Some.ensures.cases.0 c.in-Fresh.is in
+    let fit = subst (λ (x : Codes). AllFit (view_layout c.args.layout.now) x c.args.at.temporary c.args.at.arrays c.args.at.exit) (sym e) c.requires in
     fit.0
 
-pub operands-operands-requires-in-Fresh : goal.operands-operands-requires-in-Fresh
-operands-operands-requires-in-Fresh t c =
-    let e = next_operand c.args.es.now c.in-Some.rest.now c.in-Some.operand.now _ c.in-Some.ensures.cases.0 c.in-Fresh.is in
-    let fit = subst (λ (x : Codes). AllFit (view_layout c.args.y.now) x c.args.at.temporary c.args.at.arrays c.args.at.exit) (sym e) c.requires in
+pub all_operands-all_operands-requires-in-Fresh : goal.all_operands-all_operands-requires-in-Fresh
+all_operands-all_operands-requires-in-Fresh t c =
+    let e = next_operand c.args.operands.now c.in-Some.rest.now c.in-Some.operand.now _ c.in-Some.ensures.cases.0 c.in-Fresh.is in
+    let fit = subst (λ (x : Codes). AllFit (view_layout c.args.layout.now) x c.args.at.temporary c.args.at.arrays c.args.at.exit) (sym e) c.requires in
     let w = ap weights e in
     (omega (arith, w, c.decreases), rw c.after_array.ensures fit.1)
 
-pub operands-returns-in_ok-push-in-Code-clause-forms : goal.operands-returns-in_ok-push-in-Code-clause-forms
-operands-returns-in_ok-push-in-Code-clause-forms t c =
-    let e = next_operand c.args.es.now c.in-Some.rest.now c.in-Some.operand.now _ c.in-Some.ensures.cases.0 c.in-Code.is in
-    on_ok_weaker c.operands.result (form_added c.args.kept.now.forms (view c.in-Code.code) (views c.in-Some.rest.now) (views c.args.es.now)
-    c.in_ok-form-in-Code.form c.args.forms.now.items c.push.new.self.items c.operands.new.forms.items e c.in_ok-push-in-Code.ensures.items
-    c.in_ok-form-in-Code.ensures.form) (rw c.in_ok-form-in-Code.ensures.kept at c.operands.ensures.forms)
+pub all_operands-returns-in_ok-push-in-Code-clause-forms : goal.all_operands-returns-in_ok-push-in-Code-clause-forms
+all_operands-returns-in_ok-push-in-Code-clause-forms t c =
+    let e = next_operand c.args.operands.now c.in-Some.rest.now c.in-Some.operand.now _ c.in-Some.ensures.cases.0 c.in-Code.is in
+    on_ok_weaker c.all_operands.result (form_added c.args.kept.now.forms (view c.in-Code.code) (views c.in-Some.rest.now) (views c.args.operands.now)
+    c.in_ok-form-in-Code.form c.args.forms.now.items c.push.new.self.items c.all_operands.new.forms.items e c.in_ok-push-in-Code.ensures.items
+    c.in_ok-form-in-Code.ensures.form) (rw c.in_ok-form-in-Code.ensures.kept at c.all_operands.ensures.forms)
 
-pub operands-returns-in_ok-push-in-Code-clause-emits : goal.operands-returns-in_ok-push-in-Code-clause-emits
-operands-returns-in_ok-push-in-Code-clause-emits t c =
-    let e = next_operand c.args.es.now c.in-Some.rest.now c.in-Some.operand.now _ c.in-Some.ensures.cases.0 c.in-Code.is in
-    on_ok_weaker c.operands.result (code_emitted (view_layout c.args.y.now) c.args.kept.now.forms c.args.kept.now.temporaries (view c.in-Code.code)
-    (views c.in-Some.rest.now) (views c.args.es.now) c.args.at.temporary c.args.at.arrays c.args.at.exit c.args.out.now.items
-    c.expression.new.out.items c.operands.new.out.items e c.in_ok-form-in-Code.ensures.emits) (rw (c.in_ok-form-in-Code.ensures.kept, c.next.ensures)
-    at c.operands.ensures.emits)
+pub all_operands-returns-in_ok-push-in-Code-clause-emits : goal.all_operands-returns-in_ok-push-in-Code-clause-emits
+all_operands-returns-in_ok-push-in-Code-clause-emits t c =
+    let e = next_operand c.args.operands.now c.in-Some.rest.now c.in-Some.operand.now _ c.in-Some.ensures.cases.0 c.in-Code.is in
+    on_ok_weaker c.all_operands.result (code_emitted (view_layout c.args.layout.now) c.args.kept.now.forms c.args.kept.now.temporaries (view c.in-Code.code)
+    (views c.in-Some.rest.now) (views c.args.operands.now) c.args.at.temporary c.args.at.arrays c.args.at.exit c.args.out.now.items
+    c.expression.new.out.items c.all_operands.new.out.items e c.in_ok-form-in-Code.ensures.emits) (rw (c.in_ok-form-in-Code.ensures.kept, c.next.ensures)
+    at c.all_operands.ensures.emits)
 
-pub operands-returns-in-Constant-clause-forms : goal.operands-returns-in-Constant-clause-forms
-operands-returns-in-Constant-clause-forms t c =
-    let e = next_operand c.args.es.now c.in-Some.rest.now c.in-Some.operand.now _ c.in-Some.ensures.cases.0 c.in-Constant.is in
-    on_ok_weaker c.operands-in-Constant.result (λ h. h ∙ ap (λ (x : Codes). map view_form c.args.forms.now.items ++ forms_in c.args.kept.now.forms x)
-    e) c.operands-in-Constant.ensures.forms
+pub all_operands-returns-in-Constant-clause-forms : goal.all_operands-returns-in-Constant-clause-forms
+all_operands-returns-in-Constant-clause-forms t c =
+    let e = next_operand c.args.operands.now c.in-Some.rest.now c.in-Some.operand.now _ c.in-Some.ensures.cases.0 c.in-Constant.is in
+    on_ok_weaker c.all_operands-in-Constant.result (λ h. h ∙ ap (λ (x : Codes). map view_form c.args.forms.now.items ++ forms_in c.args.kept.now.forms x)
+    e) c.all_operands-in-Constant.ensures.forms
 
-pub operands-returns-in-Constant-clause-emits : goal.operands-returns-in-Constant-clause-emits
-operands-returns-in-Constant-clause-emits t c =
-    let e = next_operand c.args.es.now c.in-Some.rest.now c.in-Some.operand.now _ c.in-Some.ensures.cases.0 c.in-Constant.is in
-    on_ok_weaker c.operands-in-Constant.result (fixed_emitted (view_layout c.args.y.now) c.args.kept.now.forms c.args.kept.now.temporaries _ (views
-    c.in-Some.rest.now) (views c.args.es.now) c.args.at.temporary c.args.at.arrays c.args.at.exit c.args.out.now.items
-    c.operands-in-Constant.new.out.items e) c.operands-in-Constant.ensures.emits
+pub all_operands-returns-in-Constant-clause-emits : goal.all_operands-returns-in-Constant-clause-emits
+all_operands-returns-in-Constant-clause-emits t c =
+    let e = next_operand c.args.operands.now c.in-Some.rest.now c.in-Some.operand.now _ c.in-Some.ensures.cases.0 c.in-Constant.is in
+    on_ok_weaker c.all_operands-in-Constant.result (fixed_emitted (view_layout c.args.layout.now) c.args.kept.now.forms c.args.kept.now.temporaries _ (views
+    c.in-Some.rest.now) (views c.args.operands.now) c.args.at.temporary c.args.at.arrays c.args.at.exit c.args.out.now.items
+    c.all_operands-in-Constant.new.out.items e) c.all_operands-in-Constant.ensures.emits
 
-pub operands-returns-in_ok-array_made-in-Fresh-clause-forms : goal.operands-returns-in_ok-array_made-in-Fresh-clause-forms
-operands-returns-in_ok-array_made-in-Fresh-clause-forms t c =
-    let e = next_operand c.args.es.now c.in-Some.rest.now c.in-Some.operand.now _ c.in-Some.ensures.cases.0 c.in-Fresh.is in
-    on_ok_weaker c.operands-in-Fresh.result (λ h. h ∙ ap (λ (x : Codes). map view_form c.args.forms.now.items ++ forms_in c.args.kept.now.forms x) e)
-    c.operands-in-Fresh.ensures.forms
+pub all_operands-returns-in_ok-array_made-in-Fresh-clause-forms : goal.all_operands-returns-in_ok-array_made-in-Fresh-clause-forms
+all_operands-returns-in_ok-array_made-in-Fresh-clause-forms t c =
+    let e = next_operand c.args.operands.now c.in-Some.rest.now c.in-Some.operand.now _ c.in-Some.ensures.cases.0 c.in-Fresh.is in
+    on_ok_weaker c.all_operands-in-Fresh.result (λ h. h ∙ ap (λ (x : Codes). map view_form c.args.forms.now.items ++ forms_in c.args.kept.now.forms x) e)
+    c.all_operands-in-Fresh.ensures.forms
 
-pub operands-returns-in_ok-array_made-in-Fresh-clause-emits : goal.operands-returns-in_ok-array_made-in-Fresh-clause-emits
-operands-returns-in_ok-array_made-in-Fresh-clause-emits t c =
-    let e = next_operand c.args.es.now c.in-Some.rest.now c.in-Some.operand.now _ c.in-Some.ensures.cases.0 c.in-Fresh.is in
-    on_ok_weaker c.operands-in-Fresh.result (fresh_emitted (view_layout c.args.y.now) c.args.kept.now.forms c.args.kept.now.temporaries (views
-    c.in-Some.rest.now) (views c.args.es.now) c.args.at.temporary c.args.at.arrays c.args.at.exit c.args.out.now.items c.array_made.new.out.items
-    c.operands-in-Fresh.new.out.items e c.in_ok-array_made-in-Fresh.ensures) (rw c.after_array.ensures at c.operands-in-Fresh.ensures.emits)
+pub all_operands-returns-in_ok-array_made-in-Fresh-clause-emits : goal.all_operands-returns-in_ok-array_made-in-Fresh-clause-emits
+all_operands-returns-in_ok-array_made-in-Fresh-clause-emits t c =
+    let e = next_operand c.args.operands.now c.in-Some.rest.now c.in-Some.operand.now _ c.in-Some.ensures.cases.0 c.in-Fresh.is in
+    on_ok_weaker c.all_operands-in-Fresh.result (fresh_emitted (view_layout c.args.layout.now) c.args.kept.now.forms c.args.kept.now.temporaries (views
+    c.in-Some.rest.now) (views c.args.operands.now) c.args.at.temporary c.args.at.arrays c.args.at.exit c.args.out.now.items c.array_made.new.out.items
+    c.all_operands-in-Fresh.new.out.items e c.in_ok-array_made-in-Fresh.ensures) (rw c.after_array.ensures at c.all_operands-in-Fresh.ensures.emits)
 
 -- expressions with operands
 
-pub operation-operands-requires : goal.operation-operands-requires
-operation-operands-requires t c = (omega (arith, c.decreases), c.requires)
+pub operation-all_operands-requires : goal.operation-all_operands-requires
+operation-all_operands-requires t c = (omega (arith, c.decreases), c.requires)
 
 pub operation-operated-requires-clause-places : goal.operation-operated-requires-clause-places
 operation-operated-requires-clause-places t c =
-    let p = all_places (view_layout c.args.y.now) (views c.args.es.now) c.args.at.temporary c.args.at.arrays c.args.at.exit c.requires in
+    let p = all_places (view_layout c.args.layout.now) (views c.args.operands.now) c.args.at.temporary c.args.at.arrays c.args.at.exit c.requires in
     omega (arith, p)
 
 pub operation-operated-requires-clause-labels : goal.operation-operated-requires-clause-labels
 operation-operated-requires-clause-labels t c =
-    let w = all_within (view_layout c.args.y.now) (views c.args.es.now) c.args.at.temporary c.args.at.arrays c.args.at.exit c.requires in
+    let w = all_within (view_layout c.args.layout.now) (views c.args.operands.now) c.args.at.temporary c.args.at.arrays c.args.at.exit c.requires in
     let l = w.1.1 in
     omega (arith, l)
 
 pub operation-operated-requires-clause-arrays : goal.operation-operated-requires-clause-arrays
-operation-operated-requires-clause-arrays t c = arrays_fit (view_layout c.args.y.now) (views c.args.es.now) c.args.at.temporary c.args.at.arrays
+operation-operated-requires-clause-arrays t c = arrays_fit (view_layout c.args.layout.now) (views c.args.operands.now) c.args.at.temporary c.args.at.arrays
     c.args.at.exit c.requires
 
-pub listing-operands-requires : goal.listing-operands-requires
-listing-operands-requires t c = (omega (arith, c.decreases), c.requires.1)
+pub listing-all_operands-requires : goal.listing-all_operands-requires
+listing-all_operands-requires t c = (omega (arith, c.decreases), c.requires.1)
 
 pub listing-listed-requires : goal.listing-listed-requires
 listing-listed-requires t c =
-    let p = all_places (view_layout c.args.y.now) (views c.args.es.now) c.args.at.temporary c.args.at.arrays c.args.at.exit c.requires.1 in
-    let e = ap (map view_form) c.deref.ensures.value ∙ (rw c.new-forms.ensures.items at c.in_ok-operands.ensures.forms) in
+    let p = all_places (view_layout c.args.layout.now) (views c.args.operands.now) c.args.at.temporary c.args.at.arrays c.args.at.exit c.requires.1 in
+    let e = ap (map view_form) c.deref.ensures.value ∙ (rw c.new-forms.ensures.items at c.in_ok-all_operands.ensures.forms) in
     let n = sym (length-map c.deref.result.now view_form) ∙ ap (λ (x : List plain.Form). length x) e ∙ forms_counted c.args.kept.now.forms (views
-    c.args.es.now) c.requires.0 in
+    c.args.operands.now) c.requires.0 in
     omega (arith, p, n)
 
-pub call-operands-requires : goal.call-operands-requires
-call-operands-requires t c = (omega (arith, c.decreases), c.requires.1.1.1)
+pub call-all_operands-requires : goal.call-all_operands-requires
+call-all_operands-requires t c = (omega (arith, c.decreases), c.requires.1.1.1)
 
 pub call-called-requires-clause-function : goal.call-called-requires-clause-function
 call-called-requires-clause-function t c = c.requires.1.0
 
 pub call-called-requires-clause-places : goal.call-called-requires-clause-places
 call-called-requires-clause-places t c =
-    let p = all_places (view_layout c.args.y.now) (views c.args.es.now) c.args.at.temporary c.args.at.arrays c.args.at.exit c.requires.1.1.1 in
+    let p = all_places (view_layout c.args.layout.now) (views c.args.operands.now) c.args.at.temporary c.args.at.arrays c.args.at.exit c.requires.1.1.1 in
     omega (arith, p)
 
 pub call-called-requires-clause-made : goal.call-called-requires-clause-made
 call-called-requires-clause-made t c = c.requires.1.1.0
 
 pub call-called-requires-clause-fit : goal.call-called-requires-clause-fit
-call-called-requires-clause-fit t c = arrays_fit (view_layout c.args.y.now) (views c.args.es.now) c.args.at.temporary c.args.at.arrays c.args.at.exit
+call-called-requires-clause-fit t c = arrays_fit (view_layout c.args.layout.now) (views c.args.operands.now) c.args.at.temporary c.args.at.arrays c.args.at.exit
     c.requires.1.1.1
 
-pub replacement-operands-requires : goal.replacement-operands-requires
-replacement-operands-requires t c = (omega (arith, c.decreases), c.requires.1.0)
+pub replacement-all_operands-requires : goal.replacement-all_operands-requires
+replacement-all_operands-requires t c = (omega (arith, c.decreases), c.requires.1.0)
 
 pub replacement-replaced-requires-clause-places : goal.replacement-replaced-requires-clause-places
 replacement-replaced-requires-clause-places t c =
-    let p = all_places (view_layout c.args.y.now) (views c.args.es.now) c.args.at.temporary c.args.at.arrays c.args.at.exit c.requires.1.0 in
+    let p = all_places (view_layout c.args.layout.now) (views c.args.operands.now) c.args.at.temporary c.args.at.arrays c.args.at.exit c.requires.1.0 in
     omega (arith, p)
 
 pub replacement-replaced-requires-clause-labels : goal.replacement-replaced-requires-clause-labels
 replacement-replaced-requires-clause-labels t c =
-    let w = all_within (view_layout c.args.y.now) (views c.args.es.now) c.args.at.temporary c.args.at.arrays c.args.at.exit c.requires.1.0 in
+    let w = all_within (view_layout c.args.layout.now) (views c.args.operands.now) c.args.at.temporary c.args.at.arrays c.args.at.exit c.requires.1.0 in
     let l = w.1.1 in
     omega (arith, l)
 
 pub replacement-replaced-requires-clause-arrays : goal.replacement-replaced-requires-clause-arrays
-replacement-replaced-requires-clause-arrays t c = arrays_fit (view_layout c.args.y.now) (views c.args.es.now) c.args.at.temporary c.args.at.arrays
+replacement-replaced-requires-clause-arrays t c = arrays_fit (view_layout c.args.layout.now) (views c.args.operands.now) c.args.at.temporary c.args.at.arrays
     c.args.at.exit c.requires.1.0
 
 pub operation-field_read-requires : goal.operation-field_read-requires
 operation-field_read-requires t c =
-    let w = all_within (view_layout c.args.y.now) (views c.args.es.now) c.args.at.temporary c.args.at.arrays c.args.at.exit c.requires in
+    let w = all_within (view_layout c.args.layout.now) (views c.args.operands.now) c.args.at.temporary c.args.at.arrays c.args.at.exit c.requires in
     let l = w.0 in
     omega (arith, l)
 
 pub operation-returns-in-Some-clause-emits : goal.operation-returns-in-Some-clause-emits
 operation-returns-in-Some-clause-emits t c =
     let fits : FitsSigned w64 c.in-Some.number = search rules in
-    λ v. on_ok_weaker c.field_read.result (field_emitted (view_layout c.args.y.now) v c.args.kept.now.forms c.args.kept.now.temporaries c.args.what
-    (views c.args.es.now) _ c.in-Some.number c.args.at.temporary c.args.at.arrays c.args.at.exit c.args.out.now.items c.field_read.new.out.items
+    λ v. on_ok_weaker c.field_read.result (field_emitted (view_layout c.args.layout.now) v c.args.kept.now.forms c.args.kept.now.temporaries c.args.what
+    (views c.args.operands.now) _ c.in-Some.number c.args.at.temporary c.args.at.arrays c.args.at.exit c.args.out.now.items c.field_read.new.out.items
     (sym c.field_in.ensures ∙ c.in-Some.is) (to_z-of_z w64 c.in-Some.number fits)) c.field_read.ensures.emits
 
 pub operation-returns-clause-emits : goal.operation-returns-clause-emits
 operation-returns-clause-emits t c =
-    let e = ap (map view_form) c.deref.ensures.value ∙ (rw c.new-forms.ensures.items at c.in_ok-operands.ensures.forms) in
-    λ v. operation_emitted (view_layout c.args.y.now) v c.args.kept.now.forms (map view_form c.deref.result.now) c.args.kept.now.temporaries
-    c.args.what (views c.args.es.now) c.args.at.temporary c.args.at.arrays c.args.at.exit c.args.out.now.items c.operands.new.out.items
-    c.operated.new.out.items (sym c.field_in.ensures ∙ c.in_default.is) e c.in_ok-operands.ensures.emits c.in_ok-operated.ensures
+    let e = ap (map view_form) c.deref.ensures.value ∙ (rw c.new-forms.ensures.items at c.in_ok-all_operands.ensures.forms) in
+    λ v. operation_emitted (view_layout c.args.layout.now) v c.args.kept.now.forms (map view_form c.deref.result.now) c.args.kept.now.temporaries
+    c.args.what (views c.args.operands.now) c.args.at.temporary c.args.at.arrays c.args.at.exit c.args.out.now.items c.all_operands.new.out.items
+    c.operated.new.out.items (sym c.field_in.ensures ∙ c.in_default.is) e c.in_ok-all_operands.ensures.emits c.in_ok-operated.ensures
 
 pub listing-returns-clause-emits : goal.listing-returns-clause-emits
 listing-returns-clause-emits t c =
-    let e = ap (map view_form) c.deref.ensures.value ∙ (rw c.new-forms.ensures.items at c.in_ok-operands.ensures.forms) in
-    λ v. listing_emitted (view_layout c.args.y.now) v c.args.kept.now.forms (map view_form c.deref.result.now) c.args.kept.now.temporaries c.args.what
-    (views c.args.es.now) c.args.at.temporary c.args.at.arrays c.args.at.exit c.args.out.now.items c.operands.new.out.items c.listed.new.out.items
-    c.requires.0 e c.in_ok-operands.ensures.emits c.in_ok-listed.ensures
+    let e = ap (map view_form) c.deref.ensures.value ∙ (rw c.new-forms.ensures.items at c.in_ok-all_operands.ensures.forms) in
+    λ v. listing_emitted (view_layout c.args.layout.now) v c.args.kept.now.forms (map view_form c.deref.result.now) c.args.kept.now.temporaries c.args.what
+    (views c.args.operands.now) c.args.at.temporary c.args.at.arrays c.args.at.exit c.args.out.now.items c.all_operands.new.out.items c.listed.new.out.items
+    c.requires.0 e c.in_ok-all_operands.ensures.emits c.in_ok-listed.ensures
 
 pub call-returns-clause-emits : goal.call-returns-clause-emits
 call-returns-clause-emits t c =
-    let e = ap (map view_form) c.deref.ensures.value ∙ (rw c.new-forms.ensures.items at c.in_ok-operands.ensures.forms) in
-    λ v. call_emitted (view_layout c.args.y.now) v c.args.kept.now.forms (map view_form c.deref.result.now) c.args.kept.now.temporaries
-    c.args.function (views c.args.es.now) c.args.at.temporary c.args.at.arrays c.args.at.exit c.args.out.now.items c.operands.new.out.items
-    c.called.new.out.items c.requires.0 e c.in_ok-operands.ensures.emits c.in_ok-called.ensures
+    let e = ap (map view_form) c.deref.ensures.value ∙ (rw c.new-forms.ensures.items at c.in_ok-all_operands.ensures.forms) in
+    λ v. call_emitted (view_layout c.args.layout.now) v c.args.kept.now.forms (map view_form c.deref.result.now) c.args.kept.now.temporaries
+    c.args.function (views c.args.operands.now) c.args.at.temporary c.args.at.arrays c.args.at.exit c.args.out.now.items c.all_operands.new.out.items
+    c.called.new.out.items c.requires.0 e c.in_ok-all_operands.ensures.emits c.in_ok-called.ensures
 
 pub replacement-stored-requires : goal.replacement-stored-requires
 replacement-stored-requires t c = (omega (arith, c.decreases), (c.requires.1.1, c.requires.0))
 
 pub replacement-returns-clause-emits : goal.replacement-returns-clause-emits
 replacement-returns-clause-emits t c =
-    let e = ap (map view_form) c.deref.ensures.value ∙ (rw c.new-forms.ensures.items at c.in_ok-operands.ensures.forms) in
-    λ v. replace_emitted (view_layout c.args.y.now) v c.args.kept.now.forms (map view_form c.deref.result.now) c.args.kept.now.temporaries c.args.all
-    (views c.args.es.now) (view c.args.store.now) c.args.at.temporary c.args.at.arrays c.args.at.exit c.args.out.now.items c.operands.new.out.items
-    c.replaced.new.out.items c.either.new.out.items e c.in_ok-operands.ensures.emits c.in_ok-replaced.ensures
-    (c.in_ok-either.ensures (λ k. k) (stored_with (view_layout c.args.y.now) c.args.kept.now.forms c.args.kept.now.temporaries row.SubResult (view
+    let e = ap (map view_form) c.deref.ensures.value ∙ (rw c.new-forms.ensures.items at c.in_ok-all_operands.ensures.forms) in
+    λ v. replace_emitted (view_layout c.args.layout.now) v c.args.kept.now.forms (map view_form c.deref.result.now) c.args.kept.now.temporaries c.args.all
+    (views c.args.operands.now) (view c.args.store.now) c.args.at.temporary c.args.at.arrays c.args.at.exit c.args.out.now.items c.all_operands.new.out.items
+    c.replaced.new.out.items c.either.new.out.items e c.in_ok-all_operands.ensures.emits c.in_ok-replaced.ensures
+    (c.in_ok-either.ensures (λ k. k) (stored_with (view_layout c.args.layout.now) c.args.kept.now.forms c.args.kept.now.temporaries row.SubResult (view
     c.args.store.now) c.args.at.temporary c.args.at.arrays c.args.at.exit) (emits_none [] _ c.new-nothing.ensures.items) (rw
-    c.in_ok-operands.ensures.kept at c.in_ok-store.ensures.emits))
+    c.in_ok-all_operands.ensures.kept at c.in_ok-store.ensures.emits))
 
 -- a comparison
 
@@ -510,20 +510,20 @@ comparison-immediately_compared-requires-clause-places t c =
 
 pub comparison-immediately_compared-requires-clause-operand : goal.comparison-immediately_compared-requires-clause-operand
 comparison-immediately_compared-requires-clause-operand t c =
-    immediate_fits (view_layout c.args.y.now) (is_value (view_form c.in_ok-first.first)) (view c.args.right.now) (view_immediate c.in-Some.operand)
+    immediate_fits (view_layout c.args.layout.now) (is_value (view_form c.in_ok-first.first)) (view c.args.right.now) (view_immediate c.in-Some.operand)
     (suc c.args.at.temporary) c.args.at.arrays c.args.at.exit
     (ap (λ v. immediate_in v (view c.args.right.now)) (sym c.is_value.ensures) ∙ sym c.immediate_in.ensures ∙ ap (option_map view_immediate) c.in-Some.is)
     c.requires.1.1
 
 pub comparison-returns-in-Some-clause-emits : goal.comparison-returns-in-Some-clause-emits
-comparison-returns-in-Some-clause-emits t c = λ v. on_ok_weaker c.immediately_compared.result (immediate_emitted (view_layout c.args.y.now) v c.args.kept.now.forms c.args.kept.now.temporaries c.args.op
+comparison-returns-in-Some-clause-emits t c = λ v. on_ok_weaker c.immediately_compared.result (immediate_emitted (view_layout c.args.layout.now) v c.args.kept.now.forms c.args.kept.now.temporaries c.args.op
     (view c.args.left.now) (view c.args.right.now) (view_form c.in_ok-first.first) (view_immediate c.in-Some.operand) c.args.at.temporary
     c.args.at.arrays c.args.at.exit c.args.out.now.items c.expression.new.out.items c.immediately_compared.new.out.items c.in_ok-first.ensures.form
     (ap (λ v. immediate_in v (view c.args.right.now)) (sym c.is_value.ensures) ∙ sym c.immediate_in.ensures ∙ ap (option_map view_immediate) c.in-Some.is)
     c.in_ok-first.ensures.emits) c.immediately_compared.ensures.emits
 
 pub comparison-returns-clause-emits : goal.comparison-returns-clause-emits
-comparison-returns-clause-emits t c = λ v. comparison_emitted (view_layout c.args.y.now) v c.args.kept.now.forms c.args.kept.now.temporaries c.args.op
+comparison-returns-clause-emits t c = λ v. comparison_emitted (view_layout c.args.layout.now) v c.args.kept.now.forms c.args.kept.now.temporaries c.args.op
     (view c.args.left.now) (view c.args.right.now) (view_form c.in_ok-first.first) (view_form c.in_ok-second.second) c.args.at.temporary
     c.args.at.arrays c.args.at.exit c.args.out.now.items c.expression.new.out.items c.expression-2.new.out.items c.compared.new.out.items
     c.in_ok-first.ensures.form (rw c.in_ok-first.ensures.kept at c.in_ok-second.ensures.form)
@@ -571,13 +571,13 @@ stored-left_over-requires t c =
 pub stored-returns-clause-emits : goal.stored-returns-clause-emits
 stored-returns-clause-emits t c =
     let n : c.args.at.temporary + 1 ≡ suc c.args.at.temporary = omega arith in
-    stored_emitted (view_layout c.args.y.now) c.args.kept.now c.push.new.self c.args.primitive (view c.args.store.now) (view_form c.in_ok-form.form)
+    stored_emitted (view_layout c.args.layout.now) c.args.kept.now c.push.new.self c.args.primitive (view c.args.store.now) (view_form c.in_ok-form.form)
     c.args.at.temporary c.args.at.arrays c.args.at.exit [] c.text_kept.new.out.items c.expression.new.out.items c.left_over.new.out.items
     c.let_go.new.out.items (c.in_ok-push.ensures ∙ ap (λ (x : ℕ). kept_more plain.a_value x c.args.kept.now) n) c.in_ok-form.ensures.form
     (rw c.new-code.ensures.items at c.in_ok-text_kept.ensures) (rw c.stored_at-inner.ensures at c.in_ok-form.ensures.emits) (rw
     c.stored_at-inner.ensures at c.in_ok-left_over.ensures)
     (subst (λ (x : ℕ). Emits c.left_over.new.out.items c.let_go.new.out.items (let_go Drop x)) (c.handle-local.ensures ∙ ap (handle_local
-    c.args.y.now.bases.now) n) c.in_ok-let_go.ensures)
+    c.args.layout.now.bases.now) n) c.in_ok-let_go.ensures)
 
 pub stored-returns-clause-kept : goal.stored-returns-clause-kept
 stored-returns-clause-kept t c = c.pop.ensures ∙ ap kept_but_one (c.in_ok-form.ensures.kept ∙ c.in_ok-push.ensures)
@@ -606,10 +606,10 @@ line_into-code_number-requires t c =
     omega (arith, a)
 
 pub line_into-returns-clause-emits : goal.line_into-returns-clause-emits
-line_into-returns-clause-emits t c = λ v. line_emitted (view_layout c.args.y.now) v c.args.kept.now.forms c.args.kept.now.temporaries (view
+line_into-returns-clause-emits t c = λ v. line_emitted (view_layout c.args.layout.now) v c.args.kept.now.forms c.args.kept.now.temporaries (view
     c.args.store.now) c.args.at.temporary c.args.at.arrays c.args.at.exit c.args.out.now.items c.asked.new.out.items c.stored_when.new.out.items
     c.code_number.new.out.items c.in_ok-asked.ensures
-    (c.in_ok-stored_when.ensures (stored_with (view_layout c.args.y.now) c.args.kept.now.forms c.args.kept.now.temporaries row.Line (view
+    (c.in_ok-stored_when.ensures (stored_with (view_layout c.args.layout.now) c.args.kept.now.forms c.args.kept.now.temporaries row.Line (view
     c.args.store.now) c.args.at.temporary c.args.at.arrays c.args.at.exit) c.in_ok-store.ensures.emits) c.in_ok-code_number.ensures
 
 pub file_line-expression-requires : goal.file_line-expression-requires
@@ -634,11 +634,11 @@ file_line-code_number-requires t c =
     omega (arith, a)
 
 pub file_line-returns-clause-emits : goal.file_line-returns-clause-emits
-file_line-returns-clause-emits t c = λ v. file_line_emitted (view_layout c.args.y.now) v c.args.kept.now.forms c.args.kept.now.temporaries (view
+file_line-returns-clause-emits t c = λ v. file_line_emitted (view_layout c.args.layout.now) v c.args.kept.now.forms c.args.kept.now.temporaries (view
     c.args.file.now) (view c.args.store.now) (view_form c.in_ok-form.form) c.args.at.temporary c.args.at.arrays c.args.at.exit c.args.out.now.items
     c.expression.new.out.items c.file_asked.new.out.items c.stored_when.new.out.items c.code_number.new.out.items c.in_ok-form.ensures.form
     c.in_ok-form.ensures.emits c.in_ok-file_asked.ensures
-    (c.in_ok-stored_when.ensures (stored_with (view_layout c.args.y.now) c.args.kept.now.forms c.args.kept.now.temporaries row.Line (view
+    (c.in_ok-stored_when.ensures (stored_with (view_layout c.args.layout.now) c.args.kept.now.forms c.args.kept.now.temporaries row.Line (view
     c.args.store.now) c.args.at.temporary c.args.at.arrays c.args.at.exit) (rw c.in_ok-form.ensures.kept at c.in_ok-store.ensures.emits))
     c.in_ok-code_number.ensures
 
@@ -656,7 +656,7 @@ assignment-slot_set-requires-clause-places t c =
     omega (arith, a)
 
 pub assignment-returns-clause-emits : goal.assignment-returns-clause-emits
-assignment-returns-clause-emits t c = assignment_emitted (view_layout c.args.y.now) c.args.only c.args.kept.now.forms c.args.kept.now.temporaries
+assignment-returns-clause-emits t c = assignment_emitted (view_layout c.args.layout.now) c.args.only c.args.kept.now.forms c.args.kept.now.temporaries
     (view_slot c.args.slot) (view c.args.value.now) (view_form c.in_ok-form.form) c.args.at.temporary c.args.at.arrays c.args.at.exit
     c.args.out.now.items c.expression.new.out.items c.slot_set.new.out.items c.in_ok-form.ensures.form c.in_ok-form.ensures.emits
     c.in_ok-slot_set.ensures
@@ -680,7 +680,7 @@ branch-converted-requires-clause-labels t c =
     rw c.inner_at-inner.ensures (omega (arith, a))
 
 pub branch-returns-clause-emits : goal.branch-returns-clause-emits
-branch-returns-clause-emits t c = branch_emitted (view_layout c.args.y.now) c.args.kept.now.forms c.args.kept.now.temporaries c.args.sort (view
+branch-returns-clause-emits t c = branch_emitted (view_layout c.args.layout.now) c.args.kept.now.forms c.args.kept.now.temporaries c.args.sort (view
     c.args.code.now) (view_form c.in_ok-form.form) c.args.at.temporary c.args.at.arrays c.args.at.exit [] c.expression.new.out.items
     c.converted.new.out.items c.in_ok-form.ensures.form
     (rw (c.new-list.ensures.items, c.inner_at-inner.ensures) at c.in_ok-form.ensures.emits) (rw c.inner_at-inner.ensures at c.in_ok-converted.ensures)
@@ -693,19 +693,19 @@ choice-truth-requires t c =
     let a = c.requires.0.0 in
     omega (arith, a)
 
-pub choice-branch-y-requires : goal.choice-branch-y-requires
-choice-branch-y-requires t c = (omega (arith, c.decreases), (c.requires.1.1.0, c.requires.0))
+pub choice-branch-layout-requires : goal.choice-branch-layout-requires
+choice-branch-layout-requires t c = (omega (arith, c.decreases), (c.requires.1.1.0, c.requires.0))
 
-pub choice-branch-y-requires-2 : goal.choice-branch-y-requires-2
-choice-branch-y-requires-2 t c = (omega (arith, c.decreases), (c.requires.1.1.1, c.requires.0))
+pub choice-branch-layout-requires-2 : goal.choice-branch-layout-requires-2
+choice-branch-layout-requires-2 t c = (omega (arith, c.decreases), (c.requires.1.1.1, c.requires.0))
 
 pub choice-returns-clause-emits : goal.choice-returns-clause-emits
-choice-returns-clause-emits t c = λ v. choice_emitted (view_layout c.args.y.now) v c.args.kept.now.forms c.args.kept.now.temporaries c.args.sort (view
+choice-returns-clause-emits t c = λ v. choice_emitted (view_layout c.args.layout.now) v c.args.kept.now.forms c.args.kept.now.temporaries c.args.sort (view
     c.args.test.now) (view c.args.yes.now) (view c.args.no.now) (view_form c.in_ok-form.form) c.args.at.temporary c.args.at.arrays c.args.at.exit
     c.args.out.now.items c.expression.new.out.items c.truth.new.out.items c.either.new.out.items c.in_ok-form.ensures.form c.in_ok-form.ensures.emits
     c.in_ok-truth.ensures
-    (c.in_ok-either.ensures (branch_with (view_layout c.args.y.now) c.args.kept.now.forms c.args.kept.now.temporaries c.args.sort (view
-    c.args.yes.now) c.args.at.temporary c.args.at.arrays c.args.at.exit) (branch_with (view_layout c.args.y.now) c.args.kept.now.forms
+    (c.in_ok-either.ensures (branch_with (view_layout c.args.layout.now) c.args.kept.now.forms c.args.kept.now.temporaries c.args.sort (view
+    c.args.yes.now) c.args.at.temporary c.args.at.arrays c.args.at.exit) (branch_with (view_layout c.args.layout.now) c.args.kept.now.forms
     c.args.kept.now.temporaries c.args.sort (view c.args.no.now) c.args.at.temporary c.args.at.arrays c.args.at.exit)
     (rw c.in_ok-form.ensures.kept at c.in_ok-yes.ensures.emits) (rw (c.in_ok-yes.ensures.kept, c.in_ok-form.ensures.kept) at
     c.in_ok-no.ensures.emits))
@@ -732,7 +732,7 @@ pub sequence-returns-clause-form : goal.sequence-returns-clause-form
 sequence-returns-clause-form t c = rw c.in_ok-form.ensures.kept at c.in_ok-answer.ensures.form
 
 pub sequence-returns-clause-emits : goal.sequence-returns-clause-emits
-sequence-returns-clause-emits t c = sequence_emitted (view_layout c.args.y.now) c.args.only c.args.kept.now.forms
+sequence-returns-clause-emits t c = sequence_emitted (view_layout c.args.layout.now) c.args.only c.args.kept.now.forms
     c.args.kept.now.temporaries (view c.args.first.now) (view c.args.second.now) (view_form c.in_ok-form.form) (view_form c.in_ok-answer.answer)
     c.args.at.temporary c.args.at.arrays c.args.at.exit c.args.out.now.items c.expression.new.out.items c.left_over.new.out.items
     c.expression-2.new.out.items c.sequence_closed.new.out.items c.in_ok-form.ensures.form (rw c.in_ok-form.ensures.kept at c.in_ok-answer.ensures.form)
@@ -768,7 +768,7 @@ keeping-returns-clause-form t c =
 pub keeping-returns-clause-emits : goal.keeping-returns-clause-emits
 keeping-returns-clause-emits t c =
     let m = c.in_ok-push.ensures ∙ ap (kept_more (view_form c.in_ok-held.held) c.args.at.temporary) c.in_ok-held.ensures.kept in
-    keeping_emitted (view_layout c.args.y.now) c.args.only c.args.kept.now c.push.new.self (view c.args.value.now) (view c.args.rest.now) (view_form
+    keeping_emitted (view_layout c.args.layout.now) c.args.only c.args.kept.now c.push.new.self (view c.args.value.now) (view c.args.rest.now) (view_form
     c.in_ok-held.held) (view_form c.in_ok-form.form) c.args.at.temporary c.args.at.arrays c.args.at.exit c.args.out.now.items
     c.expression.new.out.items c.expression-2.new.out.items c.keeping_closed.new.out.items c.in_ok-held.ensures.form m c.in_ok-form.ensures.form
     c.in_ok-held.ensures.emits (rw c.next.ensures at c.in_ok-form.ensures.emits) c.in_ok-keeping_closed.ensures

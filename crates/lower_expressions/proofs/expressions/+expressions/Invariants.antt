@@ -15,17 +15,17 @@ use Rattle.lower_expressions.proofs.expressions.+expressions.Given as goal
 abbrev pub decreases-expression : goal.decreases-expression
 decreases-expression l = 4 * weight (view l.code.now)
 
-abbrev pub decreases-operands : goal.decreases-operands
-decreases-operands l = 4 * weights (views l.es.now) + 2
+abbrev pub decreases-all_operands : goal.decreases-all_operands
+decreases-all_operands l = 4 * weights (views l.operands.now) + 2
 
 abbrev pub decreases-operation : goal.decreases-operation
-decreases-operation l = 4 * weights (views l.es.now) + 3
+decreases-operation l = 4 * weights (views l.operands.now) + 3
 
 abbrev pub decreases-listing : goal.decreases-listing
-decreases-listing l = 4 * weights (views l.es.now) + 3
+decreases-listing l = 4 * weights (views l.operands.now) + 3
 
 abbrev pub decreases-call : goal.decreases-call
-decreases-call l = 4 * weights (views l.es.now) + 3
+decreases-call l = 4 * weights (views l.operands.now) + 3
 
 abbrev pub decreases-comparison : goal.decreases-comparison
 decreases-comparison l = 4 * (weight (view l.left.now) + weight (view l.right.now)) + 3
@@ -40,7 +40,7 @@ abbrev pub decreases-file_line : goal.decreases-file_line
 decreases-file_line l = 4 * (weight (view l.file.now) + weight (view l.store.now)) + 3
 
 abbrev pub decreases-replacement : goal.decreases-replacement
-decreases-replacement l = 4 * (weights (views l.es.now) + weight (view l.store.now)) + 3
+decreases-replacement l = 4 * (weights (views l.operands.now) + weight (view l.store.now)) + 3
 
 abbrev pub decreases-assignment : goal.decreases-assignment
 decreases-assignment l = 4 * weight (view l.value.now) + 3
@@ -65,14 +65,14 @@ decreases-key-loop-other l = length l.left
 
 abbrev pub invariant-key-loop-other : goal.invariant-key-loop-other
 invariant-key-loop-other l = record {
-  fit : AllFit (view_layout l.y) (plain.At (joined (map view l.left) (view l.last)) plain.End) l.place.temporary l.place.arrays l.place.exit;
+  fit : AllFit (view_layout l.layout) (plain.At (joined (map view l.left) (view l.last)) plain.End) l.place.temporary l.place.arrays l.place.exit;
   temporary : l.place.temporary ≡ l.at.temporary + length l.forms.items;
   arrays : l.place.arrays ≡ l.at.arrays;
   exit : l.place.exit ≡ l.at.exit;
   emits : (v : Bool) (k : Instructions) →
-      followed l.out.items (emitted (view_layout l.y) false l.fn.kept.forms l.fn.kept.temporaries (joined (map view l.left) (view l.last)) l.place.temporary l.at.arrays l.at.exit
-      (all_joined (view_layout l.y) (map view_form l.forms.items) (form_of l.fn.kept.forms (joined (map view l.left) (view l.last))) l.at.temporary l.at.exit k))
-      ≡ followed l.fn.out.items (emitted (view_layout l.y) v l.fn.kept.forms l.fn.kept.temporaries (joined (view l.first ∷ map view l.others) (view l.last)) l.at.temporary l.at.arrays l.at.exit k);
+      followed l.out.items (emitted (view_layout l.layout) false l.fn.kept.forms l.fn.kept.temporaries (joined (map view l.left) (view l.last)) l.place.temporary l.at.arrays l.at.exit
+      (all_joined (view_layout l.layout) (map view_form l.forms.items) (form_of l.fn.kept.forms (joined (map view l.left) (view l.last))) l.at.temporary l.at.exit k))
+      ≡ followed l.fn.out.items (emitted (view_layout l.layout) v l.fn.kept.forms l.fn.kept.temporaries (joined (view l.first ∷ map view l.others) (view l.last)) l.at.temporary l.at.arrays l.at.exit k);
   kept : l.kept ≡ l.fn.kept;
   lighter : weight (joined (map view l.left) (view l.last)) ≤ weight (joined (map view l.others) (view l.last));
 }

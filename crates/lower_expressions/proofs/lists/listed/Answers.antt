@@ -12,11 +12,11 @@ use Rattle.lower_expressions.proofs.lists.listed.Goals as goal
 
 pub returns : goal.returns
 returns c =
-    let b = c.args.y.now.bases.now in
+    let b = c.args.layout.now.bases.now in
     let fs = map view_form c.args.forms.now in
-    let last : ℕ → Instructions → Instructions = λ m. listed_asked (view_layout c.args.y.now) c.args.listed m c.args.t c.args.exit in
+    let last : ℕ → Instructions → Instructions = λ m. listed_asked (view_layout c.args.layout.now) c.args.listed m c.args.temporary c.args.exit in
     on_ok_weaker c.listed_asked.result
-    (λ h. emits_then (boxed_with b fs c.args.t) (λ k. appended_with b fs c.args.t (last (length fs) k)) _ _ _ c.in_ok-all_boxed.ensures
-    (emits_then (appended_with b fs c.args.t) (last (length fs)) _ _ _ c.in_ok-all_appended.ensures
+    (λ h. emits_then (boxed_with b fs c.args.temporary) (λ k. appended_with b fs c.args.temporary (last (length fs) k)) _ _ _ c.in_ok-all_boxed.ensures
+    (emits_then (appended_with b fs c.args.temporary) (last (length fs)) _ _ _ c.in_ok-all_appended.ensures
     (λ k. h k ∙ ap (λ (m : ℕ). followed c.all_appended.new.out.items (last m k)) (sym (length-map c.args.forms.now view_form)))))
     c.listed_asked.ensures

@@ -12,7 +12,7 @@ decreases-loop-first l = length l.left
 
 abbrev pub invariant-loop-first : goal.invariant-loop-first
 invariant-loop-first l = record {
-  few : suc (suc (suc l.t)) + length l.left ≤ most_places;
-  emits : (k : Instructions) → followed l.out.items (all_joined (view_layout l.y) (map view_form l.left) (view_form l.second) l.t l.exit k)
-      ≡ followed l.fn.out.items (all_joined (view_layout l.y) (map view_form l.forms) (view_form l.fn.last) l.t l.exit k);
+  few : suc (suc (suc l.temporary)) + length l.left ≤ most_places;
+  emits : (k : Instructions) → followed l.out.items (all_joined (view_layout l.layout) (map view_form l.left) (view_form l.second) l.temporary l.exit k)
+      ≡ followed l.fn.out.items (all_joined (view_layout l.layout) (map view_form l.forms) (view_form l.fn.last) l.temporary l.exit k);
 }

@@ -11,6 +11,6 @@ abbrev pub invariant-loop-declared : goal.invariant-loop-declared
 invariant-loop-declared l = record {
   place : l.name ≡ l.declared-index;
   emits : (k : Instructions) →
-      followed l.out.items (assigned_by_number (view_layout l.fn.y) (kinds_of (map view_declared (drop l.declared-index l.fn.y.script.now.program.now.globals.items))) l.declared-index l.t k)
-      ≡ followed l.fn.out.items (assigned_by_number (view_layout l.fn.y) (kinds_of (map view_declared l.fn.y.script.now.program.now.globals.items)) zero l.t k);
+      followed l.out.items (assigned_by_number (view_layout l.fn.layout) (kinds_of (map view_declared (drop l.declared-index l.fn.layout.script.now.program.now.globals.items))) l.declared-index l.temporary k)
+      ≡ followed l.fn.out.items (assigned_by_number (view_layout l.fn.layout) (kinds_of (map view_declared l.fn.layout.script.now.program.now.globals.items)) zero l.temporary k);
 }

@@ -10,7 +10,7 @@ use Rattle.lower_expressions.proofs.pending.one_turn.Goals as goal
 
 pub returns : goal.returns
 returns c =
-    let code : Instructions → Instructions = λ k. pending_assigned (view_layout c.args.y.now) c.args.t (does (Br 1) k) in
+    let code : Instructions → Instructions = λ k. pending_assigned (view_layout c.args.layout.now) c.args.temporary (does (Br 1) k) in
     on_ok_weaker c.when.result
-    (emits_then (asked_once c.args.y.now.bases.now c.args.primitive c.args.t c.args.exit) (when (code Done)) _ _ _ c.in_ok-asked_once.ensures)
+    (emits_then (asked_once c.args.layout.now.bases.now c.args.primitive c.args.temporary c.args.exit) (when (code Done)) _ _ _ c.in_ok-asked_once.ensures)
     (c.when.ensures code c.in_ok-pending_code.ensures)

@@ -6,7 +6,8 @@ use Rattle.wasm_types.specs.declared.instr.IRelOp.TheVariants.{Eq}
 use Rattle.wasm_types.specs.declared.instr.Simple.TheVariants.{Compare, GlobalGet, I64Const, LocalTee}
 use Rattle.mid_program.specs.Mid.{Global}
 use Rattle.lower_model.specs.Emission.{global_number, slot_read}
-use Rattle.lower_model.specs.Small.{n, text_beside, when}
+use Rattle.lower_model.specs.Places.{number_local}
+use Rattle.lower_model.specs.Small.{text_beside, when}
 use Rattle.lower_pieces.specs.Emits.{does_all}
 use Rattle.lower_pieces.proofs.Appended.{emits_then}
 use Rattle.lower_expressions.specs.View.{view_layout}
@@ -14,9 +15,9 @@ use Rattle.lower_expressions.proofs.slots.bare_read.Goals as goal
 
 pub returns : goal.returns
 returns c =
-    let y = view_layout c.args.y.now in
-    let code : Instructions → Instructions = slot_read y (Global false c.args.name) c.args.t in
+    let y = view_layout c.args.layout.now in
+    let code : Instructions → Instructions = slot_read y (Global false c.args.name) c.args.temporary in
     on_ok_weaker c.when.result
-    (emits_then (does_all (GlobalGet (global_number y c.args.name) ∷ LocalTee (n c.args.y.now.bases.now c.args.t) ∷ I64Const text_beside ∷ Compare I64 Eq ∷ [])) (when (code Done)) _ _ _
+    (emits_then (does_all (GlobalGet (global_number y c.args.name) ∷ LocalTee (number_local c.args.layout.now.bases.now c.args.temporary) ∷ I64Const text_beside ∷ Compare I64 Eq ∷ [])) (when (code Done)) _ _ _
     (rw c.global_number.ensures at (rw c.number.ensures at c.in_ok-does_all.ensures)))
     (c.when.ensures code c.in_ok-handle_copied.ensures)

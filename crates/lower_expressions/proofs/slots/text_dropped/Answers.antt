@@ -14,7 +14,7 @@ use Rattle.lower_expressions.proofs.slots.text_dropped.Goals as goal
 
 pub returns : goal.returns
 returns c =
-    let y = view_layout c.args.y.now in
+    let y = view_layout c.args.layout.now in
     let code : Instructions → Instructions = handle_dropped y c.args.name in
     on_ok_weaker c.when.result
     (emits_then (does_all (GlobalGet (global_number y c.args.name) ∷ I64Const text_beside ∷ Compare I64 Eq ∷ [])) (when (code Done)) _ _ _ (rw c.global_number.ensures at c.in_ok-does_all.ensures))

@@ -6,10 +6,10 @@ use Rattle.lower_expressions.proofs.WalkLemmas.{count_code, count_least, none_co
 use Rattle.lower_expressions.proofs.walks.+all_converted.Goals as goal
 
 pub returns-in_default : goal.returns-in_default
-returns-in_default t c = λ k. ap (followed c.args.out.now.items) (none_converted c.args.b.now (map view_form c.args.forms.now) c.args.wanted.now c.args.operands.now c.args.t c.args.exit k c.in_default.ensures.cases)
+returns-in_default t c = λ k. ap (followed c.args.out.now.items) (none_converted c.args.bases.now (map view_form c.args.forms.now) c.args.wanted.now c.args.operands.now c.args.temporary c.args.exit k c.in_default.ensures.cases)
 
 pub returns-in_default-split_first : goal.returns-in_default-split_first
-returns-in_default-split_first t c = λ k. ap (followed c.args.out.now.items) (none_wanted c.args.b.now (map view_form c.args.forms.now) c.args.wanted.now (views c.args.operands.now) c.args.t c.args.exit k c.in_default-split_first.ensures.cases)
+returns-in_default-split_first t c = λ k. ap (followed c.args.out.now.items) (none_wanted c.args.bases.now (map view_form c.args.forms.now) c.args.wanted.now (views c.args.operands.now) c.args.temporary c.args.exit k c.in_default-split_first.ensures.cases)
 
 pub all_converted-requires : goal.all_converted-requires
 all_converted-requires t c =

@@ -7,10 +7,10 @@ use Rattle.lower_expressions.proofs.WalkLemmas.{count_code, count_least, no_para
 use Rattle.lower_expressions.proofs.walks.+all_given.Goals as goal
 
 pub returns-in_default : goal.returns-in_default
-returns-in_default t c = λ k. ap (followed c.args.out.now.items) (none_given c.args.b.now (map view_form c.args.forms.now) (map view_kind c.args.kinds.now) c.args.operands.now c.args.t k c.in_default.ensures.cases)
+returns-in_default t c = λ k. ap (followed c.args.out.now.items) (none_given c.args.bases.now (map view_form c.args.forms.now) (map view_kind c.args.kinds.now) c.args.operands.now c.args.temporary k c.in_default.ensures.cases)
 
 pub returns-in_default-split_first : goal.returns-in_default-split_first
-returns-in_default-split_first t c = λ k. ap (followed c.args.out.now.items) (no_parameter view_kind c.args.b.now (map view_form c.args.forms.now) c.args.kinds.now (views c.args.operands.now) c.args.t k c.in_default-split_first.ensures.cases)
+returns-in_default-split_first t c = λ k. ap (followed c.args.out.now.items) (no_parameter view_kind c.args.bases.now (map view_form c.args.forms.now) c.args.kinds.now (views c.args.operands.now) c.args.temporary k c.in_default-split_first.ensures.cases)
 
 pub all_given-requires : goal.all_given-requires
 all_given-requires t c =

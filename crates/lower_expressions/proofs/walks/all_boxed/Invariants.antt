@@ -12,5 +12,5 @@ decreases-loop-form l = length l.left
 abbrev pub invariant-loop-form : goal.invariant-loop-form
 invariant-loop-form l = record {
   few : l.place + length l.left ≤ most_places;
-  emits : (k : Instructions) → followed l.out.items (boxed_with l.fn.b (map view_form l.left) l.place k) ≡ followed l.fn.out.items (boxed_with l.fn.b (map view_form l.forms) l.t k);
+  emits : (k : Instructions) → followed l.out.items (boxed_with l.fn.bases (map view_form l.left) l.place k) ≡ followed l.fn.out.items (boxed_with l.fn.bases (map view_form l.forms) l.temporary k);
 }

@@ -7,5 +7,5 @@ pub loop-left-preserved : goal.loop-left-preserved
 loop-left-preserved c = record {
   few = omega arith;
   emits = λ k. c.in_ok-ask.ensures _ ∙ (rw c.array.ensures at c.in_ok-moved_out.ensures) _
-      ∙ ap (followed c.loop-left.out.items) (sym (freed_step c.args.b.now c.args.arrays c.loop-left.left k (omega arith))) ∙ c.loop-left.invariant.emits k;
+      ∙ ap (followed c.loop-left.out.items) (sym (freed_step c.args.bases.now c.args.arrays c.loop-left.left k (omega arith))) ∙ c.loop-left.invariant.emits k;
 }

@@ -10,5 +10,5 @@ decreases-loop-left l = l.left
 abbrev pub invariant-loop-left : goal.invariant-loop-left
 invariant-loop-left l = record {
   few : l.left ≤ l.count;
-  emits : (k : Instructions) → followed l.out.items (freed_with l.fn.b l.arrays l.left k) ≡ followed l.fn.out.items (freed_with l.fn.b l.arrays l.count k);
+  emits : (k : Instructions) → followed l.out.items (freed_with l.fn.bases l.arrays l.left k) ≡ followed l.fn.out.items (freed_with l.fn.bases l.arrays l.count k);
 }

@@ -10,7 +10,7 @@ use Rattle.lowering.proofs.beginning.names_declared.Goals as goal
 
 pub overflow_add-text : goal.overflow_add-text
 overflow_add-text c =
-    let names = c.args.y.now.script.now.program.now.globals.items in
+    let names = c.args.layout.now.script.now.program.now.globals.items in
     let n = ap length c.names-name-items.ensures.names in
     let kinds = length-map (map view_declared names) (λ (d : plain.Declared). d.kind) in
     let views = length-map names view_declared in
@@ -22,7 +22,7 @@ loop-name-preserved c =
     record {
       place = omega arith;
       emits = λ k. c.in_ok-declared.ensures _
-          ∙ ap (followed c.loop-name.out.items) (names_step (view_layout c.args.y.now) c.args.y.now.script.now.program.now.globals.items c.loop-name.name-index c.loop-name.text c.name-item.result c.declared_kind.result k
+          ∙ ap (followed c.loop-name.out.items) (names_step (view_layout c.args.layout.now) c.args.layout.now.script.now.program.now.globals.items c.loop-name.name-index c.loop-name.text c.name-item.result c.declared_kind.result k
           (omega (arith, n)) (c.name-item.is ∙ ap (λ (xs : List Declared). get_or xs c.loop-name.name-index c.name-item.result) c.names-name-items.ensures.names) c.declared_kind.ensures)
           ∙ c.loop-name.invariant.emits k;
     }

@@ -11,6 +11,6 @@ abbrev pub invariant-loop-name : goal.invariant-loop-name
 invariant-loop-name l = record {
   place : l.text ≡ l.first + l.name-index;
   emits : (k : Instructions) →
-      followed l.out.items (names_declared (view_layout l.fn.y) l.text (kinds_of (map view_declared (drop l.name-index l.fn.y.script.now.program.now.globals.items))) k)
-      ≡ followed l.fn.out.items (names_declared (view_layout l.fn.y) l.first (kinds_of (map view_declared l.fn.y.script.now.program.now.globals.items)) k);
+      followed l.out.items (names_declared (view_layout l.fn.layout) l.text (kinds_of (map view_declared (drop l.name-index l.fn.layout.script.now.program.now.globals.items))) k)
+      ≡ followed l.fn.out.items (names_declared (view_layout l.fn.layout) l.first (kinds_of (map view_declared l.fn.layout.script.now.program.now.globals.items)) k);
 }

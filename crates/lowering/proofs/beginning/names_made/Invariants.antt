@@ -11,6 +11,6 @@ abbrev pub invariant-loop-declared : goal.invariant-loop-declared
 invariant-loop-declared l = record {
   place : l.name ≡ l.declared-index;
   emits : (k : Instructions) →
-      followed l.out.items (names_made (view_layout l.fn.y) l.declared-index (kinds_of (map view_declared (drop l.declared-index l.fn.y.script.now.program.now.globals.items))) k)
-      ≡ followed l.fn.out.items (names_made (view_layout l.fn.y) 0 (kinds_of (map view_declared l.fn.y.script.now.program.now.globals.items)) k);
+      followed l.out.items (names_made (view_layout l.fn.layout) l.declared-index (kinds_of (map view_declared (drop l.declared-index l.fn.layout.script.now.program.now.globals.items))) k)
+      ≡ followed l.fn.out.items (names_made (view_layout l.fn.layout) 0 (kinds_of (map view_declared l.fn.layout.script.now.program.now.globals.items)) k);
 }

@@ -10,8 +10,8 @@ use Rattle.lowering.proofs.beginning.names_told.Goals as goal
 
 pub returns : goal.returns
 returns c =
-    let y = view_layout c.args.y.now in
-    let m = c.args.y.now.script.now.program.now in
+    let y = view_layout c.args.layout.now in
+    let m = c.args.layout.now.script.now.program.now in
     let texts : length c.as_slice-texts.result.now ≡ length (view_mid m).texts = ap length c.as_slice-texts.ensures.keys ∙ sym (length-map m.texts.keys (λ t. t.items)) in
     let names : length c.names-names.result.now ≡ length (view_mid m).globals = ap length c.names-names.ensures.names ∙ sym (length-map m.globals.items view_declared) in
     let calls : length y.calls ≡ length (view_mid m).routines = length-map (view_mid m).routines (λ (r : plain.Routine). r.parameters) in

@@ -9,6 +9,6 @@ abbrev pub invariant-loop-routine : goal.invariant-loop-routine
 invariant-loop-routine l = record {
   place : l.text ≡ l.first + l._routine-index;
   emits : (k : Instructions) →
-      followed l.out.items (routines_declared (view_layout l.fn.y) l.text (length (drop l._routine-index l.fn.y.script.now.program.now.routines.items)) k)
-      ≡ followed l.fn.out.items (routines_declared (view_layout l.fn.y) l.first (length l.fn.y.script.now.program.now.routines.items) k);
+      followed l.out.items (routines_declared (view_layout l.fn.layout) l.text (length (drop l._routine-index l.fn.layout.script.now.program.now.routines.items)) k)
+      ≡ followed l.fn.out.items (routines_declared (view_layout l.fn.layout) l.first (length l.fn.layout.script.now.program.now.routines.items) k);
 }

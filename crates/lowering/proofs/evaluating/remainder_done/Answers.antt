@@ -19,7 +19,7 @@ all_unsure-requires c = subst NamesFit (sym (c.deref.ensures.value ∙ c.in_ok-n
 
 pub returns : goal.returns
 returns c =
-    let y = view_layout c.args.y.now in
+    let y = view_layout c.args.layout.now in
     let q = view_remainder c.args.remainder in
     let most = most_multiplied q.multiple.factor in
     let slow : Instructions → Instructions = dropped y [] [] (view c.args.code.now) 0 0 (suc c.args.exit) in

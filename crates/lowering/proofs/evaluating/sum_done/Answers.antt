@@ -17,7 +17,7 @@ all_unsure-requires c = subst NamesFit (sym (c.deref.ensures.value ∙ c.in_ok-n
 
 pub returns : goal.returns
 returns c =
-    let y = view_layout c.args.y.now in
+    let y = view_layout c.args.layout.now in
     let slow : Instructions → Instructions = summed_anyway y (view_sum c.args.sum) (suc c.args.exit) in
     let quick : Instructions → Instructions = summed y (view_sum c.args.sum) in
     on_ok_weaker c.either.result

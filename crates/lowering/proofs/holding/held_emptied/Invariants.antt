@@ -6,4 +6,4 @@ use Rattle.lowering.proofs.holding.held_emptied.Given as goal
 
 abbrev pub invariant-loop-place : goal.invariant-loop-place
 invariant-loop-place l =
-    (k : Instructions) → followed l.out.items (held_emptied l.held l.fn.b l.place (l.count - l.place) k) ≡ followed l.fn.out.items (held_emptied l.held l.fn.b 0 (held_count l.held l.fn.b) k)
+    (k : Instructions) → followed l.out.items (held_emptied l.held l.fn.bases l.place (l.count - l.place) k) ≡ followed l.fn.out.items (held_emptied l.held l.fn.bases 0 (held_count l.held l.fn.bases) k)

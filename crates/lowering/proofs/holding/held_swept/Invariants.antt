@@ -7,4 +7,4 @@ use Rattle.lowering.proofs.holding.held_swept.Given as goal
 abbrev pub invariant-loop-place : goal.invariant-loop-place
 invariant-loop-place l =
     (k : Instructions) →
-    followed l.out.items (held_swept l.held l.fn.y.bases.now l.place (l.count - l.place) k) ≡ followed l.fn.out.items (held_swept l.held l.fn.y.bases.now 0 (held_count l.held l.fn.y.bases.now) k)
+    followed l.out.items (held_swept l.held l.fn.layout.bases.now l.place (l.count - l.place) k) ≡ followed l.fn.out.items (held_swept l.held l.fn.layout.bases.now 0 (held_count l.held l.fn.layout.bases.now) k)

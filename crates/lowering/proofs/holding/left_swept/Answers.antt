@@ -9,16 +9,16 @@ use Rattle.lowering.proofs.holding.left_swept.Goals as goal
 
 pub returns-then-is_empty : goal.returns-then-is_empty
 returns-then-is_empty c =
-    let y = view_layout c.args.y.now in
-    let rs = c.args.y.now.script.now.program.now.routines.items in
+    let y = view_layout c.args.layout.now in
+    let rs = c.args.layout.now.script.now.program.now.routines.items in
     let n = eqb-true (length c.routines.result.now) 0 (sym c.is_empty.ensures ∙ c.if-is_empty.true) in
     let none = no_functions rs (ap length (sym c.routines.ensures) ∙ n) in
     on_ok_weaker c.held_swept.result (λ h k. h k ∙ ap (followed c.args.out.now.items) (iterators_left y (has_functions y.calls) k none)) c.held_swept.ensures
 
 pub returns-else-is_empty : goal.returns-else-is_empty
 returns-else-is_empty c =
-    let y = view_layout c.args.y.now in
-    let rs = c.args.y.now.script.now.program.now.routines.items in
+    let y = view_layout c.args.layout.now in
+    let rs = c.args.layout.now.script.now.program.now.routines.items in
     let n = eqb-false (length c.routines.result.now) 0 (sym c.is_empty.ensures ∙ c.if-is_empty.false) in
     let same = ap length c.routines.ensures in
     let many : 0 < length rs = omega (arith, n, same) in

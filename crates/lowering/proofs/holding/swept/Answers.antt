@@ -7,5 +7,5 @@ use Rattle.lowering.proofs.holding.swept.Goals as goal
 
 pub returns : goal.returns
 returns c = on_ok_weaker c.held_swept-3.result
-    (λ h k. h k ∙ c.in_ok-held_swept-2.ensures _ ∙ c.in_ok-held_swept.ensures _ ∙ ap (followed c.args.out.now.items) (held_swept_all (view_layout c.args.y.now) k))
+    (λ h k. h k ∙ c.in_ok-held_swept-2.ensures _ ∙ c.in_ok-held_swept.ensures _ ∙ ap (followed c.args.out.now.items) (held_swept_all (view_layout c.args.layout.now) k))
     c.held_swept-3.ensures

@@ -19,7 +19,7 @@ abbrev pub invariant-steps_length-loop-step : goal.invariant-steps_length-loop-s
 invariant-steps_length-loop-step l = record {
   short : l.bytes ≤ most_bytes;
   few : steps_places (view_steps (drop l.step-index l.steps)) ≤ steps_places (view_steps l.steps);
-  fit : StepsFit (view_layout l.fn.y) (view_steps (drop l.step-index l.steps)) 0 0;
+  fit : StepsFit (view_layout l.fn.layout) (view_steps (drop l.step-index l.steps)) 0 0;
   long : (k : Instructions) →
-      l.bytes + least_in (steps_emitted (view_layout l.fn.y) (view_steps (drop l.step-index l.steps)) 0 0 0 0 k) ≤ least_in (steps_emitted (view_layout l.fn.y) (view_steps l.steps) 0 0 0 0 k);
+      l.bytes + least_in (steps_emitted (view_layout l.fn.layout) (view_steps (drop l.step-index l.steps)) 0 0 0 0 k) ≤ least_in (steps_emitted (view_layout l.fn.layout) (view_steps l.steps) 0 0 0 0 k);
 }

@@ -8,22 +8,22 @@ use Rattle.lowering.proofs.lengths.main_length.Goals as goal
 
 pub returns-then-begin-gt-MOST_BYTES : goal.returns-then-begin-gt-MOST_BYTES
 returns-then-begin-gt-MOST_BYTES c =
-    let y = view_layout c.args.y.now in
-    let p = view_mid c.args.y.now.script.now.program.now in
+    let y = view_layout c.args.layout.now in
+    let p = view_mid c.args.layout.now.script.now.program.now in
     let begin : Weighs c.in_ok-begin.begin (steps_emitted y p.begin 0 0 0 0) = rw c.deref.ensures.value at c.in_ok-begin.ensures in
     begin_within y p c.in_ok-begin.begin begin
 
 pub returns-then-end-gt-MOST_BYTES : goal.returns-then-end-gt-MOST_BYTES
 returns-then-end-gt-MOST_BYTES c =
-    let y = view_layout c.args.y.now in
-    let p = view_mid c.args.y.now.script.now.program.now in
+    let y = view_layout c.args.layout.now in
+    let p = view_mid c.args.layout.now.script.now.program.now in
     let end : Weighs c.in_ok-end.end (steps_emitted y p.end 0 0 0 0) = rw c.deref-2.ensures.value at c.in_ok-end.ensures in
     end_within y p c.in_ok-end.end end
 
 pub returns-then-not-program : goal.returns-then-not-program
 returns-then-not-program c =
-    let y = view_layout c.args.y.now in
-    let p = view_mid c.args.y.now.script.now.program.now in
+    let y = view_layout c.args.layout.now in
+    let p = view_mid c.args.layout.now.script.now.program.now in
     let begin : Weighs c.in_ok-begin.begin (steps_emitted y p.begin 0 0 0 0) = rw c.deref.ensures.value at c.in_ok-begin.ensures in
     let end : Weighs c.in_ok-end.end (steps_emitted y p.end 0 0 0 0) = rw c.deref-2.ensures.value at c.in_ok-end.ensures in
     let sum = c.saturating_add-outside.ensures in
@@ -31,8 +31,8 @@ returns-then-not-program c =
 
 pub returns-then-items-gt-MOST_BYTES : goal.returns-then-items-gt-MOST_BYTES
 returns-then-items-gt-MOST_BYTES c =
-    let y = view_layout c.args.y.now in
-    let p = view_mid c.args.y.now.script.now.program.now in
+    let y = view_layout c.args.layout.now in
+    let p = view_mid c.args.layout.now.script.now.program.now in
     let begin : Weighs c.in_ok-begin.begin (steps_emitted y p.begin 0 0 0 0) = rw c.deref.ensures.value at c.in_ok-begin.ensures in
     let end : Weighs c.in_ok-end.end (steps_emitted y p.end 0 0 0 0) = rw c.deref-2.ensures.value at c.in_ok-end.ensures in
     let items : Weighs c.in_ok-items.items (steps_emitted y p.items 0 0 0 0) = rw c.deref-3.ensures.value at c.in_ok-items.ensures in
@@ -40,8 +40,8 @@ returns-then-items-gt-MOST_BYTES c =
 
 pub returns : goal.returns
 returns c =
-    let y = view_layout c.args.y.now in
-    let p = view_mid c.args.y.now.script.now.program.now in
+    let y = view_layout c.args.layout.now in
+    let p = view_mid c.args.layout.now.script.now.program.now in
     let begin : Weighs c.in_ok-begin.begin (steps_emitted y p.begin 0 0 0 0) = rw c.deref.ensures.value at c.in_ok-begin.ensures in
     let end : Weighs c.in_ok-end.end (steps_emitted y p.end 0 0 0 0) = rw c.deref-2.ensures.value at c.in_ok-end.ensures in
     let items : Weighs c.in_ok-items.items (steps_emitted y p.items 0 0 0 0) = rw c.deref-3.ensures.value at c.in_ok-items.ensures in

@@ -11,8 +11,8 @@ use Rattle.lowering.proofs.main_parts.parts_code.Goals as goal
 
 pub returns : goal.returns
 returns c = λ k.
-    let y = view_layout c.args.y.now in
-    let p = view_mid c.args.y.now.script.now.program.now in
+    let y = view_layout c.args.layout.now in
+    let p = view_mid c.args.layout.now.script.now.program.now in
     c.in_ok-part_done-2.ensures (items_code y p.end) (rw c.deref.ensures.value at c.in_ok-items_code.ensures) k ∙ c.in_ok-ask_row.ensures _
     ∙ c.in_ok-part_done.ensures (first_code y p) c.in_ok-first_code.ensures _ ∙ (rw c.new-code.ensures.items at c.in_ok-before_parts.ensures) _
     ∙ ap (λ (is : Instructions). before_parts y p (part_done y is 0 (ask_row BeginEnd (part_done y (last_part y p) 0 k)))) (first_is y p)

@@ -8,5 +8,5 @@ use Rattle.lowering.proofs.quick.joined.Goals as goal
 
 pub returns : goal.returns
 returns c = λ k.
-    sym (at_drop_all (λ (is : List ℕ). followed c.loop-name.out.items (joined (name_read (view_layout c.args.y.now)) is (pos c.args.shift) k)) c.args.names.now c.loop-name.name-index c.loop-name-test.false)
+    sym (at_drop_all (λ (is : List ℕ). followed c.loop-name.out.items (joined (name_read (view_layout c.args.layout.now)) is (pos c.args.shift) k)) c.args.names.now c.loop-name.name-index c.loop-name-test.false)
     ∙ c.loop-name.invariant.emits k

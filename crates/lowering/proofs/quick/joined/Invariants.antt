@@ -11,6 +11,6 @@ abbrev pub invariant-loop-name : goal.invariant-loop-name
 invariant-loop-name l = record {
   fit : NamesFit (drop l.name-index l.names);
   emits : (k : Instructions) →
-      followed l.out.items (joined (name_read (view_layout l.fn.y)) (drop l.name-index l.names) (pos l.shift) k)
-      ≡ followed l.fn.out.items (joined (name_read (view_layout l.fn.y)) l.names (pos l.shift) k);
+      followed l.out.items (joined (name_read (view_layout l.fn.layout)) (drop l.name-index l.names) (pos l.shift) k)
+      ≡ followed l.fn.out.items (joined (name_read (view_layout l.fn.layout)) l.names (pos l.shift) k);
 }

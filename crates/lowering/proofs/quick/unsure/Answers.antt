@@ -10,5 +10,5 @@ use Rattle.lowering.proofs.quick.unsure.Goals as goal
 pub returns : goal.returns
 returns c =
     on_ok_weaker c.past.result
-    (emits_then (shifted (name_read (view_layout c.args.y.now) c.args.within.name) (pos (2 ^ 53))) (past c.args.within.width) _ _ _ (rw c.name_read.ensures at c.in_ok-shifted.ensures))
+    (emits_then (shifted (name_read (view_layout c.args.layout.now) c.args.within.name) (pos (2 ^ 53))) (past c.args.within.width) _ _ _ (rw c.name_read.ensures at c.in_ok-shifted.ensures))
     c.past.ensures

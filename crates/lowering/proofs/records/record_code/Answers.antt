@@ -7,4 +7,4 @@ use Rattle.lowering.proofs.records.record_code.Goals as goal
 pub returns : goal.returns
 returns c = λ k.
     c.in_ok-next_taken.ensures k
-    ∙ (rw c.new-code.ensures.items at (c.in_ok-block.ensures (items_code (view_layout c.args.y.now) (view_steps c.args.items.now)) c.in_ok-inside.ensures)) _
+    ∙ (rw c.new-code.ensures.items at (c.in_ok-block.ensures (items_code (view_layout c.args.layout.now) (view_steps c.args.items.now)) c.in_ok-inside.ensures)) _

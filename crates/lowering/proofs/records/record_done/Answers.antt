@@ -4,4 +4,4 @@ use Rattle.lowering.specs.Parts.{record_code}
 use Rattle.lowering.proofs.records.record_done.Goals as goal
 
 pub returns : goal.returns
-returns c = c.block.ensures (record_code (view_layout c.args.y.now) (view_steps c.args.items.now) c.args.exit) c.in_ok-inside.ensures
+returns c = c.block.ensures (record_code (view_layout c.args.layout.now) (view_steps c.args.items.now) c.args.exit) c.in_ok-inside.ensures

@@ -8,5 +8,5 @@ pub returns : goal.returns
 returns c = λ k.
     let inner : c.args.exit + 2 ≡ suc (suc c.args.exit) = omega arith in
     c.in_ok-assignment_made.ensures k
-    ∙ c.in_ok-when.ensures (record_way (view_layout c.args.y.now) (view_steps c.args.items.now) (suc (suc c.args.exit))) (rw inner at c.in_ok-record_way.ensures) _
+    ∙ c.in_ok-when.ensures (record_way (view_layout c.args.layout.now) (view_steps c.args.items.now) (suc (suc c.args.exit))) (rw inner at c.in_ok-record_way.ensures) _
     ∙ (rw c.new-code.ensures.items at c.in_ok-record_asked.ensures) _

@@ -8,5 +8,5 @@ pub loop-kind-preserved : goal.loop-kind-preserved
 loop-kind-preserved c = record {
   place = omega arith;
   emits = λ k. (rw c.loop-kind.invariant.place at c.in_ok-parameter_dropped.ensures) _
-      ∙ ap (followed c.loop-kind.out.items) (parameters_step (view_layout c.args.y.now) c.args.kinds.now c.loop-kind.kind-index k (omega arith)) ∙ c.loop-kind.invariant.emits k;
+      ∙ ap (followed c.loop-kind.out.items) (parameters_step (view_layout c.args.layout.now) c.args.kinds.now c.loop-kind.kind-index k (omega arith)) ∙ c.loop-kind.invariant.emits k;
 }

@@ -10,6 +10,6 @@ abbrev pub invariant-loop-kind : goal.invariant-loop-kind
 invariant-loop-kind l = record {
   place : l.local ≡ l.kind-index;
   emits : (k : Instructions) →
-      followed l.out.items (parameters_dropped (view_layout l.fn.y) l.kind-index (map view_kind (drop l.kind-index l.kinds)) k)
-      ≡ followed l.fn.out.items (parameters_dropped (view_layout l.fn.y) 0 (map view_kind l.kinds) k);
+      followed l.out.items (parameters_dropped (view_layout l.fn.layout) l.kind-index (map view_kind (drop l.kind-index l.kinds)) k)
+      ≡ followed l.fn.out.items (parameters_dropped (view_layout l.fn.layout) 0 (map view_kind l.kinds) k);
 }

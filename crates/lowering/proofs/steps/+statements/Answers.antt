@@ -15,7 +15,7 @@ use Rattle.lowering.proofs.steps.+statements.Goals as goal
 
 pub plain_choice-returns : goal.plain_choice-returns
 plain_choice-returns t c =
-    let y = view_layout c.args.y.now in
+    let y = view_layout c.args.layout.now in
     let at = c.args.at in
     let yes_code : Instructions → Instructions = step_emitted y (view_step c.args.yes.now) at.iterators (suc at.exit) (suc at.break_to) (suc at.continue_to) in
     let no_code : Instructions → Instructions = step_emitted y (view_step c.args.no.now) at.iterators (suc at.exit) (suc at.break_to) (suc at.continue_to) in
@@ -25,7 +25,7 @@ plain_choice-returns t c =
 
 pub quick_choice-returns : goal.quick_choice-returns
 quick_choice-returns t c =
-    let y = view_layout c.args.y.now in
+    let y = view_layout c.args.layout.now in
     let e = view c.args.test.now in
     let yes = view_step c.args.yes.now in
     let ways : Instructions → Instructions = quick_ways y e yes (view_step c.args.no.now) c.args.at in
@@ -34,7 +34,7 @@ quick_choice-returns t c =
 
 pub turn_body-returns-in_ok-inside : goal.turn_body-returns-in_ok-inside
 turn_body-returns-in_ok-inside t c =
-    let y = view_layout c.args.y.now in
+    let y = view_layout c.args.layout.now in
     let a = view_step c.args.body.now in
     let u = c.args.at.iterators in
     let d = c.args.at.exit in
@@ -44,7 +44,7 @@ turn_body-returns-in_ok-inside t c =
 
 pub first_turn-returns : goal.first_turn-returns
 first_turn-returns t c = λ k.
-    let y = view_layout c.args.y.now in
+    let y = view_layout c.args.layout.now in
     let at = c.args.at in
     let body : Instructions → Instructions = step_emitted y (view_step c.args.body.now) at.iterators (suc (suc (suc at.exit))) 2 0 in
     c.in_ok-tested_on.ensures k ∙ (rw c.in_last.ensures.is at c.in_ok-statement.ensures) _
@@ -52,7 +52,7 @@ first_turn-returns t c = λ k.
 
 pub keys-returns : goal.keys-returns
 keys-returns t c =
-    let y = view_layout c.args.y.now in
+    let y = view_layout c.args.layout.now in
     let at = c.args.at in
     on_ok_weaker c.iterator_left.result
     (λ h k. h k ∙ c.in_ok-rounds.ensures (key_turn y (view c.args.store.now) (view_step c.args.body.now) at.iterators at.exit) c.in_ok-turn.ensures _ ∙ c.in_ok-iterator_made.ensures _)
@@ -60,27 +60,27 @@ keys-returns t c =
 
 pub looped-returns-in_ok-turn : goal.looped-returns-in_ok-turn
 looped-returns-in_ok-turn t c =
-    rw c.if-tests_first.true (c.rounds.ensures (tested_turn (view_layout c.args.y.now) (view c.args.test.now) (view_step c.args.body.now) (view_step c.args.last.now) c.args.at.iterators c.args.at.exit) c.in_ok-turn.ensures)
+    rw c.if-tests_first.true (c.rounds.ensures (tested_turn (view_layout c.args.layout.now) (view c.args.test.now) (view_step c.args.body.now) (view_step c.args.last.now) c.args.at.iterators c.args.at.exit) c.in_ok-turn.ensures)
 
 pub looped-returns-in_ok-turn-2 : goal.looped-returns-in_ok-turn-2
 looped-returns-in_ok-turn-2 t c =
     rw c.if-tests_first.false
-    (c.rounds-else-tests_first.ensures (first_turn (view_layout c.args.y.now) (view c.args.test.now) (view_step c.args.body.now) (view_step c.args.last.now) c.args.at.iterators c.args.at.exit) c.in_ok-turn-2.ensures)
+    (c.rounds-else-tests_first.ensures (first_turn (view_layout c.args.layout.now) (view c.args.test.now) (view_step c.args.body.now) (view_step c.args.last.now) c.args.at.iterators c.args.at.exit) c.in_ok-turn-2.ensures)
 
 pub statement-statements-requires : goal.statement-statements-requires
 statement-statements-requires t c =
     let n = block_places c.args.step.now c.in-Block.steps c.deref.result.now c.in-Block.is c.deref.ensures.value in
-    (omega (arith, n), (block_fits (view_layout c.args.y.now) c.args.step.now c.in-Block.steps c.deref.result.now c.args.at.iterators c.args.at.exit c.in-Block.is c.deref.ensures.value c.requires.fit, c.requires.own))
+    (omega (arith, n), (block_fits (view_layout c.args.layout.now) c.args.step.now c.in-Block.steps c.deref.result.now c.args.at.iterators c.args.at.exit c.in-Block.is c.deref.ensures.value c.requires.fit, c.requires.own))
 
 pub statements-statement-requires : goal.statements-statement-requires
 statements-statement-requires t c =
     let n = first_places c.args.steps.now c.loop-step.step-index c.step-item.result (omega arith) c.step-item.is in
     let few = c.loop-step.invariant.few in
-    (omega (arith, n, few), (first_fits (view_layout c.args.y.now) c.args.steps.now c.loop-step.step-index c.step-item.result c.args.at.iterators c.args.at.exit (omega arith) c.step-item.is c.loop-step.invariant.fit, c.requires.own))
+    (omega (arith, n, few), (first_fits (view_layout c.args.layout.now) c.args.steps.now c.loop-step.step-index c.step-item.result c.args.at.iterators c.args.at.exit (omega arith) c.step-item.is c.loop-step.invariant.fit, c.requires.own))
 
 pub statement-returns-in-Block : goal.statement-returns-in-Block
 statement-returns-in-Block t c =
-    let y = view_layout c.args.y.now in
+    let y = view_layout c.args.layout.now in
     let at = c.args.at in
     on_ok_weaker c.statements.result
     (λ h k. h k ∙ c.in_ok-does.ensures _
@@ -89,7 +89,7 @@ statement-returns-in-Block t c =
 
 pub statement-returns-in-Loop : goal.statement-returns-in-Loop
 statement-returns-in-Loop t c =
-    let y = view_layout c.args.y.now in
+    let y = view_layout c.args.layout.now in
     let at = c.args.at in
     on_ok_weaker c.looped.result
     (λ h k. h k ∙ c.in_ok-does.ensures _

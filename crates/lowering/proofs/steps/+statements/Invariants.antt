@@ -54,8 +54,8 @@ decreases-keys l = 8 * step_places (view_step l.body.now) + 3
 abbrev pub invariant-statements-loop-step : goal.invariant-statements-loop-step
 invariant-statements-loop-step l = record {
   few : steps_places (view_steps (drop l.step-index l.steps)) ≤ steps_places (view_steps l.steps);
-  fit : StepsFit (view_layout l.fn.y) (view_steps (drop l.step-index l.steps)) l.at.iterators l.at.exit;
+  fit : StepsFit (view_layout l.fn.layout) (view_steps (drop l.step-index l.steps)) l.at.iterators l.at.exit;
   emits : (k : Instructions) →
-      followed l.out.items (steps_emitted (view_layout l.fn.y) (view_steps (drop l.step-index l.steps)) l.at.iterators l.at.exit l.at.break_to l.at.continue_to k)
-      ≡ followed l.fn.out.items (steps_emitted (view_layout l.fn.y) (view_steps l.steps) l.at.iterators l.at.exit l.at.break_to l.at.continue_to k);
+      followed l.out.items (steps_emitted (view_layout l.fn.layout) (view_steps (drop l.step-index l.steps)) l.at.iterators l.at.exit l.at.break_to l.at.continue_to k)
+      ≡ followed l.fn.out.items (steps_emitted (view_layout l.fn.layout) (view_steps l.steps) l.at.iterators l.at.exit l.at.break_to l.at.continue_to k);
 }

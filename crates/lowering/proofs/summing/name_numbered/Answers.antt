@@ -5,7 +5,8 @@ use Rattle.wasm_types.specs.declared.types.ValType.TheVariants.{I64}
 use Rattle.wasm_types.specs.declared.instr.IRelOp.TheVariants.{LeS}
 use Rattle.wasm_types.specs.declared.instr.Simple.TheVariants.{Compare, GlobalGet, I64Const, LocalTee}
 use Rattle.lower_model.specs.Emission.{global_number}
-use Rattle.lower_model.specs.Small.{n, text_beside, when}
+use Rattle.lower_model.specs.Places.{number_local}
+use Rattle.lower_model.specs.Small.{text_beside, when}
 use Rattle.lower_model.specs.Statements.{number_found}
 use Rattle.lower_pieces.specs.Emits.{does_all}
 use Rattle.lower_pieces.proofs.Appended.{emits_then}
@@ -14,9 +15,9 @@ use Rattle.lowering.proofs.summing.name_numbered.Goals as goal
 
 pub returns : goal.returns
 returns c =
-    let y = view_layout c.args.y.now in
-    let code : Instructions → Instructions = number_found y c.args.name c.args.t c.args.exit in
+    let y = view_layout c.args.layout.now in
+    let code : Instructions → Instructions = number_found y c.args.name c.args.temporary c.args.exit in
     on_ok_weaker c.when.result
-    (emits_then (does_all (GlobalGet (global_number y c.args.name) ∷ LocalTee (n c.args.y.now.bases.now c.args.t) ∷ I64Const text_beside ∷ Compare I64 LeS ∷ [])) (when (code Done)) _ _ _
+    (emits_then (does_all (GlobalGet (global_number y c.args.name) ∷ LocalTee (number_local c.args.layout.now.bases.now c.args.temporary) ∷ I64Const text_beside ∷ Compare I64 LeS ∷ [])) (when (code Done)) _ _ _
     (rw c.global_number.ensures at (rw c.number.ensures at c.in_ok-does_all.ensures)))
     (c.when.ensures code c.in_ok-number_found.ensures)

@@ -1,6 +1,7 @@
 use Rattle.std.specs.Prelude.{suc, []}
 use Rattle.wasm_types.specs.Syntax.{Instructions, Done}
-use Rattle.lower_model.specs.Small.{either, n, number_is, text_beside}
+use Rattle.lower_model.specs.Places.{number_local}
+use Rattle.lower_model.specs.Small.{either, number_is, text_beside}
 use Rattle.lower_model.specs.Statements.{number_there}
 use Rattle.lower_pieces.proofs.Appended.{emits_then}
 use Rattle.lower_expressions.specs.View.{view_layout}
@@ -9,9 +10,9 @@ use Rattle.lowering.proofs.summing.number_found.Goals as goal
 
 pub returns : goal.returns
 returns c =
-    let x = n c.args.y.now.bases.now c.args.t in
-    let some : Instructions → Instructions = number_there (view_layout c.args.y.now) c.args.name c.args.t (suc (suc c.args.exit)) in
-    let none : Instructions → Instructions = zero_put c.args.y.now.bases.now c.args.t in
+    let x = number_local c.args.layout.now.bases.now c.args.temporary in
+    let some : Instructions → Instructions = number_there (view_layout c.args.layout.now) c.args.name c.args.temporary (suc (suc c.args.exit)) in
+    let none : Instructions → Instructions = zero_put c.args.layout.now.bases.now c.args.temporary in
     emits_then (number_is x text_beside) (either (some Done) (none Done)) [] c.number_is.new.out.items c.either.new.out.items
     (rw (c.new-code.ensures.items, c.number.ensures) at c.in_ok-number_is.ensures)
     (c.in_ok-either.ensures some none c.in_ok-some.ensures c.in_ok-zero_put.ensures)

@@ -12,7 +12,7 @@ use Rattle.lowering.proofs.testing.counted_tested.Goals as goal
 
 pub returns : goal.returns
 returns c =
-    let y = view_layout c.args.y.now in
+    let y = view_layout c.args.layout.now in
     let slow : Instructions → Instructions = test_left y (view c.args.test.now) (suc c.args.exit) (suc c.args.label) in
     let quick : Instructions → Instructions = counted_left y (view_counted c.args.counted) (suc c.args.label) in
     on_ok_weaker c.either.result

@@ -9,14 +9,14 @@ use Rattle.lowering.proofs.QuickNames.{within_fits}
 use Rattle.lowering.proofs.testing.left_unless.Goals as goal
 
 pub within_tested-requires-clause-name : goal.within_tested-requires-clause-name
-within_tested-requires-clause-name c = within_fits (view_layout c.args.y.now) (view c.args.test.now) (view_within c.in-Some.within) 0 0 c.args.exit (sym c.in-Some.ensures) c.requires.fit.0
+within_tested-requires-clause-name c = within_fits (view_layout c.args.layout.now) (view c.args.test.now) (view_within c.in-Some.within) 0 0 c.args.exit (sym c.in-Some.ensures) c.requires.fit.0
 
 pub returns-in-Some : goal.returns-in-Some
 returns-in-Some c =
-    subst (λ (o : Option Within). OnOk c.within_tested.result (Emits c.args.out.now.items c.within_tested.new.out.items (left_unless (view_layout c.args.y.now) o (view c.args.test.now) c.args.exit c.args.label))) c.in-Some.ensures
+    subst (λ (o : Option Within). OnOk c.within_tested.result (Emits c.args.out.now.items c.within_tested.new.out.items (left_unless (view_layout c.args.layout.now) o (view c.args.test.now) c.args.exit c.args.label))) c.in-Some.ensures
     c.within_tested.ensures
 
 pub returns-in-None : goal.returns-in-None
 returns-in-None c =
-    subst (λ (o : Option Within). OnOk c.left_unless_pair.result (Emits c.args.out.now.items c.left_unless_pair.new.out.items (left_unless (view_layout c.args.y.now) o (view c.args.test.now) c.args.exit c.args.label))) c.in-None.ensures
+    subst (λ (o : Option Within). OnOk c.left_unless_pair.result (Emits c.args.out.now.items c.left_unless_pair.new.out.items (left_unless (view_layout c.args.layout.now) o (view c.args.test.now) c.args.exit c.args.label))) c.in-None.ensures
     c.left_unless_pair.ensures

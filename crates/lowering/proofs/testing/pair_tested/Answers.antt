@@ -18,7 +18,7 @@ all_unsure-requires c = subst NamesFit (sym (c.deref.ensures.value ∙ c.in_ok-n
 
 pub returns : goal.returns
 returns c =
-    let y = view_layout c.args.y.now in
+    let y = view_layout c.args.layout.now in
     let slow : Instructions → Instructions = test_left y (view c.args.test.now) (suc c.args.exit) (suc c.args.label) in
     let quick : Instructions → Instructions = pair_left y (view_pair c.args.pair) (suc c.args.label) in
     on_ok_weaker c.either.result

@@ -12,7 +12,7 @@ use Rattle.lowering.proofs.testing.within_tested.Goals as goal
 
 pub returns : goal.returns
 returns c =
-    let y = view_layout c.args.y.now in
+    let y = view_layout c.args.layout.now in
     let q = c.args.within in
     let slow : Instructions → Instructions = test_left y (view c.args.test.now) (suc c.args.exit) (suc c.args.label) in
     on_ok_weaker c.when.result (emits_then (unsure (name_read y q.name) (pos (2 ^ 53)) q.width) (when (slow Done)) _ _ _ c.in_ok-unsure.ensures) (c.when.ensures slow c.in_ok-all_cases.ensures)
