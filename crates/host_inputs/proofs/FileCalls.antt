@@ -167,18 +167,18 @@ module _ (tells : Type 0) (to : Keep) (f : HostForm) (words : List Word) (memory
     pending_by : (p : Past) (x : InputAnswer) → r ≡ Ok x → HasPending (reads_main (Of (file_primitive to))) x (state_of old p).shared.inner (state_of new p).shared.inner
     pending_by p x e = by to x e
       where
-        same : i'.names.pending ≡ i.names.pending
-        same = ap (λ (y : Input). y.names.pending) moved
+        stays : i'.names.pending ≡ i.names.pending
+        stays = ap (λ (y : Input). y.names.pending) moved
 
         by : (k : Keep) (x : InputAnswer) → r ≡ Ok x → HasPending (reads_main (Of (file_primitive k))) x (state_of old p).shared.inner (state_of new p).shared.inner
-        by Record input.Read e = same
-        by Record input.End e = same
+        by Record input.Read e = stays
+        by Record input.End e = stays
         by Record input.Pending e = other e
-        by Record input.Failed e = same
-        by Line input.Read e = same
-        by Line input.End e = same
+        by Record input.Failed e = stays
+        by Line input.Read e = stays
+        by Line input.End e = stays
         by Line input.Pending e = other e
-        by Line input.Failed e = same
+        by Line input.Failed e = stays
 
     -- where others change what names hold too
     row_found : (later : List Entry) (o : Outside) (p : Past)

@@ -188,7 +188,7 @@ module _ (name : List ℕ) (rs : Option ℕ) (old new : List NamedReader) where
     shut ∷ [],
     λ later outside base asked has keep.
         opens name rs base asked keep true outside (readers_found old) (shut ∷ later) has
-            ∙ ap (λ (xs : List NamedReader). Ok (at base (readers_found xs) later, input.Failed)) (sym same),
+        ∙ ap (λ (xs : List NamedReader). Ok (at base (readers_found xs) later, input.Failed)) (sym same),
   )
 
   starts_finds : (answer : Result FileNext Stop) → has_reader name old ≡ false → StartsReader name old answer new → (has_reader name new ≡ true → HandsFile name rs old answer new)

@@ -19,6 +19,7 @@ use Rattle.sem_primitives.specs.Texts.{same_text}
 use Rattle.sem_primitives.specs.declared.answers.InputAnswer.{InputAnswer}
 use Rattle.sem_primitives.specs.declared.answers.InputAnswer.TheVariants as input
 use Rattle.sem_primitives.specs.declared.constants.Special.TheVariants.{Rs}
+use Rattle.host_streams.specs.Mains.{kept_in}
 use Rattle.host_streams.specs.OpenFiles.{FileNextBy, FileNextIs, ReadsFile, StartsFile, has_room as open_room, names_of, readers_in}
 use Rattle.host_streams.specs.Readers.{Answers, left}
 use Rattle.host_streams.specs.declared.streams.NamedReader.{NamedReader}
@@ -60,17 +61,21 @@ put_twice name s t (r ∷ rs) = twice_by name s t r rs (same_text name r.0) refl
 same_source : (s t : Source) → ◌≡◌ {A = Option Source} (Some s) (Some t) → s ≡ t
 same_source s t e = cc
 
-module _ (keep : List ℕ → Inner → Result (Inner × InputAnswer) Fault) (name : List ℕ) (rs : Option ℕ) (inner : Inner) (asked : record_separator (special_text Rs inner) ≡ rs) where
+-- where nobody else changes what names hold
+module _ (keep : List ℕ → Inner → Result (Inner × InputAnswer) Fault) (name : List ℕ) (rs : Option ℕ) (base : Inner) (asked : record_separator (special_text Rs base) ≡ rs) where
+  abbrev kept : Inner
+  kept = kept_in base
+
   abbrev with_readers : Readers → Inner
-  with_readers readers = record inner { readers = readers }
+  with_readers readers = record kept { readers = readers }
 
-  read_is : (s : Source) → read_file keep name s inner ≡ (first_record rs s >>= λ got. got_file keep (with_readers (with_reader name got.1 inner.readers)) got.0)
-  read_is s = ap (λ q. first_record q s >>= λ got. got_file keep (with_readers (with_reader name got.1 inner.readers)) got.0) asked
+  read_is : (s : Source) → read_file keep name s kept ≡ (first_record rs s >>= λ got. got_file keep (with_readers (with_reader name got.1 kept.readers)) got.0)
+  read_is s = ap (λ q. first_record q s >>= λ got. got_file keep (with_readers (with_reader name got.1 kept.readers)) got.0) asked
 
-  then_kept : (s : Source) (r : Result (Got × Source) Fault) → first_record rs s ≡ r → read_file keep name s inner ≡ (r >>= λ got. got_file keep (with_readers (with_reader name got.1 inner.readers)) got.0)
-  then_kept s r e = read_is s ∙ ap (λ x. x >>= λ got. got_file keep (with_readers (with_reader name got.1 inner.readers)) got.0) e
+  then_kept : (s : Source) (r : Result (Got × Source) Fault) → first_record rs s ≡ r → read_file keep name s kept ≡ (r >>= λ got. got_file keep (with_readers (with_reader name got.1 kept.readers)) got.0)
+  then_kept s r e = read_is s ∙ ap (λ x. x >>= λ got. got_file keep (with_readers (with_reader name got.1 kept.readers)) got.0) e
 
-  pub reads : (s later : Source) (answer : Result FileNext Stop) → Answers rs s answer later → FileGives (read_file keep name s inner) keep answer (with_readers (with_reader name later inner.readers))
+  pub reads : (s later : Source) (answer : Result FileNext Stop) → Answers rs s answer later → FileGives (read_file keep name s kept) keep answer (with_readers (with_reader name later kept.readers))
   reads s later (Ok (file.Record text)) h = then_kept s _ h
   reads s later (Ok file.End) h = then_kept s _ h
   reads s later (Ok file.Failed) h = then_kept s _ h
@@ -80,49 +85,49 @@ module _ (keep : List ℕ → Inner → Result (Inner × InputAnswer) Fault) (na
   moved : (wanted : Result (Inner × InputAnswer) Fault) (answer : Result FileNext Stop) (a b : Readers) → b ≡ a → FileGives wanted keep answer (with_readers a) → FileGives wanted keep answer (with_readers b)
   moved wanted answer a b e h = subst (λ r. FileGives wanted keep answer (with_readers r)) (sym e) h
 
-  read_open : (s : Source) (answer : Result FileNext Stop) (new : Readers) → reader_named name inner.readers ≡ Some s → ReadsFile name rs inner.readers answer new
-      → FileGives (read_file keep name s inner) keep answer (with_readers new)
+  read_open : (s : Source) (answer : Result FileNext Stop) (new : Readers) → reader_named name kept.readers ≡ Some s → ReadsFile name rs kept.readers answer new
+      → FileGives (read_file keep name s kept) keep answer (with_readers new)
   read_open s answer new named h =
-      moved _ answer (with_reader name h.later inner.readers) new h.readers
+      moved _ answer (with_reader name h.later kept.readers) new h.readers
       (reads s h.later answer (subst (λ x. Answers rs x answer h.later) (same_source h.before s (sym h.named ∙ named)) h.answers))
 
-  read_new : (s : Source) (answer : Result FileNext Stop) (new : Readers) → ReadsFile name rs (with_reader name s inner.readers) answer new → FileGives (read_file keep name s inner) keep answer (with_readers new)
+  read_new : (s : Source) (answer : Result FileNext Stop) (new : Readers) → ReadsFile name rs (with_reader name s kept.readers) answer new → FileGives (read_file keep name s kept) keep answer (with_readers new)
   read_new s answer new h =
-      moved _ answer (with_reader name h.later inner.readers) new (h.readers ∙ put_twice name s h.later inner.readers)
-      (reads s h.later answer (subst (λ x. Answers rs x answer h.later) (same_source h.before s (sym h.named ∙ named_put name s inner.readers)) h.answers))
+      moved _ answer (with_reader name h.later kept.readers) new (h.readers ∙ put_twice name s h.later kept.readers)
+      (reads s h.later answer (subst (λ x. Answers rs x answer h.later) (same_source h.before s (sym h.named ∙ named_put name s kept.readers)) h.answers))
 
   short : (wanted : Result (Inner × InputAnswer) Fault) (answer : Result FileNext Stop) (new : Inner) → answer ≡ Err NoMemory → FileGives wanted keep answer new
   short wanted answer new e = subst (λ a. FileGives wanted keep a new) (sym e) tt
 
-  shut : (answer : Result FileNext Stop) (new : Readers) → answer ≡ Ok file.Failed → new ≡ inner.readers → FileGives (Ok (inner, input.Failed)) keep answer (with_readers new)
-  shut answer new e same = subst (λ a. FileGives (Ok (inner, input.Failed)) keep a (with_readers new)) (sym e) (ap (λ r. Ok (with_readers r, input.Failed)) (sym same))
+  shut : (answer : Result FileNext Stop) (new : Readers) → answer ≡ Ok file.Failed → new ≡ kept.readers → FileGives (Ok (kept, input.Failed)) keep answer (with_readers new)
+  shut answer new e same = subst (λ a. FileGives (Ok (kept, input.Failed)) keep a (with_readers new)) (sym e) (ap (λ r. Ok (with_readers r, input.Failed)) (sym same))
 
   abbrev opening : Bool → Option Source → Result (Inner × InputAnswer) Fault
-  opening room source = elim room [ true ↦ opened_file keep name source inner | false ↦ Err TooManyStreams ]
+  opening room source = elim room [ true ↦ opened_file keep name source kept | false ↦ Err TooManyStreams ]
 
-  starts : (room : Bool) (source : Option Source) (answer : Result FileNext Stop) (new : Readers) → StartsFile room source name rs inner.readers answer new → FileGives (opening room source) keep answer (with_readers new)
+  starts : (room : Bool) (source : Option Source) (answer : Result FileNext Stop) (new : Readers) → StartsFile room source name rs kept.readers answer new → FileGives (opening room source) keep answer (with_readers new)
   starts false source answer new h = subst (λ a. FileGives (Err TooManyStreams) keep a (with_readers new)) (sym h.0) refl
   starts true None answer new (inl e, same) = shut answer new e same
   starts true None answer new (inr e, same) = short _ answer (with_readers new) e
   starts true (Some s) answer new (inl h) = read_new s answer new h
   starts true (Some s) answer new (inr h) = short _ answer (with_readers new) h.0
 
-  by_named : (outside : Outside) (o : Option Source) (room : Bool) (answer : Result FileNext Stop) (new : Readers) → reader_named name inner.readers ≡ o → room ≡ has_room inner
-      → FileNextBy o name rs room (outside (Named name)) inner.readers answer new → FileGives (open_or_read keep name outside o inner) keep answer (with_readers new)
+  by_named : (outside : Outside) (o : Option Source) (room : Bool) (answer : Result FileNext Stop) (new : Readers) → reader_named name kept.readers ≡ o → room ≡ has_room kept
+      → FileNextBy o name rs room (outside (Named name)) kept.readers answer new → FileGives (open_or_read keep name outside o kept) keep answer (with_readers new)
   by_named outside (Some s) room answer new named same h = read_open s answer new named h
   by_named outside None room answer new named same h =
-      starts (has_room inner) (source_of (outside (Named name))) answer new (subst (λ b. StartsFile b (source_of (outside (Named name))) name rs inner.readers answer new) same h)
+      starts (has_room kept) (source_of (outside (Named name))) answer new (subst (λ b. StartsFile b (source_of (outside (Named name))) name rs kept.readers answer new) same h)
 
-  pub file_gives : (outside : Outside) (room : Bool) (answer : Result FileNext Stop) (new : Readers) → room ≡ has_room inner → FileNextIs name rs room (outside (Named name)) inner.readers answer new
-      → FileGives (open_or_read keep name outside (reader_named name inner.readers) inner) keep answer (with_readers new)
-  file_gives outside room answer new same h = by_named outside (reader_named name inner.readers) room answer new refl same h
+  pub file_gives : (outside : Outside) (room : Bool) (answer : Result FileNext Stop) (new : Readers) → room ≡ has_room kept → FileNextIs name rs room (outside (Named name)) kept.readers answer new
+      → FileGives (open_or_read keep name outside (reader_named name kept.readers) kept) keep answer (with_readers new)
+  file_gives outside room answer new same h = by_named outside (reader_named name kept.readers) room answer new refl same h
 
-pub file_gives_named : (keep : List ℕ → Inner → Result (Inner × InputAnswer) Fault) (name : List ℕ) (value : Value) (rs : Option ℕ) (inner : Inner) → record_separator (special_text Rs inner) ≡ rs → text_of_value value ≡ name
-    → (outside : Outside) (room : Bool) (answer : Result FileNext Stop) (new : Readers) → room ≡ has_room inner → FileNextIs name rs room (outside (Named name)) inner.readers answer new
-    → FileGives (getline_file_by keep value outside inner) keep answer (record inner { readers = new })
-file_gives_named keep name value rs inner asked same outside room answer new e h =
-    subst (λ n. FileGives (open_or_read keep n outside (reader_named n inner.readers) inner) keep answer (record inner { readers = new })) (sym same)
-    (file_gives keep name rs inner asked outside room answer new e h)
+pub file_gives_named : (keep : List ℕ → Inner → Result (Inner × InputAnswer) Fault) (name : List ℕ) (value : Value) (rs : Option ℕ) (base : Inner) → record_separator (special_text Rs base) ≡ rs → text_of_value value ≡ name
+    → (outside : Outside) (room : Bool) (answer : Result FileNext Stop) (new : Readers) → room ≡ has_room base → FileNextIs name rs room (outside (Named name)) base.readers answer new
+    → FileGives (getline_file_by keep value outside (kept_in base)) keep answer (record (kept_in base) { readers = new })
+file_gives_named keep name value rs base asked same outside room answer new e h =
+    subst (λ (n : List ℕ). FileGives (open_or_read keep n outside (reader_named n base.readers) (kept_in base)) keep answer (record (kept_in base) { readers = new })) (sym same)
+    (file_gives keep name rs base asked outside room answer new e h)
 
 -- one more may be opened, here and there
 less_is : (n : ℕ) → nat_lt n 256 ≡ nat_le (n + 1) 256

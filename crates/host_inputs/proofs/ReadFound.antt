@@ -40,13 +40,19 @@ reading_unseen reading.Nothing s = refl
 reading_unseen reading.Standard s = refl
 reading_unseen (reading.File f) s = refl
 
-readers_unseen : (rs : List NamedReader) (s : State) → map (λ (r : List ℕ × Source). (r.0, nothing_left)) (readers_in rs s) ≡ map (λ (r : NamedReader). (r.name, nothing_left)) rs
+abbrev alone : List ℕ × Source → List ℕ × Source
+alone r = (r.0, nothing_left)
+
+abbrev named : NamedReader → List ℕ × Source
+named r = (r.name, nothing_left)
+
+readers_unseen : (rs : List NamedReader) (s : State) → map alone (readers_in rs s) ≡ map named rs
 readers_unseen [] s = refl
 readers_unseen (r ∷ rs) s = ap (λ (xs : List (List ℕ × Source)). (r.name, nothing_left) ∷ xs) (readers_unseen rs s)
 
 pub seen_found : (t : Texts) (i : Input) (s : State) (finds : List Entry) (inner : Inner) → record (unseen_inner (with_tables t i (Over s) inner)) { finds = Some finds } ≡ with_tables t i (Finding finds) inner
 seen_found t i s finds inner =
-    ap (λ (r : Option MainReader). record (with_tables t i (Finding finds) inner) { main = record (main_found i.main) { reading = r }; readers = map (λ (x : List ℕ × Source). (x.0, nothing_left)) (readers_in i.files.readers.items s) })
+    ap (λ (r : Option MainReader). record (with_tables t i (Finding finds) inner) { main = record (main_found i.main) { reading = r }; readers = map alone (readers_in i.files.readers.items s) })
     (reading_unseen i.main.reading s)
     ∙ ap (λ (rs : List (List ℕ × Source)). record (with_tables t i (Finding finds) inner) { readers = rs }) (readers_unseen i.files.readers.items s)
 

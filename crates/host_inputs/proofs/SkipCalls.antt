@@ -1,5 +1,5 @@
 -- Giving up what the main input reads is a call.
-use Rattle.std.proofs.Common.{◌≡◌, ℕ, Bool, false, List, [], ◌∷◌, ◌++◌, map, Option, Some, None, Result, Ok, Err, refl, sym, ap, subst, ◌∙◌}
+use Rattle.std.proofs.Common.{◌≡◌, ℕ, Bool, false, List, [], ◌∷◌, ◌++◌, map, Some, None, Result, Ok, Err, refl, sym, ap, subst, ◌∙◌}
 use Rattle.std.proofs.lemmas.List.{append-nil}
 use Rattle.sem_primitives.specs.InputMeaning.{gives_up, next_file_row, nothing_left}
 use Rattle.sem_primitives.specs.SharedState.{Inner, MainInput, changes}
@@ -11,8 +11,8 @@ use Rattle.wasm_store.specs.declared.word.Word.TheVariants.{I32}
 use Rattle.world_core.specs.WorldState.{Action, Entry, Outside, Source, State}
 use Rattle.host_step.specs.Arguments.{and_then, no_more}
 use Rattle.host_step.specs.HostState.{HostState, Names}
-use Rattle.host_step.specs.HostStep.{Acts, StepOf, carried, primitive_acts}
-use Rattle.host_step.specs.Worlds.{Called, IsStepInSomeWorld, unseen, unseen_inner, unseen_main, unseen_reading, with_output}
+use Rattle.host_step.specs.HostStep.{Acts, StepOf, primitive_acts}
+use Rattle.host_step.specs.Worlds.{IsStepInSomeWorld, unseen, unseen_inner, unseen_main, unseen_reading, with_output}
 use Rattle.host_imports.specs.declared.import.Import.TheVariants.{Of}
 use Rattle.host_streams.specs.Mains.{main_of, operands_of, reading_of}
 use Rattle.host_streams.specs.OpenFiles.{readers_in}
@@ -26,7 +26,7 @@ use Rattle.host_values.specs.declared.reply.Refusal.TheVariants as why
 use Rattle.host_elements.specs.Calls.{Leads}
 use Rattle.host_elements.specs.Forms.{HostForm, Past, inner_of, state_of}
 use Rattle.host_elements.proofs.ArraySteps.{carry, no_word}
-use Rattle.host_elements.proofs.Steps.{acts_of, goes, leads, state_with, unrefused}
+use Rattle.host_elements.proofs.Steps.{goes, leads, state_with, unrefused}
 use Rattle.host_meaning.specs.Findings.{form_finding}
 use Rattle.host_meaning.proofs.Found.{led_nothing}
 use Rattle.host_meaning.specs.WorldCalls.{IsCalled}
