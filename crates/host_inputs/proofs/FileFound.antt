@@ -17,8 +17,8 @@ use Rattle.sem_primitives.specs.Texts.{same_text}
 use Rattle.sem_primitives.specs.declared.answers.InputAnswer.{InputAnswer}
 use Rattle.sem_primitives.specs.declared.answers.InputAnswer.TheVariants as input
 use Rattle.sem_primitives.specs.declared.constants.Special.TheVariants.{Rs}
-use Rattle.host_streams.specs.OpenFiles.{HandsFile, IsAdded, ReadersAfter, StartsReader, has_reader, reader_handle}
-use Rattle.host_streams.specs.Readers.{Answers}
+use Rattle.host_streams.specs.OpenFiles.{HandsFile, IsAdded, ReadersAfter, StartsReader, has_reader, kept_named, phase_named, reader_handle}
+use Rattle.host_streams.specs.Readers.{Answers, handed, left_in}
 use Rattle.host_streams.specs.declared.reader.FileNext.{FileNext}
 use Rattle.host_streams.specs.declared.reader.FileNext.TheVariants as file
 use Rattle.host_streams.specs.declared.streams.NamedReader.{NamedReader}
@@ -45,31 +45,34 @@ reader_if b = if b then Some nothing_left else None
 
 named_found : (name : List ℕ) (xs : List NamedReader) → reader_named name (readers_found xs) ≡ reader_if (has_reader name xs)
 named_found name [] = refl
-named_found name (x ∷ xs) = by (same_text name x.name) refl
+named_found name (x ∷ xs) = by (same_text name x.name) (named_found name xs)
   where
-    by : (b : Bool) → same_text name x.name ≡ b → (if b then Some nothing_left else reader_named name (readers_found xs)) ≡ reader_if (if b then true else has_reader name xs)
-    by true e = refl
-    by false e = named_found name xs
+    by : (b : Bool) → reader_named name (readers_found xs) ≡ reader_if (has_reader name xs)
+        → (if b then Some nothing_left else reader_named name (readers_found xs)) ≡ reader_if (if b then true else has_reader name xs)
+    by true rest = refl
+    by false rest = rest
 
 -- one that is there stays where it is
 put_there : (name : List ℕ) (xs : List NamedReader) → has_reader name xs ≡ true → with_reader name nothing_left (readers_found xs) ≡ readers_found xs
 put_there name [] e = cc
-put_there name (x ∷ xs) e = by (same_text name x.name) refl e
+put_there name (x ∷ xs) e = by (same_text name x.name) refl e (put_there name xs)
   where
     by : (b : Bool) → same_text name x.name ≡ b → (if b then true else has_reader name xs) ≡ true
+        → (has_reader name xs ≡ true → with_reader name nothing_left (readers_found xs) ≡ readers_found xs)
         → (if b then (name, nothing_left) ∷ readers_found xs else (x.name, nothing_left) ∷ with_reader name nothing_left (readers_found xs)) ≡ (x.name, nothing_left) ∷ readers_found xs
-    by true is there = ap (λ n. (n, nothing_left) ∷ readers_found xs) (same_name name x.name is)
-    by false is there = ap (λ (rs : Readers). (x.name, nothing_left) ∷ rs) (put_there name xs there)
+    by true is there rest = ap (λ (n : List ℕ). (n, nothing_left) ∷ readers_found xs) (same_name name x.name is)
+    by false is there rest = ap (λ (rs : Readers). (x.name, nothing_left) ∷ rs) (rest there)
 
 -- and one that is not comes last
 put_last : (name : List ℕ) (xs : List NamedReader) → has_reader name xs ≡ false → with_reader name nothing_left (readers_found xs) ≡ readers_found xs ++ (name, nothing_left) ∷ []
 put_last name [] e = refl
-put_last name (x ∷ xs) e = by (same_text name x.name) refl e
+put_last name (x ∷ xs) e = by (same_text name x.name) e (put_last name xs)
   where
-    by : (b : Bool) → same_text name x.name ≡ b → (if b then true else has_reader name xs) ≡ false
+    by : (b : Bool) → (if b then true else has_reader name xs) ≡ false
+        → (has_reader name xs ≡ false → with_reader name nothing_left (readers_found xs) ≡ readers_found xs ++ (name, nothing_left) ∷ [])
         → (if b then (name, nothing_left) ∷ readers_found xs else (x.name, nothing_left) ∷ with_reader name nothing_left (readers_found xs)) ≡ (x.name, nothing_left) ∷ (readers_found xs ++ (name, nothing_left) ∷ [])
-    by true is there = cc
-    by false is there = ap (λ (rs : Readers). (x.name, nothing_left) ∷ rs) (put_last name xs there)
+    by true missing rest = cc
+    by false missing rest = ap (λ (rs : Readers). (x.name, nothing_left) ∷ rs) (rest missing)
 
 stays_found : (name : List ℕ) (old new : List NamedReader) → has_reader name old ≡ true → map reader_handle new ≡ map reader_handle old
     → with_reader name nothing_left (readers_found old) ≡ readers_found new
@@ -82,7 +85,7 @@ added_found name old new missing h =
 
 -- Whether a name has a reader, by the handles.
 
-names_have : List ℕ → List (List ℕ × ℕ) → Bool
+abbrev names_have : List ℕ → List (List ℕ × ℕ) → Bool
 names_have name [] = false
 names_have name (h ∷ hs) = if same_text name h.0 then true else names_have name hs
 
@@ -92,11 +95,11 @@ by_handles name (x ∷ xs) = ap (λ b. if same_text name x.name then true else b
 
 has_last : (name : List ℕ) (id : ℕ) (hs : List (List ℕ × ℕ)) → names_have name (hs ++ (name, id) ∷ []) ≡ true
 has_last name id [] = ap (λ b. if b then true else false) (name_itself name)
-has_last name id (h ∷ hs) = by (same_text name h.0)
+has_last name id (h ∷ hs) = by (same_text name h.0) (has_last name id hs)
   where
-    by : (b : Bool) → (if b then true else names_have name (hs ++ (name, id) ∷ [])) ≡ true
-    by true = refl
-    by false = has_last name id hs
+    by : (b : Bool) → names_have name (hs ++ (name, id) ∷ []) ≡ true → (if b then true else names_have name (hs ++ (name, id) ∷ [])) ≡ true
+    by true rest = refl
+    by false rest = rest
 
 has_still : (name : List ℕ) (old new : List NamedReader) → has_reader name old ≡ true → map reader_handle new ≡ map reader_handle old → has_reader name new ≡ true
 has_still name old new there same = by_handles name new ∙ ap (names_have name) same ∙ sym (by_handles name old) ∙ there
@@ -117,12 +120,16 @@ abbrev pub at : Inner → Readers → List Entry → Inner
 at base readers finds = record base { readers = readers; finds = Some finds }
 
 module _ (name : List ℕ) (rs : Option ℕ) (base : Inner) (asked : record_separator (special_text Rs base) ≡ rs) (keep : List ℕ → Inner → Result (Inner × InputAnswer) Fault) where
+  abbrev left_unknown : Result (Got × Source) Fault → Result (Got × Source) Fault
+  left_unknown r = r >>= λ got. Ok (got.0, nothing_left)
+
+  abbrev keeps_got : List Entry → Readers → Result (Got × Source) Fault → Result (Inner × InputAnswer) Fault
+  keeps_got later readers r = left_unknown r >>= λ got. got_file keep (at base (with_reader name got.1 readers) later) got.0
+
   gets : (source : Source) (later : List Entry) (readers : Readers) (r : Result (Got × Source) Fault) → first_record rs source ≡ r
-      → read_file keep name nothing_left (at base readers (entry_of source ∷ later))
-      ≡ ((r >>= λ got. Ok (got.0, nothing_left)) >>= λ got. got_file keep (at base (with_reader name got.1 readers) later) got.0)
+      → read_file keep name nothing_left (at base readers (entry_of source ∷ later)) ≡ keeps_got later readers r
   gets source later readers r e =
-      ap (λ q. (first_record q source >>= λ got. Ok (got.0, nothing_left)) >>= λ got. got_file keep (at base (with_reader name got.1 readers) later) got.0) asked
-      ∙ ap (λ x. (x >>= λ got. Ok (got.0, nothing_left)) >>= λ got. got_file keep (at base (with_reader name got.1 readers) later) got.0) e
+      ap (λ (q : Option ℕ). keeps_got later readers (first_record q source)) asked ∙ ap (keeps_got later readers) e
 
   -- what is read is what is found
   reads_found : (source left : Source) (later : List Entry) (readers readers' : Readers) (answer : Result FileNext Stop) → with_reader name nothing_left readers ≡ readers' → Answers rs source answer left
@@ -146,14 +153,18 @@ FindsNamed name rs room source old answer new = (found : List Entry) × ((later 
     → FileGives (open_or_read keep name outside source (at base (readers_found old) (found ++ later))) keep answer (at base (readers_found new) later))
 
 module _ (name : List ℕ) (rs : Option ℕ) (old new : List NamedReader) where
+  -- what was kept, and what was handed over
+  abbrev handed_to : (answer : Result FileNext Stop) → HandsFile name rs old answer new → Source
+  handed_to answer h = left_in (phase_named name old) (kept_named name old) (handed h.bytes (phase_named name new) nothing_left)
+
   -- the file is open
   open_finds : (room : Bool) (answer : Result FileNext Stop) → has_reader name old ≡ true → map reader_handle new ≡ map reader_handle old → (has_reader name new ≡ true → HandsFile name rs old answer new)
       → FindsNamed name rs room (Some nothing_left) old answer new
   open_finds room answer there same hands =
       let h : HandsFile name rs old answer new = hands (has_still name old new there same) in (
-        entry_of _ ∷ [],
+        entry_of (handed_to answer h) ∷ [],
         λ later outside base asked has keep.
-            reads_found name rs base asked keep _ _ later (readers_found old) (readers_found new) answer (stays_found name old new there same) (h.answers nothing_left),
+            reads_found name rs base asked keep (handed_to answer h) _ later (readers_found old) (readers_found new) answer (stays_found name old new there same) (h.answers nothing_left),
       )
 
   -- it is opened, and read
@@ -161,21 +172,23 @@ module _ (name : List ℕ) (rs : Option ℕ) (old new : List NamedReader) where
       → FindsNamed name rs true None old answer new
   added_finds answer missing added hands =
       let h : HandsFile name rs old answer new = hands (has_added name old new added) in (
-        opening ∷ (entry_of _ ∷ []),
+        opening ∷ (entry_of (handed_to answer h) ∷ []),
         λ later outside base asked has keep.
-            gives_later _ _ answer _ (opens name rs base asked keep true outside (readers_found old) _ has)
-            (reads_found name rs base asked keep _ _ later (readers_found old) (readers_found new) answer (added_found name old new missing added) (h.answers nothing_left)),
+            gives_later keep _ _ answer (at base (readers_found new) later)
+            (opens name rs base asked keep true outside (readers_found old) (opening ∷ (entry_of (handed_to answer h) ∷ later)) has)
+            (reads_found name rs base asked keep (handed_to answer h) _ later (readers_found old) (readers_found new) answer (added_found name old new missing added) (h.answers nothing_left)),
       )
     where
-      gives_later : {keep : List ℕ → Inner → Result (Inner × InputAnswer) Fault} (a b : Result (Inner × InputAnswer) Fault) (r : Result FileNext Stop) (i : Inner) → a ≡ b → FileGives b keep r i → FileGives a keep r i
-      gives_later {keep} a b r i e g = subst (λ x. FileGives x keep r i) (sym e) g
+      gives_later : (keep : List ℕ → Inner → Result (Inner × InputAnswer) Fault) (a b : Result (Inner × InputAnswer) Fault) (r : Result FileNext Stop) (i : Inner) → a ≡ b → FileGives b keep r i → FileGives a keep r i
+      gives_later keep a b r i e g = subst (λ (x : Result (Inner × InputAnswer) Fault). FileGives x keep r i) (sym e) g
 
   -- it does not open
   shut_finds : new ≡ old → FindsNamed name rs true None old (Ok file.Failed) new
   shut_finds same = (
     shut ∷ [],
     λ later outside base asked has keep.
-        opens name rs base asked keep true outside (readers_found old) _ has ∙ ap (λ xs. Ok (at base (readers_found xs) later, input.Failed)) (sym same),
+        opens name rs base asked keep true outside (readers_found old) (shut ∷ later) has
+            ∙ ap (λ (xs : List NamedReader). Ok (at base (readers_found xs) later, input.Failed)) (sym same),
   )
 
   starts_finds : (answer : Result FileNext Stop) → has_reader name old ≡ false → StartsReader name old answer new → (has_reader name new ≡ true → HandsFile name rs old answer new)

@@ -23,7 +23,7 @@ use Rattle.host_elements.specs.Forms.{HostForm}
 use Rattle.host_meaning.specs.FormLaws.{trap_typed}
 use Rattle.host_meaning.specs.Findings.{After, Finding, IsFound, View, form_finding, viewed}
 use Rattle.host_meaning.specs.FormMeaning.{AnyhowShown, Begins, FindsSo, FormCalled, FormMeans, StepFinds, StepShown}
-use Rattle.host_meaning.specs.Shown.{SharesBy, Shown, form_with_output}
+use Rattle.host_meaning.specs.Shown.{SharesBy, SharesTables, Shown, form_with_output}
 use Rattle.host_meaning.specs.TableCalls.{Fits, TableCalls, answer_of_call, left_by_call}
 use Rattle.host_meaning.proofs.Showing.{shares_self, shares_tables, shown_fault, shown_outside}
 

@@ -8,7 +8,7 @@ use Rattle.awk_values.specs.declared.fault.Stop.{Stop}
 use Rattle.awk_values.specs.declared.fault.Stop.TheVariants.{Fault as IsFault, NoMemory as OutOfMemory}
 use Rattle.world_core.specs.declared.world.WorldFault.{WorldFault}
 use Rattle.world_core.specs.declared.world.WorldFault.TheVariants.{Failed, NoMemory}
-use Rattle.world_core.specs.WorldState.{Action, Named, Open, Outside, State, Target, after, free, puts}
+use Rattle.world_core.specs.WorldState.{Named, Open, Outside, State, Target, after, free, puts}
 use Rattle.world_core.specs.Calls.{Does, Fits, OpensWriter, Writes}
 use Rattle.sem_primitives.specs.Finds.{seen}
 use Rattle.sem_primitives.specs.SharedState.{Does as Doing, Shared}

@@ -173,31 +173,31 @@ skip_finds old new text nothing live some none is = λ later outside inner.
     ∙ ap (λ m. main_input outside (with_main m (found_in later inner))) (sym at)
     ∙ ap (λ n. main_input outside (main_finding later n inner)) (sym is)
 
-pub found_later : (given later : Result (Inner × Main) Fault) (r : Result (Option MainNext) Stop) (outside : Outside) (new : Inner) → given ≡ later → StepFound later r outside new → StepFound given r outside new
-found_later given later r outside new e h = subst (λ (x : Result (Inner × Main) Fault). StepFound x r outside new) (sym e) h
+pub found_later : (wanted later : Result (Inner × Main) Fault) (r : Result (Option MainNext) Stop) (outside : Outside) (new : Inner) → wanted ≡ later → StepFound later r outside new → StepFound wanted r outside new
+found_later wanted later r outside new e h = subst (λ (x : Result (Inner × Main) Fault). StepFound x r outside new) (sym e) h
 
 -- a step that gave nothing, and then more
-pub found_since : (outside : Outside) (given : Result (Inner × Main) Fault) (new : Inner) {o : Option MainNext} → o ≡ None → StepFound given (Ok o) outside new → given ≡ main_input outside new
-found_since outside given new e h = subst (λ x. StepFound given (Ok x) outside new) e h
+pub found_since : (outside : Outside) (wanted : Result (Inner × Main) Fault) (new : Inner) {o : Option MainNext} → o ≡ None → StepFound wanted (Ok o) outside new → wanted ≡ main_input outside new
+found_since outside wanted new e h = subst (λ x. StepFound wanted (Ok x) outside new) e h
 
 -- ARGC is no number
-pub number_found : (given : Result (Inner × Main) Fault) (fault : Fault) (new : Inner) → IsOfNumber fault → given ≡ Err fault → FaultFound given fault new
-number_found given fault new (inl e) is = subst (λ (x : Fault). FaultFound given x new) (sym e) (is ∙ ap (λ x. Err x) e)
-number_found given fault new (inr e) is = subst (λ (x : Fault). FaultFound given x new) (sym e) (is ∙ ap (λ x. Err x) e)
+pub number_found : (wanted : Result (Inner × Main) Fault) (fault : Fault) (new : Inner) → IsOfNumber fault → wanted ≡ Err fault → FaultFound wanted fault new
+number_found wanted fault new (inl e) is = subst (λ (x : Fault). FaultFound wanted x new) (sym e) (is ∙ ap (λ x. Err x) e)
+number_found wanted fault new (inr e) is = subst (λ (x : Fault). FaultFound wanted x new) (sym e) (is ∙ ap (λ x. Err x) e)
 
 -- what follows the operands takes nothing of what is found
 pub follow_finds : (outside : Outside) (m : MainInput) (answer : Result (Option MainNext) Stop) (new : Mains) (inner : Inner) (later : List Entry) (f g : Found) → FollowsAll f answer g
     → ((finds : List Entry) → main_input outside (with_main m (found_in finds inner)) ≡ follows m.operands (with_main m (found_in finds inner)))
     → StepFound (follows m.operands (with_main m (found_in later inner))) answer outside (main_finding later new inner)
     → StepFound (main_input outside (with_main m (found_in (found_by_operand answer new.reading ++ later) inner))) answer outside (main_finding later new inner)
-follow_finds outside m (Ok None) new inner later f g h given is = absurd h
-follow_finds outside m (Ok (Some (main.Record text))) new inner later f g h given is = absurd h
-follow_finds outside m (Ok (Some (main.Assign name text))) new inner later f g h given is = absurd h
-follow_finds outside m (Ok (Some (main.Opened name))) new inner later f g h given is =
-    ap (λ (n : List ℕ). main_input outside (with_main m (found_in (found_by_name n new.reading ++ later) inner))) h.0 ∙ given later ∙ is
-follow_finds outside m (Ok (Some main.End)) new inner later f g h given is = given later ∙ is
-follow_finds outside m (Err (IsFault fault)) new inner later f g h given is = absurd h
-follow_finds outside m (Err NoMemory) new inner later f g h given is = tt
+follow_finds outside m (Ok None) new inner later f g h reaches is = absurd h
+follow_finds outside m (Ok (Some (main.Record text))) new inner later f g h reaches is = absurd h
+follow_finds outside m (Ok (Some (main.Assign name text))) new inner later f g h reaches is = absurd h
+follow_finds outside m (Ok (Some (main.Opened name))) new inner later f g h reaches is =
+    ap (λ (n : List ℕ). main_input outside (with_main m (found_in (found_by_name n new.reading ++ later) inner))) h.0 ∙ reaches later ∙ is
+follow_finds outside m (Ok (Some main.End)) new inner later f g h reaches is = reaches later ∙ is
+follow_finds outside m (Err (IsFault fault)) new inner later f g h reaches is = absurd h
+follow_finds outside m (Err NoMemory) new inner later f g h reaches is = tt
 
 -- Some steps that gave nothing, and then one more.
 abbrev pub FoundSoFar : Option ℕ → Value → (ℕ → List ℕ) → Mains → Mains → Type 0

@@ -1,5 +1,5 @@
 -- The rest of what is being read is given up.
-use Rattle.std.proofs.Common.{◌≡◌, ◌≢◌, List, [], ℕ, Some, None, refl, sym, ap, subst, ◌∙◌}
+use Rattle.std.proofs.Common.{◌≡◌, ◌≢◌, List, [], ℕ, refl, sym, ap, subst, ◌∙◌}
 use Rattle.world_core.specs.declared.world.Ending.TheVariants.{End}
 use Rattle.world_core.specs.WorldState.{Source, State}
 use Rattle.sem_primitives.specs.InputMeaning.{gives_up, next_file_row}

@@ -54,7 +54,7 @@ pub returns-in-Ok-Some-clause-finds : goal.returns-in-Ok-Some-clause-finds
 returns-in-Ok-Some-clause-finds g c =
     subst (λ (rs : Option ℕ). FindsStep rs c.args.argc.now (g.O.Operands.text c.args.operands.now) c.args.self.now (Ok (Some c.in-Ok-Some.answer)) c.step.new.self) c.first_byte-separator.ensures
     (finds_since _ c.args.argc.now (g.O.Operands.text c.args.operands.now) c.args.self.now c.steps.self c.step.new.self (Ok (Some c.in-Ok-Some.answer)) c.steps.invariant.finds
-    (subst (λ (o : Option MainNext). FindsStep _ c.args.argc.now (g.O.Operands.text c.args.operands.now) c.steps.self (Ok o) c.step.new.self) c.in-Ok-Some.field-0-is c.in-Ok-Some.ensures.finds))
+    (subst (λ (o : Option MainNext). FindsStep c.first_byte-separator.result c.args.argc.now (g.O.Operands.text c.args.operands.now) c.steps.self (Ok o) c.step.new.self) c.in-Ok-Some.field-0-is c.in-Ok-Some.ensures.finds))
 
 pub returns-in-Err-clause-passes : goal.returns-in-Err-clause-passes
 returns-in-Err-clause-passes g c =
