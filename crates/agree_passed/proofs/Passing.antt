@@ -36,7 +36,7 @@ use Rattle.agree_refined.proofs.Links.{linked, program, program_is, stays}
 use Rattle.agree_refined.proofs.Stepping.{step_as}
 use Rattle.agree_modules.specs.ValueAgreement.{IsOver, AgreesWith}
 use Rattle.agree_modules.proofs.Agreeing.{agreement_with}
-use Rattle.agree_modules.proofs.Growing.{shows_put, put_at}
+use Rattle.agree_modules.proofs.Growing.{shows_put}
 use Rattle.agree_passed.specs.Passed.{Probe, no_probe, ProbedRun, ProbedSteps, Passes, probed_at, probed_run, notes_of}
 use Rattle.agree_passed.proofs.Probed.{looking_alike, probed_steps, run_alike}
 

@@ -1,5 +1,5 @@
 -- A run of a module with a probe is one of the machine over values with notes.
-use Rattle.std.proofs.Common.{◌≡◌, ℕ, zero, suc, Bool, true, false, List, [], ◌∷◌, ◌++◌, Some, None, Option, refl, sym, ap, ap₂, subst, ◌∙◌, append-nil}
+use Rattle.std.proofs.Common.{◌≡◌, ℕ, zero, suc, Bool, List, [], ◌∷◌, ◌++◌, Some, None, refl, sym, ap, ap₂, subst, ◌∙◌, append-nil}
 use Rattle.world_core.specs.WorldState.{Action}
 use Rattle.wasm_types.specs.Syntax.{Instruction, Plain, BrTable, Block, Loop, If, Instructions, Done, Then}
 use Rattle.wasm_types.specs.declared.types.ValType.TheVariants as ty
@@ -7,7 +7,7 @@ use Rattle.wasm_types.specs.declared.instr.Simple.{Simple}
 use Rattle.wasm_types.specs.declared.instr.Simple.TheVariants as simple
 use Rattle.wasm_store.specs.Memories.{MemoryForm}
 use Rattle.wasm_model.specs.Frames.{settled_code, settled_values}
-use Rattle.wasm_model.specs.Machines.{Goes, Ends, Asks, ProgramForm, Turn, turn}
+use Rattle.wasm_model.specs.Machines.{Goes, Ends, Asks, Turn, turn}
 use Rattle.wasm_model.specs.Machines as real
 use Rattle.wasm_model.specs.Runs.{TakenAs}
 use Rattle.wasm_model.specs.declared.host.HostAnswer.TheVariants as told
@@ -19,7 +19,7 @@ use Rattle.lower_model.specs.Cells.{Cell}
 use Rattle.lower_model.specs.Machine.{Code, Conf, Run, Look, Over, Deep, Stuck, Frame, Label, Store, act, go, leave, noted, run, run_looking, step, work}
 use Rattle.lower_model.specs.Modules.{called_imports, renumbered}
 use Rattle.lower_model.specs.Runs.{code_of, noting_code}
-use Rattle.agree_refined.specs.Refined.{As, CodeAs, LookAs, RestAs, RunAs, table_meaning}
+use Rattle.agree_refined.specs.Refined.{As, LookAs, RestAs, RunAs, table_meaning}
 use Rattle.agree_refined.proofs.Growing.{arrays_grow}
 use Rattle.agree_refined.proofs.Links.{linked, program, stays}
 use Rattle.agree_refined.proofs.Running.{left_turn, taken_as}

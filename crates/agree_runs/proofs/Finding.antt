@@ -31,19 +31,19 @@ use Rattle.agree_runs.proofs.Following.{means_called, table_refused}
 use Rattle.agree_runs.proofs.Outsides.{after_both}
 
 -- From a state that one form shows to one that another shows there is a run of this kind, with this output; then these are found later.
-record FindsTo (f1 : HostForm) (Runs : HostState → List Action → HostState → Type 0) (output : List Action) (s : HostState) (later : List Entry)
+pub record FindsTo (f1 : HostForm) (Runs : HostState → List Action → HostState → Type 0) (output : List Action) (s : HostState) (later : List Entry)
     (outside : Outside) (so_far : List Action) : Type 0 where
-  rest : List Entry
-  left : IsFound f1.fault [] later rest
-  state : HostState
-  shown : Shown (form_finding rest (outside_after output outside) (so_far ++ output) f1) state
-  runs : Runs s output state
+  pub rest : List Entry
+  pub left : IsFound f1.fault [] later rest
+  pub state : HostState
+  pub shown : Shown (form_finding rest (outside_after output outside) (so_far ++ output) f1) state
+  pub runs : Runs s output state
 
 -- What is found on the way, and put out, whatever is found after it: there is such a run from every state that is shown then.
-record Finds (f f1 : HostForm) (Runs : HostState → List Action → HostState → Type 0) : Type 0 where
-  found : List Entry
-  output : List Action
-  leads : (finds later : List Entry) → IsFound f.fault found later finds → (outside : Outside) (so_far : List Action) (s : HostState)
+pub record Finds (f f1 : HostForm) (Runs : HostState → List Action → HostState → Type 0) : Type 0 where
+  pub found : List Entry
+  pub output : List Action
+  pub leads : (finds later : List Entry) → IsFound f.fault found later finds → (outside : Outside) (so_far : List Action) (s : HostState)
       → Shown (form_finding finds outside so_far f) s → FindsTo f1 Runs output s later outside so_far
 
 -- One after the other.
@@ -222,7 +222,7 @@ all_found : (o : Option Fault) (found : List Entry) → IsFound o found [] (foun
 all_found None found = refl
 all_found (Some f) found = tt
 
-nowhere : Outside
+abbrev nowhere : Outside
 nowhere = λ target. absent
 
 finding_by : (finds : List Entry) (o : Option Fault) (form f : HostForm) → SharesBy o form f

@@ -21,7 +21,7 @@ use Rattle.agree_refined.specs.Refined.{table_meaning}
 abbrev pub Makes : HostState → List Action → HostState → Type 0
 Makes s output s1 = s1.shared.outside ≡ after output s.shared.outside
 
-after_both : (a b : List Action) (o : Outside) → after (a ++ b) o ≡ after b (after a o)
+pub after_both : (a b : List Action) (o : Outside) → after (a ++ b) o ≡ after b (after a o)
 after_both [] b o = refl
 after_both (x ∷ a) b o = after_both a b (step x o)
 

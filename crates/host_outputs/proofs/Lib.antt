@@ -4,7 +4,7 @@ pub mod Puts
 pub mod Names
 pub mod Steps
 pub mod Worlds
-pub mod Outsides
+pub mod Found
 pub mod Texts
 pub mod Faults
 pub mod Tables

@@ -2,10 +2,9 @@
 ghost use Rattle.std.specs.Prelude.{◌≡◌, List, [], ℕ, None};
 ghost use Rattle.std.specs.FinMap as map;
 ghost use Rattle.sem_primitives.specs.declared.table.Primitive.TheVariants as row;
-ghost use Rattle.host_imports.specs.Codes.{stream_code};
 ghost use Rattle.host_imports.specs.declared.import.Import.{Import};
 ghost use Rattle.host_elements.specs.Forms.{HostForm};
-ghost use Rattle.host_streams.specs.OpenFiles.{HoldsOpen, OthersKeep, OthersStay, WritersGo, readers_beside};
+ghost use Rattle.host_streams.specs.OpenFiles.{HoldsOpen, OthersKeep, OthersStay, WritersGo};
 ghost use Rattle.host_values.specs.Calls.{spare};
 ghost use Rattle.host_meaning.specs.WorldCalls.{IsCalled};
 ghost use Rattle.host_outputs.specs.Forms.{closing, closed_code};

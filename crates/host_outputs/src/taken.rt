@@ -1,11 +1,10 @@
 //! What a call takes of the argument list.
-ghost use Rattle.std.specs.Prelude.{◌≡◌, ◌≤◌, ◌&&◌, IfOk, length, nat_le};
+ghost use Rattle.std.specs.Prelude.{◌≡◌, ◌≤◌, IfOk, length};
 ghost use Rattle.sem_primitives.specs.Constants.{destination_at};
 ghost use Rattle.sem_primitives.specs.InTurn.{with_name};
 ghost use Rattle.sem_primitives.specs.OutputMeaning.{but_last, operands_of};
 ghost use Rattle.sem_primitives.specs.declared.sorts.Constant.{Constant};
 ghost use Rattle.host_step.specs.Arguments.{constant_front};
-ghost use Rattle.host_step.specs.HostStep.{last_of};
 ghost use Rattle.host_values.specs.Fronts.{owned};
 ghost use Rattle.host_outputs.specs.Lists.{enough, listed, listing_words};
 

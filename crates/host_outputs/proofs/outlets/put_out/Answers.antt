@@ -2,7 +2,7 @@ use Rattle.std.proofs.Common.{false, true, subst, ◌∙◌}
 use Rattle.sem_primitives.specs.OutputMeaning.{put_text}
 use Rattle.sem_primitives.specs.declared.constants.Destination.TheVariants as destination
 use Rattle.host_outputs.specs.Calls.{Could}
-use Rattle.host_outputs.proofs.Outsides.{file_could, standard_could}
+use Rattle.host_outputs.proofs.Found.{file_could, standard_could}
 use Rattle.host_outputs.proofs.outlets.put_out.Goals as goal
 
 pub returns-in-Standard-clause-anyhow : goal.returns-in-Standard-clause-anyhow

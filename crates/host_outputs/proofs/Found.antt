@@ -1,5 +1,5 @@
 -- However putting a text ends, something may be found where the definition says so.
-use Rattle.std.proofs.Common.{◌≡◌, ℕ, ◌<◌, ◌+◌, nat_le, nat_lt, Bool, true, false, cond, List, [], ◌∷◌, ◌++◌, length, Option, Some, None, Result, Ok, Err, OnErr, OnOk, take, refl, sym, ap, ◌∙◌, subst, arith}
+use Rattle.std.proofs.Common.{◌≡◌, ℕ, ◌<◌, ◌+◌, nat_le, nat_lt, Bool, true, false, cond, List, [], ◌∷◌, ◌++◌, length, Some, Result, Ok, Err, OnErr, OnOk, take, refl, sym, ap, ◌∙◌, subst, arith}
 use Rattle.std.proofs.lemmas.Bool.Decides.{nat_tests}
 use Rattle.std.proofs.lemmas.List.{length-map}
 use Rattle.awk_values.specs.declared.fault.Fault.{Fault}
@@ -9,7 +9,7 @@ use Rattle.awk_values.specs.declared.fault.Stop.TheVariants as stop
 use Rattle.sem_primitives.specs.Finds.{finds_by, looked_by, seen}
 use Rattle.sem_primitives.specs.OutputMeaning.{all_fits, has_room, is_writing, kept_open, opened_if, write_answer, written, written_by}
 use Rattle.sem_primitives.specs.SharedState.{Inner, Shared}
-use Rattle.world_core.specs.WorldState.{Action, Entry, Named, Open, Standard, Target, absent, puts}
+use Rattle.world_core.specs.WorldState.{Entry, Named, Open, Standard, Target, absent, puts}
 use Rattle.host_streams.specs.OpenFiles as files
 use Rattle.host_streams.specs.OpenFiles.{names_of}
 use Rattle.host_streams.specs.Outputs.{with_writer}
