@@ -21,7 +21,7 @@ use Rattle.mid_program.specs.declared.mid.Operation.{Operation}
 use Rattle.mid_program.specs.declared.mid.Operation.TheVariants.{Host}
 use Rattle.mid_program.specs.Mid.{Kind, Boxed, Unboxed, Many, Code, Codes, End, At, Fixed, Fresh, arguments, form_of, parameters_at}
 use Rattle.lower_model.specs.Places.{Bases, array_local, made_in}
-use Rattle.lower_model.specs.Small.{ask, ask_row, does, h, kept, kept_code, kept_value, minus_one, moved_out, n, number_is, to_value, converted, when}
+use Rattle.lower_model.specs.Small.{ask, ask_row, does, h, kept, kept_code, answer_kept, minus_one, moved_out, n, number_is, to_value, converted, when}
 use Rattle.lower_model.specs.Emission.{Layout, all_pushed, emitted, text_kept, text_let_go, assigned, function_number, global_handle, global_number, listed_asked, one_given, pending_assigned, performed, text_dropped}
 use Rattle.host_imports.specs.declared.import.Import.TheVariants.{Arg, Drop, FreeArray}
 
@@ -133,7 +133,7 @@ passed_with layout forms kinds es t w after = given_with layout.bases forms kind
 
 -- a function is entered, and its answer kept
 abbrev pub entered : Bases → ℕ → ℕ → ℕ → Instructions → Instructions
-entered bases f t d after = does (CallOf (function_number f)) (kept_value bases true t d after)
+entered bases f t d after = does (CallOf (function_number f)) (answer_kept bases t d after)
 
 -- a call whose operands, of these forms, are evaluated
 abbrev pub called_with : Layout → List plain.Form → ℕ → Codes → ℕ → ℕ → ℕ → Instructions → Instructions

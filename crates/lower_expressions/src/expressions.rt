@@ -211,7 +211,7 @@ fn call(
     let mut forms = Vec::new(y.alloc);
     operands(y, kept, out, &mut forms, es, at)?;
     called(y, out, &forms, function, es, at)?;
-    Ok(Form::Answered(Answer::Of(Sort::Value)))
+    Ok(Form::Bare)
 }
 
 /// Adds a comparison.

@@ -31,7 +31,7 @@ use Rattle.mid_program.specs.Mid.{Kind, Boxed, Unboxed, Many, Slot, Global, Para
 use Rattle.mid_program.specs.Sorted.{count_of}
 use Rattle.host_imports.specs.Imports.{import_count}
 use Rattle.lower_model.specs.Places.{Bases, place_of, array_local, array_name, range_global, handle_global, number_global, made_in}
-use Rattle.lower_model.specs.Small.{does, ask, ask_row, when, either, minus_one, least, text_beside, moved_out, let_go, copied, number_is, h, n, kept, kept_code, kept_value, boxed_number, boxed_perhaps, to_value, converted, code_number, truth, unused, released, moved_from, bound_from}
+use Rattle.lower_model.specs.Small.{does, ask, ask_row, when, either, minus_one, least, text_beside, moved_out, let_go, copied, number_is, h, n, kept, kept_code, kept_value, answer_kept, boxed_number, boxed_perhaps, to_value, converted, code_number, truth, unused, released, moved_from, bound_from}
 use Rattle.lower_model.specs.Arithmetic.{calculated, field_checked, compared, is_value}
 use Rattle.host_imports.specs.declared.import.Listing.TheVariants as listing
 use Rattle.host_imports.specs.declared.import.Import.TheVariants.{Over as OverLast, Arg, Drop, FreeArray}
@@ -310,7 +310,7 @@ module _ (y : Layout) where
     emitted v fs ts (Call f es) t w d k =
         let ks = parameters_at y.calls f in
         all_emitted fs ts es t w d (all_given fs ks es t (all_given_pushed ks es t w
-        (does (CallOf (function_number f)) (kept_value b true t d (all_freed w (made_in es) k)))))
+        (does (CallOf (function_number f)) (answer_kept b t d (all_freed w (made_in es) k)))))
     emitted v fs ts Ask t w d k = asked row.Getline t d (code_number b t k)
     emitted v fs ts (AskLine s) t w d k =
         asked row.GetlineVar t d (number_is (n b t) 1

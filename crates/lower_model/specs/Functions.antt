@@ -1,5 +1,6 @@
 -- What the code of a program is emitted for, and its functions.
 use Rattle.std.specs.Prelude.{ℕ, zero, max, List, [], ◌++◌}
+use Rattle.wasm_types.specs.declared.types.ValType.TheVariants.{I32, I64}
 use Rattle.mid_program.specs.Mid.{Routine, Program}
 use Rattle.mid_program.specs.Sorted.{kinds_of, calls_of, announced_names}
 use Rattle.lower_model.specs.Machine.{Callee}
@@ -30,9 +31,10 @@ abbrev pub routine_callee : Program → Routine → Callee
 routine_callee p r = record {
   kinds = r.parameters;
   locals = local_types (routine_bases r);
+  answer = I64;
   body = routine_body
       (layout_of p (routine_bases r)) r.parameters r.body;
 }
 
 abbrev pub main_callee : Program → Callee
-main_callee p = record { kinds = []; locals = local_types (main_bases p); body = main_body (layout_of p (main_bases p)) p }
+main_callee p = record { kinds = []; locals = local_types (main_bases p); answer = I32; body = main_body (layout_of p (main_bases p)) p }

@@ -84,7 +84,7 @@ abbrev mutual
 -- Types: of the imports, of the functions, each with a type of its own.
 
 abbrev pub callee_type : Callee → Signature
-callee_type f = record { params = map kind_type f.kinds; result = Some I32 }
+callee_type f = record { params = map kind_type f.kinds; result = Some f.answer }
 
 abbrev pub imported_from : ℕ → List Import → List ImportForm
 imported_from n [] = []

@@ -25,6 +25,10 @@ way_global = 0
 abbrev pub status_global : ℕ
 status_global = 1
 
+-- how a function is left by a fault, or by `return`; where a text is returned its handle waits in this global
+abbrev pub way_none : ℕ
+way_none = 0
+
 abbrev pub range_global : ℕ → ℕ
 range_global i = suc (suc i)
 
@@ -78,7 +82,7 @@ handle_types zero = []
 handle_types (suc n) = I32 ∷ handle_types n
 
 abbrev pub local_types : Bases → List ValType
-local_types b = I32 ∷ (temporary_types b.temporaries ++ (handle_types b.iterators ++ handle_types b.arrays))
+local_types b = I64 ∷ (temporary_types b.temporaries ++ (handle_types b.iterators ++ handle_types b.arrays))
 
 -- Temporaries: of code whose value goes into the first of them.
 

@@ -8,6 +8,8 @@ use Rattle.sem_primitives.specs.Constants.{flag_number, kind_number, special_num
 use Rattle.sem_primitives.specs.declared.constants.NameKind.{NameKind}
 use Rattle.sem_primitives.specs.declared.constants.NameKind.TheVariants.{Scalar, ArrayOrFunction}
 use Rattle.sem_primitives.specs.declared.constants.Special.TheVariants.{Nf}
+use Rattle.sem_primitives.specs.declared.sorts.Sort.TheVariants as sort
+use Rattle.sem_primitives.specs.declared.sorts.Answer.TheVariants as answer
 use Rattle.sem_primitives.specs.declared.table.Primitive.TheVariants as row
 use Rattle.wasm_types.specs.Syntax.{Block, Loop as Again, Instructions, Done, Then}
 use Rattle.wasm_types.specs.declared.types.ValType.TheVariants.{I32, I64}
@@ -19,9 +21,9 @@ use Rattle.wasm_types.specs.declared.instr.IRelOp.TheVariants.{Eq, GtU, LeS, Ne}
 use Rattle.wasm_types.specs.declared.instr.ITestOp.TheVariants.{Eqz}
 use Rattle.wasm_types.specs.declared.instr.CvtOp.TheVariants.{I32WrapI64}
 use Rattle.sem_scripts.specs.Names.{ArrayName}
-use Rattle.mid_program.specs.Mid.{Kind, Boxed, Unboxed, Many, Code, Step, Eval, Block as Steps_, If as Either, Loop, Each, Break, Continue, Next, Exit, ExitWith, Return, Mark, Steps, NoStep, Then as AndThen, Program, a_value, form_of}
-use Rattle.lower_model.specs.Places.{Bases, way_global, status_global, range_global, handle_global, number_global, answer_local, iterator_local, array_local}
-use Rattle.lower_model.specs.Small.{does, ask, ask_row, when, either, end_code, text_beside, copied, moved_out, emptied, let_go, fail_if, number_is, h, n, kept_code, kept_number, kept_done, to_value, number_of_value, to_number}
+use Rattle.mid_program.specs.Mid.{Kind, Boxed, Unboxed, Many, Code, Choose, Form, Answered, Bare, Perhaps, Step, Eval, Block as Steps_, If as Either, Loop, Each, Break, Continue, Next, Exit, ExitWith, Return, Mark, Steps, NoStep, Then as AndThen, Program, a_value, form_of}
+use Rattle.lower_model.specs.Places.{Bases, way_global, way_none, status_global, range_global, handle_global, number_global, answer_local, iterator_local, array_local}
+use Rattle.lower_model.specs.Small.{does, ask, ask_row, when, either, end_code, text_beside, copied, moved_out, emptied, let_go, fail_if, number_is, least, was_left, h, n, kept_code, kept_number, kept_done, to_value, number_of_value, to_number}
 use Rattle.lower_model.specs.Quick.{Within, unsure, test_within, Source, Named, Constant, all_unsure, Sum, sum_names, sum_op, sum_in, Update, update_in, Tally, tally_in, Remainder, remainder_in, remainder_names, most_multiplied, multiplied, Counted, counted_in, Pair, pair_names, pair_in, contrary, step_jumps, is_nothing}
 use Rattle.lower_model.specs.Arithmetic.{relation}
 use Rattle.lower_model.specs.Emission.{Layout, array_pushed, text_pushed, pending_assigned, asked, text_dropped, field_at, emitted, dropped, tested}
@@ -33,10 +35,7 @@ block a k = Then (Block None a) k
 abbrev pub again : Instructions → Instructions → Instructions
 again a k = Then (Again None a) k
 
--- how a function is being left: by a fault, or `return`; by `next`; by `exit`
-abbrev pub way_none : ℕ
-way_none = 0
-
+-- how a function is being left: by a fault, or `return` (`way_none`); by `next`; by `exit`
 abbrev pub way_next : ℕ
 way_next = 1
 
@@ -205,6 +204,31 @@ module _ (y : Layout) where
   left_unless (Some q) e d out k =
       unsure (name_read q.name) q.shift q.width (when (tested y [] [] e zero zero (suc d) (does (Test I32 Eqz) (does (BrIf (suc out)) Done))) k)
 
+  -- `return`: what temporary 0 has is the answer. A text waits in a global. Nothing but iterators is held then, so the exit is one label further out
+  -- than that for faults.
+
+  abbrev pub word_given : ℕ → Instructions → Instructions
+  word_given d k = does (LocalGet (n b zero)) (does (LocalSet (answer_local b)) (does (Br (suc d)) k))
+
+  abbrev pub text_given : Instructions → Instructions
+  text_given k = moved_out (h b zero) (does (GlobalSet way_global) k)
+
+  abbrev pub constant_given : ℕ → ℕ → Instructions → Instructions
+  constant_given word out k = does (I64Const word) (does (LocalSet (answer_local b)) (does (Br out) k))
+
+  abbrev pub answer_given : Form → ℕ → Instructions → Instructions
+  answer_given (Answered (answer.Of sort.Value)) d k = text_given (constant_given text_beside (suc d) k)
+  answer_given (Answered (answer.Of sort.Number)) d k = word_given d k
+  answer_given (Answered answer.Truth) d k = word_given d k
+  answer_given Bare d k = number_is (n b zero) text_beside (when (text_given Done) (word_given d k))
+  answer_given Perhaps d k = word_given d k
+  answer_given f d k = constant_given least (suc d) k
+
+  -- what is chosen is returned where it is chosen
+  abbrev pub returned : Code → ℕ → Instructions → Instructions
+  returned (Choose sort.Value e a c) d k = tested y [] [] e zero zero d (either (returned a (suc d) Done) (returned c (suc d) Done) k)
+  returned e d k = emitted y false [] [] e zero zero d (answer_given (form_of [] e) d k)
+
   -- Steps: u iterators are in use; so many labels are between the code and the function's exit, the place where `break` goes, and the one where
   -- `continue` goes.
   unfoldable mutual
@@ -234,9 +258,7 @@ module _ (y : Layout) where
     step_emitted (ExitWith e) u d bk ct k =
         does Nop (emitted y false [] [] e zero zero d (to_number b (form_of [] e) zero d
         (does (LocalGet (n b zero)) (does (GlobalSet status_global) (left_by way_exit d k)))))
-    step_emitted (Return e) u d bk ct k =
-        does Nop (emitted y false [] [] e zero zero d (to_value b (form_of [] e) zero
-        (moved_out (h b zero) (does (LocalSet (answer_local b)) (does (Br d) k)))))
+    step_emitted (Return e) u d bk ct k = does Nop (returned e d k)
     step_emitted (Mark i c) u d bk ct k = does Nop (does (I32Const (flag_number c)) (does (GlobalSet (range_global i)) k))
 
     pub steps_emitted : Steps → (u d bk ct : ℕ) → Instructions → Instructions
@@ -258,7 +280,7 @@ module _ (y : Layout) where
   arrays_emptied w (suc m) k = emptied (array_local b w) (arrays_emptied (suc w) m k)
 
   abbrev pub all_emptied : Instructions → Instructions
-  all_emptied k = emptied (answer_local b) (temporaries_emptied zero b.temporaries (iterators_emptied zero b.iterators (arrays_emptied zero b.arrays k)))
+  all_emptied k = does (I64Const was_left) (does (LocalSet (answer_local b)) (temporaries_emptied zero b.temporaries (iterators_emptied zero b.iterators (arrays_emptied zero b.arrays k))))
 
   abbrev pub temporaries_swept : ℕ → ℕ → Instructions → Instructions
   temporaries_swept t zero k = k
@@ -275,6 +297,10 @@ module _ (y : Layout) where
   abbrev pub swept : Instructions → Instructions
   swept k = temporaries_swept zero b.temporaries (iterators_swept zero b.iterators (arrays_swept zero b.arrays k))
 
+  -- temporaries and arrays of calls
+  abbrev pub operands_swept : Instructions → Instructions
+  operands_swept k = temporaries_swept zero b.temporaries (arrays_swept zero b.arrays k)
+
   -- the values of parameters; numbers and arrays of the caller's are not the function's to drop
   abbrev pub parameters_dropped : ℕ → List Kind → Instructions → Instructions
   parameters_dropped x [] k = k
@@ -282,11 +308,16 @@ module _ (y : Layout) where
   parameters_dropped x (Unboxed ∷ ks) k = parameters_dropped (suc x) ks k
   parameters_dropped x (Many ∷ ks) k = parameters_dropped (suc x) ks k
 
-  -- A function that ends without `return` gives the uninitialised value. The block is its exit.
+  -- A function that ends without `return` answers nothing. The inner block is the exit of one that is left, the outer one that of `return`.
+  abbrev pub routine_ended : Instructions
+  routine_ended = constant_given least 1 Done
+
+  abbrev pub routine_exit : List Kind → Instructions
+  routine_exit ks = iterators_swept zero b.iterators (parameters_dropped zero ks (does (LocalGet (answer_local b)) Done))
+
   abbrev pub routine_body : List Kind → Steps → Instructions
   routine_body ks body =
-      all_emptied (block (steps_emitted body zero zero zero zero (ask_row row.Uninit (does (LocalSet (answer_local b)) Done)))
-      (swept (parameters_dropped zero ks (does (LocalGet (answer_local b)) Done))))
+      all_emptied (block (block (steps_emitted body zero zero zero zero routine_ended) (operands_swept Done)) (routine_exit ks))
 
   -- `main`.
 

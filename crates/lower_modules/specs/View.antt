@@ -6,7 +6,7 @@ use Rattle.lower_model.specs.Machine.{Callee}
 use Rattle.lower_modules.specs.declared.function.Function.{Function}
 
 abbrev pub view_function : Function → Callee
-view_function f = record { kinds = map view_kind f.kinds.items; locals = f.locals.items; body = views f.body.items }
+view_function f = record { kinds = map view_kind f.kinds.items; locals = f.locals.items; answer = f.answer; body = views f.body.items }
 
 abbrev pub view_functions : List Function → List Callee
 view_functions fs = map view_function fs

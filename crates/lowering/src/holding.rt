@@ -1,6 +1,6 @@
 //! What a function holds: emptied at its beginning, and let go on every way out.
 ghost use Rattle.std.specs.Prelude.{◌≡◌, ◌≤◌, OnOk};
-ghost use Rattle.lower_model.specs.Statements.{all_emptied, has_functions, left_swept, swept};
+ghost use Rattle.lower_model.specs.Statements.{all_emptied, has_functions, iterators_swept, left_swept, operands_swept, swept};
 ghost use Rattle.lower_pieces.specs.Bounds.{most_places};
 ghost use Rattle.lower_pieces.specs.Emits.{Emits};
 ghost use Rattle.lower_expressions.specs.View.{view_layout};
@@ -8,9 +8,9 @@ ghost use Rattle.lowering.specs.Holding.{held_count, held_emptied, held_import, 
 
 use host_imports::Import;
 use lower_expressions::FunctionLayout;
-use lower_pieces::{Bases, emptied, let_go};
+use lower_pieces::{Bases, WAS_LEFT, does_all, emptied, let_go};
 use std::alloc::AllocError;
-use wasm_types::Instr;
+use wasm_types::{Instr, Simple};
 
 /// What a function holds beside its answer.
 #[derive(Clone, Copy, Debug, Drop)]
@@ -71,7 +71,7 @@ fn held_emptied(b: &Bases, out: &mut Vec<Instr>, held: Held) -> Result<(), Alloc
 pub(crate) fn all_emptied(y: &FunctionLayout<'_>, out: &mut Vec<Instr>) -> Result<(), AllocError>
     ensures { OnOk result (Emits out.old.items out.new.items (all_emptied (view_layout y.now))) }
 {
-    emptied(out, y.bases.answer())?;
+    does_all(out, &[Simple::I64Const(WAS_LEFT), Simple::LocalSet(y.bases.answer())])?;
     held_emptied(y.bases, out, Held::Temporaries)?;
     held_emptied(y.bases, out, Held::Iterators)?;
     held_emptied(y.bases, out, Held::Arrays)
@@ -97,6 +97,28 @@ pub(crate) fn swept(y: &FunctionLayout<'_>, out: &mut Vec<Instr>) -> Result<(), 
     held_swept(y, out, Held::Temporaries)?;
     held_swept(y, out, Held::Iterators)?;
     held_swept(y, out, Held::Arrays)
+}
+
+/// Lets go of temporaries and of arrays of calls.
+pub(crate) fn operands_swept(
+    y: &FunctionLayout<'_>,
+    out: &mut Vec<Instr>,
+) -> Result<(), AllocError>
+    ensures { OnOk result (Emits out.old.items out.new.items (operands_swept (view_layout y.now))) }
+{
+    held_swept(y, out, Held::Temporaries)?;
+    held_swept(y, out, Held::Arrays)
+}
+
+/// Lets go of iterators.
+pub(crate) fn iterators_swept(
+    y: &FunctionLayout<'_>,
+    out: &mut Vec<Instr>,
+) -> Result<(), AllocError>
+    ensures { OnOk result (Emits out.old.items out.new.items
+        (iterators_swept (view_layout y.now) 0 y.now.bases.now.iterators)) }
+{
+    held_swept(y, out, Held::Iterators)
 }
 
 /// Lets go of what `next` or `exit` left in `main`: where the script has no functions, that is no more than iterators.

@@ -12,6 +12,9 @@ use lower_pieces::does_all;
 use std::alloc::AllocError;
 use wasm_types::{Instr, Simple};
 
+/// How the function is left; where a text is returned its handle waits here.
+pub(crate) const WAY_GLOBAL: u32 = 0;
+
 /// How a function is left by a fault, or by `return`.
 pub(crate) const WAY_NONE: u32 = 0;
 
@@ -27,7 +30,7 @@ pub(crate) fn left_by(out: &mut Vec<Instr>, way: u32, exit: u32) -> Result<(), A
 {
     let all = [
         Simple::I32Const(way),
-        Simple::GlobalSet(0),
+        Simple::GlobalSet(WAY_GLOBAL),
         Simple::Br(exit),
     ];
     does_all(out, &all)

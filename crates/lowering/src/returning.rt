@@ -1,0 +1,158 @@
+//! `return`: what a function answers.
+ghost use Rattle.std.specs.Prelude.{[], ◌≡◌, ◌≤◌, IfOk, OnOk, suc};
+ghost use Rattle.mid_program.specs.Mid.{form_of};
+ghost use Rattle.mid_program.specs.ViewCode.{view};
+ghost use Rattle.lower_model.specs.Statements.{answer_given, constant_given, returned, text_given, word_given};
+ghost use Rattle.lower_pieces.specs.Bounds.{most_labels};
+ghost use Rattle.lower_pieces.specs.Emits.{Emits};
+ghost use Rattle.lower_pieces.specs.Forms.{view_form};
+ghost use Rattle.lower_expressions.specs.Fits.{Fits};
+ghost use Rattle.lower_expressions.specs.View.{view_layout};
+ghost use Rattle.lowering.specs.Parts.{chosen_returned};
+
+use crate::evaluating::{answered, tested};
+use crate::leaving::WAY_GLOBAL;
+use lower_expressions::FunctionLayout;
+use lower_pieces::{Form, LEAST, TEXT_BESIDE, does, does_all, either, moved_out, number_is, when};
+use mid_program::Code;
+use sem_primitives::{Answer, Sort};
+use std::alloc::AllocError;
+use wasm_types::{Instr, Simple};
+
+/// Gives a word as the answer.
+pub(crate) fn constant_given(
+    y: &FunctionLayout<'_>,
+    out: &mut Vec<Instr>,
+    word: u64,
+    out_of: u32,
+) -> Result<(), AllocError>
+    ensures { OnOk result
+        (Emits out.old.items out.new.items (constant_given (view_layout y.now) word out_of)) }
+{
+    let all = [
+        Simple::I64Const(word),
+        Simple::LocalSet(y.bases.answer()),
+        Simple::Br(out_of),
+    ];
+    does_all(out, &all)
+}
+
+/// Gives the number of the first temporary as the answer.
+fn word_given(y: &FunctionLayout<'_>, out: &mut Vec<Instr>, exit: u32) -> Result<(), AllocError>
+    requires { exit ≤ most_labels }
+    ensures { OnOk result
+        (Emits out.old.items out.new.items (word_given (view_layout y.now) exit)) }
+{
+    let all = [
+        Simple::LocalGet(y.bases.number(0)),
+        Simple::LocalSet(y.bases.answer()),
+        Simple::Br(exit + 1),
+    ];
+    does_all(out, &all)
+}
+
+/// Moves the text of the first temporary to where it waits.
+fn text_given(y: &FunctionLayout<'_>, out: &mut Vec<Instr>) -> Result<(), AllocError>
+    ensures { OnOk result (Emits out.old.items out.new.items (text_given (view_layout y.now))) }
+{
+    moved_out(out, y.bases.handle(0))?;
+    does(out, Simple::GlobalSet(WAY_GLOBAL))
+}
+
+/// The same in a list of its own.
+fn text_code(y: &FunctionLayout<'_>) -> Result<Vec<Instr>, AllocError>
+    ensures { IfOk result (λ code. Emits [] code.items (text_given (view_layout y.now))) }
+{
+    let mut code = Vec::new(y.alloc);
+    text_given(y, &mut code)?;
+    Ok(code)
+}
+
+/// Gives what the first temporary has as the answer.
+fn answer_given(
+    y: &FunctionLayout<'_>,
+    out: &mut Vec<Instr>,
+    form: Form,
+    exit: u32,
+) -> Result<(), AllocError>
+    requires { exit ≤ most_labels }
+    ensures { OnOk result (Emits out.old.items out.new.items
+        (answer_given (view_layout y.now) (view_form form) exit)) }
+{
+    match form {
+        Form::Answered(Answer::Of(Sort::Value)) => {
+            text_given(y, out)?;
+            constant_given(y, out, TEXT_BESIDE, exit + 1)
+        }
+        Form::Bare => {
+            number_is(out, y.bases.number(0), TEXT_BESIDE)?;
+            when(y.alloc, out, text_code(y)?)?;
+            word_given(y, out, exit)
+        }
+        Form::Perhaps | Form::Answered(Answer::Of(Sort::Number) | Answer::Truth) => {
+            word_given(y, out, exit)
+        }
+        Form::Answered(_) => constant_given(y, out, LEAST, exit + 1),
+    }
+}
+
+/// The code of `return` in a list of its own.
+#[cycle(returned)]
+fn returned_code(
+    y: &FunctionLayout<'_>,
+    code: &Code,
+    exit: u32,
+) -> Result<Vec<Instr>, AllocError>
+    requires fit { Fits (view_layout y.now) (view code.now) 0 0 exit }
+    requires labels { exit ≤ most_labels }
+    ensures { IfOk result (λ all. Emits [] all.items (returned (view_layout y.now) (view code.now) exit)) }
+{
+    let mut all = Vec::new(y.alloc);
+    returned(y, &mut all, code, exit)?;
+    Ok(all)
+}
+
+/// Returns one of two.
+#[cycle(returned)]
+fn chosen_returned(
+    y: &FunctionLayout<'_>,
+    out: &mut Vec<Instr>,
+    test: &Code,
+    yes: &Code,
+    no: &Code,
+    exit: u32,
+) -> Result<(), AllocError>
+    requires test { Fits (view_layout y.now) (view test.now) 0 0 exit }
+    requires yes { Fits (view_layout y.now) (view yes.now) 0 0 (suc exit) }
+    requires no { Fits (view_layout y.now) (view no.now) 0 0 (suc exit) }
+    requires labels { suc exit ≤ most_labels }
+    ensures { OnOk result (Emits out.old.items out.new.items (chosen_returned (view_layout y.now)
+        (view test.now) (view yes.now) (view no.now) exit)) }
+{
+    tested(y, out, test, exit)?;
+    let yes = returned_code(y, yes, exit + 1)?;
+    let no = returned_code(y, no, exit + 1)?;
+    either(y.alloc, out, yes, no)
+}
+
+/// Adds `return`: what is chosen is returned where it is chosen.
+#[cycle(returned)]
+pub(crate) fn returned(
+    y: &FunctionLayout<'_>,
+    out: &mut Vec<Instr>,
+    code: &Code,
+    exit: u32,
+) -> Result<(), AllocError>
+    requires fit { Fits (view_layout y.now) (view code.now) 0 0 exit }
+    requires labels { exit ≤ most_labels }
+    ensures { OnOk result
+        (Emits out.old.items out.new.items (returned (view_layout y.now) (view code.now) exit)) }
+{
+    match code {
+        Code::Choose(Sort::Value, test, yes, no) => chosen_returned(y, out, test, yes, no, exit),
+        _ => {
+            let form = answered(y, out, code, exit)?;
+            answer_given(y, out, form, exit)
+        }
+    }
+}
