@@ -30,9 +30,9 @@ use Rattle.lower_model.proofs.Globals.{Globals, Status, placed}
 use Rattle.lower_model.proofs.GlobalSteps.{global_copied, storing}
 use Rattle.lower_model.proofs.Locals.{Locals, laid}
 use Rattle.lower_model.proofs.Steps.{empty}
-use Rattle.lower_model.proofs.State.{beside, name_hand, cells_of, host_of, store_with}
+use Rattle.lower_model.proofs.State.{beside, name_hand, cells_of, host_of, store_with, BareOf, IsBeside, IsNone, IsNumber}
 use Rattle.lower_model.proofs.Relation.{Loose}
-use Rattle.lower_model.proofs.Conversions.{BareIs, IsBeside, IsNone, IsNumber, bare_is}
+use Rattle.lower_model.proofs.Conversions.{bare_is}
 use Rattle.lower_model.proofs.Answers.{machine}
 use Rattle.lower_model.proofs.Tidy.{globals_fine, name_tidy}
 use Rattle.lower_model.proofs.Exits.{sweep_ok, unowned_laid}
@@ -45,7 +45,7 @@ status_low m = by m.number (small m)
     by (pos k) e = omega arith
     by (negsuc k) e = omega (arith, e)
 
-beside_ended : (v : Value) → BareIs v → ended_name Unboxed (beside v) ≡ true
+beside_ended : (v : Value) → BareOf v → ended_name Unboxed (beside v) ≡ true
 beside_ended v (IsBeside e e1) = ap (ended_name Unboxed) e1
 beside_ended v (IsNone e e1 e2) = ap (ended_name Unboxed) e2
 beside_ended v (IsNumber m e e1 e2) = ap (ended_name Unboxed) e2

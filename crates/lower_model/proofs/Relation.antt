@@ -27,7 +27,7 @@ use Rattle.lower_model.proofs.Watch.{Watch}
 use Rattle.lower_model.proofs.Regions.{upd_other, upd_all}
 use Rattle.lower_model.proofs.Locals.{Locals, Hand, Number as NumberAt, Array, with_at, laid}
 use Rattle.lower_model.proofs.Steps.{empty}
-use Rattle.lower_model.proofs.State.{bare, beside, perhaps, store, gone}
+use Rattle.lower_model.proofs.State.{bare, beside, BareIs, perhaps, store, gone}
 
 -- A local for a handle has one or -1, so do those for iterators and for arrays of calls.
 
@@ -44,7 +44,6 @@ IsYard c = (c ≡ empty) ⊎ ((a : ℕ) × (c ≡ OwnedArray a))
 
 abbrev pub hand_of : (f : Form) → Holds f → Cell
 hand_of (Answered (answer.Of sort.Value)) x = Held x
-hand_of Bare x = beside x
 hand_of _ x = empty
 
 abbrev pub WordIs : (f : Form) → Holds f → Cell → Type 0
@@ -52,12 +51,19 @@ WordIs (Answered (answer.Of sort.Number)) x c = c ≡ Bits (I64 (number_word x))
 WordIs (Answered answer.Truth) x c = c ≡ Bits (I64 (flag_number x))
 WordIs (Answered answer.Input) x c = c ≡ Bits (I64 (input_code x))
 WordIs (Answered answer.Stream) x c = c ≡ Bits (I64 (stream_code x))
-WordIs Bare x c = c ≡ Bits (I64 (bare x))
 WordIs Perhaps x c = c ≡ Bits (I64 (perhaps x))
 WordIs f x c = Unit {0}
 
+-- a handle and a word are what there is
+abbrev pub HoldsBy : (f : Form) → Holds f → Cell → Cell → Type 0
+HoldsBy Bare x c d = (m : ℕ) × (d ≡ Bits (I64 m)) × BareIs x m c
+HoldsBy f x c d = (c ≡ hand_of f x) × WordIs f x d
+
 abbrev pub HoldsAt : (f : Form) → ℕ → Locals → Holds f → Type 0
-HoldsAt f t l x = (l.hand t ≡ hand_of f x) × WordIs f x (l.number t)
+HoldsAt f t l x = HoldsBy f x (l.hand t) (l.number t)
+
+pub holds_same : (f : Form) (t : ℕ) (l l1 : Locals) (x : Holds f) → l1.hand t ≡ l.hand t → l1.number t ≡ l.number t → HoldsAt f t l x → HoldsAt f t l1 x
+holds_same f t l l1 x e e1 q = subst (λ c. HoldsBy f x c (l1.number t)) (sym e) (subst (λ d. HoldsBy f x (l.hand t) d) (sym e1) q)
 
 -- the number of an array of this name
 abbrev pub array_at : ArrayName → State → ℕ
@@ -72,10 +78,10 @@ LeftBy (Answered (answer.Of sort.Value)) c = Unit {0}
 LeftBy Bare c = Unit {0}
 LeftBy f c = c ≡ empty
 
-pub hand_left : (f : Form) (x : Holds f) (c : Cell) → c ≡ hand_of f x → LeftBy f c
-hand_left (Answered (answer.Of sort.Value)) x c e = tt
-hand_left Bare x c e = tt
-hand_left _ x c e = e
+pub hand_left : (f : Form) (t : ℕ) (l : Locals) (x : Holds f) → HoldsAt f t l x → LeftBy f (l.hand t)
+hand_left (Answered (answer.Of sort.Value)) t l x q = tt
+hand_left Bare t l x q = tt
+hand_left _ t l x q = q.0
 
 abbrev pub KeptAs : Standing → (f : Form) → ℕ → Locals → Holds f → Type 0
 KeptAs There f t l x = HoldsAt f t l x
@@ -138,7 +144,7 @@ kept_same (f ∷ fs) (s ∷ ts) st l l1 env t bl h n k =
     (one (st zero) k.0, kept_same fs ts (λ i. st (suc i)) l l1 env.1 s bl.1 (λ x lt. h x (omega (arith, lt, bl.0))) (λ x lt. n x (omega (arith, lt, bl.0))) k.1)
   where
     one : (m : Standing) → KeptAs m f s l env.0 → KeptAs m f s l1 env.0
-    one There q = (h s bl.0 ∙ q.0, subst (λ c. WordIs f env.0 c) (sym (n s bl.0)) q.1)
+    one There q = holds_same f s l l1 env.0 (h s bl.0) (n s bl.0) q
     one Moved q = subst (LeftBy f) (sym (h s bl.0)) q
     one Misused q = subst (LeftBy f) (sym (h s bl.0)) q
 

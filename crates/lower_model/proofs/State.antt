@@ -43,6 +43,16 @@ beside (value.Num z) = unless_number (value.Num z) (number_of z)
 beside (value.Text s) = Held (value.Text s)
 beside (value.StrNum s) = Held (value.StrNum s)
 
+-- What a word and a handle beside it stand for: a value that the handle has, nothing yet, or a number.
+pub data BareIs (v : Value) (m : ℕ) (c : Cell) : Type 0 where
+  IsBeside : m ≡ text_beside → c ≡ Held v → BareIs v m c
+  IsNone : v ≡ value.Uninit → m ≡ least → c ≡ empty → BareIs v m c
+  IsNumber : (x : Number) → v ≡ value.Num x.number → m ≡ number_word x → c ≡ empty → BareIs v m c
+
+-- what an unboxed name has
+abbrev pub BareOf : Value → Type 0
+BareOf v = BareIs v (bare v) (beside v)
+
 abbrev pub perhaps : Option Number → ℕ
 perhaps (Some n) = number_word n
 perhaps None = least

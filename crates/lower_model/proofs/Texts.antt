@@ -28,10 +28,10 @@ use Rattle.lower_model.proofs.Locals.{Locals, Param, Hand, Number as NumberAt, w
 use Rattle.lower_model.proofs.Globals.{Hand as NameHand, Number as NameNumber, global_of}
 use Rattle.lower_model.proofs.Steps.{empty, get_copied, set_ok, tee_ok}
 use Rattle.lower_model.proofs.GlobalSteps.{global_copied}
-use Rattle.lower_model.proofs.State.{bare, beside, kind_here, name_hand, name_word, cells_of, arrays_before, word_not_beside}
+use Rattle.lower_model.proofs.State.{bare, beside, kind_here, name_hand, name_word, cells_of, arrays_before, word_not_beside, BareOf, IsBeside, IsNone, IsNumber}
 use Rattle.lower_model.proofs.Relation.{same_self, same_then, same_hand, same_number, Fit, fit_hand, fit_number, fit_more, Away}
 use Rattle.lower_model.proofs.Answers.{machine, beside_state, row_called, Put, put_value, put_word}
-use Rattle.lower_model.proofs.Conversions.{BareIs, IsBeside, IsNone, IsNumber, bare_is, same_state}
+use Rattle.lower_model.proofs.Conversions.{bare_is, same_state}
 use Rattle.lower_model.proofs.Copies.{copied_global}
 use Rattle.lower_model.proofs.Pieces.{chooses, closes}
 use Rattle.lower_model.proofs.Simulation.{Done, ExprOk, layout}
@@ -100,10 +100,10 @@ module _ (p : Program) (deepest : Watch) (ks : List Kind) (F : List Frame) (b : 
     goes : Goes (machine p deepest ks F) steps (at ks [] K (laid b l) F (slot_read (layout p deepest ks F b M n) (Global true i) t k) (beside_state p deepest ks F σ)) conf
     put : Put p deepest ks F b t u w Bare k K l x σ conf
 
-  bare_read : (i t u w : ℕ) (k : Instructions) (K : List Label) (l : Locals) (σ : State) → i < length (kinds_of p.globals) → kind_here (kinds_of p.globals) i ≡ Unboxed → t < b.temporaries → Fit p deepest ks F t u w l σ → BareIs (global_value i σ) → BareRead i t u w k K l σ (global_value i σ)
+  bare_read : (i t u w : ℕ) (k : Instructions) (K : List Label) (l : Locals) (σ : State) → i < length (kinds_of p.globals) → kind_here (kinds_of p.globals) i ≡ Unboxed → t < b.temporaries → Fit p deepest ks F t u w l σ → BareOf (global_value i σ) → BareRead i t u w k K l σ (global_value i σ)
   bare_read i t u w k K l σ li kh lt ft z = by z
     where
-      by : BareIs (global_value i σ) → BareRead i t u w k K l σ (global_value i σ)
+      by : BareOf (global_value i σ) → BareRead i t u w k K l σ (global_value i σ)
       by z =
           let kinds = kinds_of p.globals in
           let g = cells_of kinds 0 σ in
@@ -119,7 +119,7 @@ module _ (p : Program) (deepest : Watch) (ks : List Kind) (F : List Frame) (b : 
             steps = 5;
             few = omega arith;
             goes = then_goes (goes_to start (ap (λ q. at ks (Bits (flag q) ∷ []) K (laid b l1) F (when copy k) (beside_state p deepest ks F σ)) ne)) (then_goes (chooses copy NoMore 0) closes);
-            put = record { next = l1; comes = refl; fit = f1; same = same_number [] t w t l (Bits (I64 (bare x))) (omega arith); holds = (e0 ∙ sym eh, upd_same l.number t (Bits (I64 (bare x)))) };
+            put = record { next = l1; comes = refl; fit = f1; same = same_number [] t w t l (Bits (I64 (bare x))) (omega arith); holds = (bare x, (upd_same l.number t (Bits (I64 (bare x))), subst (λ c. BareIs x (bare x) c) (eh ∙ sym e0) z)) };
           } in
           elim z [
             | IsBeside eb eh ↦ record {
@@ -132,7 +132,7 @@ module _ (p : Program) (deepest : Watch) (ks : List Kind) (F : List Frame) (b : 
                 comes = refl;
                 fit = fit_hand p deepest ks F t (suc t) u w l1 σ (Held x) (inr (x, refl)) (omega arith) f1;
                 same = same_then [] t t w w l l1 (with_at l1 (Hand t) (Held x)) (omega arith) (omega arith) (same_number [] t w t l (Bits (I64 (bare x))) (omega arith)) (same_hand [] t w t l1 (Held x) (omega arith));
-                holds = (upd_same l.hand t (Held x) ∙ sym eh, upd_same l.number t (Bits (I64 (bare x))));
+                holds = (bare x, (upd_same l.number t (Bits (I64 (bare x))), IsBeside eb (upd_same l.hand t (Held x))));
               };
             }
             | IsNone q eb eh ↦ none (ap (λ m. nat_eq m text_beside) eb) eh

@@ -23,9 +23,9 @@ use Rattle.lower_model.proofs.Regions.{cells, pairs, cells_length}
 use Rattle.lower_model.proofs.Globals.{Globals, names_on, placed}
 use Rattle.lower_model.proofs.Locals.{Locals, temporaries_on, laid}
 use Rattle.lower_model.proofs.Steps.{empty}
-use Rattle.lower_model.proofs.State.{bare, beside, kind_here, arrays_before, name_hand, name_word, cells_of, word_not_beside}
+use Rattle.lower_model.proofs.State.{bare, beside, kind_here, arrays_before, name_hand, name_word, cells_of, word_not_beside, BareOf, IsBeside, IsNone, IsNumber}
 use Rattle.lower_model.proofs.Relation.{Fit, IsWalk, ParamIs, ParamLoose, fit_loose, param_loose}
-use Rattle.lower_model.proofs.Conversions.{BareIs, IsBeside, IsNone, IsNumber, bare_is}
+use Rattle.lower_model.proofs.Conversions.{bare_is}
 use Rattle.lower_model.proofs.Answers.{machine, beside_state, Reached}
 use Rattle.lower_model.proofs.StatementForms.{Starts}
 
@@ -104,7 +104,7 @@ unowned_pairs f g (suc n) rest h k r =
     ap₂ (λ x y. not x && y) (h zero (omega arith)) (ap₂ (λ x y. not x && y) (k zero (omega arith))
     (unowned_pairs (λ i. f (suc i)) (λ i. g (suc i)) n rest (λ i lt. h (suc i) (omega (arith, lt))) (λ i lt. k (suc i) (omega (arith, lt))) r))
 
-beside_tidy : (v : Value) → BareIs v → tidy_name Unboxed (beside v) ≡ true
+beside_tidy : (v : Value) → BareOf v → tidy_name Unboxed (beside v) ≡ true
 beside_tidy v (IsBeside e e1) = ap (tidy_name Unboxed) e1
 beside_tidy v (IsNone e e1 e2) = ap (tidy_name Unboxed) e2
 beside_tidy v (IsNumber m e e1 e2) = ap (tidy_name Unboxed) e2
@@ -112,7 +112,7 @@ beside_tidy v (IsNumber m e e1 e2) = ap (tidy_name Unboxed) e2
 bare_fine : (v : Value) → beside v ≡ empty → is_bare (Bits (I64 (bare v))) ≡ true
 bare_fine v q = by (bare_is v)
   where
-    by : BareIs v → is_bare (Bits (I64 (bare v))) ≡ true
+    by : BareOf v → is_bare (Bits (I64 (bare v))) ≡ true
     by (IsBeside e e1) = let z : is_held empty ≡ true = ap is_held (sym q ∙ e1) in cc
     by (IsNone e e1 e2) = ap (λ n. is_bare (Bits (I64 n))) e1
     by (IsNumber m e e1 e2) = ap (λ n. is_bare (Bits (I64 n))) e1 ∙ ap not (word_not_beside m)
@@ -122,7 +122,7 @@ mark_fine Boxed a v = refl
 mark_fine Many a v = refl
 mark_fine Unboxed a v = by (bare_is v)
   where
-    by : BareIs v → mark_fits Unboxed (beside v) (Bits (I64 (bare v))) ≡ true
+    by : BareOf v → mark_fits Unboxed (beside v) (Bits (I64 (bare v))) ≡ true
     by (IsBeside e e1) = ap₂ (λ c n. mark_fits Unboxed c (Bits (I64 n))) e1 e
     by (IsNone e e1 e2) = ap₂ (λ c n. mark_fits Unboxed c (Bits (I64 n))) e2 e1
     by (IsNumber m e e1 e2) = ap₂ (λ c n. mark_fits Unboxed c (Bits (I64 n))) e2 e1 ∙ ap not (word_not_beside m)
