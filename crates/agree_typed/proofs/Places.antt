@@ -156,10 +156,10 @@ module _ (p : Program) where
   routine_there (r ∷ rs) fs (suc f) lt = routine_there rs fs f (omega (arith, lt))
 
   -- What a function with parameters of kinds ks stands in, if no import were left out.
-  abbrev pub whole_context : List Kind → Bases → Context
-  whole_context ks b = record {
+  abbrev pub whole_context : ValType → List Kind → Bases → Context
+  whole_context a ks b = record {
     locals = map kind_type ks ++ local_types b;
-    result = Some I32;
+    result = Some a;
     callee = slice_get all_types;
     typed = λ n. None;
     globals = map type_of (globals_of p);
@@ -167,15 +167,15 @@ module _ (p : Program) where
     table = false;
   }
 
-  pub stands : (ks : List Kind) (b : Bases) → b.parameters ≡ length ks → Stands p ks b (whole_context ks b)
-  stands ks b n = record {
+  pub stands : (a : ValType) (ks : List Kind) (b : Bases) → b.parameters ≡ length ks → Stands p ks b (whole_context a ks b)
+  stands a ks b n = record {
     handle = λ t lt. temporary_there ks b n (t + t) (handle_local b t) I32 refl (handle_there b.temporaries t lt);
     number = λ t lt. temporary_there ks b n (suc (t + t)) (number_local b t) I64 (omega arith) (number_there b.temporaries t lt);
     iterator = λ u lt.
         later_there ks b n u (iterator_local b u) I32 refl
         (there_before (handle_types b.iterators) (handle_types b.arrays) u I32 (handles_there b.iterators u lt));
     array = λ w lt. array_there ks b n w (array_local b w) refl lt;
-    answer = own_there ks b n 0 (answer_local b) I32 (omega arith) refl;
+    answer = own_there ks b n 0 (answer_local b) I64 (omega arith) refl;
     parameter = λ i k h. there_before (map kind_type ks) (local_types b) i (kind_type k) (parameter_there ks i k h);
     way = refl;
     status = refl;

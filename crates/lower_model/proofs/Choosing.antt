@@ -193,7 +193,7 @@ module _ (p : Program) (deepest : Watch) (ks : List Kind) (F : List Frame) (b : 
   }
   truth_ok (Answered (answer.Of sort.Number)) x t u w k K l σ e lt ft hd = plain_tested t u w (number_word x) k K l σ (not (is_zero x.number)) lt ft hd.0 hd.1 (ap not (zero_word x))
   truth_ok (Answered answer.Truth) x t u w k K l σ e lt ft hd = plain_tested t u w (flag_number x) k K l σ x lt ft hd.0 hd.1 (flag_nought x)
-  truth_ok Bare x t u w k K l σ e lt ft hd = bare_tested t u w k K l σ x lt ft hd.0 hd.1.0 hd.1.1
+  truth_ok Bare x t u w k K l σ e lt ft hd = bare_tested t u w k K l σ x lt ft hd.0 hd.1 hd.2
   truth_ok f x t u w k K l σ e lt ft hd = cc
 
   -- one of two, in a block

@@ -168,7 +168,7 @@ module _ (p : Program) (deepest : Watch) (ks : List Kind) (F : List Frame) (b : 
   side_ok : (f : Form) (x : Holds f) (t : ℕ) (k : Instructions) (K : List Label) (l : Locals) (σ : State) → is_value f ≡ false → text_flag f (l.number t) ≡ false → t < b.temporaries → HoldsAt f t l x → Side f x t k K l σ
   side_ok (Answered (answer.Of sort.Number)) x t k K l σ iv nt lt hd = record { number = x; side = refl; hand = hd.0; steps = 0; few = omega arith; goes = itself x t k K l σ lt hd.1 }
   side_ok (Answered answer.Truth) x t k K l σ iv nt lt hd = record { number = truth_number x; side = refl; hand = hd.0; steps = 0; few = omega arith; goes = itself (truth_number x) t k K l σ lt (hd.1 ∙ ap (λ m. Bits (I64 m)) (flag_word x)) }
-  side_ok Bare x t k K l σ iv nt lt hd = bare_side x t k K l σ nt lt hd.0 hd.1.0 hd.1.1
+  side_ok Bare x t k K l σ iv nt lt hd = bare_side x t k K l σ nt lt hd.0 hd.1 hd.2
   side_ok Perhaps x t k K l σ iv nt lt hd = perhaps_side x t k K l σ lt hd
   side_ok f x t k K l σ iv nt lt hd = cc
 
@@ -232,15 +232,15 @@ module _ (p : Program) (deepest : Watch) (ks : List Kind) (F : List Frame) (b : 
   texts_ok Bare Bare x y t k K l σ e lt hx hy = record {
     steps = 5;
     few = omega arith;
-    goes = then_goes (marked_ok l t hx.0 (omega (arith, lt)) hx.1.0) (then_goes (marked_ok l (suc t) hy.0 lt hy.1.0)
+    goes = then_goes (marked_ok l t hx.0 (omega (arith, lt)) hx.1) (then_goes (marked_ok l (suc t) hy.0 lt hy.1)
         (goes_to (by_steps 1 refl) (ap (λ q. at ks (Bits (I32 q) ∷ []) K (laid b l) F k (beside_state p deepest ks F σ)) (flags_or (is_marked (l.number t)) (is_marked (l.number (suc t)))))));
   }
   texts_ok Bare g x y t k K l σ e lt hx hy = record {
     steps = 2;
     few = omega arith;
-    goes = goes_to (marked_ok l t hx.0 (omega (arith, lt)) hx.1.0) (ap (λ q. at ks (Bits (flag q) ∷ []) K (laid b l) F k (beside_state p deepest ks F σ)) (sym (or_false (is_marked (l.number t)))));
+    goes = goes_to (marked_ok l t hx.0 (omega (arith, lt)) hx.1) (ap (λ q. at ks (Bits (flag q) ∷ []) K (laid b l) F k (beside_state p deepest ks F σ)) (sym (or_false (is_marked (l.number t)))));
   }
-  texts_ok f Bare x y t k K l σ e lt hx hy = record { steps = 2; few = omega arith; goes = marked_ok l (suc t) hy.0 lt hy.1.0 }
+  texts_ok f Bare x y t k K l σ e lt hx hy = record { steps = 2; few = omega arith; goes = marked_ok l (suc t) hy.0 lt hy.1 }
   texts_ok f g x y t k K l σ e lt hx hy = cc
 
   bare_ok : (c : CompareOp) (f g : Form) (x : Holds f) (y : Holds g) (t u w d : ℕ) (k : Instructions) (K : List Label) (l : Locals) (σ : State) → fits f sort.Value ≡ true → fits g sort.Value ≡ true → is_value f ≡ false → is_value g ≡ false → suc t < b.temporaries → Fit p deepest ks F (suc (suc t)) u w l σ → HoldsAt f t l x → HoldsAt g (suc t) l y →

@@ -236,7 +236,7 @@ module _ (p : Program) (deepest : Watch) (ks : List Kind) (F : List Frame) (b : 
   converted_ok (Answered answer.Truth) sort.Value x q i w t d k K l σ e lq lt ft hd =
       there u M 16 3 _ _ (numeric (truth_number x)) σ (Converted q i w t (Answered (answer.Of sort.Value)) k K l) (Away p deepest ks F b d K) (boxed_number_ok p deepest ks F b l t σ (truth_number x) lt (hd.1 ∙ ap (λ m. Bits (I64 m)) (flag_word x)) (ap is_owned hd.0)) (omega arith)
       (conv_hand q i w t k K l (numeric (truth_number x)) σ lq ft)
-  converted_ok Bare sort.Value x q i w t d k K l σ e lq lt ft hd = bare_boxed q i w t d k K l x σ lq lt ft hd.0 hd.1.0 hd.1.1
+  converted_ok Bare sort.Value x q i w t d k K l σ e lq lt ft hd = bare_boxed q i w t d k K l x σ lq lt ft hd.0 hd.1 hd.2
   converted_ok Perhaps sort.Value x q i w t d k K l σ e lq lt ft hd =
       let y = boxed_perhaps_ok p deepest ks F b k K l t (perhaps x) σ (boxed Perhaps x) lt hd.1 (ap is_owned hd.0) (perhaps_is x) in
       there u M 16 y.steps _ _ (boxed Perhaps x) σ (Converted q i w t (Answered (answer.Of sort.Value)) k K l) (Away p deepest ks F b d K) y.goes (omega (arith, y.few)) (conv_hand q i w t k K l (boxed Perhaps x) σ lq ft)
@@ -251,6 +251,6 @@ module _ (p : Program) (deepest : Watch) (ks : List Kind) (F : List Frame) (b : 
   converted_ok (Answered answer.Input) sort.Number input.Failed q i w t d k K l σ e lq lt ft hd = coded q i w t d k K l minus_one σ ft hd.0 (code_number_ok p deepest ks F b k K l t 3 (2 ^ 64 - 1) σ lt hd.1 (λ vs. refl))
   converted_ok (Answered answer.Stream) sort.Number stream.Done q i w t d k K l σ e lq lt ft hd = coded q i w t d k K l zero_number σ ft hd.0 (code_number_ok p deepest ks F b k K l t 0 0 σ lt hd.1 (λ vs. refl))
   converted_ok (Answered answer.Stream) sort.Number stream.NotOpen q i w t d k K l σ e lq lt ft hd = coded q i w t d k K l minus_one σ ft hd.0 (code_number_ok p deepest ks F b k K l t 3 (2 ^ 64 - 1) σ lt hd.1 (λ vs. refl))
-  converted_ok Bare sort.Number x q i w t d k K l σ e lq lt ft hd = within u M 14 16 σ.turns _ (Converted q i w t (Answered (answer.Of sort.Number)) k K l) (Away p deepest ks F b d K) (settled (number_of_row x) σ) (omega arith) (bare_numbered q i w t d k K l x σ lq lt ft hd.0 hd.1.0 hd.1.1)
+  converted_ok Bare sort.Number x q i w t d k K l σ e lq lt ft hd = within u M 14 16 σ.turns _ (Converted q i w t (Answered (answer.Of sort.Number)) k K l) (Away p deepest ks F b d K) (settled (number_of_row x) σ) (omega arith) (bare_numbered q i w t d k K l x σ lq lt ft hd.0 hd.1 hd.2)
   converted_ok (Answered (answer.Of sort.Array)) sort.Array x q i w t d k K l σ e lq lt ft hd = there u M 16 0 _ _ x σ (Converted q i w t (Answered (answer.Of sort.Array)) k K l) (Away p deepest ks F b d K) stays (omega arith) (conv_self q i w t (Answered (answer.Of sort.Array)) k K l x σ ft hd)
   converted_ok f s x q i w t d k K l σ e lq lt ft hd = cc

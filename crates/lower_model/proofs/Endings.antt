@@ -29,7 +29,7 @@ use Rattle.lower_model.proofs.Runs.{Goes, then_goes, by_steps, Arrives}
 use Rattle.lower_model.proofs.Globals.{Globals, Status, placed}
 use Rattle.lower_model.proofs.GlobalSteps.{global_copied, storing}
 use Rattle.lower_model.proofs.Locals.{Locals, laid}
-use Rattle.lower_model.proofs.Steps.{empty}
+use Rattle.lower_model.proofs.Steps.{unanswered}
 use Rattle.lower_model.proofs.State.{beside, name_hand, cells_of, host_of, store_with, BareOf, IsBeside, IsNone, IsNumber}
 use Rattle.lower_model.proofs.Relation.{Loose}
 use Rattle.lower_model.proofs.Conversions.{bare_is}
@@ -68,7 +68,7 @@ module _ (p : Program) (deepest : Watch) (b : Bases) where
     pub few : steps ≤ main_exit_work b
     pub goes : Goes (machine p deepest [] []) steps (at [] [] [] (laid b l) [] main_exit G) (Over (Bits (I32 (w % 2 ^ 32))) G)
 
-  pub main_ends_by : (g : Globals) (o : Host) (w : ℕ) (l : Locals) → zero ≡ b.parameters → Loose p deepest [] [] l → l.answer ≡ empty → g.status ≡ Bits (I64 w) →
+  pub main_ends_by : (g : Globals) (o : Host) (w : ℕ) (l : Locals) → zero ≡ b.parameters → Loose p deepest [] [] l → l.answer ≡ unanswered → g.status ≡ Bits (I64 w) →
       globals_by (ending_name o.fault) (suc (suc p.ranges)) (kinds_of p.globals) (placed p.ranges (length (kinds_of p.globals)) g) ≡ true → MainEnds w (storing (placed p.ranges (length (kinds_of p.globals)) g) o) l
   main_ends_by g o w l none lo an es fine =
       let G = storing (placed p.ranges (length (kinds_of p.globals)) g) o in
@@ -89,7 +89,7 @@ module _ (p : Program) (deepest : Watch) (b : Bases) where
             ∙ ap (λ t. guarded (true && t) (Over v G)) fine))));
       }
 
-  pub main_ends : (way : ℕ) (fault : Option Fault) (l : Locals) (σ : State) → zero ≡ b.parameters → Loose p deepest [] [] l → l.answer ≡ empty → MainEnds (number_word σ.status) (store_with p.ranges (kinds_of p.globals) way fault σ) l
+  pub main_ends : (way : ℕ) (fault : Option Fault) (l : Locals) (σ : State) → zero ≡ b.parameters → Loose p deepest [] [] l → l.answer ≡ unanswered → MainEnds (number_word σ.status) (store_with p.ranges (kinds_of p.globals) way fault σ) l
   main_ends way fault l σ none lo an = main_ends_by (cells_of (kinds_of p.globals) way σ) (host_of σ fault) (number_word σ.status) l none lo an refl (by fault)
     where
       by : (o : Option Fault) → globals_by (ending_name o) (suc (suc p.ranges)) (kinds_of p.globals) (placed p.ranges (length (kinds_of p.globals)) (cells_of (kinds_of p.globals) way σ)) ≡ true

@@ -210,7 +210,7 @@ module _ (p : Program) (deepest : Watch) (ks : List Kind) (F : List Frame) (b : 
         steps = 5;
         few = omega arith;
         goes = then_goes (copied_ok s t l σ ls lt (ft.numbers s) (ft.numbers t)) (moved_ok s t l0 σ ls lt ne e);
-        holds = (hd.0, (upd_same l.number t (l.number s) ∙ hd.1.0, subst (λ c. BareIs x hd.0 c) (sym (upd_same l1.hand t (l.hand s))) hd.1.1));
+        holds = (hd.0, upd_same l.number t (l.number s) ∙ hd.1, subst (λ c. BareIs x hd.0 c) (sym (upd_same l1.hand t (l.hand s))) hd.2);
         hand = upd_other l1.hand t s (l.hand s) (λ z. ne (sym z)) ∙ upd_same l.hand s empty;
         hands = λ y ns nt. upd_other l1.hand t y (l.hand s) nt ∙ upd_other l.hand s y empty ns;
         numbers = λ y nt. upd_other l.number t y (l.number s) nt;

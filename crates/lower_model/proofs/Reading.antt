@@ -11,7 +11,7 @@ use Rattle.mid_program.specs.MidMeaning.{Holds, Env, evaluated, all_evaluated, h
 use Rattle.sem_scripts.specs.Names.{Numbered}
 use Rattle.sem_scripts.specs.ScriptState.{State, global_value, local_value}
 use Rattle.mid_program.specs.Sorted.{Held as Standing, There, Moved, Misused, used, same_number, sorted, all_sorted, held_after, is_well_used, has_kind, same_kind, kinds_of}
-use Rattle.lower_model.specs.Cells.{Cell, Held, is_owned}
+use Rattle.lower_model.specs.Cells.{Bits, Cell, Held, is_owned}
 use Rattle.lower_model.specs.Emission.{emitted, all_emitted}
 use Rattle.lower_model.specs.Machine.{Conf, Label, Frame, at, loops_walked}
 use Rattle.lower_model.specs.Places.{Bases}
@@ -204,7 +204,7 @@ module _ (p : Program) (deepest : Watch) (ks : List Kind) (F : List Frame) (b : 
         steps = 7;
         few = omega arith;
         goes = then_goes (copied_ok p deepest ks F b M n s t l σ ls lt (ft.numbers s) (ft.numbers t)) (if_none_local p deepest ks F b l0 (Hand s) t σ ls lt eh e);
-        holds = (hd.0, (upd_same l.number t (l.number s) ∙ hd.1.0, subst (λ c. BareIs x hd.0 c) (eh ∙ sym e) hd.1.1));
+        holds = (hd.0, upd_same l.number t (l.number s) ∙ hd.1, subst (λ c. BareIs x hd.0 c) (eh ∙ sym e) hd.2);
         hands = λ y nt. refl;
         numbers = λ y nt. upd_other l.number t y (l.number s) nt;
         iterators = λ y. refl;
@@ -221,15 +221,15 @@ module _ (p : Program) (deepest : Watch) (ks : List Kind) (F : List Frame) (b : 
         steps = 11;
         few = omega arith;
         goes = then_goes (copied_ok p deepest ks F b M n s t l σ ls lt (ft.numbers s) (ft.numbers t)) (if_any_local p deepest ks F b l0 (Hand s) t x σ ls lt (hands_apart s t ne) eh (ap is_owned e));
-        holds = (m, (upd_same l.number t (l.number s) ∙ en, IsBeside eb (upd_same l.hand t (Held x))));
+        holds = (m, upd_same l.number t (l.number s) ∙ en, IsBeside eb (upd_same l.hand t (Held x)));
         hands = λ y nt. upd_other l.hand t y (Held x) nt;
         numbers = λ y nt. upd_other l.number t y (l.number s) nt;
         iterators = λ y. refl;
         arrays = λ y. refl;
         fit = λ q u1 w1 lq g. fit_hand p deepest ks F t q u1 w1 l0 σ (Held x) (inr (x, refl)) lq (fit_number p deepest ks F t q u1 w1 l σ (l.number s) (ft.numbers s) g);
       }
-  bare_copied x s t u w q0 k K l σ ls lt ne ft m en e (IsNone q eb eh) = none_copied x s t u w q0 k K l σ ls lt ft (m, (en, IsNone q eb eh)) e eh
-  bare_copied x s t u w q0 k K l σ ls lt ne ft m en e (IsNumber z q eb eh) = none_copied x s t u w q0 k K l σ ls lt ft (m, (en, IsNumber z q eb eh)) e eh
+  bare_copied x s t u w q0 k K l σ ls lt ne ft m en e (IsNone q eb eh) = none_copied x s t u w q0 k K l σ ls lt ft (m, en, IsNone q eb eh) e eh
+  bare_copied x s t u w q0 k K l σ ls lt ne ft m en e (IsNumber z q eb eh) = none_copied x s t u w q0 k K l σ ls lt ft (m, en, IsNumber z q eb eh) e eh
 
   copied_from_ok : (f : Form) (x : Holds f) (s t u w q0 : ℕ) (k : Instructions) (K : List Label) (l : Locals) (σ : State) → s < b.temporaries → t < b.temporaries → t ≢ s → Fit p deepest ks F q0 u w l σ → HoldsAt f s l x → l.hand t ≡ empty →
       CopiedTo s t f k K l x σ (at ks [] K (laid b l) F (copied_from b f s t k) (beside_state p deepest ks F σ))
@@ -245,7 +245,7 @@ module _ (p : Program) (deepest : Watch) (ks : List Kind) (F : List Frame) (b : 
     arrays = λ y. refl;
     fit = λ q u1 w1 lq g. fit_hand p deepest ks F t q u1 w1 l σ (Held x) (inr (x, refl)) lq g;
   }
-  copied_from_ok Bare x s t u w q0 k K l σ ls lt ne ft hd e = bare_copied x s t u w q0 k K l σ ls lt ne ft hd.0 hd.1.0 e hd.1.1
+  copied_from_ok Bare x s t u w q0 k K l σ ls lt ne ft hd e = bare_copied x s t u w q0 k K l σ ls lt ne ft hd.0 hd.1 e hd.2
   copied_from_ok g x s t u w q0 k K l σ ls lt ne ft hd e = record {
     next = with_at l (NumberAt t) (l.number s);
     steps = 2;

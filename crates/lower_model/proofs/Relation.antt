@@ -26,8 +26,8 @@ use Rattle.lower_model.proofs.HostLaws.{Few}
 use Rattle.lower_model.proofs.Watch.{Watch}
 use Rattle.lower_model.proofs.Regions.{upd_other, upd_all}
 use Rattle.lower_model.proofs.Locals.{Locals, Hand, Number as NumberAt, Array, with_at, laid}
-use Rattle.lower_model.proofs.Steps.{empty}
-use Rattle.lower_model.proofs.State.{bare, beside, BareIs, perhaps, store, gone}
+use Rattle.lower_model.proofs.Steps.{empty, unanswered}
+use Rattle.lower_model.proofs.State.{bare, beside, BareIs, AnswerIs, perhaps, store, answering, gone}
 
 -- A local for a handle has one or -1, so do those for iterators and for arrays of calls.
 
@@ -168,10 +168,6 @@ pub record Calm (p : Program) (sh : Shared) : Type 0 where
   pub names : sh.inner.names ≡ globals_told p.globals (routines_told p.routines)
   pub few : Few sh.inner
 
-abbrev pub answer_of : Stop → Cell
-answer_of (Returned v) = Held v
-answer_of _ = empty
-
 abbrev pub left_to : Stop → Conf → Conf → Conf
 left_to TooDeep away deep = deep
 left_to _ away deep = away
@@ -218,7 +214,7 @@ module _ (p : Program) (deepest : Watch) (ks : List Kind) (F : List Frame) where
   pub record Fit (t u w : ℕ) (l : Locals) (σ : State) : Type 0 where
     pub params : (i : ℕ) (k : Kind) → has_kind ks i k ≡ true → ParamIs k (get_or σ.own.locals i (Scalar Uninit)) (l.param i)
     pub size : length σ.own.locals ≡ length ks
-    pub answer : l.answer ≡ empty
+    pub answer : l.answer ≡ unanswered
     pub hands : (x : ℕ) → IsHand (l.hand x)
     pub numbers : (x : ℕ) → is_owned (l.number x) ≡ false
     pub free : (x : ℕ) → t ≤ x → l.hand x ≡ empty
@@ -360,13 +356,42 @@ module _ (p : Program) (deepest : Watch) (ks : List Kind) (F : List Frame) where
 
   module _ (b : Bases) where
     -- a function is left: whatever is held is in locals that its exit looks at
-    pub record Away (d : ℕ) (K : List Label) (why : Stop) (σ : State) (c : Conf) : Type 0 where
+    pub record WasLeft (d : ℕ) (K : List Label) (why : Stop) (σ : State) (c : Conf) : Type 0 where
       pub next : Locals
       pub comes : c ≡ left_to why (br d ks K (laid b next) F (gone p.ranges (kinds_of p.globals) why σ)) (Deep (store p.ranges (kinds_of p.globals) σ))
       pub loose : Loose next
-      pub answer : next.answer ≡ answer_of why
+      pub answer : next.answer ≡ unanswered
       pub after : StopLeaves why next σ
+
+    -- a function returns: it holds iterators alone, and its exit is one label further out
+    pub record Returns (d : ℕ) (K : List Label) (v : AnyValue) (σ : State) (c : Conf) : Type 0 where
+      pub next : Locals
+      pub word : ℕ
+      pub way : Cell
+      pub is : AnswerIs v word way
+      pub comes : c ≡ br (suc d) ks K (laid b next) F (answering p.ranges (kinds_of p.globals) way σ)
+      pub loose : Loose next
+      pub hands : (x : ℕ) → next.hand x ≡ empty
+      pub arrays : (x : ℕ) → next.array x ≡ empty
+      pub answer : next.answer ≡ Bits (I64 word)
+      pub after : Sound σ
+
+    abbrev pub Away : (d : ℕ) (K : List Label) (why : Stop) (σ : State) (c : Conf) → Type 0
+    Away d K (Returned v) σ c = Returns d K v σ c
+    Away d K why σ c = WasLeft d K why σ c
 
     -- out of a block
     pub away_out : (d : ℕ) (x : Label) (K : List Label) (why : Stop) (σ : State) (c : Conf) → Away (suc d) (x ∷ K) why σ c → Away d K why σ c
+    away_out d x K (Returned v) σ c a = record {
+      next = a.next;
+      word = a.word;
+      way = a.way;
+      is = a.is;
+      comes = a.comes;
+      loose = a.loose;
+      hands = a.hands;
+      arrays = a.arrays;
+      answer = a.answer;
+      after = a.after;
+    }
     away_out d x K why σ c a = record { next = a.next; comes = a.comes; loose = a.loose; answer = a.answer; after = a.after }

@@ -16,9 +16,10 @@ use Rattle.sem_scripts.specs.ScriptState.{State, Stop, Faulted, OutOfTurns, TooD
 use Rattle.lower_model.specs.Cells.{Cell, Bits, Held, OwnedArray}
 use Rattle.lower_model.specs.ImportCalls.{Host}
 use Rattle.lower_model.specs.Machine.{Store}
+use Rattle.lower_model.specs.Places.{way_none}
 use Rattle.lower_model.specs.Small.{least, text_beside}
-use Rattle.lower_model.specs.Statements.{way_none, way_next, way_exit}
-use Rattle.lower_model.proofs.Globals.{Globals, placed}
+use Rattle.lower_model.specs.Statements.{way_next, way_exit}
+use Rattle.lower_model.proofs.Globals.{Globals, Way, placed, with_global_at}
 use Rattle.lower_model.proofs.Steps.{empty}
 
 -- What an unboxed name has: its number's word, and the text beside it. A number out of range would stand beside too; there is none.
@@ -52,6 +53,12 @@ pub data BareIs (v : Value) (m : ℕ) (c : Cell) : Type 0 where
 -- what an unboxed name has
 abbrev pub BareOf : Value → Type 0
 BareOf v = BareIs v (bare v) (beside v)
+
+-- what the word of a function's answer stands for, where this is in the global that says how a function is left
+pub data AnswerIs (v : Value) (m : ℕ) (way : Cell) : Type 0 where
+  TextWaits : m ≡ text_beside → way ≡ Held v → AnswerIs v m way
+  Nothing : v ≡ value.Uninit → m ≡ least → way ≡ Bits (I32 way_none) → AnswerIs v m way
+  ANumber : (x : Number) → v ≡ value.Num x.number → m ≡ number_word x → way ≡ Bits (I32 way_none) → AnswerIs v m way
 
 abbrev pub perhaps : Option Number → ℕ
 perhaps (Some n) = number_word n
@@ -110,6 +117,10 @@ host_of σ fault = record { shared = σ.shared; arguments = []; fault = fault }
 module _ (ranges : ℕ) (kinds : List Kind) where
   abbrev pub store_with : (way : ℕ) → Option Fault → State → Store
   store_with way fault σ = record { globals = placed ranges (length kinds) (cells_of kinds way σ); host = host_of σ fault; assigning = None }
+
+  -- where an answer is given
+  abbrev pub answering : Cell → State → Store
+  answering way σ = record { globals = placed ranges (length kinds) (with_global_at ranges (length kinds) (cells_of kinds way_none σ) Way way); host = host_of σ None; assigning = None }
 
   -- between two parts of code
   abbrev pub store : State → Store

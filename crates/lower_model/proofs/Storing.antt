@@ -170,7 +170,7 @@ module _ (p : Program) (deepest : Watch) (ks : List Kind) (F : List Frame) (b : 
   stored_ok o (Answered (answer.Of sort.Value)) x t l put gs σ L1 G1 K k lt e hd puts = let hf = hand_few o in record { steps = hand_work o; few = omega (arith, hf); goes = hand_stored o t l put gs σ L1 G1 lt puts x K k hd.0 }
   stored_ok o (Answered (answer.Of sort.Number)) x t l put gs σ L1 G1 K k lt e hd puts = record { steps = 3; few = omega arith; goes = number_stored o t l put gs σ L1 G1 lt puts x K k hd.0 hd.1 }
   stored_ok o (Answered answer.Truth) x t l put gs σ L1 G1 K k lt e hd puts = record { steps = 3; few = omega arith; goes = number_stored o t l put gs σ L1 G1 lt puts (truth_number x) K k hd.0 (hd.1 ∙ ap (λ m. Bits (I64 m)) (flag_word x)) }
-  stored_ok o Bare x t l put gs σ L1 G1 K k lt e hd puts = bare_stored o t l put gs σ L1 G1 lt puts x K k hd.0 hd.1.0 hd.1.1
+  stored_ok o Bare x t l put gs σ L1 G1 K k lt e hd puts = bare_stored o t l put gs σ L1 G1 lt puts x K k hd.0 hd.1 hd.2
   stored_ok o Perhaps x t l put gs σ L1 G1 K k lt e hd puts =
       let s = perhaps_stored o t l put gs σ L1 G1 lt puts (perhaps x) (boxed Perhaps x) K k hd.0 hd.1 (perhaps_is p deepest ks F b M x) in
       let q = s.few in

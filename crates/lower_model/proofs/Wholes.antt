@@ -25,7 +25,7 @@ use Rattle.lower_model.proofs.Regions.{upd_all}
 use Rattle.lower_model.proofs.Globals.{placed}
 use Rattle.lower_model.proofs.GlobalSteps.{storing}
 use Rattle.lower_model.proofs.Locals.{Locals, Answer, Number as NumberAt, with_at, laid}
-use Rattle.lower_model.proofs.Steps.{empty, emptied_ok}
+use Rattle.lower_model.proofs.Steps.{empty, set_ok, unanswered}
 use Rattle.lower_model.proofs.State.{host_of}
 use Rattle.lower_model.proofs.Relation.{Loose}
 use Rattle.lower_model.proofs.Pieces.{number_kept, number_failed}
@@ -119,7 +119,7 @@ module _ (p : Program) (notes : Notes) (s : Setting) (M turns : ℕ) (differ : a
         steps = 1 + (a.steps + 1);
         few = let q = a.few in omega (arith, q);
         goes = goes_from (ap (λ L. at [] [] [] L [] body (storing (first_globals p) (host_at_start s))) (laid_entry b [] refl) ∙ ap (λ g. at [] [] [] (laid b (entry [])) [] body (storing g (host_at_start s))) (first_placed p))
-            (then_goes (emptied_ok b (entry []) Answer tt refl) (then_goes (goes_to a.goes (ap (λ L. at [] [] [] L [] code G) e)) (main_begins named_code)));
+            (then_goes (set_ok b (entry []) Answer unanswered tt refl) (then_goes (goes_to a.goes (ap (λ L. at [] [] [] L [] code G) e)) (main_begins named_code)));
       }
 
   -- a run shows as the script's does, if what comes after the names does
