@@ -25,7 +25,7 @@ use Rattle.lower_model.specs.Small.{moved_out, moved, emptied, let_go, copied, c
 use Rattle.host_imports.specs.declared.import.Import.{Import}
 use Rattle.host_imports.specs.declared.import.Import.TheVariants.{Of, Drop}
 use Rattle.lower_model.proofs.Answers.{IsPlain}
-use Rattle.agree_typed.proofs.Singles.{Stack, Labels, Exit, Reads, Writes, reads_local, writes_local, called, gives, takes, get, put, tee, read, write, word, long, test, compare, binary, convert, discard, inner, leave, leave_if, branched}
+use Rattle.agree_typed.proofs.Singles.{Stack, Labels, Exit, Reads, Writes, reads_local, writes_local, called, gives, takes, get, put, tee, read, word, long, test, compare, binary, convert, discard, inner, leave, leave_if, branched}
 use Rattle.agree_typed.proofs.Standing.{Stands}
 
 -- an import that lets a handle go
@@ -80,7 +80,7 @@ module _ {p : Program} {ks : List Kind} {b : Bases} {C : Context} (at : Stands p
     -- The answer of a function.
 
     text_taken_ok : {t : ℕ} → t < b.temporaries → CodeOk C L k [] rs → CodeOk C L (text_taken b t k) [] rs
-    text_taken_ok {t = t} lt r = read at.way (word (write at.way (put (at.handle t lt) r)))
+    text_taken_ok {t = t} lt r = read at.text (put (at.handle t lt) r)
 
     -- an answer that is kept
     pub kept_ok : (f : Bool) (a : Answer) {t d : ℕ} (ps : Stack) → IsPlain a → t < b.temporaries → Exit L d → CodeOk C L k ps rs →

@@ -127,10 +127,10 @@ module _ (p : Program) where
   abbrev later : List GlobalForm
   later = replicate p.ranges (word_global 0) ++ name_globals (kinds_of p.globals)
 
-  later_global : (i m : ℕ) (g : GlobalForm) → suc (suc i) ≡ m → slice_get later i ≡ Some g → slice_get (map type_of (globals_of p)) m ≡ Some g.ty
+  later_global : (i m : ℕ) (g : GlobalForm) → suc (suc (suc i)) ≡ m → slice_get later i ≡ Some g → slice_get (map type_of (globals_of p)) m ≡ Some g.ty
   later_global i m g e h = ap (slice_get (map type_of (globals_of p))) (sym e) ∙ type_there later i g h
 
-  name_global : (i m : ℕ) (g : GlobalForm) → suc (suc p.ranges) + i ≡ m → slice_get (name_globals (kinds_of p.globals)) i ≡ Some g →
+  name_global : (i m : ℕ) (g : GlobalForm) → suc (suc (suc p.ranges)) + i ≡ m → slice_get (name_globals (kinds_of p.globals)) i ≡ Some g →
       slice_get (map type_of (globals_of p)) m ≡ Some g.ty
   name_global i m g e h =
       let l = length-replicate p.ranges (word_global 0) in
@@ -179,6 +179,7 @@ module _ (p : Program) where
     parameter = λ i k h. there_before (map kind_type ks) (local_types b) i (kind_type k) (parameter_there ks i k h);
     way = refl;
     status = refl;
+    text = refl;
     range = λ i lt.
         later_global i (range_global i) (word_global 0) refl
         (there_before (replicate p.ranges (word_global 0)) (name_globals (kinds_of p.globals)) i (word_global 0)

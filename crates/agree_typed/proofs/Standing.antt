@@ -8,7 +8,7 @@ use Rattle.mid_program.specs.Mid.{Kind, Program, parameters_at}
 use Rattle.mid_program.specs.Sorted.{calls_of, kinds_of, has_kind}
 use Rattle.lower_model.specs.Emission.{function_number}
 use Rattle.host_imports.specs.Imports.{import_number, import_type}
-use Rattle.lower_model.specs.Places.{Bases, way_global, status_global, range_global, handle_global, number_global, answer_local, handle_local, number_local, iterator_local, array_local, kind_type}
+use Rattle.lower_model.specs.Places.{Bases, way_global, status_global, text_global, range_global, handle_global, number_global, answer_local, handle_local, number_local, iterator_local, array_local, kind_type}
 use Rattle.host_imports.specs.declared.import.Import.{Import}
 use Rattle.agree_typed.proofs.Singles.{variable}
 
@@ -26,6 +26,7 @@ pub record Stands (p : Program) (ks : List Kind) (b : Bases) (C : Context) : Typ
   pub parameter : (i : ℕ) (k : Kind) → has_kind ks i k ≡ true → slice_get C.locals i ≡ Some (kind_type k)
   pub way : slice_get C.globals way_global ≡ Some (variable I32)
   pub status : slice_get C.globals status_global ≡ Some (variable I64)
+  pub text : slice_get C.globals text_global ≡ Some (variable I32)
   pub range : (i : ℕ) → i < p.ranges → slice_get C.globals (range_global i) ≡ Some (variable I32)
   pub name_handle : (i : ℕ) → i < length (kinds_of p.globals) → slice_get C.globals (handle_global p.ranges i) ≡ Some (variable I32)
   pub name_number : (i : ℕ) → i < length (kinds_of p.globals) → slice_get C.globals (number_global p.ranges i) ≡ Some (variable I64)

@@ -270,11 +270,11 @@ module _ {p : Program} {ks : List Kind} {b : Bases} {C : Context} (at : Stands p
 
   module _ {L : Labels} {k : Instructions} {rs : Stack} where
     answer_given_ok : {d : ℕ} (f : Form) → 0 < b.temporaries → Exit L (suc d) → CodeOk C L k [] rs → CodeOk C L (answer_given (layout_of p b) f d k) [] rs
-    answer_given_ok (Answered (answer.Of sort.Value)) lt y r = moved_out_ok at (at.handle 0 lt) (write at.way (long (put at.answer (leave y r))))
+    answer_given_ok (Answered (answer.Of sort.Value)) lt y r = moved_out_ok at (at.handle 0 lt) (write at.text (long (put at.answer (leave y r))))
     answer_given_ok (Answered (answer.Of sort.Number)) lt y r = get (at.number 0 lt) (put at.answer (leave y r))
     answer_given_ok (Answered answer.Truth) lt y r = get (at.number 0 lt) (put at.answer (leave y r))
     answer_given_ok Bare lt y r =
-        number_is_ok at (at.number 0 lt) (branched (moved_out_ok at (at.handle 0 lt) (write at.way done)) done
+        number_is_ok at (at.number 0 lt) (branched (moved_out_ok at (at.handle 0 lt) (write at.text done)) done
         (get (at.number 0 lt) (put at.answer (leave y r))))
     answer_given_ok Perhaps lt y r = get (at.number 0 lt) (put at.answer (leave y r))
     answer_given_ok f lt y r = long (put at.answer (leave y r))

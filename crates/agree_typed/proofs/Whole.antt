@@ -109,9 +109,10 @@ module _ (p : Program) where
   globals_set : All IsSet (globals_of p)
   globals_set =
       let later = replicate p.ranges (word_global 0) ++ name_globals (kinds_of p.globals) in
-      All-cons IsSet (word_global 0) (long_global 0 ∷ later) refl (All-cons IsSet (long_global 0) later refl
+      let texts = word_global minus_one ∷ later in
+      All-cons IsSet (word_global 0) (long_global 0 ∷ texts) refl (All-cons IsSet (long_global 0) texts refl (All-cons IsSet (word_global minus_one) later refl
       (All-append IsSet (replicate p.ranges (word_global 0)) (name_globals (kinds_of p.globals)) (All-replicate IsSet p.ranges (word_global 0) refl)
-      (names_set (kinds_of p.globals))))
+      (names_set (kinds_of p.globals)))))
 
   one_name : AreDistinct (codes "main" ∷ [])
   one_name zero lt c = omega (arith, c.1)

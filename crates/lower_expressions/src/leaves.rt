@@ -122,7 +122,7 @@ pub(crate) fn is_open(
         (does (Convert I64ExtendI32U) (does (LocalSet (n y.now.bases.now at.temporary)) k)))) }
 {
     let all = [
-        Simple::GlobalGet(item as u32 + 2),
+        Simple::GlobalGet(item as u32 + 3),
         Simple::Convert(CvtOp::I64ExtendI32U),
         Simple::LocalSet(y.bases.number(at.temporary)),
     ];

@@ -19,7 +19,7 @@ pub fn global_handle(y: &FunctionLayout<'_>, name: usize) -> u32
     ensures { result ≡ global_handle (view_layout y.now) name }
 {
     let name = name as u32;
-    y.script.ranges() + 2 + (name + name)
+    y.script.ranges() + 3 + (name + name)
 }
 
 /// The global of a name's number.
@@ -28,7 +28,7 @@ pub fn global_number(y: &FunctionLayout<'_>, name: usize) -> u32
     ensures { result ≡ global_number (view_layout y.now) name }
 {
     let name = name as u32;
-    y.script.ranges() + 3 + (name + name)
+    y.script.ranges() + 4 + (name + name)
 }
 
 /// Adds an array.

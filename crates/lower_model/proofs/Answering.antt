@@ -11,20 +11,20 @@ use Rattle.wasm_types.specs.Syntax.{Instructions, Done}
 use Rattle.wasm_types.specs.declared.instr.IRelOp.TheVariants.{LeS}
 use Rattle.wasm_types.specs.declared.instr.Simple.TheVariants.{BrIf}
 use Rattle.wasm_store.specs.Integers.{compare_at}
-use Rattle.wasm_store.specs.declared.word.Word.TheVariants.{I32, I64}
+use Rattle.wasm_store.specs.declared.word.Word.TheVariants.{I64}
 use Rattle.wasm_store.specs.Words.{flag}
 use Rattle.mid_program.specs.Mid.{Kind, Program, Bare}
 use Rattle.mid_program.specs.Sorted.{kinds_of}
 use Rattle.sem_scripts.specs.ScriptState.{State}
-use Rattle.lower_model.specs.Cells.{Cell, Bits, Held, Gone, is_owned}
+use Rattle.lower_model.specs.Cells.{Cell, Bits, Held, is_owned}
 use Rattle.lower_model.specs.Machine.{Conf, Code, Label, Frame, at}
 use Rattle.lower_model.specs.Places.{Bases}
 use Rattle.lower_model.specs.Small.{does, when, least, text_beside, was_left, number_is, n, answer_kept, text_or_left, text_taken}
 use Rattle.lower_model.proofs.Watch.{Watch}
 use Rattle.lower_model.proofs.Runs.{Goes, goes_to, goes_from, then_goes, by_steps}
 use Rattle.lower_model.proofs.Regions.{upd_same}
-use Rattle.lower_model.proofs.Globals.{Way, with_global_at}
-use Rattle.lower_model.proofs.GlobalSteps.{global_moved, global_set_ok}
+use Rattle.lower_model.proofs.Globals.{Text, with_global_at}
+use Rattle.lower_model.proofs.GlobalSteps.{global_moved}
 use Rattle.lower_model.proofs.Locals.{Locals, Hand, Number as NumberAt, with_at, laid}
 use Rattle.lower_model.proofs.Steps.{set_ok, tee_ok}
 use Rattle.lower_model.proofs.State.{AnswerIs, TextWaits, Nothing, ANumber, IsBeside, IsNone, IsNumber, cells_of, answering}
@@ -55,9 +55,9 @@ module _ (p : Program) (deepest : Watch) (ks : List Kind) (F : List Frame) (b : 
     pub holds : HoldsAt Bare t next v
     pub keeps : Keeps t l next
 
-  pub taken_ok : (t i w d m : ℕ) (way : Cell) (k : Instructions) (K : List Label) (l : Locals) (σ : State) (v : Value) → t < b.temporaries → Fit p deepest ks F t i w l σ → AnswerIs v m way →
-      Taken t i w k K l σ v (at ks (Bits (I64 m) ∷ []) K (laid b l) F (answer_kept b t d k) (answering p.ranges (kinds_of p.globals) way σ))
-  taken_ok t i w d m way k K l σ v lt ft (ANumber x ev em ew) =
+  pub taken_ok : (t i w d m : ℕ) (text : Cell) (k : Instructions) (K : List Label) (l : Locals) (σ : State) (v : Value) → t < b.temporaries → Fit p deepest ks F t i w l σ → AnswerIs v m text →
+      Taken t i w k K l σ v (at ks (Bits (I64 m) ∷ []) K (laid b l) F (answer_kept b t d k) (answering p.ranges (kinds_of p.globals) text σ))
+  taken_ok t i w d m text k K l σ v lt ft (ANumber x ev em ew) =
       let c = Bits (I64 (number_word x)) in
       let l1 = with_at l (NumberAt t) c in
       let slow = text_or_left b t d Done in
@@ -73,7 +73,7 @@ module _ (p : Program) (deepest : Watch) (ks : List Kind) (F : List Frame) (b : 
         holds = (number_word x, upd_same l.number t c, IsNumber x ev refl (ft.free t (omega arith)));
         keeps = keeps_number t l c;
       }
-  taken_ok t i w d m way k K l σ v lt ft (Nothing ev em ew) =
+  taken_ok t i w d m text k K l σ v lt ft (Nothing ev em ew) =
       let c = Bits (I64 least) in
       let l1 = with_at l (NumberAt t) c in
       let e = upd_same l.number t c in
@@ -90,24 +90,23 @@ module _ (p : Program) (deepest : Watch) (ks : List Kind) (F : List Frame) (b : 
         holds = (least, e, IsNone ev refl (ft.free t (omega arith)));
         keeps = keeps_number t l c;
       }
-  taken_ok t i w d m way k K l σ v lt ft (TextWaits em ew) =
+  taken_ok t i w d m text k K l σ v lt ft (TextWaits em ew) =
       let c = Bits (I64 text_beside) in
       let l1 = with_at l (NumberAt t) c in
       let e = upd_same l.number t c in
       let nn = length (kinds_of p.globals) in
-      let g = with_global_at p.ranges nn (cells_of (kinds_of p.globals) 0 σ) Way (Held v) in
+      let g = with_global_at p.ranges nn (cells_of (kinds_of p.globals) 0 σ) Text (Held v) in
       let left = number_is (n b t) was_left (does (BrIf (suc (suc d))) Done) in
       let f1 = fit_number p deepest ks F t (suc t) i w l σ c refl (fit_more p deepest ks F t i w l σ ft) in
       record {
         next = with_at l1 (Hand t) (Held v);
-        steps = 11;
+        steps = 10;
         few = omega arith;
         goes = goes_from (ap₂ (λ z y. at ks (Bits (I64 z) ∷ []) K (laid b l) F (answer_kept b t d k) (answering p.ranges (kinds_of p.globals) y σ)) em ew)
             (then_goes (then_goes (tee_ok b l (NumberAt t) c lt (ft.numbers t)) (then_goes (by_steps 1 refl) (chooses (text_or_left b t d Done) Done 1)))
             (then_goes (then_goes (number_is_ok b l1 t text_beside text_beside lt e) (chooses (text_taken b t Done) left 1))
-            (then_goes (global_moved p.ranges nn g Way (Held v) tt refl)
-            (then_goes (global_set_ok p.ranges nn (with_global_at p.ranges nn g Way Gone) Way (Bits (I32 0)) tt refl refl)
-            (then_goes (set_ok b l1 (Hand t) (Held v) lt (ap is_owned (ft.free t (omega arith)))) (then_goes closes closes))))));
+            (then_goes (global_moved p.ranges nn g Text (Held v) tt refl)
+            (then_goes (set_ok b l1 (Hand t) (Held v) lt (ap is_owned (ft.free t (omega arith)))) (then_goes closes closes)))));
         fit = fit_hand p deepest ks F t (suc t) i w l1 σ (Held v) (inr (v, refl)) (omega arith) f1;
         holds = (text_beside, e, IsBeside refl (upd_same l.hand t (Held v)));
         keeps = keeps_then t l l1 (with_at l1 (Hand t) (Held v)) (keeps_number t l c) (keeps_hand t l1 (Held v));

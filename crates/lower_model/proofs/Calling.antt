@@ -329,9 +329,9 @@ module _ (p : Program) (deepest : Watch) (ks : List Kind) (F : List Frame) (b : 
   -- it came back with an answer
   pub record CameBack (K : List Label) (L : List Cell) (rest : Instructions) (σ : State) (v : Value) (σ1 : State) (c : Conf) : Type 0 where
     pub word : ℕ
-    pub way : Cell
-    pub is : AnswerIs v word way
-    pub comes : c ≡ at ks (Bits (I64 word) ∷ []) K L F rest (answering p.ranges (kinds_of p.globals) way σ1)
+    pub text : Cell
+    pub is : AnswerIs v word text
+    pub comes : c ≡ at ks (Bits (I64 word) ∷ []) K L F rest (answering p.ranges (kinds_of p.globals) text σ1)
     pub sound : Sound p deepest ks F σ1
     pub own : σ1.own ≡ σ.own
 
@@ -466,7 +466,7 @@ module _ (p : Program) (deepest : Watch) (ks : List Kind) (F : List Frame) (b : 
       (then_step mach M (12 + 3 * made_in es) 29 (41 + 3 * made_in es) τ.turns _ (CameBack K (laid b z.next) k4 τ) P Q (go_on (spent τ.turns τ) (λ x. noted_called deepest.notes p n f own)) (omega arith)
       (λ x τ1 c2 cb.
       let f1 = fit_back t u (made_past w es) z.next τ τ1 cb.own cb.sound z.fit in
-      let tk = taken_ok p deepest ks F b t u (made_past w es) d cb.word cb.way k5 K z.next τ1 x (omega (arith, rm)) f1 cb.is in
+      let tk = taken_ok p deepest ks F b t u (made_past w es) d cb.word cb.text k5 K z.next τ1 x (omega (arith, rm)) f1 cb.is in
       let q = tk.few in
       let owned : OwnedFrom w (made_in es) tk.next = λ i lt. (let o = made_owned fs es t w a.next τ vs a.held i lt in (o.0, tk.keeps.arrays (w + i) ∙ (z.under.arrays (w + i) ∙ (g.under.arrays (w + i) ∙ o.1)))) in
       let r = all_freed_ok (made_in es) w (suc t) u (made_past w es) k K tk.next τ1 mw (omega (arith, mw, mm, ar)) tk.fit owned in

@@ -69,7 +69,7 @@ module _ (p : Program) (deepest : Watch) (b : Bases) where
     pub goes : Goes (machine p deepest [] []) steps (at [] [] [] (laid b l) [] main_exit G) (Over (Bits (I32 (w % 2 ^ 32))) G)
 
   pub main_ends_by : (g : Globals) (o : Host) (w : ℕ) (l : Locals) → zero ≡ b.parameters → Loose p deepest [] [] l → l.answer ≡ unanswered → g.status ≡ Bits (I64 w) →
-      globals_by (ending_name o.fault) (suc (suc p.ranges)) (kinds_of p.globals) (placed p.ranges (length (kinds_of p.globals)) g) ≡ true → MainEnds w (storing (placed p.ranges (length (kinds_of p.globals)) g) o) l
+      globals_by (ending_name o.fault) (suc (suc (suc p.ranges))) (kinds_of p.globals) (placed p.ranges (length (kinds_of p.globals)) g) ≡ true → MainEnds w (storing (placed p.ranges (length (kinds_of p.globals)) g) o) l
   main_ends_by g o w l none lo an es fine =
       let G = storing (placed p.ranges (length (kinds_of p.globals)) g) o in
       let mach = machine p deepest [] [] in
@@ -92,7 +92,7 @@ module _ (p : Program) (deepest : Watch) (b : Bases) where
   pub main_ends : (way : ℕ) (fault : Option Fault) (l : Locals) (σ : State) → zero ≡ b.parameters → Loose p deepest [] [] l → l.answer ≡ unanswered → MainEnds (number_word σ.status) (store_with p.ranges (kinds_of p.globals) way fault σ) l
   main_ends way fault l σ none lo an = main_ends_by (cells_of (kinds_of p.globals) way σ) (host_of σ fault) (number_word σ.status) l none lo an refl (by fault)
     where
-      by : (o : Option Fault) → globals_by (ending_name o) (suc (suc p.ranges)) (kinds_of p.globals) (placed p.ranges (length (kinds_of p.globals)) (cells_of (kinds_of p.globals) way σ)) ≡ true
+      by : (o : Option Fault) → globals_by (ending_name o) (suc (suc (suc p.ranges))) (kinds_of p.globals) (placed p.ranges (length (kinds_of p.globals)) (cells_of (kinds_of p.globals) way σ)) ≡ true
       by None = globals_fine p tidy_name way σ name_tidy
       by (Some f) = globals_fine p ended_name way σ name_ended
 

@@ -106,9 +106,9 @@ module _ (p : Program) (deepest : Watch) where
   -- after a call: the answer is on the stack, and the caller's own is as it was
   pub record Back (f : Frame) (F : List Frame) (o : Own) (v : Value) (σ : State) (c : Conf) : Type 0 where
     pub word : ℕ
-    pub way : Cell
-    pub is : AnswerIs v word way
-    pub comes : c ≡ at f.kinds (Bits (I64 word) ∷ f.under) f.labels f.locals F f.rest (answering p.ranges (kinds_of p.globals) way σ)
+    pub text : Cell
+    pub is : AnswerIs v word text
+    pub comes : c ≡ at f.kinds (Bits (I64 word) ∷ f.under) f.labels f.locals F f.rest (answering p.ranges (kinds_of p.globals) text σ)
     pub sound : Sound p deepest f.kinds F σ
     pub own : σ.own ≡ o
 
@@ -172,7 +172,7 @@ module _ (p : Program) (deepest : Watch) where
         let lo = fit_loose p deepest js (f ∷ F) zero zero zero h.next σ fit in
         let x = exits (beside_state p deepest js (f ∷ F) σ) l1 v _ (Back f F own Uninit (record σ { own = own })) (record { params = lo.params; hands = lo.hands; numbers = lo.numbers; walks = lo.walks; yards = lo.yards })
         (λ y lt. fit.free y (omega arith)) (λ y lt. fit.spare y (omega arith)) refl refl
-        (record { word = least; way = Bits (I32 0); is = Nothing refl refl refl; comes = refl; sound = sound_back σ fit.sound; own = refl }) in
+        (record { word = least; text = Gone; is = Nothing refl refl refl; comes = refl; sound = sound_back σ fit.sound; own = refl }) in
         record {
           conf = x.conf;
           steps = 2 + x.steps;
@@ -189,8 +189,8 @@ module _ (p : Program) (deepest : Watch) where
     came w m c l0 (Gives Continued σ) h = absurd h.holds.flows
     came w m c l0 (Stops (Returned v) σ) h =
         reaches_on (machine p deepest js (f ∷ F)) M (8 * b.iterators + (2 * b.parameters + 2)) w (w + (exit_work b + 3)) m σ.turns c _ (Back f F own v (record σ { own = own })) (omega arith)
-        (λ c1 q. exits (answering p.ranges (kinds_of p.globals) q.way σ) q.next (Bits (I64 q.word)) c1 (Back f F own v (record σ { own = own })) q.loose (λ x lt. q.hands x) (λ x lt. q.arrays x) q.answer q.comes
-        (record { word = q.word; way = q.way; is = q.is; comes = refl; sound = sound_back σ q.after; own = refl })) h
+        (λ c1 q. exits (answering p.ranges (kinds_of p.globals) q.text σ) q.next (Bits (I64 q.word)) c1 (Back f F own v (record σ { own = own })) q.loose (λ x lt. q.hands x) (λ x lt. q.arrays x) q.answer q.comes
+        (record { word = q.word; text = q.text; is = q.is; comes = refl; sound = sound_back σ q.after; own = refl })) h
     came w m c l0 (Stops (Faulted x) σ) h =
         reaches_on (machine p deepest js (f ∷ F)) M (exit_work b) w (w + (exit_work b + 3)) m σ.turns c _ (Lost f F (Faulted x) (record σ { own = own })) (omega arith)
         (λ c1 q. left_exits (left_beside p deepest js (f ∷ F) (Faulted x) σ) q.next c1 (Lost f F (Faulted x) (record σ { own = own })) q.loose q.answer q.comes (record { comes = refl; after = tt })) h

@@ -9,7 +9,7 @@ use Rattle.sem_primitives.specs.declared.sorts.Answer.TheVariants as answer
 use Rattle.sem_primitives.specs.declared.sorts.Sort.TheVariants as sort
 use Rattle.wasm_types.specs.Syntax.{Instructions, Done as NoMore}
 use Rattle.wasm_types.specs.declared.instr.Simple.TheVariants.{Br, LocalGet, LocalSet}
-use Rattle.wasm_store.specs.declared.word.Word.TheVariants.{I32, I64}
+use Rattle.wasm_store.specs.declared.word.Word.TheVariants.{I64}
 use Rattle.wasm_store.specs.Words.{flag}
 use Rattle.mid_program.specs.Mid.{Kind, Program, Form, Answered, Bare, Perhaps, Code, Choose, form_of}
 use Rattle.mid_program.specs.MidMeaning.{Holds, evaluated, all_evaluated, boxed, converted, truth_in}
@@ -17,7 +17,7 @@ use Rattle.sem_scripts.specs.ScriptState.{State, Returned, Outcome, Gives, Stops
 use Rattle.sem_scripts.specs.Statements.{Flow}
 use Rattle.sem_scripts.specs.Steps.{truth_number}
 use Rattle.mid_program.specs.Sorted.{There, fits, is_tested, kinds_of, sorted, all_sorted}
-use Rattle.lower_model.specs.Cells.{Cell, Bits, Held, is_owned}
+use Rattle.lower_model.specs.Cells.{Cell, Bits, Held, Gone, is_owned}
 use Rattle.lower_model.specs.Emission.{emitted, all_emitted}
 use Rattle.lower_model.specs.Machine.{Conf, Label, Frame, at, br, label, loops_walked}
 use Rattle.lower_model.specs.Places.{Bases, answer_local, room, arrays_in}
@@ -26,8 +26,8 @@ use Rattle.lower_model.specs.Statements.{answer_given, returned, text_given, wor
 use Rattle.lower_model.proofs.Watch.{Watch}
 use Rattle.lower_model.proofs.Runs.{Goes, goes_to, goes_from, then_goes, by_steps, stays, first, then_on, weaker, within, Reaches}
 use Rattle.lower_model.proofs.Regions.{upd_same}
-use Rattle.lower_model.proofs.Globals.{Way}
-use Rattle.lower_model.proofs.GlobalSteps.{global_set_ok, way_comes}
+use Rattle.lower_model.proofs.Globals.{Text}
+use Rattle.lower_model.proofs.GlobalSteps.{global_set_ok}
 use Rattle.lower_model.proofs.Locals.{Locals, Hand, Number as NumberAt, Answer, with_at, laid}
 use Rattle.lower_model.proofs.Steps.{empty, get_copied, set_ok, moved_out_ok}
 use Rattle.lower_model.proofs.State.{AnswerIs, TextWaits, Nothing, ANumber, BareIs, IsBeside, IsNone, IsNumber, cells_of, perhaps, answering, word_not_beside}
@@ -62,14 +62,14 @@ module _ (p : Program) (deepest : Watch) (ks : List Kind) (F : List Frame) (b : 
   given_from j d K v σ c c1 g r le = record { conf = r.conf; steps = j + r.steps; few = le; goes = then_goes g r.goes; holds = r.holds }
 
   -- a word is the answer, where nothing but iterators is held
-  returns_word : (v : Value) (m : ℕ) (way : Cell) (u d : ℕ) (K : List Label) (l : Locals) (σ : State) → Fit p deepest ks F 0 u 0 l σ → AnswerIs v m way →
-      Returns p deepest ks F b d K v σ (br (suc d) ks K (laid b (with_at l Answer (Bits (I64 m)))) F (answering p.ranges (kinds_of p.globals) way σ))
-  returns_word v m way u d K l σ ft is =
+  returns_word : (v : Value) (m : ℕ) (text : Cell) (u d : ℕ) (K : List Label) (l : Locals) (σ : State) → Fit p deepest ks F 0 u 0 l σ → AnswerIs v m text →
+      Returns p deepest ks F b d K v σ (br (suc d) ks K (laid b (with_at l Answer (Bits (I64 m)))) F (answering p.ranges (kinds_of p.globals) text σ))
+  returns_word v m text u d K l σ ft is =
       let lo = fit_loose p deepest ks F 0 u 0 l σ ft in
       record {
         next = with_at l Answer (Bits (I64 m));
         word = m;
-        way = way;
+        text = text;
         is = is;
         comes = refl;
         loose = record { params = lo.params; hands = lo.hands; numbers = lo.numbers; walks = lo.walks; yards = lo.yards };
@@ -80,14 +80,14 @@ module _ (p : Program) (deepest : Watch) (ks : List Kind) (F : List Frame) (b : 
       }
 
   -- the number of temporary 0
-  word_given_ok : (v : Value) (m : ℕ) (way : Cell) (u d : ℕ) (k : Instructions) (K : List Label) (l : Locals) (σ : State) → 0 < b.temporaries → Fit p deepest ks F 0 u 0 l σ → l.number 0 ≡ Bits (I64 m) → AnswerIs v m way →
-      (r : Given d K v σ (at ks [] K (laid b l) F (word_given (layout p deepest ks F b M n) d k) (answering p.ranges (kinds_of p.globals) way σ))) × (r.steps ≡ 3)
-  word_given_ok v m way u d k K l σ lt ft e is = (record {
-    conf = br (suc d) ks K (laid b (with_at l Answer (Bits (I64 m)))) F (answering p.ranges (kinds_of p.globals) way σ);
+  word_given_ok : (v : Value) (m : ℕ) (text : Cell) (u d : ℕ) (k : Instructions) (K : List Label) (l : Locals) (σ : State) → 0 < b.temporaries → Fit p deepest ks F 0 u 0 l σ → l.number 0 ≡ Bits (I64 m) → AnswerIs v m text →
+      (r : Given d K v σ (at ks [] K (laid b l) F (word_given (layout p deepest ks F b M n) d k) (answering p.ranges (kinds_of p.globals) text σ))) × (r.steps ≡ 3)
+  word_given_ok v m text u d k K l σ lt ft e is = (record {
+    conf = br (suc d) ks K (laid b (with_at l Answer (Bits (I64 m)))) F (answering p.ranges (kinds_of p.globals) text σ);
     steps = 3;
     few = omega arith;
     goes = then_goes (get_copied b l (NumberAt 0) (Bits (I64 m)) lt e refl) (then_goes (set_ok b l Answer (Bits (I64 m)) tt (ap is_owned ft.answer)) (by_steps 1 refl));
-    holds = returns_word v m way u d K l σ ft is;
+    holds = returns_word v m text u d K l σ ft is;
   }, refl)
 
   -- the handle of temporary 0 waits
@@ -95,17 +95,17 @@ module _ (p : Program) (deepest : Watch) (ks : List Kind) (F : List Frame) (b : 
       Goes (machine p deepest ks F) 3 (at ks [] K (laid b l) F (text_given (layout p deepest ks F b M n) k) (beside_state p deepest ks F σ)) (at ks [] K (laid b (with_at l (Hand 0) empty)) F k (answering p.ranges (kinds_of p.globals) (Held v) σ))
   text_given_ok K l σ v lt e =
       then_goes (moved_out_ok b l (Hand 0) (Held v) lt e)
-      (global_set_ok p.ranges names (cells_of (kinds_of p.globals) 0 σ) Way (Held v) tt refl (way_comes p.ranges (kinds_of p.globals) None (Bits (I32 0)) (Held v)))
+      (global_set_ok p.ranges names (cells_of (kinds_of p.globals) 0 σ) Text (Held v) tt refl refl)
 
   emptied_fit : (u : ℕ) (l : Locals) (σ : State) → Fit p deepest ks F 1 u 0 l σ → Fit p deepest ks F 0 u 0 (with_at l (Hand 0) empty) σ
   emptied_fit u l σ ft = fit_less p deepest ks F 0 u 0 (with_at l (Hand 0) empty) σ (upd_same l.hand 0 empty) (fit_hand p deepest ks F 0 1 u 0 l σ empty (inl refl) (omega arith) ft)
 
   -- a number, or nothing yet
-  plainly_given : (v : Value) (m : ℕ) (u d : ℕ) (k : Instructions) (K : List Label) (l : Locals) (σ : State) → 0 < b.temporaries → Fit p deepest ks F 1 u 0 l σ → l.hand 0 ≡ empty → l.number 0 ≡ Bits (I64 m) → AnswerIs v m (Bits (I32 0)) →
+  plainly_given : (v : Value) (m : ℕ) (u d : ℕ) (k : Instructions) (K : List Label) (l : Locals) (σ : State) → 0 < b.temporaries → Fit p deepest ks F 1 u 0 l σ → l.hand 0 ≡ empty → l.number 0 ≡ Bits (I64 m) → AnswerIs v m Gone →
       Given d K v σ (at ks [] K (laid b l) F (word_given (layout p deepest ks F b M n) d k) (beside_state p deepest ks F σ))
-  plainly_given v m u d k K l σ lt ft e en is = (word_given_ok v m (Bits (I32 0)) u d k K l σ lt (fit_less p deepest ks F 0 u 0 l σ e ft) en is).0
+  plainly_given v m u d k K l σ lt ft e en is = (word_given_ok v m Gone u d k K l σ lt (fit_less p deepest ks F 0 u 0 l σ e ft) en is).0
 
-  perhaps_given : (x : Holds Perhaps) → AnswerIs (boxed Perhaps x) (perhaps x) (Bits (I32 0))
+  perhaps_given : (x : Holds Perhaps) → AnswerIs (boxed Perhaps x) (perhaps x) Gone
   perhaps_given None = Nothing refl refl refl
   perhaps_given (Some m) = ANumber m refl refl refl
 
@@ -121,12 +121,12 @@ module _ (p : Program) (deepest : Watch) (ks : List Kind) (F : List Frame) (b : 
       (let q = w.1 in omega (arith, q))
   bare_given v m u d k K l σ lt ft en (IsNone ev e e1) =
       let y = layout p deepest ks F b M n in
-      let w = word_given_ok v m (Bits (I32 0)) u d k K l σ lt (fit_less p deepest ks F 0 u 0 l σ e1 ft) en (Nothing ev e refl) in
+      let w = word_given_ok v m Gone u d k K l σ lt (fit_less p deepest ks F 0 u 0 l σ e1 ft) en (Nothing ev e refl) in
       given_from 4 d K v σ _ _ (then_goes (then_goes (goes_to (number_is_ok b l 0 m text_beside lt en) (ap (λ z. at ks (Bits (flag (nat_eq z text_beside)) ∷ []) K (laid b l) F (when (text_given y NoMore) (word_given y d k)) (beside_state p deepest ks F σ)) e)) (chooses (text_given y NoMore) NoMore 0)) closes) w.0
       (let q = w.1 in omega (arith, q))
   bare_given v m u d k K l σ lt ft en (IsNumber x ev e e1) =
       let y = layout p deepest ks F b M n in
-      let w = word_given_ok v m (Bits (I32 0)) u d k K l σ lt (fit_less p deepest ks F 0 u 0 l σ e1 ft) en (ANumber x ev e refl) in
+      let w = word_given_ok v m Gone u d k K l σ lt (fit_less p deepest ks F 0 u 0 l σ e1 ft) en (ANumber x ev e refl) in
       given_from 4 d K v σ _ _
       (then_goes (then_goes (goes_to (number_is_ok b l 0 m text_beside lt en) (ap (λ f. at ks (Bits (flag f) ∷ []) K (laid b l) F (when (text_given y NoMore) (word_given y d k)) (beside_state p deepest ks F σ)) (ap (λ z. nat_eq z text_beside) e ∙ word_not_beside x))) (chooses (text_given y NoMore) NoMore 0)) closes) w.0
       (let q = w.1 in omega (arith, q))

@@ -1,7 +1,7 @@
 -- Single instructions on globals.
 use Rattle.std.proofs.Common.{◌≡◌, ℕ, zero, suc, ◌+◌, ◌-◌, true, false, List, [], ◌∷◌, length, Option, Some, None, refl, ap, ap₂, ◌∙◌, arith}
-use Rattle.std.specs.Prelude.{set, not, ◌&&◌, ◌||◌, nat_lt}
-use Rattle.std.proofs.lemmas.Bool.{eq-eqb, or_left, or_right}
+use Rattle.std.specs.Prelude.{set, not, ◌&&◌, ◌||◌}
+use Rattle.std.proofs.lemmas.Bool.{eq-eqb, or_right}
 use Rattle.wasm_types.specs.Syntax.{Instructions}
 use Rattle.wasm_types.specs.declared.instr.Simple.TheVariants.{GlobalGet, GlobalSet}
 use Rattle.mid_program.specs.Mid.{Kind, Unboxed}
@@ -9,7 +9,7 @@ use Rattle.mid_program.specs.Sorted.{same_kind}
 use Rattle.lower_model.specs.Cells.{Cell, Gone, is_owned, is_word, is_gone, is_bare_handle, is_handle_of, may_come, read_global, left_in_global, has_room}
 use Rattle.lower_model.specs.ImportCalls.{Host}
 use Rattle.lower_model.specs.Machine.{Code, Label, Frame, Store, assigning_then, at, guarded}
-use Rattle.lower_model.specs.Places.{handle_global, way_global}
+use Rattle.lower_model.specs.Places.{handle_global}
 use Rattle.lower_model.specs.Small.{does}
 use Rattle.lower_model.proofs.Runs.{Goes, goes_to}
 use Rattle.lower_model.proofs.Globals.{Globals, Global, global_of, IsGlobal, has_global, with_global_at, has_global_with, placed, placed_at, placed_set, placed_again, global_there}
@@ -28,15 +28,15 @@ global_roomy ranges names g p h e = ap₂ (λ x y. x && not y) (global_there ran
 -- What may come into a global: back to where it was moved from, to the name that is assigned to, and to a name that has no number.
 
 pub comes_back : (ranges : ℕ) (ks : List Kind) (name : Option ℕ) (g : Globals) (p : Global) (new : Cell) →
-    may_come (suc (suc ranges)) ks name (global_of ranges (length ks) p) (has_global ranges (length ks) (with_global_at ranges (length ks) g p Gone) p) new ≡ true
+    may_come (suc (suc (suc ranges))) ks name (global_of ranges (length ks) p) (has_global ranges (length ks) (with_global_at ranges (length ks) g p Gone) p) new ≡ true
 comes_back ranges ks name g p new =
-    ap (λ c. may_come (suc (suc ranges)) ks name (global_of ranges (length ks) p) c new) (has_global_with ranges (length ks) g p Gone) ∙ or_right (is_word new) true refl
+    ap (λ c. may_come (suc (suc (suc ranges))) ks name (global_of ranges (length ks) p) c new) (has_global_with ranges (length ks) g p Gone) ∙ or_right (is_word new) true refl
 
-pub assigned_comes : (ranges : ℕ) (ks : List Kind) (i : ℕ) (old new : Cell) → may_come (suc (suc ranges)) ks (Some i) (handle_global ranges i) old new ≡ true
+pub assigned_comes : (ranges : ℕ) (ks : List Kind) (i : ℕ) (old new : Cell) → may_come (suc (suc (suc ranges))) ks (Some i) (handle_global ranges i) old new ≡ true
 assigned_comes ranges ks i old new =
-    let x : handle_global ranges i - suc (suc ranges) ≡ i + i = omega arith in
-    ap (λ z. is_word new || (is_gone old || (not (is_bare_handle ks z) || (is_handle_of (Some i) z || nat_lt (handle_global ranges i) (suc (suc ranges)))))) x
-    ∙ or_right (is_word new) _ (or_right (is_gone old) _ (or_right (not (is_bare_handle ks (i + i))) _ (or_left _ _ (eq-eqb (i + i) (i + i) refl))))
+    let x : handle_global ranges i - suc (suc (suc ranges)) ≡ i + i = omega arith in
+    ap (λ z. is_word new || (is_gone old || (not (is_bare_handle ks z) || is_handle_of (Some i) z))) x
+    ∙ or_right (is_word new) _ (or_right (is_gone old) _ (or_right (not (is_bare_handle ks (i + i))) _ (eq-eqb (i + i) (i + i) refl)))
 
 pub bare_handle_is : (ks : List Kind) (i : ℕ) → is_bare_handle ks (i + i) ≡ same_kind (kind_here ks i) Unboxed
 bare_handle_is [] i = refl
@@ -46,19 +46,12 @@ bare_handle_is (k ∷ ks) (suc i) = ap (is_bare_handle (k ∷ ks)) (two i) ∙ b
     two : (i : ℕ) → suc i + suc i ≡ suc (suc (i + i))
     two i = omega arith
 
-pub boxed_comes : (ranges : ℕ) (ks : List Kind) (name : Option ℕ) (i : ℕ) (old new : Cell) → same_kind (kind_here ks i) Unboxed ≡ false → may_come (suc (suc ranges)) ks name (handle_global ranges i) old new ≡ true
+pub boxed_comes : (ranges : ℕ) (ks : List Kind) (name : Option ℕ) (i : ℕ) (old new : Cell) → same_kind (kind_here ks i) Unboxed ≡ false → may_come (suc (suc (suc ranges))) ks name (handle_global ranges i) old new ≡ true
 boxed_comes ranges ks name i old new e =
-    let x : handle_global ranges i - suc (suc ranges) ≡ i + i = omega arith in
-    let before = nat_lt (handle_global ranges i) (suc (suc ranges)) in
-    ap (λ z. is_word new || (is_gone old || (not (is_bare_handle ks z) || (is_handle_of name z || before)))) x
-    ∙ (ap (λ t. is_word new || (is_gone old || (not t || (is_handle_of name (i + i) || before)))) (bare_handle_is ks i ∙ e)
+    let x : handle_global ranges i - suc (suc (suc ranges)) ≡ i + i = omega arith in
+    ap (λ z. is_word new || (is_gone old || (not (is_bare_handle ks z) || is_handle_of name z))) x
+    ∙ (ap (λ t. is_word new || (is_gone old || (not t || is_handle_of name (i + i)))) (bare_handle_is ks i ∙ e)
     ∙ or_right (is_word new) _ (or_right (is_gone old) true refl))
-
--- a text that is returned comes into the global that says how a function is left
-pub way_comes : (ranges : ℕ) (ks : List Kind) (name : Option ℕ) (old new : Cell) → may_come (suc (suc ranges)) ks name way_global old new ≡ true
-way_comes ranges ks name old new =
-    let x = way_global - suc (suc ranges) in
-    or_right (is_word new) _ (or_right (is_gone old) _ (or_right (not (is_bare_handle ks x)) _ (or_right (is_handle_of name x) true refl)))
 
 module _ {u : Code} {ks : List Kind} {F : List Frame} (ranges names : ℕ) where
   pub global_moved : {vs : List Cell} {K : List Label} {L : List Cell} {c : Instructions} {o : Host} {name : Option ℕ} → (g : Globals) (p : Global) (v : Cell) → IsGlobal ranges names p → has_global ranges names g p ≡ v →

@@ -141,7 +141,7 @@ module _ (p : Program) (deepest : Watch) (ks : List Kind) (F : List Frame) (b : 
   range_written : (i : ℕ) (c : Bool) (σ : State) → placed p.ranges (length (kinds_of p.globals)) (with_global_at p.ranges (length (kinds_of p.globals)) (cells_of (kinds_of p.globals) 0 σ) (Range i) (Bits (I32 (flag_number c)))) ≡ placed p.ranges (length (kinds_of p.globals)) (cells_of (kinds_of p.globals) 0 (with_range i c σ))
   range_written i c σ =
       let g = cells_of (kinds_of p.globals) 0 σ in
-      ap (λ r. g.way ∷ (g.status ∷ (r ++ names_on p.ranges (length (kinds_of p.globals)) g)))
+      ap (λ r. g.way ∷ (g.status ∷ (g.text ∷ (r ++ names_on p.ranges (length (kinds_of p.globals)) g))))
       (cells_same (upd g.range i (Bits (I32 (flag_number c)))) (λ j. Bits (I32 (flag_number (changed σ.ranges i c j)))) p.ranges (λ j lt. marked σ.ranges i c j))
 
   pub mark_step : (i : ℕ) (c : Bool) → StepOk p deepest ks F b M n (Mark i c)

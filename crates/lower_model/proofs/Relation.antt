@@ -367,9 +367,9 @@ module _ (p : Program) (deepest : Watch) (ks : List Kind) (F : List Frame) where
     pub record Returns (d : ℕ) (K : List Label) (v : AnyValue) (σ : State) (c : Conf) : Type 0 where
       pub next : Locals
       pub word : ℕ
-      pub way : Cell
-      pub is : AnswerIs v word way
-      pub comes : c ≡ br (suc d) ks K (laid b next) F (answering p.ranges (kinds_of p.globals) way σ)
+      pub text : Cell
+      pub is : AnswerIs v word text
+      pub comes : c ≡ br (suc d) ks K (laid b next) F (answering p.ranges (kinds_of p.globals) text σ)
       pub loose : Loose next
       pub hands : (x : ℕ) → next.hand x ≡ empty
       pub arrays : (x : ℕ) → next.array x ≡ empty
@@ -385,7 +385,7 @@ module _ (p : Program) (deepest : Watch) (ks : List Kind) (F : List Frame) where
     away_out d x K (Returned v) σ c a = record {
       next = a.next;
       word = a.word;
-      way = a.way;
+      text = a.text;
       is = a.is;
       comes = a.comes;
       loose = a.loose;

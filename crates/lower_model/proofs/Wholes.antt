@@ -77,7 +77,7 @@ module _ (p : Program) (notes : Notes) (s : Setting) (M turns : ℕ) (differ : a
       let mach = machine p (watched notes s) [] [] in
       let b = main_bases p in
       let G = storing globals_first (host_of state_first (Some f)) in
-      let e = main_ends_by p (watched notes s) b first_cells (host_of state_first (Some f)) 0 (numbered least) refl (numbered_loose least) refl refl (placed_fine p ended_name first_cells refl refl (λ i. refl) (λ i. ended_empty _) (λ i. refl)) in
+      let e = main_ends_by p (watched notes s) b first_cells (host_of state_first (Some f)) 0 (numbered least) refl (numbered_loose least) refl refl (placed_fine p ended_name first_cells refl refl refl (λ i. refl) (λ i. ended_empty _) (λ i. refl)) in
       faulted mach M {A = Unit {0}} (main_exit_work b + 4) (1 + (3 + e.steps)) _ _ f state_first (λ u σ. EndsWell (Gives u σ)) (λ why σ. EndsWell (Stops why σ))
       (then_goes (called (Of row.Pow) (Bits (I64 1) ∷ (Bits (I64 1) ∷ [])) [] G (Some (Bits (I64 least))) (host_of state_first (Some f)) refl refl refl)
       (then_goes (number_failed b (Functions.begun []) zero zero one refl) e.goes)) (let q = e.few in omega (arith, q)) refl

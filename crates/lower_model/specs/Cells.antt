@@ -183,9 +183,9 @@ abbrev pub is_handle_of : Option ℕ → (x : ℕ) → Bool
 is_handle_of None x = false
 is_handle_of (Some i) x = nat_eq x (i + i)
 
--- Names begin with global `before`.
+-- names begin with global `before`
 abbrev pub may_come : (before : ℕ) → List Kind → (assigning : Option ℕ) → (x : ℕ) → (old new : Cell) → Bool
-may_come before ks assigning x old new = is_word new || (is_gone old || (not (is_bare_handle ks (x - before)) || (is_handle_of assigning (x - before) || nat_lt x before)))
+may_come before ks assigning x old new = is_word new || (is_gone old || (not (is_bare_handle ks (x - before)) || is_handle_of assigning (x - before)))
 
 -- once a fault is kept this is a bound from above: a name may have nothing
 abbrev pub ended_name : Kind → Cell → Bool

@@ -94,7 +94,7 @@ abbrev pub functions_from : List Bool → ℕ → List Callee → List FuncForm
 functions_from bs n [] = []
 functions_from bs n (f ∷ fs) = (record { ty = n; locals = f.locals; body = renumbered bs f.body }) ∷ functions_from bs (suc n) fs
 
--- Globals: the two of the module, those of ranges, and those of names, which have nothing yet.
+-- Globals: the three of the module, those of ranges, and those of names, which have nothing yet.
 
 abbrev pub word_global : ℕ → GlobalForm
 word_global n = record { ty = record { value = I32; mutable = true }; init = does (I32Const n) Done }
@@ -107,7 +107,7 @@ name_globals [] = []
 name_globals (k ∷ ks) = word_global minus_one ∷ (long_global least ∷ name_globals ks)
 
 abbrev pub globals_of : Program → List GlobalForm
-globals_of p = word_global 0 ∷ (long_global 0 ∷ (replicate p.ranges (word_global 0) ++ name_globals (kinds_of p.globals)))
+globals_of p = word_global 0 ∷ (long_global 0 ∷ (word_global minus_one ∷ (replicate p.ranges (word_global 0) ++ name_globals (kinds_of p.globals))))
 
 -- pages of 65,536 bytes
 abbrev pub pages_for : ℕ → ℕ

@@ -17,7 +17,8 @@ abbrev pub memory_of : List (List ℕ) → List ℕ
 memory_of [] = []
 memory_of (s ∷ ss) = s ++ memory_of ss
 
--- Globals: how the function is being left, the status, whether the range of each item is open, and for each name a handle, or an array, and a number.
+-- Globals: how the function is being left, the status, the text that a function returns, whether the range of each item is open, and for each name a
+-- handle, or an array, and a number.
 
 abbrev pub way_global : ℕ
 way_global = 0
@@ -25,18 +26,18 @@ way_global = 0
 abbrev pub status_global : ℕ
 status_global = 1
 
--- how a function is left by a fault, or by `return`; where a text is returned its handle waits in this global
-abbrev pub way_none : ℕ
-way_none = 0
+-- where the handle of a text waits that a function returns
+abbrev pub text_global : ℕ
+text_global = 2
 
 abbrev pub range_global : ℕ → ℕ
-range_global i = suc (suc i)
+range_global i = suc (suc (suc i))
 
 abbrev pub handle_global : (ranges : ℕ) → ℕ → ℕ
-handle_global ranges i = suc (suc ranges) + (i + i)
+handle_global ranges i = suc (suc (suc ranges)) + (i + i)
 
 abbrev pub number_global : (ranges : ℕ) → ℕ → ℕ
-number_global ranges i = suc (suc (suc ranges) + (i + i))
+number_global ranges i = suc (suc (suc (suc ranges)) + (i + i))
 
 -- the name of the i-th array of the script
 abbrev pub array_name : List Kind → ℕ → ℕ

@@ -12,14 +12,14 @@ use Rattle.sem_primitives.specs.declared.table.Primitive.TheVariants as row
 use Rattle.wasm_types.specs.Syntax.{Plain, If, Instructions, Done, Then}
 use Rattle.wasm_types.specs.declared.types.ValType.TheVariants.{I32, I64}
 use Rattle.wasm_types.specs.declared.instr.Simple.{Simple}
-use Rattle.wasm_types.specs.declared.instr.Simple.TheVariants.{Br, BrIf, Call, Drop as Discard, LocalGet, LocalSet, LocalTee, GlobalGet, GlobalSet, I32Const, I64Const, Test, Compare, Binary, Convert}
+use Rattle.wasm_types.specs.declared.instr.Simple.TheVariants.{Br, BrIf, Call, Drop as Discard, LocalGet, LocalSet, LocalTee, GlobalGet, I32Const, I64Const, Test, Compare, Binary, Convert}
 use Rattle.wasm_types.specs.declared.instr.IBinOp.TheVariants.{Sub}
 use Rattle.wasm_types.specs.declared.instr.IRelOp.TheVariants.{Eq, LeS, Ne}
 use Rattle.wasm_types.specs.declared.instr.ITestOp.TheVariants.{Eqz}
 use Rattle.wasm_types.specs.declared.instr.CvtOp.TheVariants.{I64ExtendI32S, I64ExtendI32U}
 use Rattle.mid_program.specs.Mid.{Form, Answered, Bare, Perhaps}
 use Rattle.host_imports.specs.Imports.{import_number}
-use Rattle.lower_model.specs.Places.{Bases, way_global, way_none, handle_local, number_local}
+use Rattle.lower_model.specs.Places.{Bases, text_global, handle_local, number_local}
 use Rattle.host_imports.specs.declared.import.Import.{Import}
 use Rattle.host_imports.specs.declared.import.Import.TheVariants.{Of, Drop}
 
@@ -125,7 +125,7 @@ module _ (b : Bases) where
   -- The answer of a function: a number, or nothing, or that a text waits, which is moved to the temporary; or the function was left, and so is this one.
 
   abbrev pub text_taken : ℕ → Instructions → Instructions
-  text_taken t k = does (GlobalGet way_global) (does (I32Const way_none) (does (GlobalSet way_global) (does (LocalSet (h t)) k)))
+  text_taken t k = does (GlobalGet text_global) (does (LocalSet (h t)) k)
 
   abbrev pub text_or_left : ℕ → ℕ → Instructions → Instructions
   text_or_left t d k = number_is (n t) text_beside (either (text_taken t Done) (number_is (n t) was_left (does (BrIf (suc (suc d))) Done)) k)

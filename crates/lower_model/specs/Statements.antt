@@ -22,7 +22,7 @@ use Rattle.wasm_types.specs.declared.instr.ITestOp.TheVariants.{Eqz}
 use Rattle.wasm_types.specs.declared.instr.CvtOp.TheVariants.{I32WrapI64}
 use Rattle.sem_scripts.specs.Names.{ArrayName}
 use Rattle.mid_program.specs.Mid.{Kind, Boxed, Unboxed, Many, Code, Choose, Form, Answered, Bare, Perhaps, Step, Eval, Block as Steps_, If as Either, Loop, Each, Break, Continue, Next, Exit, ExitWith, Return, Mark, Steps, NoStep, Then as AndThen, Program, a_value, form_of}
-use Rattle.lower_model.specs.Places.{Bases, way_global, way_none, status_global, range_global, handle_global, number_global, answer_local, iterator_local, array_local}
+use Rattle.lower_model.specs.Places.{Bases, way_global, status_global, text_global, range_global, handle_global, number_global, answer_local, iterator_local, array_local}
 use Rattle.lower_model.specs.Small.{does, ask, ask_row, when, either, end_code, text_beside, copied, moved_out, emptied, let_go, fail_if, number_is, least, was_left, h, n, kept_code, kept_number, kept_done, to_value, number_of_value, to_number}
 use Rattle.lower_model.specs.Quick.{Within, unsure, test_within, Source, Named, Constant, all_unsure, Sum, sum_names, sum_op, sum_in, Update, update_in, Tally, tally_in, Remainder, remainder_in, remainder_names, most_multiplied, multiplied, Counted, counted_in, Pair, pair_names, pair_in, contrary, step_jumps, is_nothing}
 use Rattle.lower_model.specs.Arithmetic.{relation}
@@ -35,7 +35,10 @@ block a k = Then (Block None a) k
 abbrev pub again : Instructions → Instructions → Instructions
 again a k = Then (Again None a) k
 
--- how a function is being left: by a fault, or `return` (`way_none`); by `next`; by `exit`
+-- how a function is being left: by a fault, or `return`; by `next`; by `exit`
+abbrev pub way_none : ℕ
+way_none = 0
+
 abbrev pub way_next : ℕ
 way_next = 1
 
@@ -211,7 +214,7 @@ module _ (y : Layout) where
   word_given d k = does (LocalGet (n b zero)) (does (LocalSet (answer_local b)) (does (Br (suc d)) k))
 
   abbrev pub text_given : Instructions → Instructions
-  text_given k = moved_out (h b zero) (does (GlobalSet way_global) k)
+  text_given k = moved_out (h b zero) (does (GlobalSet text_global) k)
 
   abbrev pub constant_given : ℕ → ℕ → Instructions → Instructions
   constant_given word out k = does (I64Const word) (does (LocalSet (answer_local b)) (does (Br out) k))

@@ -23,8 +23,8 @@ pub const TEXT_BESIDE: u64 = LEAST + 1;
 /// What a function answers that was left.
 pub const WAS_LEFT: u64 = LEAST + 2;
 
-/// How the function is left; where a text is returned its handle waits here.
-const WAY_GLOBAL: u32 = 0;
+/// Where the handle of a text waits that a function returns.
+pub const TEXT_GLOBAL: u32 = 2;
 
 /// Keeps a code, as a number.
 pub fn kept_code(
@@ -116,9 +116,7 @@ fn text_taken(alloc: Global, bases: &Bases, temporary: u32) -> Result<Vec<Instr>
 {
     let mut code = Vec::new(alloc);
     let all = [
-        Simple::GlobalGet(WAY_GLOBAL),
-        Simple::I32Const(0),
-        Simple::GlobalSet(WAY_GLOBAL),
+        Simple::GlobalGet(TEXT_GLOBAL),
         Simple::LocalSet(bases.handle(temporary)),
     ];
     does_all(&mut code, &all)?;

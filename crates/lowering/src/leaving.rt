@@ -12,9 +12,6 @@ use lower_pieces::does_all;
 use std::alloc::AllocError;
 use wasm_types::{Instr, Simple};
 
-/// How the function is left; where a text is returned its handle waits here.
-pub(crate) const WAY_GLOBAL: u32 = 0;
-
 /// How a function is left by a fault, or by `return`.
 pub(crate) const WAY_NONE: u32 = 0;
 
@@ -30,7 +27,7 @@ pub(crate) fn left_by(out: &mut Vec<Instr>, way: u32, exit: u32) -> Result<(), A
 {
     let all = [
         Simple::I32Const(way),
-        Simple::GlobalSet(WAY_GLOBAL),
+        Simple::GlobalSet(0),
         Simple::Br(exit),
     ];
     does_all(out, &all)
@@ -44,7 +41,7 @@ pub(crate) fn marked(out: &mut Vec<Instr>, item: usize, opens: bool) -> Result<(
 {
     let all = [
         Simple::I32Const(u32::from(opens)),
-        Simple::GlobalSet(item as u32 + 2),
+        Simple::GlobalSet(item as u32 + 3),
     ];
     does_all(out, &all)
 }

@@ -11,9 +11,10 @@ ghost use Rattle.lower_expressions.specs.View.{view_layout};
 ghost use Rattle.lowering.specs.Parts.{chosen_returned};
 
 use crate::evaluating::{answered, tested};
-use crate::leaving::WAY_GLOBAL;
 use lower_expressions::FunctionLayout;
-use lower_pieces::{Form, LEAST, TEXT_BESIDE, does, does_all, either, moved_out, number_is, when};
+use lower_pieces::{
+    Form, LEAST, TEXT_BESIDE, TEXT_GLOBAL, does, does_all, either, moved_out, number_is, when,
+};
 use mid_program::Code;
 use sem_primitives::{Answer, Sort};
 use std::alloc::AllocError;
@@ -56,7 +57,7 @@ fn text_given(y: &FunctionLayout<'_>, out: &mut Vec<Instr>) -> Result<(), AllocE
     ensures { OnOk result (Emits out.old.items out.new.items (text_given (view_layout y.now))) }
 {
     moved_out(out, y.bases.handle(0))?;
-    does(out, Simple::GlobalSet(WAY_GLOBAL))
+    does(out, Simple::GlobalSet(TEXT_GLOBAL))
 }
 
 /// The same in a list of its own.
