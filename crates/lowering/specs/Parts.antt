@@ -16,17 +16,13 @@ use Rattle.lower_model.specs.Emission.{Layout, array_pushed, emitted, pending_as
 use Rattle.lower_model.specs.Quick.{Counted, Pair, Remainder, Sum, all_unsure, sum_names, sum_op, Tally, Within, is_nothing, pair_in, step_jumps, test_within}
 use Rattle.lower_model.specs.Places.{Bases, answer_local, handle_global, iterator_local, status_global, way_global}
 use Rattle.lower_model.specs.Small.{ask, ask_row, does, either, end_code, fail_if, h, kept_code, least, moved_out, n, number_is, text_beside, to_number, to_value, when}
-use Rattle.lower_model.specs.Statements.{again, all_emptied, before_parts, block, constant_given, first_part, goes_on, iterator_left, iterators_swept, operands_swept, returned, key_stored, last_part, left_by, left_unless, left_unless_counted, left_unless_pair, name_numbered, name_read, names_declared, parameters_dropped, part_done, record_done, records_read, routines_declared, step_emitted, steps_emitted, sum_kept, element_given, remainder_dropped, summed, summed_anyway, swept, way_exit, way_next}
+use Rattle.lower_model.specs.Statements.{again, all_emptied, before_parts, block, constant_given, first_part, goes_on, iterator_left, iterators_swept, operands_swept, key_stored, last_part, left_by, left_unless, left_unless_counted, left_unless_pair, name_numbered, name_read, names_declared, parameters_dropped, part_done, record_done, records_read, routines_declared, step_emitted, steps_emitted, sum_kept, element_given, remainder_dropped, summed, summed_anyway, swept, way_exit, way_next}
 use Rattle.host_imports.specs.declared.import.Import.TheVariants.{Drop}
 use Rattle.lowering.specs.declared.around.Around.{Around}
 
 -- the status of this form is set, and the function left by `exit`
 abbrev pub status_left : Bases → Form → ℕ → Instructions → Instructions
 status_left bases f d after = to_number bases f zero d (does (LocalGet (n bases zero)) (does (GlobalSet status_global) (left_by way_exit d after)))
-
--- one of two is returned
-abbrev pub chosen_returned : Layout → Code → Code → Code → ℕ → Instructions → Instructions
-chosen_returned layout e a c d after = tested layout [] [] e zero zero d (either (returned layout a (suc d) Done) (returned layout c (suc d) Done) after)
 
 -- what is done over and over, within a label for its end
 abbrev pub rounds : Instructions → Instructions → Instructions

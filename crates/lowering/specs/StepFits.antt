@@ -39,7 +39,7 @@ abbrev mutual
   StepFits layout Next u d = Unit {0}
   StepFits layout Exit u d = Unit {0}
   StepFits layout (ExitWith e) u d = (d ≤ most_labels) × Fits layout e zero zero d
-  StepFits layout (Return e) u d = Fits layout e zero zero d
+  StepFits layout (Return e) u d = (d ≤ most_labels) × Fits layout e zero zero d
   StepFits layout (Mark i c) u d = i ≤ most_places
 
   pub StepsFit : Layout → Steps → (u d : ℕ) → Type 0

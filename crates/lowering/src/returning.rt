@@ -1,14 +1,16 @@
 //! `return`: what a function answers.
-ghost use Rattle.std.specs.Prelude.{[], ◌≡◌, ◌≤◌, IfOk, OnOk, suc};
-ghost use Rattle.mid_program.specs.Mid.{form_of};
+ghost use Rattle.std.specs.Prelude.{[], ◌≡◌, ◌≤◌, false, IfOk, OnOk};
+ghost use Rattle.sem_primitives.specs.declared.sorts.Sort.TheVariants.{Value};
+ghost use Rattle.mid_program.specs.Mid as plain;
+ghost use Rattle.mid_program.specs.Mid.{Bare, form_of};
 ghost use Rattle.mid_program.specs.ViewCode.{view};
+ghost use Rattle.lower_model.specs.Emission.{emitted};
 ghost use Rattle.lower_model.specs.Statements.{answer_given, constant_given, returned, text_given, word_given};
 ghost use Rattle.lower_pieces.specs.Bounds.{most_labels};
 ghost use Rattle.lower_pieces.specs.Emits.{Emits};
 ghost use Rattle.lower_pieces.specs.Forms.{view_form};
 ghost use Rattle.lower_expressions.specs.Fits.{Fits};
 ghost use Rattle.lower_expressions.specs.View.{view_layout};
-ghost use Rattle.lowering.specs.Parts.{chosen_returned};
 
 use crate::evaluating::{answered, tested};
 use lower_expressions::FunctionLayout;
@@ -69,6 +71,17 @@ fn text_code(y: &FunctionLayout<'_>) -> Result<Vec<Instr>, AllocError>
     Ok(code)
 }
 
+/// Gives what may be a number, nothing or a text.
+fn bare_given(y: &FunctionLayout<'_>, out: &mut Vec<Instr>, exit: u32) -> Result<(), AllocError>
+    requires { exit ≤ most_labels }
+    ensures { OnOk result
+        (Emits out.old.items out.new.items (answer_given (view_layout y.now) Bare exit)) }
+{
+    number_is(out, y.bases.number(0), TEXT_BESIDE)?;
+    when(y.alloc, out, text_code(y)?)?;
+    word_given(y, out, exit)
+}
+
 /// Gives what the first temporary has as the answer.
 fn answer_given(
     y: &FunctionLayout<'_>,
@@ -85,11 +98,7 @@ fn answer_given(
             text_given(y, out)?;
             constant_given(y, out, TEXT_BESIDE, exit + 1)
         }
-        Form::Bare => {
-            number_is(out, y.bases.number(0), TEXT_BESIDE)?;
-            when(y.alloc, out, text_code(y)?)?;
-            word_given(y, out, exit)
-        }
+        Form::Bare => bare_given(y, out, exit),
         Form::Perhaps | Form::Answered(Answer::Of(Sort::Number) | Answer::Truth) => {
             word_given(y, out, exit)
         }
@@ -123,17 +132,32 @@ fn chosen_returned(
     no: &Code,
     exit: u32,
 ) -> Result<(), AllocError>
-    requires test { Fits (view_layout y.now) (view test.now) 0 0 exit }
-    requires yes { Fits (view_layout y.now) (view yes.now) 0 0 (suc exit) }
-    requires no { Fits (view_layout y.now) (view no.now) 0 0 (suc exit) }
-    requires labels { suc exit ≤ most_labels }
-    ensures { OnOk result (Emits out.old.items out.new.items (chosen_returned (view_layout y.now)
-        (view test.now) (view yes.now) (view no.now) exit)) }
+    requires { Fits (view_layout y.now)
+        (plain.Choose Value (view test.now) (view yes.now) (view no.now)) 0 0 exit }
+    ensures { OnOk result (Emits out.old.items out.new.items (returned (view_layout y.now)
+        (plain.Choose Value (view test.now) (view yes.now) (view no.now)) exit)) }
 {
     tested(y, out, test, exit)?;
     let yes = returned_code(y, yes, exit + 1)?;
     let no = returned_code(y, no, exit + 1)?;
     either(y.alloc, out, yes, no)
+}
+
+/// Returns what is no choice of values.
+fn plainly_returned(
+    y: &FunctionLayout<'_>,
+    out: &mut Vec<Instr>,
+    code: &Code,
+    exit: u32,
+) -> Result<(), AllocError>
+    requires fit { Fits (view_layout y.now) (view code.now) 0 0 exit }
+    requires labels { exit ≤ most_labels }
+    ensures { OnOk result (Emits out.old.items out.new.items
+        (λ k. emitted (view_layout y.now) false [] [] (view code.now) 0 0 exit
+        (answer_given (view_layout y.now) (form_of [] (view code.now)) exit k))) }
+{
+    let form = answered(y, out, code, exit)?;
+    answer_given(y, out, form, exit)
 }
 
 /// Adds `return`: what is chosen is returned where it is chosen.
@@ -151,9 +175,25 @@ pub(crate) fn returned(
 {
     match code {
         Code::Choose(Sort::Value, test, yes, no) => chosen_returned(y, out, test, yes, no, exit),
-        _ => {
-            let form = answered(y, out, code, exit)?;
-            answer_given(y, out, form, exit)
-        }
+        Code::Do(_, _)
+        | Code::Over(_, _)
+        | Code::Compare(_, _, _)
+        | Code::Joined(_, _, _)
+        | Code::Call(_, _)
+        | Code::Ask
+        | Code::AskLine(_)
+        | Code::FileLine(_, _)
+        | Code::Replace(_, _, _)
+        | Code::Number(_)
+        | Code::Text(_)
+        | Code::Unset
+        | Code::Get(_)
+        | Code::Set(_, _)
+        | Code::Array(_)
+        | Code::IsOpen(_)
+        | Code::Choose(_, _, _, _)
+        | Code::Seq(_, _)
+        | Code::Let(_, _)
+        | Code::Bound(_, _) => plainly_returned(y, out, code, exit),
     }
 }
