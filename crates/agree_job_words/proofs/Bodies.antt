@@ -84,8 +84,8 @@ module _ (tells : Bool) (y : Layout) (sizes : ℕ → Option ℕ) (whole : Progr
   leaves_if = record { so = λ A. tt }
 
   -- a global that is no name's
-  low : (x : ℕ) → x < suc (suc y.ranges) → is_name (suc (suc y.ranges)) x ≡ false
-  low x l = lt-leb (suc (suc y.ranges)) x l
+  low : (x : ℕ) → x < suc (suc (suc y.ranges)) → nat_le (suc (suc (suc y.ranges))) x ≡ false
+  low x l = lt-leb (suc (suc (suc y.ranges))) x l
 
   module _ {e : Bool} {k : Instructions} (r : So e k) where
     -- the truth on the stack leaves where it is false
@@ -246,6 +246,30 @@ module _ (tells : Bool) (y : Layout) (sizes : ℕ → Option ℕ) (whole : Progr
   left_on : {e : Bool} {k : Instructions} {d : ℕ} → So e (does (Br d) k)
   left_on = record { so = λ A. tt }
 
+  -- `return`
+
+  given_spares : {e : Bool} {k : Instructions} (f : Form) (d : ℕ) → So e (answer_given y f d k)
+  given_spares (Answered (answer.Of sort.Value)) d = record { so = λ A. (refl, tt) }
+  given_spares (Answered (answer.Of sort.Number)) d = record { so = λ A. tt }
+  given_spares (Answered answer.Truth) d = record { so = λ A. tt }
+  given_spares Bare d = record { so = λ A. ((refl, tt), (tt, tt)) }
+  given_spares Perhaps d = record { so = λ A. tt }
+  given_spares f d = record { so = λ A. tt }
+
+  returned_spares : {e : Bool} {k : Instructions} → So e k → (x : Code) (d : ℕ) → sorted c [] x ≡ true → names_argv x ≡ false → So e (returned y x d k)
+  unfolding sorted
+  returned_spares r (Choose sort.Value a z w) d s q =
+      let x = sorted c [] a in
+      let g = sorted c [] z in
+      let h = sorted c [] w in
+      let s1 = and_parts (is_tested (form_of [] a)) (fits (form_of [] z) sort.Value && (fits (form_of [] w) sort.Value && (x && (g && h)))) s in
+      let s3 = and_parts x (g && h) (and_parts (fits (form_of [] w) sort.Value) (x && (g && h)) (and_parts (fits (form_of [] z) sort.Value) (fits (form_of [] w) sort.Value && (x && (g && h))) s1.1).1).1 in
+      let s4 = and_parts g h s3.1 in
+      let p = or_none (names_argv a) (names_argv z || names_argv w) q in
+      let p1 = or_none (names_argv z) (names_argv w) p.1 in
+      tested_spares tells y sizes c sized same (either_spares (returned_spares done z (suc d) s4.0 p1.0) (returned_spares done w (suc d) s4.1 p1.1) r) [] [] a zero zero d none_kept s3.0 p.0
+  returned_spares r x d s q = emitted_spares tells y sizes c sized same (given_spares (form_of [] x) d) false [] [] x zero zero d none_kept s q
+
   -- Steps.
 
   mutual
@@ -297,13 +321,10 @@ module _ (tells : Bool) (y : Layout) (sizes : ℕ → Option ℕ) (whole : Progr
       where
         status : So e (does (LocalGet (number_local b zero)) (does (GlobalSet status_global) (left_by way_exit d k)))
         status = record { so = λ A. (refl, (refl, tt)) }
-    step_spares {e = e} {k = k} r (Return x) u d bk ct g l o q =
-        begun (emitted_spares tells y sizes c sized same (to_value_spares tells y sizes answers (form_of [] x) zero) false [] [] x zero zero d none_kept (and_parts (fits (form_of [] x) sort.Value) (sorted c [] x) (and_parts g (fits (form_of [] x) sort.Value && sorted c [] x) o).1).1 q)
-      where
-        answers : So e (moved_out (handle_local b zero) (does (LocalSet (answer_local b)) (does (Br d) k)))
-        answers = record { so = λ A. tt }
+    step_spares r (Return x) u d bk ct g l o q =
+        begun (returned_spares r x d (and_parts (fits (form_of [] x) sort.Value) (sorted c [] x) (and_parts g (fits (form_of [] x) sort.Value && sorted c [] x) o).1).1 q)
     step_spares r (Mark i z) u d bk ct g l o q = record {
-      so = λ A. (either_so (not (nat_eq (flag_number z) 0)) (is_name (suc (suc y.ranges)) (suc (suc i))) (low (suc (suc i)) (let h = ltb-true i c.ranges o in omega (arith, h, ranged))), r.so A);
+      so = λ A. (either_so (not (nat_eq (flag_number z) 0)) (is_name (suc (suc (suc y.ranges))) (suc (suc (suc i)))) (low (suc (suc (suc i))) (let h = ltb-true i c.ranges o in omega (arith, h, ranged))), r.so A);
     }
 
     pub steps_spares : {e : Bool} {k : Instructions} → So e k → (ss : Steps) (u d bk ct : ℕ) (g l : Bool) → steps_sorted c g l ss ≡ true → steps_name ss ≡ false → So e (steps_emitted y ss u d bk ct k)
@@ -356,10 +377,12 @@ module _ (tells : Bool) (y : Layout) (sizes : ℕ → Option ℕ) (whole : Progr
   parameters_spare r x (Many ∷ ks) = parameters_spare r (suc x) ks
 
   pub routine_spares : (ks : List Kind) (body : Steps) → steps_sorted c true false body ≡ true → steps_name body ≡ false → So true (routine_body y ks body)
-  routine_spares ks body o q = emptied_spares (block_spares (steps_spares uninitialised body zero zero zero zero true false o q) (swept_spares (parameters_spare answer zero ks)))
+  routine_spares ks body o q =
+      emptied_spares (block_spares (block_spares (steps_spares ended body zero zero zero zero true false o q) (temporaries_let_go (arrays_let_go done zero b.arrays) zero b.temporaries))
+      (iterators_let_go (parameters_spare answer zero ks) zero b.iterators))
     where
-      uninitialised : So false (ask_row row.Uninit (does (LocalSet (answer_local b)) Done))
-      uninitialised = record { so = λ A. (refl, tt) }
+      ended : So false (routine_ended y)
+      ended = record { so = λ A. tt }
 
       answer : So true (does (LocalGet (answer_local b)) Done)
       answer = record { so = λ A. refl }
@@ -383,7 +406,7 @@ module _ (tells : Bool) (y : Layout) (sizes : ℕ → Option ℕ) (whole : Progr
 
   module _ {e : Bool} {k : Instructions} (r : So e k) where
     goes_spares : So e (goes_on y k)
-    goes_spares = record { so = λ A. (either_so false (is_name (suc (suc y.ranges)) zero) (low zero (omega arith)), (left_swept_spares r (has_functions y.calls)).so A) }
+    goes_spares = record { so = λ A. (either_so false (is_name (suc (suc (suc y.ranges))) zero) (low zero (omega arith)), (left_swept_spares r (has_functions y.calls)).so A) }
 
   module _ {e : Bool} {k : Instructions} (r : So e k) where
     record_spares : (items : Steps) (d : ℕ) → steps_sorted c false false items ≡ true → steps_name items ≡ false → So e (record_done y items d k)
@@ -451,7 +474,7 @@ module _ (tells : Bool) (y : Layout) (sizes : ℕ → Option ℕ) (whole : Progr
   arrays_set (suc n) w k (suc x) pos q e = arrays_set n (suc w) k x pos (omega (arith, q)) (or_none (nat_eq pos (array_local b w)) (is_set (arrays_emptied y (suc w) n k) pos) e).1
 
   pub locals_set : (k : Instructions) (x : ℕ) → is_set (all_emptied y k) (b.parameters + x) ≡ false → is_other (cell_at (zeros (local_types b)) x) ≡ true
-  locals_set k zero e = never (nat_eq (b.parameters + 0) (answer_local b)) _ (eq-eqb (b.parameters + 0) (answer_local b) (omega arith)) e
+  locals_set k zero e = refl
   locals_set k (suc x) e =
       temporaries_set b.temporaries zero (handle_types b.iterators ++ handle_types b.arrays) _ x (b.parameters + suc x) (omega arith) (or_none (nat_eq (b.parameters + suc x) (answer_local b)) _ e).1
       (λ z h i. iterators_set b.iterators zero (handle_types b.arrays) _ z (b.parameters + suc x) (omega (arith, h)) i

@@ -31,7 +31,7 @@ use Rattle.lower_model.specs.Emission.{Layout, Immediate, FieldOf, TextOf, Numbe
 use Rattle.host_imports.specs.Imports.{import_answer, import_at, import_count, import_number, imports}
 use Rattle.lower_model.specs.Machine.{width}
 use Rattle.lower_model.specs.Places.{Bases, array_name, handle_global, made_in, number_global}
-use Rattle.lower_model.specs.Small.{ask, ask_row, bound_from, boxed_perhaps, code_number, converted, does, either, kept, kept_code, kept_done, kept_number, kept_value, moved_from, released, to_number, to_value, truth, unused}
+use Rattle.lower_model.specs.Small.{answer_kept, ask, ask_row, bound_from, boxed_perhaps, code_number, converted, does, either, kept, kept_code, kept_done, kept_number, kept_value, moved_from, released, to_number, to_value, truth, unused}
 use Rattle.host_imports.specs.declared.import.Import.{Import}
 use Rattle.host_imports.specs.declared.import.Import.TheVariants.{Of}
 use Rattle.lower_model.proofs.Calls.{import_found}
@@ -165,7 +165,7 @@ module _ (tells : Bool) (y : Layout) (sizes : ℕ → Option ℕ) where
   b = y.bases
 
   abbrev before : ℕ
-  before = suc (suc y.ranges)
+  before = suc (suc (suc y.ranges))
 
   abbrev pub S : Bool → Instructions → Tags → Type 0
   S e k A = Spares tells before sizes e k A
@@ -211,6 +211,9 @@ module _ (tells : Bool) (y : Layout) (sizes : ℕ → Option ℕ) where
     pub kept_value_spares : (f : Bool) (t d : ℕ) (A : Tags) → S e (kept_value b f t d k) (true ∷ A)
     kept_value_spares true t d A = r.so A
     kept_value_spares false t d A = r.so A
+
+    pub answer_kept_spares : (t d : ℕ) (A : Tags) → S e (answer_kept b t d k) (true ∷ A)
+    answer_kept_spares t d A = (((true, (λ q. refl), tt), (tt, tt)), (tt, r.so []))
 
     pub kept_number_spares : (f : Bool) (t d : ℕ) (A : Tags) → S e (kept_number b f t d k) (true ∷ A)
     kept_number_spares true t d A = r.so A
@@ -612,7 +615,7 @@ module _ (tells : Bool) (y : Layout) (sizes : ℕ → Option ℕ) where
           let s2 = and_parts (fit_call fs js es) (all_sorted c fs es) s1.1 in
           let ks = parameters_at y.calls f in
           let fit = subst (λ z. fit_call fs (parameters_at z f) es ≡ true) same s2.0 in
-          emits_spares (given_spares (record { so = λ A. given_pushed _ _ c fs ks es t w A n fit s2.1 q (function_spares l (kept_value b true t d (all_freed y w (made_in es) k)) f ks A (sized f s1.0) (λ B. kept_value_spares (freed_spares r w (made_in es)) true t d B)) }) fs ks es t) fs ts es t w d n s2.1 q
+          emits_spares (given_spares (record { so = λ A. given_pushed _ _ c fs ks es t w A n fit s2.1 q (function_spares l (answer_kept b t d (all_freed y w (made_in es) k)) f ks A (sized f s1.0) (λ B. answer_kept_spares (freed_spares r w (made_in es)) t d B)) }) fs ks es t) fs ts es t w d n s2.1 q
       emitted_spares r v fs ts Ask t w d n s q = main_asked (code_number_spares r t) t d
       emitted_spares r v fs ts (AskLine e) t w d n s q =
           let s1 = and_parts (stores_well fs e) (sorted c (a_value ∷ fs) e) s in

@@ -88,13 +88,11 @@ behind_ranges (suc r) ks (suc x) l = behind_ranges r ks x (omega (arith, l))
 abbrev sizes_of : Program → ℕ → Option ℕ
 sizes_of p f = size_in p.routines f
 
-globals_other : (p : Program) (x : ℕ) → is_name (suc (suc p.ranges)) x ≡ true → is_other (cell_at (first_globals p) x) ≡ true
-globals_other p x e = by x (leb-true (suc (suc p.ranges)) x e)
-  where
-    by : (x : ℕ) → suc (suc p.ranges) ≤ x → is_other (cell_at (first_globals p) x) ≡ true
-    by zero l = absurd (omega (arith, l))
-    by (suc zero) l = absurd (omega (arith, l))
-    by (suc (suc x)) l = behind_ranges p.ranges (kinds_of p.globals) x (omega (arith, l))
+globals_other : (p : Program) (x : ℕ) → is_name (suc (suc (suc p.ranges))) x ≡ true → is_other (cell_at (first_globals p) x) ≡ true
+globals_other p zero e = let l = leb-true (suc (suc (suc p.ranges))) zero e in absurd (omega (arith, l))
+globals_other p (suc zero) e = let l = leb-true (suc (suc (suc p.ranges))) 1 e in absurd (omega (arith, l))
+globals_other p (suc (suc zero)) e = refl
+globals_other p (suc (suc (suc x))) e = let l = leb-true (suc (suc (suc p.ranges))) (suc (suc (suc x))) e in behind_ranges p.ranges (kinds_of p.globals) x (omega (arith, l))
 
 module _ (tells : Bool) (p : Program) (argv : Pairs) (told : List Telling) where
   abbrev u : Code

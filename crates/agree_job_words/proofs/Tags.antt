@@ -14,6 +14,7 @@ use Rattle.wasm_store.specs.declared.word.Word.TheVariants.{I32, I64}
 use Rattle.lower_model.specs.Cells.{Cell, Bits, OwnedArray, LentArray}
 use Rattle.host_imports.specs.Imports.{import_answer, import_at, import_count}
 use Rattle.lower_model.specs.Machine.{width}
+use Rattle.lower_model.specs.Places.{text_global}
 use Rattle.host_imports.specs.declared.import.Import.{Import}
 use Rattle.host_imports.specs.declared.import.Import.TheVariants.{Of}
 
@@ -94,9 +95,9 @@ abbrev pub EndsWell : Bool → Tags → Type 0
 EndsWell false A = Unit {0}
 EndsWell true A = first_of A ≡ true
 
--- a global of a name: so many stand before those
+-- a global of a name, or that for a text that is returned: so many stand before those of names
 abbrev pub is_name : (before : ℕ) → ℕ → Bool
-is_name before x = nat_le before x
+is_name before x = nat_eq x text_global || nat_le before x
 
 -- whether it may announce names; so many globals stand before those of names; and how many parameters each function has
 module _ (tells : Bool) (before : ℕ) (sizes : ℕ → Option ℕ) where
@@ -137,5 +138,6 @@ module _ (tells : Bool) (before : ℕ) (sizes : ℕ → Option ℕ) where
 -- At its beginning a function empties locals: those that the code sets before it does anything else.
 abbrev pub is_set : Instructions → ℕ → Bool
 is_set (Then (Plain (I32Const n)) c) x = is_set c x
+is_set (Then (Plain (I64Const n)) c) x = is_set c x
 is_set (Then (Plain (LocalSet y)) c) x = nat_eq x y || is_set c x
 is_set c x = false

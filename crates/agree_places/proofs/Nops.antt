@@ -32,7 +32,7 @@ use Rattle.lower_model.specs.Emission.{Layout, Immediate, FieldOf, TextOf, Numbe
 use Rattle.host_imports.specs.Imports.{import_count, import_number, imports}
 use Rattle.lower_model.specs.Machine.{answers_to}
 use Rattle.lower_model.specs.Places.{Bases, made_in, handle_local, number_local}
-use Rattle.lower_model.specs.Small.{ask_row, bound_from, boxed_perhaps, code_number, converted, does, either, kept, kept_code, kept_done, kept_number, kept_value, moved_from, number_is, released, to_number, to_value, truth, unused, when}
+use Rattle.lower_model.specs.Small.{answer_kept, ask_row, bound_from, boxed_perhaps, code_number, converted, does, either, kept, kept_code, kept_done, kept_number, kept_value, moved_from, number_is, released, to_number, to_value, truth, unused, when}
 use Rattle.lower_model.specs.Statements.{again}
 use Rattle.host_imports.specs.declared.import.Import.{Import}
 use Rattle.host_imports.specs.declared.import.Import.TheVariants.{Of}
@@ -346,10 +346,10 @@ module _ (y : Layout) (asks : Bool) (most : ℕ) where
   line_nops p t r = plain _ (import_low (Of p)) (plain _ refl r)
 
   -- a function is called, and its value goes to a temporary within the limit
-  function_nops : {k : Instructions} {m : List Instructions} (f t d : ℕ) → (asks ≡ true → t ≤ most) → Nops l k m → Nops l (does (CallOf (function_number f)) (kept_value b true t d k)) m
+  function_nops : {k : Instructions} {m : List Instructions} (f t d : ℕ) → (asks ≡ true → t ≤ most) → Nops l k m → Nops l (does (CallOf (function_number f)) (answer_kept b t d k)) m
   function_nops {k = k} f t d lo r = record {
     are = r.are;
-    calls = λ z. and_from (simple_fits l (CallOf (function_number f)) (kept_value b true t d k)) (calls_fit l k)
+    calls = λ z. and_from (simple_fits l (CallOf (function_number f)) (answer_kept b t d k)) (calls_fit l k)
         (ap (λ c. cond c true (nat_le (handle_local b t) (last_local l))) (le-ltb (function_number f) import_count (omega arith)) ∙ le-leb (handle_local b t) (last_local l) (let x = lo z in omega (arith, x)))
         (r.calls z);
   }

@@ -2,20 +2,23 @@
 use Rattle.std.proofs.Common.{◌≡◌, ℕ, zero, suc, ◌+◌, Bool, true, false, List, [], ◌∷◌, ◌++◌, length, refl, sym, ap, ap₂, ◌∙◌, subst, arith}
 use Rattle.std.proofs.lemmas.List.{append_assoc, append-nil, length-append}
 use Rattle.std.specs.Prelude.{if◌then◌else◌, Option, Some, None, is_some, ℤ}
+use Rattle.sem_primitives.specs.declared.sorts.Answer.TheVariants as answer
+use Rattle.sem_primitives.specs.declared.sorts.Sort.TheVariants as sort
 use Rattle.sem_primitives.specs.declared.table.Primitive.TheVariants as row
 use Rattle.wasm_types.specs.Syntax.{Instruction, Plain, BrTable, Block, Loop as Again, If, Instructions, Done, Then}
 use Rattle.wasm_types.specs.declared.instr.IBinOp.{IBinOp}
 use Rattle.wasm_types.specs.declared.instr.Simple.{Simple}
 use Rattle.wasm_types.specs.declared.instr.Simple.TheVariants.{Br, BrIf, LocalSet, Nop}
-use Rattle.mid_program.specs.Mid.{Kind, Boxed, Unboxed, Many, Code, Step, Eval, Block as Steps_, If as Either, Loop, Each, Break, Continue, Next, Exit, ExitWith, Return, Mark, Steps, NoStep, Then as AndThen, Program, Routine, a_value, form_of}
+use Rattle.mid_program.specs.Mid.{Kind, Boxed, Unboxed, Many, Code, Step, Eval, Block as Steps_, If as Either, Loop, Each, Break, Continue, Next, Exit, ExitWith, Return, Mark, Steps, NoStep, Then as AndThen, Program, Routine, Choose, Form, Answered, Bare, Perhaps, a_value, form_of}
 use Rattle.sem_scripts.specs.Names.{ArrayName}
 use Rattle.lower_model.specs.Boundaries.{is_nop, nops_in, nops_of, step_places, steps_places}
 use Rattle.lower_model.specs.Emission.{Layout, field_at, tested}
 use Rattle.lower_model.specs.Functions.{layout_of, main_bases, main_callee, routine_bases, routine_callee}
-use Rattle.lower_model.specs.Places.{Bases, answer_local}
+use Rattle.lower_model.specs.Noted.{routine_rest}
+use Rattle.lower_model.specs.Places.{Bases}
 use Rattle.lower_model.specs.Quick.{Within, test_within, Source, Named, Constant, joined, all_unsure, Sum, sum_names, sum_op, sum_in, Update, update_in, Tally, tally_in, Remainder, remainder_in, remainder_names, multiplied, Counted, counted_in, Pair, pair_names, pair_in, step_jumps, is_nothing}
 use Rattle.lower_model.specs.Small.{ask_row, does, either}
-use Rattle.lower_model.specs.Statements.{name_read, source_pushed, name_numbered, source_numbered, source_taken, sum_kept, sum_taken, summed_anyway, both_asked, element_numbered, element_given, remainder_taken, remainder_dropped, barely_dropped, plainly_dropped, quickly_dropped, left_unless_counted, left_unless_pair, left_unless, all_emptied, arrays_emptied, arrays_swept, before_parts, block, first_part, goes_on, has_functions, iterator_left, iterators_emptied, iterators_swept, key_stored, left_by, left_swept, main_body, names_declared, names_made, parameters_dropped, part_done, record_done, records_read, routine_body, routines_declared, started, step_emitted, steps_emitted, swept, temporaries_emptied, temporaries_swept}
+use Rattle.lower_model.specs.Statements.{name_read, source_pushed, name_numbered, source_numbered, source_taken, sum_kept, sum_taken, summed_anyway, both_asked, element_numbered, element_given, remainder_taken, remainder_dropped, barely_dropped, plainly_dropped, quickly_dropped, left_unless_counted, left_unless_pair, left_unless, all_emptied, arrays_emptied, arrays_swept, before_parts, block, first_part, goes_on, has_functions, iterator_left, iterators_emptied, iterators_swept, key_stored, left_by, left_swept, main_body, names_declared, names_made, parameters_dropped, part_done, record_done, records_read, routine_body, routines_declared, started, step_emitted, steps_emitted, swept, temporaries_emptied, temporaries_swept, answer_given, returned}
 use Rattle.lower_model.proofs.Tallies.{Shape, Updating, Following, Leading, tally_code, IsAdded, tally_is}
 use Rattle.lower_model.proofs.Updating.{added_is}
 use Rattle.agree_places.specs.Statements.{main_places, main_starts, routine_starts, starts_in, starts_of, step_starts, steps_starts}
@@ -179,6 +182,21 @@ module _ (y : Layout) (asks : Bool) (most : ℕ) where
     left_nops None e d out lo r = pair_nops (pair_in e) e d out lo r
     left_nops (Some q) e d out lo r = plain _ refl (plain _ refl (plain _ refl (plain _ refl (plain _ refl (choice (tested_nops y asks most [] [] e zero zero (suc d) lo (plain _ refl (plain _ refl none))) none r)))))
 
+  -- `return`
+
+  answer_nops : {k : Instructions} {m : List Instructions} (f : Form) (d : ℕ) → Nops l k m → Nops l (answer_given y f d k) m
+  answer_nops (Answered (answer.Of sort.Value)) d r = record { are = r.are; calls = r.calls }
+  answer_nops (Answered (answer.Of sort.Number)) d r = record { are = r.are; calls = r.calls }
+  answer_nops (Answered answer.Truth) d r = record { are = r.are; calls = r.calls }
+  answer_nops Bare d r = record { are = r.are; calls = r.calls }
+  answer_nops Perhaps d r = record { are = r.are; calls = r.calls }
+  answer_nops f d r = record { are = r.are; calls = r.calls }
+
+  returned_nops : {k : Instructions} {m : List Instructions} (e : Code) (d : ℕ) → (asks ≡ true → Few most zero e) → Nops l k m → Nops l (returned y e d k) m
+  returned_nops (Choose sort.Value e a c) d lo r =
+      tested_nops y asks most [] [] e zero zero d (λ z. (lo z).0) (choice (returned_nops a (suc d) (λ z. (lo z).1.0) none) (returned_nops c (suc d) (λ z. (lo z).1.1) none) r)
+  returned_nops e d lo r = emitted_nops y asks most false [] [] e zero zero d lo (answer_nops (form_of [] e) d r)
+
   mutual
     unfolding step_emitted steps_emitted
 
@@ -208,7 +226,7 @@ module _ (y : Layout) (asks : Bool) (most : ℕ) where
     step_nops (ExitWith e) u d bk ct lo r =
         begun (emitted_nops y asks most false [] [] e zero zero d lo (to_number_nops b (form_of [] e) zero d (plain _ refl (plain _ refl (left_by_nops _ d r)))))
     step_nops (Return e) u d bk ct lo r =
-        begun (emitted_nops y asks most false [] [] e zero zero d lo (to_value_nops b (form_of [] e) zero (plain _ refl (plain _ refl (plain _ refl (plain _ refl (plain _ refl r)))))))
+        begun (returned_nops e d lo r)
     step_nops (Mark i c) u d bk ct lo r = begun (plain _ refl (plain _ refl r))
 
     pub steps_nops : {k : Instructions} {m : List Instructions} (ss : Steps) (u d bk ct : ℕ) → (asks ≡ true → StepsFew most ss) → Nops l k m → Nops l (steps_emitted y ss u d bk ct k) (steps_starts y ss u d bk ct k ++ m)
@@ -258,9 +276,10 @@ module _ (y : Layout) (asks : Bool) (most : ℕ) where
   parameters_nops x (Unboxed ∷ ks) r = parameters_nops (suc x) ks r
   parameters_nops x (Many ∷ ks) r = parameters_nops (suc x) ks r
 
-  routine_nops : (ks : List Kind) (body : Steps) → (asks ≡ true → StepsFew most body) → Nops l (routine_body y ks body) (steps_starts y body zero zero zero zero (ask_row row.Uninit (does (LocalSet (answer_local b)) Done)))
+  routine_nops : (ks : List Kind) (body : Steps) → (asks ≡ true → StepsFew most body) → Nops l (routine_body y ks body) (steps_starts y body zero zero zero zero (routine_rest b))
   routine_nops ks body lo =
-      emptied_nops (alone (within (alone (steps_nops body zero zero zero zero lo (plain _ refl (plain _ refl none)))) (swept_nops (parameters_nops zero ks (plain _ refl none)))))
+      emptied_nops (alone (within (alone (within (alone (steps_nops body zero zero zero zero lo (plain _ refl (plain _ refl (plain _ refl none))))) (temporaries_let_go zero b.temporaries (arrays_let_go zero b.arrays none))))
+      (iterators_let_go zero b.iterators (parameters_nops zero ks (plain _ refl none)))))
 
   -- `main`.
 
@@ -411,7 +430,7 @@ module _ (y : Layout) where
 pub routine_places : (p : Program) (r : Routine) → nops_in (routine_callee p r).body ≡ steps_places r.body
 routine_places p r =
     sym (nops_counted (routine_callee p r).body) ∙ (ap (λ (xs : List Instructions). length xs) (routine_has_starts p r)
-    ∙ steps_counted (layout_of p (routine_bases r)) r.body zero zero zero zero (ask_row row.Uninit (does (LocalSet (answer_local (routine_bases r))) Done)))
+    ∙ steps_counted (layout_of p (routine_bases r)) r.body zero zero zero zero (routine_rest (routine_bases r)))
 
 pub main_has_places : (p : Program) → nops_in (main_callee p).body ≡ main_places p
 main_has_places p =

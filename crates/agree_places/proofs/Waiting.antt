@@ -128,6 +128,8 @@ values_few m (Many ∷ ks) (o ∷ os) h = let r = values_few m ks os h.1 in let 
 
 simple_answers : (bs : List Bool) (i : Simple) (j k : Instructions) → answers_to (Then (Plain (renumbered_simple bs i)) j) ≡ answers_to (Then (Plain i) k)
 simple_answers bs (simple.Call n) j k = refl
+simple_answers bs (simple.LocalTee zero) j k = refl
+simple_answers bs (simple.LocalTee (suc x)) j k = refl
 simple_answers bs i j k = refl
 
 pub answers_same : (bs : List Bool) (code : Instructions) → answers_to (renumbered bs code) ≡ answers_to code

@@ -218,7 +218,7 @@ pub record AtStatement (p : Program) (c : Conf) (s : HostState) : Type 0 where
   pub waiting : List (List (Option Sort))
   pub once : (t : Sort) (q : ℕ) → holders t q own c.frame.locals + (holders t q globals c.globals + holders_waiting t q waiting c.callers) ≡ wanted s.names t q
   pub each_global : length globals ≡ length c.globals
-  pub names_hold : GlobalsHold NameHolds (suc (suc p.ranges)) (kinds_of p.globals) globals
+  pub names_hold : GlobalsHold NameHolds (suc (suc (suc p.ranges))) (kinds_of p.globals) globals
   pub function : Callee
   pub is_function : Contains (all_callees p) function
   pub statement : Instructions
@@ -229,7 +229,7 @@ pub record AtStatement (p : Program) (c : Conf) (s : HostState) : Type 0 where
   pub walked : count sort.Iterator own ≡ walks (numbers_of p) c.frame.labels
   pub waits : CallersWait p waiting c.callers
   pub bare : BareParameters function.kinds c.frame.locals
-  pub marked : NamesMarked (kinds_of p.globals) (drop (suc (suc p.ranges)) c.globals)
+  pub marked : NamesMarked (kinds_of p.globals) (drop (suc (suc (suc p.ranges))) c.globals)
   pub few_values : live_values s ≤ scalars (kinds_of p.globals) + (boxed function.kinds + values_waiting p waiting c.callers waits)
   pub live_arrays_are : live_arrays s ≡ 2 + (arrays (kinds_of p.globals) + count_waiting sort.Array waiting)
   pub live_iterators_are : live_iterators s ≡ walks (numbers_of p) c.frame.labels + walks_waiting (numbers_of p) c.callers
@@ -239,8 +239,8 @@ pub record AtReturn (p : Program) (c : Conf) (s : HostState) : Type 0 where
   pub globals : List (Option Sort)
   pub once : (t : Sort) (q : ℕ) → holders t q globals c.globals ≡ wanted s.names t q
   pub each_global : length globals ≡ length c.globals
-  pub names_hold : GlobalsHold NameMayHold (suc (suc p.ranges)) (kinds_of p.globals) globals
-  pub exact : s.fault ≡ None → GlobalsHold NameHolds (suc (suc p.ranges)) (kinds_of p.globals) globals
+  pub names_hold : GlobalsHold NameMayHold (suc (suc (suc p.ranges))) (kinds_of p.globals) globals
+  pub exact : s.fault ≡ None → GlobalsHold NameHolds (suc (suc (suc p.ranges))) (kinds_of p.globals) globals
   pub few_values : live_values s ≤ scalars (kinds_of p.globals)
   pub few_arrays : live_arrays s ≤ 2 + arrays (kinds_of p.globals)
   pub few_iterators : live_iterators s ≡ 0

@@ -66,7 +66,7 @@ module _ (y : Layout) where
 abbrev pub routine_starts : Program → Routine → List Instructions
 routine_starts p r =
     let y = layout_of p (routine_bases r) in
-    steps_starts y r.body zero zero zero zero (ask_row row.Uninit (does (LocalSet (answer_local (routine_bases r))) Done))
+    steps_starts y r.body zero zero zero zero (routine_rest (routine_bases r))
 
 -- those of BEGIN, of the items for a record where records are read, and of END
 abbrev pub main_starts : Program → List Instructions

@@ -48,7 +48,7 @@ NoHandles p c Assigned = (i : ℕ) → has_kind (kinds_of p.globals) i Unboxed �
 module _ (p : Program) (c : Conf) (s : HostState) (here : AtStatement p c s) (Assigned : ℕ → Type 0) (no_handles : NoHandles p c Assigned) where
   pub no_text : (b : Bases) → b.parameters ≡ length here.function.kinds → (x : Slot) → IsLaned p here.function.kinds Assigned x → HasNoText p.ranges b c x
   no_text b e (Global true i) h =
-      let n : ℕ = suc (suc p.ranges) in
+      let n : ℕ = suc (suc (suc p.ranges)) in
       let none = no_handles i h.0 h.1 in (
         none,
         λ z. unmarked_at (kinds_of p.globals) (drop n c.globals) here.marked i (i + i) refl h.0 (behind n c.globals (i + i) (handle_global p.ranges i) (omega arith) ∙ none)

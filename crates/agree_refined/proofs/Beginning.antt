@@ -136,7 +136,7 @@ module _ (p : Program) where
     rest_as d = record {
       labels = tt;
       locals = zeros_as 2 first_names (main_callee p).locals;
-      globals = (refl, (refl, ranges_as 2 first_names p.ranges (kinds_of p.globals)));
+      globals = (refl, (refl, (tt, ranges_as 2 first_names p.ranges (kinds_of p.globals))));
       callers = refl;
       result = refl;
       host = refl;

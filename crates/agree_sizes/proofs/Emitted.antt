@@ -33,7 +33,7 @@ use Rattle.sem_scripts.specs.Steps.{is_field_number}
 use Rattle.lower_model.specs.Arithmetic.{calculated, compared, field_checked, is_value, may_be_text, numbers_compared, texts_beside, values_compared, zeroed_if}
 use Rattle.lower_model.specs.Emission.{Layout, Immediate, FieldOf, TextOf, NumberOf, field_at, immediate_field, immediate_in, immediate_or, immediate_pushed, all_appended, all_boxed, all_converted, all_emitted, all_freed, all_given, all_given_pushed, all_pushed, array_meant, array_pushed, asked, assigned, assigned_by_number, bound_read, constant_field, dropped, emitted, field_in, field_or, handle_stored, keeping_closed, left_over, listed_asked, one_field, one_given, one_pushed, pending_assigned, performed, sequence_closed, slot_read, slot_set, tested, text_kept, text_let_go, text_pushed, value_stored, values_counted}
 use Rattle.lower_model.specs.Places.{Bases, made_in, memory_of, place_of}
-use Rattle.lower_model.specs.Small.{boxed_perhaps, bound_from, code_number, converted, kept, kept_code, kept_done, kept_number, kept_value, moved_from, released, to_number, to_value, truth, unused}
+use Rattle.lower_model.specs.Small.{answer_kept, boxed_perhaps, bound_from, code_number, converted, kept, kept_code, kept_done, kept_number, kept_value, moved_from, released, to_number, to_value, truth, unused}
 use Rattle.agree_sizes.proofs.Fits.{Fits, choice, fits_simple, in_loop, long_fits, none, place_within, plain, text_within, word_fits}
 use Rattle.agree_sizes.proofs.Small.{AllSmall, Small}
 
@@ -124,6 +124,9 @@ module _ (b : Bases) {k : Instructions} where
   kept_value_fits : (f : Bool) (t d : ℕ) → Fits k → Fits (kept_value b f t d k)
   kept_value_fits true t d r = record { has = r.has }
   kept_value_fits false t d r = record { has = r.has }
+
+  pub answer_kept_fits : (t d : ℕ) → Fits k → Fits (answer_kept b t d k)
+  answer_kept_fits t d r = record { has = r.has }
 
   pub kept_number_fits : (f : Bool) (t d : ℕ) → Fits k → Fits (kept_number b f t d k)
   kept_number_fits true t d r = record { has = r.has }
@@ -413,7 +416,7 @@ module _ (y : Layout) (names : length y.names ≤ 2 ^ 24) (memory : length (memo
         (emitted_fits false fs ts f (suc t) w d s.1 (compared_fits b c (form_of fs e) (form_of fs f) t d r)))
     emitted_fits v fs ts (Call f es) t w d s r =
         emits_fits fs ts es t w d s (given_fits fs (parameters_at y.calls f) es t (given_pushed_fits (parameters_at y.calls f) es t w
-        (plain _ refl (kept_value_fits b true t d (freed_fits w (made_in es) r)))))
+        (plain _ refl (answer_kept_fits b t d (freed_fits w (made_in es) r)))))
     emitted_fits v fs ts Ask t w d s r = asked_fits row.Getline t d (code_number_fits b t r)
     emitted_fits v fs ts (AskLine e) t w d s r =
         asked_fits row.GetlineVar t d (plain _ refl (plain _ refl (plain _ refl (choice (line_fits row.Line t

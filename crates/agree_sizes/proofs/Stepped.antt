@@ -274,6 +274,19 @@ module _ (y : Layout) (names : length y.names ≤ 2 ^ 24) (memory : length (memo
     left_fits : (way d : ℕ) → fits_simple (I32Const way) ≡ true → Fits k → Fits (left_by way d k)
     left_fits way d e r = plain (I32Const way) e (plain _ refl (plain _ refl r))
 
+  answer_fits : {k : Instructions} (f : Form) (d : ℕ) → Fits k → Fits (answer_given y f d k)
+  answer_fits (Answered (answer.Of sort.Value)) d r = record { has = r.has }
+  answer_fits (Answered (answer.Of sort.Number)) d r = record { has = r.has }
+  answer_fits (Answered answer.Truth) d r = record { has = r.has }
+  answer_fits Bare d r = record { has = r.has }
+  answer_fits Perhaps d r = record { has = r.has }
+  answer_fits f d r = record { has = r.has }
+
+  returned_fits : {k : Instructions} (e : Code) (d : ℕ) → Small e → Fits k → Fits (returned y e d k)
+  returned_fits (Choose sort.Value e a c) d s r =
+      tested_fits y names memory [] [] e zero zero d s.0 (choice (returned_fits a (suc d) s.1.0 none) (returned_fits c (suc d) s.1.1 none) r)
+  returned_fits e d s r = emitted_fits y names memory false [] [] e zero zero d s (answer_fits (form_of [] e) d r)
+
   mutual
     unfolding step_emitted steps_emitted
 
@@ -306,8 +319,7 @@ module _ (y : Layout) (names : length y.names ≤ 2 ^ 24) (memory : length (memo
         plain _ refl (emitted_fits y names memory false [] [] e zero zero d s (to_number_fits b (form_of [] e) zero d
         (plain _ refl (plain _ refl (left_fits _ d refl r)))))
     step_fits (Return e) u d bk ct s r =
-        plain _ refl (emitted_fits y names memory false [] [] e zero zero d s (to_value_fits b (form_of [] e) zero
-        (plain _ refl (plain _ refl (plain _ refl (plain _ refl (plain _ refl r)))))))
+        plain _ refl (returned_fits e d s r)
     step_fits (Mark i c) u d bk ct s r = plain _ refl (plain (I32Const (flag_number c)) (flag_fits c) (plain _ refl r))
 
     steps_fits : {k : Instructions} (ss : Steps) (u d bk ct : ℕ) → SmallSteps ss → Fits k → Fits (steps_emitted y ss u d bk ct k)
@@ -360,8 +372,9 @@ module _ (y : Layout) (names : length y.names ≤ 2 ^ 24) (memory : length (memo
   -- A FUNCTION
   pub routine_fits : (ks : List Kind) (body : Steps) → SmallSteps body → Fits (routine_body y ks body)
   routine_fits ks body s =
-      emptied_fit (in_block (steps_fits body zero zero zero zero s (plain _ refl (plain _ refl none)))
-      (swept_fit (parameters_fit zero ks (plain _ refl none))))
+      emptied_fit (in_block (in_block (steps_fits body zero zero zero zero s (plain _ refl (plain _ refl (plain _ refl none))))
+      (temporaries_go zero b.temporaries (arrays_go zero b.arrays none)))
+      (iterators_go zero b.iterators (parameters_fit zero ks (plain _ refl none))))
 
   -- ---- `main`
 

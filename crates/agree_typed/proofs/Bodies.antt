@@ -7,7 +7,7 @@ use Rattle.sem_primitives.specs.declared.constants.NameKind.TheVariants.{ArrayOr
 use Rattle.sem_primitives.specs.declared.table.Primitive.TheVariants as row
 use Rattle.wasm_types.specs.Syntax.{Instructions}
 use Rattle.wasm_types.specs.Typing.{Context, CodeOk, done}
-use Rattle.wasm_types.specs.declared.types.ValType.TheVariants.{I32}
+use Rattle.wasm_types.specs.declared.types.ValType.TheVariants.{I32, I64}
 use Rattle.mid_program.specs.Mid.{Kind, Boxed, Unboxed, Many, Program, Steps}
 use Rattle.mid_program.specs.Sorted.{calls_of, context_of, kinds_of, has_kind, parts_sorted, steps_sorted}
 use Rattle.lower_model.specs.Functions.{layout_of}
@@ -28,10 +28,16 @@ pub record Enough (ss : Steps) (b : Bases) : Type 0 where
 
 module _ {p : Program} {ks : List Kind} {b : Bases} {C : Context} (at : Stands p ks b C) where
   -- steps of a function or a part of `main`, whose exit is the nearest label
-  part_ok : {L : Labels} {k : Instructions} {rs : Stack} (o : Bool) (ss : Steps) → steps_sorted (context_of p ks) o false ss ≡ true → Enough ss b →
+  part_ok : {L : Labels} {k : Instructions} {rs : Stack} (o : Bool) (ss : Steps) → steps_sorted (context_of p ks) o false ss ≡ true → Enough ss b → (o ≡ true → Exit (None ∷ L) 1) →
       CodeOk C (None ∷ L) k [] rs →
       CodeOk C (None ∷ L) (steps_emitted (layout_of p b) ss zero zero zero zero k) [] rs
-  part_ok o ss s h r = steps_ok at o false ss 0 0 0 0 s h.temporaries (let i = h.iterators in omega (arith, i)) h.arrays nearest nearest nearest r
+  part_ok o ss s h x r = steps_ok at o false ss 0 0 0 0 s h.temporaries (let i = h.iterators in omega (arith, i)) h.arrays (record { left = nearest; returned = x }) nearest nearest r
+
+  -- a part of `main` does not return
+  main_part_ok : {L : Labels} {k : Instructions} {rs : Stack} (ss : Steps) → steps_sorted (context_of p ks) false false ss ≡ true → Enough ss b →
+      CodeOk C (None ∷ L) k [] rs →
+      CodeOk C (None ∷ L) (steps_emitted (layout_of p b) ss zero zero zero zero k) [] rs
+  main_part_ok ss s h r = part_ok false ss s h (λ e. cc) r
 
   module _ {L : Labels} {k : Instructions} {rs : Stack} where
     temporaries_emptied_ok : (t m : ℕ) → t + m ≤ b.temporaries → CodeOk C L k [] rs → CodeOk C L (temporaries_emptied (layout_of p b) t m k) [] rs
@@ -78,8 +84,8 @@ module _ {p : Program} {ks : List Kind} {b : Bases} {C : Context} (at : Stands p
   module _ {L : Labels} {k : Instructions} {rs : Stack} where
     all_emptied_ok : CodeOk C L k [] rs → CodeOk C L (all_emptied (layout_of p b) k) [] rs
     all_emptied_ok r =
-        emptied_ok at at.answer (temporaries_emptied_ok 0 b.temporaries (omega arith)
-        (iterators_emptied_ok 0 b.iterators (omega arith) (arrays_emptied_ok 0 b.arrays (omega arith) r)))
+        long (put at.answer (temporaries_emptied_ok 0 b.temporaries (omega arith)
+        (iterators_emptied_ok 0 b.iterators (omega arith) (arrays_emptied_ok 0 b.arrays (omega arith) r))))
 
     swept_ok : CodeOk C L k [] rs → CodeOk C L (swept (layout_of p b) k) [] rs
     swept_ok r =
@@ -90,13 +96,15 @@ module _ {p : Program} {ks : List Kind} {b : Bases} {C : Context} (at : Stands p
     left_swept_ok true r = swept_ok r
     left_swept_ok false r = iterators_swept_ok 0 b.iterators (omega arith) r
 
-  -- a function's answer is a handle
+  -- a function answers a number, or that a text waits
   pub routine_body_ok : (body : Steps) → steps_sorted (context_of p ks) true false body ≡ true → Enough body b →
-      CodeOk C (Some I32 ∷ []) (routine_body (layout_of p b) ks body) [] (I32 ∷ [])
+      CodeOk C (Some I64 ∷ []) (routine_body (layout_of p b) ks body) [] (I64 ∷ [])
   routine_body_ok body s h =
       all_emptied_ok (blocked
-      (part_ok true body s h (called [] (at.imported (Of row.Uninit)) (put at.answer done)))
-      (swept_ok (parameters_dropped_ok 0 ks here (get at.answer done))))
+      (blocked
+      (part_ok true body s h (λ e. inner nearest) (long (put at.answer (leave (inner nearest) done))))
+      (temporaries_swept_ok 0 b.temporaries (omega arith) (arrays_swept_ok 0 b.arrays (omega arith) done)))
+      (iterators_swept_ok 0 b.iterators (omega arith) (parameters_dropped_ok 0 ks here (get at.answer done))))
     where
       here : (i y : ℕ) (kind : Kind) → 0 + i ≡ y → has_kind ks i kind ≡ true → slice_get C.locals y ≡ Some (kind_type kind)
       here i y kind e h = let e1 : i ≡ y = omega (arith, e) in subst (λ z. slice_get C.locals z ≡ Some (kind_type kind)) e1 (at.parameter i kind h)
@@ -141,7 +149,7 @@ module _ {p : Program} {ks : List Kind} {b : Bases} {C : Context} (at : Stands p
           CodeOk C L k [] rs → CodeOk C L (record_done (layout_of p b) items d k) [] rs
       record_done_ok items s h x r =
           blocked
-          (blocked (part_ok false items s h (leave (inner nearest) done))
+          (blocked (main_part_ok items s h (leave (inner nearest) done))
           (read at.way (word (compare (leave_if (inner x) (goes_on_ok done))))))
           r
 
@@ -179,9 +187,9 @@ module _ {p : Program} {ks : List Kind} {b : Bases} {C : Context} (at : Stands p
     main_body_ok s h i e =
         all_emptied_ok (blocked
         (before_parts_ok nearest
-        (part_done_ok (part_ok false p.begin s1.0 h (one_of at p.reads (records_read_ok p.items s2.0 i nearest (leave (inner nearest) done))
+        (part_done_ok (main_part_ok p.begin s1.0 h (one_of at p.reads (records_read_ok p.items s2.0 i nearest (leave (inner nearest) done))
         (leave (inner nearest) done))) nearest
-        (called [] (at.imported (Of row.BeginEnd)) (part_done_ok (part_ok false p.end s2.1 e (leave (inner nearest) done)) nearest done))))
+        (called [] (at.imported (Of row.BeginEnd)) (part_done_ok (main_part_ok p.end s2.1 e (leave (inner nearest) done)) nearest done))))
         (swept_ok (read at.status (convert done))))
       where
         first : Bool

@@ -22,7 +22,7 @@ use Rattle.host_imports.specs.declared.import.Import.TheVariants.{Of, Drop}
 use Rattle.lower_model.proofs.HostCalls.{operation_plain}
 use Rattle.agree_typed.proofs.Singles.{Stack, Labels, Exit, inner, called, get, put, read, word, long, test, convert, branched}
 use Rattle.agree_typed.proofs.Standing.{Stands}
-use Rattle.agree_typed.proofs.Pieces.{moved_out_ok, let_go_ok, number_is_ok, kept_code_ok, kept_value_ok, kept_number_ok, kept_ok, to_value_ok, code_number_ok, converted_ok, truth_ok, unused_ok, released_ok, moved_from_ok, bound_from_ok, calculated_ok, field_checked_ok, compared_ok}
+use Rattle.agree_typed.proofs.Pieces.{moved_out_ok, let_go_ok, number_is_ok, kept_code_ok, answer_kept_ok, kept_number_ok, kept_ok, to_value_ok, code_number_ok, converted_ok, truth_ok, unused_ok, released_ok, moved_from_ok, bound_from_ok, calculated_ok, field_checked_ok, compared_ok}
 use Rattle.agree_typed.proofs.Slots.{slot_read_ok, slot_set_ok, asked_ok}
 use Rattle.agree_typed.proofs.Operands.{room_there, made_among, all_converted_ok, all_pushed_ok, all_boxed_ok, all_appended_ok, listed_asked_ok, all_given_ok, all_given_pushed_ok, all_freed_ok}
 
@@ -136,7 +136,7 @@ module _ {p : Program} {ks : List Kind} {b : Bases} {C : Context} (at : Stands p
         (all_given_ok at fs js es t hs
         (all_given_pushed_ok at fs js es t w ps s2.0 s2.1 hs gs
         (called ps (at.routine f (ltb-true f (length (calls_of p)) s1.0))
-        (kept_value_ok at true (omega (arith, h)) x (all_freed_ok at w (made_in es) gs r)))))
+        (answer_kept_ok at (omega (arith, h)) x (all_freed_ok at w (made_in es) gs r)))))
     code_ok v fs ts Ask t w d q s h g x r =
         asked_ok at row.Getline (at.imported (Of row.Getline)) (omega (arith, h)) x
         (code_number_ok at (omega (arith, h)) r)

@@ -21,11 +21,11 @@ use Rattle.mid_program.specs.Mid.{Kind, Program, Form, Answered, Bare, Perhaps}
 use Rattle.lower_model.specs.Arithmetic.{out_of_range, ranged, factors_differ, times, unless_zero, divided, unless_broken, is_value, may_be_text, calculated, field_checked, values_compared, zeroed_if, numbers_compared, texts_beside, bare_compared, compared}
 use Rattle.host_imports.specs.Imports.{import_type, import_number, result_of}
 use Rattle.lower_model.specs.Places.{Bases, number_local}
-use Rattle.lower_model.specs.Small.{moved_out, moved, emptied, let_go, copied, copied_if_any, fail_if, number_is, kept_code, kept_value, kept_number, kept_done, kept, boxed_number, boxed_perhaps, to_value, zeroed, code_number, number_of_value, to_number, converted, not_zero, truth, unused, released, number_copied, moved_from, copied_from, bound_from}
+use Rattle.lower_model.specs.Small.{moved_out, moved, emptied, let_go, copied, copied_if_any, fail_if, number_is, kept_code, kept_value, kept_number, kept_done, text_taken, answer_kept, kept, boxed_number, boxed_perhaps, to_value, zeroed, code_number, number_of_value, to_number, converted, not_zero, truth, unused, released, number_copied, moved_from, copied_from, bound_from}
 use Rattle.host_imports.specs.declared.import.Import.{Import}
 use Rattle.host_imports.specs.declared.import.Import.TheVariants.{Of, Drop}
 use Rattle.lower_model.proofs.Answers.{IsPlain}
-use Rattle.agree_typed.proofs.Singles.{Stack, Labels, Exit, Reads, Writes, reads_local, writes_local, called, gives, takes, get, put, tee, word, long, test, compare, binary, convert, discard, inner, leave, leave_if, branched}
+use Rattle.agree_typed.proofs.Singles.{Stack, Labels, Exit, Reads, Writes, reads_local, writes_local, called, gives, takes, get, put, tee, read, word, long, test, compare, binary, convert, discard, inner, leave, leave_if, branched}
 use Rattle.agree_typed.proofs.Standing.{Stands}
 
 -- an import that lets a handle go
@@ -77,6 +77,11 @@ module _ {p : Program} {ks : List Kind} {b : Bases} {C : Context} (at : Stands p
       kept_done_ok true e r = word (compare (leave_if e r))
       kept_done_ok false e r = discard r
 
+    -- The answer of a function.
+
+    text_taken_ok : {t : ℕ} → t < b.temporaries → CodeOk C L k [] rs → CodeOk C L (text_taken b t k) [] rs
+    text_taken_ok {t = t} lt r = read at.text (put (at.handle t lt) r)
+
     -- an answer that is kept
     pub kept_ok : (f : Bool) (a : Answer) {t d : ℕ} (ps : Stack) → IsPlain a → t < b.temporaries → Exit L d → CodeOk C L k ps rs →
         CodeOk C L (kept b f a t d k) (one (result_of a) ++ ps) rs
@@ -87,6 +92,12 @@ module _ {p : Program} {ks : List Kind} {b : Bases} {C : Context} (at : Stands p
     kept_ok f answer.Stream ps i lt e r = kept_code_ok f lt e r
     kept_ok f answer.Done ps i lt e r = kept_done_ok f e r
     kept_ok f a ps i lt e r = absurd i
+
+  module _ {L : Labels} {k : Instructions} {rs : Stack} where
+    pub answer_kept_ok : {t d : ℕ} → t < b.temporaries → Exit L d → CodeOk C L k [] rs → CodeOk C L (answer_kept b t d k) (I64 ∷ []) rs
+    answer_kept_ok {t = t} lt e r =
+        tee (at.number t lt) (long (compare (branched
+        (number_is_ok (at.number t lt) (branched (text_taken_ok lt done) (number_is_ok (at.number t lt) (leave_if (inner (inner e)) done)) done)) done r)))
 
   module _ {L : Labels} {k : Instructions} {ps rs : Stack} where
     pub copied_if_any_ok : {get_it set_it : Simple} {y : ℕ} → Reads C get_it I32 → Writes C set_it I32 → slice_get C.locals y ≡ Some I32 →

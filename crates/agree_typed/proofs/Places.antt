@@ -127,10 +127,10 @@ module _ (p : Program) where
   abbrev later : List GlobalForm
   later = replicate p.ranges (word_global 0) ++ name_globals (kinds_of p.globals)
 
-  later_global : (i m : ℕ) (g : GlobalForm) → suc (suc i) ≡ m → slice_get later i ≡ Some g → slice_get (map type_of (globals_of p)) m ≡ Some g.ty
+  later_global : (i m : ℕ) (g : GlobalForm) → suc (suc (suc i)) ≡ m → slice_get later i ≡ Some g → slice_get (map type_of (globals_of p)) m ≡ Some g.ty
   later_global i m g e h = ap (slice_get (map type_of (globals_of p))) (sym e) ∙ type_there later i g h
 
-  name_global : (i m : ℕ) (g : GlobalForm) → suc (suc p.ranges) + i ≡ m → slice_get (name_globals (kinds_of p.globals)) i ≡ Some g →
+  name_global : (i m : ℕ) (g : GlobalForm) → suc (suc (suc p.ranges)) + i ≡ m → slice_get (name_globals (kinds_of p.globals)) i ≡ Some g →
       slice_get (map type_of (globals_of p)) m ≡ Some g.ty
   name_global i m g e h =
       let l = length-replicate p.ranges (word_global 0) in
@@ -156,10 +156,10 @@ module _ (p : Program) where
   routine_there (r ∷ rs) fs (suc f) lt = routine_there rs fs f (omega (arith, lt))
 
   -- What a function with parameters of kinds ks stands in, if no import were left out.
-  abbrev pub whole_context : List Kind → Bases → Context
-  whole_context ks b = record {
+  abbrev pub whole_context : ValType → List Kind → Bases → Context
+  whole_context a ks b = record {
     locals = map kind_type ks ++ local_types b;
-    result = Some I32;
+    result = Some a;
     callee = slice_get all_types;
     typed = λ n. None;
     globals = map type_of (globals_of p);
@@ -167,18 +167,19 @@ module _ (p : Program) where
     table = false;
   }
 
-  pub stands : (ks : List Kind) (b : Bases) → b.parameters ≡ length ks → Stands p ks b (whole_context ks b)
-  stands ks b n = record {
+  pub stands : (a : ValType) (ks : List Kind) (b : Bases) → b.parameters ≡ length ks → Stands p ks b (whole_context a ks b)
+  stands a ks b n = record {
     handle = λ t lt. temporary_there ks b n (t + t) (handle_local b t) I32 refl (handle_there b.temporaries t lt);
     number = λ t lt. temporary_there ks b n (suc (t + t)) (number_local b t) I64 (omega arith) (number_there b.temporaries t lt);
     iterator = λ u lt.
         later_there ks b n u (iterator_local b u) I32 refl
         (there_before (handle_types b.iterators) (handle_types b.arrays) u I32 (handles_there b.iterators u lt));
     array = λ w lt. array_there ks b n w (array_local b w) refl lt;
-    answer = own_there ks b n 0 (answer_local b) I32 (omega arith) refl;
+    answer = own_there ks b n 0 (answer_local b) I64 (omega arith) refl;
     parameter = λ i k h. there_before (map kind_type ks) (local_types b) i (kind_type k) (parameter_there ks i k h);
     way = refl;
     status = refl;
+    text = refl;
     range = λ i lt.
         later_global i (range_global i) (word_global 0) refl
         (there_before (replicate p.ranges (word_global 0)) (name_globals (kinds_of p.globals)) i (word_global 0)

@@ -1,16 +1,18 @@
 -- The code of steps is typed: between two steps nothing is on the stack, and each way out is a label that wants nothing.
-use Rattle.std.proofs.Common.{◌≡◌, ℕ, zero, suc, ◌+◌, ◌<◌, ◌≤◌, ◌^◌, Bool, true, false, List, [], ◌∷◌, Some, None, Option, ℤ, length, pos, refl, sym, subst, arith, if◌then◌else◌}
+use Rattle.std.proofs.Common.{◌≡◌, ℕ, zero, suc, ◌+◌, ◌<◌, ◌≤◌, ◌^◌, Bool, true, false, List, [], ◌∷◌, Some, None, Option, ℤ, length, pos, refl, sym, ap₂, subst, arith, if◌then◌else◌}
 use Rattle.std.specs.Prelude.{◌&&◌, slice_get, is_some}
 use Rattle.std.proofs.lemmas.Bool.{and_parts, ltb-true}
 use Rattle.awk_values.specs.declared.fault.Fault.TheVariants.{Range}
+use Rattle.sem_primitives.specs.declared.sorts.Answer.TheVariants as answer
 use Rattle.sem_primitives.specs.declared.sorts.Sort.TheVariants as sort
 use Rattle.sem_primitives.specs.declared.table.Primitive.TheVariants as row
 use Rattle.wasm_types.specs.Syntax.{Instructions}
 use Rattle.wasm_types.specs.Typing.{Context, CodeOk, done}
+use Rattle.wasm_types.specs.declared.types.ValType.{ValType}
 use Rattle.wasm_types.specs.declared.types.ValType.TheVariants.{I32, I64}
 use Rattle.wasm_types.specs.declared.instr.IBinOp.{IBinOp}
 use Rattle.wasm_types.specs.declared.instr.Simple.TheVariants.{GlobalGet}
-use Rattle.mid_program.specs.Mid.{Kind, Unboxed, Program, Code, Step, Eval, Block, If, Loop, Each, Break, Continue, Next, Exit as ExitStep, ExitWith, Return, Mark, Steps, NoStep, Then, Form, a_value, form_of}
+use Rattle.mid_program.specs.Mid.{Kind, Unboxed, Program, Code, Step, Eval, Block, If, Loop, Each, Break, Continue, Next, Exit as ExitStep, ExitWith, Return, Mark, Steps, NoStep, Then, Choose, Form, Answered, Bare, Perhaps, a_value, form_of}
 use Rattle.sem_scripts.specs.Names.{ArrayName}
 use Rattle.mid_program.specs.Sorted.{context_of, kinds_of, is_array_place, fits, is_tested, is_dropped, stores_well, sorted, test_sorted, step_sorted, steps_sorted}
 use Rattle.lower_model.specs.Emission.{dropped, field_at, tested}
@@ -25,7 +27,7 @@ use Rattle.lower_model.proofs.Summing.{IsSource}
 use Rattle.lower_model.proofs.Tallies.{Shape, tally_code, IsAdded, tally_is, tally_room, tally_sorted}
 use Rattle.lower_model.proofs.Updating.{UpdateParts, added_code, added_is, added_sorted}
 use Rattle.lower_model.proofs.Watch.{Watch}
-use Rattle.lower_model.specs.Statements.{name_read, source_pushed, name_numbered, source_numbered, source_taken, sum_kept, sum_taken, summed_anyway, both_asked, updated, element_numbered, element_given, tallied, remainder_taken, remainder_dropped, barely_dropped, plainly_dropped, quickly_dropped, left_unless_counted, left_unless_pair, left_unless, left_by, key_stored, iterator_left, step_emitted, steps_emitted}
+use Rattle.lower_model.specs.Statements.{name_read, source_pushed, name_numbered, source_numbered, source_taken, sum_kept, sum_taken, summed_anyway, both_asked, updated, element_numbered, element_given, tallied, remainder_taken, remainder_dropped, barely_dropped, plainly_dropped, quickly_dropped, left_unless_counted, left_unless_pair, left_unless, left_by, key_stored, iterator_left, step_emitted, steps_emitted, answer_given, returned}
 use Rattle.host_imports.specs.declared.import.Import.TheVariants.{Of, Drop, IterFree}
 use Rattle.agree_typed.proofs.Singles.{Stack, Labels, Exit, inner, nearest, reads_global, writes_global, nothing, called, get, put, tee, read, write, word, long, binary, variable, compare, test, discard, leave, leave_if, blocked, looped, branched}
 use Rattle.agree_typed.proofs.Standing.{Stands, kind_below}
@@ -37,6 +39,14 @@ use Rattle.agree_typed.proofs.Emitting.{AreBelow, one_more_below, none_below, le
 -- it does not matter here how the machine is watched
 abbrev unwatched : Watch
 unwatched = record { callers = 0; notes = no_notes }
+
+-- where code of a function leaves it: where it is left, and one label further out where it returns, if it may
+pub record Ways (o : Bool) (L : Labels) (d : ℕ) : Type 0 where
+  pub left : Exit L d
+  pub returned : o ≡ true → Exit L (suc d)
+
+deeper : {o : Bool} {L : Labels} {d : ℕ} {r : Option ValType} → Ways o L d → Ways o (r ∷ L) (suc d)
+deeper w = record { left = inner w.left; returned = λ e. inner (w.returned e) }
 
 module _ {p : Program} {ks : List Kind} {b : Bases} {C : Context} (at : Stands p ks b C) where
   module _ {L : Labels} {k : Instructions} {rs : Stack} where
@@ -256,15 +266,47 @@ module _ {p : Program} {ks : List Kind} {b : Bases} {C : Context} (at : Stands p
         (omega (arith, g)) x
         (let_go_ok at Drop (at.imported Drop) (at.handle 0 lt) r))))))))
 
+  -- `return`
+
+  module _ {L : Labels} {k : Instructions} {rs : Stack} where
+    answer_given_ok : {d : ℕ} (f : Form) → 0 < b.temporaries → Exit L (suc d) → CodeOk C L k [] rs → CodeOk C L (answer_given (layout_of p b) f d k) [] rs
+    answer_given_ok (Answered (answer.Of sort.Value)) lt y r = moved_out_ok at (at.handle 0 lt) (write at.text (long (put at.answer (leave y r))))
+    answer_given_ok (Answered (answer.Of sort.Number)) lt y r = get (at.number 0 lt) (put at.answer (leave y r))
+    answer_given_ok (Answered answer.Truth) lt y r = get (at.number 0 lt) (put at.answer (leave y r))
+    answer_given_ok Bare lt y r =
+        number_is_ok at (at.number 0 lt) (branched (moved_out_ok at (at.handle 0 lt) (write at.text done)) done
+        (get (at.number 0 lt) (put at.answer (leave y r))))
+    answer_given_ok Perhaps lt y r = get (at.number 0 lt) (put at.answer (leave y r))
+    answer_given_ok f lt y r = long (put at.answer (leave y r))
+
+  returned_ok : {L : Labels} {k : Instructions} {rs : Stack} (e : Code) (d : ℕ) → fits (form_of [] e) sort.Value ≡ true → sorted (context_of p ks) [] e ≡ true → room e ≤ b.temporaries → arrays_in e ≤ b.arrays →
+      Exit L d → Exit L (suc d) → CodeOk C L k [] rs → CodeOk C L (returned (layout_of p b) e d k) [] rs
+  unfolding sorted
+  returned_ok (Choose sort.Value e a c) d f s h g x y r =
+      let ctx = context_of p ks in
+      let s1 = and_parts (is_tested (form_of [] e)) (fits (form_of [] a) sort.Value && (fits (form_of [] c) sort.Value && (sorted ctx [] e && (sorted ctx [] a && sorted ctx [] c)))) s in
+      let s2 = and_parts (fits (form_of [] a) sort.Value) (fits (form_of [] c) sort.Value && (sorted ctx [] e && (sorted ctx [] a && sorted ctx [] c))) s1.1 in
+      let s3 = and_parts (fits (form_of [] c) sort.Value) (sorted ctx [] e && (sorted ctx [] a && sorted ctx [] c)) s2.1 in
+      let s4 = and_parts (sorted ctx [] e) (sorted ctx [] a && sorted ctx [] c) s3.1 in
+      let s5 = and_parts (sorted ctx [] a) (sorted ctx [] c) s4.1 in
+      tested_ok e (ap₂ (λ t q. t && q) s1.0 s4.0) (omega (arith, h)) (omega (arith, g)) x (branched
+      (returned_ok a (suc d) s2.0 s5.0 (omega (arith, h)) (omega (arith, g)) (inner x) (inner y) done)
+      (returned_ok c (suc d) s3.0 s5.1 (omega (arith, h)) (omega (arith, g)) (inner x) (inner y) done)
+      r)
+  returned_ok e d f s h g x y r =
+      let he = room_there e in
+      let lt : 0 < b.temporaries = omega (arith, h, he) in
+      code_ok at false [] [] e 0 0 d (none_below b.temporaries lt) s (omega (arith, h)) (omega (arith, g)) x (answer_given_ok (form_of [] e) lt y r)
+
   mutual
     unfolding step_emitted steps_emitted step_sorted steps_sorted
 
     step_ok : {L : Labels} {k : Instructions} {rs : Stack} (o l : Bool) (s : Step) (u d bk ct : ℕ) → step_sorted (context_of p ks) o l s ≡ true →
-        step_room s ≤ b.temporaries → u + step_iterators s ≤ b.iterators → step_arrays s ≤ b.arrays → Exit L d → Exit L bk → Exit L ct →
+        step_room s ≤ b.temporaries → u + step_iterators s ≤ b.iterators → step_arrays s ≤ b.arrays → Ways o L d → Exit L bk → Exit L ct →
         CodeOk C L k [] rs →
         CodeOk C L (step_emitted (layout_of p b) s u d bk ct k) [] rs
     step_ok o l (Eval e) u d bk ct s h i g x y z r =
-        nothing (quickly_dropped_ok (sum_in e) e d refl (and_parts (is_dropped (form_of [] e)) (sorted (context_of p ks) [] e) s).1 h g x r)
+        nothing (quickly_dropped_ok (sum_in e) e d refl (and_parts (is_dropped (form_of [] e)) (sorted (context_of p ks) [] e) s).1 h g x.left r)
     step_ok o l (Block ss) u d bk ct s h i g x y z r = nothing (steps_ok o l ss u d bk ct s h i g x y z r)
     step_ok o l (If e a c) u d bk ct s h i g x y z r =
         let sa = step_sorted (context_of p ks) o l a in
@@ -273,12 +315,12 @@ module _ {p : Program} {ks : List Kind} {b : Bases} {C : Context} (at : Stands p
         let s2 = and_parts sa sc s1.1 in
         nothing (chosen_ok (is_some (pair_in e)) _ _
         (blocked (blocked
-        (left_unless_pair_ok (pair_in e) e (suc (suc d)) 0 refl s1.0 (omega (arith, h)) (omega (arith, g)) (inner (inner x)) nearest
-        (step_ok o l a u (suc (suc d)) (suc (suc bk)) (suc (suc ct)) s2.0 (omega (arith, h)) (omega (arith, i)) (omega (arith, g)) (inner (inner x)) (inner (inner y)) (inner (inner z)) (leave (inner nearest) done)))
-        (step_ok o l c u (suc d) (suc bk) (suc ct) s2.1 (omega (arith, h)) (omega (arith, i)) (omega (arith, g)) (inner x) (inner y) (inner z) done)) r)
-        (tested_ok e s1.0 (omega (arith, h)) (omega (arith, g)) x (branched
-        (step_ok o l a u (suc d) (suc bk) (suc ct) s2.0 (omega (arith, h)) (omega (arith, i)) (omega (arith, g)) (inner x) (inner y) (inner z) done)
-        (step_ok o l c u (suc d) (suc bk) (suc ct) s2.1 (omega (arith, h)) (omega (arith, i)) (omega (arith, g)) (inner x) (inner y) (inner z) done)
+        (left_unless_pair_ok (pair_in e) e (suc (suc d)) 0 refl s1.0 (omega (arith, h)) (omega (arith, g)) (inner (inner x.left)) nearest
+        (step_ok o l a u (suc (suc d)) (suc (suc bk)) (suc (suc ct)) s2.0 (omega (arith, h)) (omega (arith, i)) (omega (arith, g)) (deeper (deeper x)) (inner (inner y)) (inner (inner z)) (leave (inner nearest) done)))
+        (step_ok o l c u (suc d) (suc bk) (suc ct) s2.1 (omega (arith, h)) (omega (arith, i)) (omega (arith, g)) (deeper x) (inner y) (inner z) done)) r)
+        (tested_ok e s1.0 (omega (arith, h)) (omega (arith, g)) x.left (branched
+        (step_ok o l a u (suc d) (suc bk) (suc ct) s2.0 (omega (arith, h)) (omega (arith, i)) (omega (arith, g)) (deeper x) (inner y) (inner z) done)
+        (step_ok o l c u (suc d) (suc bk) (suc ct) s2.1 (omega (arith, h)) (omega (arith, i)) (omega (arith, g)) (deeper x) (inner y) (inner z) done)
         r)))
     step_ok o l (Loop true e a c) u d bk ct s h i g x y z r =
         let sa = step_sorted (context_of p ks) o true a in
@@ -286,13 +328,13 @@ module _ {p : Program} {ks : List Kind} {b : Bases} {C : Context} (at : Stands p
         let s1 = and_parts (test_sorted (context_of p ks) e) (sa && sc) s in
         let s2 = and_parts sa sc s1.1 in
         let rest = chosen_ok (is_nothing c) _ _ (leave nearest done)
-        (step_ok o false c u (suc (suc d)) 1 0 s2.1 (omega (arith, h)) (omega (arith, i)) (omega (arith, g)) (inner (inner x)) (inner nearest) nearest (leave nearest done)) in
+        (step_ok o false c u (suc (suc d)) 1 0 s2.1 (omega (arith, h)) (omega (arith, i)) (omega (arith, g)) (deeper (deeper x)) (inner nearest) nearest (leave nearest done)) in
         nothing (blocked (looped
-        (left_unless_ok (test_within e) e (suc (suc d)) 1 refl s1.0 (omega (arith, h)) (omega (arith, g)) (inner (inner x)) (inner nearest)
+        (left_unless_ok (test_within e) e (suc (suc d)) 1 refl s1.0 (omega (arith, h)) (omega (arith, g)) (inner (inner x.left)) (inner nearest)
         (chosen_ok (step_jumps a) _ _
         (blocked
-        (step_ok o true a u (suc (suc (suc d))) 2 0 s2.0 (omega (arith, h)) (omega (arith, i)) (omega (arith, g)) (inner (inner (inner x))) (inner (inner nearest)) nearest done) rest)
-        (step_ok o true a u (suc (suc d)) 1 0 s2.0 (omega (arith, h)) (omega (arith, i)) (omega (arith, g)) (inner (inner x)) (inner nearest) nearest rest)))
+        (step_ok o true a u (suc (suc (suc d))) 2 0 s2.0 (omega (arith, h)) (omega (arith, i)) (omega (arith, g)) (deeper (deeper (deeper x))) (inner (inner nearest)) nearest done) rest)
+        (step_ok o true a u (suc (suc d)) 1 0 s2.0 (omega (arith, h)) (omega (arith, i)) (omega (arith, g)) (deeper (deeper x)) (inner nearest) nearest rest)))
         done) r)
     step_ok o l (Loop false e a c) u d bk ct s h i g x y z r =
         let sa = step_sorted (context_of p ks) o true a in
@@ -300,10 +342,10 @@ module _ {p : Program} {ks : List Kind} {b : Bases} {C : Context} (at : Stands p
         let s1 = and_parts (test_sorted (context_of p ks) e) (sa && sc) s in
         let s2 = and_parts sa sc s1.1 in
         nothing (blocked (looped (blocked
-        (step_ok o true a u (suc (suc (suc d))) 2 0 s2.0 (omega (arith, h)) (omega (arith, i)) (omega (arith, g)) (inner (inner (inner x)))
+        (step_ok o true a u (suc (suc (suc d))) 2 0 s2.0 (omega (arith, h)) (omega (arith, i)) (omega (arith, g)) (deeper (deeper (deeper x)))
         (inner (inner nearest)) nearest done)
-        (step_ok o false c u (suc (suc d)) 1 0 s2.1 (omega (arith, h)) (omega (arith, i)) (omega (arith, g)) (inner (inner x)) (inner nearest) nearest
-        (nothing (tested_ok e s1.0 (omega (arith, h)) (omega (arith, g)) (inner (inner x)) (leave_if nearest done)))))
+        (step_ok o false c u (suc (suc d)) 1 0 s2.1 (omega (arith, h)) (omega (arith, i)) (omega (arith, g)) (deeper (deeper x)) (inner nearest) nearest
+        (nothing (tested_ok e s1.0 (omega (arith, h)) (omega (arith, g)) (inner (inner x.left)) (leave_if nearest done)))))
         done) r)
     step_ok o l (Each a e c) u d bk ct s h i g x y z r =
         let sc = step_sorted (context_of p ks) o true c in
@@ -312,34 +354,31 @@ module _ {p : Program} {ks : List Kind} {b : Bases} {C : Context} (at : Stands p
         let s2 = and_parts se sc (and_parts (stores_well [] e) (se && sc) s1.1).1 in
         nothing (array_pushed_ok at a s1.0 (called [] (at.imported (Of row.Iter)) (put (at.iterator u (omega (arith, i)))
         (blocked (looped
-        (key_stored_ok u e (suc (suc d)) (omega (arith, i)) s2.0 (omega (arith, h)) (omega (arith, g)) (inner nearest) (inner (inner x)) (blocked
-        (step_ok o true c (suc u) (suc (suc (suc d))) 2 0 s2.1 (omega (arith, h)) (omega (arith, i)) (omega (arith, g)) (inner (inner (inner x)))
+        (key_stored_ok u e (suc (suc d)) (omega (arith, i)) s2.0 (omega (arith, h)) (omega (arith, g)) (inner nearest) (inner (inner x.left)) (blocked
+        (step_ok o true c (suc u) (suc (suc (suc d))) 2 0 s2.1 (omega (arith, h)) (omega (arith, i)) (omega (arith, g)) (deeper (deeper (deeper x)))
         (inner (inner nearest)) nearest done)
         (leave nearest done)))
         done)
         (iterator_left_ok u (omega (arith, h)) (omega (arith, i)) r)))))
     step_ok o l Break u d bk ct s h i g x y z r = nothing (leave y r)
     step_ok o l Continue u d bk ct s h i g x y z r = nothing (leave z r)
-    step_ok o l Next u d bk ct s h i g x y z r = nothing (left_by_ok _ x r)
-    step_ok o l ExitStep u d bk ct s h i g x y z r = nothing (left_by_ok _ x r)
+    step_ok o l Next u d bk ct s h i g x y z r = nothing (left_by_ok _ x.left r)
+    step_ok o l ExitStep u d bk ct s h i g x y z r = nothing (left_by_ok _ x.left r)
     step_ok o l (ExitWith e) u d bk ct s h i g x y z r =
         let he = room_there e in
         let lt : 0 < b.temporaries = omega (arith, h, he) in
         nothing (code_ok at false [] [] e 0 0 d (none_below b.temporaries lt)
-        (and_parts (fits (form_of [] e) sort.Number) (sorted (context_of p ks) [] e) s).1 (omega (arith, h)) (omega (arith, g)) x
-        (to_number_ok at (form_of [] e) lt x (get (at.number 0 lt) (write at.status (left_by_ok _ x r)))))
+        (and_parts (fits (form_of [] e) sort.Number) (sorted (context_of p ks) [] e) s).1 (omega (arith, h)) (omega (arith, g)) x.left
+        (to_number_ok at (form_of [] e) lt x.left (get (at.number 0 lt) (write at.status (left_by_ok _ x.left r)))))
     step_ok o l (Return e) u d bk ct s h i g x y z r =
-        let he = room_there e in
-        let lt : 0 < b.temporaries = omega (arith, h, he) in
         let s1 = and_parts o (fits (form_of [] e) sort.Value && sorted (context_of p ks) [] e) s in
-        nothing (code_ok at false [] [] e 0 0 d (none_below b.temporaries lt)
-        (and_parts (fits (form_of [] e) sort.Value) (sorted (context_of p ks) [] e) s1.1).1 (omega (arith, h)) (omega (arith, g)) x
-        (to_value_ok at (form_of [] e) lt (moved_out_ok at (at.handle 0 lt) (put at.answer (leave x r)))))
+        let s2 = and_parts (fits (form_of [] e) sort.Value) (sorted (context_of p ks) [] e) s1.1 in
+        nothing (returned_ok e d s2.0 s2.1 h g x.left (x.returned s1.0) r)
     step_ok o l (Mark j c) u d bk ct s h i g x y z r = nothing (word (write (at.range j (ltb-true j p.ranges s)) r))
 
     pub steps_ok : {L : Labels} {k : Instructions} {rs : Stack} (o l : Bool) (ss : Steps) (u d bk ct : ℕ) →
         steps_sorted (context_of p ks) o l ss ≡ true →
-        steps_room ss ≤ b.temporaries → u + steps_iterators ss ≤ b.iterators → steps_arrays ss ≤ b.arrays → Exit L d → Exit L bk → Exit L ct →
+        steps_room ss ≤ b.temporaries → u + steps_iterators ss ≤ b.iterators → steps_arrays ss ≤ b.arrays → Ways o L d → Exit L bk → Exit L ct →
         CodeOk C L k [] rs →
         CodeOk C L (steps_emitted (layout_of p b) ss u d bk ct k) [] rs
     steps_ok o l NoStep u d bk ct s h i g x y z r = r

@@ -7,7 +7,7 @@ use Rattle.std.proofs.lemmas.List.{length-map, length-append}
 use Rattle.std.proofs.lemmas.List.Elements.{All-cons, All-nil, All-append, All-replicate}
 use Rattle.wasm_types.specs.Syntax.{GlobalForm, ImportForm}
 use Rattle.wasm_types.specs.Typing.{CodeOk, context_in, typed_in, callee_in, FuncOk, ImportOk, IsConstant, DescOk, DataOk, AreDistinct, LimitsOk, LevelOk, ModuleOk}
-use Rattle.wasm_types.specs.declared.types.ValType.TheVariants.{I32}
+use Rattle.wasm_types.specs.declared.types.ValType.TheVariants.{I32, I64}
 use Rattle.mid_program.specs.Mid.{Kind, Routine, Program}
 use Rattle.mid_program.specs.Sorted.{context_of, kinds_of, announced_names, all_differ, routines_sorted, parts_sorted, steps_sorted, is_sorted, IsSorted}
 use Rattle.lower_model.specs.Functions.{texts_of, routine_bases, main_bases, routine_callee, main_callee}
@@ -29,7 +29,7 @@ from_T false t = absurd t
 module _ (p : Program) where
   -- a function's body is typed in the module
   abbrev BodyOk : Callee → Type 0
-  BodyOk f = CodeOk (context_in (module_of p) (callee_type f) f.locals) (Some I32 ∷ []) (renumbered (called_imports p) f.body) [] (I32 ∷ [])
+  BodyOk f = CodeOk (context_in (module_of p) (callee_type f) f.locals) (Some f.answer ∷ []) (renumbered (called_imports p) f.body) [] (f.answer ∷ [])
 
   -- what it calls is called
   abbrev IsHeard : Callee → Type 0
@@ -39,18 +39,18 @@ module _ (p : Program) where
       BodyOk (routine_callee p r)
   routine_ok r h s =
       let enough : Enough r.body (routine_bases r) = record { temporaries = omega arith; iterators = omega arith; arrays = omega arith } in
-      renumbered_ok (called_imports p) (callee_in (module_of p)) (typed_in (module_of p)) (whole_context p r.parameters (routine_bases r))
-      (Some I32 ∷ []) (routine_callee p r).body [] (I32 ∷ []) refl
-      (λ n e. called_there p n (h n e)) (routine_body_ok (stands p r.parameters (routine_bases r) refl) r.body s enough)
+      renumbered_ok (called_imports p) (callee_in (module_of p)) (typed_in (module_of p)) (whole_context p I64 r.parameters (routine_bases r))
+      (Some I64 ∷ []) (routine_callee p r).body [] (I64 ∷ []) refl
+      (λ n e. called_there p n (h n e)) (routine_body_ok (stands p I64 r.parameters (routine_bases r) refl) r.body s enough)
 
   main_ok : IsHeard (main_callee p) → parts_sorted p (context_of p []) ≡ true → BodyOk (main_callee p)
   main_ok h s =
       let enough_begin : Enough p.begin (main_bases p) = record { temporaries = omega arith; iterators = omega arith; arrays = omega arith } in
       let enough_items : Enough p.items (main_bases p) = record { temporaries = omega arith; iterators = omega arith; arrays = omega arith } in
       let enough_end : Enough p.end (main_bases p) = record { temporaries = omega arith; iterators = omega arith; arrays = omega arith } in
-      renumbered_ok (called_imports p) (callee_in (module_of p)) (typed_in (module_of p)) (whole_context p [] (main_bases p)) (Some I32 ∷ [])
+      renumbered_ok (called_imports p) (callee_in (module_of p)) (typed_in (module_of p)) (whole_context p I32 [] (main_bases p)) (Some I32 ∷ [])
       (main_callee p).body [] (I32 ∷ []) refl
-      (λ n e. called_there p n (h n e)) (main_body_ok (stands p [] (main_bases p) refl) (omega arith) s enough_begin enough_items enough_end)
+      (λ n e. called_there p n (h n e)) (main_body_ok (stands p I32 [] (main_bases p) refl) (omega arith) s enough_begin enough_items enough_end)
 
   abbrev main_last : List Routine → List Callee
   main_last rs = map (routine_callee p) rs ++ main_callee p ∷ []
@@ -109,9 +109,10 @@ module _ (p : Program) where
   globals_set : All IsSet (globals_of p)
   globals_set =
       let later = replicate p.ranges (word_global 0) ++ name_globals (kinds_of p.globals) in
-      All-cons IsSet (word_global 0) (long_global 0 ∷ later) refl (All-cons IsSet (long_global 0) later refl
+      let texts = word_global minus_one ∷ later in
+      All-cons IsSet (word_global 0) (long_global 0 ∷ texts) refl (All-cons IsSet (long_global 0) texts refl (All-cons IsSet (word_global minus_one) later refl
       (All-append IsSet (replicate p.ranges (word_global 0)) (name_globals (kinds_of p.globals)) (All-replicate IsSet p.ranges (word_global 0) refl)
-      (names_set (kinds_of p.globals))))
+      (names_set (kinds_of p.globals)))))
 
   one_name : AreDistinct (codes "main" ∷ [])
   one_name zero lt c = omega (arith, c.1)

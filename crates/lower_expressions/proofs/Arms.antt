@@ -18,7 +18,7 @@ use Rattle.mid_program.specs.declared.mid.Operation.{Operation}
 use Rattle.lower_model.specs.Arithmetic.{compared, is_value}
 use Rattle.lower_model.specs.Emission.{Layout, Immediate, immediate_in, immediate_or, immediately_compared, all_appended, all_boxed, all_converted, all_emitted, all_freed, all_given, all_given_pushed, asked, emitted, field_in, field_or, field_read, function_number, keeping_closed, left_over, listed_asked, performed, sequence_closed, slot_set}
 use Rattle.lower_model.specs.Places.{made_in, array_local, handle_local}
-use Rattle.lower_model.specs.Small.{ask_row, code_number, converted, does, either, kept_value, let_go, truth}
+use Rattle.lower_model.specs.Small.{answer_kept, ask_row, code_number, converted, does, either, let_go, truth}
 use Rattle.host_imports.specs.declared.import.Import.TheVariants.{Drop}
 use Rattle.lower_pieces.specs.Emits.{followed, Emits}
 use Rattle.lower_pieces.specs.Forms.{view_form}
@@ -98,7 +98,7 @@ listing_emitted y v fs gs ts l es t w d a b z all e p q k =
 
 called_are : (y : Layout) (fs : List plain.Form) (f : ℕ) (es : Codes) (t w d : ℕ) (k : Instructions) → IsGiven (parameters_at y.calls f) es
     → called_with y (forms_in fs es) f es t w d k
-    ≡ all_given y fs (parameters_at y.calls f) es t (all_given_pushed y (parameters_at y.calls f) es t w (does (CallOf (function_number f)) (kept_value y.bases true t d (all_freed y w (made_in es) k))))
+    ≡ all_given y fs (parameters_at y.calls f) es t (all_given_pushed y (parameters_at y.calls f) es t w (does (CallOf (function_number f)) (answer_kept y.bases t d (all_freed y w (made_in es) k))))
 called_are y fs f es t w d k q =
     let ks = parameters_at y.calls f in
     given_are y fs ks es t _ q

@@ -6,4 +6,4 @@ mod Keys
 mod RoutineLemmas
 mod Views
 mod WalkLemmas
-mod Weights
+pub mod Weights

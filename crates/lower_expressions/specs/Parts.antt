@@ -22,7 +22,7 @@ use Rattle.mid_program.specs.declared.mid.Operation.{Operation}
 use Rattle.mid_program.specs.declared.mid.Operation.TheVariants.{Host}
 use Rattle.mid_program.specs.Mid.{Kind, Boxed, Unboxed, Many, Code, Codes, End, At, Fixed, Fresh, arguments, form_of, parameters_at}
 use Rattle.lower_model.specs.Places.{Bases, array_local, made_in, handle_local, number_local}
-use Rattle.lower_model.specs.Small.{ask, ask_row, does, kept, kept_code, kept_value, minus_one, moved_out, number_is, to_value, converted, when}
+use Rattle.lower_model.specs.Small.{ask, ask_row, does, kept, kept_code, answer_kept, minus_one, moved_out, number_is, to_value, converted, when}
 use Rattle.lower_model.specs.Emission.{Layout, all_pushed, emitted, text_kept, text_let_go, assigned, function_number, global_handle, global_number, listed_asked, one_given, pending_assigned, performed, text_dropped}
 use Rattle.host_imports.specs.declared.import.Import.TheVariants.{Arg, Drop, FreeArray}
 
@@ -148,7 +148,7 @@ passed_with layout forms kinds operands temporary arrays after =
 
 -- a function is entered, and its answer kept
 abbrev pub entered : Bases → ℕ → ℕ → ℕ → Instructions → Instructions
-entered bases function temporary exit after = does (CallOf (function_number function)) (kept_value bases true temporary exit after)
+entered bases function temporary exit after = does (CallOf (function_number function)) (answer_kept bases temporary exit after)
 
 -- a call whose operands, of these forms, are evaluated
 abbrev pub called_with : Layout → List plain.Form → ℕ → Codes → ℕ → ℕ → ℕ → Instructions → Instructions

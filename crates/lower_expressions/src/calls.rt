@@ -6,7 +6,7 @@ ghost use Rattle.mid_program.specs.View.{view_kind};
 ghost use Rattle.mid_program.specs.ViewCode.{view, views};
 ghost use Rattle.lower_model.specs.Emission.{array_meant, one_given};
 ghost use Rattle.lower_model.specs.Places.{made_in};
-ghost use Rattle.lower_pieces.specs.Bounds.{most_places};
+ghost use Rattle.lower_pieces.specs.Bounds.{most_labels, most_places};
 ghost use Rattle.lower_pieces.specs.Emits.{Emits};
 ghost use Rattle.lower_pieces.specs.Forms.{view_form};
 ghost use Rattle.lower_expressions.specs.Fits.{ArrayFits, ArraysFit};
@@ -19,9 +19,9 @@ use crate::operands::array_meant;
 use crate::places::array_pushed;
 use crate::walks::{all_freed, all_given, made_in};
 use host_imports::IMPORT_COUNT;
-use lower_pieces::{Bases, Form, does, does_all, kept_value, moved_out};
+use lower_pieces::{Bases, Form, answer_kept, does, does_all, moved_out};
 use mid_program::{Code, Kind, Operand};
-use std::alloc::AllocError;
+use std::alloc::{AllocError, Global};
 use wasm_types::{Instr, Simple};
 
 /// Puts what a parameter is given on the stack.
@@ -120,6 +120,7 @@ fn all_passed(
 
 /// Enters a function, and keeps what it answers.
 fn entered(
+    alloc: Global,
     bases: &Bases,
     out: &mut Vec<Instr>,
     function: usize,
@@ -128,11 +129,12 @@ fn entered(
 ) -> Result<(), AllocError>
     requires function { function ≤ most_places }
     requires places { temporary ≤ most_places }
+    requires labels { exit ≤ most_labels }
     ensures { OnOk result
         (Emits out.old.items out.new.items (entered bases.now function temporary exit)) }
 {
     does(out, Simple::Call(function as u32 + IMPORT_COUNT as u32))?;
-    kept_value(bases, out, true, temporary, exit)
+    answer_kept(alloc, bases, out, temporary, exit)
 }
 
 /// Adds a call of a function, whose operands are evaluated.
@@ -148,11 +150,12 @@ pub(crate) fn called(
     requires places { at.temporary + count_of (views operands.now) ≤ most_places }
     requires made { at.arrays + made_in (views operands.now) ≤ most_places }
     requires fit { ArraysFit (views operands.now) }
+    requires labels { at.exit ≤ most_labels }
     ensures { OnOk result (Emits out.old.items out.new.items (called_with (view_layout layout.now)
         (map view_form forms.now) function (views operands.now) at.temporary at.arrays at.exit)) }
 {
     let kinds = parameters(layout, function);
     all_passed(layout, out, forms, kinds, operands, at.temporary, at.arrays)?;
-    entered(layout.bases, out, function, at.temporary, at.exit)?;
+    entered(layout.alloc, layout.bases, out, function, at.temporary, at.exit)?;
     all_freed(layout.bases, out, at.arrays, made_in(operands))
 }

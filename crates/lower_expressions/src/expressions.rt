@@ -215,7 +215,7 @@ fn call(
     let mut forms = Vec::new(layout.alloc);
     all_operands(layout, kept, out, &mut forms, operands, at)?;
     called(layout, out, &forms, function, operands, at)?;
-    Ok(Form::Answered(Answer::Of(Sort::Value)))
+    Ok(Form::Bare)
 }
 
 /// Adds a comparison.

@@ -128,7 +128,7 @@ pub(crate) fn is_open(
         (does (LocalSet (number_local layout.now.bases.now at.temporary)) after)))) }
 {
     let all = [
-        Simple::GlobalGet(item as u32 + 2),
+        Simple::GlobalGet(item as u32 + 3),
         Simple::Convert(CvtOp::I64ExtendI32U),
         Simple::LocalSet(layout.bases.number(at.temporary)),
     ];

@@ -19,7 +19,7 @@ pub fn global_handle(layout: &FunctionLayout<'_>, name: usize) -> u32
     ensures { result ≡ global_handle (view_layout layout.now) name }
 {
     let name = name as u32;
-    layout.script.ranges() + 2 + (name + name)
+    layout.script.ranges() + 3 + (name + name)
 }
 
 /// The global of a name's number.
@@ -28,7 +28,7 @@ pub fn global_number(layout: &FunctionLayout<'_>, name: usize) -> u32
     ensures { result ≡ global_number (view_layout layout.now) name }
 {
     let name = name as u32;
-    layout.script.ranges() + 3 + (name + name)
+    layout.script.ranges() + 4 + (name + name)
 }
 
 /// Adds an array.

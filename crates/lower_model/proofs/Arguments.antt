@@ -32,12 +32,12 @@ use Rattle.lower_model.proofs.Runs.{Goes, then_goes, stays, goes_to, there, firs
 use Rattle.lower_model.proofs.Regions.{upd_same}
 use Rattle.lower_model.proofs.Locals.{Locals, Hand, Number as NumberAt, with_at, laid}
 use Rattle.lower_model.proofs.Steps.{empty, moved_out_ok, get_copied}
-use Rattle.lower_model.proofs.Relation.{HoldsAt, Meant, array_at, Same, Fit, Away, fit_hand, fit_less}
+use Rattle.lower_model.proofs.Relation.{HoldsAt, Meant, array_at, Same, Fit, Away, fit_hand, fit_less, holds_same}
 use Rattle.lower_model.proofs.Answers.{machine, beside_state, Reached}
 use Rattle.lower_model.proofs.Arrays.{array_pushed_ok, array_live, array_in_sort}
 use Rattle.lower_model.proofs.Converting.{Keeps, Converted, converted_ok, keeps_hand, keeps_self}
 use Rattle.lower_model.proofs.Simulation.{past, past_from, layout, AllHeld, RowAt}
-use Rattle.lower_model.proofs.Operands.{holds_same, all_held_same}
+use Rattle.lower_model.proofs.Operands.{all_held_same}
 
 -- what lies below t, and all but temporaries, is as it was
 pub record Under (t : ℕ) (l l1 : Locals) : Type 0 where

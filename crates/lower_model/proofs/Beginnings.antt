@@ -32,7 +32,7 @@ use Rattle.lower_model.proofs.Announcing.{Telling, names_in, tell_work, make_wor
 
 -- globals as a module starts
 abbrev pub first_cells : Globals
-first_cells = record { way = Bits (I32 0); status = Bits (I64 0); range = λ i. Bits (I32 0); hand = λ i. empty; number = λ i. Bits (I64 least) }
+first_cells = record { way = Bits (I32 0); status = Bits (I64 0); text = Gone; range = λ i. Bits (I32 0); hand = λ i. empty; number = λ i. Bits (I64 least) }
 
 ranges_zero : (m : ℕ) → zero_ranges m ≡ cells (λ i. Bits (I32 0)) m
 ranges_zero zero = refl
@@ -43,7 +43,7 @@ names_empty [] = refl
 names_empty (k ∷ ks) = ap (λ r. empty ∷ (Bits (I64 least) ∷ r)) (names_empty ks)
 
 pub first_placed : (p : Program) → first_globals p ≡ placed p.ranges (length (kinds_of p.globals)) first_cells
-first_placed p = ap₂ (λ x y. Bits (I32 0) ∷ (Bits (I64 0) ∷ (x ++ y))) (ranges_zero p.ranges) (names_empty (kinds_of p.globals))
+first_placed p = ap₂ (λ x y. Bits (I32 0) ∷ (Bits (I64 0) ∷ (Gone ∷ (x ++ y)))) (ranges_zero p.ranges) (names_empty (kinds_of p.globals))
 
 -- the names that are told are those that the module has in memory
 
@@ -138,7 +138,7 @@ module _ (p : Program) (notes : Notes) (s : Setting) (b : Bases) (turns : ℕ) (
       let ks = kinds_of p.globals in
       let m = names_length (map global_name p.globals) in
       let g = cells_of ks 0 (record begins { shared = last }) in
-      ap (λ r. g.way ∷ (g.status ∷ (cells g.range p.ranges ++ (r ++ []))))
+      ap (λ r. g.way ∷ (g.status ∷ (g.text ∷ (cells g.range p.ranges ++ (r ++ [])))))
       (pairs_same hands first_cells.number g.hand g.number (length ks)
       (λ x lt. each x lt ∙ ap (name_hand (kind_here ks x) (suc (suc (arrays_before ks x)))) (sym (unset_there m x)))
       (λ x lt. ap (λ z. Bits (I64 z)) (sym (ap (name_word (kind_here ks x)) (unset_there m x) ∙ word_unset (kind_here ks x)))))

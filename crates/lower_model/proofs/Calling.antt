@@ -15,22 +15,23 @@ use Rattle.mid_program.specs.Mid.{Kind, Boxed, Unboxed, Many, Program, Routine, 
 use Rattle.mid_program.specs.MidMeaning.{Holds, Values, evaluated, all_evaluated, boxed, array_in, locals_of}
 use Rattle.sem_scripts.specs.Names.{ArrayName}
 use Rattle.sem_scripts.specs.ScriptState.{State, Stop, Faulted, OutOfTurns, TooDeep, Nexted, Exited, Returned, Outcome, Gives, Stops, Own, Local, Scalar, value_in_local, array_in_local, go_on, spent}
-use Rattle.mid_program.specs.Sorted.{sorted, all_sorted, held_after_all, fits, is_given, fit_call, is_array_place, context_of, calls_of}
+use Rattle.mid_program.specs.Sorted.{sorted, all_sorted, held_after_all, fits, is_given, fit_call, is_array_place, context_of, calls_of, kinds_of}
 use Rattle.lower_model.specs.Cells.{Cell, Bits, Held, OwnedArray, LentArray, Gone, is_owned, has_owner}
 use Rattle.lower_model.specs.Emission.{array_meant, emitted, all_emitted, all_given, all_given_pushed, all_freed, function_number}
 use Rattle.lower_model.specs.Machine.{Conf, Deep, Label, Frame, at, br, owner_waits, loops_walked, waits}
 use Rattle.lower_model.specs.Noted.{noted_called}
 use Rattle.lower_model.specs.Places.{Bases, made_in, arrays_among as arrays_in_codes}
-use Rattle.lower_model.specs.Small.{does, kept_value}
+use Rattle.lower_model.specs.Small.{does, answer_kept}
 use Rattle.lower_model.proofs.Watch.{Watch}
 use Rattle.lower_model.proofs.Runs.{Goes, then_goes, goes_to, goes_from, stays, Arrives, Onward, reaches_on, first, then_on, then_step, within}
 use Rattle.lower_model.proofs.Regions.{upd_same, upd_other}
 use Rattle.lower_model.proofs.Locals.{Locals, Hand, Number as NumberAt, Array as Yard, local_of, with_at, has_with, laid, laid_at, laid_twice, laid_again}
-use Rattle.lower_model.proofs.Steps.{empty, get_moved, get_copied, tee_ok, moved_out_ok}
-use Rattle.lower_model.proofs.State.{bare, beside, bare_number, beside_number}
-use Rattle.lower_model.proofs.Relation.{HoldsAt, Meant, IsArray, ParamIs, array_at, kept_same, same_then, Sound, StopSound, StopLeaves, left_to, answer_of, Fit, fit_loose, fit_hand, fit_array, fit_less, fit_more, Away}
-use Rattle.lower_model.proofs.Pieces.{free_array_ok, value_kept, value_failed}
+use Rattle.lower_model.proofs.Steps.{empty, unanswered, get_moved, get_copied, tee_ok, moved_out_ok}
+use Rattle.lower_model.proofs.State.{bare, beside, bare_number, beside_number, AnswerIs, answering}
+use Rattle.lower_model.proofs.Relation.{HoldsAt, Meant, IsArray, ParamIs, array_at, kept_same, same_then, Sound, StopSound, StopLeaves, left_to, Fit, fit_loose, fit_hand, fit_number, fit_array, fit_less, WasLeft, Away, holds_same}
+use Rattle.lower_model.proofs.Pieces.{free_array_ok, answer_failed}
 use Rattle.lower_model.proofs.Answers.{machine, beside_state, left_beside}
+use Rattle.lower_model.proofs.Answering.{taken_ok}
 use Rattle.lower_model.proofs.Arrays.{owner_at, array_pushed_ok}
 use Rattle.lower_model.proofs.Converting.{Converted, converted_ok}
 use Rattle.lower_model.proofs.Setting.{number_of_form, number_boxed, number_held}
@@ -325,9 +326,12 @@ module _ (p : Program) (deepest : Watch) (ks : List Kind) (F : List Frame) (b : 
   GivenTo kinds Fs (k ∷ pks) (o ∷ os) (c ∷ cs) = ParamIs p deepest kinds Fs k o c × GivenTo kinds Fs pks os cs
   GivenTo kinds Fs pks os cs = ⊥
 
-  -- it came back with a value
+  -- it came back with an answer
   pub record CameBack (K : List Label) (L : List Cell) (rest : Instructions) (σ : State) (v : Value) (σ1 : State) (c : Conf) : Type 0 where
-    pub comes : c ≡ at ks (Held v ∷ []) K L F rest (beside_state p deepest ks F σ1)
+    pub word : ℕ
+    pub text : Cell
+    pub is : AnswerIs v word text
+    pub comes : c ≡ at ks (Bits (I64 word) ∷ []) K L F rest (answering p.ranges (kinds_of p.globals) text σ1)
     pub sound : Sound p deepest ks F σ1
     pub own : σ1.own ≡ σ.own
 
@@ -335,9 +339,9 @@ module _ (p : Program) (deepest : Watch) (ks : List Kind) (F : List Frame) (b : 
   NoReturn (Returned v) = ⊥
   NoReturn why = Unit {0}
 
-  -- it came back with -1, or was too deep
+  -- it was left, or was too deep
   pub record LeftCall (K : List Label) (L : List Cell) (rest : Instructions) (why : Stop) (σ1 : State) (c : Conf) : Type 0 where
-    pub comes : c ≡ left_to why (at ks (empty ∷ []) K L F rest (left_beside p deepest ks F why σ1)) (Deep (beside_state p deepest ks F σ1))
+    pub comes : c ≡ left_to why (at ks (unanswered ∷ []) K L F rest (left_beside p deepest ks F why σ1)) (Deep (beside_state p deepest ks F σ1))
     pub none : NoReturn why
     pub after : StopSound p deepest ks F why σ1
 
@@ -382,33 +386,33 @@ module _ (p : Program) (deepest : Watch) (ks : List Kind) (F : List Frame) (b : 
   stop_leaves OutOfTurns l σ some h = h
   stop_leaves TooDeep l σ some h = h
 
-  leaves_too : (t u y d : ℕ) (k : Instructions) (K : List Label) (l : Locals) (σ : State) (why : Stop) (σ1 : State) (c : Conf) → (calls_of p ≡ [] → ⊥) → t < b.temporaries → Fit p deepest ks F t u y l σ → LeftCall K (laid b l) (kept_value b true t d k) why σ1 c → Onward (machine p deepest ks F) M 3 (Away p deepest ks F b d K why σ1) c
+  leaves_too : (t u y d : ℕ) (k : Instructions) (K : List Label) (l : Locals) (σ : State) (why : Stop) (σ1 : State) (c : Conf) → (calls_of p ≡ [] → ⊥) → t < b.temporaries → Fit p deepest ks F t u y l σ → LeftCall K (laid b l) (answer_kept b t d k) why σ1 c → Onward (machine p deepest ks F) M 9 (Away p deepest ks F b d K why σ1) c
   leaves_too t u y d k K l σ why σ1 c some lt ft a = by why a
     where
       l1 : Locals
-      l1 = with_at l (Hand t) empty
+      l1 = with_at l (NumberAt t) unanswered
 
-      failed : (why : Stop) → answer_of why ≡ empty → ((x y : Conf) → left_to why x y ≡ x) → LeftCall K (laid b l) (kept_value b true t d k) why σ1 c → Onward (machine p deepest ks F) M 3 (Away p deepest ks F b d K why σ1) c
-      failed why e g a = record {
+      failed : (why : Stop) → ((x y : Conf) → left_to why x y ≡ x) → LeftCall K (laid b l) (answer_kept b t d k) why σ1 c → Onward (machine p deepest ks F) M 9 (WasLeft p deepest ks F b d K why σ1) c
+      failed why g a = record {
         conf = br d ks K (laid b l1) F (left_beside p deepest ks F why σ1);
-        steps = 3;
+        steps = 9;
         few = omega arith;
-        goes = goes_from (a.comes ∙ g _ _) (value_failed b l t d lt (ap is_owned (ft.free t (omega arith))));
+        goes = goes_from (a.comes ∙ g _ _) (answer_failed b l t d lt (ft.numbers t));
         holds = record {
           next = l1;
           comes = sym (g _ _);
-          loose = fit_loose p deepest ks F (suc t) u y l1 σ (fit_hand p deepest ks F t (suc t) u y l σ empty (inl refl) (omega arith) (fit_more p deepest ks F t u y l σ ft));
-          answer = ft.answer ∙ sym e;
+          loose = fit_loose p deepest ks F t u y l1 σ (fit_number p deepest ks F t t u y l σ unanswered refl ft);
+          answer = ft.answer;
           after = stop_leaves why l1 σ1 some a.after;
         };
       }
 
-      by : (why : Stop) → LeftCall K (laid b l) (kept_value b true t d k) why σ1 c → Onward (machine p deepest ks F) M 3 (Away p deepest ks F b d K why σ1) c
+      by : (why : Stop) → LeftCall K (laid b l) (answer_kept b t d k) why σ1 c → Onward (machine p deepest ks F) M 9 (Away p deepest ks F b d K why σ1) c
       by TooDeep a = record { conf = c; steps = 0; few = omega arith; goes = stays; holds = record { next = l; comes = a.comes; loose = fit_loose p deepest ks F t u y l σ ft; answer = ft.answer; after = tt } }
-      by (Faulted f) a = failed (Faulted f) refl (λ x z. refl) a
-      by OutOfTurns a = failed OutOfTurns refl (λ x z. refl) a
-      by Nexted a = failed Nexted refl (λ x z. refl) a
-      by Exited a = failed Exited refl (λ x z. refl) a
+      by (Faulted f) a = failed (Faulted f) (λ x z. refl) a
+      by OutOfTurns a = failed OutOfTurns (λ x z. refl) a
+      by Nexted a = failed Nexted (λ x z. refl) a
+      by Exited a = failed Exited (λ x z. refl) a
       by (Returned v) a = absurd a.none
 
   -- the caller's own is as it was
@@ -440,7 +444,7 @@ module _ (p : Program) (deepest : Watch) (ks : List Kind) (F : List Frame) (b : 
       let fl : f < length (calls_of p) = ltb-true f (length (calls_of p)) s1.0 in
       let ln = length-map p.routines (λ (r : Routine). r.parameters) in
       let k5 = all_freed lay w (made_in es) k in
-      let k4 = kept_value b true t d k5 in
+      let k4 = answer_kept b t d k5 in
       let k3 = does (CallOf (function_number f)) k4 in
       let k2 = all_given_pushed lay pks es t w k3 in
       let k1 = all_given lay fs pks es t k2 in
@@ -450,7 +454,7 @@ module _ (p : Program) (deepest : Watch) (ks : List Kind) (F : List Frame) (b : 
       let ex = extra_for_call es in
       let none = rd.none in
       let fb = freed_after lay w (made_in es) k in
-      then_on mach M (works_of es) (26 + extra_of es) (work_of (Call f es)) σ.turns _ (AllDone p deepest ks F b M n es fs env ts st t u w k1 K l σ) P Q (all_meant p deepest ks F b M n fs env es σ) _ (omega arith)
+      then_on mach M (works_of es) (41 + extra_of es) (work_of (Call f es)) σ.turns _ (AllDone p deepest ks F b M n es fs env ts st t u w k1 K l σ) P Q (all_meant p deepest ks F b M n fs env es σ) _ (omega arith)
       (oks fs env ts st t u w d k1 K l σ s2.1 us (omega (arith, rm)) ar rd)
       (λ vs τ c1 le a.
       let g = all_given_ok fs pks es t (past t es) u (made_past w es) w k2 K a.next τ vs s2.0 (omega arith) (omega (arith, pr, rm)) a.fit a.held in
@@ -458,35 +462,37 @@ module _ (p : Program) (deepest : Watch) (ks : List Kind) (F : List Frame) (b : 
       let gf = g.few in
       let zf = z.few in
       let own = locals_of fs pks es vs in
-      first mach M (g.steps + z.steps) (26 + 3 * made_in es) (26 + extra_of es) τ.turns c1 _ P Q _ (goes_from a.comes (then_goes g.goes z.goes)) (omega (arith, gf, zf, ex))
-      (then_step mach M (3 + 3 * made_in es) 23 (26 + 3 * made_in es) τ.turns _ (CameBack K (laid b z.next) k4 τ) P Q (go_on (spent τ.turns τ) (λ x. noted_called deepest.notes p n f own)) (omega arith)
+      first mach M (g.steps + z.steps) (41 + 3 * made_in es) (41 + extra_of es) τ.turns c1 _ P Q _ (goes_from a.comes (then_goes g.goes z.goes)) (omega (arith, gf, zf, ex))
+      (then_step mach M (12 + 3 * made_in es) 29 (41 + 3 * made_in es) τ.turns _ (CameBack K (laid b z.next) k4 τ) P Q (go_on (spent τ.turns τ) (λ x. noted_called deepest.notes p n f own)) (omega arith)
       (λ x τ1 c2 cb.
-      let l3 = with_at z.next (Hand t) (Held x) in
       let f1 = fit_back t u (made_past w es) z.next τ τ1 cb.own cb.sound z.fit in
-      let f2 = fit_hand p deepest ks F t (suc t) u (made_past w es) z.next τ1 (Held x) (inr (x, refl)) (omega arith) (fit_more p deepest ks F t u (made_past w es) z.next τ1 f1) in
-      let owned : OwnedFrom w (made_in es) l3 = λ i lt. (let o = made_owned fs es t w a.next τ vs a.held i lt in (o.0, z.under.arrays (w + i) ∙ (g.under.arrays (w + i) ∙ o.1))) in
-      let r = all_freed_ok (made_in es) w (suc t) u (made_past w es) k K l3 τ1 mw (omega (arith, mw, mm, ar)) f2 owned in
+      let tk = taken_ok p deepest ks F b t u (made_past w es) d cb.word cb.text k5 K z.next τ1 x (omega (arith, rm)) f1 cb.is in
+      let q = tk.few in
+      let owned : OwnedFrom w (made_in es) tk.next = λ i lt. (let o = made_owned fs es t w a.next τ vs a.held i lt in (o.0, tk.keeps.arrays (w + i) ∙ (z.under.arrays (w + i) ∙ (g.under.arrays (w + i) ∙ o.1)))) in
+      let r = all_freed_ok (made_in es) w (suc t) u (made_past w es) k K tk.next τ1 mw (omega (arith, mw, mm, ar)) tk.fit owned in
+      let hands : (y : ℕ) → y < t → r.next.hand y ≡ a.next.hand y = λ y lt. r.hands y ∙ (tk.keeps.hands y (λ e. omega (arith, e, lt)) ∙ (z.under.hands y lt ∙ g.under.hands y lt)) in
+      let numbers : (y : ℕ) → y < t → r.next.number y ≡ a.next.number y = λ y lt. r.numbers y ∙ (tk.keeps.numbers y (λ e. omega (arith, e, lt)) ∙ (z.under.numbers y lt ∙ g.under.numbers y lt)) in
       record {
         conf = at ks [] K (laid b r.next) F k (beside_state p deepest ks F τ1);
-        steps = 3 + 3 * made_in es;
-        few = omega arith;
-        goes = goes_from cb.comes (then_goes (value_kept b z.next t d x (omega (arith, rm)) (ap is_owned (z.fit.free t (omega arith)))) r.goes);
+        steps = tk.steps + 3 * made_in es;
+        few = omega (arith, q);
+        goes = goes_from cb.comes (then_goes tk.goes r.goes);
         holds = record {
           next = r.next;
           comes = refl;
           fit = r.fit;
           same = same_then ts t t w w l a.next r.next (omega arith) (omega arith) a.same (record {
-            hands = λ y lt o. r.hands y ∙ (upd_other z.next.hand t y (Held x) (λ e. omega (arith, e, lt)) ∙ (z.under.hands y lt ∙ g.under.hands y lt));
-            numbers = λ y lt. r.numbers y ∙ (z.under.numbers y lt ∙ g.under.numbers y lt);
-            iterators = λ y. r.iterators y ∙ (z.under.iterators y ∙ g.under.iterators y);
-            arrays = λ y lt. r.arrays y lt ∙ (z.under.arrays y ∙ g.under.arrays y);
+            hands = λ y lt o. hands y lt;
+            numbers = numbers;
+            iterators = λ y. r.iterators y ∙ (tk.keeps.iterators y ∙ (z.under.iterators y ∙ g.under.iterators y));
+            arrays = λ y lt. r.arrays y lt ∙ (tk.keeps.arrays y ∙ (z.under.arrays y ∙ g.under.arrays y));
           });
           own = λ i q. ap (λ (o : Own). array_in_local (get_or o.locals i (Scalar Uninit))) cb.own ∙ a.own i q;
-          kept = kept_same fs ts (λ i. held_after_all i es (st i)) a.next r.next env t rd.below (λ y lt. r.hands y ∙ (upd_other z.next.hand t y (Held x) (λ e. omega (arith, e, lt)) ∙ (z.under.hands y lt ∙ g.under.hands y lt))) (λ y lt. r.numbers y ∙ (z.under.numbers y lt ∙ g.under.numbers y lt)) a.kept;
-          stands = (r.hands t ∙ upd_same z.next.hand t (Held x), tt);
+          kept = kept_same fs ts (λ i. held_after_all i es (st i)) a.next r.next env t rd.below hands numbers a.kept;
+          stands = holds_same Bare t tk.next r.next x (r.hands t) (r.numbers t) tk.holds;
           meant = tt;
         };
       })
-      (left_onward 3 20 23 τ.turns _ (CameBack K (laid b z.next) k4 τ) (LeftCall K (laid b z.next) k4) Q (go_on (spent τ.turns τ) (λ x. noted_called deepest.notes p n f own)) (omega arith)
+      (left_onward 9 20 29 τ.turns _ (CameBack K (laid b z.next) k4 τ) (LeftCall K (laid b z.next) k4) Q (go_on (spent τ.turns τ) (λ x. noted_called deepest.notes p n f own)) (omega arith)
       (λ why τ1 c2 q. leaves_too t u (made_past w es) d k5 K z.next τ why τ1 c2 (λ e. let none = ap length e in omega (arith, none, fl)) (omega (arith, rm)) z.fit q)
       (calls f own z.words K (laid b z.next) k4 τ (omega (arith, fl, ln)) (waits_there p deepest ks F b M n t u (made_past w es) d k5 K z.next τ z.fit (walking_same p deepest ks F b M n (loops_walked K) u l z.next (λ x. z.under.iterators x ∙ (g.under.iterators x ∙ a.same.iterators x)) rd.walking) rd.parameters (omega (arith, rm)) (omega (arith, mw, none, fb))) (to_given pks K k4 g.next z.next pks own z.words z.under.arrays z.given) z.fit.sound (omega (arith, le, rd.turns))))))

@@ -35,11 +35,11 @@ use Rattle.lower_model.proofs.Runs.{Goes, then_goes, goes_to, goes_from, by_step
 use Rattle.lower_model.proofs.Regions.{upd_same}
 use Rattle.lower_model.proofs.Locals.{Locals, Hand, Number as NumberAt, with_at, laid}
 use Rattle.lower_model.proofs.Steps.{empty, get_copied, set_ok, moved_out_ok}
-use Rattle.lower_model.proofs.State.{bare, beside, word_not_beside}
+use Rattle.lower_model.proofs.State.{bare, beside, word_not_beside, BareIs, IsBeside, IsNone, IsNumber}
 use Rattle.lower_model.proofs.Relation.{HoldsAt, KeptAs, Kept, kept_same, Same, same_then, Fit, fit_hand, fit_number, fit_less, SameOwn, Away, away_out}
 use Rattle.lower_model.proofs.Pieces.{chooses, closes, number_is_ok}
 use Rattle.lower_model.proofs.Answers.{machine, beside_state, Reached}
-use Rattle.lower_model.proofs.Conversions.{BareIs, IsBeside, IsNone, IsNumber, bare_is, ask_truth, zeroed_ok, ZeroedIs, Nought, Itself}
+use Rattle.lower_model.proofs.Conversions.{bare_is, ask_truth, zeroed_ok, ZeroedIs, Nought, Itself}
 use Rattle.lower_model.proofs.Converting.{Keeps, keeps_self, keeps_then, keeps_hand, keeps_number, Converted, converted_ok, conv_closes}
 use Rattle.lower_model.proofs.Simulation.{work_of, still_stands, NoArray, plain_stands, layout, context, meant, Ready, walking_same, WellUsed, Done, ExprOk, room_one}
 use Rattle.lower_model.proofs.Operands.{well_before}
@@ -144,26 +144,26 @@ module _ (p : Program) (deepest : Watch) (ks : List Kind) (F : List Frame) (b : 
   emptied_fit : (t u w : ℕ) (l : Locals) (σ : State) → Fit p deepest ks F (suc t) u w l σ → Fit p deepest ks F t u w (with_at l (Hand t) empty) σ
   emptied_fit t u w l σ ft = fit_less p deepest ks F t u w (with_at l (Hand t) empty) σ (upd_same l.hand t empty) (fit_hand p deepest ks F t (suc t) u w l σ empty (inl refl) (omega arith) ft)
 
-  zeroed_tested : (t u w : ℕ) (k : Instructions) (K : List Label) (l : Locals) (σ : State) (v : Value) (x : Number) → t < b.temporaries → Fit p deepest ks F (suc t) u w l σ → HoldsAt Bare t l v → beside v ≡ empty → nat_eq (bare v) text_beside ≡ false → ZeroedIs p deepest ks F b (bare v) x → truth_of_value v ≡ not (is_zero x.number) →
+  zeroed_tested : (t u w : ℕ) (k : Instructions) (K : List Label) (l : Locals) (σ : State) (v : Value) (x : Number) → t < b.temporaries → Fit p deepest ks F (suc t) u w l σ → (n0 : ℕ) → l.number t ≡ Bits (I64 n0) → l.hand t ≡ empty → nat_eq n0 text_beside ≡ false → ZeroedIs p deepest ks F b n0 x → truth_of_value v ≡ not (is_zero x.number) →
       Tested t u w k K l σ (truth_of_value v) (at ks [] K (laid b l) F (truth b Bare t k) (beside_state p deepest ks F σ))
-  zeroed_tested t u w k K l σ v x lt ft hd eh nb zi tv =
+  zeroed_tested t u w k K l σ v x lt ft n0 en eh nb zi tv =
       let a1 = moved_out (handle_local b t) (ask_row row.Truth (does (Convert I64ExtendI32U) (does (LocalSet (number_local b t)) NoMore))) in
-      let z = zeroed_ok p deepest ks F b NoMore (label [] None (not_zero b t k) ∷ K) l t (bare v) σ x lt hd.1 zi in
+      let z = zeroed_ok p deepest ks F b NoMore (label [] None (not_zero b t k) ∷ K) l t n0 σ x lt en zi in
       let l1 = with_at l (NumberAt t) (Bits (I64 (number_word x))) in
       record {
         next = l1;
         steps = 3 + (z.steps + 4);
         few = omega (arith, z.few);
         goes = then_goes
-            (then_goes (goes_to (number_is_ok b l t (bare v) text_beside lt hd.1) (ap (λ f. at ks (Bits (flag f) ∷ []) K (laid b l) F (either a1 (zeroed b t NoMore) (not_zero b t k)) (beside_state p deepest ks F σ)) nb)) (chooses a1 (zeroed b t NoMore) 0))
+            (then_goes (goes_to (number_is_ok b l t n0 text_beside lt en) (ap (λ f. at ks (Bits (flag f) ∷ []) K (laid b l) F (either a1 (zeroed b t NoMore) (not_zero b t k)) (beside_state p deepest ks F σ)) nb)) (chooses a1 (zeroed b t NoMore) 0))
             (then_goes z.goes
             (then_goes closes (goes_to (not_zero_ok l1 t (number_word x) σ lt (upd_same l.number t (Bits (I64 (number_word x))))) (truth_comes k K (laid b l1) (not (nat_eq (number_word x) 0)) (truth_of_value v) σ (ap not (zero_word x) ∙ sym tv)))));
-        fit = fit_less p deepest ks F t u w l1 σ (hd.0 ∙ eh) (fit_number p deepest ks F t (suc t) u w l σ (Bits (I64 (number_word x))) refl ft);
+        fit = fit_less p deepest ks F t u w l1 σ eh (fit_number p deepest ks F t (suc t) u w l σ (Bits (I64 (number_word x))) refl ft);
         keeps = keeps_number t l (Bits (I64 (number_word x)));
       }
 
-  bare_tested : (t u w : ℕ) (k : Instructions) (K : List Label) (l : Locals) (σ : State) (v : Value) → t < b.temporaries → Fit p deepest ks F (suc t) u w l σ → HoldsAt Bare t l v → BareIs v → Tested t u w k K l σ (truth_of_value v) (at ks [] K (laid b l) F (truth b Bare t k) (beside_state p deepest ks F σ))
-  bare_tested t u w k K l σ v lt ft hd (IsBeside e e1) =
+  bare_tested : (t u w : ℕ) (k : Instructions) (K : List Label) (l : Locals) (σ : State) (v : Value) → t < b.temporaries → Fit p deepest ks F (suc t) u w l σ → (n0 : ℕ) → l.number t ≡ Bits (I64 n0) → BareIs v n0 (l.hand t) → Tested t u w k K l σ (truth_of_value v) (at ks [] K (laid b l) F (truth b Bare t k) (beside_state p deepest ks F σ))
+  bare_tested t u w k K l σ v lt ft n0 en (IsBeside e e1) =
       let x = truth_of_value v in
       let a1 = moved_out (handle_local b t) (ask_row row.Truth (does (Convert I64ExtendI32U) (does (LocalSet (number_local b t)) NoMore))) in
       let l1 = with_at l (Hand t) empty in
@@ -172,15 +172,15 @@ module _ (p : Program) (deepest : Watch) (ks : List Kind) (F : List Frame) (b : 
         next = l2;
         steps = 12;
         few = omega arith;
-        goes = then_goes (then_goes (number_is_ok b l t text_beside text_beside lt (hd.1 ∙ ap (λ m. Bits (I64 m)) e)) (chooses a1 (zeroed b t NoMore) 1))
-            (then_goes (then_goes (moved_out_ok b l (Hand t) (Held v) lt (hd.0 ∙ e1)) (ask_truth p deepest ks F [] σ v))
+        goes = then_goes (then_goes (number_is_ok b l t text_beside text_beside lt (en ∙ ap (λ m. Bits (I64 m)) e)) (chooses a1 (zeroed b t NoMore) 1))
+            (then_goes (then_goes (moved_out_ok b l (Hand t) (Held v) lt e1) (ask_truth p deepest ks F [] σ v))
             (then_goes (then_goes (by_steps 1 refl) (set_ok b l1 (NumberAt t) (Bits (I64 (flag_number x))) lt (ft.numbers t)))
             (then_goes closes (goes_to (not_zero_ok l2 t (flag_number x) σ lt (upd_same l.number t (Bits (I64 (flag_number x))))) (truth_comes k K (laid b l2) (not (nat_eq (flag_number x) 0)) x σ (flag_nought x))))));
         fit = fit_number p deepest ks F t t u w l1 σ (Bits (I64 (flag_number x))) refl (emptied_fit t u w l σ ft);
         keeps = keeps_then t l l1 l2 (keeps_hand t l empty) (keeps_number t l1 (Bits (I64 (flag_number x))));
       }
-  bare_tested t u w k K l σ v lt ft hd (IsNone e e1 e2) = zeroed_tested t u w k K l σ v zero_number lt ft hd e2 (ap (λ m. nat_eq m text_beside) e1) (Nought e1 refl) (ap truth_of_value e)
-  bare_tested t u w k K l σ v lt ft hd (IsNumber m e e1 e2) = zeroed_tested t u w k K l σ v m lt ft hd e2 (ap (λ z. nat_eq z text_beside) e1 ∙ word_not_beside m) (Itself e1) (ap truth_of_value e)
+  bare_tested t u w k K l σ v lt ft n0 en (IsNone e e1 e2) = zeroed_tested t u w k K l σ v zero_number lt ft n0 en e2 (ap (λ m. nat_eq m text_beside) e1) (Nought e1 refl) (ap truth_of_value e)
+  bare_tested t u w k K l σ v lt ft n0 en (IsNumber m e e1 e2) = zeroed_tested t u w k K l σ v m lt ft n0 en e2 (ap (λ z. nat_eq z text_beside) e1 ∙ word_not_beside m) (Itself e1) (ap truth_of_value e)
 
   pub truth_ok : (f : Form) (x : Holds f) (t u w : ℕ) (k : Instructions) (K : List Label) (l : Locals) (σ : State) → is_tested f ≡ true → t < b.temporaries → Fit p deepest ks F (suc t) u w l σ → HoldsAt f t l x → Tested t u w k K l σ (truth_in f x) (at ks [] K (laid b l) F (truth b f t k) (beside_state p deepest ks F σ))
   truth_ok (Answered (answer.Of sort.Value)) x t u w k K l σ e lt ft hd = record {
@@ -193,7 +193,7 @@ module _ (p : Program) (deepest : Watch) (ks : List Kind) (F : List Frame) (b : 
   }
   truth_ok (Answered (answer.Of sort.Number)) x t u w k K l σ e lt ft hd = plain_tested t u w (number_word x) k K l σ (not (is_zero x.number)) lt ft hd.0 hd.1 (ap not (zero_word x))
   truth_ok (Answered answer.Truth) x t u w k K l σ e lt ft hd = plain_tested t u w (flag_number x) k K l σ x lt ft hd.0 hd.1 (flag_nought x)
-  truth_ok Bare x t u w k K l σ e lt ft hd = bare_tested t u w k K l σ x lt ft hd (bare_is x)
+  truth_ok Bare x t u w k K l σ e lt ft hd = bare_tested t u w k K l σ x lt ft hd.0 hd.1 hd.2
   truth_ok f x t u w k K l σ e lt ft hd = cc
 
   -- one of two, in a block

@@ -26,7 +26,7 @@ use Rattle.sem_scripts.specs.Steps.{zero_number, truth_number}
 use Rattle.sem_scripts.specs.ScriptState.{State, Outcome, Gives, Stops, Doing, go_on, give, settled}
 use Rattle.mid_program.specs.Sorted.{Held as Standing, sorted, all_sorted, held_after, fits}
 use Rattle.lower_model.specs.Arithmetic.{relation, is_value, may_be_text, values_compared, numbers_compared, texts_beside, zeroed_if, bare_compared, compared}
-use Rattle.lower_model.specs.Cells.{Bits, Held}
+use Rattle.lower_model.specs.Cells.{Cell, Bits, Held, is_marked}
 use Rattle.lower_model.specs.Emission.{emitted, all_emitted}
 use Rattle.lower_model.specs.ImportCalls.{with_some, and_rest, row_in}
 use Rattle.lower_model.specs.Machine
@@ -39,13 +39,13 @@ use Rattle.lower_model.proofs.Runs.{Goes, then_goes, goes_to, goes_from, by_step
 use Rattle.lower_model.proofs.Regions.{upd_same, upd_other}
 use Rattle.lower_model.proofs.Locals.{Locals, Hand, Number as NumberAt, with_at, laid, laid_again}
 use Rattle.lower_model.proofs.Steps.{empty, get_copied, set_ok, moved_out_ok}
-use Rattle.lower_model.proofs.State.{bare, perhaps}
-use Rattle.lower_model.proofs.Relation.{HoldsAt, hand_of, Same, same_then, same_hand, same_number, Fit, fit_less, fit_hand, fit_number, Away}
+use Rattle.lower_model.proofs.State.{perhaps, BareIs, IsBeside, IsNone, IsNumber}
+use Rattle.lower_model.proofs.Relation.{HoldsAt, Same, same_then, same_hand, same_number, Fit, fit_less, fit_hand, fit_number, Away, holds_same}
 use Rattle.lower_model.proofs.Pieces.{chooses, closes, number_is_ok}
 use Rattle.lower_model.proofs.Answers.{machine, beside_state, row_called, done_by, Put, kept_ok, Reached}
-use Rattle.lower_model.proofs.Conversions.{BareIs, IsBeside, IsNone, IsNumber, bare_is, same_state, after_same, Nought, Itself, zeroed_ok}
+use Rattle.lower_model.proofs.Conversions.{same_state, after_same, Nought, Itself, zeroed_ok}
 use Rattle.lower_model.proofs.Converting.{flag_word, Converted, converted_ok, blocked}
-use Rattle.lower_model.proofs.Operands.{holds_same, codes_at, codes_end}
+use Rattle.lower_model.proofs.Operands.{codes_at, codes_end}
 use Rattle.lower_model.proofs.Arguments.{under_same, under_keeps}
 use Rattle.lower_model.proofs.Orders.{words_compared}
 use Rattle.lower_model.proofs.Expressions.{put_done}
@@ -70,13 +70,13 @@ or_parts true t e = absurd (true≢false e)
 or_parts false t e = (refl, e)
 
 -- whether a text stands beside a number
-abbrev text_flag : (f : Form) → Holds f → Bool
-text_flag Bare x = nat_eq (bare x) text_beside
-text_flag f x = false
+abbrev text_flag : Form → (number : Cell) → Bool
+text_flag Bare d = is_marked d
+text_flag f d = false
 
-no_text_there : (f : Form) (x : Holds f) → may_be_text f ≡ false → text_flag f x ≡ false
-no_text_there Bare x e = cc
-no_text_there f x e = refl
+no_text_there : (f : Form) (d : Cell) → may_be_text f ≡ false → text_flag f d ≡ false
+no_text_there Bare d e = cc
+no_text_there f d e = refl
 
 module _ (p : Program) (deepest : Watch) (ks : List Kind) (F : List Frame) (b : Bases) (M n : ℕ) where
   -- at the end of a block what was put is there still
@@ -140,7 +140,7 @@ module _ (p : Program) (deepest : Watch) (ks : List Kind) (F : List Frame) (b : 
   record Side (f : Form) (x : Holds f) (t : ℕ) (k : Instructions) (K : List Label) (l : Locals) (σ : State) : Type 0 where
     number : Number
     side : numeric_side (boxed f x) ≡ Some (Ok number.number)
-    hand : hand_of f x ≡ empty
+    hand : l.hand t ≡ empty
     steps : ℕ
     few : steps ≤ 5
     goes : Goes (machine p deepest ks F) steps (at ks [] K (laid b l) F (zeroed_if b f t k) (beside_state p deepest ks F σ)) (at ks [] K (laid b (with_at l (NumberAt t) (Bits (I64 (number_word number))))) F k (beside_state p deepest ks F σ))
@@ -148,31 +148,31 @@ module _ (p : Program) (deepest : Watch) (ks : List Kind) (F : List Frame) (b : 
   itself : (x : Number) (t : ℕ) (k : Instructions) (K : List Label) (l : Locals) (σ : State) → t < b.temporaries → l.number t ≡ Bits (I64 (number_word x)) → Goes (machine p deepest ks F) 0 (at ks [] K (laid b l) F k (beside_state p deepest ks F σ)) (at ks [] K (laid b (with_at l (NumberAt t) (Bits (I64 (number_word x))))) F k (beside_state p deepest ks F σ))
   itself x t k K l σ lt e = goes_to stays (ap (λ L. at ks [] K L F k (beside_state p deepest ks F σ)) (sym (laid_again b l (NumberAt t) (Bits (I64 (number_word x))) lt e)))
 
-  bare_side : (x : Holds Bare) (t : ℕ) (k : Instructions) (K : List Label) (l : Locals) (σ : State) → text_flag Bare x ≡ false → t < b.temporaries → HoldsAt Bare t l x → BareIs x → Side Bare x t k K l σ
-  bare_side x t k K l σ nt lt hd (IsBeside e e1) = absurd (true≢false (sym (ap (λ m. nat_eq m text_beside) e) ∙ nt))
-  bare_side x t k K l σ nt lt hd (IsNone e e1 e2) =
-      let z = zeroed_ok p deepest ks F b k K l t (bare x) σ zero_number lt hd.1 (Nought e1 refl) in
+  bare_side : (x : Holds Bare) (t : ℕ) (k : Instructions) (K : List Label) (l : Locals) (σ : State) → is_marked (l.number t) ≡ false → t < b.temporaries → (n0 : ℕ) → l.number t ≡ Bits (I64 n0) → BareIs x n0 (l.hand t) → Side Bare x t k K l σ
+  bare_side x t k K l σ nt lt n0 en (IsBeside e e1) = absurd (true≢false (sym (ap is_marked (en ∙ ap (λ m. Bits (I64 m)) e)) ∙ nt))
+  bare_side x t k K l σ nt lt n0 en (IsNone e e1 e2) =
+      let z = zeroed_ok p deepest ks F b k K l t n0 σ zero_number lt en (Nought e1 refl) in
       record { number = zero_number; side = ap numeric_side e; hand = e2; steps = z.steps; few = z.few; goes = z.goes }
-  bare_side x t k K l σ nt lt hd (IsNumber m e e1 e2) =
-      let z = zeroed_ok p deepest ks F b k K l t (bare x) σ m lt hd.1 (Itself e1) in
+  bare_side x t k K l σ nt lt n0 en (IsNumber m e e1 e2) =
+      let z = zeroed_ok p deepest ks F b k K l t n0 σ m lt en (Itself e1) in
       record { number = m; side = ap numeric_side e; hand = e2; steps = z.steps; few = z.few; goes = z.goes }
 
   perhaps_side : (x : Holds Perhaps) (t : ℕ) (k : Instructions) (K : List Label) (l : Locals) (σ : State) → t < b.temporaries → HoldsAt Perhaps t l x → Side Perhaps x t k K l σ
   perhaps_side None t k K l σ lt hd =
       let z = zeroed_ok p deepest ks F b k K l t (perhaps None) σ zero_number lt hd.1 (Nought refl refl) in
-      record { number = zero_number; side = refl; hand = refl; steps = z.steps; few = z.few; goes = z.goes }
+      record { number = zero_number; side = refl; hand = hd.0; steps = z.steps; few = z.few; goes = z.goes }
   perhaps_side (Some m) t k K l σ lt hd =
       let z = zeroed_ok p deepest ks F b k K l t (perhaps (Some m)) σ m lt hd.1 (Itself refl) in
-      record { number = m; side = refl; hand = refl; steps = z.steps; few = z.few; goes = z.goes }
+      record { number = m; side = refl; hand = hd.0; steps = z.steps; few = z.few; goes = z.goes }
 
-  side_ok : (f : Form) (x : Holds f) (t : ℕ) (k : Instructions) (K : List Label) (l : Locals) (σ : State) → is_value f ≡ false → text_flag f x ≡ false → t < b.temporaries → HoldsAt f t l x → Side f x t k K l σ
-  side_ok (Answered (answer.Of sort.Number)) x t k K l σ iv nt lt hd = record { number = x; side = refl; hand = refl; steps = 0; few = omega arith; goes = itself x t k K l σ lt hd.1 }
-  side_ok (Answered answer.Truth) x t k K l σ iv nt lt hd = record { number = truth_number x; side = refl; hand = refl; steps = 0; few = omega arith; goes = itself (truth_number x) t k K l σ lt (hd.1 ∙ ap (λ m. Bits (I64 m)) (flag_word x)) }
-  side_ok Bare x t k K l σ iv nt lt hd = bare_side x t k K l σ nt lt hd (bare_is x)
+  side_ok : (f : Form) (x : Holds f) (t : ℕ) (k : Instructions) (K : List Label) (l : Locals) (σ : State) → is_value f ≡ false → text_flag f (l.number t) ≡ false → t < b.temporaries → HoldsAt f t l x → Side f x t k K l σ
+  side_ok (Answered (answer.Of sort.Number)) x t k K l σ iv nt lt hd = record { number = x; side = refl; hand = hd.0; steps = 0; few = omega arith; goes = itself x t k K l σ lt hd.1 }
+  side_ok (Answered answer.Truth) x t k K l σ iv nt lt hd = record { number = truth_number x; side = refl; hand = hd.0; steps = 0; few = omega arith; goes = itself (truth_number x) t k K l σ lt (hd.1 ∙ ap (λ m. Bits (I64 m)) (flag_word x)) }
+  side_ok Bare x t k K l σ iv nt lt hd = bare_side x t k K l σ nt lt hd.0 hd.1 hd.2
   side_ok Perhaps x t k K l σ iv nt lt hd = perhaps_side x t k K l σ lt hd
   side_ok f x t k K l σ iv nt lt hd = cc
 
-  numbers_ok : (c : CompareOp) (f g : Form) (x : Holds f) (y : Holds g) (t u w d : ℕ) (k : Instructions) (K : List Label) (l : Locals) (σ : State) → is_value f ≡ false → is_value g ≡ false → text_flag f x ≡ false → text_flag g y ≡ false → suc t < b.temporaries → Fit p deepest ks F (suc (suc t)) u w l σ → HoldsAt f t l x → HoldsAt g (suc t) l y →
+  numbers_ok : (c : CompareOp) (f g : Form) (x : Holds f) (y : Holds g) (t u w d : ℕ) (k : Instructions) (K : List Label) (l : Locals) (σ : State) → is_value f ≡ false → is_value g ≡ false → text_flag f (l.number t) ≡ false → text_flag g (l.number (suc t)) ≡ false → suc t < b.temporaries → Fit p deepest ks F (suc (suc t)) u w l σ → HoldsAt f t l x → HoldsAt g (suc t) l y →
       Reached p deepest ks F b M 15 σ.turns (at ks [] K (laid b l) F (numbers_compared b c f g t k) (beside_state p deepest ks F σ)) (Put p deepest ks F b t u w (Answered answer.Truth) k K l) (Away p deepest ks F b d K) (settled (comparison (boxed f x) (boxed g y) c) σ)
   numbers_ok c f g x y t u w d k K l σ ivf ivg nf ng lt ft hx hy =
       let mach = machine p deepest ks F in
@@ -185,8 +185,9 @@ module _ (p : Program) (deepest : Watch) (ks : List Kind) (F : List Frame) (b : 
       let s1 = side_ok f x t (zeroed_if b g (suc t) k2) K l σ ivf nf (omega (arith, lt)) hx in
       let m1 = s1.number in
       let l1 = with_at l (NumberAt t) (Bits (I64 (number_word m1))) in
-      let hy1 = holds_same g (suc t) l l1 y refl (upd_other l.number t (suc t) (Bits (I64 (number_word m1))) (λ e. omega (arith, e))) hy in
-      let s2 = side_ok g y (suc t) k2 K l1 σ ivg ng lt hy1 in
+      let other = upd_other l.number t (suc t) (Bits (I64 (number_word m1))) (λ e. omega (arith, e)) in
+      let hy1 = holds_same g (suc t) l l1 y refl other hy in
+      let s2 = side_ok g y (suc t) k2 K l1 σ ivg (ap (text_flag g) other ∙ ng) lt hy1 in
       let m2 = s2.number in
       let l2 = with_at l1 (NumberAt (suc t)) (Bits (I64 (number_word m2))) in
       let e1 = upd_other l1.number (suc t) t (Bits (I64 (number_word m2))) (λ e. omega (arith, e)) ∙ upd_same l.number t (Bits (I64 (number_word m1))) in
@@ -209,32 +210,37 @@ module _ (p : Program) (deepest : Watch) (ks : List Kind) (F : List Frame) (b : 
       (record {
         next = l3;
         comes = refl;
-        fit = fit_less p deepest ks F (suc t) u w l3 σ (hy.0 ∙ s2.hand) f3;
+        fit = fit_less p deepest ks F (suc t) u w l3 σ s2.hand f3;
         same = same_then [] t t w w l l1 l3 (omega arith) (omega arith) (same_number [] t w t l (Bits (I64 (number_word m1))) (omega arith))
             (same_then [] t t w w l1 l2 l3 (omega arith) (omega arith) (same_number [] t w (suc t) l1 (Bits (I64 (number_word m2))) (omega arith)) (same_number [] t w t l2 (Bits (I64 (flag_number z))) (omega arith)));
-        holds = (hx.0 ∙ s1.hand, upd_same l2.number t (Bits (I64 (flag_number z))));
+        holds = (s1.hand, upd_same l2.number t (Bits (I64 (flag_number z))));
       }))
 
   -- Whether a text stands beside one of the two.
 
-  record Tells (f g : Form) (x : Holds f) (y : Holds g) (t : ℕ) (k : Instructions) (K : List Label) (l : Locals) (σ : State) : Type 0 where
+  record Tells (f g : Form) (t : ℕ) (k : Instructions) (K : List Label) (l : Locals) (σ : State) : Type 0 where
     steps : ℕ
     few : steps ≤ 5
-    goes : Goes (machine p deepest ks F) steps (at ks [] K (laid b l) F (texts_beside b f g t k) (beside_state p deepest ks F σ)) (at ks (Bits (flag (text_flag f x || text_flag g y)) ∷ []) K (laid b l) F k (beside_state p deepest ks F σ))
+    goes : Goes (machine p deepest ks F) steps (at ks [] K (laid b l) F (texts_beside b f g t k) (beside_state p deepest ks F σ)) (at ks (Bits (flag (text_flag f (l.number t) || text_flag g (l.number (suc t)))) ∷ []) K (laid b l) F k (beside_state p deepest ks F σ))
 
-  texts_ok : (f g : Form) (x : Holds f) (y : Holds g) (t : ℕ) (k : Instructions) (K : List Label) (l : Locals) (σ : State) → may_be_text f || may_be_text g ≡ true → suc t < b.temporaries → HoldsAt f t l x → HoldsAt g (suc t) l y → Tells f g x y t k K l σ
+  -- whether one stands beside a number
+  marked_ok : {vs : List Cell} {k : Instructions} {K : List Label} {G : Machine.Store} → (l : Locals) (t m : ℕ) → t < b.temporaries → l.number t ≡ Bits (I64 m) →
+      Goes (machine p deepest ks F) 2 (at ks vs K (laid b l) F (Small.number_is (Small.n b t) text_beside k) G) (at ks (Bits (flag (is_marked (l.number t))) ∷ vs) K (laid b l) F k G)
+  marked_ok {vs = vs} {k = k} {K = K} {G = G} l t m lt e = goes_to (number_is_ok b l t m text_beside lt e) (ap (λ c. at ks (Bits (flag (is_marked c)) ∷ vs) K (laid b l) F k G) (sym e))
+
+  texts_ok : (f g : Form) (x : Holds f) (y : Holds g) (t : ℕ) (k : Instructions) (K : List Label) (l : Locals) (σ : State) → may_be_text f || may_be_text g ≡ true → suc t < b.temporaries → HoldsAt f t l x → HoldsAt g (suc t) l y → Tells f g t k K l σ
   texts_ok Bare Bare x y t k K l σ e lt hx hy = record {
     steps = 5;
     few = omega arith;
-    goes = then_goes (number_is_ok b l t (bare x) text_beside (omega (arith, lt)) hx.1) (then_goes (number_is_ok b l (suc t) (bare y) text_beside lt hy.1)
-        (goes_to (by_steps 1 refl) (ap (λ q. at ks (Bits (I32 q) ∷ []) K (laid b l) F k (beside_state p deepest ks F σ)) (flags_or (nat_eq (bare x) text_beside) (nat_eq (bare y) text_beside)))));
+    goes = then_goes (marked_ok l t hx.0 (omega (arith, lt)) hx.1) (then_goes (marked_ok l (suc t) hy.0 lt hy.1)
+        (goes_to (by_steps 1 refl) (ap (λ q. at ks (Bits (I32 q) ∷ []) K (laid b l) F k (beside_state p deepest ks F σ)) (flags_or (is_marked (l.number t)) (is_marked (l.number (suc t)))))));
   }
   texts_ok Bare g x y t k K l σ e lt hx hy = record {
     steps = 2;
     few = omega arith;
-    goes = goes_to (number_is_ok b l t (bare x) text_beside (omega (arith, lt)) hx.1) (ap (λ q. at ks (Bits (flag q) ∷ []) K (laid b l) F k (beside_state p deepest ks F σ)) (sym (or_false (nat_eq (bare x) text_beside))));
+    goes = goes_to (marked_ok l t hx.0 (omega (arith, lt)) hx.1) (ap (λ q. at ks (Bits (flag q) ∷ []) K (laid b l) F k (beside_state p deepest ks F σ)) (sym (or_false (is_marked (l.number t)))));
   }
-  texts_ok f Bare x y t k K l σ e lt hx hy = record { steps = 2; few = omega arith; goes = number_is_ok b l (suc t) (bare y) text_beside lt hy.1 }
+  texts_ok f Bare x y t k K l σ e lt hx hy = record { steps = 2; few = omega arith; goes = marked_ok l (suc t) hy.0 lt hy.1 }
   texts_ok f g x y t k K l σ e lt hx hy = cc
 
   bare_ok : (c : CompareOp) (f g : Form) (x : Holds f) (y : Holds g) (t u w d : ℕ) (k : Instructions) (K : List Label) (l : Locals) (σ : State) → fits f sort.Value ≡ true → fits g sort.Value ≡ true → is_value f ≡ false → is_value g ≡ false → suc t < b.temporaries → Fit p deepest ks F (suc (suc t)) u w l σ → HoldsAt f t l x → HoldsAt g (suc t) l y →
@@ -253,14 +259,20 @@ module _ (p : Program) (deepest : Watch) (ks : List Kind) (F : List Frame) (b : 
       inner : Instructions
       inner = values_compared b c f g t (suc d) NoMore
 
+      xd : Cell
+      xd = l.number t
+
+      yd : Cell
+      yd = l.number (suc t)
+
       other : Instructions
       other = numbers_compared b c f g t NoMore
 
-      branch : (s : Bool) → text_flag f x || text_flag g y ≡ s → Reached p deepest ks F b M 42 σ.turns (at ks [] (label [] None k ∷ K) (laid b l) F (cond (nat_eq (if s then 1 else 0) 0) other inner) (beside_state p deepest ks F σ)) (P K k) (Away p deepest ks F b d K) (settled r σ)
+      branch : (s : Bool) → text_flag f xd || text_flag g yd ≡ s → Reached p deepest ks F b M 42 σ.turns (at ks [] (label [] None k ∷ K) (laid b l) F (cond (nat_eq (if s then 1 else 0) 0) other inner) (beside_state p deepest ks F σ)) (P K k) (Away p deepest ks F b d K) (settled r σ)
       branch true e = blocked p deepest ks F b M 41 σ.turns d k K _ (P (label [] None k ∷ K) NoMore) (P K k) (settled r σ) (λ z τ c1 a. put_closes t u w (Answered answer.Truth) k K l z τ c1 a)
           (values_ok c f g x y t u w (suc d) NoMore (label [] None k ∷ K) l σ ef eg lt ft hx hy)
       branch false e =
-          let q = or_parts (text_flag f x) (text_flag g y) e in
+          let q = or_parts (text_flag f xd) (text_flag g yd) e in
           within mach M 16 42 σ.turns _ (P K k) (Away p deepest ks F b d K) (settled r σ) (omega arith)
           (blocked p deepest ks F b M 15 σ.turns d k K _ (P (label [] None k ∷ K) NoMore) (P K k) (settled r σ) (λ z τ c1 a. put_closes t u w (Answered answer.Truth) k K l z τ c1 a)
           (numbers_ok c f g x y t u w (suc d) NoMore (label [] None k ∷ K) l σ ivf ivg q.0 q.1 lt ft hx hy))
@@ -269,11 +281,11 @@ module _ (p : Program) (deepest : Watch) (ks : List Kind) (F : List Frame) (b : 
       by true e =
           let a = texts_ok f g x y t (Small.either inner other k) K l σ e lt hx hy in
           let q = a.few in
-          first mach M (a.steps + 1) 42 48 σ.turns _ _ (P K k) (Away p deepest ks F b d K) (settled r σ) (then_goes a.goes (chooses inner other (if text_flag f x || text_flag g y then 1 else 0))) (omega (arith, q)) (branch (text_flag f x || text_flag g y) refl)
+          first mach M (a.steps + 1) 42 48 σ.turns _ _ (P K k) (Away p deepest ks F b d K) (settled r σ) (then_goes a.goes (chooses inner other (if text_flag f xd || text_flag g yd then 1 else 0))) (omega (arith, q)) (branch (text_flag f xd || text_flag g yd) refl)
       by false e =
           let q = or_parts (may_be_text f) (may_be_text g) e in
           within mach M 15 48 σ.turns _ (P K k) (Away p deepest ks F b d K) (settled r σ) (omega arith)
-          (numbers_ok c f g x y t u w d k K l σ ivf ivg (no_text_there f x q.0) (no_text_there g y q.1) lt ft hx hy)
+          (numbers_ok c f g x y t u w d k K l σ ivf ivg (no_text_there f xd q.0) (no_text_there g yd q.1) lt ft hx hy)
 
   compared_ok : (c : CompareOp) (f g : Form) (x : Holds f) (y : Holds g) (t u w d : ℕ) (k : Instructions) (K : List Label) (l : Locals) (σ : State) → fits f sort.Value ≡ true → fits g sort.Value ≡ true → suc t < b.temporaries → Fit p deepest ks F (suc (suc t)) u w l σ → HoldsAt f t l x → HoldsAt g (suc t) l y →
       Reached p deepest ks F b M 48 σ.turns (at ks [] K (laid b l) F (compared b c f g t d k) (beside_state p deepest ks F σ)) (Put p deepest ks F b t u w (Answered answer.Truth) k K l) (Away p deepest ks F b d K) (settled (comparison (boxed f x) (boxed g y) c) σ)

@@ -32,28 +32,23 @@ use Rattle.lower_model.proofs.Watch.{Watch}
 use Rattle.lower_model.proofs.Runs.{Goes, then_goes, goes_to, by_steps}
 use Rattle.lower_model.proofs.Locals.{Locals, Hand, Number as NumberAt, with_at, laid, laid_again}
 use Rattle.lower_model.proofs.Steps.{empty, set_ok, get_copied}
-use Rattle.lower_model.proofs.State.{bare, beside, word_or_beside, unless_number, word_not_least}
+use Rattle.lower_model.proofs.State.{bare, beside, BareOf, IsBeside, IsNone, IsNumber, word_or_beside, unless_number, word_not_least}
 use Rattle.lower_model.proofs.Pieces.{chooses, closes, number_is_ok}
 use Rattle.lower_model.proofs.Answers.{machine, beside_state, left_beside, reply, after_reply, row_called, done_by}
 
 -- What a word of an unboxed name may be: of a text beside it, of nothing yet, or of a number.
 
-pub data BareIs (v : Value) : Type 0 where
-  IsBeside : bare v ≡ text_beside → beside v ≡ Held v → BareIs v
-  IsNone : v ≡ value.Uninit → bare v ≡ least → beside v ≡ empty → BareIs v
-  IsNumber : (m : Number) → v ≡ value.Num m.number → bare v ≡ number_word m → beside v ≡ empty → BareIs v
-
 number_of_by : (z : ℤ) (t : Bool) (e : _ ≡ t) (m : Number) → number_by z t e ≡ Some m → m.number ≡ z
 number_of_by z true e m q = ap (λ o. elim o [ Some x ↦ x.number | None ↦ z ]) (sym q)
 number_of_by z false e m q = cc
 
-pub bare_is : (v : Value) → BareIs v
+pub bare_is : (v : Value) → BareOf v
 bare_is value.Uninit = IsNone refl refl refl
 bare_is (value.Text s) = IsBeside refl refl
 bare_is (value.StrNum s) = IsBeside refl refl
 bare_is (value.Num z) = by (number_of z) refl
   where
-    by : (o : Option Number) → number_of z ≡ o → BareIs (value.Num z)
+    by : (o : Option Number) → number_of z ≡ o → BareOf (value.Num z)
     by (Some m) e = IsNumber m (ap value.Num (sym (number_of_by z _ _ m e))) (ap word_or_beside e) (ap (unless_number (value.Num z)) e)
     by None e = IsBeside (ap word_or_beside e) (ap (unless_number (value.Num z)) e)
 

@@ -37,11 +37,11 @@ use Rattle.lower_model.proofs.Runs.{Goes, by_steps, then_goes, goes_to, goes_fro
 use Rattle.lower_model.proofs.Regions.{upd_same, upd_other}
 use Rattle.lower_model.proofs.Locals.{Locals, Hand, Number as NumberAt, with_at, laid}
 use Rattle.lower_model.proofs.Steps.{empty, get_copied, set_ok, moved_out_ok}
-use Rattle.lower_model.proofs.State.{bare, perhaps, word_not_least, word_not_beside}
+use Rattle.lower_model.proofs.State.{bare, perhaps, word_not_least, word_not_beside, BareIs, IsBeside, IsNone, IsNumber}
 use Rattle.lower_model.proofs.Relation.{HoldsAt, Fit, fit_loose, fit_hand, fit_number, Away, away_out}
 use Rattle.lower_model.proofs.Pieces.{chooses, closes, number_is_ok, number_kept, number_failed}
 use Rattle.lower_model.proofs.Answers.{machine, beside_state, left_beside, reply, after_reply, Reached}
-use Rattle.lower_model.proofs.Conversions.{BareIs, IsBeside, IsNone, IsNumber, bare_is, ask_to_num, PerhapsIs, NoNumber, There, boxed_number_ok, boxed_perhaps_ok, code_number_ok}
+use Rattle.lower_model.proofs.Conversions.{bare_is, ask_to_num, PerhapsIs, NoNumber, There, boxed_number_ok, boxed_perhaps_ok, code_number_ok}
 
 -- the same but for one temporary
 pub record Keeps (t : ℕ) (l l1 : Locals) : Type 0 where
@@ -103,21 +103,21 @@ module _ (p : Program) (deepest : Watch) (ks : List Kind) (F : List Frame) (b : 
   conv_comes q i w t f k K l x y σ c e a = subst (λ z. Converted q i w t f k K l z σ c) e a
 
   -- a number that may not be there yet, or have a text beside it, as a value
-  bare_boxed : (q i w t d : ℕ) (k : Instructions) (K : List Label) (l : Locals) (v : Value) (σ : State) → t < q → t < b.temporaries → Fit p deepest ks F q i w l σ → HoldsAt Bare t l v → BareIs v →
+  bare_boxed : (q i w t d : ℕ) (k : Instructions) (K : List Label) (l : Locals) (v : Value) (σ : State) → t < q → t < b.temporaries → Fit p deepest ks F q i w l σ → (n0 : ℕ) → l.number t ≡ Bits (I64 n0) → BareIs v n0 (l.hand t) →
       Reached p deepest ks F b M 16 σ.turns (at ks [] K (laid b l) F (Small.to_value b Bare t k) (beside_state p deepest ks F σ)) (Converted q i w t (Answered (answer.Of sort.Value)) k K l) (Away p deepest ks F b d K) (settled (Ok v) σ)
-  bare_boxed q i w t d k K l v σ lq lt ft hd (IsBeside e e1) =
+  bare_boxed q i w t d k K l v σ lq lt ft n0 en (IsBeside e e1) =
       there u M 16 4 _ _ v σ (Converted q i w t (Answered (answer.Of sort.Value)) k K l) (Away p deepest ks F b d K)
-      (then_goes (number_is_ok b l t text_beside text_beside lt (hd.1 ∙ ap (λ m. Bits (I64 m)) e)) (then_goes (chooses Done (boxed_perhaps b t (LocalSet (handle_local b t)) Done) 1) closes)) (omega arith)
-      (conv_self q i w t (Answered (answer.Of sort.Value)) k K l v σ ft (hd.0 ∙ e1, tt))
-  bare_boxed q i w t d k K l v σ lq lt ft hd (IsNone e e1 e2) =
-      let x = boxed_perhaps_ok p deepest ks F b Done (label [] None k ∷ K) l t (bare v) σ v lt hd.1 (ap is_owned (hd.0 ∙ e2)) (NoNumber e1 e) in
+      (then_goes (number_is_ok b l t text_beside text_beside lt (en ∙ ap (λ m. Bits (I64 m)) e)) (then_goes (chooses Done (boxed_perhaps b t (LocalSet (handle_local b t)) Done) 1) closes)) (omega arith)
+      (conv_self q i w t (Answered (answer.Of sort.Value)) k K l v σ ft (e1, tt))
+  bare_boxed q i w t d k K l v σ lq lt ft n0 en (IsNone e e1 e2) =
+      let x = boxed_perhaps_ok p deepest ks F b Done (label [] None k ∷ K) l t n0 σ v lt en (ap is_owned e2) (NoNumber e1 e) in
       there u M 16 (3 + (x.steps + 1)) _ _ v σ (Converted q i w t (Answered (answer.Of sort.Value)) k K l) (Away p deepest ks F b d K)
-      (then_goes (then_goes (number_is_ok b l t least text_beside lt (hd.1 ∙ ap (λ m. Bits (I64 m)) e1)) (chooses Done (boxed_perhaps b t (LocalSet (handle_local b t)) Done) 0)) (then_goes x.goes closes)) (omega (arith, x.few))
+      (then_goes (then_goes (number_is_ok b l t least text_beside lt (en ∙ ap (λ m. Bits (I64 m)) e1)) (chooses Done (boxed_perhaps b t (LocalSet (handle_local b t)) Done) 0)) (then_goes x.goes closes)) (omega (arith, x.few))
       (conv_hand q i w t k K l v σ lq ft)
-  bare_boxed q i w t d k K l v σ lq lt ft hd (IsNumber m e e1 e2) =
-      let x = boxed_perhaps_ok p deepest ks F b Done (label [] None k ∷ K) l t (bare v) σ v lt hd.1 (ap is_owned (hd.0 ∙ e2)) (There m e1 e) in
+  bare_boxed q i w t d k K l v σ lq lt ft n0 en (IsNumber m e e1 e2) =
+      let x = boxed_perhaps_ok p deepest ks F b Done (label [] None k ∷ K) l t n0 σ v lt en (ap is_owned e2) (There m e1 e) in
       there u M 16 (3 + (x.steps + 1)) _ _ v σ (Converted q i w t (Answered (answer.Of sort.Value)) k K l) (Away p deepest ks F b d K)
-      (then_goes (then_goes (goes_to (number_is_ok b l t (number_word m) text_beside lt (hd.1 ∙ ap (λ z. Bits (I64 z)) e1)) (ap (λ f. at ks (Bits (flag f) ∷ []) K (laid b l) F (either Done (boxed_perhaps b t (LocalSet (handle_local b t)) Done) k) (beside_state p deepest ks F σ)) (word_not_beside m)))
+      (then_goes (then_goes (goes_to (number_is_ok b l t (number_word m) text_beside lt (en ∙ ap (λ z. Bits (I64 z)) e1)) (ap (λ f. at ks (Bits (flag f) ∷ []) K (laid b l) F (either Done (boxed_perhaps b t (LocalSet (handle_local b t)) Done) k) (beside_state p deepest ks F σ)) (word_not_beside m)))
       (chooses Done (boxed_perhaps b t (LocalSet (handle_local b t)) Done) 0)) (then_goes x.goes closes)) (omega (arith, x.few))
       (conv_hand q i w t k K l v σ lq ft)
 
@@ -190,14 +190,14 @@ module _ (p : Program) (deepest : Watch) (ks : List Kind) (F : List Frame) (b : 
       then_goes (get_copied b l (NumberAt t) (Bits (I64 m)) h e refl) (goes_to (by_steps 1 refl) (ap (λ (o : Bool). at ks (Bits (flag o) ∷ []) K (laid b l) F c G) q))
 
   -- what an unboxed name has, as a number
-  bare_numbered : (q i w t d : ℕ) (k : Instructions) (K : List Label) (l : Locals) (v : Value) (σ : State) → t < q → t < b.temporaries → Fit p deepest ks F q i w l σ → HoldsAt Bare t l v → BareIs v →
+  bare_numbered : (q i w t d : ℕ) (k : Instructions) (K : List Label) (l : Locals) (v : Value) (σ : State) → t < q → t < b.temporaries → Fit p deepest ks F q i w l σ → (n0 : ℕ) → l.number t ≡ Bits (I64 n0) → BareIs v n0 (l.hand t) →
       Reached p deepest ks F b M 14 σ.turns (at ks [] K (laid b l) F (Small.to_number b Bare t d k) (beside_state p deepest ks F σ)) (Converted q i w t (Answered (answer.Of sort.Number)) k K l) (Away p deepest ks F b d K) (settled (number_of_row v) σ)
-  bare_numbered q i w t d k K l v σ lq lt ft hd (IsBeside e e1) =
+  bare_numbered q i w t d k K l v σ lq lt ft n0 en (IsBeside e e1) =
       let K1 = label [] None k ∷ K in
       let K2 = label [] None Done ∷ K1 in
       let zero_put = does (I64Const 0) (does (LocalSet (number_local b t)) Done) in
       let N = Answered (answer.Of sort.Number) in
-      let he = hd.1 ∙ ap (λ m. Bits (I64 m)) e in
+      let he = en ∙ ap (λ m. Bits (I64 m)) e in
       first u M 6 8 14 σ.turns _ _ (Converted q i w t N k K l) (Away p deepest ks F b d K) (settled (number_of_row v) σ)
       (then_goes (then_goes (unnumbered_ok l t text_beside true lt he refl) (chooses (number_made b t d Done) Done 1))
       (then_goes (number_is_ok b l t text_beside text_beside lt he) (chooses (number_of_value b t (suc (suc d)) Done) zero_put 1))) (omega arith)
@@ -205,22 +205,22 @@ module _ (p : Program) (deepest : Watch) (ks : List Kind) (F : List Frame) (b : 
       (λ x τ c1 a. conv_closes q i w t N k K l x τ c1 a)
       (blocked 6 σ.turns (suc d) Done K1 _ (Converted q i w t N Done K2 l) (Converted q i w t N Done K1 l) (settled (number_of_row v) σ)
       (λ x τ c1 a. conv_closes q i w t N Done K1 l x τ c1 a)
-      (value_numbered q i w t (suc (suc d)) Done K2 l v σ lq lt ft (hd.0 ∙ e1))))
-  bare_numbered q i w t d k K l v σ lq lt ft hd (IsNone e e1 e2) =
+      (value_numbered q i w t (suc (suc d)) Done K2 l v σ lq lt ft e1)))
+  bare_numbered q i w t d k K l v σ lq lt ft n0 en (IsNone e e1 e2) =
       let zero_put = does (I64Const 0) (does (LocalSet (number_local b t)) Done) in
-      let he = hd.1 ∙ ap (λ m. Bits (I64 m)) e1 in
+      let he = en ∙ ap (λ m. Bits (I64 m)) e1 in
       subst (λ r. Reached p deepest ks F b M 14 σ.turns (at ks [] K (laid b l) F (Small.to_number b Bare t d k) (beside_state p deepest ks F σ)) (Converted q i w t (Answered (answer.Of sort.Number)) k K l) (Away p deepest ks F b d K) (settled r σ)) (sym (none_number v e))
       (there u M 14 9 _ _ zero_number σ (Converted q i w t (Answered (answer.Of sort.Number)) k K l) (Away p deepest ks F b d K)
       (then_goes (then_goes (unnumbered_ok l t least true lt he refl) (chooses (number_made b t d Done) Done 1))
       (then_goes (then_goes (number_is_ok b l t least text_beside lt he) (chooses (number_of_value b t (suc (suc d)) Done) zero_put 0))
       (then_goes (set_ok b l (NumberAt t) (Bits (I64 0)) lt (ft.numbers t)) (then_goes closes closes)))) (omega arith)
-      (conv_number q i w t k K l zero_number σ ft (hd.0 ∙ e2)))
-  bare_numbered q i w t d k K l v σ lq lt ft hd (IsNumber m e e1 e2) =
-      let he = hd.1 ∙ ap (λ z. Bits (I64 z)) e1 in
+      (conv_number q i w t k K l zero_number σ ft e2))
+  bare_numbered q i w t d k K l v σ lq lt ft n0 en (IsNumber m e e1 e2) =
+      let he = en ∙ ap (λ z. Bits (I64 z)) e1 in
       subst (λ r. Reached p deepest ks F b M 14 σ.turns (at ks [] K (laid b l) F (Small.to_number b Bare t d k) (beside_state p deepest ks F σ)) (Converted q i w t (Answered (answer.Of sort.Number)) k K l) (Away p deepest ks F b d K) (settled r σ)) (sym (own_number v m e))
       (there u M 14 4 _ _ m σ (Converted q i w t (Answered (answer.Of sort.Number)) k K l) (Away p deepest ks F b d K)
       (then_goes (unnumbered_ok l t (number_word m) false lt he (word_numbered m)) (then_goes (chooses (number_made b t d Done) Done 0) closes)) (omega arith)
-      (conv_self q i w t (Answered (answer.Of sort.Number)) k K l m σ ft (hd.0 ∙ e2, he)))
+      (conv_self q i w t (Answered (answer.Of sort.Number)) k K l m σ ft (e2, he)))
 
   coded : (q i w t d : ℕ) (k : Instructions) (K : List Label) (l : Locals) (x : Number) (σ : State) → Fit p deepest ks F q i w l σ → l.hand t ≡ empty →
       {c : Conf} → Goes u 7 c (at ks [] K (laid b (with_at l (NumberAt t) (Bits (I64 (number_word x))))) F k (beside_state p deepest ks F σ)) →
@@ -236,7 +236,7 @@ module _ (p : Program) (deepest : Watch) (ks : List Kind) (F : List Frame) (b : 
   converted_ok (Answered answer.Truth) sort.Value x q i w t d k K l σ e lq lt ft hd =
       there u M 16 3 _ _ (numeric (truth_number x)) σ (Converted q i w t (Answered (answer.Of sort.Value)) k K l) (Away p deepest ks F b d K) (boxed_number_ok p deepest ks F b l t σ (truth_number x) lt (hd.1 ∙ ap (λ m. Bits (I64 m)) (flag_word x)) (ap is_owned hd.0)) (omega arith)
       (conv_hand q i w t k K l (numeric (truth_number x)) σ lq ft)
-  converted_ok Bare sort.Value x q i w t d k K l σ e lq lt ft hd = bare_boxed q i w t d k K l x σ lq lt ft hd (bare_is x)
+  converted_ok Bare sort.Value x q i w t d k K l σ e lq lt ft hd = bare_boxed q i w t d k K l x σ lq lt ft hd.0 hd.1 hd.2
   converted_ok Perhaps sort.Value x q i w t d k K l σ e lq lt ft hd =
       let y = boxed_perhaps_ok p deepest ks F b k K l t (perhaps x) σ (boxed Perhaps x) lt hd.1 (ap is_owned hd.0) (perhaps_is x) in
       there u M 16 y.steps _ _ (boxed Perhaps x) σ (Converted q i w t (Answered (answer.Of sort.Value)) k K l) (Away p deepest ks F b d K) y.goes (omega (arith, y.few)) (conv_hand q i w t k K l (boxed Perhaps x) σ lq ft)
@@ -251,6 +251,6 @@ module _ (p : Program) (deepest : Watch) (ks : List Kind) (F : List Frame) (b : 
   converted_ok (Answered answer.Input) sort.Number input.Failed q i w t d k K l σ e lq lt ft hd = coded q i w t d k K l minus_one σ ft hd.0 (code_number_ok p deepest ks F b k K l t 3 (2 ^ 64 - 1) σ lt hd.1 (λ vs. refl))
   converted_ok (Answered answer.Stream) sort.Number stream.Done q i w t d k K l σ e lq lt ft hd = coded q i w t d k K l zero_number σ ft hd.0 (code_number_ok p deepest ks F b k K l t 0 0 σ lt hd.1 (λ vs. refl))
   converted_ok (Answered answer.Stream) sort.Number stream.NotOpen q i w t d k K l σ e lq lt ft hd = coded q i w t d k K l minus_one σ ft hd.0 (code_number_ok p deepest ks F b k K l t 3 (2 ^ 64 - 1) σ lt hd.1 (λ vs. refl))
-  converted_ok Bare sort.Number x q i w t d k K l σ e lq lt ft hd = within u M 14 16 σ.turns _ (Converted q i w t (Answered (answer.Of sort.Number)) k K l) (Away p deepest ks F b d K) (settled (number_of_row x) σ) (omega arith) (bare_numbered q i w t d k K l x σ lq lt ft hd (bare_is x))
+  converted_ok Bare sort.Number x q i w t d k K l σ e lq lt ft hd = within u M 14 16 σ.turns _ (Converted q i w t (Answered (answer.Of sort.Number)) k K l) (Away p deepest ks F b d K) (settled (number_of_row x) σ) (omega arith) (bare_numbered q i w t d k K l x σ lq lt ft hd.0 hd.1 hd.2)
   converted_ok (Answered (answer.Of sort.Array)) sort.Array x q i w t d k K l σ e lq lt ft hd = there u M 16 0 _ _ x σ (Converted q i w t (Answered (answer.Of sort.Array)) k K l) (Away p deepest ks F b d K) stays (omega arith) (conv_self q i w t (Answered (answer.Of sort.Array)) k K l x σ ft hd)
   converted_ok f s x q i w t d k K l σ e lq lt ft hd = cc

@@ -29,10 +29,10 @@ use Rattle.lower_model.proofs.Runs.{Goes, then_goes, by_steps, Arrives}
 use Rattle.lower_model.proofs.Globals.{Globals, Status, placed}
 use Rattle.lower_model.proofs.GlobalSteps.{global_copied, storing}
 use Rattle.lower_model.proofs.Locals.{Locals, laid}
-use Rattle.lower_model.proofs.Steps.{empty}
-use Rattle.lower_model.proofs.State.{beside, name_hand, cells_of, host_of, store_with}
+use Rattle.lower_model.proofs.Steps.{unanswered}
+use Rattle.lower_model.proofs.State.{beside, name_hand, cells_of, host_of, store_with, BareOf, IsBeside, IsNone, IsNumber}
 use Rattle.lower_model.proofs.Relation.{Loose}
-use Rattle.lower_model.proofs.Conversions.{BareIs, IsBeside, IsNone, IsNumber, bare_is}
+use Rattle.lower_model.proofs.Conversions.{bare_is}
 use Rattle.lower_model.proofs.Answers.{machine}
 use Rattle.lower_model.proofs.Tidy.{globals_fine, name_tidy}
 use Rattle.lower_model.proofs.Exits.{sweep_ok, unowned_laid}
@@ -45,7 +45,7 @@ status_low m = by m.number (small m)
     by (pos k) e = omega arith
     by (negsuc k) e = omega (arith, e)
 
-beside_ended : (v : Value) → BareIs v → ended_name Unboxed (beside v) ≡ true
+beside_ended : (v : Value) → BareOf v → ended_name Unboxed (beside v) ≡ true
 beside_ended v (IsBeside e e1) = ap (ended_name Unboxed) e1
 beside_ended v (IsNone e e1 e2) = ap (ended_name Unboxed) e2
 beside_ended v (IsNumber m e e1 e2) = ap (ended_name Unboxed) e2
@@ -68,8 +68,8 @@ module _ (p : Program) (deepest : Watch) (b : Bases) where
     pub few : steps ≤ main_exit_work b
     pub goes : Goes (machine p deepest [] []) steps (at [] [] [] (laid b l) [] main_exit G) (Over (Bits (I32 (w % 2 ^ 32))) G)
 
-  pub main_ends_by : (g : Globals) (o : Host) (w : ℕ) (l : Locals) → zero ≡ b.parameters → Loose p deepest [] [] l → l.answer ≡ empty → g.status ≡ Bits (I64 w) →
-      globals_by (ending_name o.fault) (suc (suc p.ranges)) (kinds_of p.globals) (placed p.ranges (length (kinds_of p.globals)) g) ≡ true → MainEnds w (storing (placed p.ranges (length (kinds_of p.globals)) g) o) l
+  pub main_ends_by : (g : Globals) (o : Host) (w : ℕ) (l : Locals) → zero ≡ b.parameters → Loose p deepest [] [] l → l.answer ≡ unanswered → g.status ≡ Bits (I64 w) →
+      globals_by (ending_name o.fault) (suc (suc (suc p.ranges))) (kinds_of p.globals) (placed p.ranges (length (kinds_of p.globals)) g) ≡ true → MainEnds w (storing (placed p.ranges (length (kinds_of p.globals)) g) o) l
   main_ends_by g o w l none lo an es fine =
       let G = storing (placed p.ranges (length (kinds_of p.globals)) g) o in
       let mach = machine p deepest [] [] in
@@ -89,10 +89,10 @@ module _ (p : Program) (deepest : Watch) (b : Bases) where
             ∙ ap (λ t. guarded (true && t) (Over v G)) fine))));
       }
 
-  pub main_ends : (way : ℕ) (fault : Option Fault) (l : Locals) (σ : State) → zero ≡ b.parameters → Loose p deepest [] [] l → l.answer ≡ empty → MainEnds (number_word σ.status) (store_with p.ranges (kinds_of p.globals) way fault σ) l
+  pub main_ends : (way : ℕ) (fault : Option Fault) (l : Locals) (σ : State) → zero ≡ b.parameters → Loose p deepest [] [] l → l.answer ≡ unanswered → MainEnds (number_word σ.status) (store_with p.ranges (kinds_of p.globals) way fault σ) l
   main_ends way fault l σ none lo an = main_ends_by (cells_of (kinds_of p.globals) way σ) (host_of σ fault) (number_word σ.status) l none lo an refl (by fault)
     where
-      by : (o : Option Fault) → globals_by (ending_name o) (suc (suc p.ranges)) (kinds_of p.globals) (placed p.ranges (length (kinds_of p.globals)) (cells_of (kinds_of p.globals) way σ)) ≡ true
+      by : (o : Option Fault) → globals_by (ending_name o) (suc (suc (suc p.ranges))) (kinds_of p.globals) (placed p.ranges (length (kinds_of p.globals)) (cells_of (kinds_of p.globals) way σ)) ≡ true
       by None = globals_fine p tidy_name way σ name_tidy
       by (Some f) = globals_fine p ended_name way σ name_ended
 

@@ -12,14 +12,14 @@ use Rattle.lower_model.specs.Functions.{layout_of}
 use Rattle.lower_model.specs.Machine.{Code, Label, Frame, Store, at, guarded, leave_function}
 use Rattle.lower_model.specs.Places.{Bases, answer_local, iterator_local, array_local, handle_local}
 use Rattle.lower_model.specs.Small.{does, emptied, let_go}
-use Rattle.lower_model.specs.Statements.{temporaries_emptied, iterators_emptied, arrays_emptied, temporaries_swept, iterators_swept, arrays_swept, swept, left_swept, has_functions, parameters_dropped}
+use Rattle.lower_model.specs.Statements.{temporaries_emptied, iterators_emptied, arrays_emptied, temporaries_swept, iterators_swept, arrays_swept, swept, operands_swept, left_swept, has_functions, parameters_dropped, routine_exit}
 use Rattle.host_imports.specs.declared.import.Import.{Import}
 use Rattle.host_imports.specs.declared.import.Import.TheVariants.{Drop, IterFree, FreeArray}
 use Rattle.lower_model.proofs.Watch.{Watch}
 use Rattle.lower_model.proofs.Runs.{Goes, goes_from, then_goes, by_steps, stays}
 use Rattle.lower_model.proofs.Regions.{cells, upd_other}
 use Rattle.lower_model.proofs.Locals.{Locals, Place, Param, Answer, Hand, Number, Iterator, Array, local_of, has, with_at, has_with, temporaries_on, laid}
-use Rattle.lower_model.proofs.Steps.{empty, left_unowned, get_moved, emptied_ok}
+use Rattle.lower_model.proofs.Steps.{empty, unanswered, left_unowned, get_moved, emptied_ok}
 use Rattle.lower_model.proofs.Relation.{IsHand, IsWalk, IsYard, ParamLoose, Loose}
 use Rattle.lower_model.proofs.Pieces.{LetGo, let_go_hand, let_go_walk, let_go_yard, drop_ok}
 use Rattle.lower_model.proofs.Answers.{machine}
@@ -61,12 +61,13 @@ array_one : One Array
 array_one x y e = ap index e
 
 -- places from t on are emptied, m of them
-pub record Clears (u : Code) (ks : List Kind) (F : List Frame) (b : Bases) (K : List Label) (G : Store) (place : ℕ → Place) (t m : ℕ) (l : Locals) (c k : Instructions) : Type 0 where
+pub record Clears (u : Code) (ks : List Kind) (F : List Frame) (b : Bases) (K : List Label) (G : Store) (place : ℕ → Place) (Fine : Cell → Type 0) (t m : ℕ) (l : Locals) (c k : Instructions) : Type 0 where
   pub next : Locals
   pub steps : ℕ
   pub few : steps ≤ 8 * m
   pub goes : Goes u steps (at ks [] K (laid b l) F c G) (at ks [] K (laid b next) F k G)
   pub empties : (x : ℕ) → t ≤ x → x < t + m → has next (place x) ≡ empty
+  pub fine : (x : ℕ) → Fine (has next (place x))
   pub others : (q : Place) → ((x : ℕ) → t ≤ x → q ≢ place x) → has next q ≡ has l q
 
 pub record Empties (u : Code) (ks : List Kind) (F : List Frame) (b : Bases) (K : List Label) (G : Store) (p : Place) (l : Locals) (c k : Instructions) : Type 0 where
@@ -102,8 +103,8 @@ module _ {u : Code} {ks : List Kind} {F : List Frame} (b : Bases) (K : List Labe
         fine_by : (c d : Cell) → c ≡ d → Fine d → Fine c
         fine_by c d e q = subst Fine (sym e) q
 
-    pub clear : (t m : ℕ) (l : Locals) (k : Instructions) → t + m ≤ limit → ((x : ℕ) → Fine (has l (place x))) → Clears u ks F b K G place t m l (in_order f t m k) k
-    clear t zero l k le h = record { next = l; steps = 0; few = omega arith; goes = stays; empties = λ x lx ly. absurd (omega (arith, lx, ly)); others = λ q ne. refl }
+    pub clear : (t m : ℕ) (l : Locals) (k : Instructions) → t + m ≤ limit → ((x : ℕ) → Fine (has l (place x))) → Clears u ks F b K G place Fine t m l (in_order f t m k) k
+    clear t zero l k le h = record { next = l; steps = 0; few = omega arith; goes = stays; empties = λ x lx ly. absurd (omega (arith, lx, ly)); fine = h; others = λ q ne. refl }
     clear t (suc m) l k le h =
         let l1 = with_at l (place t) empty in
         let o = each t l (in_order f (suc t) m k) (omega (arith, le)) (h t) in
@@ -117,6 +118,7 @@ module _ {u : Code} {ks : List Kind} {F : List Frame} (b : Bases) (K : List Labe
             | inl e ↦ ap (λ y. has r.next (place y)) e ∙ (r.others (place t) (λ y lz q. omega (arith, lz, one t y q)) ∙ has_with l (place t) empty)
             | inr ne ↦ r.empties x (omega (arith, lx, ne)) (omega (arith, ly))
           ];
+          fine = r.fine;
           others = λ q ne. r.others q (λ y ly. ne y (omega (arith, ly))) ∙ other_has l (place t) q empty (ne t (omega arith));
         }
 
@@ -149,7 +151,7 @@ module _ {u : Code} {ks : List Kind} {F : List Frame} (b : Bases) (K : List Labe
 
 -- how many steps an exit takes at most, and a beginning
 abbrev pub exit_work : Bases → ℕ
-exit_work b = 8 * (b.temporaries + (b.iterators + b.arrays)) + (2 * b.parameters + 2)
+exit_work b = 8 * (b.temporaries + (b.iterators + b.arrays)) + (2 * b.parameters + 3)
 
 abbrev pub begin_work : Bases → ℕ
 begin_work b = 1 + 8 * (b.temporaries + (b.iterators + b.arrays))
@@ -210,38 +212,90 @@ module _ (p : Program) (deepest : Watch) (ks : List Kind) (F : List Frame) (b : 
       (λ x l1 k1 lt q. let_go_empties b K G FreeArray (Array x) l1 k1 (let_go_yard b (Array x) K l1 k1 G lt q))
       lo.hands lo.walks lo.yards)
 
-  -- the same where no function is called, and temporaries and arrays hold nothing
-  pub left_sweep_ok : (cs : List (List Kind)) (K : List Label) (G : Store) (l : Locals) (k : Instructions) → Loose p deepest ks F l → (cs ≡ [] → ((x : ℕ) → l.hand x ≡ empty) × ((x : ℕ) → l.array x ≡ empty)) →
-      Cleared (machine p deepest ks F) ks F b K G (8 * (b.temporaries + (b.iterators + b.arrays))) l (left_swept y (has_functions cs) k) k
-  left_sweep_ok (c ∷ cs) K G l k lo none = sweep_ok K G l k lo
-  left_sweep_ok [] K G l k lo none =
+  -- iterators are let go, where temporaries and arrays hold nothing
+  iterators_ok : (K : List Label) (G : Store) (l : Locals) (k : Instructions) → Loose p deepest ks F l → ((x : ℕ) → x < b.temporaries → l.hand x ≡ empty) → ((x : ℕ) → x < b.arrays → l.array x ≡ empty) →
+      Cleared (machine p deepest ks F) ks F b K G (8 * b.iterators) l (iterators_swept y zero b.iterators k) k
+  iterators_ok K G l k lo hands arrays =
       let g : ℕ → Instructions → Instructions = λ x. let_go IterFree (iterator_local b x) in
-      let held = none refl in
       let c = clear b K G Iterator iterator_one IsWalk (inl refl) g b.iterators (λ x l1 k1 lt q. let_go_empties b K G IterFree (Iterator x) l1 k1 (let_go_walk b (Iterator x) K l1 k1 G lt q)) zero b.iterators l k (omega arith) lo.walks in
-      cleared_by (8 * (b.temporaries + (b.iterators + b.arrays))) l (left_swept y false k) (in_order g zero b.iterators k) k (walks_swept zero b.iterators k)
+      cleared_by (8 * b.iterators) l (iterators_swept y zero b.iterators k) (in_order g zero b.iterators k) k (walks_swept zero b.iterators k)
       (record {
         next = c.next;
         steps = c.steps;
-        few = let q = c.few in omega (arith, q);
+        few = c.few;
         goes = c.goes;
-        hands = λ x lt. c.others (Hand x) (λ z lz q. cc) ∙ held.0 x;
+        hands = λ x lt. c.others (Hand x) (λ z lz q. cc) ∙ hands x lt;
         iterators = λ x lt. c.empties x (omega arith) (omega (arith, lt));
-        arrays = λ x lt. c.others (Array x) (λ z lz q. cc) ∙ held.1 x;
+        arrays = λ x lt. c.others (Array x) (λ z lz q. cc) ∙ arrays x lt;
         numbers = λ x. c.others (Number x) (λ z lz q. cc);
         params = λ x. c.others (Param x) (λ z lz q. cc);
         answer = c.others Answer (λ z lz q. cc);
       })
 
+  -- the same where no function is called, and temporaries and arrays hold nothing
+  pub left_sweep_ok : (cs : List (List Kind)) (K : List Label) (G : Store) (l : Locals) (k : Instructions) → Loose p deepest ks F l → (cs ≡ [] → ((x : ℕ) → l.hand x ≡ empty) × ((x : ℕ) → l.array x ≡ empty)) →
+      Cleared (machine p deepest ks F) ks F b K G (8 * (b.temporaries + (b.iterators + b.arrays))) l (left_swept y (has_functions cs) k) k
+  left_sweep_ok (c ∷ cs) K G l k lo none = sweep_ok K G l k lo
+  left_sweep_ok [] K G l k lo none =
+      let held = none refl in
+      let c = iterators_ok K G l k lo (λ x lt. held.0 x) (λ x lt. held.1 x) in
+      record {
+        next = c.next;
+        steps = c.steps;
+        few = let q = c.few in omega (arith, q);
+        goes = c.goes;
+        hands = c.hands;
+        iterators = c.iterators;
+        arrays = c.arrays;
+        numbers = c.numbers;
+        params = c.params;
+        answer = c.answer;
+      }
+
+  -- temporaries and arrays of calls are let go
+  pub record OperandsSwept (K : List Label) (G : Store) (l : Locals) (k : Instructions) : Type 0 where
+    pub next : Locals
+    pub steps : ℕ
+    pub few : steps ≤ 8 * (b.temporaries + b.arrays)
+    pub goes : Goes (machine p deepest ks F) steps (at ks [] K (laid b l) F (operands_swept y k) G) (at ks [] K (laid b next) F k G)
+    pub hands : (x : ℕ) → x < b.temporaries → next.hand x ≡ empty
+    pub arrays : (x : ℕ) → x < b.arrays → next.array x ≡ empty
+    pub loose : Loose p deepest ks F next
+    pub answer : next.answer ≡ l.answer
+
+  pub operands_sweep_ok : (K : List Label) (G : Store) (l : Locals) (k : Instructions) → Loose p deepest ks F l → OperandsSwept K G l k
+  operands_sweep_ok K G l k lo =
+      let f : ℕ → Instructions → Instructions = λ x. let_go Drop (handle_local b x) in
+      let e : ℕ → Instructions → Instructions = λ x. let_go FreeArray (array_local b x) in
+      let a = clear b K G Hand hand_one IsHand (inl refl) f b.temporaries (λ x l1 k1 lt q. let_go_empties b K G Drop (Hand x) l1 k1 (let_go_hand b (Hand x) K l1 k1 G lt q)) zero b.temporaries l (in_order e zero b.arrays k) (omega arith) lo.hands in
+      let d = clear b K G Array array_one IsYard (inl refl) e b.arrays (λ x l1 k1 lt q. let_go_empties b K G FreeArray (Array x) l1 k1 (let_go_yard b (Array x) K l1 k1 G lt q)) zero b.arrays a.next k (omega arith) (λ x. subst IsYard (sym (a.others (Array x) (λ z lz q. cc))) (lo.yards x)) in
+      record {
+        next = d.next;
+        steps = a.steps + d.steps;
+        few = omega (arith, a.few, d.few);
+        goes = goes_from (ap (λ z. at ks [] K (laid b l) F z G) (hands_swept zero b.temporaries _ ∙ ap (in_order f zero b.temporaries) (yards_swept zero b.arrays k))) (then_goes a.goes d.goes);
+        hands = λ x lt. d.others (Hand x) (λ z lz q. cc) ∙ a.empties x (omega arith) (omega (arith, lt));
+        arrays = λ x lt. d.empties x (omega arith) (omega (arith, lt));
+        loose = record {
+          params = λ i j q. subst (ParamLoose p deepest ks F j) (sym (d.others (Param i) (λ z lz r. cc) ∙ a.others (Param i) (λ z lz r. cc))) (lo.params i j q);
+          hands = λ x. subst IsHand (sym (d.others (Hand x) (λ z lz r. cc))) (a.fine x);
+          numbers = λ x. ap is_owned (d.others (Number x) (λ z lz r. cc) ∙ a.others (Number x) (λ z lz r. cc)) ∙ lo.numbers x;
+          walks = λ x. subst IsWalk (sym (d.others (Iterator x) (λ z lz r. cc) ∙ a.others (Iterator x) (λ z lz r. cc))) (lo.walks x);
+          yards = λ x. d.fine x;
+        };
+        answer = d.others Answer (λ z lz q. cc) ∙ a.others Answer (λ z lz q. cc);
+      }
+
   -- at a function's beginning they are emptied, and its answer too
   pub begin_ok : (K : List Label) (G : Store) (l : Locals) (k : Instructions) → is_owned l.answer ≡ false → ((x : ℕ) → is_owned (l.hand x) ≡ false) → ((x : ℕ) → is_owned (l.iterator x) ≡ false) → ((x : ℕ) → is_owned (l.array x) ≡ false) →
-      Cleared (machine p deepest ks F) ks F b K G (8 * (b.temporaries + (b.iterators + b.arrays))) (with_at l Answer empty) (temporaries_emptied y zero b.temporaries (iterators_emptied y zero b.iterators (arrays_emptied y zero b.arrays k))) k
+      Cleared (machine p deepest ks F) ks F b K G (8 * (b.temporaries + (b.iterators + b.arrays))) (with_at l Answer unanswered) (temporaries_emptied y zero b.temporaries (iterators_emptied y zero b.iterators (arrays_emptied y zero b.arrays k))) k
   begin_ok K G l k o oh ow oy =
       let f : ℕ → Instructions → Instructions = λ x. emptied (handle_local b x) in
       let g : ℕ → Instructions → Instructions = λ x. emptied (iterator_local b x) in
       let e : ℕ → Instructions → Instructions = λ x. emptied (array_local b x) in
-      cleared_by (8 * (b.temporaries + (b.iterators + b.arrays))) (with_at l Answer empty) _ (in_order f zero b.temporaries (in_order g zero b.iterators (in_order e zero b.arrays k))) k
+      cleared_by (8 * (b.temporaries + (b.iterators + b.arrays))) (with_at l Answer unanswered) _ (in_order f zero b.temporaries (in_order g zero b.iterators (in_order e zero b.arrays k))) k
       (hands_begun zero b.temporaries _ ∙ ap (in_order f zero b.temporaries) (walks_begun zero b.iterators _ ∙ ap (in_order g zero b.iterators) (yards_begun zero b.arrays k)))
-      (all_cleared b K G f g e (with_at l Answer empty) k (λ c. is_owned c ≡ false) (λ c. is_owned c ≡ false) (λ c. is_owned c ≡ false) refl refl refl
+      (all_cleared b K G f g e (with_at l Answer unanswered) k (λ c. is_owned c ≡ false) (λ c. is_owned c ≡ false) (λ c. is_owned c ≡ false) refl refl refl
       (λ x l1 k1 lt q. record { steps = 1; few = omega arith; goes = emptied_ok b l1 (Hand x) lt q })
       (λ x l1 k1 lt q. record { steps = 1; few = omega arith; goes = emptied_ok b l1 (Iterator x) lt q })
       (λ x l1 k1 lt q. record { steps = 1; few = omega arith; goes = emptied_ok b l1 (Array x) lt q })
@@ -303,15 +357,15 @@ module _ (p : Program) (deepest : Watch) (ks : List Kind) (F : List Frame) (b : 
       (unowned_cells l.iterator b.iterators (cells l.array b.arrays ++ []) ow (unowned_cells l.array b.arrays [] oy refl))))
 
 module _ (p : Program) (deepest : Watch) (ks : List Kind) (f : Frame) (F : List Frame) (b : Bases) where
-  -- a function is left with what its answer has, and the caller goes on
+  -- a function ends with what its answer has, and the caller goes on
   pub record Exits (G : Store) (l : Locals) : Type 0 where
     pub steps : ℕ
-    pub few : steps ≤ exit_work b
-    pub goes : Goes (machine p deepest ks (f ∷ F)) steps (at ks [] [] (laid b l) (f ∷ F) (swept (layout_of p b) (parameters_dropped (layout_of p b) zero ks (does (LocalGet (answer_local b)) Done))) G) (at f.kinds (l.answer ∷ f.under) f.labels f.locals F f.rest G)
+    pub few : steps ≤ 8 * b.iterators + (2 * b.parameters + 2)
+    pub goes : Goes (machine p deepest ks (f ∷ F)) steps (at ks [] [] (laid b l) (f ∷ F) (routine_exit (layout_of p b) ks) G) (at f.kinds (l.answer ∷ f.under) f.labels f.locals F f.rest G)
 
-  pub exit_ok : (G : Store) (l : Locals) → length ks ≡ b.parameters → Loose p deepest ks (f ∷ F) l → Exits G l
-  exit_ok G l size lo =
-      let s = sweep_ok p deepest ks (f ∷ F) b [] G l (parameters_dropped (layout_of p b) zero ks (does (LocalGet (answer_local b)) Done)) lo in
+  pub exit_ok : (G : Store) (l : Locals) → length ks ≡ b.parameters → Loose p deepest ks (f ∷ F) l → ((x : ℕ) → x < b.temporaries → l.hand x ≡ empty) → ((x : ℕ) → x < b.arrays → l.array x ≡ empty) → Exits G l
+  exit_ok G l size lo hands arrays =
+      let s = iterators_ok p deepest ks (f ∷ F) b [] G l (parameters_dropped (layout_of p b) zero ks (does (LocalGet (answer_local b)) Done)) lo hands arrays in
       let d = drop_ok_from p deepest ks (f ∷ F) b ks zero [] G s.next (does (LocalGet (answer_local b)) Done) (omega (arith, size)) (λ i j z e q. loose_still (s.next) s.params i j z e (omega (arith, q))) in
       let an : d.next.answer ≡ l.answer = d.others Answer (λ i li q. cc) ∙ s.answer in
       let l3 = with_at d.next Answer (left_by l.answer) in

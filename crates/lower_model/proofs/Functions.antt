@@ -6,7 +6,6 @@ use Rattle.std.proofs.lemmas.List.{take_at, drop_at, length-append, length-rever
 use Rattle.std.proofs.lemmas.Option.{slice_get-map, slice_get-get_or}
 use Rattle.awk_values.specs.declared.value.Value.{Value}
 use Rattle.awk_values.specs.declared.value.Value.TheVariants.{Uninit}
-use Rattle.sem_primitives.specs.declared.table.Primitive.TheVariants as row
 use Rattle.wasm_types.specs.Syntax.{Instructions, Done}
 use Rattle.wasm_types.specs.declared.types.ValType.{ValType}
 use Rattle.wasm_types.specs.declared.instr.Simple.TheVariants.{Call, LocalGet, LocalSet}
@@ -14,7 +13,7 @@ use Rattle.wasm_store.specs.declared.word.Word.TheVariants.{I32, I64}
 use Rattle.mid_program.specs.Mid.{Kind, Program, Routine, Code, Steps}
 use Rattle.mid_program.specs.MidMeaning.{no_routine, routine_at}
 use Rattle.sem_scripts.specs.ScriptState.{State, Own, Local, Scalar, Stop, Faulted, OutOfTurns, TooDeep, Nexted, Exited, Returned, Outcome, Gives, Stops, Doing, ◌>>◌, spend}
-use Rattle.mid_program.specs.Sorted.{has_kind, calls_of, routines_sorted, steps_sorted, context_of}
+use Rattle.mid_program.specs.Sorted.{has_kind, kinds_of, calls_of, routines_sorted, steps_sorted, context_of}
 use Rattle.sem_scripts.specs.Statements.{Flow, Normal, Broke, Continued, returned, entered_with}
 use Rattle.lower_model.specs.Cells.{Cell, Bits, Held, Gone, is_owned, none_owned}
 use Rattle.lower_model.specs.Emission.{function_number}
@@ -23,25 +22,25 @@ use Rattle.lower_model.specs.Machine.{Conf, Deep, Label, Frame, Store, at, label
 use Rattle.host_imports.specs.Imports.{import_at, import_count}
 use Rattle.lower_model.specs.Noted.{noted_called, steps_noted, routine_rest}
 use Rattle.lower_model.specs.Places.{Bases, answer_local, local_types, temporary_types, handle_types, steps_room, steps_iterators, steps_arrays}
-use Rattle.lower_model.specs.Small.{does, ask_row}
-use Rattle.lower_model.specs.Statements.{routine_body, swept, parameters_dropped, steps_emitted, block}
+use Rattle.lower_model.specs.Small.{does, least}
+use Rattle.lower_model.specs.Statements.{routine_body, routine_ended, routine_exit, operands_swept, steps_emitted, block}
 use Rattle.lower_model.proofs.Watch.{Watch}
 use Rattle.lower_model.proofs.Runs.{Goes, goes_to, goes_from, then_goes, by_steps, stays, first, within, turned, Arrives, reaches_on, Onward}
 use Rattle.lower_model.proofs.Regions.{cells, pairs, cells_same, pairs_same}
 use Rattle.lower_model.proofs.Locals.{Locals, Answer, with_at, laid}
-use Rattle.lower_model.proofs.Steps.{empty, set_ok, emptied_ok}
+use Rattle.lower_model.proofs.Steps.{empty, unanswered, set_ok}
+use Rattle.lower_model.proofs.State.{AnswerIs, Nothing, answering}
 use Rattle.lower_model.proofs.Relation.{ParamIs, Loose, Sound, StopSound, Away, fit_loose, left_to}
 use Rattle.lower_model.proofs.Pieces.{closes}
 use Rattle.lower_model.proofs.Answers.{machine, beside_state, left_beside}
-use Rattle.lower_model.proofs.Conversions.{ask_uninit}
 use Rattle.lower_model.proofs.StatementForms.{steps_work, steps_meant, StepsOk, StepDone}
 use Rattle.lower_model.proofs.Stepping.{steps_ok}
 use Rattle.lower_model.proofs.Simulation.{ExprOk}
-use Rattle.lower_model.proofs.Exits.{exit_work, begin_work, begin_ok, exit_ok}
+use Rattle.lower_model.proofs.Exits.{exit_work, begin_work, begin_ok, operands_sweep_ok, exit_ok}
 
 -- how many steps of the machine a function takes at most, beside those that turns pay
 abbrev pub routine_work : Routine → ℕ
-routine_work r = begin_work (routine_bases r) + (1 + (steps_work r.body + (exit_work (routine_bases r) + 3)))
+routine_work r = begin_work (routine_bases r) + (2 + (steps_work r.body + (exit_work (routine_bases r) + 3)))
 
 abbrev pub routines_work : List Routine → ℕ
 routines_work [] = 0
@@ -55,7 +54,7 @@ routine_within (r ∷ rs) (suc f) lt = let q = routine_within rs f (omega (arith
 -- Locals as a function is entered: what it is given, and zeros.
 
 abbrev pub entry : List Cell → Locals
-entry words = record { param = λ i. get_or words i Gone; answer = Bits (I32 0); hand = λ x. Bits (I32 0); number = λ x. Bits (I64 0); iterator = λ x. Bits (I32 0); array = λ x. Bits (I32 0) }
+entry words = record { param = λ i. get_or words i Gone; answer = Bits (I64 0); hand = λ x. Bits (I32 0); number = λ x. Bits (I64 0); iterator = λ x. Bits (I32 0); array = λ x. Bits (I32 0) }
 
 cells_listed : (ws : List Cell) → cells (λ i. get_or ws i Gone) (length ws) ≡ ws
 cells_listed [] = refl
@@ -76,16 +75,16 @@ zeros_last (suc m) = ap (λ r. Bits (I32 0) ∷ r) (zeros_last m)
 pub laid_entry : (b : Bases) (words : List Cell) → length words ≡ b.parameters → words ++ zeros (local_types b) ≡ laid b (entry words)
 laid_entry b words e =
     ap₂ (λ a r. a ++ r) (sym (ap (cells (λ i. get_or words i Gone)) (sym e) ∙ cells_listed words))
-    (ap (λ r. Bits (I32 0) ∷ r)
+    (ap (λ r. Bits (I64 0) ∷ r)
     (zeros_of_temporaries b.temporaries (handle_types b.iterators ++ handle_types b.arrays)
     ∙ ap (λ r. pairs (λ x. Bits (I32 0)) (λ x. Bits (I64 0)) b.temporaries ++ r)
     (zeros_of_handles b.iterators (handle_types b.arrays) ∙ ap (λ r. cells (λ x. Bits (I32 0)) b.iterators ++ r) (zeros_last b.arrays))))
 
 -- Locals where the body begins.
 abbrev pub begun : List Cell → Locals
-begun words = record { param = λ i. get_or words i Gone; answer = empty; hand = λ x. empty; number = λ x. Bits (I64 0); iterator = λ x. empty; array = λ x. empty }
+begun words = record { param = λ i. get_or words i Gone; answer = unanswered; hand = λ x. empty; number = λ x. Bits (I64 0); iterator = λ x. empty; array = λ x. empty }
 
-pub laid_begun : (b : Bases) (words : List Cell) (l : Locals) → ((i : ℕ) → l.param i ≡ get_or words i Gone) → l.answer ≡ empty → ((x : ℕ) → x < b.temporaries → l.hand x ≡ empty) → ((x : ℕ) → l.number x ≡ Bits (I64 0)) →
+pub laid_begun : (b : Bases) (words : List Cell) (l : Locals) → ((i : ℕ) → l.param i ≡ get_or words i Gone) → l.answer ≡ unanswered → ((x : ℕ) → x < b.temporaries → l.hand x ≡ empty) → ((x : ℕ) → l.number x ≡ Bits (I64 0)) →
     ((x : ℕ) → x < b.iterators → l.iterator x ≡ empty) → ((x : ℕ) → x < b.arrays → l.array x ≡ empty) → laid b l ≡ laid b (begun words)
 laid_begun b words l ep ea eh en ei ey =
     ap₂ (λ a r. a ++ r) (cells_same l.param (begun words).param b.parameters (λ i lt. ep i))
@@ -106,33 +105,40 @@ module _ (p : Program) (deepest : Watch) where
 
   -- after a call: the answer is on the stack, and the caller's own is as it was
   pub record Back (f : Frame) (F : List Frame) (o : Own) (v : Value) (σ : State) (c : Conf) : Type 0 where
-    pub comes : c ≡ at f.kinds (Held v ∷ f.under) f.labels f.locals F f.rest (beside_state p deepest f.kinds F σ)
+    pub word : ℕ
+    pub text : Cell
+    pub is : AnswerIs v word text
+    pub comes : c ≡ at f.kinds (Bits (I64 word) ∷ f.under) f.labels f.locals F f.rest (answering p.ranges (kinds_of p.globals) text σ)
     pub sound : Sound p deepest f.kinds F σ
     pub own : σ.own ≡ o
 
-  -- a call that stops the script answers -1, and the caller is to leave too
+  -- a call that stops the script answers that, and the caller is to leave too
   pub record Lost (f : Frame) (F : List Frame) (why : Stop) (σ : State) (c : Conf) : Type 0 where
-    pub comes : c ≡ left_to why (at f.kinds (empty ∷ f.under) f.labels f.locals F f.rest (left_beside p deepest f.kinds F why σ)) (Deep (beside_state p deepest f.kinds F σ))
+    pub comes : c ≡ left_to why (at f.kinds (unanswered ∷ f.under) f.labels f.locals F f.rest (left_beside p deepest f.kinds F why σ)) (Deep (beside_state p deepest f.kinds F σ))
     pub after : StopSound p deepest f.kinds F why σ
 
   module _ (M n : ℕ) (js : List Kind) (f : Frame) (F : List Frame) (b : Bases) (size : length js ≡ b.parameters) (own : Own) (room : length F + own.room ≡ deepest.callers) where
     abbrev exit_code : Instructions
-    exit_code = swept (layout_of p b) (parameters_dropped (layout_of p b) zero js (does (LocalGet (answer_local b)) Done))
+    exit_code = routine_exit (layout_of p b) js
 
     abbrev end_code : Instructions
-    end_code = ask_row row.Uninit (does (LocalSet (answer_local b)) Done)
+    end_code = routine_ended (layout_of p b)
+
+    abbrev left_code : Instructions
+    left_code = operands_swept (layout_of p b) Done
 
     abbrev body_labels : List Label
-    body_labels = label [] None exit_code ∷ []
+    body_labels = label [] None left_code ∷ (label [] None exit_code ∷ [])
 
     sound_back : (σ : State) → Sound p deepest js (f ∷ F) σ → Sound p deepest f.kinds F (record σ { own = own })
     sound_back σ s = record { room = room; names = s.names; calm = s.calm }
 
-    -- the answer is the caller's
-    exits : (G : Store) (l : Locals) (v : Cell) (c : Conf) (P : Conf → Type 0) → Loose p deepest js (f ∷ F) l → l.answer ≡ v → c ≡ at js [] [] (laid b l) (f ∷ F) exit_code G → P (at f.kinds (v ∷ f.under) f.labels f.locals F f.rest G) →
-        Onward (machine p deepest js (f ∷ F)) M (exit_work b) P c
-    exits G l v c P lo e q h =
-        let x = exit_ok p deepest js f F b G l size lo in
+    -- the answer is the caller's, where nothing is held but iterators
+    exits : (G : Store) (l : Locals) (v : Cell) (c : Conf) (P : Conf → Type 0) → Loose p deepest js (f ∷ F) l → ((x : ℕ) → x < b.temporaries → l.hand x ≡ empty) → ((x : ℕ) → x < b.arrays → l.array x ≡ empty) → l.answer ≡ v →
+        c ≡ at js [] [] (laid b l) (f ∷ F) exit_code G → P (at f.kinds (v ∷ f.under) f.labels f.locals F f.rest G) →
+        Onward (machine p deepest js (f ∷ F)) M (8 * b.iterators + (2 * b.parameters + 2)) P c
+    exits G l v c P lo hands arrays e q h =
+        let x = exit_ok p deepest js f F b G l size lo hands arrays in
         record {
           conf = at f.kinds (v ∷ f.under) f.labels f.locals F f.rest G;
           steps = x.steps;
@@ -141,19 +147,37 @@ module _ (p : Program) (deepest : Watch) where
           holds = h;
         }
 
+    -- the same of a function that was left
+    left_exits : (G : Store) (l : Locals) (c : Conf) (P : Conf → Type 0) → Loose p deepest js (f ∷ F) l → l.answer ≡ unanswered →
+        c ≡ at js [] (label [] None exit_code ∷ []) (laid b l) (f ∷ F) left_code G → P (at f.kinds (unanswered ∷ f.under) f.labels f.locals F f.rest G) →
+        Onward (machine p deepest js (f ∷ F)) M (exit_work b) P c
+    left_exits G l c P lo e q h =
+        let s = operands_sweep_ok p deepest js (f ∷ F) b (label [] None exit_code ∷ []) G l Done lo in
+        let x = exits G s.next unanswered _ P s.loose s.hands s.arrays (s.answer ∙ e) refl h in
+        record {
+          conf = x.conf;
+          steps = s.steps + (1 + x.steps);
+          few = let r = s.few in let z = x.few in omega (arith, r, z);
+          goes = goes_from q (then_goes s.goes (then_goes closes x.goes));
+          holds = x.holds;
+        }
+
     -- a body that ends without `return`
     ends : (l0 : Locals) (σ : State) (c : Conf) → StepDone p deepest js (f ∷ F) b M n false zero zero zero end_code body_labels l0 Normal σ c →
         Onward (machine p deepest js (f ∷ F)) M (exit_work b + 3) (Back f F own Uninit (record σ { own = own })) c
     ends l0 σ c h =
-        let l1 = with_at h.next Answer (Held Uninit) in
-        let lo = fit_loose p deepest js (f ∷ F) zero zero zero h.next σ h.starts.fit in
-        let x = exits (beside_state p deepest js (f ∷ F) σ) l1 (Held Uninit) _ (Back f F own Uninit (record σ { own = own })) (record { params = lo.params; hands = lo.hands; numbers = lo.numbers; walks = lo.walks; yards = lo.yards }) refl refl
-        (record { comes = refl; sound = sound_back σ h.starts.fit.sound; own = refl }) in
+        let v = Bits (I64 least) in
+        let l1 = with_at h.next Answer v in
+        let fit = h.starts.fit in
+        let lo = fit_loose p deepest js (f ∷ F) zero zero zero h.next σ fit in
+        let x = exits (beside_state p deepest js (f ∷ F) σ) l1 v _ (Back f F own Uninit (record σ { own = own })) (record { params = lo.params; hands = lo.hands; numbers = lo.numbers; walks = lo.walks; yards = lo.yards })
+        (λ y lt. fit.free y (omega arith)) (λ y lt. fit.spare y (omega arith)) refl refl
+        (record { word = least; text = Gone; is = Nothing refl refl refl; comes = refl; sound = sound_back σ fit.sound; own = refl }) in
         record {
           conf = x.conf;
-          steps = 3 + x.steps;
+          steps = 2 + x.steps;
           few = let q = x.few in omega (arith, q);
-          goes = goes_from h.comes (then_goes (then_goes (ask_uninit p deepest js (f ∷ F) [] σ) (then_goes (set_ok b h.next Answer (Held Uninit) tt (ap is_owned h.starts.fit.answer)) closes)) x.goes);
+          goes = goes_from h.comes (then_goes (then_goes (set_ok b h.next Answer v tt (ap is_owned fit.answer)) (by_steps 1 refl)) x.goes);
           holds = x.holds;
         }
 
@@ -164,17 +188,18 @@ module _ (p : Program) (deepest : Watch) where
     came w m c l0 (Gives Broke σ) h = absurd h.holds.flows
     came w m c l0 (Gives Continued σ) h = absurd h.holds.flows
     came w m c l0 (Stops (Returned v) σ) h =
-        reaches_on (machine p deepest js (f ∷ F)) M (exit_work b) w (w + (exit_work b + 3)) m σ.turns c _ (Back f F own v (record σ { own = own })) (omega arith)
-        (λ c1 q. exits (left_beside p deepest js (f ∷ F) (Returned v) σ) q.next (Held v) c1 (Back f F own v (record σ { own = own })) q.loose q.answer q.comes (record { comes = refl; sound = sound_back σ q.after; own = refl })) h
+        reaches_on (machine p deepest js (f ∷ F)) M (8 * b.iterators + (2 * b.parameters + 2)) w (w + (exit_work b + 3)) m σ.turns c _ (Back f F own v (record σ { own = own })) (omega arith)
+        (λ c1 q. exits (answering p.ranges (kinds_of p.globals) q.text σ) q.next (Bits (I64 q.word)) c1 (Back f F own v (record σ { own = own })) q.loose (λ x lt. q.hands x) (λ x lt. q.arrays x) q.answer q.comes
+        (record { word = q.word; text = q.text; is = q.is; comes = refl; sound = sound_back σ q.after; own = refl })) h
     came w m c l0 (Stops (Faulted x) σ) h =
         reaches_on (machine p deepest js (f ∷ F)) M (exit_work b) w (w + (exit_work b + 3)) m σ.turns c _ (Lost f F (Faulted x) (record σ { own = own })) (omega arith)
-        (λ c1 q. exits (left_beside p deepest js (f ∷ F) (Faulted x) σ) q.next empty c1 (Lost f F (Faulted x) (record σ { own = own })) q.loose q.answer q.comes (record { comes = refl; after = tt })) h
+        (λ c1 q. left_exits (left_beside p deepest js (f ∷ F) (Faulted x) σ) q.next c1 (Lost f F (Faulted x) (record σ { own = own })) q.loose q.answer q.comes (record { comes = refl; after = tt })) h
     came w m c l0 (Stops Nexted σ) h =
         reaches_on (machine p deepest js (f ∷ F)) M (exit_work b) w (w + (exit_work b + 3)) m σ.turns c _ (Lost f F Nexted (record σ { own = own })) (omega arith)
-        (λ c1 q. exits (left_beside p deepest js (f ∷ F) Nexted σ) q.next empty c1 (Lost f F Nexted (record σ { own = own })) q.loose q.answer q.comes (record { comes = refl; after = sound_back σ q.after.0 })) h
+        (λ c1 q. left_exits (left_beside p deepest js (f ∷ F) Nexted σ) q.next c1 (Lost f F Nexted (record σ { own = own })) q.loose q.answer q.comes (record { comes = refl; after = sound_back σ q.after.0 })) h
     came w m c l0 (Stops Exited σ) h =
         reaches_on (machine p deepest js (f ∷ F)) M (exit_work b) w (w + (exit_work b + 3)) m σ.turns c _ (Lost f F Exited (record σ { own = own })) (omega arith)
-        (λ c1 q. exits (left_beside p deepest js (f ∷ F) Exited σ) q.next empty c1 (Lost f F Exited (record σ { own = own })) q.loose q.answer q.comes (record { comes = refl; after = sound_back σ q.after.0 })) h
+        (λ c1 q. left_exits (left_beside p deepest js (f ∷ F) Exited σ) q.next c1 (Lost f F Exited (record σ { own = own })) q.loose q.answer q.comes (record { comes = refl; after = sound_back σ q.after.0 })) h
     came w m c l0 (Stops TooDeep σ) h =
         reaches_on (machine p deepest js (f ∷ F)) M 0 w (w + (exit_work b + 3)) m σ.turns c _ (Lost f F TooDeep (record σ { own = own })) (omega arith)
         (λ c1 q. record { conf = c1; steps = 0; few = omega arith; goes = stays; holds = record { comes = q.comes; after = tt } }) h
@@ -183,19 +208,19 @@ module _ (p : Program) (deepest : Watch) where
     -- a function runs, from its beginning to its exit
     run_ok : (body : Steps) → StepsOk p deepest js (f ∷ F) b M n body → steps_sorted (context_of p js) true false body ≡ true → steps_room body ≤ b.temporaries → steps_iterators body ≤ b.iterators → steps_arrays body ≤ b.arrays → steps_work body ≤ M →
         (words : List Cell) (os : List Local) (σ : State) (m : ℕ) → GivenTo js (f ∷ F) words os → length (f ∷ F) + m ≡ deepest.callers → Sound p deepest f.kinds F σ → σ.turns ≤ n →
-        Arrives (machine p deepest js (f ∷ F)) M (begin_work b + (1 + (steps_work body + (exit_work b + 3)))) σ.turns (at js [] [] (words ++ zeros (local_types b)) (f ∷ F) (routine_body (layout_of p b) js body) (beside_state p deepest js (f ∷ F) σ)) (Back f F own) (Lost f F)
+        Arrives (machine p deepest js (f ∷ F)) M (begin_work b + (2 + (steps_work body + (exit_work b + 3)))) σ.turns (at js [] [] (words ++ zeros (local_types b)) (f ∷ F) (routine_body (layout_of p b) js body) (beside_state p deepest js (f ∷ F) σ)) (Back f F own) (Lost f F)
         (returned own (steps_meant p deepest js (f ∷ F) b M n body zero zero zero zero end_code (record σ { own = record { locals = os; room = m } })))
     run_ok body oks so rm it ar wk words os σ m given deep s le =
         let mach = machine p deepest js (f ∷ F) in
         let G = beside_state p deepest js (f ∷ F) σ in
         let σ1 : State = record σ { own = record { locals = os; room = m } } in
         let code = steps_emitted (layout_of p b) body zero zero zero zero end_code in
-        let a = begin_ok p deepest js (f ∷ F) b [] G (entry words) (block code exit_code) refl (λ x. refl) (λ x. refl) (λ x. refl) in
+        let a = begin_ok p deepest js (f ∷ F) b [] G (entry words) (block (block code left_code) exit_code) refl (λ x. refl) (λ x. refl) (λ x. refl) in
         let e = laid_begun b words a.next a.params a.answer a.hands a.numbers a.iterators a.arrays in
-        first mach M (1 + (a.steps + 1)) (steps_work body + (exit_work b + 3)) (begin_work b + (1 + (steps_work body + (exit_work b + 3)))) σ.turns _ (at js [] body_labels (laid b (begun words)) (f ∷ F) code G) (Back f F own) (Lost f F) _
+        first mach M (1 + (a.steps + 2)) (steps_work body + (exit_work b + 3)) (begin_work b + (2 + (steps_work body + (exit_work b + 3)))) σ.turns _ (at js [] body_labels (laid b (begun words)) (f ∷ F) code G) (Back f F own) (Lost f F) _
         (goes_from (ap (λ L. at js [] [] L (f ∷ F) (routine_body (layout_of p b) js body) G) (laid_entry b words (given.wide ∙ size)))
-        (then_goes (emptied_ok b (entry words) Answer tt refl)
-        (then_goes a.goes (goes_to (by_steps 1 refl) (ap (λ L. at js [] body_labels L (f ∷ F) code G) e))))) (let q = a.few in omega (arith, q))
+        (then_goes (set_ok b (entry words) Answer unanswered tt refl)
+        (then_goes a.goes (goes_to (by_steps 2 refl) (ap (λ L. at js [] body_labels L (f ∷ F) code G) e))))) (let q = a.few in omega (arith, q))
         (came (steps_work body) σ.turns _ (begun words) (steps_meant p deepest js (f ∷ F) b M n body zero zero zero zero end_code σ1)
         (oks true false zero zero zero zero end_code body_labels (begun words) σ1 so rm (omega (arith, it)) ar wk
         (record {

@@ -28,13 +28,13 @@ global_roomy ranges names g p h e = ap₂ (λ x y. x && not y) (global_there ran
 -- What may come into a global: back to where it was moved from, to the name that is assigned to, and to a name that has no number.
 
 pub comes_back : (ranges : ℕ) (ks : List Kind) (name : Option ℕ) (g : Globals) (p : Global) (new : Cell) →
-    may_come (suc (suc ranges)) ks name (global_of ranges (length ks) p) (has_global ranges (length ks) (with_global_at ranges (length ks) g p Gone) p) new ≡ true
+    may_come (suc (suc (suc ranges))) ks name (global_of ranges (length ks) p) (has_global ranges (length ks) (with_global_at ranges (length ks) g p Gone) p) new ≡ true
 comes_back ranges ks name g p new =
-    ap (λ c. may_come (suc (suc ranges)) ks name (global_of ranges (length ks) p) c new) (has_global_with ranges (length ks) g p Gone) ∙ or_right (is_word new) true refl
+    ap (λ c. may_come (suc (suc (suc ranges))) ks name (global_of ranges (length ks) p) c new) (has_global_with ranges (length ks) g p Gone) ∙ or_right (is_word new) true refl
 
-pub assigned_comes : (ranges : ℕ) (ks : List Kind) (i : ℕ) (old new : Cell) → may_come (suc (suc ranges)) ks (Some i) (handle_global ranges i) old new ≡ true
+pub assigned_comes : (ranges : ℕ) (ks : List Kind) (i : ℕ) (old new : Cell) → may_come (suc (suc (suc ranges))) ks (Some i) (handle_global ranges i) old new ≡ true
 assigned_comes ranges ks i old new =
-    let x : handle_global ranges i - suc (suc ranges) ≡ i + i = omega arith in
+    let x : handle_global ranges i - suc (suc (suc ranges)) ≡ i + i = omega arith in
     ap (λ z. is_word new || (is_gone old || (not (is_bare_handle ks z) || is_handle_of (Some i) z))) x
     ∙ or_right (is_word new) _ (or_right (is_gone old) _ (or_right (not (is_bare_handle ks (i + i))) _ (eq-eqb (i + i) (i + i) refl)))
 
@@ -46,9 +46,9 @@ bare_handle_is (k ∷ ks) (suc i) = ap (is_bare_handle (k ∷ ks)) (two i) ∙ b
     two : (i : ℕ) → suc i + suc i ≡ suc (suc (i + i))
     two i = omega arith
 
-pub boxed_comes : (ranges : ℕ) (ks : List Kind) (name : Option ℕ) (i : ℕ) (old new : Cell) → same_kind (kind_here ks i) Unboxed ≡ false → may_come (suc (suc ranges)) ks name (handle_global ranges i) old new ≡ true
+pub boxed_comes : (ranges : ℕ) (ks : List Kind) (name : Option ℕ) (i : ℕ) (old new : Cell) → same_kind (kind_here ks i) Unboxed ≡ false → may_come (suc (suc (suc ranges))) ks name (handle_global ranges i) old new ≡ true
 boxed_comes ranges ks name i old new e =
-    let x : handle_global ranges i - suc (suc ranges) ≡ i + i = omega arith in
+    let x : handle_global ranges i - suc (suc (suc ranges)) ≡ i + i = omega arith in
     ap (λ z. is_word new || (is_gone old || (not (is_bare_handle ks z) || is_handle_of name z))) x
     ∙ (ap (λ t. is_word new || (is_gone old || (not t || is_handle_of name (i + i)))) (bare_handle_is ks i ∙ e)
     ∙ or_right (is_word new) _ (or_right (is_gone old) true refl))

@@ -31,6 +31,7 @@ use Rattle.lower_model.proofs.State.{cells_of, host_of, gone}
 use Rattle.lower_model.proofs.Relation.{Fit, fit_hand, fit_less, fit_loose, fit_holds_none, Away}
 use Rattle.lower_model.proofs.Answers.{machine, beside_state}
 use Rattle.lower_model.proofs.Converting.{Converted, converted_ok}
+use Rattle.lower_model.proofs.Giving.{left_in, returned_ok}
 use Rattle.lower_model.proofs.Simulation.{work_of, context, meant, Done, ExprOk, room_one, still_stands}
 use Rattle.lower_model.proofs.StatementForms.{FlowFits, flows_on, ready, plain_meant, StepDone, StepOk}
 use Rattle.lower_model.proofs.Tidy.{begun_step}
@@ -51,10 +52,6 @@ marked f (suc i) c zero = refl
 marked f (suc i) c (suc j) = marked (λ x. f (suc x)) i c j
 
 module _ (p : Program) (deepest : Watch) (ks : List Kind) (F : List Frame) (b : Bases) (M n : ℕ) where
-  -- some steps, and the function is left
-  left_in : (w j m : ℕ) (c c1 : Conf) (P : Conf → Type 0) → Goes (machine p deepest ks F) j c c1 → j ≤ w → P c1 → Reaches (machine p deepest ks F) M w m c m P
-  left_in w j m c c1 P g le q = record { conf = c1; steps = j; goes = g.it; cost = record { down = omega arith; paid = omega arith; few = omega (arith, le) }; holds = q }
-
   pub break_step : StepOk p deepest ks F b M n Break
   unfolding step_emitted steps_emitted step_noted steps_noted stepped step_sorted steps_sorted
   break_step r lo u d bk ct k K l σ so rm it ar wk s =
@@ -81,14 +78,14 @@ module _ (p : Program) (deepest : Watch) (ks : List Kind) (F : List Frame) (b : 
   next_step r lo u d bk ct k K l σ so rm it ar wk s =
       let Q = Away p deepest ks F b d K in
       begun_step p deepest ks F b M n _ 3 4 u K l σ (StepDone p deepest ks F b M n lo u bk ct k K l) Q (plain_meant p deepest ks F b M n Next) (omega arith) s
-      (λ τ s1. left_in 3 2 τ.turns _ _ (Q Nexted τ) (leaves_by way_next d τ) (omega arith) (record { next = l; comes = refl; loose = fit_loose p deepest ks F 0 u 0 l τ s1.fit; answer = s1.fit.answer; after = (s1.fit.sound, fit_holds_none p deepest ks F u l τ s1.fit) }))
+      (λ τ s1. left_in p deepest ks F b M n 3 2 τ.turns _ _ (Q Nexted τ) (leaves_by way_next d τ) (omega arith) (record { next = l; comes = refl; loose = fit_loose p deepest ks F 0 u 0 l τ s1.fit; answer = s1.fit.answer; after = (s1.fit.sound, fit_holds_none p deepest ks F u l τ s1.fit) }))
 
   pub exit_step : StepOk p deepest ks F b M n Exit
   unfolding step_emitted steps_emitted step_noted steps_noted stepped step_sorted steps_sorted
   exit_step r lo u d bk ct k K l σ so rm it ar wk s =
       let Q = Away p deepest ks F b d K in
       begun_step p deepest ks F b M n _ 3 4 u K l σ (StepDone p deepest ks F b M n lo u bk ct k K l) Q (plain_meant p deepest ks F b M n Exit) (omega arith) s
-      (λ τ s1. left_in 3 2 τ.turns _ _ (Q Exited τ) (leaves_by way_exit d τ) (omega arith) (record { next = l; comes = refl; loose = fit_loose p deepest ks F 0 u 0 l τ s1.fit; answer = s1.fit.answer; after = (s1.fit.sound, fit_holds_none p deepest ks F u l τ s1.fit) }))
+      (λ τ s1. left_in p deepest ks F b M n 3 2 τ.turns _ _ (Q Exited τ) (leaves_by way_exit d τ) (omega arith) (record { next = l; comes = refl; loose = fit_loose p deepest ks F 0 u 0 l τ s1.fit; answer = s1.fit.answer; after = (s1.fit.sound, fit_holds_none p deepest ks F u l τ s1.fit) }))
 
   -- the status is told too
   exits_with : {k : Instructions} {K : List Label} → (d : ℕ) (l : Locals) (m : Number) (σ : State) → zero < b.temporaries → l.number zero ≡ Bits (I64 (number_word m)) →
@@ -119,7 +116,7 @@ module _ (p : Program) (deepest : Watch) (ks : List Kind) (F : List Frame) (b : 
       (then_settled mach M 16 4 20 _ τ C P Q (numbered f x) _ (omega arith)
       (converted_ok p deepest ks F b M f sort.Number x 1 u zero zero d k2 K h.next τ s1.0 (omega arith) (omega (arith, rm, r1)) h.fit (still_stands e f zero h.next x h.stands))
       (λ m c2 er a.
-      left_in 4 4 τ.turns c2 _ (Away p deepest ks F b d K Exited (with_status m τ)) (goes_from a.comes (exits_with d a.next m τ (omega (arith, rm, r1)) a.holds.1)) (omega arith)
+      left_in p deepest ks F b M n 4 4 τ.turns c2 _ (Away p deepest ks F b d K Exited (with_status m τ)) (goes_from a.comes (exits_with d a.next m τ (omega (arith, rm, r1)) a.holds.1)) (omega arith)
       (record {
         next = a.next;
         comes = refl;
@@ -128,40 +125,15 @@ module _ (p : Program) (deepest : Watch) (ks : List Kind) (F : List Frame) (b : 
         after = (record { room = a.fit.sound.room; names = a.fit.sound.names; calm = a.fit.sound.calm }, fit_holds_none p deepest ks F u a.next τ (fit_less p deepest ks F zero u zero a.next τ a.holds.0 a.fit));
       })))))
 
-  pub return_step : (e : Code) → ExprOk p deepest ks F b M n e → StepOk p deepest ks F b M n (Return e)
+  pub return_step : ((e : Code) → ExprOk p deepest ks F b M n e) → (e : Code) → StepOk p deepest ks F b M n (Return e)
   unfolding step_emitted steps_emitted step_noted steps_noted stepped step_sorted steps_sorted
-  return_step e ok r lo u d bk ct k K l σ0 so rm it ar wk st =
-      let mach = machine p deepest ks F in
-      let ctx = context p deepest ks F b M n in
-      let Q = Away p deepest ks F b d K in
-      let P = StepDone p deepest ks F b M n lo u bk ct k K l in
+  return_step oks e r lo u d bk ct k K l σ0 so rm it ar wk st =
       let f = form_of [] e in
-      let k2 = moved_out (handle_local b zero) (does (LocalSet (answer_local b)) (does (Br d) k)) in
-      let k1 = to_value b f zero k2 in
-      let s0 = and_parts r (fits f sort.Value && sorted ctx [] e) so in
-      let s1 = and_parts (fits f sort.Value) (sorted ctx [] e) s0.1 in
-      let r1 = room_one e in
-      begun_step p deepest ks F b M n _ (work_of e + 20) (30 + work_of e) u K l σ0 P Q (plain_meant p deepest ks F b M n (Return e)) (omega arith) st
-      (λ σ s. then_on mach M (work_of e) 20 (work_of e + 20) σ.turns _ (Done p deepest ks F b M n false e [] tt [] (λ i. There) zero u zero k1 K l σ) P Q (meant p deepest ks F b M n [] tt e σ) _ (omega arith)
-      (ok false [] tt [] (λ i. There) zero u zero d k1 K l σ s1.1 (λ i lt. absurd (omega (arith, lt))) (omega (arith, rm)) (omega (arith, ar)) (ready p deepest ks F b M n u K l σ s))
-      (λ x τ c1 le h.
-      let C = Converted p deepest ks F b M 1 u zero zero (Answered (answer.Of sort.Value)) k2 K h.next in
-      first mach M 0 20 20 τ.turns c1 _ P Q (go_on (settled (converted f sort.Value x) τ) (λ v. stop {A = Flow} (Returned v))) (record { it = h.comes }) (omega arith)
-      (then_settled mach M 16 4 20 _ τ C P Q (converted f sort.Value x) (λ v. stop (Returned v)) (omega arith)
-      (converted_ok p deepest ks F b M f sort.Value x 1 u zero zero d k2 K h.next τ s1.0 (omega arith) (omega (arith, rm, r1)) h.fit (still_stands e f zero h.next x h.stands))
-      (λ v c2 er a.
-      let l1 = with_at a.next (Hand zero) empty in
-      let f1 = fit_hand p deepest ks F zero 1 u zero a.next τ empty (inl refl) (omega arith) a.fit in
-      let lo1 = fit_loose p deepest ks F 1 u zero l1 τ f1 in
-      left_in 4 4 τ.turns c2 _ (Away p deepest ks F b d K (Returned v) τ)
-      (goes_from a.comes (then_goes (moved_out_ok b a.next (Hand zero) (Held v) (omega (arith, rm, r1)) a.holds.0) (then_goes (set_ok b l1 Answer (Held v) tt (ap is_owned a.fit.answer)) (by_steps 1 refl)))) (omega arith)
-      (record {
-        next = with_at l1 Answer (Held v);
-        comes = refl;
-        loose = record { params = lo1.params; hands = lo1.hands; numbers = lo1.numbers; walks = lo1.walks; yards = lo1.yards };
-        answer = refl;
-        after = a.fit.sound;
-      })))))
+      let P = StepDone p deepest ks F b M n lo u bk ct k K l in
+      let s0 = and_parts r (fits f sort.Value && sorted (context p deepest ks F b M n) [] e) so in
+      let s1 = and_parts (fits f sort.Value) (sorted (context p deepest ks F b M n) [] e) s0.1 in
+      begun_step p deepest ks F b M n _ (work_of e + 20) (30 + work_of e) u K l σ0 P (Away p deepest ks F b d K) (plain_meant p deepest ks F b M n (Return e)) (omega arith) st
+      (λ σ s. returned_ok p deepest ks F b M n oks e u d k K l σ P s1.0 s1.1 (omega (arith, rm)) (omega (arith, ar)) (ready p deepest ks F b M n u K l σ s))
 
   fit_range : (i : ℕ) (c : Bool) (t u w : ℕ) (l : Locals) (σ : State) → Fit p deepest ks F t u w l σ → Fit p deepest ks F t u w l (with_range i c σ)
   fit_range i c t u w l σ f = record { params = f.params; size = f.size; answer = f.answer; hands = f.hands; numbers = f.numbers; free = f.free; walks = f.walks; still = f.still; yards = f.yards; spare = f.spare; sound = record { room = f.sound.room; names = f.sound.names; calm = f.sound.calm } }
@@ -169,7 +141,7 @@ module _ (p : Program) (deepest : Watch) (ks : List Kind) (F : List Frame) (b : 
   range_written : (i : ℕ) (c : Bool) (σ : State) → placed p.ranges (length (kinds_of p.globals)) (with_global_at p.ranges (length (kinds_of p.globals)) (cells_of (kinds_of p.globals) 0 σ) (Range i) (Bits (I32 (flag_number c)))) ≡ placed p.ranges (length (kinds_of p.globals)) (cells_of (kinds_of p.globals) 0 (with_range i c σ))
   range_written i c σ =
       let g = cells_of (kinds_of p.globals) 0 σ in
-      ap (λ r. g.way ∷ (g.status ∷ (r ++ names_on p.ranges (length (kinds_of p.globals)) g)))
+      ap (λ r. g.way ∷ (g.status ∷ (g.text ∷ (r ++ names_on p.ranges (length (kinds_of p.globals)) g))))
       (cells_same (upd g.range i (Bits (I32 (flag_number c)))) (λ j. Bits (I32 (flag_number (changed σ.ranges i c j)))) p.ranges (λ j lt. marked σ.ranges i c j))
 
   pub mark_step : (i : ℕ) (c : Bool) → StepOk p deepest ks F b M n (Mark i c)

@@ -20,11 +20,12 @@ use Rattle.lower_model.proofs.Runs.{Goes, then_goes, stays, goes_from, first, th
 use Rattle.lower_model.proofs.Regions.{upd_same, upd_other}
 use Rattle.lower_model.proofs.Locals.{Locals, Hand, Number as NumberAt, with_at, laid}
 use Rattle.lower_model.proofs.Steps.{empty, set_ok, get_copied, moved_out_ok}
-use Rattle.lower_model.proofs.Relation.{IsHand, HoldsAt, hand_of, WordIs, LeftBy, hand_left, KeptAs, kept_same, Same, same_then, Fit, fit_less, fit_more, fit_hand, fit_number, Away}
+use Rattle.lower_model.proofs.State.{BareIs}
+use Rattle.lower_model.proofs.Relation.{IsHand, HoldsAt, WordIs, LeftBy, hand_left, KeptAs, kept_same, Same, same_then, Fit, fit_less, fit_more, fit_hand, fit_number, Away, holds_same}
 use Rattle.lower_model.proofs.Pieces.{drop_ok, let_go_hand}
 use Rattle.lower_model.proofs.Answers.{machine, beside_state}
 use Rattle.lower_model.proofs.Simulation.{work_of, gives_away, StandsAt, still_stands, layout, context, meant, Done, ExprOk, room_one, NoArray, walking_same}
-use Rattle.lower_model.proofs.Operands.{holds_same, well_before}
+use Rattle.lower_model.proofs.Operands.{well_before}
 use Rattle.lower_model.proofs.Arguments.{Under, under_self, under_keeps, under_same}
 use Rattle.lower_model.proofs.Converting.{Keeps, keeps_self, keeps_hand}
 
@@ -52,7 +53,7 @@ consed h st zero = h
 consed h st (suc i) = st i
 
 pub kept_left : (m : Standing) (f : Form) (t : ℕ) (l : Locals) (x : Holds f) → KeptAs m f t l x → LeftBy f (l.hand t)
-kept_left There f t l x q = hand_left f x (l.hand t) q.0
+kept_left There f t l x q = hand_left f t l x q
 kept_left Moved f t l x q = q
 kept_left Misused f t l x q = q
 
@@ -209,7 +210,7 @@ module _ (p : Program) (deepest : Watch) (ks : List Kind) (F : List Frame) (b : 
         steps = 5;
         few = omega arith;
         goes = then_goes (copied_ok s t l σ ls lt (ft.numbers s) (ft.numbers t)) (moved_ok s t l0 σ ls lt ne e);
-        holds = (upd_same l1.hand t (l.hand s) ∙ hd.0, upd_same l.number t (l.number s) ∙ hd.1);
+        holds = (hd.0, upd_same l.number t (l.number s) ∙ hd.1, subst (λ c. BareIs x hd.0 c) (sym (upd_same l1.hand t (l.hand s))) hd.2);
         hand = upd_other l1.hand t s (l.hand s) (λ z. ne (sym z)) ∙ upd_same l.hand s empty;
         hands = λ y ns nt. upd_other l1.hand t y (l.hand s) nt ∙ upd_other l.hand s y empty ns;
         numbers = λ y nt. upd_other l.number t y (l.number s) nt;
@@ -252,10 +253,10 @@ module _ (p : Program) (deepest : Watch) (ks : List Kind) (F : List Frame) (b : 
   released_ok f t k K l σ lt hd q = record { next = l; steps = 0; few = omega arith; goes = stays; hand = q; keeps = keeps_self t l; fit = λ q u w lq g. g }
 
   -- where a temporary is empty a move leaves nothing behind
-  pub left_empty : (f : Form) (x : Holds f) (c d : Cell) → c ≡ hand_of f x → d ≡ LeftHand f c → d ≡ empty
-  left_empty (Answered (answer.Of sort.Value)) x c d e q = q
-  left_empty Bare x c d e q = q
-  left_empty f x c d e q = q ∙ e
+  pub left_empty : (f : Form) (c d : Cell) → LeftBy f c → d ≡ LeftHand f c → d ≡ empty
+  left_empty (Answered (answer.Of sort.Value)) c d e q = q
+  left_empty Bare c d e q = q
+  left_empty f c d e q = q ∙ e
 
   pub record Closed (v : Bool) (c : Code) (g f : Form) (y : Holds f) (t u w : ℕ) (k : Instructions) (K : List Label) (l : Locals) (σ : State) : Type 0 where
     pub next : Locals
@@ -297,7 +298,7 @@ module _ (p : Program) (deepest : Watch) (ks : List Kind) (F : List Frame) (b : 
         steps = r.steps + m.steps;
         few = omega (arith, r.few, m.few);
         goes = then_goes r.goes m.goes;
-        fit = fit_less p deepest ks F (suc t) u w m.next σ (left_empty f y (r.next.hand (suc t)) (m.next.hand (suc t)) h1.0 m.hand) (m.fit (suc (suc t)) u w (omega arith) (omega arith) f1);
+        fit = fit_less p deepest ks F (suc t) u w m.next σ (left_empty f (r.next.hand (suc t)) (m.next.hand (suc t)) (hand_left f (suc t) r.next y h1) m.hand) (m.fit (suc (suc t)) u w (omega arith) (omega arith) f1);
         stands = m.holds;
         under = record {
           hands = λ z lz. m.hands z (λ e. omega (arith, e, lz)) (λ e. omega (arith, e, lz)) ∙ r.keeps.hands z (λ e. omega (arith, e, lz));

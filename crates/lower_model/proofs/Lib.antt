@@ -50,6 +50,7 @@ pub mod QuickIfs
 pub mod Jumping
 pub mod Loops
 pub mod Keys
+pub mod Giving
 pub mod Jumps
 pub mod Stepping
 pub mod Exits
@@ -74,6 +75,7 @@ pub mod AskingLines
 pub mod Announcing
 pub mod Starting
 pub mod Waiting
+pub mod Answering
 pub mod Calling
 pub mod Induction
 pub mod Recursion

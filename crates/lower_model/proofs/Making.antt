@@ -16,11 +16,10 @@ use Rattle.lower_model.proofs.Runs.{then_goes, stays, there, first, then_on}
 use Rattle.lower_model.proofs.Regions.{upd_same, upd_other}
 use Rattle.lower_model.proofs.Locals.{Locals, Array, laid, with_at}
 use Rattle.lower_model.proofs.Steps.{set_ok}
-use Rattle.lower_model.proofs.Relation.{Below, Kept, below_more, kept_same, outside_below, same_self, same_then, Fit, fit_array, fit_shared, Away}
+use Rattle.lower_model.proofs.Relation.{Below, Kept, below_more, kept_same, outside_below, same_self, same_then, Fit, fit_array, fit_shared, Away, holds_same}
 use Rattle.lower_model.proofs.Answers.{Reached, beside_state, machine, done_by, row_called}
 use Rattle.lower_model.proofs.HostCalls.{calm_after}
 use Rattle.lower_model.proofs.Leaves.{unset_there}
-use Rattle.lower_model.proofs.Operands.{holds_same}
 use Rattle.lower_model.proofs.Simulation.{work_of, works_of, meant, all_meant, context, layout, AllDone, CodesOk, Done}
 
 module _ (p : Program) (deepest : Watch) (ks : List Kind) (F : List Frame) (b : Bases) (M n : ℕ) where

@@ -1,5 +1,5 @@
 -- Operands: one after another, then converted, then pushed as the words of a call.
-use Rattle.std.proofs.Common.{◌≡◌, ℕ, suc, ◌<◌, ◌≤◌, Bool, true, false, List, refl, sym, ap, ◌∙◌, subst, arith}
+use Rattle.std.proofs.Common.{◌≡◌, ℕ, suc, ◌<◌, ◌≤◌, Bool, true, false, List, refl, sym, ap, ◌∙◌, arith}
 use Rattle.std.specs.Prelude.{if◌then◌else◌}
 use Rattle.std.proofs.lemmas.Bool.{and_parts}
 use Rattle.sem_primitives.specs.declared.sorts.Answer.TheVariants as answer
@@ -15,12 +15,9 @@ use Rattle.lower_model.specs.Places.{Bases}
 use Rattle.lower_model.proofs.Watch.{Watch}
 use Rattle.lower_model.proofs.Runs.{stays, there, first, then_on, weaker}
 use Rattle.lower_model.proofs.Locals.{Locals}
-use Rattle.lower_model.proofs.Relation.{HoldsAt, Meant, WordIs, outside_below, below_more, same_self, same_then, SameOwn, Away}
+use Rattle.lower_model.proofs.Relation.{Meant, holds_same, outside_below, below_more, same_self, same_then, SameOwn, Away}
 use Rattle.lower_model.proofs.Answers.{machine}
 use Rattle.lower_model.proofs.Simulation.{work_of, works_of, past, made_past, past_from, made_from, room_one, still_stands, layout, context, meant, all_meant, Done, ExprOk, AllHeld, AllDone, CodesOk, walking_same}
-
-pub holds_same : (f : Form) (t : ℕ) (l l1 : Locals) (x : Holds f) → l1.hand t ≡ l.hand t → l1.number t ≡ l.number t → HoldsAt f t l x → HoldsAt f t l1 x
-holds_same f t l l1 x e e1 q = (e ∙ q.0, subst (λ c. WordIs f x c) (sym e1) q.1)
 
 used_misused : (m : Bool) → used m Misused ≡ Misused
 used_misused true = refl

@@ -29,7 +29,7 @@ use Rattle.lower_model.proofs.Regions.{cells, cells_same, pairs_same}
 use Rattle.lower_model.proofs.Globals.{Way}
 use Rattle.lower_model.proofs.GlobalSteps.{global_copied, global_set_ok}
 use Rattle.lower_model.proofs.Locals.{Locals, laid}
-use Rattle.lower_model.proofs.Steps.{empty}
+use Rattle.lower_model.proofs.Steps.{empty, unanswered}
 use Rattle.lower_model.proofs.Calls.{called}
 use Rattle.lower_model.proofs.State.{cells_of, store_with}
 use Rattle.lower_model.proofs.Relation.{Loose, Sound, HoldsNone, Away, left_to}
@@ -81,7 +81,7 @@ module _ (p : Program) (deepest : Watch) (b : Bases) (M n : ℕ) where
     pub way : ℕ
     pub comes : c ≡ left_to why (br d [] K (laid b next) [] (store_with p.ranges (kinds_of p.globals) way (fault_kept why) σ)) (Deep (beside_state p deepest [] [] σ))
     pub loose : Loose p deepest [] [] next
-    pub answer : next.answer ≡ empty
+    pub answer : next.answer ≡ unanswered
     pub good : ForGood why
 
   -- what was left by `next` or by `exit` goes on once what it held is let go
@@ -92,7 +92,7 @@ module _ (p : Program) (deepest : Watch) (b : Bases) (M n : ℕ) where
     pub goes : Goes (machine p deepest [] []) steps (at [] [] K (laid b l) [] (goes_on (layout_of p b) k) (store_with p.ranges (kinds_of p.globals) way None σ)) (at [] [] K (laid b next) [] k (beside_state p deepest [] [] σ))
     pub starts : Starts p deepest [] [] b M n 0 K next σ
 
-  going : (way : ℕ) (K : List Label) (k : Instructions) (l : Locals) (σ : State) → zero ≡ b.parameters → loops_walked K ≡ 0 → Loose p deepest [] [] l → l.answer ≡ empty → Sound p deepest [] [] σ × HoldsNone p deepest [] [] l → length σ.own.locals ≡ 0 → σ.turns ≤ n → Going way K k l σ
+  going : (way : ℕ) (K : List Label) (k : Instructions) (l : Locals) (σ : State) → zero ≡ b.parameters → loops_walked K ≡ 0 → Loose p deepest [] [] l → l.answer ≡ unanswered → Sound p deepest [] [] σ × HoldsNone p deepest [] [] l → length σ.own.locals ≡ 0 → σ.turns ≤ n → Going way K k l σ
   going way K k l σ none walks lo an left size le =
       let G = beside_state p deepest [] [] σ in
       let a = left_sweep_ok p deepest [] [] b (calls_of p) K G l k lo left.1 in

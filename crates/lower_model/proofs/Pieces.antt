@@ -1,6 +1,6 @@
 -- Small pieces of emitted code: branches, tests, answers that are kept or that stand for a fault, and what is let go.
 use Rattle.std.proofs.Common.{◌≡◌, inl, inr, ℕ, ◌-◌, ◌^◌, ◌<◌, ◌≤◌, Bool, true, false, List, [], ◌∷◌, Some, None, Option, Result, Ok, refl, sym, ap, ◌∙◌, append-nil, arith}
-use Rattle.std.specs.Prelude.{nat_eq, cond}
+use Rattle.std.specs.Prelude.{nat_eq, cond, suc}
 use Rattle.std.specs.Int.{w32, w64, cast_signed, cast_unsigned}
 use Rattle.awk_values.specs.declared.fault.Fault.{Fault}
 use Rattle.awk_values.specs.declared.value.Value.{Value}
@@ -16,12 +16,13 @@ use Rattle.lower_model.specs.Cells.{Cell, Bits, Held, IteratorOf, OwnedArray, Le
 use Rattle.lower_model.specs.ImportCalls.{Host, call}
 use Rattle.lower_model.specs.Machine.{Code, Look, Label, Frame, Store, at, br, label, with_operands, push_word, looked_compared, go}
 use Rattle.lower_model.specs.Places.{Bases, number_local}
-use Rattle.lower_model.specs.Small.{does, ask, minus_one, least, moved_out, has_handle, either, let_go, number_is, kept_code, kept_value, kept_number, kept_done}
+use Rattle.lower_model.specs.Small.{does, ask, minus_one, least, text_beside, was_left, moved_out, has_handle, either, let_go, number_is, kept_code, kept_value, kept_number, kept_done, answer_kept, text_or_left, text_taken}
 use Rattle.host_imports.specs.declared.import.Import.{Import}
 use Rattle.host_imports.specs.declared.import.Import.TheVariants.{Drop, IterFree, FreeArray}
 use Rattle.lower_model.proofs.Runs.{Goes, then_goes, goes_to, by_steps}
+use Rattle.lower_model.proofs.Regions.{upd_same}
 use Rattle.lower_model.proofs.Locals.{Locals, Place, Hand, Number, local_of, IsPlace, has, with_at, has_with, laid, laid_at, laid_again, laid_twice}
-use Rattle.lower_model.proofs.Steps.{empty, get_moved, get_copied, set_ok, tee_ok, moved_out_ok}
+use Rattle.lower_model.proofs.Steps.{empty, unanswered, get_moved, get_copied, set_ok, tee_ok, moved_out_ok}
 use Rattle.lower_model.proofs.Calls.{called}
 use Rattle.lower_model.proofs.Relation.{IsHand, IsWalk, IsYard}
 
@@ -199,6 +200,16 @@ module _ {u : Code} {ks : List Kind} {F : List Frame} (b : Bases) where
   pub value_failed : {K : List Label} {c : Instructions} {G : Store} → (l : Locals) (t d : ℕ) → t < b.temporaries → is_owned (l.hand t) ≡ false →
       Goes u 3 (at ks (empty ∷ []) K (laid b l) F (kept_value b true t d c) G) (br d ks K (laid b (with_at l (Hand t) empty)) F G)
   value_failed l t d h o = then_goes (tee_ok b l (Hand t) empty h o) (by_steps 2 refl)
+
+  -- the word of a function that was left
+  pub answer_failed : {K : List Label} {c : Instructions} {G : Store} → (l : Locals) (t d : ℕ) → t < b.temporaries → is_owned (l.number t) ≡ false →
+      Goes u 9 (at ks (unanswered ∷ []) K (laid b l) F (answer_kept b t d c) G) (br d ks K (laid b (with_at l (Number t) unanswered)) F G)
+  answer_failed l t d h o =
+      let l1 = with_at l (Number t) unanswered in
+      let e = upd_same l.number t unanswered in
+      then_goes (then_goes (tee_ok b l (Number t) unanswered h o) (then_goes (by_steps 1 refl) (chooses (text_or_left b t d Done) Done 1)))
+      (then_goes (then_goes (number_is_ok l1 t was_left text_beside h e) (chooses (text_taken b t Done) (number_is (number_local b t) was_left (does (BrIf (suc (suc d))) Done)) 0))
+      (then_goes (number_is_ok l1 t was_left was_left h e) (by_steps 1 refl)))
 
   -- a number, which is not the least one
   pub number_kept : {K : List Label} {c : Instructions} {G : Store} → (l : Locals) (t d m : ℕ) → t < b.temporaries → is_owned (l.number t) ≡ false → nat_eq m least ≡ false →

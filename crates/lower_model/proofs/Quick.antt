@@ -14,8 +14,8 @@ use Rattle.sem_primitives.proofs.Words.{small, fits}
 use Rattle.mid_program.specs.Mid.{Code, Number, Get, Global}
 use Rattle.lower_model.specs.Quick.{name_in, constant_in}
 use Rattle.lower_model.specs.Small.{least, text_beside}
-use Rattle.lower_model.proofs.State.{bare}
-use Rattle.lower_model.proofs.Conversions.{BareIs, IsBeside, IsNone, IsNumber, bare_is}
+use Rattle.lower_model.proofs.State.{bare, BareOf, IsBeside, IsNone, IsNumber}
+use Rattle.lower_model.proofs.Conversions.{bare_is}
 use Rattle.lower_model.proofs.Products.{word, sum_word, mod_small, mod_once}
 
 -- The two words that are no number's are far from all numbers.
@@ -66,7 +66,7 @@ sure v q w hq hw e = by (bare_is v)
         let b = small m in
         absurd (omega (arith, l, ew, s, a, b, hq, hw))
 
-    by : BareIs v → Sure v q w
+    by : BareOf v → Sure v q w
     by (IsBeside eb eh) = absurd (no_mark text_beside eb (omega arith) (omega arith))
     by (IsNone ev eb eh) = absurd (no_mark least eb (omega arith) (omega arith))
     by (IsNumber m ev eb eh) =

@@ -50,11 +50,11 @@ use Rattle.lower_model.proofs.Locals.{Locals, laid}
 use Rattle.lower_model.proofs.Globals.{Number as NameNumber}
 use Rattle.lower_model.proofs.GlobalSteps.{global_copied}
 use Rattle.lower_model.proofs.Steps.{empty}
-use Rattle.lower_model.proofs.State.{bare, beside, bare_number, beside_number, cells_of, name_word}
+use Rattle.lower_model.proofs.State.{bare, beside, bare_number, beside_number, cells_of, name_word, BareOf, IsBeside, IsNone, IsNumber}
 use Rattle.lower_model.proofs.Relation.{Away}
 use Rattle.lower_model.proofs.Pieces.{chooses, closes}
 use Rattle.lower_model.proofs.Answers.{machine, beside_state, reply, after_reply, row_called, Reached}
-use Rattle.lower_model.proofs.Conversions.{BareIs, IsBeside, IsNone, IsNumber, bare_is, same_state, ask_to_num}
+use Rattle.lower_model.proofs.Conversions.{bare_is, same_state, ask_to_num}
 use Rattle.lower_model.proofs.Converting.{blocked, own_number}
 use Rattle.lower_model.proofs.Products.{word}
 use Rattle.lower_model.proofs.Written.{fit_global}
@@ -346,7 +346,7 @@ module _ (p : Program) (deepest : Watch) (ks : List Kind) (F : List Frame) (b : 
         (then_goes (goes_to (by_steps 1 refl) (ap (λ g. at ks (Bits (flag g) ∷ []) PK (laid b l) F (does (BrIf (suc out)) NoMore) PS) c)) w.2)))) (omega (arith, w1))
         (record { next = l; comes = refl; starts = s; iterators = λ y. refl }))
 
-    count_chosen : (q : Counted) → CountedIs e q → (f : Bool) → compare_at w64 LeS (bare (global_value q.name σ)) text_beside ≡ f → BareIs (global_value q.name σ) →
+    count_chosen : (q : Counted) → CountedIs e q → (f : Bool) → compare_at w64 LeS (bare (global_value q.name σ)) text_beside ≡ f → BareOf (global_value q.name σ) →
         Reached p deepest ks F b M (work_of e + 17) σ.turns (at ks [] PK (laid b l) F (cond (nat_eq (if f then 1 else 0) 0) (counted_left (layout p deepest ks F b M n) q (suc out) NoMore) pair_slow) PS) (Left out k K u l) (Away p deepest ks F b d K) (test_meant p deepest ks F b M n e σ)
     count_chosen q t true eq is = slow_way
     count_chosen q t false eq (IsBeside eb eh) = absurd (true≢false (sym (ap (λ y. compare_at w64 LeS y text_beside) eb) ∙ eq))

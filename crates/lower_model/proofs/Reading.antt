@@ -11,7 +11,7 @@ use Rattle.mid_program.specs.MidMeaning.{Holds, Env, evaluated, all_evaluated, h
 use Rattle.sem_scripts.specs.Names.{Numbered}
 use Rattle.sem_scripts.specs.ScriptState.{State, global_value, local_value}
 use Rattle.mid_program.specs.Sorted.{Held as Standing, There, Moved, Misused, used, same_number, sorted, all_sorted, held_after, is_well_used, has_kind, same_kind, kinds_of}
-use Rattle.lower_model.specs.Cells.{Cell, Held, is_owned}
+use Rattle.lower_model.specs.Cells.{Bits, Cell, Held, is_owned}
 use Rattle.lower_model.specs.Emission.{emitted, all_emitted}
 use Rattle.lower_model.specs.Machine.{Conf, Label, Frame, at, loops_walked}
 use Rattle.lower_model.specs.Places.{Bases}
@@ -22,14 +22,13 @@ use Rattle.lower_model.proofs.Regions.{upd_same, upd_other}
 use Rattle.lower_model.proofs.Locals.{Locals, Param, Hand, Number as NumberAt, local_of, with_at, laid}
 use Rattle.lower_model.proofs.Globals.{Hand as NameHand}
 use Rattle.lower_model.proofs.Steps.{empty}
-use Rattle.lower_model.proofs.State.{beside, kind_here, name_hand, arrays_before}
-use Rattle.lower_model.proofs.Relation.{HoldsAt, hand_of, WordIs, LeftBy, hand_left, KeptAs, Kept, kept_same, Below, Outside, same_self, Fit, fit_hand, fit_number, fit_more, Away}
+use Rattle.lower_model.proofs.State.{beside, kind_here, name_hand, arrays_before, BareIs, IsBeside, IsNone, IsNumber}
+use Rattle.lower_model.proofs.Relation.{HoldsAt, hand_of, WordIs, LeftBy, hand_left, KeptAs, Kept, kept_same, Below, Outside, same_self, Fit, fit_hand, fit_number, fit_more, Away, holds_same}
 use Rattle.lower_model.proofs.Answers.{machine, beside_state, put_value}
-use Rattle.lower_model.proofs.Conversions.{BareIs, IsBeside, IsNone, IsNumber, bare_is}
+use Rattle.lower_model.proofs.Conversions.{bare_is}
 use Rattle.lower_model.proofs.Copies.{copied_local, copied_global, if_any_local, if_none_local}
 use Rattle.lower_model.proofs.Simulation.{Done, ExprOk, Ready, plain_stands}
 use Rattle.lower_model.proofs.Expressions.{put_done}
-use Rattle.lower_model.proofs.Operands.{holds_same}
 use Rattle.lower_model.proofs.Keeping.{moved_from_ok, LeftHand, copied_ok}
 
 pub kind_below : (kinds : List Kind) (i : ℕ) (k : Kind) → has_kind kinds i k ≡ true → i < length kinds
@@ -121,10 +120,10 @@ module _ (p : Program) (deepest : Watch) (ks : List Kind) (F : List Frame) (b : 
   kept_lengths (f ∷ fs) [] st l env k = absurd k
   kept_lengths (f ∷ fs) (s ∷ ts) st l env k = ap suc (kept_lengths fs ts (λ j. st (suc j)) l env.1 k.1)
 
-  moved_left : (f : Form) (x : Holds f) (c d : Cell) → c ≡ hand_of f x → d ≡ LeftHand f c → LeftBy f d
-  moved_left (Answered (answer.Of sort.Value)) x c d e q = tt
-  moved_left Bare x c d e q = tt
-  moved_left f x c d e q = q ∙ e
+  moved_left : (f : Form) (c d : Cell) → LeftBy f c → d ≡ LeftHand f c → LeftBy f d
+  moved_left (Answered (answer.Of sort.Value)) c d e q = tt
+  moved_left Bare c d e q = tt
+  moved_left f c d e q = q ∙ e
 
   -- where nobody asks for the answer nothing is done
   left_alone : (m : Bool) (i : ℕ) (fs : List Form) (env : Env fs) (ts : List ℕ) (st : ℕ → Standing) (t u w : ℕ) (k : Instructions) (K : List Label) (l : Locals) (σ : State) → Ready p deepest ks F b M n fs env ts st t u w (loops_walked K) l σ →
@@ -151,7 +150,7 @@ module _ (p : Program) (deepest : Watch) (ks : List Kind) (F : List Frame) (b : 
       let x = held fs env i in
       let hd : HoldsAt f s l x = subst (λ m. KeptAs m f s l x) (bound_there true i (st i) (us i lt)) ka.0 in
       there (machine p deepest ks F) M 20 0 _ _ x σ (Done p deepest ks F b M n true (Bound true i) fs env ts st t u w k K l σ) (Away p deepest ks F b d K) stays (omega arith)
-      (left_alone true i fs env ts st t u w k K l σ rd (kept_moved fs ts st l l env t i rd.below lt (λ y ly ne. refl) (λ y ly. refl) (hand_left f x (l.hand s) hd.0) rd.kept))
+      (left_alone true i fs env ts st t u w k K l σ rd (kept_moved fs ts st l l env t i rd.below lt (λ y ly ne. refl) (λ y ly. refl) (hand_left f s l x hd) rd.kept))
   moves_expr i false fs env ts st t u w d k K l σ so us rm ar rd =
       let lt = ltb-true i (length fs) so in
       let s = get_or ts i zero in
@@ -174,7 +173,7 @@ module _ (p : Program) (deepest : Watch) (ks : List Kind) (F : List Frame) (b : 
           arrays = λ y ly. m.arrays y;
         };
         own = λ j q. refl;
-        kept = kept_moved fs ts st l m.next env t i rd.below lt (λ y ly ne. m.hands y ne (λ e. omega (arith, e, ly))) (λ y ly. m.numbers y (λ e. omega (arith, e, ly))) (moved_left f x (l.hand s) (m.next.hand s) hd.0 m.hand) rd.kept;
+        kept = kept_moved fs ts st l m.next env t i rd.below lt (λ y ly ne. m.hands y ne (λ e. omega (arith, e, ly))) (λ y ly. m.numbers y (λ e. omega (arith, e, ly))) (moved_left f (l.hand s) (m.next.hand s) (hand_left f s l x hd) m.hand) rd.kept;
         stands = m.holds;
         meant = plain_stands p deepest ks F b M n f x (Numbered zero) σ (rd.plain i);
       })
@@ -196,7 +195,7 @@ module _ (p : Program) (deepest : Watch) (ks : List Kind) (F : List Frame) (b : 
   hands_apart : (s t : ℕ) → t ≢ s → local_of b (Hand s) ≢ local_of b (Hand t)
   hands_apart s t ne e = ne (omega (arith, e))
 
-  none_copied : (x : Value) (s t u w q0 : ℕ) (k : Instructions) (K : List Label) (l : Locals) (σ : State) → s < b.temporaries → t < b.temporaries → Fit p deepest ks F q0 u w l σ → HoldsAt Bare s l x → l.hand t ≡ empty → beside x ≡ empty →
+  none_copied : (x : Value) (s t u w q0 : ℕ) (k : Instructions) (K : List Label) (l : Locals) (σ : State) → s < b.temporaries → t < b.temporaries → Fit p deepest ks F q0 u w l σ → (hd : HoldsAt Bare s l x) → l.hand t ≡ empty → l.hand s ≡ empty →
       CopiedTo s t Bare k K l x σ (at ks [] K (laid b l) F (copied_from b Bare s t k) (beside_state p deepest ks F σ))
   none_copied x s t u w q0 k K l σ ls lt ft hd e eh =
       let l0 = with_at l (NumberAt t) (l.number s) in
@@ -204,8 +203,8 @@ module _ (p : Program) (deepest : Watch) (ks : List Kind) (F : List Frame) (b : 
         next = l0;
         steps = 7;
         few = omega arith;
-        goes = then_goes (copied_ok p deepest ks F b M n s t l σ ls lt (ft.numbers s) (ft.numbers t)) (if_none_local p deepest ks F b l0 (Hand s) t σ ls lt (hd.0 ∙ eh) e);
-        holds = (e ∙ sym eh, upd_same l.number t (l.number s) ∙ hd.1);
+        goes = then_goes (copied_ok p deepest ks F b M n s t l σ ls lt (ft.numbers s) (ft.numbers t)) (if_none_local p deepest ks F b l0 (Hand s) t σ ls lt eh e);
+        holds = (hd.0, upd_same l.number t (l.number s) ∙ hd.1, subst (λ c. BareIs x hd.0 c) (eh ∙ sym e) hd.2);
         hands = λ y nt. refl;
         numbers = λ y nt. upd_other l.number t y (l.number s) nt;
         iterators = λ y. refl;
@@ -213,24 +212,24 @@ module _ (p : Program) (deepest : Watch) (ks : List Kind) (F : List Frame) (b : 
         fit = λ q u1 w1 lq g. fit_number p deepest ks F t q u1 w1 l σ (l.number s) (ft.numbers s) g;
       }
 
-  bare_copied : (x : Value) (s t u w q0 : ℕ) (k : Instructions) (K : List Label) (l : Locals) (σ : State) → s < b.temporaries → t < b.temporaries → t ≢ s → Fit p deepest ks F q0 u w l σ → HoldsAt Bare s l x → l.hand t ≡ empty → BareIs x →
+  bare_copied : (x : Value) (s t u w q0 : ℕ) (k : Instructions) (K : List Label) (l : Locals) (σ : State) → s < b.temporaries → t < b.temporaries → t ≢ s → Fit p deepest ks F q0 u w l σ → (m : ℕ) → l.number s ≡ Bits (I64 m) → l.hand t ≡ empty → BareIs x m (l.hand s) →
       CopiedTo s t Bare k K l x σ (at ks [] K (laid b l) F (copied_from b Bare s t k) (beside_state p deepest ks F σ))
-  bare_copied x s t u w q0 k K l σ ls lt ne ft hd e (IsBeside eb eh) =
+  bare_copied x s t u w q0 k K l σ ls lt ne ft m en e (IsBeside eb eh) =
       let l0 = with_at l (NumberAt t) (l.number s) in
       record {
         next = with_at l0 (Hand t) (Held x);
         steps = 11;
         few = omega arith;
-        goes = then_goes (copied_ok p deepest ks F b M n s t l σ ls lt (ft.numbers s) (ft.numbers t)) (if_any_local p deepest ks F b l0 (Hand s) t x σ ls lt (hands_apart s t ne) (hd.0 ∙ eh) (ap is_owned e));
-        holds = (upd_same l.hand t (Held x) ∙ sym eh, upd_same l.number t (l.number s) ∙ hd.1);
+        goes = then_goes (copied_ok p deepest ks F b M n s t l σ ls lt (ft.numbers s) (ft.numbers t)) (if_any_local p deepest ks F b l0 (Hand s) t x σ ls lt (hands_apart s t ne) eh (ap is_owned e));
+        holds = (m, upd_same l.number t (l.number s) ∙ en, IsBeside eb (upd_same l.hand t (Held x)));
         hands = λ y nt. upd_other l.hand t y (Held x) nt;
         numbers = λ y nt. upd_other l.number t y (l.number s) nt;
         iterators = λ y. refl;
         arrays = λ y. refl;
         fit = λ q u1 w1 lq g. fit_hand p deepest ks F t q u1 w1 l0 σ (Held x) (inr (x, refl)) lq (fit_number p deepest ks F t q u1 w1 l σ (l.number s) (ft.numbers s) g);
       }
-  bare_copied x s t u w q0 k K l σ ls lt ne ft hd e (IsNone q eb eh) = none_copied x s t u w q0 k K l σ ls lt ft hd e eh
-  bare_copied x s t u w q0 k K l σ ls lt ne ft hd e (IsNumber m q eb eh) = none_copied x s t u w q0 k K l σ ls lt ft hd e eh
+  bare_copied x s t u w q0 k K l σ ls lt ne ft m en e (IsNone q eb eh) = none_copied x s t u w q0 k K l σ ls lt ft (m, en, IsNone q eb eh) e eh
+  bare_copied x s t u w q0 k K l σ ls lt ne ft m en e (IsNumber z q eb eh) = none_copied x s t u w q0 k K l σ ls lt ft (m, en, IsNumber z q eb eh) e eh
 
   copied_from_ok : (f : Form) (x : Holds f) (s t u w q0 : ℕ) (k : Instructions) (K : List Label) (l : Locals) (σ : State) → s < b.temporaries → t < b.temporaries → t ≢ s → Fit p deepest ks F q0 u w l σ → HoldsAt f s l x → l.hand t ≡ empty →
       CopiedTo s t f k K l x σ (at ks [] K (laid b l) F (copied_from b f s t k) (beside_state p deepest ks F σ))
@@ -246,7 +245,7 @@ module _ (p : Program) (deepest : Watch) (ks : List Kind) (F : List Frame) (b : 
     arrays = λ y. refl;
     fit = λ q u1 w1 lq g. fit_hand p deepest ks F t q u1 w1 l σ (Held x) (inr (x, refl)) lq g;
   }
-  copied_from_ok Bare x s t u w q0 k K l σ ls lt ne ft hd e = bare_copied x s t u w q0 k K l σ ls lt ne ft hd e (bare_is x)
+  copied_from_ok Bare x s t u w q0 k K l σ ls lt ne ft hd e = bare_copied x s t u w q0 k K l σ ls lt ne ft hd.0 hd.1 e hd.2
   copied_from_ok g x s t u w q0 k K l σ ls lt ne ft hd e = record {
     next = with_at l (NumberAt t) (l.number s);
     steps = 2;

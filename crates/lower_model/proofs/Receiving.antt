@@ -35,12 +35,11 @@ use Rattle.lower_model.proofs.Runs.{Goes, then_goes, goes_to, goes_from, by_step
 use Rattle.lower_model.proofs.Regions.{upd_same, upd_other}
 use Rattle.lower_model.proofs.Locals.{Locals, Hand, Number as NumberAt, with_at, laid}
 use Rattle.lower_model.proofs.Steps.{empty, get_copied, set_ok}
-use Rattle.lower_model.proofs.Relation.{HoldsAt, Kept, kept_same, Below, below_more, outside_below, Same, same_self, same_then, Calm, Fit, fit_shared, fit_less, fit_hand, fit_more, SameOwn, Away}
+use Rattle.lower_model.proofs.Relation.{HoldsAt, Kept, kept_same, Below, below_more, outside_below, Same, same_self, same_then, Calm, Fit, fit_shared, fit_less, fit_hand, fit_more, SameOwn, Away, holds_same}
 use Rattle.lower_model.proofs.Pieces.{chooses, closes, number_is_ok, let_go_hand}
 use Rattle.lower_model.proofs.Answers.{machine, beside_state, row_called, done_by, Reached}
 use Rattle.lower_model.proofs.Converting.{Converted, converted_ok, blocked}
 use Rattle.lower_model.proofs.HostCalls.{calm_after}
-use Rattle.lower_model.proofs.Operands.{holds_same}
 use Rattle.lower_model.proofs.InputLaws.{LineAt}
 use Rattle.lower_model.proofs.Arguments.{under_same, under_keeps}
 use Rattle.lower_model.proofs.Choosing.{zero_word, kept_left_way, kept_right_way}

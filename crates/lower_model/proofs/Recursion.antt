@@ -113,7 +113,7 @@ module _ (p : Program) (deepest : Watch) where
         Arrives (machine p deepest ks F) M w l c (Back p deepest (function.waiting ks K L k) F σ.own) (Lost p deepest (function.waiting ks K L k) F) r →
         Arrives (machine p deepest ks F) M w l c (CameBack p deepest ks F b M n K L k σ) (LeftCall p deepest ks F b M n K L k) r
     came_back K L k σ w l c (Gives v τ) e a =
-        record { conf = a.conf; steps = a.steps; goes = a.goes; cost = a.cost; holds = let q = a.holds in record { comes = q.comes; sound = q.sound; own = q.own } }
+        record { conf = a.conf; steps = a.steps; goes = a.goes; cost = a.cost; holds = let q = a.holds in record { word = q.word; text = q.text; is = q.is; comes = q.comes; sound = q.sound; own = q.own } }
     came_back K L k σ w l c (Stops (Returned v) τ) e a = absurd e
     came_back K L k σ w l c (Stops OutOfTurns τ) e a = a
     came_back K L k σ w l c (Stops (Faulted x) τ) e a = lost K L k (Faulted x) tt τ w l c a

@@ -26,8 +26,8 @@ use Rattle.lower_model.proofs.HostLaws.{Few}
 use Rattle.lower_model.proofs.Watch.{Watch}
 use Rattle.lower_model.proofs.Regions.{upd_other, upd_all}
 use Rattle.lower_model.proofs.Locals.{Locals, Hand, Number as NumberAt, Array, with_at, laid}
-use Rattle.lower_model.proofs.Steps.{empty}
-use Rattle.lower_model.proofs.State.{bare, beside, perhaps, store, gone}
+use Rattle.lower_model.proofs.Steps.{empty, unanswered}
+use Rattle.lower_model.proofs.State.{bare, beside, BareIs, AnswerIs, perhaps, store, answering, gone}
 
 -- A local for a handle has one or -1, so do those for iterators and for arrays of calls.
 
@@ -44,7 +44,6 @@ IsYard c = (c ≡ empty) ⊎ ((a : ℕ) × (c ≡ OwnedArray a))
 
 abbrev pub hand_of : (f : Form) → Holds f → Cell
 hand_of (Answered (answer.Of sort.Value)) x = Held x
-hand_of Bare x = beside x
 hand_of _ x = empty
 
 abbrev pub WordIs : (f : Form) → Holds f → Cell → Type 0
@@ -52,12 +51,19 @@ WordIs (Answered (answer.Of sort.Number)) x c = c ≡ Bits (I64 (number_word x))
 WordIs (Answered answer.Truth) x c = c ≡ Bits (I64 (flag_number x))
 WordIs (Answered answer.Input) x c = c ≡ Bits (I64 (input_code x))
 WordIs (Answered answer.Stream) x c = c ≡ Bits (I64 (stream_code x))
-WordIs Bare x c = c ≡ Bits (I64 (bare x))
 WordIs Perhaps x c = c ≡ Bits (I64 (perhaps x))
 WordIs f x c = Unit {0}
 
+-- a handle and a word are what there is
+abbrev pub HoldsBy : (f : Form) → Holds f → Cell → Cell → Type 0
+HoldsBy Bare x c d = (m : ℕ) × (d ≡ Bits (I64 m)) × BareIs x m c
+HoldsBy f x c d = (c ≡ hand_of f x) × WordIs f x d
+
 abbrev pub HoldsAt : (f : Form) → ℕ → Locals → Holds f → Type 0
-HoldsAt f t l x = (l.hand t ≡ hand_of f x) × WordIs f x (l.number t)
+HoldsAt f t l x = HoldsBy f x (l.hand t) (l.number t)
+
+pub holds_same : (f : Form) (t : ℕ) (l l1 : Locals) (x : Holds f) → l1.hand t ≡ l.hand t → l1.number t ≡ l.number t → HoldsAt f t l x → HoldsAt f t l1 x
+holds_same f t l l1 x e e1 q = subst (λ c. HoldsBy f x c (l1.number t)) (sym e) (subst (λ d. HoldsBy f x (l.hand t) d) (sym e1) q)
 
 -- the number of an array of this name
 abbrev pub array_at : ArrayName → State → ℕ
@@ -72,10 +78,10 @@ LeftBy (Answered (answer.Of sort.Value)) c = Unit {0}
 LeftBy Bare c = Unit {0}
 LeftBy f c = c ≡ empty
 
-pub hand_left : (f : Form) (x : Holds f) (c : Cell) → c ≡ hand_of f x → LeftBy f c
-hand_left (Answered (answer.Of sort.Value)) x c e = tt
-hand_left Bare x c e = tt
-hand_left _ x c e = e
+pub hand_left : (f : Form) (t : ℕ) (l : Locals) (x : Holds f) → HoldsAt f t l x → LeftBy f (l.hand t)
+hand_left (Answered (answer.Of sort.Value)) t l x q = tt
+hand_left Bare t l x q = tt
+hand_left _ t l x q = q.0
 
 abbrev pub KeptAs : Standing → (f : Form) → ℕ → Locals → Holds f → Type 0
 KeptAs There f t l x = HoldsAt f t l x
@@ -138,7 +144,7 @@ kept_same (f ∷ fs) (s ∷ ts) st l l1 env t bl h n k =
     (one (st zero) k.0, kept_same fs ts (λ i. st (suc i)) l l1 env.1 s bl.1 (λ x lt. h x (omega (arith, lt, bl.0))) (λ x lt. n x (omega (arith, lt, bl.0))) k.1)
   where
     one : (m : Standing) → KeptAs m f s l env.0 → KeptAs m f s l1 env.0
-    one There q = (h s bl.0 ∙ q.0, subst (λ c. WordIs f env.0 c) (sym (n s bl.0)) q.1)
+    one There q = holds_same f s l l1 env.0 (h s bl.0) (n s bl.0) q
     one Moved q = subst (LeftBy f) (sym (h s bl.0)) q
     one Misused q = subst (LeftBy f) (sym (h s bl.0)) q
 
@@ -161,10 +167,6 @@ pub record Calm (p : Program) (sh : Shared) : Type 0 where
   pub pending : sh.inner.pending ≡ None
   pub names : sh.inner.names ≡ globals_told p.globals (routines_told p.routines)
   pub few : Few sh.inner
-
-abbrev pub answer_of : Stop → Cell
-answer_of (Returned v) = Held v
-answer_of _ = empty
 
 abbrev pub left_to : Stop → Conf → Conf → Conf
 left_to TooDeep away deep = deep
@@ -212,7 +214,7 @@ module _ (p : Program) (deepest : Watch) (ks : List Kind) (F : List Frame) where
   pub record Fit (t u w : ℕ) (l : Locals) (σ : State) : Type 0 where
     pub params : (i : ℕ) (k : Kind) → has_kind ks i k ≡ true → ParamIs k (get_or σ.own.locals i (Scalar Uninit)) (l.param i)
     pub size : length σ.own.locals ≡ length ks
-    pub answer : l.answer ≡ empty
+    pub answer : l.answer ≡ unanswered
     pub hands : (x : ℕ) → IsHand (l.hand x)
     pub numbers : (x : ℕ) → is_owned (l.number x) ≡ false
     pub free : (x : ℕ) → t ≤ x → l.hand x ≡ empty
@@ -354,13 +356,42 @@ module _ (p : Program) (deepest : Watch) (ks : List Kind) (F : List Frame) where
 
   module _ (b : Bases) where
     -- a function is left: whatever is held is in locals that its exit looks at
-    pub record Away (d : ℕ) (K : List Label) (why : Stop) (σ : State) (c : Conf) : Type 0 where
+    pub record WasLeft (d : ℕ) (K : List Label) (why : Stop) (σ : State) (c : Conf) : Type 0 where
       pub next : Locals
       pub comes : c ≡ left_to why (br d ks K (laid b next) F (gone p.ranges (kinds_of p.globals) why σ)) (Deep (store p.ranges (kinds_of p.globals) σ))
       pub loose : Loose next
-      pub answer : next.answer ≡ answer_of why
+      pub answer : next.answer ≡ unanswered
       pub after : StopLeaves why next σ
+
+    -- a function returns: it holds iterators alone, and its exit is one label further out
+    pub record Returns (d : ℕ) (K : List Label) (v : AnyValue) (σ : State) (c : Conf) : Type 0 where
+      pub next : Locals
+      pub word : ℕ
+      pub text : Cell
+      pub is : AnswerIs v word text
+      pub comes : c ≡ br (suc d) ks K (laid b next) F (answering p.ranges (kinds_of p.globals) text σ)
+      pub loose : Loose next
+      pub hands : (x : ℕ) → next.hand x ≡ empty
+      pub arrays : (x : ℕ) → next.array x ≡ empty
+      pub answer : next.answer ≡ Bits (I64 word)
+      pub after : Sound σ
+
+    abbrev pub Away : (d : ℕ) (K : List Label) (why : Stop) (σ : State) (c : Conf) → Type 0
+    Away d K (Returned v) σ c = Returns d K v σ c
+    Away d K why σ c = WasLeft d K why σ c
 
     -- out of a block
     pub away_out : (d : ℕ) (x : Label) (K : List Label) (why : Stop) (σ : State) (c : Conf) → Away (suc d) (x ∷ K) why σ c → Away d K why σ c
+    away_out d x K (Returned v) σ c a = record {
+      next = a.next;
+      word = a.word;
+      text = a.text;
+      is = a.is;
+      comes = a.comes;
+      loose = a.loose;
+      hands = a.hands;
+      arrays = a.arrays;
+      answer = a.answer;
+      after = a.after;
+    }
     away_out d x K why σ c a = record { next = a.next; comes = a.comes; loose = a.loose; answer = a.answer; after = a.after }

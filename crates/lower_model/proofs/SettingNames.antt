@@ -31,10 +31,10 @@ use Rattle.lower_model.proofs.Globals.{Globals, Hand as NameHand, Number as Name
 use Rattle.lower_model.proofs.Steps.{empty, get_moved, get_copied, set_ok}
 use Rattle.lower_model.proofs.GlobalSteps.{storing, while_assigning, comes_back, global_moved, global_copied, global_set_ok}
 use Rattle.lower_model.proofs.Pieces.{chooses, closes, drop_ok}
-use Rattle.lower_model.proofs.State.{bare, beside, bare_number, beside_number, cells_of, host_of, kind_here, arrays_before, name_hand, name_word, word_not_beside}
+use Rattle.lower_model.proofs.State.{bare, beside, bare_number, beside_number, cells_of, host_of, kind_here, arrays_before, name_hand, name_word, word_not_beside, BareOf, IsBeside, IsNone, IsNumber}
 use Rattle.lower_model.proofs.Relation.{HoldsAt, Below, kept_same, Same, same_self, same_hand, same_then, Fit, SameOwn, Away}
 use Rattle.lower_model.proofs.Answers.{machine, beside_state, Reached}
-use Rattle.lower_model.proofs.Conversions.{BareIs, IsBeside, IsNone, IsNumber, bare_is}
+use Rattle.lower_model.proofs.Conversions.{bare_is}
 use Rattle.lower_model.proofs.Storing.{handed, handed_stands, handed_fit, stored_ok}
 use Rattle.lower_model.proofs.Written.{fit_global, global_written}
 use Rattle.lower_model.proofs.Setting.{number_of_form, number_boxed, number_held, number_plain, fit_param, kinds_apart, stands_number}
@@ -165,7 +165,7 @@ module _ (p : Program) (deepest : Watch) (ks : List Kind) (F : List Frame) (b : 
             (then_goes (chooses (dropping i) NoMore 0) (goes_to closes (ap (λ m. at ks [] K (laid b l) F k (while_assigning name (storing m (host_of σ None)))) (sym (placed_again p.ranges nn (globals_at σ) (NameHand i) empty li hand)))));
       }
 
-  pub text_dropped_ok : (name : Option ℕ) (i : ℕ) (k : Instructions) (K : List Label) (l : Locals) (σ : State) → has_kind kinds i Unboxed ≡ true → BareIs (global_value i σ) → TextGone name i k K l σ
+  pub text_dropped_ok : (name : Option ℕ) (i : ℕ) (k : Instructions) (K : List Label) (l : Locals) (σ : State) → has_kind kinds i Unboxed ≡ true → BareOf (global_value i σ) → TextGone name i k K l σ
   text_dropped_ok name i k K l σ hk (IsBeside eb eh) =
       let nn = length kinds in
       let li = kind_below kinds i Unboxed hk in

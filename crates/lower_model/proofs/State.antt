@@ -13,12 +13,12 @@ use Rattle.sem_primitives.proofs.Words.{word_no_fault, small, fits, number_again
 use Rattle.wasm_store.specs.declared.word.Word.TheVariants.{I32, I64}
 use Rattle.mid_program.specs.Mid.{Kind, Boxed, Unboxed, Many}
 use Rattle.sem_scripts.specs.ScriptState.{State, Stop, Faulted, OutOfTurns, TooDeep, Nexted, Exited, Returned, global_value}
-use Rattle.lower_model.specs.Cells.{Cell, Bits, Held, OwnedArray}
+use Rattle.lower_model.specs.Cells.{Cell, Bits, Held, OwnedArray, Gone}
 use Rattle.lower_model.specs.ImportCalls.{Host}
 use Rattle.lower_model.specs.Machine.{Store}
 use Rattle.lower_model.specs.Small.{least, text_beside}
 use Rattle.lower_model.specs.Statements.{way_none, way_next, way_exit}
-use Rattle.lower_model.proofs.Globals.{Globals, placed}
+use Rattle.lower_model.proofs.Globals.{Globals, Text, placed, with_global_at}
 use Rattle.lower_model.proofs.Steps.{empty}
 
 -- What an unboxed name has: its number's word, and the text beside it. A number out of range would stand beside too; there is none.
@@ -42,6 +42,22 @@ beside value.Uninit = empty
 beside (value.Num z) = unless_number (value.Num z) (number_of z)
 beside (value.Text s) = Held (value.Text s)
 beside (value.StrNum s) = Held (value.StrNum s)
+
+-- What a word and a handle beside it stand for: a value that the handle has, nothing yet, or a number.
+pub data BareIs (v : Value) (m : ℕ) (c : Cell) : Type 0 where
+  IsBeside : m ≡ text_beside → c ≡ Held v → BareIs v m c
+  IsNone : v ≡ value.Uninit → m ≡ least → c ≡ empty → BareIs v m c
+  IsNumber : (x : Number) → v ≡ value.Num x.number → m ≡ number_word x → c ≡ empty → BareIs v m c
+
+-- what an unboxed name has
+abbrev pub BareOf : Value → Type 0
+BareOf v = BareIs v (bare v) (beside v)
+
+-- what the word of a function's answer stands for, where this is in the global for a text that is returned
+pub data AnswerIs (v : Value) (m : ℕ) (text : Cell) : Type 0 where
+  TextWaits : m ≡ text_beside → text ≡ Held v → AnswerIs v m text
+  Nothing : v ≡ value.Uninit → m ≡ least → text ≡ Gone → AnswerIs v m text
+  ANumber : (x : Number) → v ≡ value.Num x.number → m ≡ number_word x → text ≡ Gone → AnswerIs v m text
 
 abbrev pub perhaps : Option Number → ℕ
 perhaps (Some n) = number_word n
@@ -89,6 +105,7 @@ abbrev pub cells_of : List Kind → (way : ℕ) → State → Globals
 cells_of kinds way σ = record {
   way = Bits (I32 way);
   status = Bits (I64 (number_word σ.status));
+  text = Gone;
   range = λ i. Bits (I32 (flag_number (σ.ranges i)));
   hand = λ i. name_hand (kind_here kinds i) (suc (suc (arrays_before kinds i))) (global_value i σ);
   number = λ i. Bits (I64 (name_word (kind_here kinds i) (global_value i σ)));
@@ -100,6 +117,10 @@ host_of σ fault = record { shared = σ.shared; arguments = []; fault = fault }
 module _ (ranges : ℕ) (kinds : List Kind) where
   abbrev pub store_with : (way : ℕ) → Option Fault → State → Store
   store_with way fault σ = record { globals = placed ranges (length kinds) (cells_of kinds way σ); host = host_of σ fault; assigning = None }
+
+  -- where an answer is given
+  abbrev pub answering : Cell → State → Store
+  answering text σ = record { globals = placed ranges (length kinds) (with_global_at ranges (length kinds) (cells_of kinds way_none σ) Text text); host = host_of σ None; assigning = None }
 
   -- between two parts of code
   abbrev pub store : State → Store

@@ -27,7 +27,7 @@ module _ (p : Program) (deepest : Watch) (ks : List Kind) (F : List Frame) (b : 
     step_ok Next = next_step p deepest ks F b M n
     step_ok Exit = exit_step p deepest ks F b M n
     step_ok (ExitWith e) = exit_with_step p deepest ks F b M n e (exprs e)
-    step_ok (Return e) = return_step p deepest ks F b M n e (exprs e)
+    step_ok (Return e) = return_step p deepest ks F b M n exprs e
     step_ok (Mark i c) = mark_step p deepest ks F b M n i c
 
     pub steps_ok : (ss : Steps) → StepsOk p deepest ks F b M n ss

@@ -3,18 +3,22 @@ use Rattle.std.proofs.Common.{◌≡◌, true, false, List, ◌∷◌, refl, ap,
 use Rattle.std.specs.Prelude.{set, not, ◌&&◌}
 use Rattle.wasm_types.specs.Syntax.{Instructions}
 use Rattle.wasm_types.specs.declared.instr.Simple.TheVariants.{LocalGet, LocalSet, LocalTee}
-use Rattle.wasm_store.specs.declared.word.Word.TheVariants.{I32}
+use Rattle.wasm_store.specs.declared.word.Word.TheVariants.{I32, I64}
 use Rattle.mid_program.specs.Mid.{Kind}
 use Rattle.lower_model.specs.Cells.{Cell, Bits, Held, IteratorOf, OwnedArray, LentArray, Gone, is_owned, left_by, cell_at, has_room}
 use Rattle.lower_model.specs.Places.{Bases}
 use Rattle.lower_model.specs.Machine.{Code, Label, Frame, Store, at, guarded, teed}
-use Rattle.lower_model.specs.Small.{does, minus_one, moved_out, emptied}
+use Rattle.lower_model.specs.Small.{does, minus_one, was_left, moved_out, emptied}
 use Rattle.lower_model.proofs.Runs.{Goes, then_goes, goes_to}
 use Rattle.lower_model.proofs.Locals.{Locals, Place, local_of, IsPlace, has, with_at, has_with, laid, laid_at, laid_set, laid_twice, laid_again, place_there}
 
 -- no handle
 abbrev pub empty : Cell
 empty = Bits (I32 minus_one)
+
+-- what a function answers that was left
+abbrev pub unanswered : Cell
+unanswered = Bits (I64 was_left)
 
 pub left_unowned : (c : Cell) → is_owned (left_by c) ≡ false
 left_unowned (Bits w) = refl

@@ -31,10 +31,10 @@ use Rattle.lower_model.proofs.Steps.{empty, get_moved, get_copied, tee_ok, moved
 use Rattle.lower_model.proofs.GlobalSteps.{storing}
 use Rattle.lower_model.proofs.Pieces.{chooses, closes, number_is_ok}
 use Rattle.lower_model.proofs.Calls.{called}
-use Rattle.lower_model.proofs.State.{host_of, bare, word_not_least, word_not_beside, perhaps}
+use Rattle.lower_model.proofs.State.{host_of, bare, word_not_least, word_not_beside, perhaps, BareIs, IsBeside, IsNone, IsNumber}
 use Rattle.lower_model.proofs.Relation.{HoldsAt, Fit, fit_hand}
 use Rattle.lower_model.proofs.Answers.{machine}
-use Rattle.lower_model.proofs.Conversions.{BareIs, IsBeside, IsNone, IsNumber, bare_is, same_state, PerhapsIs, NoNumber, There}
+use Rattle.lower_model.proofs.Conversions.{bare_is, same_state, PerhapsIs, NoNumber, There}
 use Rattle.lower_model.proofs.Converting.{flag_word, perhaps_is}
 use Rattle.lower_model.proofs.Copies.{dup_ok}
 use Rattle.lower_model.proofs.Simulation.{StandsAt, layout}
@@ -134,33 +134,33 @@ module _ (p : Program) (deepest : Watch) (ks : List Kind) (F : List Frame) (b : 
   hand_few false = omega arith
 
   -- what an unboxed name has
-  bare_stored : (o : Bool) (t : ℕ) (l : Locals) (put : Simple) (gs : List Cell) (σ : State) (L1 : Value → List Cell) (G1 : Value → Store) → t < b.temporaries → Puts o t l put gs σ L1 G1 → (v : Value) (K : List Label) (k : Instructions) → HoldsAt Bare t l v → BareIs v →
+  bare_stored : (o : Bool) (t : ℕ) (l : Locals) (put : Simple) (gs : List Cell) (σ : State) (L1 : Value → List Cell) (G1 : Value → Store) → t < b.temporaries → Puts o t l put gs σ L1 G1 → (v : Value) (K : List Label) (k : Instructions) → (n0 : ℕ) → l.number t ≡ Bits (I64 n0) → BareIs v n0 (l.hand t) →
       Comes (value_stored (layout p deepest ks F b M n) o Bare t put k) k K (laid b l) (storing gs (host_of σ None)) (L1 v) (G1 v)
-  bare_stored o t l put gs σ L1 G1 lt puts v K k hd (IsBeside e e1) =
+  bare_stored o t l put gs σ L1 G1 lt puts v K k n0 en (IsBeside e e1) =
       let a = handle_stored (layout p deepest ks F b M n) o t put Done in
       let hf = hand_few o in
       record {
         steps = 3 + (hand_work o + 1);
         few = omega (arith, hf);
-        goes = then_goes (then_goes (number_is_ok b l t text_beside text_beside lt (hd.1 ∙ ap (λ m. Bits (I64 m)) e)) (chooses a (boxed_perhaps b t put Done) 1))
-            (then_goes (hand_stored o t l put gs σ L1 G1 lt puts v (label [] None k ∷ K) Done (hd.0 ∙ e1)) closes);
+        goes = then_goes (then_goes (number_is_ok b l t text_beside text_beside lt (en ∙ ap (λ m. Bits (I64 m)) e)) (chooses a (boxed_perhaps b t put Done) 1))
+            (then_goes (hand_stored o t l put gs σ L1 G1 lt puts v (label [] None k ∷ K) Done e1) closes);
       }
-  bare_stored o t l put gs σ L1 G1 lt puts v K k hd (IsNone e e1 e2) =
+  bare_stored o t l put gs σ L1 G1 lt puts v K k n0 en (IsNone e e1 e2) =
       let a = handle_stored (layout p deepest ks F b M n) o t put Done in
-      let s = perhaps_stored o t l put gs σ L1 G1 lt puts (bare v) v (label [] None k ∷ K) Done (hd.0 ∙ e2) hd.1 (NoNumber e1 e) in
+      let s = perhaps_stored o t l put gs σ L1 G1 lt puts n0 v (label [] None k ∷ K) Done e2 en (NoNumber e1 e) in
       record {
         steps = 3 + (s.steps + 1);
         few = let q = s.few in omega (arith, q);
-        goes = then_goes (then_goes (number_is_ok b l t least text_beside lt (hd.1 ∙ ap (λ m. Bits (I64 m)) e1)) (chooses a (boxed_perhaps b t put Done) 0)) (then_goes s.goes closes);
+        goes = then_goes (then_goes (number_is_ok b l t least text_beside lt (en ∙ ap (λ m. Bits (I64 m)) e1)) (chooses a (boxed_perhaps b t put Done) 0)) (then_goes s.goes closes);
       }
-  bare_stored o t l put gs σ L1 G1 lt puts v K k hd (IsNumber m e e1 e2) =
+  bare_stored o t l put gs σ L1 G1 lt puts v K k n0 en (IsNumber m e e1 e2) =
       let a = handle_stored (layout p deepest ks F b M n) o t put Done in
-      let s = perhaps_stored o t l put gs σ L1 G1 lt puts (bare v) v (label [] None k ∷ K) Done (hd.0 ∙ e2) hd.1 (There m e1 e) in
+      let s = perhaps_stored o t l put gs σ L1 G1 lt puts n0 v (label [] None k ∷ K) Done e2 en (There m e1 e) in
       record {
         steps = 3 + (s.steps + 1);
         few = let q = s.few in omega (arith, q);
         goes = then_goes
-            (then_goes (goes_to (number_is_ok b l t (number_word m) text_beside lt (hd.1 ∙ ap (λ z. Bits (I64 z)) e1)) (ap (λ f. at ks (Bits (flag f) ∷ []) K (laid b l) F (either a (boxed_perhaps b t put Done) k) (storing gs (host_of σ None))) (word_not_beside m)))
+            (then_goes (goes_to (number_is_ok b l t (number_word m) text_beside lt (en ∙ ap (λ z. Bits (I64 z)) e1)) (ap (λ f. at ks (Bits (flag f) ∷ []) K (laid b l) F (either a (boxed_perhaps b t put Done) k) (storing gs (host_of σ None))) (word_not_beside m)))
             (chooses a (boxed_perhaps b t put Done) 0))
             (then_goes s.goes closes);
       }
@@ -170,7 +170,7 @@ module _ (p : Program) (deepest : Watch) (ks : List Kind) (F : List Frame) (b : 
   stored_ok o (Answered (answer.Of sort.Value)) x t l put gs σ L1 G1 K k lt e hd puts = let hf = hand_few o in record { steps = hand_work o; few = omega (arith, hf); goes = hand_stored o t l put gs σ L1 G1 lt puts x K k hd.0 }
   stored_ok o (Answered (answer.Of sort.Number)) x t l put gs σ L1 G1 K k lt e hd puts = record { steps = 3; few = omega arith; goes = number_stored o t l put gs σ L1 G1 lt puts x K k hd.0 hd.1 }
   stored_ok o (Answered answer.Truth) x t l put gs σ L1 G1 K k lt e hd puts = record { steps = 3; few = omega arith; goes = number_stored o t l put gs σ L1 G1 lt puts (truth_number x) K k hd.0 (hd.1 ∙ ap (λ m. Bits (I64 m)) (flag_word x)) }
-  stored_ok o Bare x t l put gs σ L1 G1 K k lt e hd puts = bare_stored o t l put gs σ L1 G1 lt puts x K k hd (bare_is x)
+  stored_ok o Bare x t l put gs σ L1 G1 K k lt e hd puts = bare_stored o t l put gs σ L1 G1 lt puts x K k hd.0 hd.1 hd.2
   stored_ok o Perhaps x t l put gs σ L1 G1 K k lt e hd puts =
       let s = perhaps_stored o t l put gs σ L1 G1 lt puts (perhaps x) (boxed Perhaps x) K k hd.0 hd.1 (perhaps_is p deepest ks F b M x) in
       let q = s.few in

@@ -38,11 +38,11 @@ use Rattle.lower_model.proofs.Locals.{Locals, Hand, Number as NumberAt, with_at,
 use Rattle.lower_model.proofs.Globals.{Hand as NameHand, Number as NameNumber}
 use Rattle.lower_model.proofs.GlobalSteps.{global_copied}
 use Rattle.lower_model.proofs.Steps.{empty, get_copied, set_ok, tee_ok}
-use Rattle.lower_model.proofs.State.{bare, cells_of, kind_here, arrays_before, name_hand, name_word}
+use Rattle.lower_model.proofs.State.{bare, cells_of, kind_here, arrays_before, name_hand, name_word, BareOf, IsBeside, IsNone, IsNumber}
 use Rattle.lower_model.proofs.Relation.{Fit, fit_less, fit_more, fit_hand, fit_number, same_number, Away}
 use Rattle.lower_model.proofs.Pieces.{chooses, closes, number_is_ok}
 use Rattle.lower_model.proofs.Answers.{machine, beside_state, Put, Reached}
-use Rattle.lower_model.proofs.Conversions.{BareIs, IsBeside, IsNone, IsNumber, bare_is}
+use Rattle.lower_model.proofs.Conversions.{bare_is}
 use Rattle.lower_model.proofs.Converting.{Keeps, keeps_self, keeps_then, keeps_hand, keeps_number, Converted, conv_number, conv_closes, value_numbered, blocked, none_number, own_number, word_numbered}
 use Rattle.lower_model.proofs.Copies.{copied_global}
 use Rattle.lower_model.proofs.Inlining.{tested, sum_fits, difference_fits}
@@ -62,7 +62,7 @@ module _ (p : Program) (deepest : Watch) (ks : List Kind) (F : List Frame) (b : 
   conv_after q u w t k K l l1 x σ c kp a = record { next = a.next; comes = a.comes; fit = a.fit; keeps = keeps_then t l l1 a.next kp a.keeps; holds = a.holds }
 
   -- a name's number comes into a temporary
-  numbered_by : (i q u w t d : ℕ) (k : Instructions) (K : List Label) (l : Locals) (σ : State) → has_kind kinds i Unboxed ≡ true → t < q → t < b.temporaries → Fit p deepest ks F q u w l σ → l.hand t ≡ empty → BareIs (global_value i σ) →
+  numbered_by : (i q u w t d : ℕ) (k : Instructions) (K : List Label) (l : Locals) (σ : State) → has_kind kinds i Unboxed ≡ true → t < q → t < b.temporaries → Fit p deepest ks F q u w l σ → l.hand t ≡ empty → BareOf (global_value i σ) →
       Reached p deepest ks F b M 22 σ.turns (at ks [] K (laid b l) F (name_numbered (layout p deepest ks F b M n) i t d k) (beside_state p deepest ks F σ)) (Converted p deepest ks F b M q u w t a_number k K l) (Away p deepest ks F b d K) (settled (number_of_row (global_value i σ)) σ)
   numbered_by i q u w t d k K l σ hk lq lt ft he z =
       let li = kind_below kinds i Unboxed hk in

@@ -36,7 +36,7 @@ use Rattle.lower_model.proofs.Regions.{upd_same, upd_other}
 use Rattle.lower_model.proofs.Locals.{Locals, Hand, Number as NumberAt, with_at, has_with, laid, laid_at, laid_twice, laid_again}
 use Rattle.lower_model.proofs.Steps.{empty, get_moved, get_copied, tee_ok, moved_out_ok}
 use Rattle.lower_model.proofs.Pieces.{done_dropped}
-use Rattle.lower_model.proofs.Relation.{array_at, HoldsAt, KeptAs, Fit, fit_less, fit_hand, fit_shared, Away}
+use Rattle.lower_model.proofs.Relation.{array_at, HoldsAt, KeptAs, Fit, fit_less, fit_hand, fit_shared, Away, holds_same}
 use Rattle.lower_model.proofs.Answers.{machine, beside_state, done_by, row_called, Put, kept_ok, Reached}
 use Rattle.lower_model.proofs.Arrays.{array_pushed_ok, array_live, array_in_sort}
 use Rattle.lower_model.proofs.Conversions.{ask_to_num}
@@ -44,7 +44,6 @@ use Rattle.lower_model.proofs.Converting.{Converted, converted_ok}
 use Rattle.lower_model.proofs.Copies.{dup_ok}
 use Rattle.lower_model.proofs.HostCalls.{calm_after}
 use Rattle.lower_model.proofs.Keeping.{kept_plain}
-use Rattle.lower_model.proofs.Operands.{holds_same}
 use Rattle.lower_model.proofs.Simulation.{work_of, context, layout, meant, Done, ExprOk, NoArray, WellUsed, still_stands, walking_same}
 use Rattle.lower_model.proofs.StatementForms.{flows_on, plain_meant, Starts, ready, starts_after, StepDone}
 use Rattle.lower_model.proofs.Storing.{num_ok}

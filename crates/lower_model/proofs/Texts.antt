@@ -1,5 +1,5 @@
 -- Texts of the script, where they lie in memory; and names that are unboxed.
-use Rattle.std.proofs.Common.{◌≡◌, inr, ℕ, zero, suc, ◌+◌, ◌<◌, ◌≤◌, true, false, List, [], ◌∷◌, ◌++◌, length, Some, None, refl, sym, ap, ◌∙◌, arith}
+use Rattle.std.proofs.Common.{◌≡◌, inr, ℕ, zero, suc, ◌+◌, ◌<◌, ◌≤◌, true, false, List, [], ◌∷◌, ◌++◌, length, Some, None, refl, sym, ap, ◌∙◌, arith, subst}
 use Rattle.std.specs.Prelude.{get_or, take, drop, nat_eq, nat_lt, if◌then◌else◌}
 use Rattle.std.proofs.lemmas.Bool.{ltb-true, le-leb}
 use Rattle.std.proofs.lemmas.List.{take_at, drop_at, drop-drop, length-append, get_or_append_left}
@@ -28,10 +28,10 @@ use Rattle.lower_model.proofs.Locals.{Locals, Param, Hand, Number as NumberAt, w
 use Rattle.lower_model.proofs.Globals.{Hand as NameHand, Number as NameNumber, global_of}
 use Rattle.lower_model.proofs.Steps.{empty, get_copied, set_ok, tee_ok}
 use Rattle.lower_model.proofs.GlobalSteps.{global_copied}
-use Rattle.lower_model.proofs.State.{bare, beside, kind_here, name_hand, name_word, cells_of, arrays_before, word_not_beside}
+use Rattle.lower_model.proofs.State.{bare, beside, BareIs, kind_here, name_hand, name_word, cells_of, arrays_before, word_not_beside, BareOf, IsBeside, IsNone, IsNumber}
 use Rattle.lower_model.proofs.Relation.{same_self, same_then, same_hand, same_number, Fit, fit_hand, fit_number, fit_more, Away}
 use Rattle.lower_model.proofs.Answers.{machine, beside_state, row_called, Put, put_value, put_word}
-use Rattle.lower_model.proofs.Conversions.{BareIs, IsBeside, IsNone, IsNumber, bare_is, same_state}
+use Rattle.lower_model.proofs.Conversions.{bare_is, same_state}
 use Rattle.lower_model.proofs.Copies.{copied_global}
 use Rattle.lower_model.proofs.Pieces.{chooses, closes}
 use Rattle.lower_model.proofs.Simulation.{Done, ExprOk, layout}
@@ -82,6 +82,18 @@ module _ (p : Program) (deepest : Watch) (ks : List Kind) (F : List Frame) (b : 
 
   -- Unboxed names.
 
+  -- what an unboxed name has, where no text stands beside it
+  put_bare : (t u w : ℕ) (k : Instructions) (K : List Label) (l : Locals) (x : Value) (σ : State) → beside x ≡ empty → Fit p deepest ks F t u w l σ → Put p deepest ks F b t u w Bare k K l x σ (at ks [] K (laid b (with_at l (NumberAt t) (Bits (I64 (bare x))))) F k (beside_state p deepest ks F σ))
+  put_bare t u w k K l x σ e ft =
+      let c = Bits (I64 (bare x)) in
+      record {
+        next = with_at l (NumberAt t) c;
+        comes = refl;
+        fit = fit_number p deepest ks F t (suc t) u w l σ c refl (fit_more p deepest ks F t u w l σ ft);
+        same = same_number [] t w t l c (omega arith);
+        holds = (bare x, upd_same l.number t c, subst (λ d. BareIs x (bare x) d) (e ∙ sym (ft.free t (omega arith))) (bare_is x));
+      }
+
   pub get_bare_parameter : (i : ℕ) → ExprOk p deepest ks F b M n (Get (Parameter true i))
   unfolding emitted all_emitted evaluated all_evaluated sorted all_sorted
   get_bare_parameter i v fs env ts st t u w d k K l σ so us rm ar rd =
@@ -91,7 +103,7 @@ module _ (p : Program) (deepest : Watch) (ks : List Kind) (F : List Frame) (b : 
       let q = rd.fit.params i Unboxed so in
       there (machine p deepest ks F) M 12 2 _ _ x σ (Done p deepest ks F b M n v (Get (Parameter true i)) fs env ts st t u w k K l σ) (Away p deepest ks F b d K)
       (then_goes (get_copied b l (Param i) (Bits (I64 (bare x))) (omega (arith, lt, pk)) q.0 refl) (set_ok b l (NumberAt t) (Bits (I64 (bare x))) (omega (arith, rm)) (rd.fit.numbers t))) (omega arith)
-      (put_done p deepest ks F b M n (Get (Parameter true i)) v fs env ts st t u w k K l l σ σ x _ rd.below (same_self ts t w l) (λ j z. refl) rd.kept refl tt (put_word p deepest ks F b M t u w (bare x) Bare k K l x σ q.1 (λ c z. z) rd.fit))
+      (put_done p deepest ks F b M n (Get (Parameter true i)) v fs env ts st t u w k K l l σ σ x _ rd.below (same_self ts t w l) (λ j z. refl) rd.kept refl tt (put_bare t u w k K l x σ q.1 rd.fit))
 
   record BareRead (i t u w : ℕ) (k : Instructions) (K : List Label) (l : Locals) (σ : State) (x : Value) : Type 0 where
     conf : Conf
@@ -100,10 +112,10 @@ module _ (p : Program) (deepest : Watch) (ks : List Kind) (F : List Frame) (b : 
     goes : Goes (machine p deepest ks F) steps (at ks [] K (laid b l) F (slot_read (layout p deepest ks F b M n) (Global true i) t k) (beside_state p deepest ks F σ)) conf
     put : Put p deepest ks F b t u w Bare k K l x σ conf
 
-  bare_read : (i t u w : ℕ) (k : Instructions) (K : List Label) (l : Locals) (σ : State) → i < length (kinds_of p.globals) → kind_here (kinds_of p.globals) i ≡ Unboxed → t < b.temporaries → Fit p deepest ks F t u w l σ → BareIs (global_value i σ) → BareRead i t u w k K l σ (global_value i σ)
+  bare_read : (i t u w : ℕ) (k : Instructions) (K : List Label) (l : Locals) (σ : State) → i < length (kinds_of p.globals) → kind_here (kinds_of p.globals) i ≡ Unboxed → t < b.temporaries → Fit p deepest ks F t u w l σ → BareOf (global_value i σ) → BareRead i t u w k K l σ (global_value i σ)
   bare_read i t u w k K l σ li kh lt ft z = by z
     where
-      by : BareIs (global_value i σ) → BareRead i t u w k K l σ (global_value i σ)
+      by : BareOf (global_value i σ) → BareRead i t u w k K l σ (global_value i σ)
       by z =
           let kinds = kinds_of p.globals in
           let g = cells_of kinds 0 σ in
@@ -119,7 +131,7 @@ module _ (p : Program) (deepest : Watch) (ks : List Kind) (F : List Frame) (b : 
             steps = 5;
             few = omega arith;
             goes = then_goes (goes_to start (ap (λ q. at ks (Bits (flag q) ∷ []) K (laid b l1) F (when copy k) (beside_state p deepest ks F σ)) ne)) (then_goes (chooses copy NoMore 0) closes);
-            put = record { next = l1; comes = refl; fit = f1; same = same_number [] t w t l (Bits (I64 (bare x))) (omega arith); holds = (e0 ∙ sym eh, upd_same l.number t (Bits (I64 (bare x)))) };
+            put = record { next = l1; comes = refl; fit = f1; same = same_number [] t w t l (Bits (I64 (bare x))) (omega arith); holds = (bare x, upd_same l.number t (Bits (I64 (bare x))), subst (λ c. BareIs x (bare x) c) (eh ∙ sym e0) z) };
           } in
           elim z [
             | IsBeside eb eh ↦ record {
@@ -132,7 +144,7 @@ module _ (p : Program) (deepest : Watch) (ks : List Kind) (F : List Frame) (b : 
                 comes = refl;
                 fit = fit_hand p deepest ks F t (suc t) u w l1 σ (Held x) (inr (x, refl)) (omega arith) f1;
                 same = same_then [] t t w w l l1 (with_at l1 (Hand t) (Held x)) (omega arith) (omega arith) (same_number [] t w t l (Bits (I64 (bare x))) (omega arith)) (same_hand [] t w t l1 (Held x) (omega arith));
-                holds = (upd_same l.hand t (Held x) ∙ sym eh, upd_same l.number t (Bits (I64 (bare x))));
+                holds = (bare x, upd_same l.number t (Bits (I64 (bare x))), IsBeside eb (upd_same l.hand t (Held x)));
               };
             }
             | IsNone q eb eh ↦ none (ap (λ m. nat_eq m text_beside) eb) eh

@@ -23,9 +23,9 @@ use Rattle.lower_model.proofs.Regions.{cells, pairs, cells_length}
 use Rattle.lower_model.proofs.Globals.{Globals, names_on, placed}
 use Rattle.lower_model.proofs.Locals.{Locals, temporaries_on, laid}
 use Rattle.lower_model.proofs.Steps.{empty}
-use Rattle.lower_model.proofs.State.{bare, beside, kind_here, arrays_before, name_hand, name_word, cells_of, word_not_beside}
+use Rattle.lower_model.proofs.State.{bare, beside, kind_here, arrays_before, name_hand, name_word, cells_of, word_not_beside, BareOf, IsBeside, IsNone, IsNumber}
 use Rattle.lower_model.proofs.Relation.{Fit, IsWalk, ParamIs, ParamLoose, fit_loose, param_loose}
-use Rattle.lower_model.proofs.Conversions.{BareIs, IsBeside, IsNone, IsNumber, bare_is}
+use Rattle.lower_model.proofs.Conversions.{bare_is}
 use Rattle.lower_model.proofs.Answers.{machine, beside_state, Reached}
 use Rattle.lower_model.proofs.StatementForms.{Starts}
 
@@ -104,7 +104,7 @@ unowned_pairs f g (suc n) rest h k r =
     ap₂ (λ x y. not x && y) (h zero (omega arith)) (ap₂ (λ x y. not x && y) (k zero (omega arith))
     (unowned_pairs (λ i. f (suc i)) (λ i. g (suc i)) n rest (λ i lt. h (suc i) (omega (arith, lt))) (λ i lt. k (suc i) (omega (arith, lt))) r))
 
-beside_tidy : (v : Value) → BareIs v → tidy_name Unboxed (beside v) ≡ true
+beside_tidy : (v : Value) → BareOf v → tidy_name Unboxed (beside v) ≡ true
 beside_tidy v (IsBeside e e1) = ap (tidy_name Unboxed) e1
 beside_tidy v (IsNone e e1 e2) = ap (tidy_name Unboxed) e2
 beside_tidy v (IsNumber m e e1 e2) = ap (tidy_name Unboxed) e2
@@ -112,7 +112,7 @@ beside_tidy v (IsNumber m e e1 e2) = ap (tidy_name Unboxed) e2
 bare_fine : (v : Value) → beside v ≡ empty → is_bare (Bits (I64 (bare v))) ≡ true
 bare_fine v q = by (bare_is v)
   where
-    by : BareIs v → is_bare (Bits (I64 (bare v))) ≡ true
+    by : BareOf v → is_bare (Bits (I64 (bare v))) ≡ true
     by (IsBeside e e1) = let z : is_held empty ≡ true = ap is_held (sym q ∙ e1) in cc
     by (IsNone e e1 e2) = ap (λ n. is_bare (Bits (I64 n))) e1
     by (IsNumber m e e1 e2) = ap (λ n. is_bare (Bits (I64 n))) e1 ∙ ap not (word_not_beside m)
@@ -122,7 +122,7 @@ mark_fine Boxed a v = refl
 mark_fine Many a v = refl
 mark_fine Unboxed a v = by (bare_is v)
   where
-    by : BareIs v → mark_fits Unboxed (beside v) (Bits (I64 (bare v))) ≡ true
+    by : BareOf v → mark_fits Unboxed (beside v) (Bits (I64 (bare v))) ≡ true
     by (IsBeside e e1) = ap₂ (λ c n. mark_fits Unboxed c (Bits (I64 n))) e1 e
     by (IsNone e e1 e2) = ap₂ (λ c n. mark_fits Unboxed c (Bits (I64 n))) e2 e1
     by (IsNumber m e e1 e2) = ap₂ (λ c n. mark_fits Unboxed c (Bits (I64 n))) e2 e1 ∙ ap not (word_not_beside m)
@@ -133,34 +133,34 @@ name_tidy Unboxed a v = beside_tidy v (bare_is v)
 name_tidy Many a v = refl
 
 -- globals that hold nothing before the names, and names that have what they are to have
-pub placed_fine : (p : Program) (ok : Kind → Cell → Bool) (g : Globals) → is_owned g.way ≡ false → is_owned g.status ≡ false → ((i : ℕ) → is_owned (g.range i) ≡ false) → ((i : ℕ) → ok (kind_here (kinds_of p.globals) i) (g.hand i) ≡ true) → ((i : ℕ) → is_owned (g.number i) ≡ false) →
-    globals_by ok (suc (suc p.ranges)) (kinds_of p.globals) (placed p.ranges (length (kinds_of p.globals)) g) ≡ true
-placed_fine p ok g ew es er eh en =
+pub placed_fine : (p : Program) (ok : Kind → Cell → Bool) (g : Globals) → is_owned g.way ≡ false → is_owned g.status ≡ false → is_owned g.text ≡ false → ((i : ℕ) → is_owned (g.range i) ≡ false) → ((i : ℕ) → ok (kind_here (kinds_of p.globals) i) (g.hand i) ≡ true) → ((i : ℕ) → is_owned (g.number i) ≡ false) →
+    globals_by ok (suc (suc (suc p.ranges))) (kinds_of p.globals) (placed p.ranges (length (kinds_of p.globals)) g) ≡ true
+placed_fine p ok g ew es et er eh en =
     let kinds = kinds_of p.globals in
-    let front : List Cell = g.way ∷ (g.status ∷ (cells g.range p.ranges ++ [])) in
-    let shape : g.way ∷ (g.status ∷ cells g.range p.ranges) ≡ front = ap (λ r. g.way ∷ (g.status ∷ r)) (sym (append-nil (cells g.range p.ranges))) in
-    let size : length (g.way ∷ (g.status ∷ cells g.range p.ranges)) ≡ suc (suc p.ranges) = ap (λ m. suc (suc m)) (cells_length g.range p.ranges) in
+    let front : List Cell = g.way ∷ (g.status ∷ (g.text ∷ (cells g.range p.ranges ++ []))) in
+    let shape : g.way ∷ (g.status ∷ (g.text ∷ cells g.range p.ranges)) ≡ front = ap (λ r. g.way ∷ (g.status ∷ (g.text ∷ r))) (sym (append-nil (cells g.range p.ranges))) in
+    let size : length (g.way ∷ (g.status ∷ (g.text ∷ cells g.range p.ranges))) ≡ suc (suc (suc p.ranges)) = ap (λ m. suc (suc (suc m))) (cells_length g.range p.ranges) in
     ap₂ (λ x y. none_owned x && each_name ok kinds y)
-    (take_at (g.way ∷ (g.status ∷ cells g.range p.ranges)) (names_on p.ranges (length kinds) g) (suc (suc p.ranges)) size ∙ shape)
-    (drop_at (g.way ∷ (g.status ∷ cells g.range p.ranges)) (names_on p.ranges (length kinds) g) (suc (suc p.ranges)) size)
-    ∙ ap₂ (λ x y. x && y) (ap₂ (λ x y. not x && y) ew (ap₂ (λ x y. not x && y) es (unowned_cells g.range p.ranges [] (λ i lt. er i) refl))) (names_fine ok kinds g.hand g.number eh en)
+    (take_at (g.way ∷ (g.status ∷ (g.text ∷ cells g.range p.ranges))) (names_on p.ranges (length kinds) g) (suc (suc (suc p.ranges))) size ∙ shape)
+    (drop_at (g.way ∷ (g.status ∷ (g.text ∷ cells g.range p.ranges))) (names_on p.ranges (length kinds) g) (suc (suc (suc p.ranges))) size)
+    ∙ ap₂ (λ x y. x && y) (ap₂ (λ x y. not x && y) ew (ap₂ (λ x y. not x && y) es (ap₂ (λ x y. not x && y) et (unowned_cells g.range p.ranges [] (λ i lt. er i) refl)))) (names_fine ok kinds g.hand g.number eh en)
 
 -- the same beside a state, whichever way a function is being left
-pub globals_fine : (p : Program) (ok : Kind → Cell → Bool) (way : ℕ) (σ : State) → ((k : Kind) (a : ℕ) (v : Value) → ok k (name_hand k a v) ≡ true) → globals_by ok (suc (suc p.ranges)) (kinds_of p.globals) (placed p.ranges (length (kinds_of p.globals)) (cells_of (kinds_of p.globals) way σ)) ≡ true
+pub globals_fine : (p : Program) (ok : Kind → Cell → Bool) (way : ℕ) (σ : State) → ((k : Kind) (a : ℕ) (v : Value) → ok k (name_hand k a v) ≡ true) → globals_by ok (suc (suc (suc p.ranges))) (kinds_of p.globals) (placed p.ranges (length (kinds_of p.globals)) (cells_of (kinds_of p.globals) way σ)) ≡ true
 globals_fine p ok way σ fine =
     let kinds = kinds_of p.globals in
-    placed_fine p ok (cells_of kinds way σ) refl refl (λ i. refl) (λ i. fine (kind_here kinds i) (suc (suc (arrays_before kinds i))) (global_value i σ)) (λ i. refl)
+    placed_fine p ok (cells_of kinds way σ) refl refl refl (λ i. refl) (λ i. fine (kind_here kinds i) (suc (suc (arrays_before kinds i))) (global_value i σ)) (λ i. refl)
 
 pub each_mark : (kinds : List Kind) (h g : ℕ → Cell) → ((i : ℕ) → mark_fits (kind_here kinds i) (h i) (g i) ≡ true) → marks_fit kinds (pairs h g (length kinds) ++ []) ≡ true
 each_mark [] h g e = refl
 each_mark (k ∷ kinds) h g e = ap₂ (λ x y. x && y) (e zero) (each_mark kinds (λ i. h (suc i)) (λ i. g (suc i)) (λ i. e (suc i)))
 
-marks_fine : (p : Program) (way : ℕ) (σ : State) → marks_fit (kinds_of p.globals) (drop (suc (suc p.ranges)) (placed p.ranges (length (kinds_of p.globals)) (cells_of (kinds_of p.globals) way σ))) ≡ true
+marks_fine : (p : Program) (way : ℕ) (σ : State) → marks_fit (kinds_of p.globals) (drop (suc (suc (suc p.ranges))) (placed p.ranges (length (kinds_of p.globals)) (cells_of (kinds_of p.globals) way σ))) ≡ true
 marks_fine p way σ =
     let kinds = kinds_of p.globals in
     let g = cells_of kinds way σ in
-    let size : length (g.way ∷ (g.status ∷ cells g.range p.ranges)) ≡ suc (suc p.ranges) = ap (λ m. suc (suc m)) (cells_length g.range p.ranges) in
-    ap (marks_fit kinds) (drop_at (g.way ∷ (g.status ∷ cells g.range p.ranges)) (names_on p.ranges (length kinds) g) (suc (suc p.ranges)) size)
+    let size : length (g.way ∷ (g.status ∷ (g.text ∷ cells g.range p.ranges))) ≡ suc (suc (suc p.ranges)) = ap (λ m. suc (suc (suc m))) (cells_length g.range p.ranges) in
+    ap (marks_fit kinds) (drop_at (g.way ∷ (g.status ∷ (g.text ∷ cells g.range p.ranges))) (names_on p.ranges (length kinds) g) (suc (suc (suc p.ranges))) size)
     ∙ each_mark kinds g.hand g.number (λ i. mark_fine (kind_here kinds i) (suc (suc (arrays_before kinds i))) (global_value i σ))
 
 pub same_self : (k : Kind) → same_kind k k ≡ true

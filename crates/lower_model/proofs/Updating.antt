@@ -44,11 +44,10 @@ use Rattle.lower_model.proofs.Locals.{Locals, Number as NumberAt, with_at, laid}
 use Rattle.lower_model.proofs.Steps.{empty, get_copied, tee_ok}
 use Rattle.lower_model.proofs.Calls.{called}
 use Rattle.lower_model.proofs.Pieces.{chooses}
-use Rattle.lower_model.proofs.Relation.{HoldsAt, Fit, fit_less, fit_more, Away}
+use Rattle.lower_model.proofs.Relation.{HoldsAt, Fit, fit_less, fit_more, Away, holds_same}
 use Rattle.lower_model.proofs.Answers.{machine, beside_state, left_beside, reply, after_reply, away_with, Reached}
 use Rattle.lower_model.proofs.Conversions.{ask_to_num}
 use Rattle.lower_model.proofs.Converting.{Converted, converted_ok}
-use Rattle.lower_model.proofs.Operands.{holds_same}
 use Rattle.lower_model.proofs.Fields.{field_code, field_at_is, field_found}
 use Rattle.lower_model.proofs.Products.{word, is_out, mod_small, mod_once}
 use Rattle.host_imports.specs.declared.import.Import.TheVariants.{Of}

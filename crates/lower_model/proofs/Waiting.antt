@@ -10,7 +10,7 @@ use Rattle.lower_model.specs.Cells.{Cell, Bits, Held, IteratorOf, OwnedArray, Le
 use Rattle.lower_model.specs.Emission.{Layout, all_freed}
 use Rattle.lower_model.specs.Machine.{Label, Frame, arrays_freed, loops_walked, waits}
 use Rattle.lower_model.specs.Places.{Bases}
-use Rattle.lower_model.specs.Small.{kept_value}
+use Rattle.lower_model.specs.Small.{answer_kept}
 use Rattle.lower_model.proofs.Watch.{Watch}
 use Rattle.lower_model.proofs.Regions.{cells, pairs}
 use Rattle.lower_model.proofs.Locals.{Locals, temporaries_on, laid}
@@ -130,7 +130,7 @@ module _ (p : Program) (deepest : Watch) (ks : List Kind) (F : List Frame) (b : 
   parameters_wait (Many ∷ js) f m (suc x) rest e h r = ap₂ (λ x y. not x && y) (h zero Many refl) (parameters_wait js (λ i. f (suc i)) m x rest (omega (arith, e)) (λ i j q. h (suc i) j q) r)
 
   -- A CALLER WAITS
-  pub waits_there : (t u w d : ℕ) (k : Instructions) (K : List Label) (l : Locals) (σ : State) → Fit p deepest ks F t u w l σ → Walking p deepest ks F b M n (loops_walked K) u l → length ks ≡ b.parameters → t < b.temporaries → w ≤ arrays_freed k → waits ks K (laid b l) (kept_value b true t d k) ≡ true
+  pub waits_there : (t u w d : ℕ) (k : Instructions) (K : List Label) (l : Locals) (σ : State) → Fit p deepest ks F t u w l σ → Walking p deepest ks F b M n (loops_walked K) u l → length ks ≡ b.parameters → t < b.temporaries → w ≤ arrays_freed k → waits ks K (laid b l) (answer_kept b t d k) ≡ true
   waits_there t u w d k K l σ fit walking same lt freed =
       let lo = fit_loose p deepest ks F t u w l σ fit in
       let yards : no_value (cells l.array b.arrays ++ []) ≡ true = no_cells l.array b.arrays [] (λ i. yard_free (l.array i) (fit.yards i)) refl in

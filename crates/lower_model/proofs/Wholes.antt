@@ -25,7 +25,7 @@ use Rattle.lower_model.proofs.Regions.{upd_all}
 use Rattle.lower_model.proofs.Globals.{placed}
 use Rattle.lower_model.proofs.GlobalSteps.{storing}
 use Rattle.lower_model.proofs.Locals.{Locals, Answer, Number as NumberAt, with_at, laid}
-use Rattle.lower_model.proofs.Steps.{empty, emptied_ok}
+use Rattle.lower_model.proofs.Steps.{empty, set_ok, unanswered}
 use Rattle.lower_model.proofs.State.{host_of}
 use Rattle.lower_model.proofs.Relation.{Loose}
 use Rattle.lower_model.proofs.Pieces.{number_kept, number_failed}
@@ -77,7 +77,7 @@ module _ (p : Program) (notes : Notes) (s : Setting) (M turns : ℕ) (differ : a
       let mach = machine p (watched notes s) [] [] in
       let b = main_bases p in
       let G = storing globals_first (host_of state_first (Some f)) in
-      let e = main_ends_by p (watched notes s) b first_cells (host_of state_first (Some f)) 0 (numbered least) refl (numbered_loose least) refl refl (placed_fine p ended_name first_cells refl refl (λ i. refl) (λ i. ended_empty _) (λ i. refl)) in
+      let e = main_ends_by p (watched notes s) b first_cells (host_of state_first (Some f)) 0 (numbered least) refl (numbered_loose least) refl refl (placed_fine p ended_name first_cells refl refl refl (λ i. refl) (λ i. ended_empty _) (λ i. refl)) in
       faulted mach M {A = Unit {0}} (main_exit_work b + 4) (1 + (3 + e.steps)) _ _ f state_first (λ u σ. EndsWell (Gives u σ)) (λ why σ. EndsWell (Stops why σ))
       (then_goes (called (Of row.Pow) (Bits (I64 1) ∷ (Bits (I64 1) ∷ [])) [] G (Some (Bits (I64 least))) (host_of state_first (Some f)) refl refl refl)
       (then_goes (number_failed b (Functions.begun []) zero zero one refl) e.goes)) (let q = e.few in omega (arith, q)) refl
@@ -119,7 +119,7 @@ module _ (p : Program) (notes : Notes) (s : Setting) (M turns : ℕ) (differ : a
         steps = 1 + (a.steps + 1);
         few = let q = a.few in omega (arith, q);
         goes = goes_from (ap (λ L. at [] [] [] L [] body (storing (first_globals p) (host_at_start s))) (laid_entry b [] refl) ∙ ap (λ g. at [] [] [] (laid b (entry [])) [] body (storing g (host_at_start s))) (first_placed p))
-            (then_goes (emptied_ok b (entry []) Answer tt refl) (then_goes (goes_to a.goes (ap (λ L. at [] [] [] L [] code G) e)) (main_begins named_code)));
+            (then_goes (set_ok b (entry []) Answer unanswered tt refl) (then_goes (goes_to a.goes (ap (λ L. at [] [] [] L [] code G) e)) (main_begins named_code)));
       }
 
   -- a run shows as the script's does, if what comes after the names does

@@ -34,7 +34,7 @@ module _ (p : Program) (deepest : Watch) (ks : List Kind) (F : List Frame) (b : 
       let ln = length-map p.globals (λ (d : Declared). d.kind) in
       let same : global_value i (with_global i v σ) ≡ v = get_or-set_same σ.globals i v Uninit (omega (arith, sz, lt, ln)) in
       let other : (j : ℕ) → j ≢ i → global_value j (with_global i v σ) ≡ global_value j σ = λ j ne. get_or-set_other σ.globals i j v Uninit ne in
-      ap (λ r. g.way ∷ (g.status ∷ (cells g.range p.ranges ++ (r ++ []))))
+      ap (λ r. g.way ∷ (g.status ∷ (g.text ∷ (cells g.range p.ranges ++ (r ++ [])))))
       (pairs_same (upd g.hand i c) (upd g.number i m) g1.hand g1.number (length kinds)
       (λ j lj. elim (cases_eq j i) [
         | inl e ↦ ap (upd g.hand i c) e ∙ (upd_same g.hand i c ∙ (sym ec ∙ (ap (name_hand (kind_here kinds i) (suc (suc (arrays_before kinds i)))) (sym same) ∙ ap g1.hand (sym e))))

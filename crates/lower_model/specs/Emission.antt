@@ -31,7 +31,7 @@ use Rattle.mid_program.specs.Mid.{Kind, Boxed, Unboxed, Many, Slot, Global, Para
 use Rattle.mid_program.specs.Sorted.{count_of}
 use Rattle.host_imports.specs.Imports.{import_count}
 use Rattle.lower_model.specs.Places.{Bases, place_of, array_local, array_name, range_global, handle_global, number_global, made_in, handle_local, number_local}
-use Rattle.lower_model.specs.Small.{does, ask, ask_row, when, either, minus_one, least, text_beside, moved_out, let_go, copied, number_is, kept, kept_code, kept_value, boxed_number, boxed_perhaps, to_value, converted, code_number, truth, unused, released, moved_from, bound_from}
+use Rattle.lower_model.specs.Small.{does, ask, ask_row, when, either, minus_one, least, text_beside, moved_out, let_go, copied, number_is, kept, kept_code, kept_value, answer_kept, boxed_number, boxed_perhaps, to_value, converted, code_number, truth, unused, released, moved_from, bound_from}
 use Rattle.lower_model.specs.Arithmetic.{calculated, field_checked, compared, is_value}
 use Rattle.host_imports.specs.declared.import.Listing.TheVariants as listing
 use Rattle.host_imports.specs.declared.import.Import.TheVariants.{Over as OverLast, Arg, Drop, FreeArray}
@@ -328,7 +328,7 @@ module _ (layout : Layout) where
     emitted only forms temporaries (Call function operands) temporary arrays exit after =
         let kinds = parameters_at layout.calls function in
         all_emitted forms temporaries operands temporary arrays exit (all_given forms kinds operands temporary (all_given_pushed kinds operands temporary arrays
-        (does (CallOf (function_number function)) (kept_value bases true temporary exit (all_freed arrays (made_in operands) after)))))
+        (does (CallOf (function_number function)) (answer_kept bases temporary exit (all_freed arrays (made_in operands) after)))))
     emitted only forms temporaries Ask temporary arrays exit after = asked row.Getline temporary exit (code_number bases temporary after)
     emitted only forms temporaries (AskLine store) temporary arrays exit after =
         asked row.GetlineVar temporary exit (number_is (number_local bases temporary) 1

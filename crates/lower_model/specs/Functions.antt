@@ -1,5 +1,6 @@
 -- What the code of a program is emitted for, and its functions.
 use Rattle.std.specs.Prelude.{ℕ, zero, max, List, [], ◌++◌}
+use Rattle.wasm_types.specs.declared.types.ValType.TheVariants.{I32, I64}
 use Rattle.mid_program.specs.Mid.{Routine, Program}
 use Rattle.mid_program.specs.Sorted.{kinds_of, calls_of, announced_names}
 use Rattle.lower_model.specs.Machine.{Callee}
@@ -31,9 +32,15 @@ abbrev pub routine_callee : Program → Routine → Callee
 routine_callee program routine = record {
   kinds = routine.parameters;
   locals = local_types (routine_bases routine);
+  answer = I64;
   body = routine_body
       (layout_of program (routine_bases routine)) routine.parameters routine.body;
 }
 
 abbrev pub main_callee : Program → Callee
-main_callee program = record { kinds = []; locals = local_types (main_bases program); body = main_body (layout_of program (main_bases program)) program }
+main_callee program = record {
+  kinds = [];
+  locals = local_types (main_bases program);
+  answer = I32;
+  body = main_body (layout_of program (main_bases program)) program;
+}

@@ -44,10 +44,11 @@ pub record Store : Type 0 where
   pub host : Host
   pub assigning : Option ℕ
 
--- a function of the module, and its locals beside the parameters
+-- a function of the module, its locals beside the parameters, and the type of its answer
 pub record Callee : Type 0 where
   pub kinds : List Kind
   pub locals : List ValType
+  pub answer : ValType
   pub body : Instructions
 
 -- What is noted in the output where a statement begins, by the code from its place on. A module notes nothing; a run with notes shows at which places
@@ -251,9 +252,9 @@ abbrev pub loops_walked : List Label → ℕ
 loops_walked [] = 0
 loops_walked (inner ∷ labels) = cond (is_walk inner.again) (suc (loops_walked labels)) (loops_walked labels)
 
--- the local that the answer of a call goes to
+-- the first local of the temporary that the answer of a call goes to: the answer is a number, or says that a text waits
 abbrev pub answers_to : Instructions → ℕ
-answers_to (Then (Plain (LocalTee local)) rest) = local
+answers_to (Then (Plain (LocalTee (suc handle))) rest) = handle
 answers_to _ = 0
 
 -- how many arrays are let go, one after another

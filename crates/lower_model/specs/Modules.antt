@@ -84,7 +84,7 @@ abbrev mutual
 -- Types: of the imports, of the functions, each with a type of its own.
 
 abbrev pub callee_type : Callee → Signature
-callee_type function = record { params = map kind_type function.kinds; result = Some I32 }
+callee_type function = record { params = map kind_type function.kinds; result = Some function.answer }
 
 abbrev pub imported_from : ℕ → List Import → List ImportForm
 imported_from number [] = []
@@ -95,7 +95,7 @@ functions_from called number [] = []
 functions_from called number (function ∷ functions) =
     (record { ty = number; locals = function.locals; body = renumbered called function.body }) ∷ functions_from called (suc number) functions
 
--- Globals: the two of the module, those of ranges, and those of names, which have nothing yet.
+-- Globals: the three of the module, those of ranges, and those of names, which have nothing yet.
 
 abbrev pub word_global : ℕ → GlobalForm
 word_global number = record { ty = record { value = I32; mutable = true }; init = does (I32Const number) Done }
@@ -108,7 +108,8 @@ name_globals [] = []
 name_globals (kind ∷ kinds) = word_global minus_one ∷ (long_global least ∷ name_globals kinds)
 
 abbrev pub globals_of : Program → List GlobalForm
-globals_of program = word_global 0 ∷ (long_global 0 ∷ (replicate program.ranges (word_global 0) ++ name_globals (kinds_of program.globals)))
+globals_of program =
+    word_global 0 ∷ (long_global 0 ∷ (word_global minus_one ∷ (replicate program.ranges (word_global 0) ++ name_globals (kinds_of program.globals))))
 
 -- pages of 65,536 bytes
 abbrev pub pages_for : ℕ → ℕ

@@ -4,7 +4,7 @@
 use Rattle.std.specs.Prelude.{ℕ, zero, suc, true, false, if◌then◌else◌, List, [], map, is_some}
 use Rattle.sem_primitives.specs.declared.table.Primitive.TheVariants as row
 use Rattle.wasm_types.specs.Syntax.{Instructions, Done}
-use Rattle.wasm_types.specs.declared.instr.Simple.TheVariants.{Nop, Br, BrIf, LocalSet}
+use Rattle.wasm_types.specs.declared.instr.Simple.TheVariants.{Nop, Br, BrIf, LocalSet, I64Const}
 use Rattle.sem_scripts.specs.Meaning.{Calls}
 use Rattle.mid_program.specs.Mid.{Kind, Code, Step, Eval, Block, If, Loop, Each, Break, Continue, Next, Exit, ExitWith, Return, Mark, Steps, NoStep, Then, Program}
 use Rattle.mid_program.specs.MidMeaning.{stepped, holds, keyed, routine_at, global_name, routine_name}
@@ -18,7 +18,7 @@ use Rattle.lower_model.specs.Functions.{layout_of, main_bases, routine_bases}
 use Rattle.lower_model.specs.Machine.{Notes}
 use Rattle.lower_model.specs.Places.{Bases, answer_local}
 use Rattle.lower_model.specs.Quick.{is_nothing, pair_in, step_jumps}
-use Rattle.lower_model.specs.Small.{ask_row, does as instruction}
+use Rattle.lower_model.specs.Small.{least, does as instruction}
 use Rattle.lower_model.specs.Statements.{records_read, step_emitted, steps_emitted}
 
 abbrev pub noting : Notes → Instructions → State → State
@@ -91,7 +91,7 @@ module _ (notes : Notes) (layout : Layout) (texts : List (List ℕ)) (parameters
 
 -- the code after a function's steps
 abbrev pub routine_rest : Bases → Instructions
-routine_rest bases = ask_row row.Uninit (instruction (LocalSet (answer_local bases)) Done)
+routine_rest bases = instruction (I64Const least) (instruction (LocalSet (answer_local bases)) (instruction (Br 1) Done))
 
 unfoldable pub noted_called : Notes → Program → ℕ → Calls
 noted_called notes program zero function locals = stop OutOfTurns

@@ -17,7 +17,8 @@ abbrev pub memory_of : List (List ℕ) → List ℕ
 memory_of [] = []
 memory_of (text ∷ texts) = text ++ memory_of texts
 
--- Globals: how the function is being left, the status, whether the range of each item is open, and for each name a handle, or an array, and a number.
+-- Globals: how the function is being left, the status, the text that a function returns, whether the range of each item is open, and for each name a
+-- handle, or an array, and a number.
 
 abbrev pub way_global : ℕ
 way_global = 0
@@ -25,14 +26,18 @@ way_global = 0
 abbrev pub status_global : ℕ
 status_global = 1
 
+-- where the handle of a text waits that a function returns
+abbrev pub text_global : ℕ
+text_global = 2
+
 abbrev pub range_global : ℕ → ℕ
-range_global item = suc (suc item)
+range_global item = suc (suc (suc item))
 
 abbrev pub handle_global : (ranges : ℕ) → ℕ → ℕ
-handle_global ranges name = suc (suc ranges) + (name + name)
+handle_global ranges name = suc (suc (suc ranges)) + (name + name)
 
 abbrev pub number_global : (ranges : ℕ) → ℕ → ℕ
-number_global ranges name = suc (suc (suc ranges) + (name + name))
+number_global ranges name = suc (suc (suc (suc ranges)) + (name + name))
 
 -- the name of an array of the script, by its number
 abbrev pub array_name : List Kind → ℕ → ℕ
@@ -78,7 +83,7 @@ handle_types zero = []
 handle_types (suc count) = I32 ∷ handle_types count
 
 abbrev pub local_types : Bases → List ValType
-local_types bases = I32 ∷ (temporary_types bases.temporaries ++ (handle_types bases.iterators ++ handle_types bases.arrays))
+local_types bases = I64 ∷ (temporary_types bases.temporaries ++ (handle_types bases.iterators ++ handle_types bases.arrays))
 
 -- Temporaries: of code whose value goes into the first of them.
 

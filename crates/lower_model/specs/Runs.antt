@@ -5,14 +5,14 @@ use Rattle.wasm_store.specs.declared.word.Word.TheVariants as word
 use Rattle.mid_program.specs.Mid.{Kind, Program}
 use Rattle.mid_program.specs.Sorted.{kinds_of}
 use Rattle.sem_scripts.specs.ScriptRun.{Setting, Ending}
-use Rattle.lower_model.specs.Cells.{Cell, Bits}
+use Rattle.lower_model.specs.Cells.{Cell, Bits, Gone}
 use Rattle.lower_model.specs.ImportCalls.{Host}
 use Rattle.lower_model.specs.Machine.{Notes, no_notes, Code, Conf, at, zeros, go, ending_at}
 use Rattle.lower_model.specs.Places.{memory_of}
 use Rattle.lower_model.specs.Small.{minus_one, least}
 use Rattle.lower_model.specs.Functions.{texts_of, routine_callee, main_callee}
 
--- what is there before a module starts: no handle, and no number yet
+-- what is there before a module starts: no handle, no text that waits, and no number yet
 abbrev pub zero_ranges : ℕ → List Cell
 zero_ranges ranges = replicate ranges (Bits (word.I32 0))
 
@@ -21,12 +21,12 @@ empty_names [] = []
 empty_names (kind ∷ kinds) = Bits (word.I32 minus_one) ∷ (Bits (word.I64 least) ∷ empty_names kinds)
 
 abbrev pub first_globals : Program → List Cell
-first_globals program = Bits (word.I32 0) ∷ (Bits (word.I64 0) ∷ (zero_ranges program.ranges ++ empty_names (kinds_of program.globals)))
+first_globals program = Bits (word.I32 0) ∷ (Bits (word.I64 0) ∷ (Gone ∷ (zero_ranges program.ranges ++ empty_names (kinds_of program.globals))))
 
 abbrev pub noting_code : Notes → Program → ℕ → Code
 noting_code notes program deepest = record {
   memory = memory_of (texts_of program);
-  before = suc (suc program.ranges);
+  before = suc (suc (suc program.ranges));
   names = kinds_of program.globals;
   callees = map (routine_callee program) program.routines;
   deepest = deepest;

@@ -12,14 +12,14 @@ use Rattle.sem_primitives.specs.declared.table.Primitive.TheVariants as row
 use Rattle.wasm_types.specs.Syntax.{Plain, If, Instructions, Done, Then}
 use Rattle.wasm_types.specs.declared.types.ValType.TheVariants.{I32, I64}
 use Rattle.wasm_types.specs.declared.instr.Simple.{Simple}
-use Rattle.wasm_types.specs.declared.instr.Simple.TheVariants.{Br, BrIf, Call, Drop as Discard, LocalGet, LocalSet, LocalTee, I32Const, I64Const, Test, Compare, Binary, Convert}
+use Rattle.wasm_types.specs.declared.instr.Simple.TheVariants.{Br, BrIf, Call, Drop as Discard, LocalGet, LocalSet, LocalTee, GlobalGet, I32Const, I64Const, Test, Compare, Binary, Convert}
 use Rattle.wasm_types.specs.declared.instr.IBinOp.TheVariants.{Sub}
 use Rattle.wasm_types.specs.declared.instr.IRelOp.TheVariants.{Eq, LeS, Ne}
 use Rattle.wasm_types.specs.declared.instr.ITestOp.TheVariants.{Eqz}
 use Rattle.wasm_types.specs.declared.instr.CvtOp.TheVariants.{I64ExtendI32S, I64ExtendI32U}
 use Rattle.mid_program.specs.Mid.{Form, Answered, Bare, Perhaps}
 use Rattle.host_imports.specs.Imports.{import_number}
-use Rattle.lower_model.specs.Places.{Bases, handle_local, number_local}
+use Rattle.lower_model.specs.Places.{Bases, text_global, handle_local, number_local}
 use Rattle.host_imports.specs.declared.import.Import.{Import}
 use Rattle.host_imports.specs.declared.import.Import.TheVariants.{Of, Drop}
 
@@ -52,6 +52,10 @@ least = 2 ^ 63
 
 abbrev pub text_beside : ℕ
 text_beside = 2 ^ 63 + 1
+
+-- what a function answers that was left: no name has it
+abbrev pub was_left : ℕ
+was_left = 2 ^ 63 + 2
 
 -- Handles.
 
@@ -115,6 +119,20 @@ module _ (bases : Bases) where
   abbrev pub kept_done : Bool → ℕ → Instructions → Instructions
   kept_done true exit after = does (I32Const minus_one) (does (Compare I32 Eq) (does (BrIf exit) after))
   kept_done false exit after = does Discard after
+
+  -- The answer of a function: a number, or nothing, or that a text waits, which is moved to the temporary; or the function was left, and so is this one.
+
+  abbrev pub text_taken : (temporary : ℕ) → Instructions → Instructions
+  text_taken temporary after = does (GlobalGet text_global) (does (LocalSet (handle_local bases temporary)) after)
+
+  abbrev pub text_or_left : (temporary exit : ℕ) → Instructions → Instructions
+  text_or_left temporary exit after =
+      number_is (number_local bases temporary) text_beside
+      (either (text_taken temporary Done) (number_is (number_local bases temporary) was_left (does (BrIf (suc (suc exit))) Done)) after)
+
+  abbrev pub answer_kept : (temporary exit : ℕ) → Instructions → Instructions
+  answer_kept temporary exit after =
+      does (LocalTee (number_local bases temporary)) (does (I64Const was_left) (does (Compare I64 LeS) (when (text_or_left temporary exit Done) after)))
 
   abbrev pub kept : Bool → Answer → ℕ → ℕ → Instructions → Instructions
   kept faults (answer.Of sort.Value) temporary exit after = kept_value faults temporary exit after

@@ -8,6 +8,8 @@ use Rattle.sem_primitives.specs.Constants.{flag_number, kind_number, special_num
 use Rattle.sem_primitives.specs.declared.constants.NameKind.{NameKind}
 use Rattle.sem_primitives.specs.declared.constants.NameKind.TheVariants.{Scalar, ArrayOrFunction}
 use Rattle.sem_primitives.specs.declared.constants.Special.TheVariants.{Nf}
+use Rattle.sem_primitives.specs.declared.sorts.Sort.TheVariants as sort
+use Rattle.sem_primitives.specs.declared.sorts.Answer.TheVariants as answer
 use Rattle.sem_primitives.specs.declared.table.Primitive.TheVariants as row
 use Rattle.wasm_types.specs.Syntax.{Block, Loop as Again, Instructions, Done, Then}
 use Rattle.wasm_types.specs.declared.types.ValType.TheVariants.{I32, I64}
@@ -19,9 +21,9 @@ use Rattle.wasm_types.specs.declared.instr.IRelOp.TheVariants.{Eq, GtU, LeS, Ne}
 use Rattle.wasm_types.specs.declared.instr.ITestOp.TheVariants.{Eqz}
 use Rattle.wasm_types.specs.declared.instr.CvtOp.TheVariants.{I32WrapI64}
 use Rattle.sem_scripts.specs.Names.{ArrayName}
-use Rattle.mid_program.specs.Mid.{Kind, Boxed, Unboxed, Many, Code, Step, Eval, Block as Steps_, If as Either, Loop, Each, Break, Continue, Next, Exit, ExitWith, Return, Mark, Steps, NoStep, Then as AndThen, Program, a_value, form_of}
-use Rattle.lower_model.specs.Places.{Bases, way_global, status_global, range_global, handle_global, number_global, answer_local, iterator_local, array_local, handle_local, number_local}
-use Rattle.lower_model.specs.Small.{does, ask, ask_row, when, either, end_code, text_beside, copied, moved_out, emptied, let_go, fail_if, number_is, kept_code, kept_number, kept_done, to_value, number_of_value, to_number}
+use Rattle.mid_program.specs.Mid.{Kind, Boxed, Unboxed, Many, Code, Choose, Form, Answered, Bare, Perhaps, Step, Eval, Block as Steps_, If as Either, Loop, Each, Break, Continue, Next, Exit, ExitWith, Return, Mark, Steps, NoStep, Then as AndThen, Program, a_value, form_of}
+use Rattle.lower_model.specs.Places.{Bases, way_global, status_global, text_global, range_global, handle_global, number_global, answer_local, iterator_local, array_local, handle_local, number_local}
+use Rattle.lower_model.specs.Small.{does, ask, ask_row, when, either, end_code, text_beside, copied, moved_out, emptied, let_go, fail_if, number_is, least, was_left, kept_code, kept_number, kept_done, to_value, number_of_value, to_number}
 use Rattle.lower_model.specs.Quick.{Within, unsure, test_within, Source, Named, Constant, all_unsure, Sum, sum_names, sum_op, sum_in, Update, update_in, Tally, tally_in, Remainder, remainder_in, remainder_names, most_multiplied, multiplied, Counted, counted_in, Pair, pair_names, pair_in, contrary, step_jumps, is_nothing}
 use Rattle.lower_model.specs.Arithmetic.{relation}
 use Rattle.lower_model.specs.Emission.{Layout, array_pushed, text_pushed, pending_assigned, asked, text_dropped, field_at, emitted, dropped, tested}
@@ -216,6 +218,32 @@ module _ (layout : Layout) where
       unsure (name_read within.name) within.shift within.width
       (when (tested layout [] [] test zero zero (suc exit) (does (Test I32 Eqz) (does (BrIf (suc out)) Done))) after)
 
+  -- `return`: what temporary 0 has is the answer. A text waits in a global. Nothing but iterators is held then, so the exit is one label further out
+  -- than that for faults.
+
+  abbrev pub word_given : (exit : ℕ) → Instructions → Instructions
+  word_given exit after = does (LocalGet (number_local bases zero)) (does (LocalSet (answer_local bases)) (does (Br (suc exit)) after))
+
+  abbrev pub text_given : Instructions → Instructions
+  text_given after = moved_out (handle_local bases zero) (does (GlobalSet text_global) after)
+
+  abbrev pub constant_given : (word out : ℕ) → Instructions → Instructions
+  constant_given word out after = does (I64Const word) (does (LocalSet (answer_local bases)) (does (Br out) after))
+
+  abbrev pub answer_given : Form → (exit : ℕ) → Instructions → Instructions
+  answer_given (Answered (answer.Of sort.Value)) exit after = text_given (constant_given text_beside (suc exit) after)
+  answer_given (Answered (answer.Of sort.Number)) exit after = word_given exit after
+  answer_given (Answered answer.Truth) exit after = word_given exit after
+  answer_given Bare exit after = number_is (number_local bases zero) text_beside (when (text_given Done) (word_given exit after))
+  answer_given Perhaps exit after = word_given exit after
+  answer_given form exit after = constant_given least (suc exit) after
+
+  -- what is chosen is returned where it is chosen
+  abbrev pub returned : Code → (exit : ℕ) → Instructions → Instructions
+  returned (Choose sort.Value test so otherwise) exit after =
+      tested layout [] [] test zero zero exit (either (returned so (suc exit) Done) (returned otherwise (suc exit) Done) after)
+  returned code exit after = emitted layout false [] [] code zero zero exit (answer_given (form_of [] code) exit after)
+
   -- Steps: so many iterators are in use; so many labels are between the code and the function's exit, the place where `break` goes, and the one where
   -- `continue` goes.
   unfoldable mutual
@@ -250,9 +278,7 @@ module _ (layout : Layout) where
     step_emitted (ExitWith code) iterators exit break_to continue_to after =
         does Nop (emitted layout false [] [] code zero zero exit (to_number bases (form_of [] code) zero exit
         (does (LocalGet (number_local bases zero)) (does (GlobalSet status_global) (left_by way_exit exit after)))))
-    step_emitted (Return code) iterators exit break_to continue_to after =
-        does Nop (emitted layout false [] [] code zero zero exit (to_value bases (form_of [] code) zero
-        (moved_out (handle_local bases zero) (does (LocalSet (answer_local bases)) (does (Br exit) after)))))
+    step_emitted (Return code) iterators exit break_to continue_to after = does Nop (returned code exit after)
     step_emitted (Mark item opens) iterators exit break_to continue_to after =
         does Nop (does (I32Const (flag_number opens)) (does (GlobalSet (range_global item)) after))
 
@@ -277,8 +303,8 @@ module _ (layout : Layout) where
 
   abbrev pub all_emptied : Instructions → Instructions
   all_emptied after =
-      emptied (answer_local bases)
-      (temporaries_emptied zero bases.temporaries (iterators_emptied zero bases.iterators (arrays_emptied zero bases.arrays after)))
+      does (I64Const was_left) (does (LocalSet (answer_local bases))
+      (temporaries_emptied zero bases.temporaries (iterators_emptied zero bases.iterators (arrays_emptied zero bases.arrays after))))
 
   abbrev pub temporaries_swept : ℕ → ℕ → Instructions → Instructions
   temporaries_swept temporary zero after = after
@@ -295,6 +321,10 @@ module _ (layout : Layout) where
   abbrev pub swept : Instructions → Instructions
   swept after = temporaries_swept zero bases.temporaries (iterators_swept zero bases.iterators (arrays_swept zero bases.arrays after))
 
+  -- temporaries and arrays of calls
+  abbrev pub operands_swept : Instructions → Instructions
+  operands_swept after = temporaries_swept zero bases.temporaries (arrays_swept zero bases.arrays after)
+
   -- the values of parameters; numbers and arrays of the caller's are not the function's to drop
   abbrev pub parameters_dropped : ℕ → List Kind → Instructions → Instructions
   parameters_dropped place [] after = after
@@ -302,11 +332,16 @@ module _ (layout : Layout) where
   parameters_dropped place (Unboxed ∷ kinds) after = parameters_dropped (suc place) kinds after
   parameters_dropped place (Many ∷ kinds) after = parameters_dropped (suc place) kinds after
 
-  -- A function that ends without `return` gives the uninitialised value. The block is its exit.
+  -- A function that ends without `return` answers nothing. The inner block is the exit of one that is left, the outer one that of `return`.
+  abbrev pub routine_ended : Instructions
+  routine_ended = constant_given least 1 Done
+
+  abbrev pub routine_exit : List Kind → Instructions
+  routine_exit kinds = iterators_swept zero bases.iterators (parameters_dropped zero kinds (does (LocalGet (answer_local bases)) Done))
+
   abbrev pub routine_body : List Kind → Steps → Instructions
   routine_body kinds body =
-      all_emptied (block (steps_emitted body zero zero zero zero (ask_row row.Uninit (does (LocalSet (answer_local bases)) Done)))
-      (swept (parameters_dropped zero kinds (does (LocalGet (answer_local bases)) Done))))
+      all_emptied (block (block (steps_emitted body zero zero zero zero routine_ended) (operands_swept Done)) (routine_exit kinds))
 
   -- `main`.
 

@@ -8,7 +8,7 @@ ghost use Rattle.lower_model.specs.Functions.{texts_of};
 ghost use Rattle.host_imports.specs.Imports.{import_name, imports, module_name};
 ghost use Rattle.lower_model.specs.Modules.{functions_from, globals_of, imported_from, long_global, memory_for, name_globals, renumbered, word_global};
 ghost use Rattle.lower_model.specs.Places.{memory_of};
-ghost use Rattle.lower_model.specs.Small.{does};
+ghost use Rattle.lower_model.specs.Small.{does, minus_one};
 ghost use Rattle.wasm_types.specs.Syntax.{Done};
 ghost use Rattle.wasm_types.specs.View.{view_data, view_export, view_func, view_global, view_import, views};
 ghost use Rattle.wasm_types.specs.declared.instr.Simple.TheVariants.{I32Const};
@@ -128,9 +128,14 @@ fn long_global(alloc: Global, number: u64) -> Result<wasm_types::Global, AllocEr
 /// The module's own globals, and one for each range.
 fn first_globals(alloc: Global, ranges: usize) -> Result<Vec<wasm_types::Global>, AllocError>
     ensures { IfOk result (λ all. map view_global all.items
-        ≡ word_global 0 ∷ (long_global 0 ∷ replicate ranges (word_global 0))) }
+        ≡ word_global 0 ∷ (long_global 0 ∷ (word_global minus_one ∷ replicate ranges (word_global 0)))) }
 {
-    let mut all = vec![in alloc; word_global(alloc, 0)?, long_global(alloc, 0)?]?;
+    let mut all = vec![
+        in alloc;
+        word_global(alloc, 0)?,
+        long_global(alloc, 0)?,
+        word_global(alloc, u32::MAX)?,
+    ]?;
     for _done in 0..ranges {
         all.push(word_global(alloc, 0)?)?;
     }

@@ -33,13 +33,13 @@ fn kind_types(alloc: Global, kinds: &[Kind]) -> Result<Vec<ValType>, AllocError>
     Ok(types)
 }
 
-/// The type of a function: its parameters, and whether it ended.
+/// The type of a function: its parameters and its answer.
 fn function_type(alloc: Global, function: &Function) -> Result<FuncType, AllocError>
     ensures { IfOk result (λ made. signature_of made ≡ callee_type (view_function function.now)) }
 {
     Ok(FuncType {
         params: kind_types(alloc, &function.kinds)?,
-        result: Some(ValType::I32),
+        result: Some(function.answer),
     })
 }
 

@@ -29,7 +29,7 @@ use Rattle.lower_model.specs.Boundaries.{is_nop}
 use Rattle.wasm_types.specs.Instructions.{depths}
 use Rattle.lower_model.specs.Emission.{Layout, Immediate, FieldOf, TextOf, NumberOf, immediate_in, immediate_or, immediate_pushed, all_appended, all_boxed, all_converted, all_emitted, all_freed, all_given, all_given_pushed, all_pushed, array_meant, array_pushed, asked, assigned, assigned_by_number, dropped, emitted, bound_read, field_in, field_or, handle_stored, keeping_closed, left_over, listed_asked, one_given, one_pushed, pending_assigned, performed, sequence_closed, slot_read, slot_set, tested, text_kept, text_let_go, value_stored}
 use Rattle.lower_model.specs.Places.{Bases, made_in}
-use Rattle.lower_model.specs.Small.{bound_from, code_number, converted, does, either, kept, kept_code, kept_done, kept_number, kept_value, moved_from, released, to_number, to_value, truth, unused}
+use Rattle.lower_model.specs.Small.{answer_kept, bound_from, code_number, converted, does, either, kept, kept_code, kept_done, kept_number, kept_value, moved_from, released, to_number, to_value, truth, unused}
 
 -- blocks are so deep at least
 pub record Deep (k : Instructions) (m : ℕ) : Type 0 where
@@ -56,6 +56,9 @@ module _ (b : Bases) {k : Instructions} {m : ℕ} where
   kept_value_deep : (f : Bool) (t d : ℕ) → Deep k m → Deep (kept_value b f t d k) m
   kept_value_deep true t d r = record { count = let h = r.count in omega (arith, h) }
   kept_value_deep false t d r = record { count = let h = r.count in omega (arith, h) }
+
+  answer_kept_deep : (t d : ℕ) → Deep k m → Deep (answer_kept b t d k) m
+  answer_kept_deep t d r = record { count = let h = r.count in omega (arith, h) }
 
   pub kept_number_deep : (f : Bool) (t d : ℕ) → Deep k m → Deep (kept_number b f t d k) m
   kept_number_deep true t d r = record { count = let h = r.count in omega (arith, h) }
@@ -309,7 +312,7 @@ module _ (y : Layout) where
         (emitted_deep false fs ts f (suc t) w d (compared_deep b c (form_of fs e) (form_of fs f) t d r)))
     emitted_deep v fs ts (Call f es) t w d r =
         emits_deep fs ts es t w d (given_deep fs (parameters_at y.calls f) es t (given_pushed_deep (parameters_at y.calls f) es t w
-        (plain _ refl (kept_value_deep b true t d (freed_deep w (made_in es) r)))))
+        (plain _ refl (answer_kept_deep b t d (freed_deep w (made_in es) r)))))
     emitted_deep v fs ts Ask t w d r = asked_deep row.Getline t d (code_number_deep b t r)
     emitted_deep v fs ts (AskLine s) t w d r =
         asked_deep row.GetlineVar t d (plain _ refl (plain _ refl (plain _ refl (choice (line_deep row.Line t (emitted_deep true (a_value ∷ fs) (suc t ∷ ts) s (suc (suc t)) w (suc d) (text_deep fs s t none))) none (code_number_deep b t r)))))

@@ -14,7 +14,7 @@ use Rattle.wasm_types.specs.declared.instr.Simple.TheVariants.{Br, Call as CallO
 use Rattle.host_imports.specs.Imports.{import_number}
 use Rattle.host_imports.specs.declared.import.Import.TheVariants.{Of}
 use Rattle.mid_program.specs.MidMeaning.{three_values}
-use Rattle.mid_program.specs.Mid.{Kind, Boxed, Unboxed, Many, Global, Code, Do, Over, Compare, Call, Ask, AskLine, FileLine, Replace, Number, Text, Unset, Get, Set, Array, IsOpen, Choose, Seq, Let, Bound, Codes, End, At, Fixed, Fresh, Step, Eval, Block as Steps_, If as Either, Loop, Each, Break, Continue, Next, Exit, ExitWith, Return, Mark, Steps, NoStep, Then as AndThen, Program, Routine, Form, a_value, form_of}
+use Rattle.mid_program.specs.Mid.{Kind, Boxed, Unboxed, Many, Global, Code, Do, Over, Compare, Call, Ask, AskLine, FileLine, Replace, Number, Text, Unset, Get, Set, Array, IsOpen, Choose, Seq, Let, Bound, Codes, End, At, Fixed, Fresh, Step, Eval, Block as Steps_, If as Either, Loop, Each, Break, Continue, Next, Exit, ExitWith, Return, Mark, Steps, NoStep, Then as AndThen, Program, Routine, Form, Answered, Bare, Perhaps, a_value, form_of}
 use Rattle.mid_program.specs.declared.mid.Operation.{Operation}
 use Rattle.mid_program.specs.declared.mid.Arithmetic.{Arithmetic}
 use Rattle.mid_program.specs.declared.mid.Operation.TheVariants.{Host, Inline, AsNumber}
@@ -25,7 +25,7 @@ use Rattle.lower_model.specs.Functions.{layout_of, main_bases, main_callee, rout
 use Rattle.lower_model.specs.Places.{Bases}
 use Rattle.lower_model.specs.Quick.{Within, test_within, joined, all_unsure, Source, source_in, Sum, sum_names, sum_op, sum_in, sum_of, two_sum, set_sum, kept_sum, update_sum, old_source, stored_name, new_sum, let_sum, Update, update_in, Tally, tally_in, Remainder, remainder_in, remainder_names, Counted, counted_in, Pair, pair_names, pair_in, step_jumps, is_nothing}
 use Rattle.lower_model.specs.Small.{does, either}
-use Rattle.lower_model.specs.Statements.{name_read, name_numbered, sum_kept, sum_taken, both_asked, element_numbered, element_given, remainder_dropped, barely_dropped, plainly_dropped, quickly_dropped, left_unless_counted, left_unless_pair, left_unless, again, all_emptied, arrays_emptied, before_parts, block, iterator_left, iterators_emptied, key_stored, left_by, names_declared, names_made, part_done, record_done, records_read, routines_declared, step_emitted, steps_emitted, temporaries_emptied}
+use Rattle.lower_model.specs.Statements.{answer_given, returned, name_read, name_numbered, sum_kept, sum_taken, both_asked, element_numbered, element_given, remainder_dropped, barely_dropped, plainly_dropped, quickly_dropped, left_unless_counted, left_unless_pair, left_unless, again, all_emptied, arrays_emptied, before_parts, block, iterator_left, iterators_emptied, key_stored, left_by, names_declared, names_made, part_done, record_done, records_read, routines_declared, step_emitted, steps_emitted, temporaries_emptied}
 use Rattle.lower_model.proofs.Tallies.{Shape, Updating, Following, Leading, tally_code, tally_is}
 use Rattle.lower_model.proofs.Updating.{added_code, added_is}
 use Rattle.lower_needs.specs.Labels.{choice_labels, labels_among, labels_in, more_if, step_labels, steps_labels}
@@ -372,6 +372,23 @@ module _ (y : Layout) where
   body_labelled true r q z = both (inside_block r) (behind_block z)
   body_labelled false r q z = q
 
+  given_deep : {k : Instructions} {m : ℕ} (f : Form) (d : ℕ) → Deep k m → Deep (answer_given y f d k) m
+  given_deep (Answered (answer.Of sort.Value)) d r = record { count = let h = r.count in omega (arith, h) }
+  given_deep (Answered (answer.Of sort.Number)) d r = record { count = let h = r.count in omega (arith, h) }
+  given_deep (Answered answer.Truth) d r = record { count = let h = r.count in omega (arith, h) }
+  given_deep Bare d r = record { count = let h = r.count in omega (arith, h) }
+  given_deep Perhaps d r = record { count = let h = r.count in omega (arith, h) }
+  given_deep f d r = record { count = let h = r.count in omega (arith, h) }
+
+  returned_deep : {k : Instructions} {m : ℕ} (e : Code) (d : ℕ) → Deep k m → Deep (returned y e d k) m
+  returned_deep (Choose sort.Value e a c) d r = tested_deep y [] [] e zero zero d (behind_either r)
+  returned_deep e d r = emitted_deep y false [] [] e zero zero d (given_deep (form_of [] e) d r)
+
+  returned_labelled : (k : Instructions) (e : Code) (d : ℕ) → Deep (returned y e d k) (labels_in e)
+  returned_labelled k (Choose sort.Value e a c) d =
+      both (labelled _ false [] [] e zero zero d) (tested_deep y [] [] e zero zero d (inside_either (returned_labelled Done a (suc d)) (returned_labelled Done c (suc d))))
+  returned_labelled k e d = labelled _ false [] [] e zero zero d
+
   mutual
     unfolding step_emitted steps_emitted
 
@@ -387,7 +404,7 @@ module _ (y : Layout) where
     step_deep Next u d bk ct r = past _ (left_by_deep _ d r)
     step_deep Exit u d bk ct r = past _ (left_by_deep _ d r)
     step_deep (ExitWith e) u d bk ct r = past _ (emitted_deep y false [] [] e zero zero d (to_number_deep b (form_of [] e) zero d (past _ (past _ (left_by_deep _ d r)))))
-    step_deep (Return e) u d bk ct r = past _ (emitted_deep y false [] [] e zero zero d (to_value_deep b (form_of [] e) zero (past _ (past _ (past _ (past _ (past _ r)))))))
+    step_deep (Return e) u d bk ct r = past _ (returned_deep e d r)
     step_deep (Mark i c) u d bk ct r = past _ (past _ (past _ r))
 
     steps_deep : {k : Instructions} {m : ℕ} (ss : Steps) (u d bk ct : ℕ) → Deep k m → Deep (steps_emitted y ss u d bk ct k) m
@@ -419,7 +436,7 @@ module _ (y : Layout) where
     step_labelled k Next u d bk ct = any
     step_labelled k Exit u d bk ct = any
     step_labelled k (ExitWith e) u d bk ct = past _ (labelled _ false [] [] e zero zero d)
-    step_labelled k (Return e) u d bk ct = past _ (labelled _ false [] [] e zero zero d)
+    step_labelled k (Return e) u d bk ct = past _ (returned_labelled k e d)
     step_labelled k (Mark i c) u d bk ct = any
 
     pub steps_labelled : (k : Instructions) (ss : Steps) (u d bk ct : ℕ) → Deep (steps_emitted y ss u d bk ct k) (steps_labels ss)
@@ -447,7 +464,7 @@ module _ (y : Layout) where
 pub routine_labelled : (p : Program) (r : Routine) → steps_labels r.body ≤ depths (routine_callee p r).body
 routine_labelled p r =
     let y = layout_of p (routine_bases r) in
-    (at_least (emptied_deep y (inside_block (steps_labelled y _ r.body zero zero zero zero))) (omega arith)).count
+    (at_least (emptied_deep y (inside_block (inside_block (steps_labelled y _ r.body zero zero zero zero)))) (omega arith)).count
 
 -- `main`.
 

@@ -111,7 +111,7 @@ fn put_temporaries(types: &mut Vec<ValType>, count: u32) -> Result<(), AllocErro
 pub fn local_types(alloc: Global, needs: Needs) -> Result<Vec<ValType>, AllocError>
     ensures { IfOk result (λ types. types.items ≡ local_types (view_needs needs)) }
 {
-    let mut types = vec![in alloc; ValType::I32]?;
+    let mut types = vec![in alloc; ValType::I64]?;
     put_temporaries(&mut types, needs.temporaries)?;
     put_handles(&mut types, needs.iterators)?;
     put_handles(&mut types, needs.arrays)?;

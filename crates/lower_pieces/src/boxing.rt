@@ -17,9 +17,6 @@ use sem_primitives::{Answer, Primitive, Sort};
 use std::alloc::{AllocError, Global};
 use wasm_types::{Instr, Simple};
 
-/// In an unboxed name: that a text stands beside it.
-pub const TEXT_BESIDE: u64 = LEAST + 1;
-
 /// Boxes the number of a temporary.
 pub fn boxed_number(bases: &Bases, out: &mut Vec<Instr>, temporary: u32) -> Result<(), AllocError>
     requires { temporary ≤ most_places }

@@ -8,13 +8,12 @@ ghost use Rattle.lower_pieces.specs.Forms.{view_form};
 ghost use Rattle.lower_pieces.specs.Fragments.{host_compared, parted};
 
 use crate::bases::Bases;
-use crate::boxing::TEXT_BESIDE;
 use crate::converting::to_value;
 use crate::emit::{ask_row, does, does_all, either};
 use crate::faults::number_is;
 use crate::form::Form;
 use crate::handles::moved_out;
-use crate::keeping::kept_code;
+use crate::keeping::{TEXT_BESIDE, kept_code};
 use crate::numbers::zeroed;
 use awk_values::CompareOp;
 use sem_primitives::{Answer, Primitive, Sort};

@@ -9,10 +9,11 @@ ghost use Rattle.lower_pieces.specs.Emits.{Emits};
 ghost use Rattle.lower_pieces.specs.Forms.{view_form};
 
 use crate::bases::Bases;
-use crate::boxing::{TEXT_BESIDE, boxed_number, boxed_perhaps};
+use crate::boxing::{boxed_number, boxed_perhaps};
 use crate::emit::{ask_row, does, either};
 use crate::faults::number_is;
 use crate::form::Form;
+use crate::keeping::TEXT_BESIDE;
 use sem_primitives::{Answer, Primitive, Sort};
 use std::alloc::{AllocError, Global};
 use wasm_types::{Instr, Simple};

@@ -1,19 +1,31 @@
 //! Answers that are kept in temporaries. Where one may stand for a fault, and does, the function is left.
-ghost use Rattle.std.specs.Prelude.{◌≤◌, OnOk};
+ghost use Rattle.std.specs.Prelude.{[], ◌≤◌, IfOk, OnOk, suc};
+ghost use Rattle.wasm_types.specs.declared.instr.Simple.TheVariants.{BrIf};
 ghost use Rattle.lower_model.specs.Places.{Bases as PlainBases};
-ghost use Rattle.lower_model.specs.Small.{kept, kept_code, kept_done, kept_number, kept_value};
-ghost use Rattle.lower_pieces.specs.Bounds.{most_places};
+ghost use Rattle.lower_model.specs.Places.{number_local};
+ghost use Rattle.lower_model.specs.Small.{answer_kept, does, kept, kept_code, kept_done, kept_number, kept_value, number_is, text_or_left, text_taken, was_left};
+ghost use Rattle.lower_pieces.specs.Bounds.{most_labels, most_places};
 ghost use Rattle.lower_pieces.specs.Emits.{Emits};
 
 use crate::bases::Bases;
-use crate::emit::{does, does_all};
+use crate::emit::{does, does_all, either, when};
+use crate::faults::number_is;
 use crate::handles::MINUS_ONE;
 use sem_primitives::{Answer, Sort};
-use std::alloc::AllocError;
+use std::alloc::{AllocError, Global};
 use wasm_types::{CvtOp, IRelOp, Instr, Simple, ValType};
 
 /// The least number of 64 bits, which stands for a fault where an answer is a number, and in an unboxed name for none.
 pub const LEAST: u64 = 1 << 63;
+
+/// In an unboxed name: that a text stands beside it; as an answer, that one waits.
+pub const TEXT_BESIDE: u64 = LEAST + 1;
+
+/// What a function answers that was left.
+pub const WAS_LEFT: u64 = LEAST + 2;
+
+/// Where the handle of a text waits that a function returns.
+pub const TEXT_GLOBAL: u32 = 2;
 
 /// Keeps a code, as a number.
 pub fn kept_code(
@@ -96,6 +108,78 @@ pub fn kept_number(
     } else {
         does(out, Simple::LocalSet(local))
     }
+}
+
+/// What moves the text that a function returned to a temporary.
+fn text_taken(alloc: Global, bases: &Bases, temporary: u32) -> Result<Vec<Instr>, AllocError>
+    requires { temporary ≤ most_places }
+    ensures { IfOk result (λ code. Emits [] code.items (text_taken bases.now temporary)) }
+{
+    let mut code = Vec::new(alloc);
+    let all = [
+        Simple::GlobalGet(TEXT_GLOBAL),
+        Simple::LocalSet(bases.handle(temporary)),
+    ];
+    does_all(&mut code, &all)?;
+    Ok(code)
+}
+
+/// What leaves the function where the one that was called was left, from within two labels more.
+fn left_too(
+    alloc: Global,
+    bases: &Bases,
+    temporary: u32,
+    exit: u32,
+) -> Result<Vec<Instr>, AllocError>
+    requires places { temporary ≤ most_places }
+    requires labels { exit ≤ most_labels }
+    ensures { IfOk result (λ code. Emits [] code.items (λ after. number_is (number_local bases.now temporary)
+        was_left (does (BrIf (suc (suc exit))) after))) }
+{
+    let mut code = Vec::new(alloc);
+    number_is(&mut code, bases.number(temporary), WAS_LEFT)?;
+    does(&mut code, Simple::BrIf(exit + 2))?;
+    Ok(code)
+}
+
+/// What is done with an answer of a function that is no number.
+fn text_or_left(
+    alloc: Global,
+    bases: &Bases,
+    temporary: u32,
+    exit: u32,
+) -> Result<Vec<Instr>, AllocError>
+    requires places { temporary ≤ most_places }
+    requires labels { exit ≤ most_labels }
+    ensures { IfOk result (λ code. Emits [] code.items (text_or_left bases.now temporary exit)) }
+{
+    let mut code = Vec::new(alloc);
+    number_is(&mut code, bases.number(temporary), TEXT_BESIDE)?;
+    let taken = text_taken(alloc, bases, temporary)?;
+    either(alloc, &mut code, taken, left_too(alloc, bases, temporary, exit)?)?;
+    Ok(code)
+}
+
+/// Keeps the answer of a function.
+pub fn answer_kept(
+    alloc: Global,
+    bases: &Bases,
+    out: &mut Vec<Instr>,
+    temporary: u32,
+    exit: u32,
+) -> Result<(), AllocError>
+    requires places { temporary ≤ most_places }
+    requires labels { exit ≤ most_labels }
+    ensures { OnOk result
+        (Emits out.old.items out.new.items (answer_kept bases.now temporary exit)) }
+{
+    let all = [
+        Simple::LocalTee(bases.number(temporary)),
+        Simple::I64Const(WAS_LEFT),
+        Simple::Compare(ValType::I64, IRelOp::LeS),
+    ];
+    does_all(out, &all)?;
+    when(alloc, out, text_or_left(alloc, bases, temporary, exit)?)
 }
 
 /// Takes the answer that something is done.

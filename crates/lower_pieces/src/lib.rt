@@ -17,14 +17,16 @@ mod telling;
 
 pub use arithmetic::{calculated, field_checked};
 pub use bases::Bases;
-pub use boxing::{TEXT_BESIDE, boxed_number, boxed_perhaps};
+pub use boxing::{boxed_number, boxed_perhaps};
 pub use comparing::{compared, comparison_number, is_value, relation};
 pub use converting::to_value;
 pub use emit::{again, ask, ask_row, block, does, does_all, either, when};
 pub use faults::{fail_if, number_is};
 pub use form::Form;
 pub use handles::{MINUS_ONE, copied_by, copied_if_any, emptied, going, let_go, moved_out};
-pub use keeping::{LEAST, kept, kept_code, kept_number, kept_value};
+pub use keeping::{
+    LEAST, TEXT_BESIDE, TEXT_GLOBAL, WAS_LEFT, answer_kept, kept, kept_code, kept_number, kept_value,
+};
 pub use letting::{bound_from, moved_from, released, unused};
 pub use numbers::{code_number, converted, to_number, zeroed};
 pub use telling::truth;

@@ -11,13 +11,12 @@ ghost use Rattle.lower_pieces.specs.Emits.{Emits};
 ghost use Rattle.lower_pieces.specs.Forms.{view_form};
 
 use crate::bases::Bases;
-use crate::boxing::TEXT_BESIDE;
 use crate::converting::to_value;
 use crate::emit::{ask_row, does_all, either, when};
 use crate::faults::number_is;
 use crate::form::Form;
 use crate::handles::moved_out;
-use crate::keeping::{LEAST, kept_number};
+use crate::keeping::{LEAST, TEXT_BESIDE, kept_number};
 use sem_primitives::{Answer, Primitive, Sort};
 use std::alloc::{AllocError, Global};
 use wasm_types::{CvtOp, IBinOp, IRelOp, Instr, Simple, ValType};

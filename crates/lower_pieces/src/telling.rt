@@ -12,11 +12,11 @@ ghost use Rattle.lower_pieces.specs.Forms.{view_form};
 ghost use Rattle.lower_pieces.specs.Fragments.{told};
 
 use crate::bases::Bases;
-use crate::boxing::TEXT_BESIDE;
 use crate::emit::{ask_row, does_all, either};
 use crate::faults::number_is;
 use crate::form::Form;
 use crate::handles::moved_out;
+use crate::keeping::TEXT_BESIDE;
 use crate::numbers::{zeroed, zeroed_code};
 use sem_primitives::{Answer, Primitive, Sort};
 use std::alloc::{AllocError, Global};

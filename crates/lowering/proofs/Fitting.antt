@@ -358,8 +358,10 @@ module _ {c : Context} {y : Layout} (n : Named c y) where
       code_fits n [] e 0 0 d (and_parts (fits (form_of [] e) sort.Number) (sorted c [] e) s).1 (record { places = omega (arith, r.places); arrays = omega (arith, r.arrays); labels = omega (arith, r.labels) }),
     )
     step_fits o l (Return e) u d s r =
-        let s1 = and_parts o (fits (form_of [] e) sort.Value && sorted c [] e) s in
-        code_fits n [] e 0 0 d (and_parts (fits (form_of [] e) sort.Value) (sorted c [] e) s1.1).1 (record { places = omega (arith, r.places); arrays = omega (arith, r.arrays); labels = omega (arith, r.labels) })
+        let s1 = and_parts o (fits (form_of [] e) sort.Value && sorted c [] e) s in (
+          omega (arith, r.labels),
+          code_fits n [] e 0 0 d (and_parts (fits (form_of [] e) sort.Value) (sorted c [] e) s1.1).1 (record { places = omega (arith, r.places); arrays = omega (arith, r.arrays); labels = omega (arith, r.labels) }),
+        )
     step_fits o l (Mark i b) u d s r = let lt = ltb-true i c.ranges s in let few = n.ranges in omega (arith, lt, few)
 
     pub steps_fit : (o l : Bool) (ss : Steps) (u d : ℕ) → steps_sorted c o l ss ≡ true → StepsRoom ss u d → StepsFit y ss u d

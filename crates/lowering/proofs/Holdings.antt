@@ -1,13 +1,14 @@
 -- What a function holds is emptied and let go as the definitions say it, sort by sort.
 use Rattle.std.proofs.Common.{◌≡◌, ℕ, zero, suc, ◌+◌, ◌-◌, ◌<◌, Bool, true, false, List, [], ◌∷◌, length, map, refl, sym, ap, ◌∙◌, arith}
 use Rattle.wasm_types.specs.Syntax.{Instructions}
+use Rattle.wasm_types.specs.declared.instr.Simple.TheVariants.{I64Const, LocalSet}
 use Rattle.mid_program.specs.Mid as plain
 use Rattle.mid_program.specs.View.{view_routine}
 use Rattle.mid_program.specs.declared.program.Routine.{Routine}
 use Rattle.lower_model.specs.Emission.{Layout}
-use Rattle.lower_model.specs.Places.{Bases, array_local, handle_local, iterator_local}
-use Rattle.lower_model.specs.Small.{emptied, let_go}
-use Rattle.lower_model.specs.Statements.{all_emptied, arrays_emptied, arrays_swept, has_functions, iterators_emptied, iterators_swept, left_swept, swept, temporaries_emptied, temporaries_swept}
+use Rattle.lower_model.specs.Places.{Bases, answer_local, array_local, handle_local, iterator_local}
+use Rattle.lower_model.specs.Small.{does, emptied, let_go, was_left}
+use Rattle.lower_model.specs.Statements.{all_emptied, arrays_emptied, arrays_swept, has_functions, iterators_emptied, iterators_swept, left_swept, operands_swept, swept, temporaries_emptied, temporaries_swept}
 use Rattle.host_imports.specs.declared.import.Import.TheVariants.{Drop, FreeArray, IterFree}
 use Rattle.lowering.specs.Holding.{held_emptied, held_import, held_local, held_swept}
 use Rattle.lowering.specs.declared.holding.Held.{Held}
@@ -45,7 +46,7 @@ temporaries_sweep : (y : Layout) (i m : ℕ) (k : Instructions) → held_swept T
 temporaries_sweep y i zero k = refl
 temporaries_sweep y i (suc m) k = ap (let_go Drop (handle_local y.bases i)) (temporaries_sweep y (suc i) m k)
 
-iterators_sweep : (y : Layout) (i m : ℕ) (k : Instructions) → held_swept Iterators y.bases i m k ≡ iterators_swept y i m k
+pub iterators_sweep : (y : Layout) (i m : ℕ) (k : Instructions) → held_swept Iterators y.bases i m k ≡ iterators_swept y i m k
 iterators_sweep y i zero k = refl
 iterators_sweep y i (suc m) k = ap (let_go IterFree (iterator_local y.bases i)) (iterators_sweep y (suc i) m k)
 
@@ -61,10 +62,14 @@ held_swept_all y k =
     temporaries_sweep y zero y.bases.temporaries _
     ∙ ap (temporaries_swept y zero y.bases.temporaries) (iterators_sweep y zero y.bases.iterators _ ∙ ap (iterators_swept y zero y.bases.iterators) (arrays_sweep y zero y.bases.arrays k))
 
+pub operands_sweep : (y : Layout) (k : Instructions) →
+    held_swept Temporaries y.bases zero y.bases.temporaries (held_swept Arrays y.bases zero y.bases.arrays k) ≡ operands_swept y k
+operands_sweep y k = temporaries_sweep y zero y.bases.temporaries _ ∙ ap (temporaries_swept y zero y.bases.temporaries) (arrays_sweep y zero y.bases.arrays k)
+
 pub held_emptied_all : (y : Layout) (k : Instructions) →
-    emptied y.bases.parameters (held_emptied Temporaries y.bases zero y.bases.temporaries (held_emptied Iterators y.bases zero y.bases.iterators (held_emptied Arrays y.bases zero y.bases.arrays k))) ≡ all_emptied y k
+    does (I64Const was_left) (does (LocalSet (answer_local y.bases)) (held_emptied Temporaries y.bases zero y.bases.temporaries (held_emptied Iterators y.bases zero y.bases.iterators (held_emptied Arrays y.bases zero y.bases.arrays k)))) ≡ all_emptied y k
 held_emptied_all y k =
-    ap (emptied y.bases.parameters) (temporaries_empty y zero y.bases.temporaries _
+    ap (λ (x : Instructions). does (I64Const was_left) (does (LocalSet (answer_local y.bases)) x)) (temporaries_empty y zero y.bases.temporaries _
     ∙ ap (temporaries_emptied y zero y.bases.temporaries) (iterators_empty y zero y.bases.iterators _ ∙ ap (iterators_emptied y zero y.bases.iterators) (arrays_empty y zero y.bases.arrays k)))
 
 -- what `next` and `exit` left: all, or no more than iterators where there are no functions

@@ -16,8 +16,8 @@ use Rattle.mid_program.specs.Mid.{Kind, Boxed, Unboxed, Many, Code, Form, Step, 
 use Rattle.lower_model.specs.Emission.{Layout, array_pushed, emitted, pending_assigned, tested}
 use Rattle.lower_model.specs.Quick.{Counted, Pair, Remainder, Sum, all_unsure, sum_names, sum_op, Tally, Within, is_nothing, pair_in, step_jumps, test_within}
 use Rattle.lower_model.specs.Places.{Bases, answer_local, handle_global, iterator_local, status_global, way_global, handle_local, number_local}
-use Rattle.lower_model.specs.Small.{ask, ask_row, does, either, end_code, fail_if, kept_code, moved_out, number_is, text_beside, to_number, to_value, when}
-use Rattle.lower_model.specs.Statements.{again, all_emptied, before_parts, block, first_part, goes_on, iterator_left, key_stored, last_part, left_by, left_unless, left_unless_counted, left_unless_pair, name_numbered, name_read, names_declared, parameters_dropped, part_done, record_done, records_read, routines_declared, step_emitted, steps_emitted, sum_kept, element_given, remainder_dropped, summed, summed_anyway, swept, way_exit, way_next}
+use Rattle.lower_model.specs.Small.{ask, ask_row, does, either, end_code, fail_if, kept_code, least, moved_out, number_is, text_beside, to_number, to_value, when}
+use Rattle.lower_model.specs.Statements.{again, all_emptied, before_parts, block, constant_given, first_part, goes_on, iterator_left, iterators_swept, operands_swept, key_stored, last_part, left_by, left_unless, left_unless_counted, left_unless_pair, name_numbered, name_read, names_declared, parameters_dropped, part_done, record_done, records_read, routines_declared, step_emitted, steps_emitted, sum_kept, element_given, remainder_dropped, summed, summed_anyway, swept, way_exit, way_next}
 use Rattle.host_imports.specs.declared.import.Import.TheVariants.{Drop}
 use Rattle.lowering.specs.declared.around.Around.{Around}
 
@@ -25,10 +25,6 @@ use Rattle.lowering.specs.declared.around.Around.{Around}
 abbrev pub status_left : Bases → Form → ℕ → Instructions → Instructions
 status_left bases form exit after =
     to_number bases form zero exit (does (LocalGet (number_local bases zero)) (does (GlobalSet status_global) (left_by way_exit exit after)))
-
--- an answer of this form is given
-abbrev pub answer_left : Bases → Form → ℕ → Instructions → Instructions
-answer_left bases form exit after = to_value bases form zero (moved_out (handle_local bases zero) (does (LocalSet (answer_local bases)) (does (Br exit) after)))
 
 -- what is done over and over, within a label for its end
 abbrev pub rounds : Instructions → Instructions → Instructions
@@ -191,17 +187,22 @@ parameter_dropped Boxed place after = does (LocalGet place) (ask Drop after)
 parameter_dropped Unboxed place after = after
 parameter_dropped Many place after = after
 
--- what a function has is let go, and its answer given
+-- what a function has where it returns is let go, and its answer given
 abbrev pub answer_given : Layout → List Kind → Instructions → Instructions
-answer_given layout kinds after = swept layout (parameters_dropped layout zero kinds (does (LocalGet (answer_local layout.bases)) after))
+answer_given layout kinds after =
+    iterators_swept layout zero layout.bases.iterators (parameters_dropped layout zero kinds (does (LocalGet (answer_local layout.bases)) after))
 
 -- the statements of a function
 abbrev pub routine_steps : Layout → Steps → Instructions → Instructions
-routine_steps layout body after = steps_emitted layout body zero zero zero zero (ask_row row.Uninit (does (LocalSet (answer_local layout.bases)) after))
+routine_steps layout body after = steps_emitted layout body zero zero zero zero (constant_given layout least 1 after)
+
+-- the same, and what a function holds that is left
+abbrev pub routine_way : Layout → Steps → Instructions → Instructions
+routine_way layout body after = block (routine_steps layout body Done) (operands_swept layout after)
 
 -- a function, with more after it
 abbrev pub routine_code : Layout → List Kind → Steps → Instructions → Instructions
-routine_code layout kinds body after = all_emptied layout (block (routine_steps layout body Done) (answer_given layout kinds after))
+routine_code layout kinds body after = all_emptied layout (block (routine_way layout body Done) (answer_given layout kinds after))
 
 -- `main`
 

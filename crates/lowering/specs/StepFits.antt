@@ -43,7 +43,7 @@ abbrev mutual
   StepFits layout Next iterators exit = Unit {0}
   StepFits layout Exit iterators exit = Unit {0}
   StepFits layout (ExitWith code) iterators exit = (exit ≤ most_labels) × Fits layout code zero zero exit
-  StepFits layout (Return code) iterators exit = Fits layout code zero zero exit
+  StepFits layout (Return code) iterators exit = (exit ≤ most_labels) × Fits layout code zero zero exit
   StepFits layout (Mark item opens) iterators exit = item ≤ most_places
 
   pub StepsFit : Layout → Steps → (iterators exit : ℕ) → Type 0

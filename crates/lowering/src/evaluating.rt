@@ -12,7 +12,7 @@ ghost use Rattle.lower_pieces.specs.Forms.{view_form};
 ghost use Rattle.lower_expressions.specs.Fits.{Fits};
 ghost use Rattle.lower_expressions.specs.View.{view_layout};
 ghost use Rattle.lower_quick.specs.View.{view_remainder, view_sum};
-ghost use Rattle.lowering.specs.Parts.{answer_left, remainder_done, status_left, sum_done};
+ghost use Rattle.lowering.specs.Parts.{remainder_done, status_left, sum_done};
 ghost use Rattle.lowering.specs.QuickFits.{RemainderFits, SumFits};
 
 use crate::leaving::{WAY_EXIT, left_by};
@@ -20,7 +20,7 @@ use crate::quick::{all_unsure, most_multiplied, remainder_code, sum_code};
 use crate::summing::{anyway_code, updated};
 use crate::tallying::tallied;
 use lower_expressions::{At, FunctionLayout, Kept, expression, left_over};
-use lower_pieces::{Bases, Form, does_all, either, moved_out, to_number, to_value, truth};
+use lower_pieces::{Bases, Form, does_all, either, to_number, truth};
 use lower_quick::{
     Remainder, Sum, remainder_in, remainder_names, sum_in, sum_names, tally_in, update_in,
 };
@@ -261,36 +261,4 @@ pub(crate) fn exit_with(
 {
     let form = answered(layout, out, code, exit)?;
     status_left(layout.alloc, layout.bases, out, form, exit)
-}
-
-/// Gives the answer of a function.
-fn answer_left(
-    alloc: Global,
-    bases: &Bases,
-    out: &mut Vec<Instr>,
-    form: Form,
-    exit: u32,
-) -> Result<(), AllocError>
-    ensures { OnOk result
-        (Emits out.old.items out.new.items (answer_left bases.now (view_form form) exit)) }
-{
-    to_value(alloc, bases, out, form, 0)?;
-    moved_out(out, bases.handle(0))?;
-    does_all(out, &[Simple::LocalSet(bases.answer()), Simple::Br(exit)])
-}
-
-/// Adds `return`.
-pub(crate) fn returned(
-    layout: &FunctionLayout<'_>,
-    out: &mut Vec<Instr>,
-    code: &Code,
-    exit: u32,
-) -> Result<(), AllocError>
-    requires { Fits (view_layout layout.now) (view code.now) 0 0 exit }
-    ensures { OnOk result (Emits out.old.items out.new.items
-        (λ after. emitted (view_layout layout.now) false [] [] (view code.now) 0 0 exit
-        (answer_left layout.now.bases.now (form_of [] (view code.now)) exit after))) }
-{
-    let form = answered(layout, out, code, exit)?;
-    answer_left(layout.alloc, layout.bases, out, form, exit)
 }

@@ -1,6 +1,6 @@
 //! What a function holds: emptied at its beginning, and let go on every way out.
 ghost use Rattle.std.specs.Prelude.{◌≡◌, ◌≤◌, OnOk};
-ghost use Rattle.lower_model.specs.Statements.{all_emptied, has_functions, left_swept, swept};
+ghost use Rattle.lower_model.specs.Statements.{all_emptied, has_functions, iterators_swept, left_swept, operands_swept, swept};
 ghost use Rattle.lower_pieces.specs.Bounds.{most_places};
 ghost use Rattle.lower_pieces.specs.Emits.{Emits};
 ghost use Rattle.lower_expressions.specs.View.{view_layout};
@@ -8,9 +8,9 @@ ghost use Rattle.lowering.specs.Holding.{held_count, held_emptied, held_import, 
 
 use host_imports::Import;
 use lower_expressions::FunctionLayout;
-use lower_pieces::{Bases, emptied, let_go};
+use lower_pieces::{Bases, WAS_LEFT, does_all, emptied, let_go};
 use std::alloc::AllocError;
-use wasm_types::Instr;
+use wasm_types::{Instr, Simple};
 
 /// What a function holds beside its answer.
 #[derive(Clone, Copy, Debug, Drop)]
@@ -75,7 +75,7 @@ pub(crate) fn all_emptied(
     ensures { OnOk result
         (Emits out.old.items out.new.items (all_emptied (view_layout layout.now))) }
 {
-    emptied(out, layout.bases.answer())?;
+    does_all(out, &[Simple::I64Const(WAS_LEFT), Simple::LocalSet(layout.bases.answer())])?;
     held_emptied(layout.bases, out, Held::Temporaries)?;
     held_emptied(layout.bases, out, Held::Iterators)?;
     held_emptied(layout.bases, out, Held::Arrays)
@@ -105,6 +105,28 @@ pub(crate) fn swept(layout: &FunctionLayout<'_>, out: &mut Vec<Instr>) -> Result
     held_swept(layout, out, Held::Temporaries)?;
     held_swept(layout, out, Held::Iterators)?;
     held_swept(layout, out, Held::Arrays)
+}
+
+/// Lets go of temporaries and of arrays of calls.
+pub(crate) fn operands_swept(
+    layout: &FunctionLayout<'_>,
+    out: &mut Vec<Instr>,
+) -> Result<(), AllocError>
+    ensures { OnOk result (Emits out.old.items out.new.items (operands_swept (view_layout layout.now))) }
+{
+    held_swept(layout, out, Held::Temporaries)?;
+    held_swept(layout, out, Held::Arrays)
+}
+
+/// Lets go of iterators.
+pub(crate) fn iterators_swept(
+    layout: &FunctionLayout<'_>,
+    out: &mut Vec<Instr>,
+) -> Result<(), AllocError>
+    ensures { OnOk result (Emits out.old.items out.new.items
+        (iterators_swept (view_layout layout.now) 0 layout.now.bases.now.iterators)) }
+{
+    held_swept(layout, out, Held::Iterators)
 }
 
 /// Lets go of what `next` or `exit` left in `main`: where the script has no functions, that is no more than iterators.

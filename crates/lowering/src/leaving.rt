@@ -41,7 +41,7 @@ pub(crate) fn marked(out: &mut Vec<Instr>, item: usize, opens: bool) -> Result<(
 {
     let all = [
         Simple::I32Const(u32::from(opens)),
-        Simple::GlobalSet(item as u32 + 2),
+        Simple::GlobalSet(item as u32 + 3),
     ];
     does_all(out, &all)
 }

@@ -11,6 +11,7 @@ mod loops;
 mod main_parts;
 mod quick;
 mod records;
+mod returning;
 mod routines;
 mod script;
 mod steps;

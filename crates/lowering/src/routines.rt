@@ -7,17 +7,17 @@ ghost use Rattle.lower_model.specs.Statements.{parameters_dropped, routine_body}
 ghost use Rattle.lower_pieces.specs.Bounds.{most_places};
 ghost use Rattle.lower_pieces.specs.Emits.{Emits};
 ghost use Rattle.lower_expressions.specs.View.{view_layout};
-ghost use Rattle.lowering.specs.Parts.{answer_given, parameter_dropped, routine_code, routine_steps};
+ghost use Rattle.lowering.specs.Parts.{answer_given, parameter_dropped, routine_code, routine_steps, routine_way};
 ghost use Rattle.lowering.specs.StepFits.{StepsFit};
 
 use crate::around::OUTERMOST;
-use crate::holding::{all_emptied, swept};
+use crate::holding::{all_emptied, iterators_swept, operands_swept};
+use crate::returning::constant_given;
 use crate::steps::statements;
 use host_imports::Import;
 use lower_expressions::FunctionLayout;
-use lower_pieces::{ask, ask_row, block, does};
+use lower_pieces::{LEAST, ask, block, does};
 use mid_program::{Kind, Step};
-use sem_primitives::Primitive;
 use std::alloc::AllocError;
 use wasm_types::{Instr, Simple};
 
@@ -53,7 +53,7 @@ fn parameters_dropped(
     Ok(())
 }
 
-/// The statements of a function, after which the answer is the uninitialised value.
+/// The statements of a function, after which it answers nothing.
 fn body_code(layout: &FunctionLayout<'_>, body: &[Step]) -> Result<Vec<Instr>, AllocError>
     requires { StepsFit (view_layout layout.now) (view_steps body.now) 0 0 }
     ensures { IfOk result (λ code. Emits [] code.items
@@ -61,12 +61,24 @@ fn body_code(layout: &FunctionLayout<'_>, body: &[Step]) -> Result<Vec<Instr>, A
 {
     let mut code = Vec::new(layout.alloc);
     statements(layout, &mut code, body, OUTERMOST)?;
-    ask_row(&mut code, Primitive::Uninit)?;
-    does(&mut code, Simple::LocalSet(layout.bases.answer()))?;
+    constant_given(layout, &mut code, LEAST, 1)?;
     Ok(code)
 }
 
-/// Lets go of what a function has, and gives its answer.
+/// The statements of a function, and what it holds let go where it is left.
+fn left_code(layout: &FunctionLayout<'_>, body: &[Step]) -> Result<Vec<Instr>, AllocError>
+    requires { StepsFit (view_layout layout.now) (view_steps body.now) 0 0 }
+    ensures { IfOk result
+        (λ code. Emits [] code.items (routine_way (view_layout layout.now) (view_steps body.now))) }
+{
+    let mut code = Vec::new(layout.alloc);
+    let inside = body_code(layout, body)?;
+    block(layout.alloc, &mut code, inside)?;
+    operands_swept(layout, &mut code)?;
+    Ok(code)
+}
+
+/// Lets go of iterators and of the values of parameters, and gives the answer.
 fn answer_given(
     layout: &FunctionLayout<'_>,
     out: &mut Vec<Instr>,
@@ -76,7 +88,7 @@ fn answer_given(
     ensures { OnOk result (Emits out.old.items out.new.items
         (answer_given (view_layout layout.now) (map view_kind kinds.now))) }
 {
-    swept(layout, out)?;
+    iterators_swept(layout, out)?;
     parameters_dropped(layout, out, kinds)?;
     does(out, Simple::LocalGet(layout.bases.answer()))
 }
@@ -94,12 +106,12 @@ fn routine_added(
         (routine_code (view_layout layout.now) (map view_kind kinds.now) (view_steps body.now))) }
 {
     all_emptied(layout, out)?;
-    let inside = body_code(layout, body)?;
+    let inside = left_code(layout, body)?;
     block(layout.alloc, out, inside)?;
     answer_given(layout, out, kinds)
 }
 
-/// The code of a function: its body is a block, whose end is the function's exit.
+/// The code of a function: its body is a block, whose end is the exit of one that is left, within a block whose end is that of `return`.
 pub(crate) fn routine_code(
     layout: &FunctionLayout<'_>,
     kinds: &[Kind],

@@ -23,7 +23,7 @@ use lower_needs::{Needs, local_types, main_needs, routine_needs, steps_labels};
 use lower_pieces::Bases;
 use mid_program::{Mid, Routine};
 use std::alloc::Global;
-use wasm_types::{MAX_MODULE_BYTES, MAX_NESTING, Module};
+use wasm_types::{MAX_MODULE_BYTES, MAX_NESTING, Module, ValType};
 
 /// How many labels may stand in one another.
 const MOST_NESTED: u32 = MAX_NESTING;
@@ -86,6 +86,7 @@ fn routine_function(
     Ok(Function {
         kinds,
         locals,
+        answer: ValType::I64,
         body,
     })
 }
@@ -133,6 +134,7 @@ fn main_function(alloc: Global, layout: &Layout<'_>) -> Result<Function, LowerFa
     Ok(Function {
         kinds: Vec::new(alloc),
         locals,
+        answer: ValType::I32,
         body,
     })
 }

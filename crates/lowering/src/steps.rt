@@ -14,9 +14,10 @@ ghost use Rattle.lowering.specs.Places.{OwnLabels};
 ghost use Rattle.lowering.specs.StepFits.{ChoiceFits, has_block, LoopFits, StepFits, StepsFit, TestFits};
 
 use crate::around::{Around, in_body, in_branch, in_keys, in_last};
-use crate::evaluating::{done, exit_with, returned, tested};
+use crate::evaluating::{done, exit_with, tested};
 use crate::leaving::{WAY_EXIT, WAY_NEXT, left_by, marked};
 use crate::loops::{iterator_left, iterator_made, key_stored, rounds, tested_on};
+use crate::returning::returned;
 use crate::testing::{left_unless, left_unless_pair};
 use lower_expressions::FunctionLayout;
 use lower_pieces::{block, does, either};

@@ -123,7 +123,7 @@ pub record Program : Type 0 where
 pub data Form : Type 0 where
   -- what a primitive answers
   Answered : Answer → Form
-  -- what an unboxed name has: a number or nothing, and perhaps a text beside it
+  -- what an unboxed name has, and what a function answers: a number or nothing, and perhaps a text beside it
   Bare : Form
   -- what an unboxed parameter is given: a number or nothing
   Perhaps : Form
@@ -159,7 +159,7 @@ abbrev pub form_of : List Form → Code → Form
 form_of fs (Do o es) = Answered (answer_by o)
 form_of fs (Over l es) = Answered (listed_answer l)
 form_of fs (Compare c a b) = Answered answer.Truth
-form_of fs (Call f es) = a_value
+form_of fs (Call f es) = Bare
 form_of fs Ask = a_number
 form_of fs (AskLine s) = a_number
 form_of fs (FileLine e s) = a_number

@@ -35,7 +35,7 @@ pub(crate) fn mark_code(walk: &mut Walk, code: &Code) -> Result<Form, AllocError
         }
         Code::Call(function, operands) => {
             mark_arguments(walk, *function, operands)?;
-            Ok(Form::Answered(Answer::Of(Sort::Value)))
+            Ok(Form::Bare)
         }
         Code::AskLine(store) => {
             mark_under(walk, Form::Answered(Answer::Of(Sort::Value)), store)?;

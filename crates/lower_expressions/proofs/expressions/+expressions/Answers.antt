@@ -417,6 +417,12 @@ pub call-called-requires-clause-fit : goal.call-called-requires-clause-fit
 call-called-requires-clause-fit t c = arrays_fit (view_layout c.args.layout.now) (views c.args.operands.now) c.args.at.temporary c.args.at.arrays c.args.at.exit
     c.requires.1.1.1
 
+pub call-called-requires-clause-labels : goal.call-called-requires-clause-labels
+call-called-requires-clause-labels t c =
+    let p = all_within (view_layout c.args.layout.now) (views c.args.operands.now) c.args.at.temporary c.args.at.arrays c.args.at.exit c.requires.1.1.1 in
+    let l = p.1.1 in
+    omega (arith, l)
+
 pub replacement-all_operands-requires : goal.replacement-all_operands-requires
 replacement-all_operands-requires t c = (omega (arith, c.decreases), c.requires.1.0)
 

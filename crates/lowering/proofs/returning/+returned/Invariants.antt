@@ -1,0 +1,13 @@
+use Rattle.std.proofs.Common.{◌+◌, ◌*◌}
+use Rattle.mid_program.specs.ViewCode.{view}
+use Rattle.lower_expressions.proofs.Weights.{weight}
+use Rattle.lowering.proofs.returning.+returned.Given as goal
+
+abbrev pub decreases-returned : goal.decreases-returned
+decreases-returned l = 3 * weight (view l.code.now)
+
+abbrev pub decreases-returned_code : goal.decreases-returned_code
+decreases-returned_code l = 3 * weight (view l.code.now) + 1
+
+abbrev pub decreases-chosen_returned : goal.decreases-chosen_returned
+decreases-chosen_returned l = 3 * (weight (view l.test.now) + (weight (view l.yes.now) + weight (view l.no.now))) + 2

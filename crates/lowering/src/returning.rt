@@ -1,0 +1,199 @@
+//! `return`: what a function answers.
+ghost use Rattle.std.specs.Prelude.{[], ◌≡◌, ◌≤◌, false, IfOk, OnOk};
+ghost use Rattle.sem_primitives.specs.declared.sorts.Sort.TheVariants.{Value};
+ghost use Rattle.mid_program.specs.Mid as plain;
+ghost use Rattle.mid_program.specs.Mid.{Bare, form_of};
+ghost use Rattle.mid_program.specs.ViewCode.{view};
+ghost use Rattle.lower_model.specs.Emission.{emitted};
+ghost use Rattle.lower_model.specs.Statements.{answer_given, constant_given, returned, text_given, word_given};
+ghost use Rattle.lower_pieces.specs.Bounds.{most_labels};
+ghost use Rattle.lower_pieces.specs.Emits.{Emits};
+ghost use Rattle.lower_pieces.specs.Forms.{view_form};
+ghost use Rattle.lower_expressions.specs.Fits.{Fits};
+ghost use Rattle.lower_expressions.specs.View.{view_layout};
+
+use crate::evaluating::{answered, tested};
+use lower_expressions::FunctionLayout;
+use lower_pieces::{
+    Form, LEAST, TEXT_BESIDE, TEXT_GLOBAL, does, does_all, either, moved_out, number_is, when,
+};
+use mid_program::Code;
+use sem_primitives::{Answer, Sort};
+use std::alloc::AllocError;
+use wasm_types::{Instr, Simple};
+
+/// Gives a word as the answer.
+pub(crate) fn constant_given(
+    layout: &FunctionLayout<'_>,
+    out: &mut Vec<Instr>,
+    word: u64,
+    out_of: u32,
+) -> Result<(), AllocError>
+    ensures { OnOk result
+        (Emits out.old.items out.new.items (constant_given (view_layout layout.now) word out_of)) }
+{
+    let all = [
+        Simple::I64Const(word),
+        Simple::LocalSet(layout.bases.answer()),
+        Simple::Br(out_of),
+    ];
+    does_all(out, &all)
+}
+
+/// Gives the number of the first temporary as the answer.
+fn word_given(layout: &FunctionLayout<'_>, out: &mut Vec<Instr>, exit: u32) -> Result<(), AllocError>
+    requires { exit ≤ most_labels }
+    ensures { OnOk result
+        (Emits out.old.items out.new.items (word_given (view_layout layout.now) exit)) }
+{
+    let all = [
+        Simple::LocalGet(layout.bases.number(0)),
+        Simple::LocalSet(layout.bases.answer()),
+        Simple::Br(exit + 1),
+    ];
+    does_all(out, &all)
+}
+
+/// Moves the text of the first temporary to where it waits.
+fn text_given(layout: &FunctionLayout<'_>, out: &mut Vec<Instr>) -> Result<(), AllocError>
+    ensures { OnOk result (Emits out.old.items out.new.items (text_given (view_layout layout.now))) }
+{
+    moved_out(out, layout.bases.handle(0))?;
+    does(out, Simple::GlobalSet(TEXT_GLOBAL))
+}
+
+/// The same in a list of its own.
+fn text_code(layout: &FunctionLayout<'_>) -> Result<Vec<Instr>, AllocError>
+    ensures { IfOk result (λ code. Emits [] code.items (text_given (view_layout layout.now))) }
+{
+    let mut code = Vec::new(layout.alloc);
+    text_given(layout, &mut code)?;
+    Ok(code)
+}
+
+/// Gives what may be a number, nothing or a text.
+fn bare_given(layout: &FunctionLayout<'_>, out: &mut Vec<Instr>, exit: u32) -> Result<(), AllocError>
+    requires { exit ≤ most_labels }
+    ensures { OnOk result
+        (Emits out.old.items out.new.items (answer_given (view_layout layout.now) Bare exit)) }
+{
+    number_is(out, layout.bases.number(0), TEXT_BESIDE)?;
+    when(layout.alloc, out, text_code(layout)?)?;
+    word_given(layout, out, exit)
+}
+
+/// Gives what the first temporary has as the answer.
+fn answer_given(
+    layout: &FunctionLayout<'_>,
+    out: &mut Vec<Instr>,
+    form: Form,
+    exit: u32,
+) -> Result<(), AllocError>
+    requires { exit ≤ most_labels }
+    ensures { OnOk result (Emits out.old.items out.new.items
+        (answer_given (view_layout layout.now) (view_form form) exit)) }
+{
+    match form {
+        Form::Answered(Answer::Of(Sort::Value)) => {
+            text_given(layout, out)?;
+            constant_given(layout, out, TEXT_BESIDE, exit + 1)
+        }
+        Form::Bare => bare_given(layout, out, exit),
+        Form::Perhaps | Form::Answered(Answer::Of(Sort::Number) | Answer::Truth) => {
+            word_given(layout, out, exit)
+        }
+        Form::Answered(_) => constant_given(layout, out, LEAST, exit + 1),
+    }
+}
+
+/// The code of `return` in a list of its own.
+#[cycle(returned)]
+fn returned_code(
+    layout: &FunctionLayout<'_>,
+    code: &Code,
+    exit: u32,
+) -> Result<Vec<Instr>, AllocError>
+    requires fit { Fits (view_layout layout.now) (view code.now) 0 0 exit }
+    requires labels { exit ≤ most_labels }
+    ensures { IfOk result (λ all. Emits [] all.items (returned (view_layout layout.now) (view code.now) exit)) }
+{
+    let mut all = Vec::new(layout.alloc);
+    returned(layout, &mut all, code, exit)?;
+    Ok(all)
+}
+
+/// Returns one of two.
+#[cycle(returned)]
+fn chosen_returned(
+    layout: &FunctionLayout<'_>,
+    out: &mut Vec<Instr>,
+    test: &Code,
+    yes: &Code,
+    no: &Code,
+    exit: u32,
+) -> Result<(), AllocError>
+    requires { Fits (view_layout layout.now)
+        (plain.Choose Value (view test.now) (view yes.now) (view no.now)) 0 0 exit }
+    ensures { OnOk result (Emits out.old.items out.new.items (returned (view_layout layout.now)
+        (plain.Choose Value (view test.now) (view yes.now) (view no.now)) exit)) }
+{
+    tested(layout, out, test, exit)?;
+    let yes = returned_code(layout, yes, exit + 1)?;
+    let no = returned_code(layout, no, exit + 1)?;
+    either(layout.alloc, out, yes, no)
+}
+
+/// Returns what is no choice of values.
+fn plainly_returned(
+    layout: &FunctionLayout<'_>,
+    out: &mut Vec<Instr>,
+    code: &Code,
+    exit: u32,
+) -> Result<(), AllocError>
+    requires fit { Fits (view_layout layout.now) (view code.now) 0 0 exit }
+    requires labels { exit ≤ most_labels }
+    ensures { OnOk result (Emits out.old.items out.new.items
+        (λ after. emitted (view_layout layout.now) false [] [] (view code.now) 0 0 exit
+        (answer_given (view_layout layout.now) (form_of [] (view code.now)) exit after))) }
+{
+    let form = answered(layout, out, code, exit)?;
+    answer_given(layout, out, form, exit)
+}
+
+/// Adds `return`: what is chosen is returned where it is chosen.
+#[cycle(returned)]
+pub(crate) fn returned(
+    layout: &FunctionLayout<'_>,
+    out: &mut Vec<Instr>,
+    code: &Code,
+    exit: u32,
+) -> Result<(), AllocError>
+    requires fit { Fits (view_layout layout.now) (view code.now) 0 0 exit }
+    requires labels { exit ≤ most_labels }
+    ensures { OnOk result
+        (Emits out.old.items out.new.items (returned (view_layout layout.now) (view code.now) exit)) }
+{
+    match code {
+        Code::Choose(Sort::Value, test, yes, no) => chosen_returned(layout, out, test, yes, no, exit),
+        Code::Do(_, _)
+        | Code::Over(_, _)
+        | Code::Compare(_, _, _)
+        | Code::Joined(_, _, _)
+        | Code::Call(_, _)
+        | Code::Ask
+        | Code::AskLine(_)
+        | Code::FileLine(_, _)
+        | Code::Replace(_, _, _)
+        | Code::Number(_)
+        | Code::Text(_)
+        | Code::Unset
+        | Code::Get(_)
+        | Code::Set(_, _)
+        | Code::Array(_)
+        | Code::IsOpen(_)
+        | Code::Choose(_, _, _, _)
+        | Code::Seq(_, _)
+        | Code::Let(_, _)
+        | Code::Bound(_, _) => plainly_returned(layout, out, code, exit),
+    }
+}
