@@ -18,7 +18,7 @@ use Rattle.mid_program.specs.Sorted.{kinds_of}
 use Rattle.sem_scripts.specs.ScriptState.{State}
 use Rattle.lower_model.specs.Cells.{Cell, Bits, Held, is_owned}
 use Rattle.lower_model.specs.Machine.{Conf, Code, Label, Frame, at}
-use Rattle.lower_model.specs.Places.{Bases}
+use Rattle.lower_model.specs.Places.{Bases, number_local}
 use Rattle.lower_model.specs.Small.{does, when, least, text_beside, was_left, number_is, answer_kept, text_or_left, text_taken}
 use Rattle.lower_model.proofs.Watch.{Watch}
 use Rattle.lower_model.proofs.Runs.{Goes, goes_to, goes_from, then_goes, by_steps}

@@ -225,7 +225,7 @@ module _ (p : Program) (deepest : Watch) (ks : List Kind) (F : List Frame) (b : 
 
   -- whether one stands beside a number
   marked_ok : {vs : List Cell} {k : Instructions} {K : List Label} {G : Machine.Store} → (l : Locals) (t m : ℕ) → t < b.temporaries → l.number t ≡ Bits (I64 m) →
-      Goes (machine p deepest ks F) 2 (at ks vs K (laid b l) F (Small.number_is (Small.n b t) text_beside k) G) (at ks (Bits (flag (is_marked (l.number t))) ∷ vs) K (laid b l) F k G)
+      Goes (machine p deepest ks F) 2 (at ks vs K (laid b l) F (Small.number_is (number_local b t) text_beside k) G) (at ks (Bits (flag (is_marked (l.number t))) ∷ vs) K (laid b l) F k G)
   marked_ok {vs = vs} {k = k} {K = K} {G = G} l t m lt e = goes_to (number_is_ok b l t m text_beside lt e) (ap (λ c. at ks (Bits (flag (is_marked c)) ∷ vs) K (laid b l) F k G) (sym e))
 
   texts_ok : (f g : Form) (x : Holds f) (y : Holds g) (t : ℕ) (k : Instructions) (K : List Label) (l : Locals) (σ : State) → may_be_text f || may_be_text g ≡ true → suc t < b.temporaries → HoldsAt f t l x → HoldsAt g (suc t) l y → Tells f g t k K l σ

@@ -20,8 +20,8 @@ use Rattle.mid_program.specs.Sorted.{There, fits, is_tested, kinds_of, sorted, a
 use Rattle.lower_model.specs.Cells.{Cell, Bits, Held, Gone, is_owned}
 use Rattle.lower_model.specs.Emission.{emitted, all_emitted}
 use Rattle.lower_model.specs.Machine.{Conf, Label, Frame, at, br, label, loops_walked}
-use Rattle.lower_model.specs.Places.{Bases, answer_local, room, arrays_in}
-use Rattle.lower_model.specs.Small.{does, either, when, text_beside, truth, n as number_at}
+use Rattle.lower_model.specs.Places.{Bases, answer_local, room, arrays_in, number_local}
+use Rattle.lower_model.specs.Small.{does, either, when, text_beside, truth}
 use Rattle.lower_model.specs.Statements.{answer_given, returned, text_given, word_given}
 use Rattle.lower_model.proofs.Watch.{Watch}
 use Rattle.lower_model.proofs.Runs.{Goes, goes_to, goes_from, then_goes, by_steps, stays, first, then_on, weaker, within, Reaches}
