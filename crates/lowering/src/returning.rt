@@ -41,7 +41,11 @@ pub(crate) fn constant_given(
 }
 
 /// Gives the number of the first temporary as the answer.
-fn word_given(layout: &FunctionLayout<'_>, out: &mut Vec<Instr>, exit: u32) -> Result<(), AllocError>
+fn word_given(
+    layout: &FunctionLayout<'_>,
+    out: &mut Vec<Instr>,
+    exit: u32,
+) -> Result<(), AllocError>
     requires { exit ≤ most_labels }
     ensures { OnOk result
         (Emits out.old.items out.new.items (word_given (view_layout layout.now) exit)) }
@@ -72,7 +76,11 @@ fn text_code(layout: &FunctionLayout<'_>) -> Result<Vec<Instr>, AllocError>
 }
 
 /// Gives what may be a number, nothing or a text.
-fn bare_given(layout: &FunctionLayout<'_>, out: &mut Vec<Instr>, exit: u32) -> Result<(), AllocError>
+fn bare_given(
+    layout: &FunctionLayout<'_>,
+    out: &mut Vec<Instr>,
+    exit: u32,
+) -> Result<(), AllocError>
     requires { exit ≤ most_labels }
     ensures { OnOk result
         (Emits out.old.items out.new.items (answer_given (view_layout layout.now) Bare exit)) }
@@ -115,7 +123,8 @@ fn returned_code(
 ) -> Result<Vec<Instr>, AllocError>
     requires fit { Fits (view_layout layout.now) (view code.now) 0 0 exit }
     requires labels { exit ≤ most_labels }
-    ensures { IfOk result (λ all. Emits [] all.items (returned (view_layout layout.now) (view code.now) exit)) }
+    ensures { IfOk result (λ all. Emits [] all.items
+        (returned (view_layout layout.now) (view code.now) exit)) }
 {
     let mut all = Vec::new(layout.alloc);
     returned(layout, &mut all, code, exit)?;
@@ -174,7 +183,9 @@ pub(crate) fn returned(
         (Emits out.old.items out.new.items (returned (view_layout layout.now) (view code.now) exit)) }
 {
     match code {
-        Code::Choose(Sort::Value, test, yes, no) => chosen_returned(layout, out, test, yes, no, exit),
+        Code::Choose(Sort::Value, test, yes, no) => chosen_returned(
+            layout, out, test, yes, no, exit,
+        ),
         Code::Do(_, _)
         | Code::Over(_, _)
         | Code::Compare(_, _, _)
