@@ -60,7 +60,8 @@ fn word_given(
 
 /// Moves the text of the first temporary to where it waits.
 fn text_given(layout: &FunctionLayout<'_>, out: &mut Vec<Instr>) -> Result<(), AllocError>
-    ensures { OnOk result (Emits out.old.items out.new.items (text_given (view_layout layout.now))) }
+    ensures { OnOk result
+        (Emits out.old.items out.new.items (text_given (view_layout layout.now))) }
 {
     moved_out(out, layout.bases.handle(0))?;
     does(out, Simple::GlobalSet(TEXT_GLOBAL))
@@ -179,8 +180,8 @@ pub(crate) fn returned(
 ) -> Result<(), AllocError>
     requires fit { Fits (view_layout layout.now) (view code.now) 0 0 exit }
     requires labels { exit ≤ most_labels }
-    ensures { OnOk result
-        (Emits out.old.items out.new.items (returned (view_layout layout.now) (view code.now) exit)) }
+    ensures { OnOk result (Emits out.old.items out.new.items
+        (returned (view_layout layout.now) (view code.now) exit)) }
 {
     match code {
         Code::Choose(Sort::Value, test, yes, no) => chosen_returned(
