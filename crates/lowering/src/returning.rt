@@ -184,9 +184,12 @@ pub(crate) fn returned(
         (returned (view_layout layout.now) (view code.now) exit)) }
 {
     match code {
-        Code::Choose(Sort::Value, test, yes, no) => chosen_returned(
-            layout, out, test, yes, no, exit,
-        ),
+        Code::Choose(sort, test, yes, no) => match *sort {
+            Sort::Value => chosen_returned(layout, out, test, yes, no, exit),
+            Sort::Number | Sort::Array | Sort::Iterator => {
+                plainly_returned(layout, out, code, exit)
+            }
+        },
         Code::Do(_, _)
         | Code::Over(_, _)
         | Code::Compare(_, _, _)
@@ -203,7 +206,6 @@ pub(crate) fn returned(
         | Code::Set(_, _)
         | Code::Array(_)
         | Code::IsOpen(_)
-        | Code::Choose(_, _, _, _)
         | Code::Seq(_, _)
         | Code::Let(_, _)
         | Code::Bound(_, _) => plainly_returned(layout, out, code, exit),
