@@ -12,6 +12,7 @@ use Rattle.awk_run.specs.ModuleRun.{HasRun}
 use Rattle.awk_run.specs.declared.end.Refusal.TheVariants.{Compile}
 use Rattle.awk_run.specs.declared.end.RunEnd.{RunEnd}
 use Rattle.awk_run.specs.declared.end.RunEnd.TheVariants as run
+use Rattle.awk_run.specs.declared.end.RunEnd.TheVariants.{OutOfSteps}
 
 -- what an answer tells of how the script ends; a script never traps
 abbrev pub told_of : RunEnd → Told
@@ -33,7 +34,7 @@ pub record IsScriptRun (tells : Type 0) (bytes : List ℕ) (job : JobForm) (step
   pub does : tells → DoesSo (resolved_run (resolved is_compiled.script)) job (before.readers 0) before.outside (told_of e) after.outside
   pub finds : List Entry
   pub there : DoesSoThere (resolved_run (resolved is_compiled.script)) job finds (told_of e)
-  pub goes_on : e ≡ run.OutOfSteps → GoesOnThere (resolved_run (resolved is_compiled.script)) job finds is_compiled.agreement.bound steps
+  pub goes_on : e ≡ OutOfSteps → GoesOnThere (resolved_run (resolved is_compiled.script)) job finds is_compiled.agreement.bound steps
 
 -- what an answer says of the script and of the world
 abbrev pub ScriptAnswers : (tells : Type 0) → List ℕ → JobForm → ℕ → State → RunEnd → State → Type 0

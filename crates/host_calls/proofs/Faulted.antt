@@ -93,8 +93,7 @@ module _ (tells : Type 0) (i : Import) (is_read : reads i ≡ true) (before afte
   read_told (Err why.NoMemory) calls = world_told tells i words memory before none [] after-call (Err why.NoMemory) calls
   read_told (Err (why.Fault f)) calls =
       faulted_told tells i words memory before none [] (form_outside after-call.shared.outside (record before { values = after-call.values })) after-call f
-      (record { values = refl; arrays = arrays; iterators = iterators; fault = refl; outside = refl; output = output })
-      (
+      (record { values = refl; arrays = arrays; iterators = iterators; fault = refl; outside = refl; output = output }) (
         leads_so tells i is_read before none words memory f after-call.shared.outside (record before { values = after-call.values; fault = Some f }) refl
             (λ y. sym (outside y)) calls.0,
         finds_so tells i is_read before none words memory f after-call.shared.outside (record before { values = after-call.values; fault = Some f }) calls.1,

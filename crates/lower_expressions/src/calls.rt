@@ -156,6 +156,13 @@ pub(crate) fn called(
 {
     let kinds = parameters(layout, function);
     all_passed(layout, out, forms, kinds, operands, at.temporary, at.arrays)?;
-    entered(layout.alloc, layout.bases, out, function, at.temporary, at.exit)?;
+    entered(
+        layout.alloc,
+        layout.bases,
+        out,
+        function,
+        at.temporary,
+        at.exit,
+    )?;
     all_freed(layout.bases, out, at.arrays, made_in(operands))
 }

@@ -1,5 +1,5 @@
 -- The answer of a function, in the temporary that is to have it: a number is one already, and a text that waits is moved there.
-use Rattle.std.proofs.Common.{◌≡◌, inr, ℕ, suc, ◌+◌, ◌<◌, ◌≤◌, false, true, List, [], ◌∷◌, ℤ, pos, negsuc, unsigned_abs, w64, length, refl, ap, ap₂, ◌∙◌, arith}
+use Rattle.std.proofs.Common.{◌≡◌, inr, ℕ, suc, ◌<◌, ◌≤◌, false, List, [], ◌∷◌, ℤ, pos, negsuc, unsigned_abs, w64, length, refl, ap, ap₂, ◌∙◌, arith}
 use Rattle.std.specs.Prelude.{◌^◌, ◌-◌, int_le}
 use Rattle.std.specs.Int.{cast_signed}
 use Rattle.std.proofs.lemmas.Bool.{lt-leb}

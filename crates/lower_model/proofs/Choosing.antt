@@ -35,11 +35,11 @@ use Rattle.lower_model.proofs.Runs.{Goes, then_goes, goes_to, goes_from, by_step
 use Rattle.lower_model.proofs.Regions.{upd_same}
 use Rattle.lower_model.proofs.Locals.{Locals, Hand, Number as NumberAt, with_at, laid}
 use Rattle.lower_model.proofs.Steps.{empty, get_copied, set_ok, moved_out_ok}
-use Rattle.lower_model.proofs.State.{bare, beside, word_not_beside, BareIs, IsBeside, IsNone, IsNumber}
+use Rattle.lower_model.proofs.State.{word_not_beside, BareIs, IsBeside, IsNone, IsNumber}
 use Rattle.lower_model.proofs.Relation.{HoldsAt, KeptAs, Kept, kept_same, Same, same_then, Fit, fit_hand, fit_number, fit_less, SameOwn, Away, away_out}
 use Rattle.lower_model.proofs.Pieces.{chooses, closes, number_is_ok}
 use Rattle.lower_model.proofs.Answers.{machine, beside_state, Reached}
-use Rattle.lower_model.proofs.Conversions.{bare_is, ask_truth, zeroed_ok, ZeroedIs, Nought, Itself}
+use Rattle.lower_model.proofs.Conversions.{ask_truth, zeroed_ok, ZeroedIs, Nought, Itself}
 use Rattle.lower_model.proofs.Converting.{Keeps, keeps_self, keeps_then, keeps_hand, keeps_number, Converted, converted_ok, conv_closes}
 use Rattle.lower_model.proofs.Simulation.{work_of, still_stands, NoArray, plain_stands, layout, context, meant, Ready, walking_same, WellUsed, Done, ExprOk, room_one}
 use Rattle.lower_model.proofs.Operands.{well_before}

@@ -27,12 +27,12 @@ use Rattle.lower_model.specs.Cells.{Cell, Bits, Held, is_owned}
 use Rattle.lower_model.specs.ImportCalls.{with_some, and_rest, row_in}
 use Rattle.lower_model.specs.Machine.{Label, Frame, at, go}
 use Rattle.lower_model.specs.Places.{Bases, handle_local, number_local}
-use Rattle.lower_model.specs.Small.{does, ask_row, either, when, least, text_beside, boxed_number, boxed_perhaps, zeroed, code_number}
+use Rattle.lower_model.specs.Small.{does, ask_row, either, when, least, boxed_number, boxed_perhaps, zeroed, code_number}
 use Rattle.lower_model.proofs.Watch.{Watch}
 use Rattle.lower_model.proofs.Runs.{Goes, then_goes, goes_to, by_steps}
 use Rattle.lower_model.proofs.Locals.{Locals, Hand, Number as NumberAt, with_at, laid, laid_again}
-use Rattle.lower_model.proofs.Steps.{empty, set_ok, get_copied}
-use Rattle.lower_model.proofs.State.{bare, beside, BareOf, IsBeside, IsNone, IsNumber, word_or_beside, unless_number, word_not_least}
+use Rattle.lower_model.proofs.Steps.{set_ok, get_copied}
+use Rattle.lower_model.proofs.State.{BareOf, IsBeside, IsNone, IsNumber, word_or_beside, unless_number, word_not_least}
 use Rattle.lower_model.proofs.Pieces.{chooses, closes, number_is_ok}
 use Rattle.lower_model.proofs.Answers.{machine, beside_state, left_beside, reply, after_reply, row_called, done_by}
 

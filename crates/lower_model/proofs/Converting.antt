@@ -37,11 +37,11 @@ use Rattle.lower_model.proofs.Runs.{Goes, by_steps, then_goes, goes_to, goes_fro
 use Rattle.lower_model.proofs.Regions.{upd_same, upd_other}
 use Rattle.lower_model.proofs.Locals.{Locals, Hand, Number as NumberAt, with_at, laid}
 use Rattle.lower_model.proofs.Steps.{empty, get_copied, set_ok, moved_out_ok}
-use Rattle.lower_model.proofs.State.{bare, perhaps, word_not_least, word_not_beside, BareIs, IsBeside, IsNone, IsNumber}
+use Rattle.lower_model.proofs.State.{perhaps, word_not_least, word_not_beside, BareIs, IsBeside, IsNone, IsNumber}
 use Rattle.lower_model.proofs.Relation.{HoldsAt, Fit, fit_loose, fit_hand, fit_number, Away, away_out}
 use Rattle.lower_model.proofs.Pieces.{chooses, closes, number_is_ok, number_kept, number_failed}
 use Rattle.lower_model.proofs.Answers.{machine, beside_state, left_beside, reply, after_reply, Reached}
-use Rattle.lower_model.proofs.Conversions.{bare_is, ask_to_num, PerhapsIs, NoNumber, There, boxed_number_ok, boxed_perhaps_ok, code_number_ok}
+use Rattle.lower_model.proofs.Conversions.{ask_to_num, PerhapsIs, NoNumber, There, boxed_number_ok, boxed_perhaps_ok, code_number_ok}
 
 -- the same but for one temporary
 pub record Keeps (t : ℕ) (l l1 : Locals) : Type 0 where

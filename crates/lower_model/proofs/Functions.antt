@@ -8,20 +8,20 @@ use Rattle.awk_values.specs.declared.value.Value.{Value}
 use Rattle.awk_values.specs.declared.value.Value.TheVariants.{Uninit}
 use Rattle.wasm_types.specs.Syntax.{Instructions, Done}
 use Rattle.wasm_types.specs.declared.types.ValType.{ValType}
-use Rattle.wasm_types.specs.declared.instr.Simple.TheVariants.{Call, LocalGet, LocalSet}
+use Rattle.wasm_types.specs.declared.instr.Simple.TheVariants.{Call}
 use Rattle.wasm_store.specs.declared.word.Word.TheVariants.{I32, I64}
 use Rattle.mid_program.specs.Mid.{Kind, Program, Routine, Code, Steps}
 use Rattle.mid_program.specs.MidMeaning.{no_routine, routine_at}
 use Rattle.sem_scripts.specs.ScriptState.{State, Own, Local, Scalar, Stop, Faulted, OutOfTurns, TooDeep, Nexted, Exited, Returned, Outcome, Gives, Stops, Doing, ◌>>◌, spend}
 use Rattle.mid_program.specs.Sorted.{has_kind, kinds_of, calls_of, routines_sorted, steps_sorted, context_of}
 use Rattle.sem_scripts.specs.Statements.{Flow, Normal, Broke, Continued, returned, entered_with}
-use Rattle.lower_model.specs.Cells.{Cell, Bits, Held, Gone, is_owned, none_owned}
+use Rattle.lower_model.specs.Cells.{Cell, Bits, Gone, is_owned, none_owned}
 use Rattle.lower_model.specs.Emission.{function_number}
 use Rattle.lower_model.specs.Functions.{layout_of, routine_bases, routine_callee}
 use Rattle.lower_model.specs.Machine.{Conf, Deep, Label, Frame, Store, at, label, zeros, guarded, enter, waits, ask as asked}
 use Rattle.host_imports.specs.Imports.{import_at, import_count}
 use Rattle.lower_model.specs.Noted.{noted_called, steps_noted, routine_rest}
-use Rattle.lower_model.specs.Places.{Bases, answer_local, local_types, temporary_types, handle_types, steps_room, steps_iterators, steps_arrays}
+use Rattle.lower_model.specs.Places.{Bases, local_types, temporary_types, handle_types, steps_room, steps_iterators, steps_arrays}
 use Rattle.lower_model.specs.Small.{does, least}
 use Rattle.lower_model.specs.Statements.{routine_body, routine_ended, routine_exit, operands_swept, steps_emitted, block}
 use Rattle.lower_model.proofs.Watch.{Watch}

@@ -1,5 +1,5 @@
 -- `return`: what a function's answer is, in all forms; what is chosen is returned where it is chosen.
-use Rattle.std.proofs.Common.{◌≡◌, inl, ℕ, zero, suc, ◌+◌, ◌<◌, ◌≤◌, Bool, true, false, List, [], ◌∷◌, Some, None, length, refl, sym, ap, ◌∙◌, subst, arith}
+use Rattle.std.proofs.Common.{◌≡◌, inl, ℕ, suc, ◌+◌, ◌<◌, ◌≤◌, Bool, true, false, List, [], ◌∷◌, Some, None, length, refl, sym, ap, ◌∙◌, subst, arith}
 use Rattle.std.specs.Prelude.{◌&&◌, cond, nat_eq, if◌then◌else◌}
 use Rattle.std.proofs.lemmas.Bool.{and_parts}
 use Rattle.awk_values.specs.declared.value.Value.{Value}
@@ -8,23 +8,22 @@ use Rattle.sem_primitives.specs.Numbers.{number_word}
 use Rattle.sem_primitives.specs.declared.sorts.Answer.TheVariants as answer
 use Rattle.sem_primitives.specs.declared.sorts.Sort.TheVariants as sort
 use Rattle.wasm_types.specs.Syntax.{Instructions, Done as NoMore}
-use Rattle.wasm_types.specs.declared.instr.Simple.TheVariants.{Br, LocalGet, LocalSet}
 use Rattle.wasm_store.specs.declared.word.Word.TheVariants.{I64}
 use Rattle.wasm_store.specs.Words.{flag}
 use Rattle.mid_program.specs.Mid.{Kind, Program, Form, Answered, Bare, Perhaps, Code, Choose, form_of}
 use Rattle.mid_program.specs.MidMeaning.{Holds, evaluated, all_evaluated, boxed, converted, truth_in}
-use Rattle.sem_scripts.specs.ScriptState.{State, Returned, Outcome, Gives, Stops, Stop, Doing, go_on, settled, stop}
+use Rattle.sem_scripts.specs.ScriptState.{State, Returned, Outcome, Gives, Stops, Doing, go_on, settled, stop}
 use Rattle.sem_scripts.specs.Statements.{Flow}
 use Rattle.sem_scripts.specs.Steps.{truth_number}
 use Rattle.mid_program.specs.Sorted.{There, fits, is_tested, kinds_of, sorted, all_sorted}
 use Rattle.lower_model.specs.Cells.{Cell, Bits, Held, Gone, is_owned}
-use Rattle.lower_model.specs.Emission.{emitted, all_emitted}
+use Rattle.lower_model.specs.Emission.{emitted}
 use Rattle.lower_model.specs.Machine.{Conf, Label, Frame, at, br, label, loops_walked}
-use Rattle.lower_model.specs.Places.{Bases, answer_local, room, arrays_in, number_local}
-use Rattle.lower_model.specs.Small.{does, either, when, text_beside, truth}
+use Rattle.lower_model.specs.Places.{Bases, room, arrays_in}
+use Rattle.lower_model.specs.Small.{either, when, text_beside, truth}
 use Rattle.lower_model.specs.Statements.{answer_given, returned, text_given, word_given}
 use Rattle.lower_model.proofs.Watch.{Watch}
-use Rattle.lower_model.proofs.Runs.{Goes, goes_to, goes_from, then_goes, by_steps, stays, first, then_on, weaker, within, Reaches}
+use Rattle.lower_model.proofs.Runs.{Goes, goes_to, goes_from, then_goes, by_steps, first, then_on, weaker, within, Reaches}
 use Rattle.lower_model.proofs.Regions.{upd_same}
 use Rattle.lower_model.proofs.Globals.{Text}
 use Rattle.lower_model.proofs.GlobalSteps.{global_set_ok}

@@ -1,5 +1,5 @@
 -- Steps that go elsewhere: out of a loop or to its next round, and out of the function; and marks of ranges.
-use Rattle.std.proofs.Common.{◌≡◌, inl, ℕ, zero, suc, ◌+◌, ◌<◌, ◌≤◌, Bool, true, false, List, [], ◌∷◌, ◌++◌, length, None, refl, ap, arith}
+use Rattle.std.proofs.Common.{◌≡◌, ℕ, zero, suc, ◌+◌, ◌<◌, Bool, true, false, List, [], ◌∷◌, ◌++◌, length, None, refl, ap, arith}
 use Rattle.std.specs.Prelude.{◌&&◌}
 use Rattle.std.proofs.lemmas.Bool.{and_parts, ltb-true}
 use Rattle.sem_primitives.specs.Constants.{flag_number}
@@ -7,28 +7,28 @@ use Rattle.sem_primitives.specs.Numbers.{Number, number_word}
 use Rattle.sem_primitives.specs.declared.sorts.Answer.TheVariants as answer
 use Rattle.sem_primitives.specs.declared.sorts.Sort.TheVariants as sort
 use Rattle.wasm_types.specs.Syntax.{Instructions}
-use Rattle.wasm_types.specs.declared.instr.Simple.TheVariants.{Br, LocalGet, LocalSet, GlobalSet}
+use Rattle.wasm_types.specs.declared.instr.Simple.TheVariants.{LocalGet, GlobalSet}
 use Rattle.wasm_store.specs.declared.word.Word.TheVariants.{I32, I64}
 use Rattle.mid_program.specs.Mid.{Kind, Program, Answered, Code, Break, Continue, Next, Exit, ExitWith, Return, Mark, form_of}
-use Rattle.mid_program.specs.MidMeaning.{stepped, numbered, converted}
-use Rattle.sem_scripts.specs.ScriptState.{State, Nexted, Exited, Returned, go_on, settled, stop, changed, with_range}
+use Rattle.mid_program.specs.MidMeaning.{stepped, numbered}
+use Rattle.sem_scripts.specs.ScriptState.{State, Nexted, Exited, changed, with_range}
 use Rattle.mid_program.specs.Sorted.{There, sorted, fits, kinds_of, step_sorted, steps_sorted}
-use Rattle.sem_scripts.specs.Statements.{Flow, Normal, Broke, Continued, with_status}
-use Rattle.lower_model.specs.Cells.{Cell, Bits, Held, is_owned}
-use Rattle.lower_model.specs.Machine.{Conf, Label, Frame, at, br}
+use Rattle.sem_scripts.specs.Statements.{Normal, Broke, Continued, with_status}
+use Rattle.lower_model.specs.Cells.{Cell, Bits}
+use Rattle.lower_model.specs.Machine.{Label, Frame, at, br}
 use Rattle.lower_model.specs.Noted.{step_noted, steps_noted}
-use Rattle.lower_model.specs.Places.{Bases, answer_local, status_global, handle_local, number_local}
-use Rattle.lower_model.specs.Small.{does, moved_out, to_number, to_value}
+use Rattle.lower_model.specs.Places.{Bases, status_global, number_local}
+use Rattle.lower_model.specs.Small.{does, to_number}
 use Rattle.lower_model.specs.Statements.{way_next, way_exit, left_by, step_emitted, steps_emitted}
 use Rattle.lower_model.proofs.Watch.{Watch}
-use Rattle.lower_model.proofs.Runs.{Goes, goes_to, goes_from, then_goes, by_steps, first, then_on, then_settled, there, Reaches}
+use Rattle.lower_model.proofs.Runs.{Goes, goes_to, goes_from, then_goes, by_steps, first, then_on, then_settled, there}
 use Rattle.lower_model.proofs.Regions.{upd, cells_same}
 use Rattle.lower_model.proofs.Globals.{Way, Status, Range, placed, names_on, with_global_at}
 use Rattle.lower_model.proofs.GlobalSteps.{global_set_ok, storing}
-use Rattle.lower_model.proofs.Locals.{Locals, Hand, Number as NumberAt, Answer, with_at, laid}
-use Rattle.lower_model.proofs.Steps.{empty, get_copied, set_ok, moved_out_ok}
+use Rattle.lower_model.proofs.Locals.{Locals, Number as NumberAt, laid}
+use Rattle.lower_model.proofs.Steps.{get_copied}
 use Rattle.lower_model.proofs.State.{cells_of, host_of, gone}
-use Rattle.lower_model.proofs.Relation.{Fit, fit_hand, fit_less, fit_loose, fit_holds_none, Away}
+use Rattle.lower_model.proofs.Relation.{Fit, fit_less, fit_loose, fit_holds_none, Away}
 use Rattle.lower_model.proofs.Answers.{machine, beside_state}
 use Rattle.lower_model.proofs.Converting.{Converted, converted_ok}
 use Rattle.lower_model.proofs.Giving.{left_in, returned_ok}

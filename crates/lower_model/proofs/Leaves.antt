@@ -1,5 +1,5 @@
 -- Expressions without parts.
-use Rattle.std.proofs.Common.{ℕ, ◌<◌, Bool, List, [], length, None, refl, sym, ap, ◌∙◌, arith, w64}
+use Rattle.std.proofs.Common.{ℕ, ◌<◌, Bool, List, [], length, None, refl, sym, ap, arith, w64}
 use Rattle.std.specs.Prelude.{ℤ}
 use Rattle.std.specs.Int.{cast_unsigned}
 use Rattle.std.proofs.lemmas.Bool.{ltb-true}

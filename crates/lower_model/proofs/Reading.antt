@@ -23,10 +23,9 @@ use Rattle.lower_model.proofs.Regions.{upd_same, upd_other}
 use Rattle.lower_model.proofs.Locals.{Locals, Param, Hand, Number as NumberAt, local_of, with_at, laid}
 use Rattle.lower_model.proofs.Globals.{Hand as NameHand}
 use Rattle.lower_model.proofs.Steps.{empty}
-use Rattle.lower_model.proofs.State.{beside, kind_here, name_hand, arrays_before, BareIs, IsBeside, IsNone, IsNumber}
-use Rattle.lower_model.proofs.Relation.{HoldsAt, hand_of, WordIs, LeftBy, hand_left, KeptAs, Kept, kept_same, Below, Outside, same_self, Fit, fit_hand, fit_number, fit_more, Away, holds_same}
+use Rattle.lower_model.proofs.State.{kind_here, name_hand, arrays_before, BareIs, IsBeside, IsNone, IsNumber}
+use Rattle.lower_model.proofs.Relation.{HoldsAt, WordIs, LeftBy, hand_left, KeptAs, Kept, kept_same, Below, Outside, same_self, Fit, fit_hand, fit_number, fit_more, Away, holds_same}
 use Rattle.lower_model.proofs.Answers.{machine, beside_state, put_value}
-use Rattle.lower_model.proofs.Conversions.{bare_is}
 use Rattle.lower_model.proofs.Copies.{copied_local, copied_global, if_any_local, if_none_local}
 use Rattle.lower_model.proofs.Simulation.{Done, ExprOk, Ready, plain_stands}
 use Rattle.lower_model.proofs.Expressions.{put_done}

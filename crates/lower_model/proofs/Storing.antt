@@ -31,10 +31,10 @@ use Rattle.lower_model.proofs.Steps.{empty, get_moved, get_copied, tee_ok, moved
 use Rattle.lower_model.proofs.GlobalSteps.{storing}
 use Rattle.lower_model.proofs.Pieces.{chooses, closes, number_is_ok}
 use Rattle.lower_model.proofs.Calls.{called}
-use Rattle.lower_model.proofs.State.{host_of, bare, word_not_least, word_not_beside, perhaps, BareIs, IsBeside, IsNone, IsNumber}
+use Rattle.lower_model.proofs.State.{host_of, word_not_least, word_not_beside, perhaps, BareIs, IsBeside, IsNone, IsNumber}
 use Rattle.lower_model.proofs.Relation.{HoldsAt, Fit, fit_hand}
 use Rattle.lower_model.proofs.Answers.{machine}
-use Rattle.lower_model.proofs.Conversions.{bare_is, same_state, PerhapsIs, NoNumber, There}
+use Rattle.lower_model.proofs.Conversions.{same_state, PerhapsIs, NoNumber, There}
 use Rattle.lower_model.proofs.Converting.{flag_word, perhaps_is}
 use Rattle.lower_model.proofs.Copies.{dup_ok}
 use Rattle.lower_model.proofs.Simulation.{StandsAt, layout}

@@ -30,7 +30,7 @@ use Rattle.lower_model.proofs.Steps.{empty, get_copied, set_ok, tee_ok}
 use Rattle.lower_model.proofs.GlobalSteps.{global_copied}
 use Rattle.lower_model.proofs.State.{bare, beside, BareIs, kind_here, name_hand, name_word, cells_of, arrays_before, word_not_beside, BareOf, IsBeside, IsNone, IsNumber}
 use Rattle.lower_model.proofs.Relation.{same_self, same_then, same_hand, same_number, Fit, fit_hand, fit_number, fit_more, Away}
-use Rattle.lower_model.proofs.Answers.{machine, beside_state, row_called, Put, put_value, put_word}
+use Rattle.lower_model.proofs.Answers.{machine, beside_state, row_called, Put, put_value}
 use Rattle.lower_model.proofs.Conversions.{bare_is, same_state}
 use Rattle.lower_model.proofs.Copies.{copied_global}
 use Rattle.lower_model.proofs.Pieces.{chooses, closes}

@@ -130,8 +130,7 @@ fn first_globals(alloc: Global, ranges: usize) -> Result<Vec<wasm_types::Global>
     ensures { IfOk result (λ all. map view_global all.items
         ≡ word_global 0 ∷ (long_global 0 ∷ (word_global minus_one ∷ replicate ranges (word_global 0)))) }
 {
-    let mut all = vec![
-        in alloc;
+    let mut all = vec![in alloc;
         word_global(alloc, 0)?,
         long_global(alloc, 0)?,
         word_global(alloc, u32::MAX)?,

@@ -372,17 +372,17 @@ module _ (y : Layout) where
   body_labelled true r q z = both (inside_block r) (behind_block z)
   body_labelled false r q z = q
 
-  given_deep : {k : Instructions} {m : ℕ} (f : Form) (d : ℕ) → Deep k m → Deep (answer_given y f d k) m
-  given_deep (Answered (answer.Of sort.Value)) d r = record { count = let h = r.count in omega (arith, h) }
-  given_deep (Answered (answer.Of sort.Number)) d r = record { count = let h = r.count in omega (arith, h) }
-  given_deep (Answered answer.Truth) d r = record { count = let h = r.count in omega (arith, h) }
-  given_deep Bare d r = record { count = let h = r.count in omega (arith, h) }
-  given_deep Perhaps d r = record { count = let h = r.count in omega (arith, h) }
-  given_deep f d r = record { count = let h = r.count in omega (arith, h) }
+  answer_deep : {k : Instructions} {m : ℕ} (f : Form) (d : ℕ) → Deep k m → Deep (answer_given y f d k) m
+  answer_deep (Answered (answer.Of sort.Value)) d r = record { count = let h = r.count in omega (arith, h) }
+  answer_deep (Answered (answer.Of sort.Number)) d r = record { count = let h = r.count in omega (arith, h) }
+  answer_deep (Answered answer.Truth) d r = record { count = let h = r.count in omega (arith, h) }
+  answer_deep Bare d r = record { count = let h = r.count in omega (arith, h) }
+  answer_deep Perhaps d r = record { count = let h = r.count in omega (arith, h) }
+  answer_deep f d r = record { count = let h = r.count in omega (arith, h) }
 
   returned_deep : {k : Instructions} {m : ℕ} (e : Code) (d : ℕ) → Deep k m → Deep (returned y e d k) m
   returned_deep (Choose sort.Value e a c) d r = tested_deep y [] [] e zero zero d (behind_either r)
-  returned_deep e d r = emitted_deep y false [] [] e zero zero d (given_deep (form_of [] e) d r)
+  returned_deep e d r = emitted_deep y false [] [] e zero zero d (answer_deep (form_of [] e) d r)
 
   returned_labelled : (k : Instructions) (e : Code) (d : ℕ) → Deep (returned y e d k) (labels_in e)
   returned_labelled k (Choose sort.Value e a c) d =

@@ -156,7 +156,12 @@ fn text_or_left(
     let mut code = Vec::new(alloc);
     number_is(&mut code, bases.number(temporary), TEXT_BESIDE)?;
     let taken = text_taken(alloc, bases, temporary)?;
-    either(alloc, &mut code, taken, left_too(alloc, bases, temporary, exit)?)?;
+    either(
+        alloc,
+        &mut code,
+        taken,
+        left_too(alloc, bases, temporary, exit)?,
+    )?;
     Ok(code)
 }
 

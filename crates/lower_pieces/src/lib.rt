@@ -25,7 +25,8 @@ pub use faults::{fail_if, number_is};
 pub use form::Form;
 pub use handles::{MINUS_ONE, copied_by, copied_if_any, emptied, going, let_go, moved_out};
 pub use keeping::{
-    LEAST, TEXT_BESIDE, TEXT_GLOBAL, WAS_LEFT, answer_kept, kept, kept_code, kept_number, kept_value,
+    LEAST, TEXT_BESIDE, TEXT_GLOBAL, WAS_LEFT, answer_kept, kept, kept_code, kept_number,
+    kept_value,
 };
 pub use letting::{bound_from, moved_from, released, unused};
 pub use numbers::{code_number, converted, to_number, zeroed};

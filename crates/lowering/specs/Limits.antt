@@ -1,5 +1,5 @@
 -- Which functions are small enough for a module.
-use Rattle.std.specs.Prelude.{ℕ, ◌≤◌, length}
+use Rattle.std.specs.Prelude.{◌≤◌, length}
 use Rattle.std.specs.List.{AllByRecursion}
 use Rattle.wasm_types.specs.Profile.{most_nesting}
 use Rattle.mid_program.specs.Mid.{Routine, Program, Steps}

@@ -75,7 +75,13 @@ pub(crate) fn all_emptied(
     ensures { OnOk result
         (Emits out.old.items out.new.items (all_emptied (view_layout layout.now))) }
 {
-    does_all(out, &[Simple::I64Const(WAS_LEFT), Simple::LocalSet(layout.bases.answer())])?;
+    does_all(
+        out,
+        &[
+            Simple::I64Const(WAS_LEFT),
+            Simple::LocalSet(layout.bases.answer()),
+        ],
+    )?;
     held_emptied(layout.bases, out, Held::Temporaries)?;
     held_emptied(layout.bases, out, Held::Iterators)?;
     held_emptied(layout.bases, out, Held::Arrays)
@@ -112,7 +118,8 @@ pub(crate) fn operands_swept(
     layout: &FunctionLayout<'_>,
     out: &mut Vec<Instr>,
 ) -> Result<(), AllocError>
-    ensures { OnOk result (Emits out.old.items out.new.items (operands_swept (view_layout layout.now))) }
+    ensures { OnOk result
+        (Emits out.old.items out.new.items (operands_swept (view_layout layout.now))) }
 {
     held_swept(layout, out, Held::Temporaries)?;
     held_swept(layout, out, Held::Arrays)

@@ -41,7 +41,11 @@ pub(crate) fn constant_given(
 }
 
 /// Gives the number of the first temporary as the answer.
-fn word_given(layout: &FunctionLayout<'_>, out: &mut Vec<Instr>, exit: u32) -> Result<(), AllocError>
+fn word_given(
+    layout: &FunctionLayout<'_>,
+    out: &mut Vec<Instr>,
+    exit: u32,
+) -> Result<(), AllocError>
     requires { exit ≤ most_labels }
     ensures { OnOk result
         (Emits out.old.items out.new.items (word_given (view_layout layout.now) exit)) }
@@ -56,7 +60,8 @@ fn word_given(layout: &FunctionLayout<'_>, out: &mut Vec<Instr>, exit: u32) -> R
 
 /// Moves the text of the first temporary to where it waits.
 fn text_given(layout: &FunctionLayout<'_>, out: &mut Vec<Instr>) -> Result<(), AllocError>
-    ensures { OnOk result (Emits out.old.items out.new.items (text_given (view_layout layout.now))) }
+    ensures { OnOk result
+        (Emits out.old.items out.new.items (text_given (view_layout layout.now))) }
 {
     moved_out(out, layout.bases.handle(0))?;
     does(out, Simple::GlobalSet(TEXT_GLOBAL))
@@ -72,7 +77,11 @@ fn text_code(layout: &FunctionLayout<'_>) -> Result<Vec<Instr>, AllocError>
 }
 
 /// Gives what may be a number, nothing or a text.
-fn bare_given(layout: &FunctionLayout<'_>, out: &mut Vec<Instr>, exit: u32) -> Result<(), AllocError>
+fn bare_given(
+    layout: &FunctionLayout<'_>,
+    out: &mut Vec<Instr>,
+    exit: u32,
+) -> Result<(), AllocError>
     requires { exit ≤ most_labels }
     ensures { OnOk result
         (Emits out.old.items out.new.items (answer_given (view_layout layout.now) Bare exit)) }
@@ -115,7 +124,8 @@ fn returned_code(
 ) -> Result<Vec<Instr>, AllocError>
     requires fit { Fits (view_layout layout.now) (view code.now) 0 0 exit }
     requires labels { exit ≤ most_labels }
-    ensures { IfOk result (λ all. Emits [] all.items (returned (view_layout layout.now) (view code.now) exit)) }
+    ensures { IfOk result (λ all. Emits [] all.items
+        (returned (view_layout layout.now) (view code.now) exit)) }
 {
     let mut all = Vec::new(layout.alloc);
     returned(layout, &mut all, code, exit)?;
@@ -170,11 +180,16 @@ pub(crate) fn returned(
 ) -> Result<(), AllocError>
     requires fit { Fits (view_layout layout.now) (view code.now) 0 0 exit }
     requires labels { exit ≤ most_labels }
-    ensures { OnOk result
-        (Emits out.old.items out.new.items (returned (view_layout layout.now) (view code.now) exit)) }
+    ensures { OnOk result (Emits out.old.items out.new.items
+        (returned (view_layout layout.now) (view code.now) exit)) }
 {
     match code {
-        Code::Choose(Sort::Value, test, yes, no) => chosen_returned(layout, out, test, yes, no, exit),
+        Code::Choose(sort, test, yes, no) => match *sort {
+            Sort::Value => chosen_returned(layout, out, test, yes, no, exit),
+            Sort::Number | Sort::Array | Sort::Iterator => {
+                plainly_returned(layout, out, code, exit)
+            }
+        },
         Code::Do(_, _)
         | Code::Over(_, _)
         | Code::Compare(_, _, _)
@@ -191,7 +206,6 @@ pub(crate) fn returned(
         | Code::Set(_, _)
         | Code::Array(_)
         | Code::IsOpen(_)
-        | Code::Choose(_, _, _, _)
         | Code::Seq(_, _)
         | Code::Let(_, _)
         | Code::Bound(_, _) => plainly_returned(layout, out, code, exit),

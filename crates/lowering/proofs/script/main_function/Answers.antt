@@ -1,4 +1,5 @@
 use Rattle.std.proofs.Common.{◌≤◌, ap, map, subst, sym, ◌∙◌}
+use Rattle.wasm_types.specs.declared.types.ValType.TheVariants.{I32}
 use Rattle.mid_program.specs.View.{view_kind, view_mid}
 use Rattle.lower_model.specs.Functions.{layout_of, main_bases}
 use Rattle.lower_model.specs.Places.{Bases, local_types}
@@ -34,4 +35,4 @@ returns-clause-function c =
     let kinds = c.new.ensures.items in
     let locals = c.in_ok-locals.ensures ∙ ap local_types c.in-Some.ensures.0 in
     let body = c.in_ok-body.ensures ∙ ap (λ (b : Bases). main_body (layout_of p b) p) (c.bases-bases.ensures ∙ c.in-Some.ensures.0) in
-    λ i. record { kinds = map view_kind (kinds i); locals = locals i; body = body i }
+    λ i. record { kinds = map view_kind (kinds i); locals = locals i; answer = I32; body = body i }
