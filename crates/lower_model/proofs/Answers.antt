@@ -1,5 +1,5 @@
 -- Calls of rows of the table from code, and what becomes of their answers: they come into a temporary, or the function is left.
-use Rattle.std.proofs.Common.{◌≡◌, inl, inr, ℕ, suc, ◌-◌, ◌^◌, ◌<◌, Bool, true, false, List, [], ◌∷◌, ◌++◌, length, Option, Some, None, Result, Ok, Err, refl, sym, ap, ap₂, ◌∙◌, arith}
+use Rattle.std.proofs.Common.{◌≡◌, inl, inr, ℕ, suc, ◌-◌, ◌^◌, ◌<◌, Bool, true, false, List, [], ◌∷◌, ◌++◌, length, Option, Some, None, Result, Ok, Err, refl, sym, ap, ap₂, ◌∙◌, subst, arith}
 use Rattle.std.specs.Prelude.{reverse}
 use Rattle.awk_values.specs.declared.fault.Fault.{Fault}
 use Rattle.awk_values.specs.declared.value.Value.{Value}
@@ -41,7 +41,7 @@ use Rattle.lower_model.proofs.Steps.{empty, set_ok}
 use Rattle.lower_model.proofs.Calls.{called}
 use Rattle.lower_model.proofs.GlobalSteps.{while_assigning}
 use Rattle.lower_model.proofs.State.{store, gone, word_not_least}
-use Rattle.lower_model.proofs.Relation.{hand_of, WordIs, HoldsAt, Same, same_hand, same_number, same_self, Fit, fit_loose, fit_hand, fit_number, fit_more, Away}
+use Rattle.lower_model.proofs.Relation.{HoldsBy, HoldsAt, Same, same_hand, same_number, same_self, Fit, fit_loose, fit_hand, fit_number, fit_more, Away}
 use Rattle.lower_model.proofs.Pieces.{code_kept, code_failed, code_stored, value_kept, value_failed, number_kept, number_failed, done_kept, done_failed, done_dropped}
 
 -- rows that take their arguments, where the others only look at them; and by which no assignment begins
@@ -159,18 +159,15 @@ module _ (p : Program) (deepest : Watch) (ks : List Kind) (F : List Frame) where
       holds = (upd_same l.hand t (Held v), tt);
     }
 
-    pub put_word : (t u w m : ℕ) (f : Form) (k : Instructions) (K : List Label) (l : Locals) (x : Holds f) (σ : State) → hand_of f x ≡ empty → ((c : Cell) → c ≡ Bits (I64 m) → WordIs f x c) → Fit p deepest ks F t u w l σ →
+    pub put_word : (t u w m : ℕ) (f : Form) (k : Instructions) (K : List Label) (l : Locals) (x : Holds f) (σ : State) → HoldsBy f x empty (Bits (I64 m)) → Fit p deepest ks F t u w l σ →
         Put b t u w f k K l x σ (at ks [] K (laid b (with_at l (NumberAt t) (Bits (I64 m)))) F k (beside_state σ))
-    put_word t u w m f k K l x σ e g ft = record {
+    put_word t u w m f k K l x σ g ft = record {
       next = with_at l (NumberAt t) (Bits (I64 m));
       comes = refl;
       fit = fit_number p deepest ks F t (suc t) u w l σ (Bits (I64 m)) refl (fit_more p deepest ks F t u w l σ ft);
       same = same_number [] t w t l (Bits (I64 m)) (omega arith);
-      holds = (ft.free t (omega arith) ∙ sym e, g (upd_number l m t) (upd_same l.number t (Bits (I64 m))));
+      holds = subst (λ (h : Cell). HoldsBy f x h ((with_at l (NumberAt t) (Bits (I64 m))).number t)) (sym (ft.free t (omega arith))) (subst (λ (d : Cell). HoldsBy f x empty d) (sym (upd_same l.number t (Bits (I64 m)))) g);
     }
-      where
-        upd_number : Locals → ℕ → ℕ → Cell
-        upd_number l m t = (with_at l (NumberAt t) (Bits (I64 m))).number t
 
     -- a function is left with what it holds
     pub away_with : (t u w d m : ℕ) (K : List Label) (l : Locals) (σ : State) (f : Fault) → Fit p deepest ks F t u w l σ →
@@ -206,11 +203,11 @@ module _ (p : Program) (deepest : Watch) (ks : List Kind) (F : List Frame) where
         })
     kept_ok true (answer.Of sort.Number) (Ok v) t u w d k K l σ pl lt ft =
         there machine M 4 3 _ _ v σ (Put b t u w (Answered (answer.Of sort.Number)) k K l) (Away p deepest ks F b d K) (number_kept b l t d (number_word v) lt (ft.numbers t) (word_not_least v)) (omega arith)
-        (put_word t u w (number_word v) (Answered (answer.Of sort.Number)) k K l v σ refl (λ c e. e) ft)
+        (put_word t u w (number_word v) (Answered (answer.Of sort.Number)) k K l v σ (refl, refl) ft)
     kept_ok true (answer.Of sort.Number) (Err f) t u w d k K l σ pl lt ft =
         faulted machine M 4 3 _ _ f σ (Put b t u w (Answered (answer.Of sort.Number)) k K l) (Away p deepest ks F b d K) (number_failed b l t d lt (ft.numbers t)) (omega arith) (away_with t u w d least K l σ f ft)
     kept_ok true answer.Truth (Ok v) t u w d k K l σ pl lt ft =
-        there machine M 4 4 _ _ v σ (Put b t u w (Answered answer.Truth) k K l) (Away p deepest ks F b d K) (truth_kept v) (omega arith) (put_word t u w (flag_number v) (Answered answer.Truth) k K l v σ refl (λ c e. e) ft)
+        there machine M 4 4 _ _ v σ (Put b t u w (Answered answer.Truth) k K l) (Away p deepest ks F b d K) (truth_kept v) (omega arith) (put_word t u w (flag_number v) (Answered answer.Truth) k K l v σ (refl, refl) ft)
       where
         truth_kept : (v : Bool) → Goes machine 4 (at ks (Bits (I32 (flag_number v)) ∷ []) K (laid b l) F (kept b true answer.Truth t d k) (beside_state σ)) (at ks [] K (laid b (with_at l (NumberAt t) (Bits (I64 (flag_number v))))) F k (beside_state σ))
         truth_kept true = code_kept b l t d 1 lt (ft.numbers t) refl refl
@@ -218,7 +215,7 @@ module _ (p : Program) (deepest : Watch) (ks : List Kind) (F : List Frame) where
     kept_ok true answer.Truth (Err f) t u w d k K l σ pl lt ft =
         faulted machine M 4 4 _ _ f σ (Put b t u w (Answered answer.Truth) k K l) (Away p deepest ks F b d K) (code_failed b l t d lt (ft.numbers t)) (omega arith) (away_with t u w d (2 ^ 64 - 1) K l σ f ft)
     kept_ok true answer.Input (Ok v) t u w d k K l σ pl lt ft =
-        there machine M 4 4 _ _ v σ (Put b t u w (Answered answer.Input) k K l) (Away p deepest ks F b d K) (input_kept v) (omega arith) (put_word t u w (input_code v) (Answered answer.Input) k K l v σ refl (λ c e. e) ft)
+        there machine M 4 4 _ _ v σ (Put b t u w (Answered answer.Input) k K l) (Away p deepest ks F b d K) (input_kept v) (omega arith) (put_word t u w (input_code v) (Answered answer.Input) k K l v σ (refl, refl) ft)
       where
         input_kept : (v : InputAnswer) → Goes machine 4 (at ks (Bits (I32 (input_code v)) ∷ []) K (laid b l) F (kept b true answer.Input t d k) (beside_state σ)) (at ks [] K (laid b (with_at l (NumberAt t) (Bits (I64 (input_code v))))) F k (beside_state σ))
         input_kept input.End = code_kept b l t d 0 lt (ft.numbers t) refl refl
@@ -228,7 +225,7 @@ module _ (p : Program) (deepest : Watch) (ks : List Kind) (F : List Frame) where
     kept_ok true answer.Input (Err f) t u w d k K l σ pl lt ft =
         faulted machine M 4 4 _ _ f σ (Put b t u w (Answered answer.Input) k K l) (Away p deepest ks F b d K) (code_failed b l t d lt (ft.numbers t)) (omega arith) (away_with t u w d (2 ^ 64 - 1) K l σ f ft)
     kept_ok true answer.Stream (Ok v) t u w d k K l σ pl lt ft =
-        there machine M 4 4 _ _ v σ (Put b t u w (Answered answer.Stream) k K l) (Away p deepest ks F b d K) (stream_kept v) (omega arith) (put_word t u w (stream_code v) (Answered answer.Stream) k K l v σ refl (λ c e. e) ft)
+        there machine M 4 4 _ _ v σ (Put b t u w (Answered answer.Stream) k K l) (Away p deepest ks F b d K) (stream_kept v) (omega arith) (put_word t u w (stream_code v) (Answered answer.Stream) k K l v σ (refl, refl) ft)
       where
         stream_kept : (v : StreamAnswer) → Goes machine 4 (at ks (Bits (I32 (stream_code v)) ∷ []) K (laid b l) F (kept b true answer.Stream t d k) (beside_state σ)) (at ks [] K (laid b (with_at l (NumberAt t) (Bits (I64 (stream_code v))))) F k (beside_state σ))
         stream_kept stream.Done = code_kept b l t d 0 lt (ft.numbers t) refl refl
@@ -244,13 +241,13 @@ module _ (p : Program) (deepest : Watch) (ks : List Kind) (F : List Frame) where
         there machine M 4 1 _ _ v σ (Put b t u w (Answered (answer.Of sort.Value)) k K l) (Away p deepest ks F b d K) (set_ok b l (Hand t) (Held v) lt (hand_free t u w l σ ft)) (omega arith) (put_value t u w k K l v σ ft)
     kept_ok false (answer.Of sort.Number) v t u w d k K l σ pl lt ft =
         there machine M 4 1 _ _ v σ (Put b t u w (Answered (answer.Of sort.Number)) k K l) (Away p deepest ks F b d K) (set_ok b l (NumberAt t) (Bits (I64 (number_word v))) lt (ft.numbers t)) (omega arith)
-        (put_word t u w (number_word v) (Answered (answer.Of sort.Number)) k K l v σ refl (λ c e. e) ft)
+        (put_word t u w (number_word v) (Answered (answer.Of sort.Number)) k K l v σ (refl, refl) ft)
     kept_ok false answer.Truth v t u w d k K l σ pl lt ft =
-        there machine M 4 2 _ _ v σ (Put b t u w (Answered answer.Truth) k K l) (Away p deepest ks F b d K) (code_stored b l t d (flag_number v) lt (ft.numbers t)) (omega arith) (put_word t u w (flag_number v) (Answered answer.Truth) k K l v σ refl (λ c e. e) ft)
+        there machine M 4 2 _ _ v σ (Put b t u w (Answered answer.Truth) k K l) (Away p deepest ks F b d K) (code_stored b l t d (flag_number v) lt (ft.numbers t)) (omega arith) (put_word t u w (flag_number v) (Answered answer.Truth) k K l v σ (refl, refl) ft)
     kept_ok false answer.Input v t u w d k K l σ pl lt ft =
-        there machine M 4 2 _ _ v σ (Put b t u w (Answered answer.Input) k K l) (Away p deepest ks F b d K) (code_stored b l t d (input_code v) lt (ft.numbers t)) (omega arith) (put_word t u w (input_code v) (Answered answer.Input) k K l v σ refl (λ c e. e) ft)
+        there machine M 4 2 _ _ v σ (Put b t u w (Answered answer.Input) k K l) (Away p deepest ks F b d K) (code_stored b l t d (input_code v) lt (ft.numbers t)) (omega arith) (put_word t u w (input_code v) (Answered answer.Input) k K l v σ (refl, refl) ft)
     kept_ok false answer.Stream v t u w d k K l σ pl lt ft =
-        there machine M 4 2 _ _ v σ (Put b t u w (Answered answer.Stream) k K l) (Away p deepest ks F b d K) (code_stored b l t d (stream_code v) lt (ft.numbers t)) (omega arith) (put_word t u w (stream_code v) (Answered answer.Stream) k K l v σ refl (λ c e. e) ft)
+        there machine M 4 2 _ _ v σ (Put b t u w (Answered answer.Stream) k K l) (Away p deepest ks F b d K) (code_stored b l t d (stream_code v) lt (ft.numbers t)) (omega arith) (put_word t u w (stream_code v) (Answered answer.Stream) k K l v σ (refl, refl) ft)
     kept_ok false answer.Done v t u w d k K l σ pl lt ft =
         there machine M 4 1 _ _ v σ (Put b t u w (Answered answer.Done) k K l) (Away p deepest ks F b d K) (done_dropped b d) (omega arith)
         (record { next = l; comes = refl; fit = fit_more p deepest ks F t u w l σ ft; same = same_self [] t w l; holds = (ft.free t (omega arith), tt) })

@@ -12,7 +12,7 @@ use Rattle.sem_scripts.specs.Names.{names_length}
 use Rattle.sem_scripts.specs.ScriptRun.{Setting, start, announced, arrays_made}
 use Rattle.sem_scripts.specs.ScriptState.{State, Outcome, Gives, Stops, Doing, ◌>>=◌, ◌>>◌, go_on}
 use Rattle.mid_program.specs.Sorted.{kinds_of, all_differ, announced_names}
-use Rattle.lower_model.specs.Cells.{Cell, Bits}
+use Rattle.lower_model.specs.Cells.{Cell, Bits, Gone}
 use Rattle.lower_model.specs.Functions.{layout_of}
 use Rattle.lower_model.specs.Machine.{Notes, Label, at}
 use Rattle.lower_model.specs.Places.{Bases}

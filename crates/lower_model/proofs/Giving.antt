@@ -154,7 +154,7 @@ module _ (p : Program) (deepest : Watch) (ks : List Kind) (F : List Frame) (b : 
   abbrev returning : Code → Doing Flow
   returning e σ = go_on (meant p deepest ks F b M n [] tt e σ) (λ x. stop {A = Flow} (Returned (boxed (form_of [] e) x)))
 
-  abbrev AloneOk : Code → Type 0
+  abbrev AloneOk : Code → Type 1
   AloneOk e = (u d : ℕ) (k : Instructions) (K : List Label) (l : Locals) (σ : State) (P : Flow → State → Conf → Type 0) → fits (form_of [] e) sort.Value ≡ true → sorted (context p deepest ks F b M n) [] e ≡ true → room e ≤ b.temporaries → arrays_in e ≤ b.arrays →
       Ready p deepest ks F b M n [] tt [] (λ i. There) 0 u 0 (loops_walked K) l σ →
       Reached p deepest ks F b M (work_of e + 20) σ.turns (at ks [] K (laid b l) F (emitted (layout p deepest ks F b M n) false [] [] e 0 0 d (answer_given (layout p deepest ks F b M n) (form_of [] e) d k)) (beside_state p deepest ks F σ)) P (Away p deepest ks F b d K) (returning e σ)

@@ -6,6 +6,7 @@ use Rattle.awk_values.specs.declared.value.Value.{Value}
 use Rattle.sem_primitives.specs.declared.sorts.Answer.TheVariants as answer
 use Rattle.sem_primitives.specs.declared.sorts.Sort.TheVariants as sort
 use Rattle.wasm_types.specs.Syntax.{Instructions}
+use Rattle.wasm_store.specs.declared.word.Word.TheVariants.{I64}
 use Rattle.mid_program.specs.Mid.{Kind, Boxed, Unboxed, Many, Program, Global, Parameter, Form, Answered, Bare, Get, Bound, form_at}
 use Rattle.mid_program.specs.MidMeaning.{Holds, Env, evaluated, all_evaluated, held}
 use Rattle.sem_scripts.specs.Names.{Numbered}
