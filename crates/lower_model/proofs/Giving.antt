@@ -219,7 +219,7 @@ module _ (p : Program) (deepest : Watch) (ks : List Kind) (F : List Frame) (b : 
         walking = walking_same p deepest ks F b M n (loops_walked K) u l z.next (λ x. z.keeps.iterators x ∙ h.same.iterators x) rd.walking;
         none = refl;
       } in
-      let both : (t : Bool) → Reached p deepest ks F b M w2 τ.turns (at ks [] Kl (laid b z.next) F (cond (nat_eq (flag_number t) 0) B A) (beside_state p deepest ks F τ)) P Q (go_on ((if t then way a1 else way a2) τ) give) = λ t. elim t [
+      let both : (t : Bool) → Reached p deepest ks F b M w2 τ.turns (at ks [] Kl (laid b z.next) F (cond (nat_eq (flag_number t) 0) B A) (beside_state p deepest ks F τ)) P Q (go_on ((if t then way a1 else way a2) τ) give) = λ t. elim t as (λ t1. Reached p deepest ks F b M w2 τ.turns (at ks [] Kl (laid b z.next) F (cond (nat_eq (flag_number t1) 0) B A) (beside_state p deepest ks F τ)) P Q (go_on ((if t1 then way a1 else way a2) τ) give)) [
         | true ↦ within mach M (work_of a1 + 20) w2 τ.turns _ P Q (go_on (way a1 τ) give) (omega arith) (out a1 τ _ (returned_ok oks a1 u (suc d) NoMore Kl z.next τ P s3.0 s6.0 (omega (arith, rm)) (omega (arith, ar)) rd1))
         | false ↦ within mach M (work_of a2 + 20) w2 τ.turns _ P Q (go_on (way a2 τ) give) (omega arith) (out a2 τ _ (returned_ok oks a2 u (suc d) NoMore Kl z.next τ P s4.0 s6.1 (omega (arith, rm)) (omega (arith, ar)) rd1))
       ] in
