@@ -93,8 +93,8 @@ module _ {p : Program} {ks : List Kind} {b : Bases} {C : Context} (at : Stands p
     kept_ok f answer.Done ps i lt e r = kept_done_ok f e r
     kept_ok f a ps i lt e r = absurd i
 
-  module _ {L : Labels} {k : Instructions} {rs : Stack} where
-    pub answer_kept_ok : {t d : ℕ} → t < b.temporaries → Exit L d → CodeOk C L k [] rs → CodeOk C L (answer_kept b t d k) (I64 ∷ []) rs
+  module _ {L : Labels} {k : Instructions} {ps rs : Stack} where
+    pub answer_kept_ok : {t d : ℕ} → t < b.temporaries → Exit L d → CodeOk C L k ps rs → CodeOk C L (answer_kept b t d k) (I64 ∷ ps) rs
     answer_kept_ok {t = t} lt e r =
         tee (at.number t lt) (long (compare (branched
         (number_is_ok (at.number t lt) (branched (text_taken_ok lt done) (number_is_ok (at.number t lt) (leave_if (inner (inner e)) done)) done)) done r)))
