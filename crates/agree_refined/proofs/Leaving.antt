@@ -1,5 +1,7 @@
 -- The end of a function, with its answer, and the frame that called it.
-use Rattle.std.proofs.Common.{◌≡◌, ℕ, Bool, true, false, not, ◌&&◌, List, [], ◌∷◌, Some, refl, sym, subst, arith}
+use Rattle.std.proofs.Common.{◌≡◌, ℕ, Bool, true, false, not, ◌&&◌, List, [], ◌∷◌, Option, Some, None, refl, sym, subst, arith}
+use Rattle.std.specs.Prelude.{is_some}
+use Rattle.wasm_types.specs.declared.types.ValType.{ValType}
 use Rattle.wasm_types.specs.declared.types.ValType.TheVariants as ty
 use Rattle.wasm_store.specs.declared.word.Word.{Word}
 use Rattle.wasm_model.specs.Frames.{LabelForm, with_values}
@@ -54,10 +56,11 @@ module _ {used : ℕ → Bool} {bs : List Bool} {u : Code} {K : List Label} {L :
       within true e false = stuck_as c s (to_caller c (w ∷ []) (Some w) (r ∷ []))
       within true e true = subst (λ z. Next (Over v G) (to_caller c (w ∷ []) (Some w) (z ∷ []))) (sym b) (ended (not_true (is_owned v) e))
 
-  returned_as : (vs : List Cell) (ws : List Word) → WordsAs made s.names vs ws → Once rest vs ws L c.frame.locals → Next (leave u ks vs [] L F G) (returned_with c (Some ty.I32) ws)
-  returned_as [] ws a once = stuck_as c s (returned_with c (Some ty.I32) ws)
-  returned_as (v ∷ vs) [] a once = absurd a
-  returned_as (v ∷ vs) (w ∷ ws) a once = by (none_owned vs && none_owned L) refl
+  returned_as : (q : Option ValType) → is_some q ≡ true → (vs : List Cell) (ws : List Word) → WordsAs made s.names vs ws → Once rest vs ws L c.frame.locals → Next (leave u ks vs [] L F G) (returned_with c q ws)
+  returned_as None e vs ws a once = cc
+  returned_as (Some k) e [] ws a once = stuck_as c s (returned_with c (Some k) ws)
+  returned_as (Some k) e (v ∷ vs) [] a once = absurd a
+  returned_as (Some k) e1 (v ∷ vs) (w ∷ ws) a once = by (none_owned vs && none_owned L) refl
     where
       by : (b : Bool) → none_owned vs && none_owned L ≡ b → Next (guarded b (leave_function u v F G)) (to_caller c (w ∷ []) (Some w) c.callers)
       by false e = stuck_as c s (to_caller c (w ∷ []) (Some w) c.callers)
@@ -67,7 +70,7 @@ module _ {used : ℕ → Bool} {bs : List Bool} {u : Code} {K : List Label} {L :
 
   -- the end of a block, or of the function
   pub leave_as : (vs : List Cell) (K1 : List Label) (rs : List LabelForm) → LabelsAs used bs made s.names K1 rs → WordsAs made s.names vs c.frame.values → Once rest vs c.frame.values L c.frame.locals → Next (leave u ks vs K1 L F G) (turn_by m c (form.at_end c.frame rs))
-  leave_as vs [] [] b a once = subst (λ z. Next (leave u ks vs [] L F G) (returned_with c z c.frame.values)) (sym rest.result) (returned_as vs c.frame.values a once)
+  leave_as vs [] [] b a once = returned_as c.result rest.result vs c.frame.values a once
   leave_as vs (l ∷ K1) (r ∷ rs) b a once = end_as m ks rest vs l r K1 rs b.0 b.1 a once
   leave_as vs [] (r ∷ rs) b a once = absurd b
   leave_as vs (l ∷ K1) [] b a once = absurd b

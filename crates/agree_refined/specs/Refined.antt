@@ -1,5 +1,5 @@
 -- When the real machine, with its host, is where the machine over values is, and what a step is to keep of that.
-use Rattle.std.specs.Prelude.{ℕ, ◌≡◌, ◌⊎◌, ◌<◌, ◌+◌, Bool, true, false, List, [], ◌∷◌, ◌++◌, length, Option, Some, None, slice_get}
+use Rattle.std.specs.Prelude.{ℕ, ◌≡◌, ◌⊎◌, ◌<◌, ◌+◌, Bool, true, false, List, [], ◌∷◌, ◌++◌, length, Option, Some, None, is_some, slice_get}
 use Rattle.world_core.specs.WorldState.{Action}
 use Rattle.wasm_types.specs.Syntax.{Instructions, Done, FuncForm}
 use Rattle.wasm_types.specs.declared.types.ValType.TheVariants as ty
@@ -56,7 +56,7 @@ module _ (used : ℕ → Bool) (bs : List Bool) where
     pub labels : LabelsAs made N f.labels r.frame.labels
     pub locals : WordsAs made N f.locals r.frame.locals
     pub rest : CodeAs f.rest r.frame.code
-    pub result : r.result ≡ Some ty.I32
+    pub result : is_some r.result ≡ true
 
   -- the frame in which the machine calls `main`, while that call is open
   abbrev pub entry : CallerForm
@@ -75,7 +75,7 @@ module _ (used : ℕ → Bool) (bs : List Bool) where
       pub locals : WordsAs (arrays_made G.host) s.names L c.frame.locals
       pub globals : WordsAs (arrays_made G.host) s.names G.globals c.globals
       pub callers : FramesAs (arrays_made G.host) s.names F c.callers
-      pub result : c.result ≡ Some ty.I32
+      pub result : is_some c.result ≡ true
       pub host : s ≡ state_with s.names G.host
       pub arrays : ArraysFit (arrays_made G.host) s.names.arrays
       pub behind : List ℕ
