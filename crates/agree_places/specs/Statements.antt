@@ -10,7 +10,7 @@ use Rattle.lower_model.specs.Functions.{layout_of, main_bases, routine_bases}
 use Rattle.lower_model.specs.Places.{answer_local}
 use Rattle.lower_model.specs.Quick.{is_nothing, pair_in, step_jumps}
 use Rattle.lower_model.specs.Small.{ask_row, does}
-use Rattle.lower_model.specs.Statements.{records_read, step_emitted, steps_emitted}
+use Rattle.lower_model.specs.Statements.{records_read, routine_ended, step_emitted, steps_emitted}
 
 -- the places of code, in order: all code that begins with a `nop`, up to the end of its block
 abbrev mutual
@@ -66,7 +66,7 @@ module _ (y : Layout) where
 abbrev pub routine_starts : Program → Routine → List Instructions
 routine_starts p r =
     let y = layout_of p (routine_bases r) in
-    steps_starts y r.body zero zero zero zero (routine_rest (routine_bases r))
+    steps_starts y r.body zero zero zero zero (routine_ended y)
 
 -- those of BEGIN, of the items for a record where records are read, and of END
 abbrev pub main_starts : Program → List Instructions

@@ -205,7 +205,7 @@ module _ (p : Program) (s : is_sorted p ≡ true) (size : module_size (module_of
   holds = record {
     imports = imports_hold zero (imports_of p);
     tables = tt;
-    globals = ((omega arith, tt), ((omega arith, tt), ranges_hold p.ranges (name_globals (kinds_of p.globals)) (names_hold (kinds_of p.globals))));
+    globals = ((omega arith, tt), ((omega arith, tt), ((omega arith, tt), ranges_hold p.ranges (name_globals (kinds_of p.globals)) (names_hold (kinds_of p.globals)))));
     exports = (text (codes "main") refl, tt);
     elems = tt;
     codes = functions_hold (length (imports_of p)) p.routines s2.0 (callees_few (called_imports p) (length (imports_of p)) (all_callees p) long);
