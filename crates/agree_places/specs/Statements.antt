@@ -1,15 +1,13 @@
 -- Where statements begin: the places of code, and the code of each step of a function, with what comes after it.
 use Rattle.std.specs.Prelude.{ℕ, zero, suc, ◌+◌, nat_eq, cond, true, false, if◌then◌else◌, List, [], ◌∷◌, ◌++◌, is_some}
-use Rattle.sem_primitives.specs.declared.table.Primitive.TheVariants as row
 use Rattle.wasm_types.specs.Syntax.{Instruction, Plain, BrTable, Block, Loop as Again, If, Instructions, Done, Then}
-use Rattle.wasm_types.specs.declared.instr.Simple.TheVariants.{Br, BrIf, LocalSet, Nop}
+use Rattle.wasm_types.specs.declared.instr.Simple.TheVariants.{Br, BrIf, Nop}
 use Rattle.mid_program.specs.Mid.{Step, Eval, Block as Body, If as Either, Loop, Each, Break, Continue, Next, Exit, ExitWith, Return, Mark, Steps, NoStep, Then as AndThen, Program, Routine}
 use Rattle.lower_model.specs.Boundaries.{is_nop, steps_places}
 use Rattle.lower_model.specs.Emission.{Layout, tested}
 use Rattle.lower_model.specs.Functions.{layout_of, main_bases, routine_bases}
-use Rattle.lower_model.specs.Places.{answer_local}
 use Rattle.lower_model.specs.Quick.{is_nothing, pair_in, step_jumps}
-use Rattle.lower_model.specs.Small.{ask_row, does}
+use Rattle.lower_model.specs.Small.{does}
 use Rattle.lower_model.specs.Statements.{records_read, routine_ended, step_emitted, steps_emitted}
 
 -- the places of code, in order: all code that begins with a `nop`, up to the end of its block
