@@ -69,7 +69,7 @@ begun u handle number = record {
   callers = [];
   memory = record { bytes = []; most = 0 };
   table = [];
-  globals = I32 0 ∷ (I64 0 ∷ (I32 handle ∷ (I64 number ∷ [])));
+  globals = I32 0 ∷ (I64 0 ∷ (I32 minus_one ∷ (I32 handle ∷ (I64 number ∷ []))));
 }
 
 abbrev code_there : Option Conf → Option Instructions
@@ -109,7 +109,7 @@ pub quiet_statement : code_there (quiet (machine true) 9 (begun true minus_one 5
 unfolding emitted all_emitted step_emitted steps_emitted
 quiet_statement = refl
 
-pub six_then : names_there (quiet (machine true) 9 (begun true minus_one 5)) ≡ Some (I32 0 ∷ (I64 0 ∷ (I32 minus_one ∷ (I64 6 ∷ []))))
+pub six_then : names_there (quiet (machine true) 9 (begun true minus_one 5)) ≡ Some (I32 0 ∷ (I64 0 ∷ (I32 minus_one ∷ (I32 minus_one ∷ (I64 6 ∷ [])))))
 unfolding emitted all_emitted step_emitted steps_emitted
 six_then = refl
 
