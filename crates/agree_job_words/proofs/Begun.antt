@@ -34,7 +34,7 @@ use Rattle.lower_model.proofs.Pieces.{number_kept}
 use Rattle.lower_model.proofs.Relation.{globals_told, routines_told}
 use Rattle.lower_model.proofs.Runs.{Goes, by_steps, goes_from, goes_to, then_goes}
 use Rattle.lower_model.proofs.State.{host_of}
-use Rattle.lower_model.proofs.Steps.{emptied_ok}
+use Rattle.lower_model.proofs.Steps.{set_ok, unanswered}
 use Rattle.lower_model.proofs.Watch.{Watch, watched}
 
 -- all names of a script, in their order: its globals, and its functions
@@ -89,7 +89,7 @@ module _ (p : Program) (s : Setting) (differ : all_differ (announced_names p) �
       record {
         steps = 1 + (a.steps + 1);
         goes = goes_to (goes_from (ap (λ L. at [] [] [] L [] body (storing (first_globals p) (host_at_start s))) (laid_entry b [] refl) ∙ ap (λ g. at [] [] [] (laid b (entry [])) [] body (storing g (host_at_start s))) (first_placed p))
-            (then_goes (emptied_ok b (entry []) Answer tt refl) (then_goes (goes_to a.goes (ap (λ L. at [] [] [] L [] whole G) e)) inside)))
+            (then_goes (set_ok b (entry []) Answer unanswered tt refl) (then_goes (goes_to a.goes (ap (λ L. at [] [] [] L [] whole G) e)) inside)))
             (ap (λ f. at [] [] exit (laid b (functions.begun [])) [] (started y told_code) (storing globals (host_of first_state f))) fine);
       }
 

@@ -1,8 +1,9 @@
 -- So the functions of a program that does not name ARGV.
-use Rattle.std.proofs.Common.{◌≡◌, ℕ, zero, suc, ◌+◌, ◌<◌, Bool, true, false, not, ◌&&◌, ◌||◌, nat_eq, nat_lt, List, [], ◌∷◌, ◌++◌, length, Option, Some, None, refl, subst, arith}
-use Rattle.std.proofs.lemmas.Bool.{and_parts, eq-eqb, lt-leb, ltb-true}
+use Rattle.std.proofs.Common.{◌≡◌, ℕ, zero, suc, ◌+◌, ◌<◌, Bool, true, false, not, ◌&&◌, ◌||◌, nat_eq, nat_le, nat_lt, List, [], ◌∷◌, ◌++◌, length, Option, Some, None, refl, sym, subst, arith}
+use Rattle.std.proofs.lemmas.Bool.{and_parts, eq-eqb, lt-leb, ltb-true, ne_eqb}
 use Rattle.std.specs.Prelude.{if◌then◌else◌, is_some, ℤ}
 use Rattle.sem_primitives.specs.Constants.{flag_number}
+use Rattle.sem_primitives.specs.declared.sorts.Answer.TheVariants as answer
 use Rattle.sem_primitives.specs.declared.sorts.Sort.TheVariants as sort
 use Rattle.sem_primitives.specs.declared.table.Primitive.TheVariants as row
 use Rattle.wasm_types.specs.Syntax.{Instructions, Done}
@@ -13,16 +14,16 @@ use Rattle.wasm_types.specs.declared.instr.ITestOp.TheVariants.{Eqz}
 use Rattle.wasm_types.specs.declared.instr.Simple.TheVariants.{Br, BrIf, Compare, Convert, GlobalGet, GlobalSet, I32Const, I64Const, LocalGet, LocalSet, Nop, Test}
 use Rattle.wasm_types.specs.declared.types.ValType.TheVariants as ty
 use Rattle.sem_scripts.specs.Names.{ArrayName}
-use Rattle.mid_program.specs.Mid.{Kind, Boxed, Unboxed, Many, Code, Let, Step, Eval, Block as Steps_, If as Either, Loop, Each, Break, Continue, Next, Exit, ExitWith, Return, Mark, Steps, NoStep, Then as AndThen, Program, a_value, form_of, parameters_at}
+use Rattle.mid_program.specs.Mid.{Kind, Boxed, Unboxed, Many, Code, Choose, Let, Form, Answered, Bare, Perhaps, Step, Eval, Block as Steps_, If as Either, Loop, Each, Break, Continue, Next, Exit, ExitWith, Return, Mark, Steps, NoStep, Then as AndThen, Program, a_value, form_of, parameters_at}
 use Rattle.mid_program.specs.Sorted.{Context, all_sorted, calls_of, context_of, fits, is_array_place, is_dropped, is_kept, is_tested, keeps_well, sorted, step_sorted, steps_sorted, stores_well, test_sorted}
 use Rattle.lower_model.specs.Cells.{cell_at}
 use Rattle.lower_model.specs.Emission.{Layout, asked, dropped, field_at, tested}
 use Rattle.lower_model.specs.Machine.{zeros}
 use Rattle.wasm_types.specs.declared.types.ValType.{ValType}
-use Rattle.lower_model.specs.Places.{Bases, answer_local, array_local, handle_local, handle_types, iterator_local, local_types, number_global, number_local, status_global, temporary_types, way_global}
+use Rattle.lower_model.specs.Places.{Bases, answer_local, array_local, handle_local, handle_types, iterator_local, local_types, number_global, number_local, status_global, temporary_types, text_global, way_global}
 use Rattle.lower_model.specs.Quick.{Within, test_within, Source, Named, Constant, joined, all_unsure, Sum, sum_names, sum_op, sum_in, Update, update_in, Tally, tally_in, Remainder, remainder_in, remainder_names, multiplied, Counted, counted_in, Pair, pair_names, pair_in, step_jumps, is_nothing}
 use Rattle.lower_model.specs.Small.{ask_row, does, either, moved_out}
-use Rattle.lower_model.specs.Statements.{again, left_by, pair_left, summed, way_exit, way_next, name_read, source_pushed, name_numbered, source_numbered, source_taken, sum_kept, sum_taken, summed_anyway, field_numbered, both_asked, element_numbered, element_given, remainder_taken, remainder_dropped, barely_dropped, plainly_dropped, quickly_dropped, left_unless_counted, left_unless_pair, left_unless, all_emptied, arrays_emptied, arrays_swept, block, first_part, goes_on, has_functions, iterator_left, iterators_emptied, iterators_swept, key_stored, last_part, left_swept, main_body, names_declared, names_made, parameters_dropped, part_done, record_done, records_read, routine_body, routines_declared, step_emitted, steps_emitted, swept, temporaries_emptied, temporaries_swept}
+use Rattle.lower_model.specs.Statements.{again, answer_given, returned, routine_ended, left_by, pair_left, summed, way_exit, way_next, name_read, source_pushed, name_numbered, source_numbered, source_taken, sum_kept, sum_taken, summed_anyway, field_numbered, both_asked, element_numbered, element_given, remainder_taken, remainder_dropped, barely_dropped, plainly_dropped, quickly_dropped, left_unless_counted, left_unless_pair, left_unless, all_emptied, arrays_emptied, arrays_swept, block, first_part, goes_on, has_functions, iterator_left, iterators_emptied, iterators_swept, key_stored, last_part, left_swept, main_body, names_declared, names_made, parameters_dropped, part_done, record_done, records_read, routine_body, routines_declared, step_emitted, steps_emitted, swept, temporaries_emptied, temporaries_swept}
 use Rattle.lower_model.proofs.Tallies.{Shape, Updating, Following, Leading, tally_code, tally_is, tally_sorted}
 use Rattle.lower_model.proofs.Updating.{added_code, added_is}
 use Rattle.agree_job_words.specs.Naming.{is_argv, names_argv, step_names, steps_name}
@@ -84,8 +85,8 @@ module _ (tells : Bool) (y : Layout) (sizes : ℕ → Option ℕ) (whole : Progr
   leaves_if = record { so = λ A. tt }
 
   -- a global that is no name's
-  low : (x : ℕ) → x < suc (suc (suc y.ranges)) → nat_le (suc (suc (suc y.ranges))) x ≡ false
-  low x l = lt-leb (suc (suc (suc y.ranges))) x l
+  low : (x : ℕ) → x < suc (suc (suc y.ranges)) → nat_eq x text_global ≡ false → is_name (suc (suc (suc y.ranges))) x ≡ false
+  low x l n = subst (λ (z : Bool). z || nat_le (suc (suc (suc y.ranges))) x ≡ false) (sym n) (lt-leb (suc (suc (suc y.ranges))) x l)
 
   module _ {e : Bool} {k : Instructions} (r : So e k) where
     -- the truth on the stack leaves where it is false
@@ -248,13 +249,13 @@ module _ (tells : Bool) (y : Layout) (sizes : ℕ → Option ℕ) (whole : Progr
 
   -- `return`
 
-  given_spares : {e : Bool} {k : Instructions} (f : Form) (d : ℕ) → So e (answer_given y f d k)
-  given_spares (Answered (answer.Of sort.Value)) d = record { so = λ A. (refl, tt) }
-  given_spares (Answered (answer.Of sort.Number)) d = record { so = λ A. tt }
-  given_spares (Answered answer.Truth) d = record { so = λ A. tt }
-  given_spares Bare d = record { so = λ A. ((refl, tt), (tt, tt)) }
-  given_spares Perhaps d = record { so = λ A. tt }
-  given_spares f d = record { so = λ A. tt }
+  answer_spares : {e : Bool} (k : Instructions) (f : Form) (d : ℕ) → So e (answer_given y f d k)
+  answer_spares k (Answered (answer.Of sort.Value)) d = record { so = λ A. (refl, tt) }
+  answer_spares k (Answered (answer.Of sort.Number)) d = record { so = λ A. tt }
+  answer_spares k (Answered answer.Truth) d = record { so = λ A. tt }
+  answer_spares k Bare d = record { so = λ A. ((refl, tt), (tt, tt)) }
+  answer_spares k Perhaps d = record { so = λ A. tt }
+  answer_spares k f d = record { so = λ A. tt }
 
   returned_spares : {e : Bool} {k : Instructions} → So e k → (x : Code) (d : ℕ) → sorted c [] x ≡ true → names_argv x ≡ false → So e (returned y x d k)
   unfolding sorted
@@ -268,7 +269,7 @@ module _ (tells : Bool) (y : Layout) (sizes : ℕ → Option ℕ) (whole : Progr
       let p = or_none (names_argv a) (names_argv z || names_argv w) q in
       let p1 = or_none (names_argv z) (names_argv w) p.1 in
       tested_spares tells y sizes c sized same (either_spares (returned_spares done z (suc d) s4.0 p1.0) (returned_spares done w (suc d) s4.1 p1.1) r) [] [] a zero zero d none_kept s3.0 p.0
-  returned_spares r x d s q = emitted_spares tells y sizes c sized same (given_spares (form_of [] x) d) false [] [] x zero zero d none_kept s q
+  returned_spares {k = k} r x d s q = emitted_spares tells y sizes c sized same (answer_spares k (form_of [] x) d) false [] [] x zero zero d none_kept s q
 
   -- Steps.
 
@@ -324,7 +325,7 @@ module _ (tells : Bool) (y : Layout) (sizes : ℕ → Option ℕ) (whole : Progr
     step_spares r (Return x) u d bk ct g l o q =
         begun (returned_spares r x d (and_parts (fits (form_of [] x) sort.Value) (sorted c [] x) (and_parts g (fits (form_of [] x) sort.Value && sorted c [] x) o).1).1 q)
     step_spares r (Mark i z) u d bk ct g l o q = record {
-      so = λ A. (either_so (not (nat_eq (flag_number z) 0)) (is_name (suc (suc (suc y.ranges))) (suc (suc (suc i)))) (low (suc (suc (suc i))) (let h = ltb-true i c.ranges o in omega (arith, h, ranged))), r.so A);
+      so = λ A. (either_so (not (nat_eq (flag_number z) 0)) (is_name (suc (suc (suc y.ranges))) (suc (suc (suc i)))) (low (suc (suc (suc i))) (let h = ltb-true i c.ranges o in omega (arith, h, ranged)) (ne_eqb (suc (suc (suc i))) text_global (λ m. absurd (omega (arith, m))))), r.so A);
     }
 
     pub steps_spares : {e : Bool} {k : Instructions} → So e k → (ss : Steps) (u d bk ct : ℕ) (g l : Bool) → steps_sorted c g l ss ≡ true → steps_name ss ≡ false → So e (steps_emitted y ss u d bk ct k)
@@ -406,7 +407,7 @@ module _ (tells : Bool) (y : Layout) (sizes : ℕ → Option ℕ) (whole : Progr
 
   module _ {e : Bool} {k : Instructions} (r : So e k) where
     goes_spares : So e (goes_on y k)
-    goes_spares = record { so = λ A. (either_so false (is_name (suc (suc (suc y.ranges))) zero) (low zero (omega arith)), (left_swept_spares r (has_functions y.calls)).so A) }
+    goes_spares = record { so = λ A. (either_so false (is_name (suc (suc (suc y.ranges))) zero) (low zero (omega arith) refl), (left_swept_spares r (has_functions y.calls)).so A) }
 
   module _ {e : Bool} {k : Instructions} (r : So e k) where
     record_spares : (items : Steps) (d : ℕ) → steps_sorted c false false items ≡ true → steps_name items ≡ false → So e (record_done y items d k)

@@ -1,5 +1,5 @@
 -- The code of mid code that does not name ARGV gives its number to no row that changes arrays.
-use Rattle.std.proofs.Common.{◌≡◌, ℕ, zero, suc, ◌-◌, Bool, true, false, not, ◌&&◌, ◌||◌, cond, nat_eq, nat_lt, List, [], ◌∷◌, length, drop, Option, Some, None, refl, sym, ap, ◌∙◌, subst, arith}
+use Rattle.std.proofs.Common.{◌≡◌, ℕ, zero, suc, ◌-◌, ◌≤◌, Bool, true, false, not, ◌&&◌, ◌||◌, cond, nat_eq, nat_le, nat_lt, List, [], ◌∷◌, length, drop, Option, Some, None, refl, sym, ap, ◌∙◌, subst, arith}
 use Rattle.std.proofs.lemmas.Bool.{and_parts, le-leb, le-ltb, lt-ltb}
 use Rattle.std.proofs.lemmas.Option.{slice_get_within}
 use Rattle.std.specs.Prelude.{if◌then◌else◌, get_or, ℤ}
@@ -30,7 +30,7 @@ use Rattle.lower_model.specs.Arithmetic.{calculated, compared, field_checked, is
 use Rattle.lower_model.specs.Emission.{Layout, Immediate, FieldOf, TextOf, NumberOf, immediate_in, immediate_or, all_appended, all_boxed, all_converted, all_emitted, all_freed, all_given, all_given_pushed, all_pushed, array_meant, array_pushed, asked as asked_until, assigned, assigned_by_number, bound_read, dropped, emitted, field_in, field_or, function_number, handle_stored, keeping_closed, left_over, listed_asked, pending_assigned, performed, sequence_closed, slot_read, slot_set, tested, text_dropped, text_let_go, value_stored}
 use Rattle.host_imports.specs.Imports.{import_answer, import_at, import_count, import_number, imports}
 use Rattle.lower_model.specs.Machine.{width}
-use Rattle.lower_model.specs.Places.{Bases, array_name, handle_global, made_in, number_global}
+use Rattle.lower_model.specs.Places.{Bases, array_name, handle_global, made_in, number_global, text_global}
 use Rattle.lower_model.specs.Small.{answer_kept, ask, ask_row, bound_from, boxed_perhaps, code_number, converted, does, either, kept, kept_code, kept_done, kept_number, kept_value, moved_from, released, to_number, to_value, truth, unused}
 use Rattle.host_imports.specs.declared.import.Import.{Import}
 use Rattle.host_imports.specs.declared.import.Import.TheVariants.{Of}
@@ -176,11 +176,18 @@ module _ (tells : Bool) (y : Layout) (sizes : ℕ → Option ℕ) where
   pub none : Always false Done
   none = record { so = λ A. tt }
 
+  behind : (x : ℕ) → before ≤ x → is_name before x ≡ true
+  behind x l = by (nat_eq x text_global)
+    where
+      by : (z : Bool) → z || nat_le before x ≡ true
+      by true = refl
+      by false = le-leb before x l
+
   pub named : (i : ℕ) → is_name before (handle_global y.ranges i) ≡ true
-  named i = le-leb before (handle_global y.ranges i) (omega arith)
+  named i = behind (handle_global y.ranges i) (omega arith)
 
   pub numbered : (i : ℕ) → is_name before (number_global y.ranges i) ≡ true
-  numbered i = le-leb before (number_global y.ranges i) (omega arith)
+  numbered i = behind (number_global y.ranges i) (omega arith)
 
   asks : (e : Bool) (k : Instructions) (A : Tags) (i : Import) → spares tells i A ≡ true → S e k (answered (import_answer i) (drop (width i) A)) → S e (ask i k) A
   asks e k A i w r = (

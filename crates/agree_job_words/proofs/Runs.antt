@@ -1,9 +1,9 @@
 -- SO ON A RUN: where a program does not name ARGV, ARGV has the job's operands wherever a run of its module may come to, the host has a front of the script's names, and each assignment to a name comes from a
 -- word of the job that assigns to it.
-use Rattle.std.proofs.Common.{◌≡◌, ◌⊎◌, inl, inr, ℕ, zero, suc, ◌+◌, ◌≤◌, ◌<◌, ◌-◌, Bool, true, false, ◌&&◌, ◌||◌, nat_le, nat_lt, List, [], ◌∷◌, ◌++◌, length, map, Option, Some, None, append-nil, refl, sym, ap, ◌∙◌, subst, arith, slice_get}
+use Rattle.std.proofs.Common.{◌≡◌, ◌⊎◌, inl, inr, ℕ, zero, suc, ◌+◌, ◌≤◌, ◌<◌, ◌-◌, Bool, true, false, ◌&&◌, ◌||◌, nat_eq, nat_le, nat_lt, List, [], ◌∷◌, ◌++◌, length, map, Option, Some, None, append-nil, refl, sym, ap, ◌∙◌, subst, arith, slice_get}
 use Rattle.std.specs.List.{Contains}
 use Rattle.std.specs.Prelude.{codes, decimal, if◌then◌else◌, T}
-use Rattle.std.proofs.lemmas.Bool.{and_parts, leb-false, leb-true, ltb-true}
+use Rattle.std.proofs.lemmas.Bool.{and_parts, eqb-true, leb-false, leb-true, ltb-true}
 use Rattle.std.proofs.lemmas.List.Elements.{Contains-append_right}
 use Rattle.std.proofs.lemmas.Slice.Eq.{bytes_eq-Decides}
 use Rattle.std.proofs.lemmas.Option.{get_or_from_slice_get}
@@ -31,6 +31,7 @@ use Rattle.lower_model.specs.Emission.{Layout}
 use Rattle.lower_model.specs.Functions.{layout_of, main_bases, main_callee, routine_bases, routine_callee}
 use Rattle.lower_model.specs.Machine.{Callee, Code, Conf, Deep, Look, Over, Run, Store, Stuck, at, ending_at, go, step, zeros}
 use Rattle.lower_model.specs.Modules.{called_imports, module_of}
+use Rattle.lower_model.specs.Places.{text_global}
 use Rattle.lower_model.specs.Runs.{begun, code_of, empty_names, first_globals, host_at_start, zero_ranges}
 use Rattle.lower_model.proofs.Announcing.{Telling}
 use Rattle.lower_model.proofs.Runs.{go_add}
@@ -92,7 +93,11 @@ globals_other : (p : Program) (x : ℕ) → is_name (suc (suc (suc p.ranges))) x
 globals_other p zero e = let l = leb-true (suc (suc (suc p.ranges))) zero e in absurd (omega (arith, l))
 globals_other p (suc zero) e = let l = leb-true (suc (suc (suc p.ranges))) 1 e in absurd (omega (arith, l))
 globals_other p (suc (suc zero)) e = refl
-globals_other p (suc (suc (suc x))) e = let l = leb-true (suc (suc (suc p.ranges))) (suc (suc (suc x))) e in behind_ranges p.ranges (kinds_of p.globals) x (omega (arith, l))
+globals_other p (suc (suc (suc x))) e = by (nat_eq (suc (suc (suc x))) text_global) refl e
+  where
+    by : (z : Bool) → nat_eq (suc (suc (suc x))) text_global ≡ z → z || nat_le (suc (suc (suc p.ranges))) (suc (suc (suc x))) ≡ true → is_other (cell_at (first_globals p) (suc (suc (suc x)))) ≡ true
+    by true h q = let m = eqb-true (suc (suc (suc x))) text_global h in absurd (omega (arith, m))
+    by false h q = let l = leb-true (suc (suc (suc p.ranges))) (suc (suc (suc x))) q in behind_ranges p.ranges (kinds_of p.globals) x (omega (arith, l))
 
 module _ (tells : Bool) (p : Program) (argv : Pairs) (told : List Telling) where
   abbrev u : Code

@@ -305,7 +305,7 @@ module _ (tells : Bool) (u : Code) (argv : Pairs) (names : List (List ℕ × Nam
       Matches A vs → S (ending K e) c A → LabelsSpare e K → Opens L c → FramesSpare e F → InStore G → Good (at ks vs K L F c G)
   at_good e A ks vs K L F Done G m s k l r g = record { ends = e; tags = A; stack = m; code = s; labels = k; locals = l; frames = r; store = g }
   at_good e A ks vs K L F (Then (Plain (simple.I32Const n)) c) G m s k l r g = at_good e (not (nat_eq n 0) ∷ A) ks (Bits (I32 n) ∷ vs) K L F c G ((λ q. q), m) s k l r g
-  at_good e A ks vs K L F (Then (Plain (simple.I64Const n)) c) G m s k l r g = at_good e (true ∷ A) ks (Bits (I64 n) ∷ vs) K L F c G ((λ q. refl), m) s k (λ x q. l x refl) r g
+  at_good e A ks vs K L F (Then (Plain (simple.I64Const n)) c) G m s k l r g = at_good e (true ∷ A) ks (Bits (I64 n) ∷ vs) K L F c G ((λ q. refl), m) s k l r g
   at_good e A ks vs K L F (Then i c) G m s k l r g = record { ends = e; tags = A; stack = m; code = s; labels = k; locals = l; frames = r; store = g }
 
   guarded_good : (b : Bool) (c : Conf) → Good c → Good (guarded b c)
