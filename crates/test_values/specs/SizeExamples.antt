@@ -48,6 +48,6 @@ pub boxed_prints : size_of Boxed 20 prints - size_of Boxed 10 prints ≡ 280
 unfolding emitted all_emitted step_emitted steps_emitted
 boxed_prints = refl
 
-pub no_statement : size_of Boxed 0 prints ≡ 210
+pub no_statement : size_of Boxed 0 prints ≡ 219
 unfolding emitted all_emitted step_emitted steps_emitted
 no_statement = refl

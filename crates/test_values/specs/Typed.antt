@@ -105,9 +105,10 @@ module _ (locals globals : List ValType) (callees : List Signature) where
     one_typed labels (If None a b) ss = if is_empty (code_typed (suc labels) a []) && is_empty (code_typed (suc labels) b []) then less I32 ss else None
     one_typed labels _ ss = None
 
-abbrev is_word : Option Stack → Bool
-is_word (Some (I32 ∷ [])) = true
-is_word _ = false
+-- what lies there is the answer, and nothing else
+abbrev is_answer : Option ValType → Option Stack → Bool
+is_answer (Some t) (Some (x ∷ [])) = same t x
+is_answer _ _ = false
 
 abbrev types_from : List Signature → List ℕ → List Signature
 types_from types [] = []
@@ -119,10 +120,13 @@ callees_of m = types_from m.types (map (λ (i : ImportForm). i.ty) m.imports ++ 
 abbrev parameters_of : List Signature → ℕ → List ValType
 parameters_of types n = elim (slice_get types n) [ Some t ↦ t.params | None ↦ [] ]
 
+abbrev answer_of : List Signature → ℕ → Option ValType
+answer_of types n = elim (slice_get types n) [ Some t ↦ t.result | None ↦ None ]
+
 abbrev all_typed : ModuleForm → List FuncForm → Bool
 all_typed m [] = true
 all_typed m (f ∷ fs) =
-    is_word (code_typed (parameters_of m.types f.ty ++ f.locals) (map (λ (g : GlobalForm). g.ty.value) m.globals) (callees_of m) zero f.body [])
+    is_answer (answer_of m.types f.ty) (code_typed (parameters_of m.types f.ty ++ f.locals) (map (λ (g : GlobalForm). g.ty.value) m.globals) (callees_of m) zero f.body [])
     && all_typed m fs
 
 abbrev pub is_typed : ModuleForm → Bool
