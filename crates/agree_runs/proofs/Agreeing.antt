@@ -65,7 +65,7 @@ goes_on_there script m agree job steps e q f r turns enough over =
     let out : ModuleEnding = Like (GoesOn r.output) in
     let ends : Ending = script (setting_in job nothing_left s) turns in
     let t : TellsEnding m job nothing_left s steps f.fault machine.OutOfSteps r.output =
-        subst (λ (x : MachineEnd). Tells m job nothing_left s steps f.fault x r.output) q r.tells in
+    subst (λ (x : MachineEnd). Tells m job nothing_left s steps f.fault x r.output) q r.tells in
     let x = agree.forward job nothing_left s turns ends over refl in
     let same = x.2 steps out (omega (arith, x.1)) (the_ending script m agree job nothing_left s steps f.fault machine.OutOfSteps r.output out refl t) in
     subst IsOver (same_ending r.output ends same) over

@@ -81,13 +81,16 @@ module _ (p : Program) (deepest : Watch) (ks : List Kind) (F : List Frame) (b : 
   -- the number of temporary 0
   word_given_ok : (v : Value) (m : ℕ) (text : Cell) (u d : ℕ) (k : Instructions) (K : List Label) (l : Locals) (σ : State) → 0 < b.temporaries → Fit p deepest ks F 0 u 0 l σ → l.number 0 ≡ Bits (I64 m) → AnswerIs v m text →
       (r : Given d K v σ (at ks [] K (laid b l) F (word_given (layout p deepest ks F b M n) d k) (answering p.ranges (kinds_of p.globals) text σ))) × (r.steps ≡ 3)
-  word_given_ok v m text u d k K l σ lt ft e is = (record {
-    conf = br (suc d) ks K (laid b (with_at l Answer (Bits (I64 m)))) F (answering p.ranges (kinds_of p.globals) text σ);
-    steps = 3;
-    few = omega arith;
-    goes = then_goes (get_copied b l (NumberAt 0) (Bits (I64 m)) lt e refl) (then_goes (set_ok b l Answer (Bits (I64 m)) tt (ap is_owned ft.answer)) (by_steps 1 refl));
-    holds = returns_word v m text u d K l σ ft is;
-  }, refl)
+  word_given_ok v m text u d k K l σ lt ft e is = (
+    record {
+      conf = br (suc d) ks K (laid b (with_at l Answer (Bits (I64 m)))) F (answering p.ranges (kinds_of p.globals) text σ);
+      steps = 3;
+      few = omega arith;
+      goes = then_goes (get_copied b l (NumberAt 0) (Bits (I64 m)) lt e refl) (then_goes (set_ok b l Answer (Bits (I64 m)) tt (ap is_owned ft.answer)) (by_steps 1 refl));
+      holds = returns_word v m text u d K l σ ft is;
+    },
+    refl,
+  )
 
   -- the handle of temporary 0 waits
   text_given_ok : {k : Instructions} (K : List Label) (l : Locals) (σ : State) (v : Value) → 0 < b.temporaries → l.hand 0 ≡ Held v →
@@ -200,8 +203,8 @@ module _ (p : Program) (deepest : Watch) (ks : List Kind) (F : List Frame) (b : 
       let chosen : Holds g → Doing Value = λ x. if truth_in g x then way a1 else way a2 in
       let w2 = work_of a1 + work_of a2 + 20 in
       let out : (a : Code) (τ : State) (c1 : Conf) → Reached p deepest ks F b M (work_of a + 20) τ.turns c1 P Q1 (returning a τ) → Reached p deepest ks F b M (work_of a + 20) τ.turns c1 P Q (go_on (way a τ) give) = λ a τ c1 r.
-          subst (λ o. Reached p deepest ks F b M (work_of a + 20) τ.turns c1 P Q o) (sym (onward_twice (meant p deepest ks F b M n [] tt a τ) (λ x. settled (converted (form_of [] a) sort.Value x)) give))
-          (weaker mach M (work_of a + 20) τ.turns c1 P P Q1 Q (returning a τ) (λ x τ1 c2 q. q) (λ why τ1 c2 q. away_out p deepest ks F b d (label [] None k) K why τ1 c2 q) r) in
+      subst (λ o. Reached p deepest ks F b M (work_of a + 20) τ.turns c1 P Q o) (sym (onward_twice (meant p deepest ks F b M n [] tt a τ) (λ x. settled (converted (form_of [] a) sort.Value x)) give))
+      (weaker mach M (work_of a + 20) τ.turns c1 P P Q1 Q (returning a τ) (λ x τ1 c2 q. q) (λ why τ1 c2 q. away_out p deepest ks F b d (label [] None k) K why τ1 c2 q) r) in
       subst (λ o. Reached p deepest ks F b M (work_of (Choose sort.Value c a1 a2) + 20) σ.turns (at ks [] K (laid b l) F (emitted y false [] [] c 0 0 d k1) (beside_state p deepest ks F σ)) P Q o) (sym (onward_twice (meant p deepest ks F b M n [] tt c σ) chosen give))
       (then_on mach M (work_of c) (60 + (work_of a1 + work_of a2)) (work_of (Choose sort.Value c a1 a2) + 20) σ.turns _ (Done p deepest ks F b M n false c [] tt [] (λ i. There) 0 u 0 k1 K l σ) P Q (meant p deepest ks F b M n [] tt c σ) _ (omega arith)
       (oks c false [] tt [] (λ i. There) 0 u 0 d k1 K l σ s5.0 (λ i lt. absurd (omega (arith, lt))) (omega (arith, rm)) (omega (arith, ar)) rd)

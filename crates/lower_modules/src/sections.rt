@@ -128,7 +128,8 @@ fn long_global(alloc: Global, number: u64) -> Result<wasm_types::Global, AllocEr
 /// The module's own globals, and one for each range.
 fn first_globals(alloc: Global, ranges: usize) -> Result<Vec<wasm_types::Global>, AllocError>
     ensures { IfOk result (λ all. map view_global all.items
-        ≡ word_global 0 ∷ (long_global 0 ∷ (word_global minus_one ∷ replicate ranges (word_global 0)))) }
+        ≡ word_global 0 ∷ (long_global 0 ∷ (word_global minus_one
+        ∷ replicate ranges (word_global 0)))) }
 {
     let mut all = vec![in alloc;
         word_global(alloc, 0)?,

@@ -133,8 +133,8 @@ fn left_too(
 ) -> Result<Vec<Instr>, AllocError>
     requires places { temporary ≤ most_places }
     requires labels { exit ≤ most_labels }
-    ensures { IfOk result (λ code. Emits [] code.items (λ after. number_is (number_local bases.now temporary)
-        was_left (does (BrIf (suc (suc exit))) after))) }
+    ensures { IfOk result (λ code. Emits [] code.items (λ after. number_is
+        (number_local bases.now temporary) was_left (does (BrIf (suc (suc exit))) after))) }
 {
     let mut code = Vec::new(alloc);
     number_is(&mut code, bases.number(temporary), WAS_LEFT)?;

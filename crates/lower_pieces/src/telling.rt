@@ -38,8 +38,8 @@ fn not_zero(bases: &Bases, out: &mut Vec<Instr>, temporary: u32) -> Result<(), A
 /// What puts a value's truth in the place of the number.
 fn truth_put(alloc: Global, bases: &Bases, temporary: u32) -> Result<Vec<Instr>, AllocError>
     requires { temporary ≤ most_places }
-    ensures { IfOk result (λ code. Emits [] code.items (λ after. moved_out (handle_local bases.now temporary)
-        (ask_row Truth (does (Convert I64ExtendI32U)
+    ensures { IfOk result (λ code. Emits [] code.items (λ after. moved_out
+        (handle_local bases.now temporary) (ask_row Truth (does (Convert I64ExtendI32U)
         (does (LocalSet (number_local bases.now temporary)) after))))) }
 {
     let mut code = Vec::new(alloc);
