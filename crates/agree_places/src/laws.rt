@@ -3,7 +3,7 @@ ghost use Rattle.std.specs.List.{All};
 ghost use Rattle.std.specs.Prelude.{◌≡◌, ◌≤◌, true, ℕ, List, None, Some, length, slice_get};
 ghost use Rattle.sem_primitives.specs.Jobs.{JobForm, Surroundings};
 ghost use Rattle.awk_grammar.specs.Item.{Item};
-ghost use Rattle.awk_kinds.specs.Kinds.{refusal};
+ghost use Rattle.awk_kinds.specs.Kinds.{most_parameters, refusal};
 ghost use Rattle.host_step.specs.HostState.{HostState};
 ghost use Rattle.sem_scripts.specs.Kinds.{resolved};
 ghost use Rattle.mid_program.specs.Mid.{Program, Routine, Unboxed};
@@ -34,7 +34,7 @@ pub fn modules_run()
         → (job : JobForm) (input : Source) (outside : Surroundings)
         → HasRuns (module_of p) job input outside }
     ensures spelled { (p : Program) → IsSorted p → (bytes : List ℕ) → IsModule bytes (module_of p)
-        → All (λ r. length r.parameters ≤ 100) p.routines
+        → All (λ r. length r.parameters ≤ most_parameters) p.routines
         → (job : JobForm) (input : Source) (outside : Surroundings)
         → HasRuns (module_of p) job input outside }
 {}
@@ -76,10 +76,10 @@ pub fn assignments_come_from_words()
         → (i : ℕ) → IsAssigned reached i → HasWord reached i }
 {}
 
-/// The functions of a script whose names are not refused have at most 100 parameters, and so have the routines of its code.
+/// The functions of a script whose names are not refused have at most `most_parameters` parameters, and so have the routines of its code.
 pub fn few_parameters()
     ensures { (items : List Item) → refusal items ≡ None
-        → All (λ r. length r.parameters ≤ 100) (program_of (resolved items)).routines }
+        → All (λ r. length r.parameters ≤ most_parameters) (program_of (resolved items)).routines }
 {}
 
 /// Each step of a program has a place of its own, the `nop` that begins its code, and a function's code has no other `nop`, but one before the test of a

@@ -37,8 +37,8 @@ pub record ToldRun (m : ModuleForm) (job : JobForm) (input : Source) (outside : 
   pub tells : Tells m job input (Kept outside) steps after-run.fault e output
   pub applied : after-run.shared.outside ≡ outside_after output outside
 
--- A run of a module in a job, over any world: how the module may end in surroundings that others change too, where each opening, read and write finds what
--- the world answered.
+-- A run of a module in a job, over any world: how the module may end in surroundings that others change too, where each opening, read and write finds the
+-- next of some list.
 pub record FoundRun (m : ModuleForm) (job : JobForm) (steps : ℕ) (e : MachineEnd) (after-run : HostForm) : Type 0 where
   pub finds : List Entry
   pub output : List Action

@@ -51,7 +51,7 @@ pub fn anyhow<W: World>()
 {}
 
 /// Over any world, what a machine did with a typed module is how the module may end in surroundings that others change too, over a host of the table: there
-/// each opening, read and write finds what the world answered. Where memory was wanting, another run begins so.
+/// each opening, read and write finds the next of some list. Where memory was wanting, another run begins so.
 pub fn found<W: World>()
     ensures { (m : ModuleForm) → ModuleOk m → (a : MachineForm) → IsNew host_finds m a
         → (job : JobForm) (input : Source) (outside : Outside)

@@ -58,7 +58,7 @@ did tells bytes v c job steps before after e r t =
       applied = r.outside ∙ d.applied;
     }
 
--- and in every world, where it finds what the world answered
+-- and in every world, where it finds what some list says
 there : (tells : Type 0) (bytes v : List ℕ) (c : IsCompiled bytes v) (job : JobForm) (steps : ℕ) (before after : State) (e : RunEnd)
     (r : IsRunOf tells c.whole job steps before e after) → There c job r.there.finds e
 there tells bytes v c job steps before after e r =

@@ -69,7 +69,7 @@ IsUnlinked whole cause = (cause ≢ link.NoMemory) × Unlinks host_finds whole c
 
 -- A run of a typed module in a job: from its beginning, over a host that shows the state at the start of the job, to a world that holds what the host
 -- left. Where the world tells what it holds, this is how the module may end, and its output made what the names hold of what they held. In every
--- world it is how the module may end in surroundings that others change too, where each opening, read and write finds what the world answered; and each call
+-- world it is how the module may end in surroundings that others change too, where each opening, read and write finds the next of some list; and each call
 -- is as it is said of every world, unless memory ran out.
 pub record IsRunOf (tells : Type 0) (whole : ModuleForm) (job : JobForm) (steps : ℕ) (before : State) (e : RunEnd) (after : State) : Type 0 where
   pub machine : MachineForm

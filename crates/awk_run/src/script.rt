@@ -16,7 +16,7 @@ use world_core::World;
 /// The answer is [`RunEnd::Refused`] with [`Refusal::Compile`] where the script is not compiled, and never otherwise; nothing is done to the world then.
 /// [`RunEnd::NoMemory`] may come instead of any other answer, where memory was wanting; what went out by then is how the script's output begins.
 /// [`RunEnd::OutOfSteps`] where the steps did not suffice, after a beginning of its output. Any other answer is how the script ends, with its output.
-/// What the script does is said of every world, where it finds what the world answered; and over what the names hold, where the world tells it.
+/// What the script does is said of every world, where each opening, read and write finds the next of some list; and over what the names hold, where the world tells it.
 #[tactic(auto, using(crate::proofs::ScriptRuns::script_answers))]
 pub fn run_script<W: World>(
     alloc: Global,
