@@ -35,24 +35,22 @@ pub fn word(out: &mut Vec<Printed>, keyword: Keyword) -> Result<(), AllocError>
     put(out, Printed::Keyword(keyword))
 }
 
-fn push_step(out: &mut Vec<Printed>, step: StepOp) -> Result<(), AllocError>
-    ensures { OnOk result
-        (lexemes out.new.items ≡ lexemes out.old.items ++ StepMark (view_step step) ∷ []) }
+fn step_mark(step: StepOp) -> Punctuator
+    ensures { mark_lexeme result ≡ StepMark (view_step step) }
 {
     match step {
-        StepOp::Increment => mark(out, Punctuator::Increment),
-        StepOp::Decrement => mark(out, Punctuator::Decrement),
+        StepOp::Increment => Punctuator::Increment,
+        StepOp::Decrement => Punctuator::Decrement,
     }
 }
 
-fn push_prefix(out: &mut Vec<Printed>, op: UnaryOp) -> Result<(), AllocError>
-    ensures { OnOk result
-        (lexemes out.new.items ≡ lexemes out.old.items ++ prefix_token (view_unary op) ∷ []) }
+fn prefix_mark(op: UnaryOp) -> Punctuator
+    ensures { mark_lexeme result ≡ prefix_token (view_unary op) }
 {
     match op {
-        UnaryOp::Not => mark(out, Punctuator::Bang),
-        UnaryOp::Plus => mark(out, Punctuator::Plus),
-        UnaryOp::Minus => mark(out, Punctuator::Minus),
+        UnaryOp::Not => Punctuator::Bang,
+        UnaryOp::Plus => Punctuator::Plus,
+        UnaryOp::Minus => Punctuator::Minus,
     }
 }
 
@@ -81,18 +79,17 @@ fn push_operator(out: &mut Vec<Printed>, op: BinaryOp) -> Result<(), AllocError>
     }
 }
 
-fn push_assignment(out: &mut Vec<Printed>, op: AssignOp) -> Result<(), AllocError>
-    ensures { OnOk result
-        (lexemes out.new.items ≡ lexemes out.old.items ++ Infix (Assign (view_assign op)) ∷ []) }
+fn assignment_mark(op: AssignOp) -> Punctuator
+    ensures { mark_lexeme result ≡ Infix (Assign (view_assign op)) }
 {
     match op {
-        AssignOp::Set => mark(out, Punctuator::Assign),
-        AssignOp::Add => mark(out, Punctuator::PlusAssign),
-        AssignOp::Subtract => mark(out, Punctuator::MinusAssign),
-        AssignOp::Multiply => mark(out, Punctuator::StarAssign),
-        AssignOp::Divide => mark(out, Punctuator::SlashAssign),
-        AssignOp::Modulo => mark(out, Punctuator::PercentAssign),
-        AssignOp::Power => mark(out, Punctuator::CaretAssign),
+        AssignOp::Set => Punctuator::Assign,
+        AssignOp::Add => Punctuator::PlusAssign,
+        AssignOp::Subtract => Punctuator::MinusAssign,
+        AssignOp::Multiply => Punctuator::StarAssign,
+        AssignOp::Divide => Punctuator::SlashAssign,
+        AssignOp::Modulo => Punctuator::PercentAssign,
+        AssignOp::Power => Punctuator::CaretAssign,
     }
 }
 
@@ -108,28 +105,18 @@ pub fn push_expr<'a>(out: &mut Vec<Printed<'a>>, e: &'a Expr) -> Result<(), Allo
         Expr::Length => put(out, Printed::Builtin(Builtin::Length)),
         Expr::Var(name) => put(out, Printed::Name(name)),
         Expr::Element(name, subscripts) => push_element(out, name, subscripts),
-        Expr::Field(inner) => {
-            mark(out, Punctuator::Dollar)?;
-            push_expr(out, inner)
-        }
+        Expr::Field(inner) => push_after(out, Punctuator::Dollar, inner),
         Expr::Group(inner) => {
-            mark(out, Punctuator::OpenParen)?;
-            push_expr(out, inner)?;
+            push_after(out, Punctuator::OpenParen, inner)?;
             mark(out, Punctuator::CloseParen)
         }
         Expr::Call(name, arguments) => push_call(out, name, arguments),
         Expr::Apply(function, arguments) => push_apply(out, *function, arguments),
-        Expr::Unary(op, inner) => {
-            push_prefix(out, *op)?;
-            push_expr(out, inner)
-        }
-        Expr::PreStep(step, inner) => {
-            push_step(out, *step)?;
-            push_expr(out, inner)
-        }
+        Expr::Unary(op, inner) => push_after(out, prefix_mark(*op), inner),
+        Expr::PreStep(step, inner) => push_after(out, step_mark(*step), inner),
         Expr::PostStep(step, inner) => {
             push_expr(out, inner)?;
-            push_step(out, *step)
+            mark(out, step_mark(*step))
         }
         Expr::Binary(op, a, b) => {
             push_expr(out, a)?;
@@ -138,13 +125,11 @@ pub fn push_expr<'a>(out: &mut Vec<Printed<'a>>, e: &'a Expr) -> Result<(), Allo
         }
         Expr::Assign(op, a, b) => {
             push_expr(out, a)?;
-            push_assignment(out, *op)?;
-            push_expr(out, b)
+            push_after(out, assignment_mark(*op), b)
         }
         Expr::In(a, name) => {
             push_expr(out, a)?;
-            word(out, Keyword::In)?;
-            put(out, Printed::Name(name))
+            push_in(out, name)
         }
         Expr::InList(first, others, name) => {
             push_first(out, first)?;
@@ -152,10 +137,8 @@ pub fn push_expr<'a>(out: &mut Vec<Printed<'a>>, e: &'a Expr) -> Result<(), Allo
         }
         Expr::Conditional(a, b, c) => {
             push_expr(out, a)?;
-            mark(out, Punctuator::Question)?;
-            push_expr(out, b)?;
-            mark(out, Punctuator::Colon)?;
-            push_expr(out, c)
+            push_after(out, Punctuator::Question, b)?;
+            push_after(out, Punctuator::Colon, c)
         }
         Expr::Getline => word(out, Keyword::Getline),
         Expr::GetlineInto(place) => {
@@ -164,16 +147,37 @@ pub fn push_expr<'a>(out: &mut Vec<Printed<'a>>, e: &'a Expr) -> Result<(), Allo
         }
         Expr::GetlineFrom(file) => {
             word(out, Keyword::Getline)?;
-            mark(out, Punctuator::Less)?;
-            push_expr(out, file)
+            push_after(out, Punctuator::Less, file)
         }
         Expr::GetlineIntoFrom(place, file) => {
             word(out, Keyword::Getline)?;
             push_expr(out, place)?;
-            mark(out, Punctuator::Less)?;
-            push_expr(out, file)
+            push_after(out, Punctuator::Less, file)
         }
     }
+}
+
+/// Adds a punctuator and the expression that comes after it.
+#[cycle(printer)]
+fn push_after<'a>(
+    out: &mut Vec<Printed<'a>>,
+    punctuator: Punctuator,
+    e: &'a Expr,
+) -> Result<(), AllocError>
+    ensures { OnOk result (lexemes out.new.items
+        ≡ lexemes out.old.items ++ (mark_lexeme punctuator ∷ print (view e.now))) }
+{
+    mark(out, punctuator)?;
+    push_expr(out, e)
+}
+
+/// Adds `in` and the array.
+pub(crate) fn push_in<'a>(out: &mut Vec<Printed<'a>>, name: &'a [u8]) -> Result<(), AllocError>
+    ensures { OnOk result
+        (lexemes out.new.items ≡ lexemes out.old.items ++ (InWord ∷ (Name name.now ∷ []))) }
+{
+    word(out, Keyword::In)?;
+    put(out, Printed::Name(name))
 }
 
 /// Adds a name and its subscripts in brackets.
@@ -245,8 +249,7 @@ fn push_others<'a>(
 {
     push_list(out, others)?;
     mark(out, Punctuator::CloseParen)?;
-    word(out, Keyword::In)?;
-    put(out, Printed::Name(name))
+    push_in(out, name)
 }
 
 /// Adds expressions with commas between them.

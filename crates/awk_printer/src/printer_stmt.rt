@@ -1,15 +1,15 @@
 //! From a statement to its tokens.
 
 ghost use Rattle.std.specs.Prelude.{◌≡◌, [], ◌∷◌, ◌++◌, OnOk};
-ghost use Rattle.awk_grammar.specs.Token.{Open, Close, Semicolon};
+ghost use Rattle.awk_grammar.specs.Token.{Close, ForWord, InWord, Key, Name, Open, Semicolon};
 ghost use Rattle.awk_grammar.specs.Tree.{print};
 ghost use Rattle.awk_grammar.specs.Stmt.{print_args, print_target, print_plain, print_maybe, print_maybe_plain, printing_token, jump_token, leaving_token, print_stmt, print_stmts};
 ghost use Rattle.awk_grammar.specs.Item.{print_body};
-ghost use Rattle.awk_grammar.specs.Lexeme.{lexemes};
+ghost use Rattle.awk_grammar.specs.Lexeme.{keyword_lexeme, lexemes};
 ghost use Rattle.awk_grammar.specs.View.{view};
 ghost use Rattle.awk_grammar.specs.ViewStmt.{view_word, view_args, view_target, view_simple, view_maybe, view_maybe_simple, view_jump, view_leaving, view_stmt, view_stmts};
 
-use crate::printer::{mark, push_element, push_expr, push_first, push_list, put, word};
+use crate::printer::{mark, push_element, push_expr, push_first, push_in, push_list, put, word};
 use awk_grammar::{
     Expr, Jump, Leaving, PrintArgs, PrintTarget, PrintWord, Printed, SimpleStmt, Stmt,
 };
@@ -103,17 +103,22 @@ fn push_optional_simple<'a>(
     }
 }
 
-/// Adds a condition in parentheses.
-fn push_condition<'a>(out: &mut Vec<Printed<'a>>, e: &'a Expr) -> Result<(), AllocError>
-    ensures { OnOk result (lexemes out.new.items
-        ≡ lexemes out.old.items ++ (Open ∷ (print (view e.now) ++ Close ∷ []))) }
+/// Adds a word and a condition in parentheses.
+fn push_condition<'a>(
+    out: &mut Vec<Printed<'a>>,
+    keyword: Keyword,
+    e: &'a Expr,
+) -> Result<(), AllocError>
+    ensures { OnOk result (lexemes out.new.items ≡ lexemes out.old.items
+        ++ (keyword_lexeme keyword ∷ (Open ∷ (print (view e.now) ++ Close ∷ [])))) }
 {
+    word(out, keyword)?;
     mark(out, Punctuator::OpenParen)?;
     push_expr(out, e)?;
     mark(out, Punctuator::CloseParen)
 }
 
-/// Adds the parentheses behind `for` and what stands in them.
+/// Adds `for`, the parentheses after it, and what stands in them.
 fn push_for_head<'a>(
     out: &mut Vec<Printed<'a>>,
     first: &'a Option<SimpleStmt>,
@@ -121,16 +126,33 @@ fn push_for_head<'a>(
     next: &'a Option<SimpleStmt>,
 ) -> Result<(), AllocError>
     ensures { OnOk result
-        (lexemes out.new.items ≡ lexemes out.old.items ++ (Open ∷ (print_maybe_plain
+        (lexemes out.new.items ≡ lexemes out.old.items ++ (Key ForWord ∷ (Open ∷ (print_maybe_plain
         (view_maybe_simple first.now) ++ (Semicolon ∷ (print_maybe (view_maybe condition.now)
-        ++ (Semicolon ∷ (print_maybe_plain (view_maybe_simple next.now) ++ Close ∷ []))))))) }
+        ++ (Semicolon ∷ (print_maybe_plain (view_maybe_simple next.now) ++ Close ∷ [])))))))) }
 {
+    word(out, Keyword::For)?;
     mark(out, Punctuator::OpenParen)?;
     push_optional_simple(out, first)?;
     mark(out, Punctuator::Semicolon)?;
     push_optional(out, condition)?;
     mark(out, Punctuator::Semicolon)?;
     push_optional_simple(out, next)?;
+    mark(out, Punctuator::CloseParen)
+}
+
+/// Adds `for` and the parentheses in which an array is walked.
+fn push_walk_head<'a>(
+    out: &mut Vec<Printed<'a>>,
+    key: &'a [u8],
+    array: &'a [u8],
+) -> Result<(), AllocError>
+    ensures { OnOk result (lexemes out.new.items ≡ lexemes out.old.items ++ (Key ForWord ∷ (Open
+        ∷ (Name key.now ∷ (InWord ∷ (Name array.now ∷ (Close ∷ []))))))) }
+{
+    word(out, Keyword::For)?;
+    mark(out, Punctuator::OpenParen)?;
+    put(out, Printed::Name(key))?;
+    push_in(out, array)?;
     mark(out, Punctuator::CloseParen)
 }
 
@@ -170,40 +192,30 @@ fn push_stmt<'a>(out: &mut Vec<Printed<'a>>, s: &'a Stmt) -> Result<(), AllocErr
             mark(out, Punctuator::Semicolon)
         }
         Stmt::If(c, s) => {
-            word(out, Keyword::If)?;
-            push_condition(out, c)?;
+            push_condition(out, Keyword::If, c)?;
             push_stmt(out, s)
         }
         Stmt::IfElse(c, s, t) => {
-            word(out, Keyword::If)?;
-            push_condition(out, c)?;
+            push_condition(out, Keyword::If, c)?;
             push_stmt(out, s)?;
             word(out, Keyword::Else)?;
             push_stmt(out, t)
         }
         Stmt::While(c, s) => {
-            word(out, Keyword::While)?;
-            push_condition(out, c)?;
+            push_condition(out, Keyword::While, c)?;
             push_stmt(out, s)
         }
         Stmt::Do(s, c) => {
             word(out, Keyword::Do)?;
             push_stmt(out, s)?;
-            word(out, Keyword::While)?;
-            push_condition(out, c)
+            push_condition(out, Keyword::While, c)
         }
         Stmt::For(first, c, next, s) => {
-            word(out, Keyword::For)?;
             push_for_head(out, first, c, next)?;
             push_stmt(out, s)
         }
         Stmt::ForIn(key, array, s) => {
-            word(out, Keyword::For)?;
-            mark(out, Punctuator::OpenParen)?;
-            put(out, Printed::Name(key))?;
-            word(out, Keyword::In)?;
-            put(out, Printed::Name(array))?;
-            mark(out, Punctuator::CloseParen)?;
+            push_walk_head(out, key, array)?;
             push_stmt(out, s)
         }
         Stmt::Jump(jump) => {

@@ -3,58 +3,44 @@ ghost use Rattle.std.specs.Prelude.{◌≡◌};
 ghost use Rattle.awk_values.specs.Faults.{fault_name, fault_number};
 
 use std::alloc::AllocError;
+use std::error;
+use std::fmt;
 use thiserror::Error;
 
 /// A fault of a run, by its name.
-#[derive(Clone, Copy, Debug, PartialEq, Eq, Drop, Error)]
+#[derive(Clone, Copy, Debug, PartialEq, Eq, Drop)]
 pub enum Fault {
     /// A number is outside -2^53 to 2^53.
-    #[error("Range")]
     Range,
     /// A text's number is not whole.
-    #[error("Fraction")]
     Fraction,
     /// A divisor is 0, or 0 has a negative exponent.
-    #[error("DivisionByZero")]
     DivisionByZero,
     /// A quotient, or a power with a negative exponent, is not whole.
-    #[error("Inexact")]
     Inexact,
     /// A field's number, or NF, is below 0 or above 1,048,576.
-    #[error("FieldNumber")]
     FieldNumber,
     /// A format of `printf` or `sprintf` is malformed, or lacks an argument.
-    #[error("Format")]
     Format,
     /// A text is no extended regular expression.
-    #[error("BadEre")]
     BadEre,
     /// An extended regular expression is past a limit.
-    #[error("EreTooLarge")]
     EreTooLarge,
     /// A text is past 67,108,864 bytes.
-    #[error("TextLimit")]
     TextLimit,
     /// A file of the main input did not open.
-    #[error("OpenInput")]
     OpenInput,
     /// The main input could not be read.
-    #[error("ReadFailed")]
     ReadFailed,
     /// An output file did not open.
-    #[error("OpenOutput")]
     OpenOutput,
     /// A write failed.
-    #[error("WriteFailed")]
     WriteFailed,
     /// 256 streams are open, and one more is wanted.
-    #[error("TooManyStreams")]
     TooManyStreams,
     /// `next` was run where no record is processed.
-    #[error("NextOutside")]
     NextOutside,
     /// An assignment of the command line is to what is no variable.
-    #[error("BadAssignment")]
     BadAssignment,
 }
 
@@ -107,6 +93,18 @@ impl Fault {
         }
     }
 }
+
+impl fmt::Display for Fault {
+    ghost use Rattle.std.specs.Prelude.{Some};
+
+    ghost output = { λ f. Some (fault_name f) };
+
+    fn fmt<W: fmt::Write>(&self, f: &mut fmt::Formatter<W>) -> fmt::Result {
+        f.write_str(self.name())
+    }
+}
+
+impl error::Error for Fault {}
 
 /// Why a step of the host stops: a fault, or want of memory.
 #[derive(Clone, Copy, Debug, PartialEq, Eq, Drop, Error)]

@@ -6,7 +6,7 @@ ghost use Rattle.sem_primitives.specs.SharedState.{Inner};
 ghost use Rattle.host_format.specs.Outcomes.{IsStopOf};
 ghost use Rattle.host_names.specs.Forms.{PendsBy, with_all, with_pending};
 
-use crate::name::{special_named, takes_none};
+use crate::name::takes_none;
 use crate::names::Names;
 use awk_text::unescape;
 use awk_values::{Bytes, Fault, Stop, Value};
@@ -66,7 +66,7 @@ pub fn assign(
         return Err(Stop::Fault(Fault::BadAssignment));
     }
     let value = Bytes::from_vec(unescape(alloc, text)?)?;
-    assign_by(alloc, special_named(name), texts, names, name, value)
+    assign_by(alloc, Special::of_name(name), texts, names, name, value)
 }
 
 /// Makes the assignments that are left, up to one that the script is to make.

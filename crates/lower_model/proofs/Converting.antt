@@ -1,5 +1,5 @@
 -- A temporary is converted in place, or the function is left; and the truth of a temporary.
-use Rattle.std.proofs.Common.{◌≡◌, ◌≢◌, inl, inr, ℕ, suc, ◌+◌, ◌<◌, ◌≤◌, Bool, true, false, List, [], ◌∷◌, Some, None, Option, Result, Ok, Err, ℤ, pos, negsuc, unsigned_abs, w64, refl, sym, ap, ◌∙◌, subst, arith}
+use Rattle.std.proofs.Common.{◌≡◌, ◌≢◌, inl, inr, ℕ, suc, ◌+◌, ◌<◌, ◌≤◌, Bool, true, false, List, [], ◌∷◌, Some, None, Option, Result, Ok, Err, ℤ, pos, negsuc, unsigned_abs, w64, refl, sym, ap, ◌∙◌, subst, arith, true≢false}
 use Rattle.std.specs.Prelude.{◌^◌, ◌-◌, int_le}
 use Rattle.std.specs.Int.{cast_signed}
 use Rattle.std.proofs.lemmas.Bool.{lt-leb}
@@ -253,4 +253,4 @@ module _ (p : Program) (deepest : Watch) (ks : List Kind) (F : List Frame) (b : 
   converted_ok (Answered answer.Stream) sort.Number stream.NotOpen q i w t d k K l σ e lq lt ft hd = coded q i w t d k K l minus_one σ ft hd.0 (code_number_ok p deepest ks F b k K l t 3 (2 ^ 64 - 1) σ lt hd.1 (λ vs. refl))
   converted_ok Bare sort.Number x q i w t d k K l σ e lq lt ft hd = within u M 14 16 σ.turns _ (Converted q i w t (Answered (answer.Of sort.Number)) k K l) (Away p deepest ks F b d K) (settled (number_of_row x) σ) (omega arith) (bare_numbered q i w t d k K l x σ lq lt ft hd.0 hd.1 hd.2)
   converted_ok (Answered (answer.Of sort.Array)) sort.Array x q i w t d k K l σ e lq lt ft hd = there u M 16 0 _ _ x σ (Converted q i w t (Answered (answer.Of sort.Array)) k K l) (Away p deepest ks F b d K) stays (omega arith) (conv_self q i w t (Answered (answer.Of sort.Array)) k K l x σ ft hd)
-  converted_ok f s x q i w t d k K l σ e lq lt ft hd = cc
+  converted_ok f s x q i w t d k K l σ e lq lt ft hd = absurd (true≢false (sym e))

@@ -27,6 +27,10 @@ use Rattle.lower_model.proofs.Products.{word, sum_word, difference_word, triangl
 use Rattle.lower_model.proofs.Inlining.{checked_in, added_abs}
 use Rattle.lower_model.proofs.Quick.{Sure, sure}
 
+-- Nothing is not something. `cc` finds it too, but reads all else that stands there.
+pub none_is : {A P : Type 0} {x : A} → None ≡ Some x → P
+none_is e = cc
+
 pub some_is : {A : Type 0} → (x y : A) → Some x ≡ Some y → x ≡ y
 some_is x y e = ap (λ o. elim o [ Some z ↦ z | None ↦ x ]) e
 

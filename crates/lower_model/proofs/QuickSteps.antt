@@ -64,7 +64,7 @@ use Rattle.lower_model.proofs.StatementForms.{flows_on, plain_meant, Starts, sta
 use Rattle.lower_model.proofs.Tidy.{begun_step}
 use Rattle.lower_model.proofs.Branches.{TestDone, test_meant, test_ok, block_ends}
 use Rattle.lower_model.proofs.Quick.{Sure, sure, shown_by, name_is, constant_is, shift_pos, shifted_less, shifted_most, less_holds, most_holds}
-use Rattle.lower_model.proofs.QuickNames.{num_of, word_of, val_of, source_steps, all_flag, all_steps, AllSure, StandsAmong, source_code, some_is, nought_number, all_sure, among_sure, name_among, source_among, source_still, source_beside, source_is, contrary_holds, pair_few, one_few, near_sum, stored_is, none_new, result_of, sum_few}
+use Rattle.lower_model.proofs.QuickNames.{num_of, word_of, val_of, source_steps, all_flag, all_steps, AllSure, StandsAmong, source_code, none_is, some_is, nought_number, all_sure, among_sure, name_among, source_among, source_still, source_beside, source_is, contrary_holds, pair_few, one_few, near_sum, stored_is, none_new, result_of, sum_few}
 use Rattle.lower_model.proofs.Summing.{Summed, summed_in_turn, IsSource, anyway_ok}
 use Rattle.lower_model.proofs.QuickParts.{Two, sum_stored, two_summed, set_code, AllUnboxed, name_got, name_taken, all_unsure_ok, name_unboxed, summed_means, set_means, Parts, set_sorted}
 use Rattle.lower_model.proofs.Evaluating.{plainly_ok}
@@ -93,7 +93,7 @@ module _ (p : Program) (deepest : Watch) (ks : List Kind) (F : List Frame) (b : 
 
   first_is : (c : CompareOp) (i : ℕ) (z : ℤ) (k : ℕ) (q : Within) → first_ones i k ≡ Some q → has_kind kinds i Unboxed ≡ true → nat_le (unsigned_abs z) (2 ^ 53) ≡ true → k ≤ suc (2 ^ 54) →
       ((m : AnyNumber) (j : ℕ) → m.number +ℤ pos (2 ^ 53) ≡ pos j → j < k → holds c (int_cmp m.number z) ≡ true) → TestIs (Compare c (Get (Global true i)) (Number z)) q
-  first_is c i z zero q eq hk hz hb f = cc
+  first_is c i z zero q eq hk hz hb f = none_is eq
   first_is c i z (suc k) q eq hk hz hb f = subst (TestIs (Compare c (Get (Global true i)) (Number z))) (some_is _ q eq)
       (record {
         kind = hk;
@@ -114,16 +114,16 @@ module _ (p : Program) (deepest : Watch) (ks : List Kind) (F : List Frame) (b : 
       let hz = leb-true (unsigned_abs z) (2 ^ 53) s.1 in
       first_is op.LessOrEqual i z (suc (unsigned_abs (z +ℤ pos (2 ^ 53)))) q eq s.0 s.1 (let x = (shift_pos z hz).1 in omega (arith, x))
       (λ m j e lt. most_holds m.number z (shifted_most m.number z (small m) hz (let x : unsigned_abs (m.number +ℤ pos (2 ^ 53)) ≡ j = ap unsigned_abs e in omega (arith, x, lt))))
-  named_is c i z q eq so = cc
+  named_is c i z q eq so = none_is eq
 
   pub test_is : (e : Code) (q : Within) → test_within e ≡ Some q → sorted (context p deepest ks F b M n) [] e ≡ true → TestIs e q
   test_is (Compare c a e) q eq so = by (name_in a) refl (constant_in e) refl eq
     where
       by : (o : Option ℕ) → name_in a ≡ o → (r : Option ℤ) → constant_in e ≡ r → both_within c o r ≡ Some q → TestIs (Compare c a e) q
       by (Some i) e1 (Some z) e2 eq = subst (λ t. sorted (context p deepest ks F b M n) [] t ≡ true → TestIs t q) (sym (ap₂ (λ x y. Compare c x y) (name_is a i e1) (constant_is e z e2))) (named_is c i z q eq) so
-      by (Some i) e1 None e2 eq = cc
-      by None e1 r e2 eq = cc
-  test_is e q eq so = cc
+      by (Some i) e1 None e2 eq = none_is eq
+      by None e1 r e2 eq = none_is eq
+  test_is e q eq so = none_is eq
 
   -- one comparison of a name's number
   pub unsure_ok : {K : List Label} {k : Instructions} → (i : ℕ) (q : ℤ) (w : ℕ) (l : Locals) (σ : State) → has_kind kinds i Unboxed ≡ true →
@@ -235,9 +235,9 @@ module _ (p : Program) (deepest : Watch) (ks : List Kind) (F : List Frame) (b : 
           let s = pair_sorted c (source_code a) (source_code e) so1 in
           subst (PairIs (Compare c (source_code a) (source_code e))) (some_is _ q eq)
           (record { left = range_fits [] a s.0; right = range_fits [] e s.1; means = λ σ t h. pair_means c a e σ ∙ ap (λ r. go_on (settled r σ) (λ x. give x)) h })) so
-      by (Some a) e1 None e2 eq = cc
-      by None e1 r e2 eq = cc
-  pair_is e q eq so = cc
+      by (Some a) e1 None e2 eq = none_is eq
+      by None e1 r e2 eq = none_is eq
+  pair_is e q eq so = none_is eq
 
   pub pair_unboxed : (e : Code) (q : Pair) → PairIs e q → AllUnboxed p deepest ks F b M n (pair_names q)
   pair_unboxed e q t = source_unboxed (2 ^ 53) q.left (and_source q.right []) t.left (source_unboxed (2 ^ 53) q.right [] t.right tt)
@@ -272,9 +272,9 @@ module _ (p : Program) (deepest : Watch) (ks : List Kind) (F : List Frame) (b : 
           let s = pair_sorted c (Get (Global true i)) (Do (Host row.GetSpecial) (Fixed (special_number Nf) End)) so1 in
           subst (CountedIs (count_code c i)) (some_is _ q eq)
           (record { kind = range_fits [] (Named i) s.0; means = λ σ m ev. count_means c i m σ ev })) so
-      by (Some i) e1 false e2 eq = cc
-      by None e1 t e2 eq = cc
-  counted_is e q eq so = cc
+      by (Some i) e1 false e2 eq = none_is eq
+      by None e1 t e2 eq = none_is eq
+  counted_is e q eq so = none_is eq
 
   -- both ways of a comparison
   module _ (e : Code) (ok : ExprOk p deepest ks F b M n e) (u d out : ℕ) (k : Instructions) (K : List Label) (l : Locals) (σ : State) (so : test_sorted (context p deepest ks F b M n) e ≡ true) (rm : room e ≤ b.temporaries) (ar : arrays_in e ≤ b.arrays) (s : Starts p deepest ks F b M n u K l σ) where
@@ -442,8 +442,8 @@ module _ (p : Program) (deepest : Watch) (ks : List Kind) (F : List Frame) (b : 
           let h = set_sorted p deepest ks F b M n [] i o (source_code a) (source_code e) so1 in
           subst (SumIs (set_code i o (source_code a) (source_code e))) g.1
           (record { kind = h.kind; left = near_fits [] a h.first_one g.0.1; right = near_fits [] e h.second g.0.2; sum = g.0.0; means = λ σ m1 m2 y z1 z2 z. set_means p deepest ks F b M n i o a e σ ∙ summed_means p deepest ks F b M n i o σ (num_of a σ) (num_of e σ) m1 m2 y z1 z2 z; room = omega arith; whole = λ σ. set_means p deepest ks F b M n i o a e σ })) so
-      by (Some a) e1 None e2 eq = cc
-      by None e1 r e2 eq = cc
+      by (Some a) e1 None e2 eq = none_is eq
+      by None e1 r e2 eq = none_is eq
 
   -- `n += e`
 
@@ -480,8 +480,8 @@ module _ (p : Program) (deepest : Watch) (ks : List Kind) (F : List Frame) (b : 
           let h = update_sorted i o (source_code e) (source_code l) so1 in
           subst (SumIs (update_code i o (source_code e) (source_code l))) g.1
           (record { kind = h.kind; left = near_fits (form_of [] (source_code e) ∷ []) l h.first_one g.0.1; right = near_fits [] e h.second g.0.2; sum = g.0.0; means = λ σ m1 m2 y z1 z2 z. update_means i o l e σ ∙ summed_means p deepest ks F b M n i o σ (num_of l σ) (num_of e σ) m1 m2 y z1 z2 z; room = omega arith; whole = λ σ. update_means i o l e σ })) so
-      by (Some l) e1 None e2 eq = cc
-      by None e1 r e2 eq = cc
+      by (Some l) e1 None e2 eq = none_is eq
+      by None e1 r e2 eq = none_is eq
 
   -- `n++`
 
@@ -541,7 +541,7 @@ module _ (p : Program) (deepest : Watch) (ks : List Kind) (F : List Frame) (b : 
           let h = old_sorted i o (source_code l) (Number z) so1 in
           subst (SumIs (old_code i o (source_code l) (Number z))) g.1
           (record { kind = h.kind; left = near_fits [] l h.first_one g.0.1; right = near_fits (a_number ∷ []) (Constant z) h.second g.0.2; sum = g.0.0; means = λ σ m1 m2 y z1 z2 z0. old_means i o l z σ ∙ (ap₂ (old_summed i o σ) z1 z2 ∙ ap (old_stored i m1 σ) z0); room = omega arith; whole = λ σ. old_means i o l z σ ∙ old_same i o σ (num_of l σ) (num_of (Constant z) σ) })) so
-      by None e1 eq = cc
+      by None e1 eq = none_is eq
 
   -- Which code is such a step.
 
@@ -550,24 +550,24 @@ module _ (p : Program) (deepest : Watch) (ks : List Kind) (F : List Frame) (b : 
 
   two_is : (i : ℕ) (o : Arithmetic) (es : Codes) (s : Sum) → two_sum i o es ≡ Some s → WellSorted (Set (Global true i) (Do (Inline o) es)) → SumIs (Set (Global true i) (Do (Inline o) es)) s
   two_is i o (At x (At y End)) s eq so = set_is i o x y s eq so
-  two_is i o es s eq so = cc
+  two_is i o es s eq so = none_is eq
 
   do_is : (i : ℕ) (e : Code) (s : Sum) → set_sum i e ≡ Some s → WellSorted (Set (Global true i) e) → SumIs (Set (Global true i) e) s
   do_is i (Do (Inline o) es) s eq so = two_is i o es s eq so
-  do_is i e s eq so = cc
+  do_is i e s eq so = none_is eq
 
   kept_is : (i : ℕ) (o : Arithmetic) (a : Code) (es : Codes) (s : Sum) → kept_sum i o a es ≡ Some s → WellSorted (Let a (Set (Global true i) (Do (Inline o) es))) → SumIs (Let a (Set (Global true i) (Do (Inline o) es))) s
   kept_is i o a (At x (At (Bound true zero) End)) s eq so = update_is i o a x s eq so
-  kept_is i o a es s eq so = cc
+  kept_is i o a es s eq so = none_is eq
 
   set_kept_is : (i : ℕ) (a e : Code) (s : Sum) → update_sum i a e ≡ Some s → WellSorted (Let a (Set (Global true i) e)) → SumIs (Let a (Set (Global true i) e)) s
   set_kept_is i a (Do (Inline o) es) s eq so = kept_is i o a es s eq so
-  set_kept_is i a e s eq so = cc
+  set_kept_is i a e s eq so = none_is eq
 
   new_is : (a : Code) (i : ℕ) (x : Code) (s : Sum) → new_sum (source_in a) (Some i) x ≡ Some s → WellSorted (Let (Do AsNumber (At a End)) (Let x (Seq (Set (Global true i) (Bound true zero)) (Bound true (suc zero))))) →
       SumIs (Let (Do AsNumber (At a End)) (Let x (Seq (Set (Global true i) (Bound true zero)) (Bound true (suc zero))))) s
   new_is a i (Do (Inline o) (At (Bound false zero) (At (Number z) End))) s eq so = old_is i o a z s eq so
-  new_is a i x s eq so = cc
+  new_is a i x s eq so = none_is eq
 
   step_is : (a x y : Code) (s : Sum) → new_sum (old_source a) (stored_name y) x ≡ Some s → WellSorted (Let a (Let x y)) → SumIs (Let a (Let x y)) s
   step_is (Do AsNumber (At a End)) x y s eq so = by (stored_name y) refl eq
@@ -580,12 +580,12 @@ module _ (p : Program) (deepest : Watch) (ks : List Kind) (F : List Frame) (b : 
   let_is : (a e : Code) (s : Sum) → let_sum a e ≡ Some s → WellSorted (Let a e) → SumIs (Let a e) s
   let_is a (Set (Global true i) e) s eq so = set_kept_is i a e s eq so
   let_is a (Let x y) s eq so = step_is a x y s eq so
-  let_is a e s eq so = cc
+  let_is a e s eq so = none_is eq
 
   pub sum_is : (e : Code) (s : Sum) → sum_in e ≡ Some s → WellSorted e → SumIs e s
   sum_is (Set (Global true i) e) s eq so = do_is i e s eq so
   sum_is (Let a e) s eq so = let_is a e s eq so
-  sum_is e s eq so = cc
+  sum_is e s eq so = none_is eq
 
   -- the machine adds
   summed_ok : (s : Sum) (y : AnyNumber) (K : List Label) (k : Instructions) (l : Locals) (σ : State) → has_kind kinds s.target Unboxed ≡ true → SourceFits (2 ^ 52) s.left → SourceFits (2 ^ 52) s.right → length σ.globals ≡ length p.globals → beside (global_value s.target σ) ≡ empty →

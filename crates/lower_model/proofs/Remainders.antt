@@ -50,7 +50,7 @@ use Rattle.lower_model.proofs.StatementForms.{flows_on, plain_meant, Starts, sta
 use Rattle.lower_model.proofs.Branches.{block_ends}
 use Rattle.lower_model.proofs.Sequences.{dropped_ok}
 use Rattle.lower_model.proofs.Quick.{name_is}
-use Rattle.lower_model.proofs.QuickNames.{all_flag, all_steps, all_few, name_longer, AllSure, some_is, nought_number, all_sure, among_sure, name_among, still_among}
+use Rattle.lower_model.proofs.QuickNames.{all_flag, all_steps, all_few, name_longer, AllSure, none_is, some_is, nought_number, all_sure, among_sure, name_among, still_among}
 use Rattle.lower_model.proofs.QuickParts.{Two, sum_stored, two_summed, set_code, AllUnboxed, name_got, name_taken, all_unsure_ok, name_unboxed, set_means, set_sorted}
 
 -- Which code is such a step.
@@ -79,9 +79,9 @@ factor_is : (e : Code) (z : ℤ) → factor_in e ≡ Some z → (e ≡ Number z)
 factor_is (Number x) z h = by (is_zero x) refl h
   where
     by : (t : Bool) → is_zero x ≡ t → (if t then None else Some x) ≡ Some z → (Number x ≡ Number z) × (is_zero z ≡ false)
-    by true e1 e2 = cc
+    by true e1 e2 = none_is e2
     by false e1 e2 = let s = some_is x z e2 in (ap (λ y. Number y) s, ap is_zero (sym s) ∙ e1)
-factor_is e z h = cc
+factor_is e z h = none_is h
 
 product_is : (a e : Code) (m : Multiple) → product_of (name_in a) (factor_in e) ≡ Some m → IsMultiple (Do (Inline inline.Times) (At a (At e End))) m
 product_is a e m h = by (name_in a) refl (factor_in e) refl h
@@ -91,17 +91,17 @@ product_is a e m h = by (name_in a) refl (factor_in e) refl h
         let f = factor_is e c e2 in
         subst (IsMultiple (Do (Inline inline.Times) (At a (At e End)))) (some_is (record { name = i; factor = Some c }) m eq)
         (record { code = ap₂ (λ x y. Do (Inline inline.Times) (At x (At y End))) (name_is a i e1) f.0; factor = f.1 })
-    by (Some i) e1 None e2 eq = cc
-    by None e1 r e2 eq = cc
+    by (Some i) e1 None e2 eq = none_is eq
+    by None e1 r e2 eq = none_is eq
 
 two_product_is : (o : Arithmetic) (es : Codes) (m : Multiple) → two_product o es ≡ Some m → IsMultiple (Do (Inline o) es) m
 two_product_is inline.Times (At a (At e End)) m h = product_is a e m h
-two_product_is o es m h = cc
+two_product_is o es m h = none_is h
 
 multiple_is : (e : Code) (m : Multiple) → multiple_in e ≡ Some m → IsMultiple e m
 multiple_is (Get (Global true i)) m h = subst (IsMultiple (Get (Global true i))) (some_is (record { name = i; factor = None }) m h) (record { code = refl; factor = tt })
 multiple_is (Do (Inline o) es) m h = two_product_is o es m h
-multiple_is e m h = cc
+multiple_is e m h = none_is h
 
 both_are : (i : ℕ) (a e : Code) (q : Remainder) → remainder_of i (multiple_in a) (factor_in e) ≡ Some q → IsRemainder (set_code i inline.Modulo a e) q
 both_are i a e q h = by (multiple_in a) refl (factor_in e) refl h
@@ -112,20 +112,20 @@ both_are i a e q h = by (multiple_in a) refl (factor_in e) refl h
         let f = factor_is e z e2 in
         subst (IsRemainder (set_code i inline.Modulo a e)) (some_is (record { target = i; multiple = m; divisor = z }) q eq)
         (record { code = ap₂ (set_code i inline.Modulo) s.code f.0; factor = s.factor; divisor = f.1 })
-    by (Some m) e1 None e2 eq = cc
-    by None e1 r e2 eq = cc
+    by (Some m) e1 None e2 eq = none_is eq
+    by None e1 r e2 eq = none_is eq
 
 two_are : (i : ℕ) (o : Arithmetic) (es : Codes) (q : Remainder) → two_remainder i o es ≡ Some q → IsRemainder (Set (Global true i) (Do (Inline o) es)) q
 two_are i inline.Modulo (At a (At e End)) q h = both_are i a e q h
-two_are i o es q h = cc
+two_are i o es q h = none_is h
 
 set_is : (i : ℕ) (e : Code) (q : Remainder) → set_remainder i e ≡ Some q → IsRemainder (Set (Global true i) e) q
 set_is i (Do (Inline o) es) q h = two_are i o es q h
-set_is i e q h = cc
+set_is i e q h = none_is h
 
 pub remainder_is : (e : Code) (q : Remainder) → remainder_in e ≡ Some q → IsRemainder e q
 remainder_is (Set (Global true i) e) q h = set_is i e q h
-remainder_is e q h = cc
+remainder_is e q h = none_is h
 
 -- so small a number has its product in range
 multiple_small : (m c : ℤ) → unsigned_abs m ≤ 2 ^ 53 / unsigned_abs c → unsigned_abs (m *ℤ c) ≤ 2 ^ 53

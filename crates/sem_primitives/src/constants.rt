@@ -1,6 +1,7 @@
 //! What constant arguments say.
 ghost use Rattle.std.specs.Prelude.{◌≡◌};
-ghost use Rattle.sem_primitives.specs.Constants.{special_number, special_at};
+ghost use Rattle.sem_primitives.specs.Assignments.{named, special_name};
+ghost use Rattle.sem_primitives.specs.Constants.{special_at, special_number, specials};
 
 /// A special variable (POSIX.1-2017 awk, "Variables and Special Variables"); ARGV and ENVIRON are arrays.
 #[derive(Clone, Copy, Debug, PartialEq, Eq, Drop)]
@@ -68,6 +69,47 @@ impl Special {
     {
         SPECIALS.get(number as usize).copied()
     }
+
+    /// The variable's name.
+    pub fn name(self) -> &'static [u8]
+        ensures { result.now ≡ special_name self }
+    {
+        match self {
+            Special::Argc => b"ARGC".as_slice(),
+            Special::Convfmt => b"CONVFMT".as_slice(),
+            Special::Filename => b"FILENAME".as_slice(),
+            Special::Fnr => b"FNR".as_slice(),
+            Special::Fs => b"FS".as_slice(),
+            Special::Nf => b"NF".as_slice(),
+            Special::Nr => b"NR".as_slice(),
+            Special::Ofmt => b"OFMT".as_slice(),
+            Special::Ofs => b"OFS".as_slice(),
+            Special::Ors => b"ORS".as_slice(),
+            Special::Rlength => b"RLENGTH".as_slice(),
+            Special::Rs => b"RS".as_slice(),
+            Special::Rstart => b"RSTART".as_slice(),
+            Special::Subsep => b"SUBSEP".as_slice(),
+        }
+    }
+
+    /// The variable of a name, if it has one.
+    pub fn of_name(name: &[u8]) -> Option<Special>
+        ensures { result ≡ named name.now specials }
+    {
+        named_among(&SPECIALS, name)
+    }
+}
+
+/// The first of these variables that has the name.
+fn named_among(list: &[Special], name: &[u8]) -> Option<Special>
+    ensures { result ≡ named name.now list.now }
+{
+    for special in list {
+        if name == special.name() {
+            return Some(*special);
+        }
+    }
+    None
 }
 
 /// Where print and printf write to.

@@ -11,5 +11,5 @@ returns-clause-err c =
     let same : c.in_ok-value.value ≡ unescaped c.args.text.now = search rules in
     let none = c.takes_none.ensures in
     IfErr-weaker c.assign_by.result _ _
-    (λ stop h inner. subst (λ r. IsStopOf r stop) (sym (assigned_is c.args.name.now c.args.text.now c.in_ok-value.value c.special_named.result (search rules) c.special_named.ensures same (with_all c.args.texts.now c.args.names.now inner))) (h inner))
+    (λ stop h inner. subst (λ r. IsStopOf r stop) (sym (assigned_is c.args.name.now c.args.text.now c.in_ok-value.value c.of_name.result (search rules) c.of_name.ensures same (with_all c.args.texts.now c.args.names.now inner))) (h inner))
     c.assign_by.ensures.err
