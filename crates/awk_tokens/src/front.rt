@@ -7,7 +7,7 @@ ghost use Rattle.awk_tokens.specs.Reading.{count_while, close_at, joined_at, nam
 
 use crate::number::number;
 use crate::token::{Piece, Punctuator, TokenKind};
-use crate::words::{ReservedWord, reserved_word};
+use crate::words::{ReservedWord, entry, reserved_word};
 
 fn begins_name(byte: u8) -> bool
     ensures { result ≡ starts_name byte }
@@ -81,52 +81,53 @@ fn name(bytes: &[u8]) -> Option<(Piece, usize)>
     }
 }
 
+const PUNCTUATORS: [(&[u8], Punctuator); 39] = [
+    (b"{", Punctuator::OpenBrace),
+    (b"}", Punctuator::CloseBrace),
+    (b"(", Punctuator::OpenParen),
+    (b")", Punctuator::CloseParen),
+    (b"[", Punctuator::OpenBracket),
+    (b"]", Punctuator::CloseBracket),
+    (b";", Punctuator::Semicolon),
+    (b",", Punctuator::Comma),
+    (b"+", Punctuator::Plus),
+    (b"-", Punctuator::Minus),
+    (b"*", Punctuator::Star),
+    (b"/", Punctuator::Slash),
+    (b"%", Punctuator::Percent),
+    (b"^", Punctuator::Caret),
+    (b"!", Punctuator::Bang),
+    (b">", Punctuator::Greater),
+    (b"<", Punctuator::Less),
+    (b"|", Punctuator::Pipe),
+    (b"?", Punctuator::Question),
+    (b":", Punctuator::Colon),
+    (b"~", Punctuator::Tilde),
+    (b"$", Punctuator::Dollar),
+    (b"=", Punctuator::Assign),
+    (b"+=", Punctuator::PlusAssign),
+    (b"-=", Punctuator::MinusAssign),
+    (b"*=", Punctuator::StarAssign),
+    (b"/=", Punctuator::SlashAssign),
+    (b"%=", Punctuator::PercentAssign),
+    (b"^=", Punctuator::CaretAssign),
+    (b"==", Punctuator::Equal),
+    (b"<=", Punctuator::LessEqual),
+    (b">=", Punctuator::GreaterEqual),
+    (b"!=", Punctuator::NotEqual),
+    (b"!~", Punctuator::NotTilde),
+    (b"++", Punctuator::Increment),
+    (b"--", Punctuator::Decrement),
+    (b"&&", Punctuator::And),
+    (b"||", Punctuator::Or),
+    (b">>", Punctuator::Append),
+];
+
 #[tactic(auto, unfolding(crate::specs::Pieces::punctuators))]
 fn mark(text: &[u8]) -> Option<Punctuator>
     ensures { result ≡ entry text.now punctuators }
 {
-    match text {
-        [b'{'] => Some(Punctuator::OpenBrace),
-        [b'}'] => Some(Punctuator::CloseBrace),
-        [b'('] => Some(Punctuator::OpenParen),
-        [b')'] => Some(Punctuator::CloseParen),
-        [b'['] => Some(Punctuator::OpenBracket),
-        [b']'] => Some(Punctuator::CloseBracket),
-        [b';'] => Some(Punctuator::Semicolon),
-        [b','] => Some(Punctuator::Comma),
-        [b'+'] => Some(Punctuator::Plus),
-        [b'-'] => Some(Punctuator::Minus),
-        [b'*'] => Some(Punctuator::Star),
-        [b'/'] => Some(Punctuator::Slash),
-        [b'%'] => Some(Punctuator::Percent),
-        [b'^'] => Some(Punctuator::Caret),
-        [b'!'] => Some(Punctuator::Bang),
-        [b'>'] => Some(Punctuator::Greater),
-        [b'<'] => Some(Punctuator::Less),
-        [b'|'] => Some(Punctuator::Pipe),
-        [b'?'] => Some(Punctuator::Question),
-        [b':'] => Some(Punctuator::Colon),
-        [b'~'] => Some(Punctuator::Tilde),
-        [b'$'] => Some(Punctuator::Dollar),
-        [b'='] => Some(Punctuator::Assign),
-        [b'+', b'='] => Some(Punctuator::PlusAssign),
-        [b'-', b'='] => Some(Punctuator::MinusAssign),
-        [b'*', b'='] => Some(Punctuator::StarAssign),
-        [b'/', b'='] => Some(Punctuator::SlashAssign),
-        [b'%', b'='] => Some(Punctuator::PercentAssign),
-        [b'^', b'='] => Some(Punctuator::CaretAssign),
-        [b'=', b'='] => Some(Punctuator::Equal),
-        [b'<', b'='] => Some(Punctuator::LessEqual),
-        [b'>', b'='] => Some(Punctuator::GreaterEqual),
-        [b'!', b'='] => Some(Punctuator::NotEqual),
-        [b'!', b'~'] => Some(Punctuator::NotTilde),
-        [b'+', b'+'] => Some(Punctuator::Increment),
-        [b'-', b'-'] => Some(Punctuator::Decrement),
-        [b'&', b'&'] => Some(Punctuator::And),
-        [b'|', b'|'] => Some(Punctuator::Or),
-        [b'>', b'>'] => Some(Punctuator::Append),
-        _ => None,
-    }
+    entry(text, &PUNCTUATORS)
 }
 
 #[tactic(auto, unfolding(crate::specs::Reading::mark_at))]
