@@ -1,9 +1,10 @@
 //! The longest piece at the front of bytes.
 
 ghost use Rattle.std.specs.Prelude.{◌≡◌, length, false};
+ghost use Rattle.awk_tokens.specs.declared.token.Piece.TheVariants.{Token};
 ghost use Rattle.awk_tokens.specs.Words.{entry, reserved_word_of};
 ghost use Rattle.awk_tokens.specs.Pieces.{goes_on, on_line, starts_name, word_kind, punctuators};
-ghost use Rattle.awk_tokens.specs.Reading.{count_while, close_at, joined_at, name_of, punctuator_of, front_of};
+ghost use Rattle.awk_tokens.specs.Reading.{count_while, close_at, joined_at, name_of, punctuator_of, front_of, shorter, with_piece};
 
 use crate::number::number;
 use crate::token::{Piece, Punctuator, TokenKind};
@@ -130,16 +131,26 @@ fn mark(text: &[u8]) -> Option<Punctuator>
     entry(text, &PUNCTUATORS)
 }
 
+/// The punctuator that this byte is.
+fn short(byte: &[u8]) -> Option<(Piece, usize)>
+    ensures { result ≡ shorter (entry byte.now punctuators) }
+{
+    match mark(byte) {
+        Some(p) => Some((Piece::Token(TokenKind::Punctuator(p)), 0)),
+        None => None,
+    }
+}
+
 #[tactic(auto, unfolding(crate::specs::Reading::mark_at))]
 fn punctuator(bytes: &[u8]) -> Option<(Piece, usize)>
     ensures { result ≡ punctuator_of bytes.now }
 {
     match bytes {
         [] => None,
-        [_] => mark(bytes).map(|p| (Piece::Token(TokenKind::Punctuator(p)), 0)),
+        [_] => short(bytes),
         _ => match mark(&bytes[..2]) {
             Some(p) => Some((Piece::Token(TokenKind::Punctuator(p)), 1)),
-            None => mark(&bytes[..1]).map(|p| (Piece::Token(TokenKind::Punctuator(p)), 0)),
+            None => short(&bytes[..1]),
         },
     }
 }
@@ -151,6 +162,16 @@ fn line_end(bytes: &[u8]) -> Option<(Piece, usize)>
     match bytes {
         [b'\n', ..] => Some((Piece::Blank, 1)),
         _ => None,
+    }
+}
+
+/// A token of this kind, if there is one, and how many bytes it takes beside the first.
+fn token(kind: TokenKind, more: Option<usize>) -> Option<(Piece, usize)>
+    ensures { result ≡ with_piece (Token kind) more }
+{
+    match more {
+        Some(more) => Some((Piece::Token(kind), more)),
+        None => None,
     }
 }
 
@@ -169,11 +190,11 @@ pub(crate) fn front(division: bool, bytes: &[u8]) -> Option<(Piece, usize)>
             if begins_name(*first) {
                 name(bytes)
             } else if (b'0' <= *first && *first <= b'9') || *first == b'.' {
-                number(bytes).map(|more| (Piece::Token(TokenKind::Number), more))
+                token(TokenKind::Number, number(bytes))
             } else if *first == b'"' {
-                closing(true, b'"', rest).map(|more| (Piece::Token(TokenKind::Str), more))
+                token(TokenKind::Str, closing(true, b'"', rest))
             } else if *first == b'/' && !division {
-                closing(false, b'/', rest).map(|more| (Piece::Token(TokenKind::Ere), more))
+                token(TokenKind::Ere, closing(false, b'/', rest))
             } else {
                 punctuator(bytes)
             }
