@@ -1,13 +1,14 @@
 //! The longest piece at the front of bytes.
 
 ghost use Rattle.std.specs.Prelude.{◌≡◌, length, false};
+ghost use Rattle.awk_tokens.specs.declared.token.Piece.TheVariants.{Token};
 ghost use Rattle.awk_tokens.specs.Words.{entry, reserved_word_of};
 ghost use Rattle.awk_tokens.specs.Pieces.{goes_on, on_line, starts_name, word_kind, punctuators};
-ghost use Rattle.awk_tokens.specs.Reading.{count_while, close_at, joined_at, name_of, punctuator_of, front_of};
+ghost use Rattle.awk_tokens.specs.Reading.{count_while, close_at, joined_at, name_of, punctuator_of, front_of, shorter, with_piece};
 
 use crate::number::number;
 use crate::token::{Piece, Punctuator, TokenKind};
-use crate::words::{ReservedWord, reserved_word};
+use crate::words::{ReservedWord, entry, reserved_word};
 
 fn begins_name(byte: u8) -> bool
     ensures { result ≡ starts_name byte }
@@ -81,51 +82,62 @@ fn name(bytes: &[u8]) -> Option<(Piece, usize)>
     }
 }
 
+const PUNCTUATORS: [(&[u8], Punctuator); 39] = [
+    (b"{", Punctuator::OpenBrace),
+    (b"}", Punctuator::CloseBrace),
+    (b"(", Punctuator::OpenParen),
+    (b")", Punctuator::CloseParen),
+    (b"[", Punctuator::OpenBracket),
+    (b"]", Punctuator::CloseBracket),
+    (b";", Punctuator::Semicolon),
+    (b",", Punctuator::Comma),
+    (b"+", Punctuator::Plus),
+    (b"-", Punctuator::Minus),
+    (b"*", Punctuator::Star),
+    (b"/", Punctuator::Slash),
+    (b"%", Punctuator::Percent),
+    (b"^", Punctuator::Caret),
+    (b"!", Punctuator::Bang),
+    (b">", Punctuator::Greater),
+    (b"<", Punctuator::Less),
+    (b"|", Punctuator::Pipe),
+    (b"?", Punctuator::Question),
+    (b":", Punctuator::Colon),
+    (b"~", Punctuator::Tilde),
+    (b"$", Punctuator::Dollar),
+    (b"=", Punctuator::Assign),
+    (b"+=", Punctuator::PlusAssign),
+    (b"-=", Punctuator::MinusAssign),
+    (b"*=", Punctuator::StarAssign),
+    (b"/=", Punctuator::SlashAssign),
+    (b"%=", Punctuator::PercentAssign),
+    (b"^=", Punctuator::CaretAssign),
+    (b"==", Punctuator::Equal),
+    (b"<=", Punctuator::LessEqual),
+    (b">=", Punctuator::GreaterEqual),
+    (b"!=", Punctuator::NotEqual),
+    (b"!~", Punctuator::NotTilde),
+    (b"++", Punctuator::Increment),
+    (b"--", Punctuator::Decrement),
+    (b"&&", Punctuator::And),
+    (b"||", Punctuator::Or),
+    (b">>", Punctuator::Append),
+];
+
 #[tactic(auto, unfolding(crate::specs::Pieces::punctuators))]
 fn mark(text: &[u8]) -> Option<Punctuator>
     ensures { result ≡ entry text.now punctuators }
 {
-    match text {
-        [b'{'] => Some(Punctuator::OpenBrace),
-        [b'}'] => Some(Punctuator::CloseBrace),
-        [b'('] => Some(Punctuator::OpenParen),
-        [b')'] => Some(Punctuator::CloseParen),
-        [b'['] => Some(Punctuator::OpenBracket),
-        [b']'] => Some(Punctuator::CloseBracket),
-        [b';'] => Some(Punctuator::Semicolon),
-        [b','] => Some(Punctuator::Comma),
-        [b'+'] => Some(Punctuator::Plus),
-        [b'-'] => Some(Punctuator::Minus),
-        [b'*'] => Some(Punctuator::Star),
-        [b'/'] => Some(Punctuator::Slash),
-        [b'%'] => Some(Punctuator::Percent),
-        [b'^'] => Some(Punctuator::Caret),
-        [b'!'] => Some(Punctuator::Bang),
-        [b'>'] => Some(Punctuator::Greater),
-        [b'<'] => Some(Punctuator::Less),
-        [b'|'] => Some(Punctuator::Pipe),
-        [b'?'] => Some(Punctuator::Question),
-        [b':'] => Some(Punctuator::Colon),
-        [b'~'] => Some(Punctuator::Tilde),
-        [b'$'] => Some(Punctuator::Dollar),
-        [b'='] => Some(Punctuator::Assign),
-        [b'+', b'='] => Some(Punctuator::PlusAssign),
-        [b'-', b'='] => Some(Punctuator::MinusAssign),
-        [b'*', b'='] => Some(Punctuator::StarAssign),
-        [b'/', b'='] => Some(Punctuator::SlashAssign),
-        [b'%', b'='] => Some(Punctuator::PercentAssign),
-        [b'^', b'='] => Some(Punctuator::CaretAssign),
-        [b'=', b'='] => Some(Punctuator::Equal),
-        [b'<', b'='] => Some(Punctuator::LessEqual),
-        [b'>', b'='] => Some(Punctuator::GreaterEqual),
-        [b'!', b'='] => Some(Punctuator::NotEqual),
-        [b'!', b'~'] => Some(Punctuator::NotTilde),
-        [b'+', b'+'] => Some(Punctuator::Increment),
-        [b'-', b'-'] => Some(Punctuator::Decrement),
-        [b'&', b'&'] => Some(Punctuator::And),
-        [b'|', b'|'] => Some(Punctuator::Or),
-        [b'>', b'>'] => Some(Punctuator::Append),
-        _ => None,
+    entry(text, &PUNCTUATORS)
+}
+
+/// The punctuator that this byte is.
+fn short(byte: &[u8]) -> Option<(Piece, usize)>
+    ensures { result ≡ shorter (entry byte.now punctuators) }
+{
+    match mark(byte) {
+        Some(p) => Some((Piece::Token(TokenKind::Punctuator(p)), 0)),
+        None => None,
     }
 }
 
@@ -135,10 +147,10 @@ fn punctuator(bytes: &[u8]) -> Option<(Piece, usize)>
 {
     match bytes {
         [] => None,
-        [_] => mark(bytes).map(|p| (Piece::Token(TokenKind::Punctuator(p)), 0)),
+        [_] => short(bytes),
         _ => match mark(&bytes[..2]) {
             Some(p) => Some((Piece::Token(TokenKind::Punctuator(p)), 1)),
-            None => mark(&bytes[..1]).map(|p| (Piece::Token(TokenKind::Punctuator(p)), 0)),
+            None => short(&bytes[..1]),
         },
     }
 }
@@ -150,6 +162,16 @@ fn line_end(bytes: &[u8]) -> Option<(Piece, usize)>
     match bytes {
         [b'\n', ..] => Some((Piece::Blank, 1)),
         _ => None,
+    }
+}
+
+/// A token of this kind, if there is one, and how many bytes it takes beside the first.
+fn token(kind: TokenKind, more: Option<usize>) -> Option<(Piece, usize)>
+    ensures { result ≡ with_piece (Token kind) more }
+{
+    match more {
+        Some(more) => Some((Piece::Token(kind), more)),
+        None => None,
     }
 }
 
@@ -168,11 +190,11 @@ pub(crate) fn front(division: bool, bytes: &[u8]) -> Option<(Piece, usize)>
             if begins_name(*first) {
                 name(bytes)
             } else if (b'0' <= *first && *first <= b'9') || *first == b'.' {
-                number(bytes).map(|more| (Piece::Token(TokenKind::Number), more))
+                token(TokenKind::Number, number(bytes))
             } else if *first == b'"' {
-                closing(true, b'"', rest).map(|more| (Piece::Token(TokenKind::Str), more))
+                token(TokenKind::Str, closing(true, b'"', rest))
             } else if *first == b'/' && !division {
-                closing(false, b'/', rest).map(|more| (Piece::Token(TokenKind::Ere), more))
+                token(TokenKind::Ere, closing(false, b'/', rest))
             } else {
                 punctuator(bytes)
             }

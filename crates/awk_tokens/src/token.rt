@@ -85,7 +85,7 @@ pub enum TokenFault {
 }
 
 /// A piece of a script.
-#[derive(Clone, Copy, Debug, PartialEq, Eq)]
+#[derive(Clone, Copy)]
 pub enum Piece {
     Blank,
     Newline,
@@ -93,7 +93,7 @@ pub enum Piece {
 }
 
 /// What a parenthesis was opened for: the condition of `if`, `while` or `for`, the parameters of a function, or anything else.
-#[derive(Clone, Copy, Debug, PartialEq, Eq)]
+#[derive(Clone, Copy)]
 pub enum Role {
     Control,
     Params,

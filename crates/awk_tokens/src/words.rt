@@ -1,6 +1,6 @@
 //! The reserved words of the language.
 
-ghost use Rattle.std.specs.Prelude.{◌≡◌, option_map};
+ghost use Rattle.std.specs.Prelude.{◌≡◌, map, option_map};
 ghost use Rattle.awk_tokens.specs.Words.{entry, keywords, builtins, left_out_words, reserved_word_of};
 
 /// A word of the grammar.
@@ -68,115 +68,90 @@ pub enum ReservedWord {
     LeftOut(LeftOut),
 }
 
+/// What the first row with this text says.
+pub(crate) fn entry<T: Copy>(text: &[u8], table: &[(&[u8], T)]) -> Option<T>
+    ensures { result ≡ entry text.now (map (λ row. (row.0.now, row.1)) table.now) }
+{
+    let mut rest = table;
+    while let [(word, meaning), after @ ..] = rest {
+        if text == *word {
+            return Some(*meaning);
+        }
+        rest = after;
+    }
+    None
+}
+
+const KEYWORDS: [(&[u8], Keyword); 19] = [
+    (b"BEGIN", Keyword::Begin),
+    (b"END", Keyword::End),
+    (b"function", Keyword::Function),
+    (b"if", Keyword::If),
+    (b"else", Keyword::Else),
+    (b"while", Keyword::While),
+    (b"for", Keyword::For),
+    (b"do", Keyword::Do),
+    (b"break", Keyword::Break),
+    (b"continue", Keyword::Continue),
+    (b"next", Keyword::Next),
+    (b"nextfile", Keyword::NextFile),
+    (b"exit", Keyword::Exit),
+    (b"return", Keyword::Return),
+    (b"delete", Keyword::Delete),
+    (b"in", Keyword::In),
+    (b"getline", Keyword::Getline),
+    (b"print", Keyword::Print),
+    (b"printf", Keyword::Printf),
+];
+
+const BUILTINS: [(&[u8], Builtin); 13] = [
+    (b"length", Builtin::Length),
+    (b"substr", Builtin::Substr),
+    (b"index", Builtin::Index),
+    (b"split", Builtin::Split),
+    (b"sub", Builtin::Sub),
+    (b"gsub", Builtin::Gsub),
+    (b"match", Builtin::Match),
+    (b"sprintf", Builtin::Sprintf),
+    (b"tolower", Builtin::ToLower),
+    (b"toupper", Builtin::ToUpper),
+    (b"int", Builtin::Int),
+    (b"close", Builtin::Close),
+    (b"fflush", Builtin::Fflush),
+];
+
+const LEFT_OUT: [(&[u8], LeftOut); 10] = [
+    (b"atan2", LeftOut::Atan2),
+    (b"cos", LeftOut::Cos),
+    (b"sin", LeftOut::Sin),
+    (b"exp", LeftOut::Exp),
+    (b"log", LeftOut::Log),
+    (b"sqrt", LeftOut::Sqrt),
+    (b"rand", LeftOut::Rand),
+    (b"srand", LeftOut::Srand),
+    (b"system", LeftOut::System),
+    (b"func", LeftOut::Func),
+];
+
 #[tactic(auto, unfolding(crate::specs::Words::keywords))]
 fn keyword_of(text: &[u8]) -> Option<Keyword>
     ensures { result ≡ entry text.now keywords }
 {
-    if text == b"BEGIN".as_slice() {
-        Some(Keyword::Begin)
-    } else if text == b"END".as_slice() {
-        Some(Keyword::End)
-    } else if text == b"function".as_slice() {
-        Some(Keyword::Function)
-    } else if text == b"if".as_slice() {
-        Some(Keyword::If)
-    } else if text == b"else".as_slice() {
-        Some(Keyword::Else)
-    } else if text == b"while".as_slice() {
-        Some(Keyword::While)
-    } else if text == b"for".as_slice() {
-        Some(Keyword::For)
-    } else if text == b"do".as_slice() {
-        Some(Keyword::Do)
-    } else if text == b"break".as_slice() {
-        Some(Keyword::Break)
-    } else if text == b"continue".as_slice() {
-        Some(Keyword::Continue)
-    } else if text == b"next".as_slice() {
-        Some(Keyword::Next)
-    } else if text == b"nextfile".as_slice() {
-        Some(Keyword::NextFile)
-    } else if text == b"exit".as_slice() {
-        Some(Keyword::Exit)
-    } else if text == b"return".as_slice() {
-        Some(Keyword::Return)
-    } else if text == b"delete".as_slice() {
-        Some(Keyword::Delete)
-    } else if text == b"in".as_slice() {
-        Some(Keyword::In)
-    } else if text == b"getline".as_slice() {
-        Some(Keyword::Getline)
-    } else if text == b"print".as_slice() {
-        Some(Keyword::Print)
-    } else if text == b"printf".as_slice() {
-        Some(Keyword::Printf)
-    } else {
-        None
-    }
+    entry(text, &KEYWORDS)
 }
 
 #[tactic(auto, unfolding(crate::specs::Words::builtins))]
 fn builtin_of(text: &[u8]) -> Option<Builtin>
     ensures { result ≡ entry text.now builtins }
 {
-    if text == b"length".as_slice() {
-        Some(Builtin::Length)
-    } else if text == b"substr".as_slice() {
-        Some(Builtin::Substr)
-    } else if text == b"index".as_slice() {
-        Some(Builtin::Index)
-    } else if text == b"split".as_slice() {
-        Some(Builtin::Split)
-    } else if text == b"sub".as_slice() {
-        Some(Builtin::Sub)
-    } else if text == b"gsub".as_slice() {
-        Some(Builtin::Gsub)
-    } else if text == b"match".as_slice() {
-        Some(Builtin::Match)
-    } else if text == b"sprintf".as_slice() {
-        Some(Builtin::Sprintf)
-    } else if text == b"tolower".as_slice() {
-        Some(Builtin::ToLower)
-    } else if text == b"toupper".as_slice() {
-        Some(Builtin::ToUpper)
-    } else if text == b"int".as_slice() {
-        Some(Builtin::Int)
-    } else if text == b"close".as_slice() {
-        Some(Builtin::Close)
-    } else if text == b"fflush".as_slice() {
-        Some(Builtin::Fflush)
-    } else {
-        None
-    }
+    entry(text, &BUILTINS)
 }
 
 #[tactic(auto, unfolding(crate::specs::Words::left_out_words))]
 fn left_out_of(text: &[u8]) -> Option<LeftOut>
     ensures { result ≡ entry text.now left_out_words }
 {
-    if text == b"atan2".as_slice() {
-        Some(LeftOut::Atan2)
-    } else if text == b"cos".as_slice() {
-        Some(LeftOut::Cos)
-    } else if text == b"sin".as_slice() {
-        Some(LeftOut::Sin)
-    } else if text == b"exp".as_slice() {
-        Some(LeftOut::Exp)
-    } else if text == b"log".as_slice() {
-        Some(LeftOut::Log)
-    } else if text == b"sqrt".as_slice() {
-        Some(LeftOut::Sqrt)
-    } else if text == b"rand".as_slice() {
-        Some(LeftOut::Rand)
-    } else if text == b"srand".as_slice() {
-        Some(LeftOut::Srand)
-    } else if text == b"system".as_slice() {
-        Some(LeftOut::System)
-    } else if text == b"func".as_slice() {
-        Some(LeftOut::Func)
-    } else {
-        None
-    }
+    entry(text, &LEFT_OUT)
 }
 
 /// The reserved word of this text, if it is one: a word of the grammar, a built-in function, or a word that is left out.

@@ -1,10 +1,12 @@
 -- Reading the members of a bracket, one after another.
-use Rattle.std.proofs.Common.{◌≡◌, ℕ, zero, suc, ◌+◌, ◌<◌, ◌≤◌, Bool, true, false, cond, ◌||◌, List, [], ◌∷◌, length, length-append, get_or, Option, Some, None, refl, sym, ap, ◌∙◌, arith, nat_le, option_map}
+use Rattle.std.proofs.Common.{◌≡◌, ℕ, zero, suc, ◌+◌, ◌<◌, ◌≤◌, Bool, true, false, cond, ◌||◌, ◌==◌, List, [], ◌∷◌, length, length-append, get_or, Option, Some, None, refl, sym, ap, ◌∙◌, arith, nat_le, option_map}
 use Rattle.ere_syntax.specs.Tree.{Bytes}
+use Rattle.ere_syntax.specs.Bytes.{colon}
 use Rattle.ere_syntax.specs.Reading.{◌>>=◌}
-use Rattle.ere_syntax.specs.Bracket.{not, names_front, One, one_at, value, byte_and, dash_at, Member, Single, Range, Named, spell_member, front, range_to, single_or, member_at, behind, members_by, members_at, starts, Bracket, bracket_by}
+use Rattle.ere_syntax.specs.Bracket.{not, names_front, One, one_at, value, byte_and, dash_at, Member, Single, Range, Named, spell_member, front, range_to, single_or, member_at, behind, members_by, members_at, starts, class_at, Bracket, bracket_by}
 use Rattle.ere_syntax.specs.Scan.{table, table_by, in_member, in_members, in_bracket}
-use Rattle.ere_syntax.specs.Reads.{item_of, in_item, item_and, set_and, at_least, upper_by, item_or, begun, closed_by, read_members, read_bracket}
+use Rattle.ere_syntax.specs.Reads.{item_of, in_item, item_and, set_and, at_least, upper_by, item_or, named_item, read_named, class_read, begun, closed_by, read_members, read_bracket}
+use Rattle.ere_syntax.specs.declared.class.Class.{Class}
 use Rattle.ere_syntax.specs.declared.bracket.Item.{Item}
 use Rattle.ere_syntax.specs.declared.bracket.Item.TheVariants as items
 use Rattle.ere_syntax.specs.declared.bracket.Front.{Front}
@@ -39,6 +41,17 @@ begun_is ts = by (one_at ts)
     by : (o : Option (One × List ℕ)) → items_and (o >>= λ x. single_or x.0 x.1 (dash_at x.1)) ≡ (option_map (λ x. byte_and (value x.0) x.1) o >>= λ x. item_or x.0 x.1 (dash_at x.1))
     by None = refl
     by (Some x) = single_is x.0 x.1 (dash_at x.1)
+
+pub named_is : (ts : List ℕ) → option_map (λ x. item_and (item_of x.0) x.1) (member_at ts Names) ≡ read_named ts
+unfolding class_read
+named_is [] = refl
+named_is (c ∷ []) = refl
+named_is (c ∷ d ∷ cs) = by (d == colon) (class_at cs)
+  where
+    by : (b : Bool) (o : Option (Class × List ℕ)) → items_and (cond b (o >>= λ x. Some (Named x.0, x.1)) None) ≡ cond b (named_item o) None
+    by true None = refl
+    by true (Some x) = refl
+    by false o = refl
 
 pub in_item_is : (m : Member) (c : ℕ) → in_item (item_of m) c ≡ in_member m c
 in_item_is (Single o) c = refl

@@ -2,7 +2,8 @@
 use Rattle.std.specs.Prelude.{ℕ, Bool, true, ◌==◌, nat_le, if◌then◌else◌, Option, Some, None, Result, Ok, Err, List, [], ◌∷◌, length, option_map}
 use Rattle.ere_syntax.specs.Tree.{Bytes}
 use Rattle.ere_syntax.specs.Reading.{◌>>=◌}
-use Rattle.ere_syntax.specs.Bracket.{names_front, one_at, dash_at, value, byte_and, or_class, Member, Single, Range, Named, members_at, bracket_at}
+use Rattle.ere_syntax.specs.Bytes.{colon}
+use Rattle.ere_syntax.specs.Bracket.{names_front, one_at, dash_at, value, byte_and, or_class, class_at, Member, Single, Range, Named, members_at, bracket_at}
 use Rattle.ere_syntax.specs.Scan.{between, in_class, in_members, in_bracket, table}
 use Rattle.ere_syntax.specs.declared.class.Class.{Class}
 use Rattle.ere_syntax.specs.declared.class.Class.TheVariants.{Punct}
@@ -28,6 +29,10 @@ in_punct c = in_class Punct c
 abbrev pub class_in : List Class → List ℕ → Option (Class × List ℕ)
 class_in [] ts = None
 class_in (c ∷ cs) ts = or_class c ts (class_in cs ts)
+
+-- the class that is named at the front
+unfoldable pub class_read : List ℕ → Option (Class × List ℕ)
+class_read ts = class_at ts
 
 -- ---- members of brackets
 
@@ -56,6 +61,15 @@ upper_by low ts = if names_front ts then None else at_least low (option_map (λ 
 abbrev pub item_or : ℕ → List ℕ → Option (List ℕ) → Option (Item × List ℕ)
 item_or b ts None = Some (items.Single b, ts)
 item_or b ts (Some us) = option_map (λ y. item_and (items.Range b y.0) y.1) (upper_by b us)
+
+-- a class, with its bracket
+abbrev pub named_item : Option (Class × List ℕ) → Option (Item × List ℕ)
+named_item None = None
+named_item (Some x) = Some (item_and (items.Named x.0) x.1)
+
+abbrev pub read_named : List ℕ → Option (Item × List ℕ)
+read_named (c ∷ d ∷ cs) = if d == colon then named_item (class_read cs) else None
+read_named _ = None
 
 -- a byte or a range
 abbrev pub begun : List ℕ → Option (Item × List ℕ)

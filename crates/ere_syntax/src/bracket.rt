@@ -1,14 +1,14 @@
 //! The parts of a bracket expression.
 ghost use Rattle.std.specs.Prelude.{◌≡◌, ℕ, ◌<◌, ◌||◌, false, length, option_map, slice_index_or};
-ghost use Rattle.ere_syntax.specs.Bracket.{behind, byte_and, dash_at, front, member_at, named_at, names, names_front, one_at, starts, value};
-ghost use Rattle.ere_syntax.specs.Reads.{begun, closed_by, in_item, item_and, item_of, kept, read_bracket, read_members, set_and, upper_by};
+ghost use Rattle.ere_syntax.specs.Bracket.{behind, byte_and, dash_at, front, member_at, names, names_front, one_at, starts, value};
+ghost use Rattle.ere_syntax.specs.Reads.{begun, closed_by, in_item, item_and, item_of, kept, read_bracket, read_members, read_named, set_and, upper_by};
 
 use crate::class::{Class, between, class_of};
 use crate::escape::escape;
 use crate::tree::ByteSet;
 
 /// What stands at the front within brackets.
-#[derive(Clone, Copy, Debug)]
+#[derive(Clone, Copy)]
 pub(crate) enum Front {
     Closes,
     Names,
@@ -111,7 +111,7 @@ pub(crate) fn upper(lower: u8, text: &[u8]) -> Result<(u8, &[u8]), &[u8]>
 }
 
 /// A member of a bracket expression.
-#[derive(Clone, Copy, Debug)]
+#[derive(Clone, Copy)]
 pub(crate) enum Item {
     Single(u8),
     Range(u8, u8),
@@ -132,8 +132,7 @@ impl Item {
 
 /// The class that is named at the front, with its bracket.
 fn named(text: &[u8]) -> Result<(Item, &[u8]), &[u8]>
-    ensures { option_map (λ x. item_and x.0 x.1.now) (kept result)
-        ≡ option_map (λ x. item_and (item_of x.0) x.1) (named_at text.now) }
+    ensures { option_map (λ x. item_and x.0 x.1.now) (kept result) ≡ read_named text.now }
 {
     match text {
         [_, b':', rest @ ..] => match class_of(rest) {
@@ -161,7 +160,7 @@ fn begun(text: &[u8]) -> Result<(Item, &[u8]), &[u8]>
 }
 
 /// The member at the front, and what follows; or what was left where reading stopped.
-#[tactic(auto, using(crate::proofs::Members::begun_is))]
+#[tactic(auto, using(crate::proofs::Members::begun_is, crate::proofs::Members::named_is))]
 fn member(text: &[u8], front: Front) -> Result<(Item, &[u8]), &[u8]>
     ensures { option_map (λ x. item_and x.0 x.1.now) (kept result)
         ≡ option_map (λ x. item_and (item_of x.0) x.1) (member_at text.now front) }

@@ -8,7 +8,7 @@ ghost use Rattle.ere_syntax.specs.Steps.{follow_by};
 use crate::token::{Token, next_token};
 
 /// The last piece of a branch: none yet, one that takes no repetition, one that takes one.
-#[derive(Clone, Copy, Debug)]
+#[derive(Clone, Copy)]
 pub(crate) enum Last {
     Nothing,
     Anchor,

@@ -1,11 +1,11 @@
 //! The classes of bracket expressions, over ASCII.
 ghost use Rattle.std.specs.Prelude.{◌≡◌, option_map};
-ghost use Rattle.ere_syntax.specs.Bracket.{class_at, closed_name, strip};
+ghost use Rattle.ere_syntax.specs.Bracket.{closed_name, strip};
 ghost use Rattle.ere_syntax.specs.Scan.{between, in_class};
-ghost use Rattle.ere_syntax.specs.Reads.{class_and, in_punct};
+ghost use Rattle.ere_syntax.specs.Reads.{class_and, class_read, in_punct};
 
 /// A class of bytes.
-#[derive(Clone, Copy, Debug)]
+#[derive(Clone, Copy)]
 pub(crate) enum Class {
     Alnum,
     Alpha,
@@ -111,7 +111,7 @@ fn strip<'a>(prefix: &[u8], text: &'a [u8]) -> Option<&'a [u8]>
 
 /// The class that is named at the front, behind its `[:`, and what follows its `:]`.
 pub(crate) fn class_of(text: &[u8]) -> Option<(Class, &[u8])>
-    ensures { option_map (λ x. class_and x.0 x.1.now) result ≡ class_at text.now }
+    ensures { option_map (λ x. class_and x.0 x.1.now) result ≡ class_read text.now }
 {
     for class in CLASSES {
         match strip(class.closed_name(), text) {

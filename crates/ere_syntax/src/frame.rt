@@ -12,14 +12,14 @@ use crate::tree::{Ere, Times};
 use std::alloc::{AllocError, Global};
 
 /// A piece of a branch, and its size.
-#[derive(Debug, Drop)]
+#[derive(Drop)]
 pub(crate) struct Part {
     pub(crate) ere: Ere,
     pub(crate) size: Size,
 }
 
 /// What was read of a group: its branches so far, the pieces of the branch at hand, the size of both, and its last piece.
-#[derive(Debug, Drop)]
+#[derive(Drop)]
 pub(crate) struct Frame {
     pub(crate) branches: Vec<Ere>,
     pub(crate) pieces: Vec<Ere>,

@@ -13,7 +13,7 @@ const MAX_COUNT: u16 = 255;
 const PAST: u16 = MAX_COUNT + 1;
 
 /// The counts of an interval as they are written, those past `PAST` as `PAST`.
-#[derive(Clone, Copy, Debug)]
+#[derive(Clone, Copy)]
 pub(crate) struct Counts {
     low: u16,
     high: Option<u16>,

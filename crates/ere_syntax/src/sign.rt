@@ -3,7 +3,7 @@ ghost use Rattle.std.specs.Prelude.{◌≡◌};
 ghost use Rattle.ere_syntax.specs.Scan.{sign_of};
 
 /// A byte with a meaning of its own.
-#[derive(Clone, Copy, Debug)]
+#[derive(Clone, Copy)]
 pub(crate) enum Sign {
     Dot,
     Hat,

@@ -11,7 +11,7 @@ const MAX_POSITIONS: u32 = 10_000;
 pub(crate) const MAX_ERE_NESTING: u32 = 1_000;
 
 /// The positions of a tree, those past the limit as one past it, and its nesting, which is within its limit.
-#[derive(Clone, Copy, Debug)]
+#[derive(Clone, Copy)]
 pub(crate) struct Size {
     pub(crate) positions: u32,
     pub(crate) nesting: u32,

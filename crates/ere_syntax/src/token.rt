@@ -11,7 +11,7 @@ use crate::sign::{Sign, sign_of};
 use crate::tree::{ByteSet, Times};
 
 /// What takes one byte of a text.
-#[derive(Clone, Copy, Debug)]
+#[derive(Clone, Copy)]
 pub(crate) enum Atom {
     Byte(u8),
     Any,
@@ -19,7 +19,7 @@ pub(crate) enum Atom {
 }
 
 /// A token.
-#[derive(Clone, Copy, Debug)]
+#[derive(Clone, Copy)]
 pub(crate) enum Token {
     Atom(Atom),
     Begin,
