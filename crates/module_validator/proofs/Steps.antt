@@ -56,6 +56,12 @@ module _ (C : Context) (L : List (Option ValType)) where
   simple_follows (Err Untyped) p s t h = simple_none p s (effect_of C L p) refl h
   simple_follows (Err NoMemory) p s t h = tt
 
+  -- a last step that puts a result
+  pub put_follows : (x : Instruction) (s t w : Form) (r : Result ⊤ Refusal) → (t ≡ w → IsExact C L x s t) → Sees r t (Some w) → Follows r C L x s t
+  put_follows x s t w (Ok _) f h = f (let e : Some w ≡ Some t = h in cc)
+  put_follows x s t w (Err Untyped) f h = let e : Some w ≡ None = h in cc
+  put_follows x s t w (Err NoMemory) f h = tt
+
   -- blocks
   block_types : (r : Option ValType) (b : Instructions) (ps rs : List ValType) → InstrOk C L (Block r b) ps rs → CodeOk C (r ∷ L) b [] (one r) × Types (Fixed [] r) ps rs
   block_types r b ps rs (block o h) = (o, h)

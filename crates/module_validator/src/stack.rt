@@ -55,16 +55,18 @@ impl Stack {
     }
 
     /// Puts an entry on top.
-    pub(crate) fn put(&mut self, entry: Option<ValType>) -> Result<(), AllocError>
-        ensures { OnOk result (self.new ≡ push entry self.old) }
+    pub(crate) fn put(&mut self, entry: Option<ValType>) -> Result<(), Refusal>
+        ensures { Sees result self.new (Some (push entry self.old)) }
     {
-        self.items.push(entry)?;
-        Ok(())
+        match self.items.push(entry) {
+            Ok(()) => Ok(()),
+            Err(_) => Err(Refusal::NoMemory),
+        }
     }
 
     /// Puts a result, if there is one, on top.
-    pub(crate) fn put_one(&mut self, kind: Option<ValType>) -> Result<(), AllocError>
-        ensures { OnOk result (self.new ≡ push_one kind self.old) }
+    pub(crate) fn put_one(&mut self, kind: Option<ValType>) -> Result<(), Refusal>
+        ensures { Sees result self.new (Some (push_one kind self.old)) }
     {
         match kind {
             Some(k) => self.put(Some(k)),
@@ -139,8 +141,7 @@ impl Stack {
         ensures { Sees result self.new (after (Fixed (kind ∷ []) (Some gives)) self.old) }
     {
         self.take(kind)?;
-        self.put(Some(gives))?;
-        Ok(())
+        self.put(Some(gives))
     }
 
     /// Takes two operands and gives a result.
@@ -149,8 +150,7 @@ impl Stack {
     {
         self.take(kind)?;
         self.take(kind)?;
-        self.put(Some(gives))?;
-        Ok(())
+        self.put(Some(gives))
     }
 
     pub(crate) fn discard(&mut self) -> Result<(), Refusal>
@@ -167,14 +167,13 @@ impl Stack {
         match self.take_any()? {
             Some(k) => {
                 self.take(k)?;
-                self.put(Some(k))?;
+                self.put(Some(k))
             }
             None => {
                 let other = self.take_any()?;
-                self.put(other)?;
+                self.put(other)
             }
         }
-        Ok(())
     }
 
     /// Whether this may be the empty stack.

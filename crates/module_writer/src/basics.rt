@@ -3,7 +3,7 @@
 ghost use Rattle.std.specs.Prelude.{◌≡◌, string_bytes, length};
 ghost use Rattle.wasm_types.specs.Instructions.{val_code, block_code};
 ghost use Rattle.wasm_types.specs.ModuleGrammar.{mut_code};
-ghost use Rattle.module_writer.specs.Writers.{Puts, byte_to, index_to, bits32_to, bits64_to, vec_to, option_to, bytes_to, name_to};
+ghost use Rattle.module_writer.specs.Writers.{Puts, byte_to, index_to, bits32_to, bits64_to, option_to, bytes_to, name_to};
 ghost use Rattle.module_writer.specs.Writing.{val_type_to, mem_arg_to};
 
 use crate::fault::WriteFault;
@@ -91,17 +91,6 @@ pub(crate) fn val_type(out: &mut Vec<u8>, t: ValType) -> Result<(), WriteFault>
     byte(out, val_code(t))
 }
 
-/// Types of values with their number before them.
-pub(crate) fn val_types(out: &mut Vec<u8>, types: &[ValType]) -> Result<(), WriteFault>
-    ensures { Puts result (vec_to val_type_to types.now out.old.items) out.new.items }
-{
-    count(out, types.len())?;
-    for t in types {
-        val_type(out, *t)?;
-    }
-    Ok(())
-}
-
 /// At most one type of a value, with the number before it.
 pub(crate) fn result_type(out: &mut Vec<u8>, t: Option<ValType>) -> Result<(), WriteFault>
     ensures { Puts result (option_to val_type_to t out.old.items) out.new.items }
@@ -113,17 +102,6 @@ pub(crate) fn result_type(out: &mut Vec<u8>, t: Option<ValType>) -> Result<(), W
             val_type(out, t)
         }
     }
-}
-
-/// Indices with their number before them.
-pub(crate) fn indices(out: &mut Vec<u8>, all: &[u32]) -> Result<(), WriteFault>
-    ensures { Puts result (vec_to index_to all.now out.old.items) out.new.items }
-{
-    count(out, all.len())?;
-    for n in all {
-        index(out, *n)?;
-    }
-    Ok(())
 }
 
 /// An alignment and an offset.

@@ -7,7 +7,8 @@ ghost use Rattle.wasm_types.specs.View.{view, views};
 ghost use Rattle.module_writer.specs.Writers.{Puts};
 ghost use Rattle.module_writer.specs.Writing.{immediates_to, simple_to, table_to, opened_to, within_to, else_to, instr_to, instrs_to, expr_to};
 
-use crate::basics::{bits32, bits64, block_code, byte, index, indices, mem_arg};
+use crate::basics::{bits32, bits64, block_code, byte, index, mem_arg};
+use crate::entries::entries;
 use crate::fault::WriteFault;
 use wasm_types::{BlockType, Instr, MAX_NESTING, Simple, opcode};
 
@@ -56,7 +57,7 @@ fn table(out: &mut Vec<u8>, labels: &[u32], last: u32) -> Result<(), WriteFault>
     ensures { Puts result (table_to labels.now last out.old.items) out.new.items }
 {
     byte(out, 0x0e)?;
-    indices(out, labels)?;
+    entries(out, labels)?;
     index(out, last)
 }
 

@@ -4,6 +4,7 @@
 mod basics;
 mod body;
 mod entries;
+mod entry_kinds;
 mod fault;
 mod sections;
 

@@ -2,14 +2,14 @@
 ghost use Rattle.std.specs.List.{All};
 ghost use Rattle.std.specs.Prelude.{ℕ, ◌≡◌, ◌↔◌, ◌*◌, ◌≤◌, ◌^◌, IfErr, IfOk, IsTrue, None, OnErr, Some, length, map, MatchResult};
 ghost use Rattle.wasm_registers.specs.Laid.{code_at};
-ghost use Rattle.wasm_model.specs.Frames.{IsConstantAt};
+ghost use Rattle.wasm_model.specs.Frames.{constant_in, constant_of};
 ghost use Rattle.wasm_model.specs.Links.{first_some, first_none, main_at, main_of, number_for, numbers_for, place_of, value_of, least, ElemFits, DataFits, SegmentsFit, filled, poured, limits_or_none, entry_code, beginning, Numbers, Refuses};
 ghost use Rattle.wasm_model.specs.Machines.{agree};
 ghost use Rattle.wasm_frames.specs.Standing.{Stand};
 ghost use Rattle.wasm_states.specs.Confs.{conf_of};
 ghost use Rattle.wasm_machine.specs.ViewConf.{Begins, Lays};
 ghost use Rattle.wasm_types.specs.Typing.{callee_in, typed_in};
-ghost use Rattle.wasm_types.specs.View.{signature_of, view_data, view_elem, view_export, view_import, view_module, views};
+ghost use Rattle.wasm_types.specs.View.{signature_of, view, view_data, view_elem, view_export, view_import, view_module, views};
 
 use crate::program::{callee, typed};
 use std::alloc::{AllocError, Global};
@@ -108,14 +108,24 @@ fn numbers_among<H: HostCalls>(
     Ok(numbers)
 }
 
-/// A constant at a place.
-fn constant(code: &[Instr], at: usize) -> Option<Word>
-    ensures { IsConstantAt code.now at result }
+/// The word of a constant instruction.
+fn constant_of(i: &Instr) -> Option<Word>
+    ensures { constant_of (view i.now) ≡ result }
 {
-    match code.get(at) {
-        Some(Instr::Plain(Simple::I32Const(n))) => Some(Word::I32(*n)),
-        Some(Instr::Plain(Simple::I64Const(n))) => Some(Word::I64(*n)),
+    match i {
+        Instr::Plain(Simple::I32Const(n)) => Some(Word::I32(*n)),
+        Instr::Plain(Simple::I64Const(n)) => Some(Word::I64(*n)),
         _ => None,
+    }
+}
+
+/// The constant that code begins with.
+fn constant(code: &[Instr]) -> Option<Word>
+    ensures { constant_in (views code.now) ≡ result }
+{
+    match code {
+        [] => None,
+        [first, ..] => constant_of(first),
     }
 }
 
@@ -123,7 +133,7 @@ fn constant(code: &[Instr], at: usize) -> Option<Word>
 fn place_of(code: &[Instr]) -> u32
     ensures { result ≡ place_of (views code.now) }
 {
-    match constant(code, 0) {
+    match constant(code) {
         Some(Word::I32(n)) => n,
         _ => 0,
     }
@@ -213,7 +223,7 @@ fn pour(memory: &mut Memory, size: usize, segments: &[Data])
 fn value_of(code: &[Instr]) -> Word
     ensures { result ≡ value_of (views code.now) }
 {
-    match constant(code, 0) {
+    match constant(code) {
         Some(word) => word,
         None => Word::I32(0),
     }

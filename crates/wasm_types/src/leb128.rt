@@ -7,7 +7,6 @@ ghost use Rattle.wasm_types.specs.Leb128.{IsU32, IsS32, IsS64, u32_at, s32_at, s
 use std::alloc::{AllocError, Global};
 
 // What the groups make, the weight of a next group, and the bytes after them.
-#[tactic(auto, using(crate::proofs::Groups::pow_step, crate::proofs::Groups::pow_low, crate::proofs::Groups::pow_top))]
 fn raw_at(bytes: &[u8], most: u8) -> Option<(u128, u128, &[u8])>
     requires { most ≤ 10 }
     ensures found { MatchOption result (raw_at most bytes.now ≡ None)

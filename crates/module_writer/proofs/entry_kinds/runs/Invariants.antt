@@ -1,6 +1,6 @@
 use Rattle.std.proofs.Common.{◌≡◌, ◌≤◌, ◌+◌, ◌++◌, drop}
 use Rattle.module_writer.specs.Writing.{runs_from, runs_of}
-use Rattle.module_writer.proofs.entries.runs.Given as goal
+use Rattle.module_writer.proofs.entry_kinds.runs.Given as goal
 
 abbrev pub invariant-loop-t : goal.invariant-loop-t
 invariant-loop-t l = record {
