@@ -137,17 +137,17 @@ immediate_emitted y v fs ts op l r f i t w d a b z e some p q k =
     q k ∙ ap (λ (x : plain.Form). followed b (immediately_compared y op x i t d k)) e
     ∙ ap (λ (x : Option Immediate). followed b (immediate_or y op (form_of fs l) x t d k k1)) (sym (ap (λ (x : plain.Form). immediate_in (is_value x) r) (sym e) ∙ some)) ∙ p _
 
-pub line_emitted : (y : Layout) (v : Bool) (fs : List plain.Form) (ts : List ℕ) (s : Code) (t w d : ℕ) (a b c z : List Instr)
-    → Emits a b (asked y row.GetlineVar t d) → Emits b c (stored_when y.bases (stored_with y fs ts row.Line s t w d Done) t) → Emits c z (code_number y.bases t) → Emits a z (emitted y v fs ts (plain.AskLine s) t w d)
+pub line_emitted : (y : Layout) (v : Bool) (fs : List plain.Form) (ts : List ℕ) (s : Code) (t w d : ℕ) (a b z : List Instr)
+    → Emits a b (asked y row.GetlineVar t d) → Emits b z (λ k. stored_when y.bases (stored_with y fs ts row.Line s t w d Done) t (code_number y.bases t k)) → Emits a z (emitted y v fs ts (plain.AskLine s) t w d)
 unfolding emitted all_emitted
-line_emitted y v fs ts s t w d a b c z p q r k = r k ∙ q _ ∙ p _
+line_emitted y v fs ts s t w d a b z p q k = q k ∙ p _
 
-pub file_line_emitted : (y : Layout) (v : Bool) (fs : List plain.Form) (ts : List ℕ) (e s : Code) (f : plain.Form) (t w d : ℕ) (a b c i z : List Instr) → f ≡ form_of fs e
+pub file_line_emitted : (y : Layout) (v : Bool) (fs : List plain.Form) (ts : List ℕ) (e s : Code) (f : plain.Form) (t w d : ℕ) (a b c z : List Instr) → f ≡ form_of fs e
     → Emits a b (emitted y false fs ts e t w d) → Emits b c (file_asked y.bases f t d)
-    → Emits c i (stored_when y.bases (stored_with y fs ts row.Line s t w d Done) t) → Emits i z (code_number y.bases t) → Emits a z (emitted y v fs ts (plain.FileLine e s) t w d)
+    → Emits c z (λ k. stored_when y.bases (stored_with y fs ts row.Line s t w d Done) t (code_number y.bases t k)) → Emits a z (emitted y v fs ts (plain.FileLine e s) t w d)
 unfolding emitted all_emitted
-file_line_emitted y v fs ts e s f t w d a b c i z h p q r u k =
-    u k ∙ r _ ∙ q _ ∙ ap (λ (x : plain.Form). followed b (file_asked y.bases x t d (stored_when y.bases (stored_with y fs ts row.Line s t w d Done) t (code_number y.bases t k)))) h ∙ p _
+file_line_emitted y v fs ts e s f t w d a b c z h p q r k =
+    r k ∙ q _ ∙ ap (λ (x : plain.Form). followed b (file_asked y.bases x t d (stored_when y.bases (stored_with y fs ts row.Line s t w d Done) t (code_number y.bases t k)))) h ∙ p _
 
 pub assignment_emitted : (y : Layout) (v : Bool) (fs : List plain.Form) (ts : List ℕ) (x : plain.Slot) (e : Code) (f : plain.Form) (t w d : ℕ) (a b z : List Instr) → f ≡ form_of fs e
     → Emits a b (emitted y false fs ts e t w d) → Emits b z (slot_set y v x f t) → Emits a z (emitted y v fs ts (plain.Set x e) t w d)
@@ -184,11 +184,11 @@ keeping_emitted y v o m l r f g t w d a b c z h e j p q u k =
 
 -- Lists of their own.
 
-pub stored_emitted : (y : Layout) (o m : Keeping) (p : Primitive) (s : Code) (f : plain.Form) (t w d : ℕ) (a b c i z : List Instr) → m ≡ kept_more plain.a_value (suc t) o → f ≡ form_of m.forms s
+pub stored_emitted : (y : Layout) (o m : Keeping) (p : Primitive) (s : Code) (f : plain.Form) (t w d : ℕ) (a b c z : List Instr) → m ≡ kept_more plain.a_value (suc t) o → f ≡ form_of m.forms s
     → Emits a b (λ k. ask_row p (does (LocalSet (handle_local y.bases (suc t))) k)) → Emits b c (emitted y true m.forms m.temporaries s (suc (suc t)) w (suc d))
-    → Emits c i (left_over y s f (suc (suc t))) → Emits i z (let_go Drop (handle_local y.bases (suc t))) → Emits a z (stored_with y o.forms o.temporaries p s t w d)
-stored_emitted y o m p s f t w d a b c i z e j q u x v k =
-    v k ∙ x _ ∙ u _
+    → Emits c z (λ k. left_over y s f (suc (suc t)) (let_go Drop (handle_local y.bases (suc t)) k)) → Emits a z (stored_with y o.forms o.temporaries p s t w d)
+stored_emitted y o m p s f t w d a b c z e j q u x k =
+    x k ∙ u _
     ∙ ap (λ (n : Keeping). followed b (emitted y true n.forms n.temporaries s (suc (suc t)) w (suc d) (left_over y s f (suc (suc t)) (let_go Drop (handle_local y.bases (suc t)) k)))) e
     ∙ ap (λ (g : plain.Form). followed b (emitted y true (plain.a_value ∷ o.forms) (suc t ∷ o.temporaries) s (suc (suc t)) w (suc d) (left_over y s g (suc (suc t)) (let_go Drop (handle_local y.bases (suc t)) k)))) (j ∙ ap (λ (n : Keeping). form_of n.forms s) e)
     ∙ q _

@@ -3,8 +3,20 @@ use Rattle.std.proofs.Common.{◌≡◌, ℕ, suc, ◌+◌, ◌≤◌, Bool, tru
 use Rattle.mid_program.specs.Mid.{Code, Do, Over, Compare, Call, Ask, AskLine, FileLine, Replace, Number, Text, Unset, Get, Set, Array, IsOpen, Choose, Seq, Let, Bound, Codes, End, At, Fixed, Fresh}
 use Rattle.mid_program.specs.Sorted.{count_of}
 use Rattle.lower_model.specs.Emission.{Layout, Immediate, FieldOf, TextOf, NumberOf, immediate_field, immediate_in, field_in, array_meant}
-use Rattle.lower_pieces.specs.Bounds.{most_places}
+use Rattle.lower_pieces.specs.Bounds.{most_labels, most_places}
 use Rattle.lower_expressions.specs.Fits.{AllFit, ArrayFits, ArraysFit, Fits, ImmediateFits, Within}
+
+pub place_fits : (t w d : ℕ) → Within t w d → t ≤ most_places
+place_fits t w d q = let a = q.0 in omega (arith, a)
+
+pub next_fits : (t w d : ℕ) → Within t w d → suc t ≤ most_places
+next_fits t w d q = let a = q.0 in omega (arith, a)
+
+pub label_fits : (t w d : ℕ) → Within t w d → d ≤ most_labels
+label_fits t w d q = let a = q.1.1 in omega (arith, a)
+
+pub inner_fits : (t w d : ℕ) → Within t w d → suc d ≤ most_labels
+inner_fits t w d q = let a = q.1.1 in omega (arith, a)
 
 pub all_places : (y : Layout) (es : Codes) (t w d : ℕ) → AllFit y es t w d → suc (suc (t + count_of es)) ≤ most_places
 all_places y End t w d q = let a = q.0 in omega (arith, a)

@@ -22,12 +22,11 @@ use crate::operands::{all_joined, operated, operation_form};
 use crate::pending::asked;
 use crate::slots::slot_set;
 use crate::storing::{
-    array_made, file_asked, keeping_closed, left_over, replaced, sequence_closed, stored_when,
-    text_kept,
+    array_made, file_asked, keeping_closed, left_over, line_stored, replaced, sequence_closed,
+    text_kept, text_let_go,
 };
 use awk_values::CompareOp;
-use host_imports::Import;
-use lower_pieces::{Form, code_number, compared, converted, either, is_value, let_go, truth};
+use lower_pieces::{Form, compared, converted, either, is_value, truth};
 use mid_program::{Code, Operand, Operation, Slot};
 use sem_primitives::{Answer, Listed, Primitive, Sort};
 use std::alloc::AllocError;
@@ -272,15 +271,11 @@ fn stored(
         (view store.now) at.temporary at.arrays at.exit)) }
     ensures kept { OnOk result (kept.new ≡ kept.old) }
 {
-    let mut code = Vec::new(layout.alloc);
-    text_kept(layout.bases, &mut code, primitive, at.temporary)?;
+    let mut code = text_kept(layout.alloc, layout.bases, primitive, at.temporary)?;
     kept.push(Form::Answered(Answer::Of(Sort::Value)), at.temporary + 1)?;
-    let inner = stored_at(at);
-    let form = expression(layout, kept, &mut code, true, store, inner)?;
+    let form = expression(layout, kept, &mut code, true, store, stored_at(at))?;
     kept.pop();
-    left_over(layout, &mut code, store, form, inner.temporary)?;
-    let local = layout.bases.handle(at.temporary + 1);
-    let_go(layout.alloc, &mut code, Import::Drop, local)?;
+    text_let_go(layout, &mut code, store, form, at.temporary)?;
     Ok(code)
 }
 
@@ -302,8 +297,7 @@ fn line_into(
 {
     asked(layout, out, Primitive::GetlineVar, at.temporary, at.exit)?;
     let store = stored(layout, kept, Primitive::Line, store, at)?;
-    stored_when(layout, out, store, at.temporary)?;
-    code_number(layout.bases, out, at.temporary)?;
+    line_stored(layout, out, store, at.temporary)?;
     Ok(Form::Answered(Answer::Of(Sort::Number)))
 }
 
@@ -327,8 +321,7 @@ fn file_line(
     let form = expression(layout, kept, out, false, file, at)?;
     file_asked(layout, out, form, at.temporary, at.exit)?;
     let store = stored(layout, kept, Primitive::Line, store, at)?;
-    stored_when(layout, out, store, at.temporary)?;
-    code_number(layout.bases, out, at.temporary)?;
+    line_stored(layout, out, store, at.temporary)?;
     Ok(Form::Answered(Answer::Of(Sort::Number)))
 }
 

@@ -9,7 +9,7 @@ ghost use Rattle.lower_pieces.specs.Forms.{view_form};
 ghost use Rattle.lower_expressions.specs.View.{view_layout};
 
 use crate::function_layout::FunctionLayout;
-use lower_pieces::{Form, ask_row, does};
+use lower_pieces::{Form, does_all, row_call};
 use mid_program::{Code, Operand, Operation};
 use sem_primitives::{Answer, MAX_FIELDS, Primitive, Sort};
 use std::alloc::AllocError;
@@ -95,8 +95,11 @@ pub(crate) fn field_read(
     ensures emits { OnOk result
         (Emits out.old.items out.new.items (field_read (view_layout layout.now) number temporary)) }
 {
-    does(out, Simple::I64Const(number.cast_unsigned()))?;
-    ask_row(out, Primitive::Field)?;
-    does(out, Simple::LocalSet(layout.bases.handle(temporary)))?;
+    let all = [
+        Simple::I64Const(number.cast_unsigned()),
+        row_call(Primitive::Field),
+        Simple::LocalSet(layout.bases.handle(temporary)),
+    ];
+    does_all(out, &all)?;
     Ok(Form::Answered(Answer::Of(Sort::Value)))
 }

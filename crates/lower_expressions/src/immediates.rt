@@ -16,14 +16,16 @@ use crate::fields::field_in;
 use crate::function_layout::FunctionLayout;
 use crate::places::text_pushed;
 use awk_values::CompareOp;
-use lower_pieces::{Form, ask_row, comparison_number, does, kept_code, moved_out, to_value};
+use lower_pieces::{
+    Form, MINUS_ONE, ask_row, comparison_number, does_all, kept_code, row_call, to_value,
+};
 use mid_program::Code;
 use sem_primitives::{Answer, Primitive};
 use std::alloc::AllocError;
 use wasm_types::{Instr, Simple};
 
 /// An operand that can neither fail nor change anything.
-#[derive(Clone, Copy, Debug, Drop)]
+#[derive(Clone, Copy, Drop)]
 pub(crate) enum Immediate {
     /// A field whose number is this constant.
     Field(i64),
@@ -64,8 +66,7 @@ pub(crate) fn immediate_in(valued: bool, code: &Code) -> Option<Immediate>
 fn constant_asked(out: &mut Vec<Instr>, bits: u64, primitive: Primitive) -> Result<(), AllocError>
     ensures { OnOk result (Emits out.old.items out.new.items (constant_asked bits primitive)) }
 {
-    does(out, Simple::I64Const(bits))?;
-    ask_row(out, primitive)
+    does_all(out, &[Simple::I64Const(bits), row_call(primitive)])
 }
 
 /// Puts the value of such an operand on the stack.
@@ -105,8 +106,14 @@ pub(crate) fn immediately_compared(
         (view_layout layout.now) op (view_form form) (view_immediate operand) temporary exit)) }
 {
     to_value(layout.alloc, layout.bases, out, form, temporary)?;
-    does(out, Simple::I32Const(comparison_number(op)))?;
-    moved_out(out, layout.bases.handle(temporary))?;
+    let local = layout.bases.handle(temporary);
+    let all = [
+        Simple::I32Const(comparison_number(op)),
+        Simple::LocalGet(local),
+        Simple::I32Const(MINUS_ONE),
+        Simple::LocalSet(local),
+    ];
+    does_all(out, &all)?;
     immediate_pushed(layout, out, operand)?;
     ask_row(out, Primitive::Compare)?;
     kept_code(layout.bases, out, true, temporary, exit)?;

@@ -20,7 +20,7 @@ use crate::kept::Kept;
 use crate::pending::asked;
 use crate::places::text_pushed;
 use crate::slots::{slot_form, slot_read};
-use lower_pieces::{Form, LEAST, ask_row, bound_from, code_number, does, does_all};
+use lower_pieces::{Form, LEAST, bound_from, code_number, does_all, row_call};
 use mid_program::Slot;
 use sem_primitives::{Answer, Primitive, Sort};
 use std::alloc::AllocError;
@@ -75,8 +75,8 @@ pub(crate) fn text(
         (ask_row Lit (does (LocalSet (handle_local layout.now.bases.now at.temporary)) after)))) }
 {
     text_pushed(layout, out, place)?;
-    ask_row(out, Primitive::Lit)?;
-    does(out, Simple::LocalSet(layout.bases.handle(at.temporary)))?;
+    let put = Simple::LocalSet(layout.bases.handle(at.temporary));
+    does_all(out, &[row_call(Primitive::Lit), put])?;
     Ok(Form::Answered(Answer::Of(Sort::Value)))
 }
 

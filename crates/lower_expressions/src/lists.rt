@@ -11,7 +11,7 @@ ghost use Rattle.lower_expressions.specs.View.{view_layout};
 use crate::function_layout::FunctionLayout;
 use crate::walks::{all_appended, all_boxed};
 use host_imports::{Import, Listing};
-use lower_pieces::{Form, ask, does, does_all, kept, kept_value};
+use lower_pieces::{Form, does_all, import_call, kept, kept_value};
 use sem_primitives::{Answer, Destination, Listed};
 use std::alloc::AllocError;
 use wasm_types::{Instr, Simple};
@@ -51,16 +51,19 @@ fn listed_asked(
 {
     let (listing, to) = match listed {
         Listed::Sprintf => {
-            does(out, Simple::I32Const(count))?;
-            ask(out, Import::Over(Listing::Sprintf))?;
+            let call = import_call(Import::Over(Listing::Sprintf));
+            does_all(out, &[Simple::I32Const(count), call])?;
             return kept_value(layout.bases, out, true, temporary, exit);
         }
         Listed::Print(to) => (Listing::Print, to),
         Listed::Printf(to) => (Listing::Printf, to),
     };
-    let count = Simple::I32Const(values_counted(to, count));
-    does_all(out, &[count, Simple::I32Const(destination_number(to))])?;
-    ask(out, Import::Over(listing))?;
+    let all = [
+        Simple::I32Const(values_counted(to, count)),
+        Simple::I32Const(destination_number(to)),
+        import_call(Import::Over(listing)),
+    ];
+    does_all(out, &all)?;
     kept(layout.bases, out, true, Answer::Done, temporary, exit)
 }
 

@@ -13,8 +13,8 @@ ghost use Rattle.lower_expressions.specs.View.{view_layout};
 
 use crate::function_layout::FunctionLayout;
 use crate::places::array_pushed;
-use crate::walks::all_converted;
-use lower_pieces::{Form, ask_row, calculated, does, field_checked, kept, moved_out};
+use crate::walks::{all_boxed, all_converted};
+use lower_pieces::{Form, ask_row, calculated, does, field_checked, kept, kept_value, moved_out};
 use mid_program::{ArrayName, Code, Operand, Operation};
 use sem_primitives::{Answer, Argument, Primitive, Sort};
 use std::alloc::AllocError;
@@ -225,17 +225,12 @@ fn joined(
     ensures { OnOk result (Emits out.old.items out.new.items (joined_with (view_layout layout.now)
         (view_form first) (view_form second) temporary exit)) }
 {
-    let values = [Operand::Code(Code::Unset), Operand::Code(Code::Unset)];
-    let join = Operation::Host(Primitive::Join);
-    operated(
-        layout,
-        out,
-        &[first, second],
-        join,
-        &values,
-        temporary,
-        exit,
-    )
+    let bases = layout.bases;
+    all_boxed(layout.alloc, bases, out, &[first, second], temporary)?;
+    moved_out(out, bases.handle(temporary))?;
+    moved_out(out, bases.handle(temporary + 1))?;
+    ask_row(out, Primitive::Join)?;
+    kept_value(bases, out, true, temporary, exit)
 }
 
 /// Joins subscripts that are evaluated: the last one, whose form stands apart, to the one before it, and so on.

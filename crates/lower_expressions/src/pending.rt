@@ -15,7 +15,8 @@ use crate::places::{global_handle, global_number};
 use crate::slots::text_dropped;
 use host_imports::Import;
 use lower_pieces::{
-    Bases, TEXT_BESIDE, again, ask, ask_row, does, does_all, kept_code, moved_out, number_is, when,
+    Bases, TEXT_BESIDE, again, ask_row, does, does_all, import_call, kept_code, moved_out,
+    number_is, row_call, when,
 };
 use mid_program::Kind;
 use sem_primitives::Primitive;
@@ -35,8 +36,7 @@ fn boxed_assigned(
         (assigned (view_layout layout.now) Boxed name temporary)) }
 {
     let global = global_handle(layout, name);
-    does(out, Simple::GlobalGet(global))?;
-    ask(out, Import::Drop)?;
+    does_all(out, &[Simple::GlobalGet(global), import_call(Import::Drop)])?;
     moved_out(out, layout.bases.handle(temporary))?;
     does(out, Simple::GlobalSet(global))
 }
@@ -152,11 +152,14 @@ pub fn pending_assigned(
     ensures { OnOk result
         (Emits out.old.items out.new.items (pending_assigned (view_layout layout.now) temporary)) }
 {
-    ask_row(out, Primitive::PendingName)?;
-    let number = Simple::LocalSet(layout.bases.number(temporary));
-    does_all(out, &[Simple::Convert(CvtOp::I64ExtendI32U), number])?;
-    ask_row(out, Primitive::PendingValue)?;
-    does(out, Simple::LocalSet(layout.bases.handle(temporary)))?;
+    let all = [
+        row_call(Primitive::PendingName),
+        Simple::Convert(CvtOp::I64ExtendI32U),
+        Simple::LocalSet(layout.bases.number(temporary)),
+        row_call(Primitive::PendingValue),
+        Simple::LocalSet(layout.bases.handle(temporary)),
+    ];
+    does_all(out, &all)?;
     assigned_by_number(layout, out, temporary)
 }
 
@@ -190,23 +193,6 @@ fn asked_once(
     number_is(out, bases.number(temporary), 2)
 }
 
-/// Adds one turn of asking.
-fn one_turn(
-    layout: &FunctionLayout<'_>,
-    out: &mut Vec<Instr>,
-    primitive: Primitive,
-    temporary: u32,
-    exit: u32,
-) -> Result<(), AllocError>
-    requires places { suc temporary ≤ most_places }
-    requires labels { exit ≤ most_labels }
-    ensures { OnOk result (Emits out.old.items out.new.items
-        (one_asked (view_layout layout.now) primitive temporary exit)) }
-{
-    asked_once(layout.bases, out, primitive, temporary, exit)?;
-    when(layout.alloc, out, pending_code(layout, temporary)?)
-}
-
 /// One turn of asking.
 fn one_asked(
     layout: &FunctionLayout<'_>,
@@ -220,7 +206,8 @@ fn one_asked(
         (one_asked (view_layout layout.now) primitive temporary exit)) }
 {
     let mut code = Vec::new(layout.alloc);
-    one_turn(layout, &mut code, primitive, temporary, exit)?;
+    asked_once(layout.bases, &mut code, primitive, temporary, exit)?;
+    when(layout.alloc, &mut code, pending_code(layout, temporary)?)?;
     Ok(code)
 }
 

@@ -3,21 +3,20 @@ ghost use Rattle.std.specs.Prelude.{[], ◌≡◌, ◌≤◌, IfOk, OnOk, true, 
 ghost use Rattle.mid_program.specs.Mid.{Bare, Global as GlobalSlot, slot_form};
 ghost use Rattle.mid_program.specs.ViewCode.{view_slot};
 ghost use Rattle.lower_model.specs.Emission.{handle_stored, slot_read, slot_set, text_dropped, value_stored};
-ghost use Rattle.lower_model.specs.Places.{Bases as PlainBases};
 ghost use Rattle.lower_model.specs.Small.{boxed_perhaps};
 ghost use Rattle.lower_pieces.specs.Bounds.{most_places};
 ghost use Rattle.lower_pieces.specs.Emits.{Emits};
 ghost use Rattle.lower_pieces.specs.Forms.{view_form};
 ghost use Rattle.lower_expressions.specs.Fits.{SlotFits};
-ghost use Rattle.lower_expressions.specs.Parts.{bare_set, handle_dropped};
+ghost use Rattle.lower_expressions.specs.Parts.{bare_set};
 ghost use Rattle.lower_expressions.specs.View.{view_layout};
 
 use crate::function_layout::FunctionLayout;
 use crate::places::{global_handle, global_number};
 use host_imports::Import;
 use lower_pieces::{
-    Form, MINUS_ONE, TEXT_BESIDE, ask, ask_row, boxed_number, boxed_perhaps, copied_by, does,
-    does_all, either, moved_out, number_is, when,
+    Form, MINUS_ONE, TEXT_BESIDE, boxed_number, boxed_perhaps, copied_by, does, does_all, either,
+    import_call, moved_out, number_is, row_call, when_all,
 };
 use mid_program::Slot;
 use sem_primitives::{Answer, Primitive, Sort};
@@ -34,24 +33,6 @@ pub(crate) fn slot_form(slot: Slot) -> Form
             Form::Answered(Answer::Of(Sort::Value))
         }
     }
-}
-
-/// What copies the handle of a global.
-fn handle_copied(
-    layout: &FunctionLayout<'_>,
-    name: usize,
-    temporary: u32,
-) -> Result<Vec<Instr>, AllocError>
-    requires name { name ≤ most_places }
-    requires places { temporary ≤ most_places }
-    ensures { IfOk result (λ code. Emits [] code.items
-        (slot_read (view_layout layout.now) (GlobalSlot false name) temporary)) }
-{
-    let mut code = Vec::new(layout.alloc);
-    let global = global_handle(layout, name);
-    let (get, set) = (Simple::GlobalGet(global), Simple::GlobalSet(global));
-    copied_by(&mut code, get, set, layout.bases.handle(temporary))?;
-    Ok(code)
 }
 
 /// Reads an unboxed global. Its number says whether a text stands beside it.
@@ -73,7 +54,14 @@ fn bare_read(
         Simple::Compare(ValType::I64, IRelOp::Eq),
     ];
     does_all(out, &all)?;
-    when(layout.alloc, out, handle_copied(layout, name, temporary)?)
+    let global = global_handle(layout, name);
+    let copy = [
+        Simple::GlobalGet(global),
+        Simple::LocalTee(layout.bases.handle(temporary)),
+        row_call(Primitive::Dup),
+        Simple::GlobalSet(global),
+    ];
+    when_all(layout.alloc, out, &copy)
 }
 
 /// Reads a scalar.
@@ -125,11 +113,10 @@ fn handle_stored(
     let local = layout.bases.handle(temporary);
     if only {
         moved_out(out, local)?;
+        does(out, put)
     } else {
-        does_all(out, &[Simple::LocalGet(local), Simple::LocalTee(local)])?;
-        ask_row(out, Primitive::Dup)?;
+        copied_by(out, Simple::LocalGet(local), put, local)
     }
-    does(out, put)
 }
 
 /// What stores a value.
@@ -206,26 +193,8 @@ fn value_stored(
         }
         Form::Bare => bare_stored(layout, out, only, temporary, put),
         Form::Perhaps => boxed_perhaps(layout.alloc, layout.bases, out, temporary, put),
-        Form::Answered(_) => {
-            ask_row(out, Primitive::Uninit)?;
-            does(out, put)
-        }
+        Form::Answered(_) => does_all(out, &[row_call(Primitive::Uninit), put]),
     }
-}
-
-/// What drops the text beside an unboxed name.
-fn text_let_go(layout: &FunctionLayout<'_>, name: usize) -> Result<Vec<Instr>, AllocError>
-    requires { name ≤ most_places }
-    ensures { IfOk result
-        (λ code. Emits [] code.items (handle_dropped (view_layout layout.now) name)) }
-{
-    let mut code = Vec::new(layout.alloc);
-    let global = global_handle(layout, name);
-    does(&mut code, Simple::GlobalGet(global))?;
-    ask(&mut code, Import::Drop)?;
-    let none = Simple::I32Const(MINUS_ONE);
-    does_all(&mut code, &[none, Simple::GlobalSet(global)])?;
-    Ok(code)
 }
 
 /// Drops the text beside an unboxed name, if its number says that there is one.
@@ -244,7 +213,14 @@ pub fn text_dropped(
         Simple::Compare(ValType::I64, IRelOp::Eq),
     ];
     does_all(out, &all)?;
-    when(layout.alloc, out, text_let_go(layout, name)?)
+    let global = global_handle(layout, name);
+    let drop = [
+        Simple::GlobalGet(global),
+        import_call(Import::Drop),
+        Simple::I32Const(MINUS_ONE),
+        Simple::GlobalSet(global),
+    ];
+    when_all(layout.alloc, out, &drop)
 }
 
 /// Writes an unboxed global.
@@ -284,8 +260,7 @@ pub(crate) fn slot_set(
     match slot {
         Slot::Global(false, name) => {
             let global = global_handle(layout, name);
-            does(out, Simple::GlobalGet(global))?;
-            ask(out, Import::Drop)?;
+            does_all(out, &[Simple::GlobalGet(global), import_call(Import::Drop)])?;
             value_stored(
                 layout,
                 out,
@@ -298,8 +273,7 @@ pub(crate) fn slot_set(
         Slot::Global(true, name) => bare_set(layout, out, name, temporary),
         Slot::Parameter(false, place) => {
             let local = place as u32;
-            does(out, Simple::LocalGet(local))?;
-            ask(out, Import::Drop)?;
+            does_all(out, &[Simple::LocalGet(local), import_call(Import::Drop)])?;
             value_stored(layout, out, only, form, temporary, Simple::LocalSet(local))
         }
         Slot::Parameter(true, place) => {

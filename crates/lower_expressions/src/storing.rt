@@ -1,13 +1,14 @@
 //! Texts that were read or replaced, kept while code stores them.
-ghost use Rattle.std.specs.Prelude.{[], ◌+◌, suc, ◌≤◌, map, OnOk};
+ghost use Rattle.std.specs.Prelude.{[], ◌+◌, suc, ◌≤◌, map, IfOk, OnOk};
 ghost use Rattle.sem_primitives.specs.declared.table.Primitive.TheVariants.{NewArray};
 ghost use Rattle.wasm_types.specs.Syntax.{Done, Instructions};
 ghost use Rattle.wasm_types.specs.declared.instr.Simple.TheVariants.{LocalSet};
 ghost use Rattle.mid_program.specs.Sorted.{count_of};
 ghost use Rattle.mid_program.specs.ViewCode.{view, views};
+ghost use Rattle.host_imports.specs.declared.import.Import.TheVariants.{Drop};
 ghost use Rattle.lower_model.specs.Emission.{keeping_closed, left_over, sequence_closed};
 ghost use Rattle.lower_model.specs.Places.{array_local, handle_local};
-ghost use Rattle.lower_model.specs.Small.{ask_row, does};
+ghost use Rattle.lower_model.specs.Small.{ask_row, code_number, does, let_go};
 ghost use Rattle.lower_pieces.specs.Bounds.{most_labels, most_places};
 ghost use Rattle.lower_pieces.specs.Emits.{Emits};
 ghost use Rattle.lower_pieces.specs.Forms.{view_form};
@@ -18,13 +19,14 @@ ghost use Rattle.lower_expressions.specs.View.{view_layout};
 use crate::function_layout::FunctionLayout;
 use crate::operands::all_pushed;
 use crate::walks::all_converted;
+use host_imports::Import;
 use lower_pieces::{
-    Bases, Form, ask_row, does, does_all, kept, kept_code, moved_from, moved_out, number_is,
-    released, to_value, unused, when,
+    Bases, Form, ask_row, code_number, code_of, does_all, kept, kept_code, let_go, moved_from,
+    moved_out, number_is, released, row_call, to_value, unused, when,
 };
 use mid_program::{Code, Operand};
 use sem_primitives::{Answer, Argument, Primitive, Sort};
-use std::alloc::AllocError;
+use std::alloc::{AllocError, Global};
 use wasm_types::{ITestOp, Instr, Simple, ValType};
 
 /// Adds an array that is made for a call.
@@ -33,23 +35,23 @@ pub(crate) fn array_made(bases: &Bases, out: &mut Vec<Instr>, arrays: u32) -> Re
     ensures { OnOk result (Emits out.old.items out.new.items
         (λ after. ask_row NewArray (does (LocalSet (array_local bases.now arrays)) after))) }
 {
-    ask_row(out, Primitive::NewArray)?;
-    does(out, Simple::LocalSet(bases.array(arrays)))
+    let put = Simple::LocalSet(bases.array(arrays));
+    does_all(out, &[row_call(Primitive::NewArray), put])
 }
 
-/// Keeps a text that was read or replaced.
+/// What keeps a text that was read or replaced.
 pub(crate) fn text_kept(
+    alloc: Global,
     bases: &Bases,
-    out: &mut Vec<Instr>,
     primitive: Primitive,
     temporary: u32,
-) -> Result<(), AllocError>
+) -> Result<Vec<Instr>, AllocError>
     requires { suc temporary ≤ most_places }
-    ensures { OnOk result (Emits out.old.items out.new.items (λ after. ask_row primitive
+    ensures { IfOk result (λ code. Emits [] code.items (λ after. ask_row primitive
         (does (LocalSet (handle_local bases.now (suc temporary))) after))) }
 {
-    ask_row(out, primitive)?;
-    does(out, Simple::LocalSet(bases.handle(temporary + 1)))
+    let put = Simple::LocalSet(bases.handle(temporary + 1));
+    code_of(alloc, &[row_call(primitive), put])
 }
 
 /// Drops what code left that was evaluated for what it does alone. An assignment has given its value away then, what was kept is dropped where it was kept, and
@@ -84,6 +86,24 @@ pub fn left_over(
         | Code::IsOpen(_)
         | Code::Choose(_, _, _, _) => unused(layout.alloc, layout.bases, out, form, temporary),
     }
+}
+
+/// Lets go of a text, and of what is left of the code that stored it.
+pub(crate) fn text_let_go(
+    layout: &FunctionLayout<'_>,
+    out: &mut Vec<Instr>,
+    store: &Code,
+    form: Form,
+    temporary: u32,
+) -> Result<(), AllocError>
+    requires { suc (suc temporary) ≤ most_places }
+    ensures { OnOk result (Emits out.old.items out.new.items (λ after. left_over
+        (view_layout layout.now) (view store.now) (view_form form) (suc (suc temporary))
+        (let_go Drop (handle_local layout.now.bases.now (suc temporary)) after))) }
+{
+    left_over(layout, out, store, form, temporary + 2)?;
+    let local = layout.bases.handle(temporary + 1);
+    let_go(layout.alloc, out, Import::Drop, local)
 }
 
 /// Adds the end of a sequence, whose last code is given, with the form of its answer. Where `only` what it does counts, the answer is dropped.
@@ -148,19 +168,22 @@ pub(crate) fn file_asked(
     kept_code(layout.bases, out, true, temporary, exit)
 }
 
-/// Stores a text where one was read.
-pub(crate) fn stored_when(
+/// Stores a text where one was read, and makes the number of the code that says so.
+pub(crate) fn line_stored(
     layout: &FunctionLayout<'_>,
     out: &mut Vec<Instr>,
     store: Vec<Instr>,
     temporary: u32,
 ) -> Result<(), AllocError>
     requires { temporary ≤ most_places }
-    ensures { (adds : Instructions → Instructions) → Emits [] store.items adds → OnOk result (Emits
-        out.old.items out.new.items (stored_when layout.now.bases.now (adds Done) temporary)) }
+    ensures { (adds : Instructions → Instructions) → Emits [] store.items adds
+        → OnOk result (Emits out.old.items out.new.items
+        (λ after. stored_when layout.now.bases.now (adds Done) temporary
+        (code_number layout.now.bases.now temporary after))) }
 {
     number_is(out, layout.bases.number(temporary), 1)?;
-    when(layout.alloc, out, store)
+    when(layout.alloc, out, store)?;
+    code_number(layout.bases, out, temporary)
 }
 
 /// Asks the host for a replacement, whose operands are converted.
@@ -183,8 +206,8 @@ fn replaced_asked(
         Argument::Of(Sort::Value),
     ];
     all_pushed(layout, out, &wanted, operands, temporary)?;
-    does(out, Simple::I32Const(u32::from(every)))?;
-    ask_row(out, Primitive::Sub)?;
+    let all = [Simple::I32Const(u32::from(every)), row_call(Primitive::Sub)];
+    does_all(out, &all)?;
     kept(
         layout.bases,
         out,

@@ -1,6 +1,8 @@
 //! Arithmetic that the module carries out itself. Operands stand in a temporary and in the one behind it; the result goes to the first.
 ghost use Rattle.std.specs.Prelude.{suc, ◌≤◌, OnOk};
-ghost use Rattle.lower_model.specs.Arithmetic.{calculated, divided, factors_differ, field_checked, out_of_range, ranged, times, two_numbers, unless_broken, unless_zero};
+ghost use Rattle.lower_model.specs.Arithmetic.{calculated, factors_differ, field_checked, out_of_range, ranged, times, two_numbers, unless_broken, unless_zero};
+ghost use Rattle.lower_model.specs.Small.{does};
+ghost use Rattle.wasm_types.specs.declared.instr.Simple.TheVariants.{LocalSet};
 ghost use Rattle.lower_pieces.specs.Bounds.{most_labels, most_places};
 ghost use Rattle.lower_pieces.specs.Emits.{Emits};
 
@@ -28,14 +30,22 @@ fn out_of_range(out: &mut Vec<Instr>, local: u32) -> Result<(), AllocError>
     does_all(out, &all)
 }
 
-/// Adds an operation on the numbers of two locals.
-fn two_numbers(out: &mut Vec<Instr>, left: u32, right: u32, op: IBinOp) -> Result<(), AllocError>
-    ensures { OnOk result (Emits out.old.items out.new.items (two_numbers left right op)) }
+/// Adds an operation on the numbers of two locals, whose result goes to a third one.
+fn combined(
+    out: &mut Vec<Instr>,
+    op: IBinOp,
+    left: u32,
+    right: u32,
+    to: u32,
+) -> Result<(), AllocError>
+    ensures { OnOk result (Emits out.old.items out.new.items
+        (λ after. two_numbers left right op (does (LocalSet to) after))) }
 {
     let all = [
         Simple::LocalGet(left),
         Simple::LocalGet(right),
         Simple::Binary(ValType::I64, op),
+        Simple::LocalSet(to),
     ];
     does_all(out, &all)
 }
@@ -52,8 +62,7 @@ fn ranged(
     requires { exit ≤ most_labels }
     ensures { OnOk result (Emits out.old.items out.new.items (ranged op left right exit)) }
 {
-    two_numbers(out, left, right, op)?;
-    does(out, Simple::LocalSet(left))?;
+    combined(out, op, left, right, left)?;
     out_of_range(out, left)?;
     fail_if(alloc, out, Fault::Range, exit)
 }
@@ -97,8 +106,7 @@ fn times(
     requires { exit ≤ most_labels }
     ensures { OnOk result (Emits out.old.items out.new.items (times left right product exit)) }
 {
-    two_numbers(out, left, right, IBinOp::Mul)?;
-    does(out, Simple::LocalSet(product))?;
+    combined(out, IBinOp::Mul, left, right, product)?;
     factors_differ(out, product, left, right)?;
     out_of_range(out, product)?;
     does(out, Simple::Binary(ValType::I32, IBinOp::Or))?;
@@ -119,14 +127,6 @@ fn unless_zero(alloc: Global, out: &mut Vec<Instr>, right: u32, exit: u32) -> Re
     fail_if(alloc, out, Fault::DivisionByZero, exit)
 }
 
-/// Adds a quotient or a remainder.
-fn divided(out: &mut Vec<Instr>, op: IBinOp, left: u32, right: u32) -> Result<(), AllocError>
-    ensures { OnOk result (Emits out.old.items out.new.items (divided op left right)) }
-{
-    two_numbers(out, left, right, op)?;
-    does(out, Simple::LocalSet(left))
-}
-
 /// Leaves where a quotient is not whole.
 fn unless_broken(
     alloc: Global,
@@ -138,8 +138,10 @@ fn unless_broken(
     requires { exit ≤ most_labels }
     ensures { OnOk result (Emits out.old.items out.new.items (unless_broken left right exit)) }
 {
-    two_numbers(out, left, right, IBinOp::RemS)?;
     let all = [
+        Simple::LocalGet(left),
+        Simple::LocalGet(right),
+        Simple::Binary(ValType::I64, IBinOp::RemS),
         Simple::I64Const(0),
         Simple::Compare(ValType::I64, IRelOp::Ne),
     ];
@@ -170,15 +172,15 @@ pub fn calculated(
         Arithmetic::Over => {
             unless_zero(alloc, out, right, exit)?;
             unless_broken(alloc, out, left, right, exit)?;
-            divided(out, IBinOp::DivS, left, right)
+            combined(out, IBinOp::DivS, left, right, left)
         }
         Arithmetic::Modulo => {
             unless_zero(alloc, out, right, exit)?;
-            divided(out, IBinOp::RemS, left, right)
+            combined(out, IBinOp::RemS, left, right, left)
         }
         Arithmetic::Truncated => {
             unless_zero(alloc, out, right, exit)?;
-            divided(out, IBinOp::DivS, left, right)
+            combined(out, IBinOp::DivS, left, right, left)
         }
     }
 }

@@ -2,15 +2,15 @@
 ghost use Rattle.std.specs.Prelude.{[], ◌≤◌, IfOk, OnOk};
 ghost use Rattle.mid_program.specs.Mid.{Bare};
 ghost use Rattle.wasm_types.specs.declared.instr.Simple.TheVariants.{LocalSet};
-ghost use Rattle.lower_model.specs.Places.{handle_local, number_local};
-ghost use Rattle.lower_model.specs.Small.{boxed_perhaps, text_beside, to_value};
+ghost use Rattle.lower_model.specs.Places.{handle_local};
+ghost use Rattle.lower_model.specs.Small.{boxed_perhaps, to_value};
 ghost use Rattle.lower_pieces.specs.Bounds.{most_places};
 ghost use Rattle.lower_pieces.specs.Emits.{Emits};
 ghost use Rattle.lower_pieces.specs.Forms.{view_form};
 
 use crate::bases::Bases;
 use crate::boxing::{boxed_number, boxed_perhaps};
-use crate::emit::{ask_row, does, either};
+use crate::emit::{does, does_all, either, row_call};
 use crate::faults::number_is;
 use crate::form::Form;
 use crate::keeping::TEXT_BESIDE;
@@ -73,8 +73,7 @@ pub fn to_value(
         Form::Bare => bare_value(alloc, bases, out, temporary),
         Form::Perhaps => boxed_perhaps(alloc, bases, out, temporary, Simple::LocalSet(local)),
         Form::Answered(_) => {
-            ask_row(out, Primitive::Uninit)?;
-            does(out, Simple::LocalSet(local))
+            does_all(out, &[row_call(Primitive::Uninit), Simple::LocalSet(local)])
         }
     }
 }

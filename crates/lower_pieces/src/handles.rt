@@ -1,11 +1,10 @@
 //! Handles: moved, copied and let go.
-ghost use Rattle.std.specs.Prelude.{◌≡◌, [], ◌∷◌, IfOk, OnOk};
-ghost use Rattle.wasm_types.specs.Syntax.{Done};
+ghost use Rattle.std.specs.Prelude.{[], IfOk, OnOk};
 ghost use Rattle.wasm_types.specs.declared.instr.Simple.TheVariants.{LocalGet, LocalSet};
 ghost use Rattle.lower_model.specs.Small.{ask, copied, copied_if_any, emptied, has_handle, let_go, moved, moved_out};
 ghost use Rattle.lower_pieces.specs.Emits.{Emits};
 
-use crate::emit::{ask, ask_row, does, does_all, when};
+use crate::emit::{code_of, does, does_all, import_call, row_call, when, when_all};
 use host_imports::Import;
 use sem_primitives::Primitive;
 use std::alloc::{AllocError, Global};
@@ -59,10 +58,13 @@ pub fn going(alloc: Global, import: Import, local: u32) -> Result<Vec<Instr>, Al
     ensures { IfOk result
         (λ code. Emits [] code.items (λ after. moved_out local (ask import after))) }
 {
-    let mut code = Vec::new(alloc);
-    moved_out(&mut code, local)?;
-    ask(&mut code, import)?;
-    Ok(code)
+    let all = [
+        Simple::LocalGet(local),
+        Simple::I32Const(MINUS_ONE),
+        Simple::LocalSet(local),
+        import_call(import),
+    ];
+    code_of(alloc, &all)
 }
 
 /// Lets go of what a local has, if it has anything.
@@ -90,18 +92,10 @@ pub fn copied(out: &mut Vec<Instr>, from: u32, to: u32) -> Result<(), AllocError
 pub fn copied_by(out: &mut Vec<Instr>, get: Simple, set: Simple, to: u32) -> Result<(), AllocError>
     ensures { OnOk result (Emits out.old.items out.new.items (copied get set to)) }
 {
-    does_all(out, &[get, Simple::LocalTee(to)])?;
-    ask_row(out, Primitive::Dup)?;
-    does(out, set)
-}
-
-/// What copies the handle that a local has just got.
-fn copy_back(alloc: Global, set: Simple, to: u32) -> Result<Vec<Instr>, AllocError>
-    ensures { IfOk result (λ code. Emits [] code.items (copied (LocalGet to) set to)) }
-{
-    let mut code = Vec::new(alloc);
-    copied_by(&mut code, Simple::LocalGet(to), set, to)?;
-    Ok(code)
+    does_all(
+        out,
+        &[get, Simple::LocalTee(to), row_call(Primitive::Dup), set],
+    )
 }
 
 /// The same where there may be no handle.
@@ -121,5 +115,11 @@ pub fn copied_if_any(
         Simple::Compare(ValType::I32, IRelOp::Ne),
     ];
     does_all(out, &all)?;
-    when(alloc, out, copy_back(alloc, set, to)?)
+    let copy = [
+        Simple::LocalGet(to),
+        Simple::LocalTee(to),
+        row_call(Primitive::Dup),
+        set,
+    ];
+    when_all(alloc, out, &copy)
 }

@@ -1,14 +1,12 @@
 //! Answers that are kept in temporaries. Where one may stand for a fault, and does, the function is left.
-ghost use Rattle.std.specs.Prelude.{[], ◌≤◌, IfOk, OnOk, suc};
-ghost use Rattle.wasm_types.specs.declared.instr.Simple.TheVariants.{BrIf};
+ghost use Rattle.std.specs.Prelude.{[], ◌≤◌, IfOk, OnOk};
 ghost use Rattle.lower_model.specs.Places.{Bases as PlainBases};
-ghost use Rattle.lower_model.specs.Places.{number_local};
-ghost use Rattle.lower_model.specs.Small.{answer_kept, does, kept, kept_code, kept_done, kept_number, kept_value, number_is, text_or_left, text_taken, was_left};
+ghost use Rattle.lower_model.specs.Small.{answer_kept, kept, kept_code, kept_done, kept_number, kept_value, text_or_left};
 ghost use Rattle.lower_pieces.specs.Bounds.{most_labels, most_places};
 ghost use Rattle.lower_pieces.specs.Emits.{Emits};
 
 use crate::bases::Bases;
-use crate::emit::{does, does_all, either, when};
+use crate::emit::{does, does_all, either_all, when};
 use crate::faults::number_is;
 use crate::handles::MINUS_ONE;
 use sem_primitives::{Answer, Sort};
@@ -110,39 +108,8 @@ pub fn kept_number(
     }
 }
 
-/// What moves the text that a function returned to a temporary.
-fn text_taken(alloc: Global, bases: &Bases, temporary: u32) -> Result<Vec<Instr>, AllocError>
-    requires { temporary ≤ most_places }
-    ensures { IfOk result (λ code. Emits [] code.items (text_taken bases.now temporary)) }
-{
-    let mut code = Vec::new(alloc);
-    let all = [
-        Simple::GlobalGet(TEXT_GLOBAL),
-        Simple::LocalSet(bases.handle(temporary)),
-    ];
-    does_all(&mut code, &all)?;
-    Ok(code)
-}
-
-/// What leaves the function where the one that was called was left, from within two labels more.
-fn left_too(
-    alloc: Global,
-    bases: &Bases,
-    temporary: u32,
-    exit: u32,
-) -> Result<Vec<Instr>, AllocError>
-    requires places { temporary ≤ most_places }
-    requires labels { exit ≤ most_labels }
-    ensures { IfOk result (λ code. Emits [] code.items (λ after. number_is
-        (number_local bases.now temporary) was_left (does (BrIf (suc (suc exit))) after))) }
-{
-    let mut code = Vec::new(alloc);
-    number_is(&mut code, bases.number(temporary), WAS_LEFT)?;
-    does(&mut code, Simple::BrIf(exit + 2))?;
-    Ok(code)
-}
-
-/// What is done with an answer of a function that is no number.
+/// What is done with an answer of a function that is no number: a text is taken. Where the function was left, this one is left too, from within two labels
+/// more.
 fn text_or_left(
     alloc: Global,
     bases: &Bases,
@@ -154,14 +121,19 @@ fn text_or_left(
     ensures { IfOk result (λ code. Emits [] code.items (text_or_left bases.now temporary exit)) }
 {
     let mut code = Vec::new(alloc);
-    number_is(&mut code, bases.number(temporary), TEXT_BESIDE)?;
-    let taken = text_taken(alloc, bases, temporary)?;
-    either(
-        alloc,
-        &mut code,
-        taken,
-        left_too(alloc, bases, temporary, exit)?,
-    )?;
+    let local = bases.number(temporary);
+    number_is(&mut code, local, TEXT_BESIDE)?;
+    let taken = [
+        Simple::GlobalGet(TEXT_GLOBAL),
+        Simple::LocalSet(bases.handle(temporary)),
+    ];
+    let left_too = [
+        Simple::LocalGet(local),
+        Simple::I64Const(WAS_LEFT),
+        Simple::Compare(ValType::I64, IRelOp::Eq),
+        Simple::BrIf(exit + 2),
+    ];
+    either_all(alloc, &mut code, &taken, &left_too)?;
     Ok(code)
 }
 

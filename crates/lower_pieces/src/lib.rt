@@ -20,7 +20,10 @@ pub use bases::Bases;
 pub use boxing::{boxed_number, boxed_perhaps};
 pub use comparing::{compared, comparison_number, is_value, relation};
 pub use converting::to_value;
-pub use emit::{again, ask, ask_row, block, does, does_all, either, when};
+pub use emit::{
+    again, ask, ask_row, block, code_of, does, does_all, either, either_all, import_call, row_call,
+    when, when_all,
+};
 pub use faults::{fail_if, number_is};
 pub use form::Form;
 pub use handles::{MINUS_ONE, copied_by, copied_if_any, emptied, going, let_go, moved_out};

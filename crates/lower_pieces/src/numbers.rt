@@ -1,35 +1,21 @@
 //! What stands in a temporary, converted there to a number.
-ghost use Rattle.std.specs.Prelude.{[], suc, ◌≤◌, IfOk, OnOk};
-ghost use Rattle.sem_primitives.specs.declared.table.Primitive.TheVariants.{ToNum};
+ghost use Rattle.std.specs.Prelude.{[], ◌≤◌, IfOk, OnOk};
 ghost use Rattle.mid_program.specs.Mid.{Bare};
-ghost use Rattle.wasm_types.specs.Syntax.{Done};
-ghost use Rattle.wasm_types.specs.declared.instr.Simple.TheVariants.{I64Const, LocalSet};
-ghost use Rattle.lower_model.specs.Places.{number_local};
-ghost use Rattle.lower_model.specs.Small.{code_number, converted, does, number_made, number_of_value, to_number, zeroed};
+ghost use Rattle.lower_model.specs.Small.{code_number, converted, number_made, number_of_value, to_number, zeroed};
 ghost use Rattle.lower_pieces.specs.Bounds.{most_labels, most_places};
 ghost use Rattle.lower_pieces.specs.Emits.{Emits};
 ghost use Rattle.lower_pieces.specs.Forms.{view_form};
 
 use crate::bases::Bases;
 use crate::converting::to_value;
-use crate::emit::{ask_row, does_all, either, when};
+use crate::emit::{ask_row, does_all, either_all, row_call, when, when_all};
 use crate::faults::number_is;
 use crate::form::Form;
-use crate::handles::moved_out;
+use crate::handles::{MINUS_ONE, moved_out};
 use crate::keeping::{LEAST, TEXT_BESIDE, kept_number};
 use sem_primitives::{Answer, Primitive, Sort};
 use std::alloc::{AllocError, Global};
 use wasm_types::{CvtOp, IBinOp, IRelOp, Instr, Simple, ValType};
-
-/// What puts 0 into a local.
-fn zero_put(alloc: Global, local: u32) -> Result<Vec<Instr>, AllocError>
-    ensures { IfOk result
-        (λ code. Emits [] code.items (λ after. does (I64Const 0) (does (LocalSet local) after))) }
-{
-    let mut code = Vec::new(alloc);
-    does_all(&mut code, &[Simple::I64Const(0), Simple::LocalSet(local)])?;
-    Ok(code)
-}
 
 /// Makes 0 of what is no number yet.
 pub fn zeroed(
@@ -43,7 +29,7 @@ pub fn zeroed(
 {
     let local = bases.number(temporary);
     number_is(out, local, LEAST)?;
-    when(alloc, out, zero_put(alloc, local)?)
+    when_all(alloc, out, &[Simple::I64Const(0), Simple::LocalSet(local)])
 }
 
 /// Makes the number of a code: 1 stays, 3 is -1, and all else is 0.
@@ -78,23 +64,6 @@ fn number_of_value(
     kept_number(bases, out, true, temporary, exit)
 }
 
-/// What asks for a value's number, from within two labels more.
-fn value_number(
-    alloc: Global,
-    bases: &Bases,
-    temporary: u32,
-    exit: u32,
-) -> Result<Vec<Instr>, AllocError>
-    requires places { temporary ≤ most_places }
-    requires labels { exit ≤ most_labels }
-    ensures { IfOk result
-        (λ code. Emits [] code.items (number_of_value bases.now temporary (suc (suc exit)))) }
-{
-    let mut code = Vec::new(alloc);
-    number_of_value(bases, &mut code, temporary, exit + 2)?;
-    Ok(code)
-}
-
 /// What makes 0 of what is no number yet.
 pub(crate) fn zeroed_code(
     alloc: Global,
@@ -109,7 +78,7 @@ pub(crate) fn zeroed_code(
     Ok(code)
 }
 
-/// What makes the number of a text beside, and 0 where there is no number yet, from within one label more.
+/// What asks for the number of a text beside, and makes 0 where there is no number yet, from within one label more.
 fn number_made(
     alloc: Global,
     bases: &Bases,
@@ -120,11 +89,21 @@ fn number_made(
     requires labels { exit ≤ most_labels }
     ensures { IfOk result (λ code. Emits [] code.items (number_made bases.now temporary exit)) }
 {
-    let local = bases.number(temporary);
+    let (handle, number) = (bases.handle(temporary), bases.number(temporary));
     let mut code = Vec::new(alloc);
-    number_is(&mut code, local, TEXT_BESIDE)?;
-    let some = value_number(alloc, bases, temporary, exit)?;
-    either(alloc, &mut code, some, zero_put(alloc, local)?)?;
+    number_is(&mut code, number, TEXT_BESIDE)?;
+    let some = [
+        Simple::LocalGet(handle),
+        Simple::I32Const(MINUS_ONE),
+        Simple::LocalSet(handle),
+        row_call(Primitive::ToNum),
+        Simple::LocalTee(number),
+        Simple::I64Const(LEAST),
+        Simple::Compare(ValType::I64, IRelOp::Eq),
+        Simple::BrIf(exit + 2),
+    ];
+    let none = [Simple::I64Const(0), Simple::LocalSet(number)];
+    either_all(alloc, &mut code, &some, &none)?;
     Ok(code)
 }
 

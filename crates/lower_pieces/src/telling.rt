@@ -12,10 +12,10 @@ ghost use Rattle.lower_pieces.specs.Forms.{view_form};
 ghost use Rattle.lower_pieces.specs.Fragments.{told};
 
 use crate::bases::Bases;
-use crate::emit::{ask_row, does_all, either};
+use crate::emit::{ask_row, code_of, does_all, either, row_call};
 use crate::faults::number_is;
 use crate::form::Form;
-use crate::handles::moved_out;
+use crate::handles::{MINUS_ONE, moved_out};
 use crate::keeping::TEXT_BESIDE;
 use crate::numbers::{zeroed, zeroed_code};
 use sem_primitives::{Answer, Primitive, Sort};
@@ -42,15 +42,16 @@ fn truth_put(alloc: Global, bases: &Bases, temporary: u32) -> Result<Vec<Instr>,
         (handle_local bases.now temporary) (ask_row Truth (does (Convert I64ExtendI32U)
         (does (LocalSet (number_local bases.now temporary)) after))))) }
 {
-    let mut code = Vec::new(alloc);
-    moved_out(&mut code, bases.handle(temporary))?;
-    ask_row(&mut code, Primitive::Truth)?;
+    let local = bases.handle(temporary);
     let all = [
+        Simple::LocalGet(local),
+        Simple::I32Const(MINUS_ONE),
+        Simple::LocalSet(local),
+        row_call(Primitive::Truth),
         Simple::Convert(CvtOp::I64ExtendI32U),
         Simple::LocalSet(bases.number(temporary)),
     ];
-    does_all(&mut code, &all)?;
-    Ok(code)
+    code_of(alloc, &all)
 }
 
 /// Makes a number of what an unboxed name has, by its truth.

@@ -1,4 +1,4 @@
-use Rattle.std.proofs.Common.{rules, ◌≡◌, ℕ, suc, ◌+◌, false, List, [], ◌∷◌, ◌++◌, length, map, sym, ap, ◌∙◌, subst, arith, length-append}
+use Rattle.std.proofs.Common.{rules, ◌≡◌, ℕ, suc, ◌+◌, false, List, [], ◌∷◌, ◌++◌, length, map, OnOk, refl, sym, ap, ◌∙◌, subst, arith, length-append}
 use Rattle.std.proofs.lemmas.Int.{to_z-of_z}
 use Rattle.std.proofs.lemmas.List.{length-map, map-append}
 use Rattle.std.proofs.lemmas.Result.{IfOk-weaker, on_ok_weaker}
@@ -12,9 +12,6 @@ use Rattle.mid_program.specs.ViewCode.{joined, view, view_slot, views}
 use Rattle.mid_program.specs.declared.code.Code.{Code}
 use Rattle.lower_model.specs.Arithmetic.{is_value}
 use Rattle.lower_model.specs.Emission.{emitted, immediate_in}
-use Rattle.lower_model.specs.Places.{handle_local}
-use Rattle.lower_model.specs.Small.{let_go}
-use Rattle.host_imports.specs.declared.import.Import.TheVariants.{Drop}
 use Rattle.lower_pieces.specs.Emits.{followed, Emits}
 use Rattle.lower_pieces.specs.Forms.{view_form}
 use Rattle.lower_pieces.specs.declared.form.Form.{Form}
@@ -25,7 +22,7 @@ use Rattle.lower_expressions.specs.Parts.{all_joined, branch_with, forms_in, sto
 use Rattle.lower_expressions.specs.View.{view_immediate, view_layout}
 use Rattle.lower_expressions.specs.declared.at.At.{At}
 use Rattle.lower_expressions.proofs.Arms.{assignment_emitted, branch_emitted, call_emitted, choice_emitted, code_emitted, comparison_emitted, field_emitted, file_line_emitted, fixed_emitted, form_added, fresh_emitted, immediate_emitted, keeping_emitted, kept_form, line_emitted, listing_emitted, next_operand, no_form, none_emitted, operation_emitted, replace_emitted, sequence_emitted, stored_emitted}
-use Rattle.lower_expressions.proofs.FitLemmas.{all_places, all_within, arrays_fit, immediate_fits}
+use Rattle.lower_expressions.proofs.FitLemmas.{all_places, all_within, arrays_fit, immediate_fits, inner_fits, label_fits, next_fits, place_fits}
 use Rattle.lower_expressions.proofs.FormLemmas.{forms_counted}
 use Rattle.lower_expressions.proofs.Keys.{key_fits, key_weighs, subscript_emitted}
 use Rattle.lower_expressions.proofs.WalkLemmas.{no_items}
@@ -129,6 +126,184 @@ expression-returns-in-Seq-clause-emits t c = rw ((λ i. plain.Seq (view (c.deref
 pub expression-returns-in-Let-clause-emits : goal.expression-returns-in-Let-clause-emits
 expression-returns-in-Let-clause-emits t c = rw ((λ i. plain.Let (view (c.deref-in-Let.ensures i)) (view (c.deref-in-Let-2.ensures i))) ∙ sym (ap view
     c.in-Let.is)) at c.keeping.ensures.emits
+
+-- code of other code
+
+pub expression-comparison-requires : goal.expression-comparison-requires
+expression-comparison-requires t c =
+    let is = (λ i. plain.Compare c.in-Compare.op (view (c.deref-in-Compare.ensures i)) (view (c.deref-in-Compare-2.ensures i))) ∙ sym (ap view c.in-Compare.is) in
+    let w = ap weight is in (omega (arith, w, c.decreases), subst (λ (x : plain.Code). Fits (view_layout c.args.layout.now) x c.args.at.temporary c.args.at.arrays c.args.at.exit) (sym is) c.requires)
+
+pub expression-returns-in-Compare-clause-form : goal.expression-returns-in-Compare-clause-form
+expression-returns-in-Compare-clause-form t c = IfOk-weaker c.comparison.result _ _ (λ r h. h ∙ ap (form_of c.args.kept.now.forms)
+    ((λ i. plain.Compare c.in-Compare.op (view (c.deref-in-Compare.ensures i)) (view (c.deref-in-Compare-2.ensures i))) ∙ sym (ap view c.in-Compare.is))) c.comparison.ensures.form
+
+pub expression-line_into-requires : goal.expression-line_into-requires
+expression-line_into-requires t c =
+    let is = (λ i. plain.AskLine (view (c.deref-in-AskLine.ensures i))) ∙ sym (ap view c.in-AskLine.is) in
+    let w = ap weight is in (omega (arith, w, c.decreases), subst (λ (x : plain.Code). Fits (view_layout c.args.layout.now) x c.args.at.temporary c.args.at.arrays c.args.at.exit) (sym is) c.requires)
+
+pub expression-returns-in-AskLine-clause-form : goal.expression-returns-in-AskLine-clause-form
+expression-returns-in-AskLine-clause-form t c = IfOk-weaker c.line_into.result _ _ (λ r h. h ∙ ap (form_of c.args.kept.now.forms)
+    ((λ i. plain.AskLine (view (c.deref-in-AskLine.ensures i))) ∙ sym (ap view c.in-AskLine.is))) c.line_into.ensures.form
+
+pub expression-file_line-requires : goal.expression-file_line-requires
+expression-file_line-requires t c =
+    let is = (λ i. plain.FileLine (view (c.deref-in-FileLine.ensures i)) (view (c.deref-in-FileLine-2.ensures i))) ∙ sym (ap view c.in-FileLine.is) in
+    let w = ap weight is in (omega (arith, w, c.decreases), subst (λ (x : plain.Code). Fits (view_layout c.args.layout.now) x c.args.at.temporary c.args.at.arrays c.args.at.exit) (sym is) c.requires)
+
+pub expression-returns-in-FileLine-clause-form : goal.expression-returns-in-FileLine-clause-form
+expression-returns-in-FileLine-clause-form t c = IfOk-weaker c.file_line.result _ _ (λ r h. h ∙ ap (form_of c.args.kept.now.forms)
+    ((λ i. plain.FileLine (view (c.deref-in-FileLine.ensures i)) (view (c.deref-in-FileLine-2.ensures i))) ∙ sym (ap view c.in-FileLine.is))) c.file_line.ensures.form
+
+pub expression-assignment-requires : goal.expression-assignment-requires
+expression-assignment-requires t c =
+    let is = (λ i. plain.Set (view_slot c.in-Set.slot) (view (c.deref-in-Set.ensures i))) ∙ sym (ap view c.in-Set.is) in
+    let w = ap weight is in (omega (arith, w, c.decreases), subst (λ (x : plain.Code). Fits (view_layout c.args.layout.now) x c.args.at.temporary c.args.at.arrays c.args.at.exit) (sym is) c.requires)
+
+pub expression-returns-in-Set-clause-form : goal.expression-returns-in-Set-clause-form
+expression-returns-in-Set-clause-form t c = IfOk-weaker c.assignment.result _ _ (λ r h. h ∙ ap (form_of c.args.kept.now.forms)
+    ((λ i. plain.Set (view_slot c.in-Set.slot) (view (c.deref-in-Set.ensures i))) ∙ sym (ap view c.in-Set.is))) c.assignment.ensures.form
+
+pub expression-returns-in-Set-clause-emits : goal.expression-returns-in-Set-clause-emits
+expression-returns-in-Set-clause-emits t c = rw ((λ i. plain.Set (view_slot c.in-Set.slot) (view (c.deref-in-Set.ensures i))) ∙ sym (ap view c.in-Set.is)) at
+    c.assignment.ensures.emits
+
+pub expression-choice-requires : goal.expression-choice-requires
+expression-choice-requires t c =
+    let is = (λ i. plain.Choose c.in-Choose.sort (view (c.deref-in-Choose.ensures i)) (view (c.deref-in-Choose-2.ensures i)) (view (c.deref-in-Choose-3.ensures i))) ∙ sym (ap view c.in-Choose.is) in
+    let w = ap weight is in (omega (arith, w, c.decreases), subst (λ (x : plain.Code). Fits (view_layout c.args.layout.now) x c.args.at.temporary c.args.at.arrays c.args.at.exit) (sym is) c.requires)
+
+pub expression-returns-in-Choose-clause-form : goal.expression-returns-in-Choose-clause-form
+expression-returns-in-Choose-clause-form t c = IfOk-weaker c.choice.result _ _ (λ r h. h ∙ ap (form_of c.args.kept.now.forms)
+    ((λ i. plain.Choose c.in-Choose.sort (view (c.deref-in-Choose.ensures i)) (view (c.deref-in-Choose-2.ensures i)) (view (c.deref-in-Choose-3.ensures i))) ∙ sym (ap view c.in-Choose.is))) c.choice.ensures.form
+
+pub expression-sequence-requires : goal.expression-sequence-requires
+expression-sequence-requires t c =
+    let is = (λ i. plain.Seq (view (c.deref-in-Seq.ensures i)) (view (c.deref-in-Seq-2.ensures i))) ∙ sym (ap view c.in-Seq.is) in
+    let w = ap weight is in (omega (arith, w, c.decreases), subst (λ (x : plain.Code). Fits (view_layout c.args.layout.now) x c.args.at.temporary c.args.at.arrays c.args.at.exit) (sym is) c.requires)
+
+pub expression-returns-in-Seq-clause-form : goal.expression-returns-in-Seq-clause-form
+expression-returns-in-Seq-clause-form t c = IfOk-weaker c.sequence.result _ _ (λ r h. h ∙ ap (form_of c.args.kept.now.forms)
+    ((λ i. plain.Seq (view (c.deref-in-Seq.ensures i)) (view (c.deref-in-Seq-2.ensures i))) ∙ sym (ap view c.in-Seq.is))) c.sequence.ensures.form
+
+pub expression-keeping-requires : goal.expression-keeping-requires
+expression-keeping-requires t c =
+    let is = (λ i. plain.Let (view (c.deref-in-Let.ensures i)) (view (c.deref-in-Let-2.ensures i))) ∙ sym (ap view c.in-Let.is) in
+    let w = ap weight is in (omega (arith, w, c.decreases), subst (λ (x : plain.Code). Fits (view_layout c.args.layout.now) x c.args.at.temporary c.args.at.arrays c.args.at.exit) (sym is) c.requires)
+
+pub expression-returns-in-Let-clause-form : goal.expression-returns-in-Let-clause-form
+expression-returns-in-Let-clause-form t c = IfOk-weaker c.keeping.result _ _ (λ r h. h ∙ ap (form_of c.args.kept.now.forms)
+    ((λ i. plain.Let (view (c.deref-in-Let.ensures i)) (view (c.deref-in-Let-2.ensures i))) ∙ sym (ap view c.in-Let.is))) c.keeping.ensures.form
+
+-- code with no code within it
+
+pub expression-line-requires : goal.expression-line-requires
+expression-line-requires t c = subst (λ (x : plain.Code). Fits (view_layout c.args.layout.now) x c.args.at.temporary c.args.at.arrays c.args.at.exit) (ap view c.in-Ask.is) c.requires
+
+pub expression-returns-in-Ask-clause-emits : goal.expression-returns-in-Ask-clause-emits
+unfolding emitted
+expression-returns-in-Ask-clause-emits t c =
+    subst (λ (x : plain.Code). OnOk c.line.result (Emits c.args.out.now.items c.line.new.out.items
+    (emitted (view_layout c.args.layout.now) c.args.only c.args.kept.now.forms c.args.kept.now.temporaries x c.args.at.temporary c.args.at.arrays c.args.at.exit)))
+    (sym (ap view c.in-Ask.is)) c.line.ensures.emits
+
+pub expression-returns-in-Ask-clause-form : goal.expression-returns-in-Ask-clause-form
+expression-returns-in-Ask-clause-form t c = IfOk-weaker c.line.result _ _ (λ r h. h ∙ ap (form_of c.args.kept.now.forms)
+    (sym (ap view c.in-Ask.is))) c.line.ensures.form
+
+pub expression-constant-requires : goal.expression-constant-requires
+expression-constant-requires t c = subst (λ (x : plain.Code). Fits (view_layout c.args.layout.now) x c.args.at.temporary c.args.at.arrays c.args.at.exit) (ap view c.in-Number.is) c.requires
+
+pub expression-returns-in-Number-clause-form : goal.expression-returns-in-Number-clause-form
+expression-returns-in-Number-clause-form t c = IfOk-weaker c.constant.result _ _ (λ r h. h ∙ ap (form_of c.args.kept.now.forms)
+    (sym (ap view c.in-Number.is))) c.constant.ensures.form
+
+pub expression-text-requires-clause-within : goal.expression-text-requires-clause-within
+expression-text-requires-clause-within t c = (subst (λ (x : plain.Code). Fits (view_layout c.args.layout.now) x c.args.at.temporary c.args.at.arrays c.args.at.exit) (ap view c.in-Text.is) c.requires).0
+
+pub expression-text-requires-clause-there : goal.expression-text-requires-clause-there
+expression-text-requires-clause-there t c = (subst (λ (x : plain.Code). Fits (view_layout c.args.layout.now) x c.args.at.temporary c.args.at.arrays c.args.at.exit) (ap view c.in-Text.is) c.requires).1
+
+pub expression-returns-in-Text-clause-emits : goal.expression-returns-in-Text-clause-emits
+unfolding emitted
+expression-returns-in-Text-clause-emits t c =
+    subst (λ (x : plain.Code). OnOk c.text.result (Emits c.args.out.now.items c.text.new.out.items
+    (emitted (view_layout c.args.layout.now) c.args.only c.args.kept.now.forms c.args.kept.now.temporaries x c.args.at.temporary c.args.at.arrays c.args.at.exit)))
+    (sym (ap view c.in-Text.is)) c.text.ensures.emits
+
+pub expression-returns-in-Text-clause-form : goal.expression-returns-in-Text-clause-form
+expression-returns-in-Text-clause-form t c = IfOk-weaker c.text.result _ _ (λ r h. h ∙ ap (form_of c.args.kept.now.forms)
+    (sym (ap view c.in-Text.is))) c.text.ensures.form
+
+pub expression-unset-requires : goal.expression-unset-requires
+expression-unset-requires t c = subst (λ (x : plain.Code). Fits (view_layout c.args.layout.now) x c.args.at.temporary c.args.at.arrays c.args.at.exit) (ap view c.in-Unset.is) c.requires
+
+pub expression-returns-in-Unset-clause-emits : goal.expression-returns-in-Unset-clause-emits
+unfolding emitted
+expression-returns-in-Unset-clause-emits t c =
+    subst (λ (x : plain.Code). OnOk c.unset.result (Emits c.args.out.now.items c.unset.new.out.items
+    (emitted (view_layout c.args.layout.now) c.args.only c.args.kept.now.forms c.args.kept.now.temporaries x c.args.at.temporary c.args.at.arrays c.args.at.exit)))
+    (sym (ap view c.in-Unset.is)) c.unset.ensures.emits
+
+pub expression-returns-in-Unset-clause-form : goal.expression-returns-in-Unset-clause-form
+expression-returns-in-Unset-clause-form t c = IfOk-weaker c.unset.result _ _ (λ r h. h ∙ ap (form_of c.args.kept.now.forms)
+    (sym (ap view c.in-Unset.is))) c.unset.ensures.form
+
+pub expression-variable-requires-clause-within : goal.expression-variable-requires-clause-within
+expression-variable-requires-clause-within t c = (subst (λ (x : plain.Code). Fits (view_layout c.args.layout.now) x c.args.at.temporary c.args.at.arrays c.args.at.exit) (ap view c.in-Get.is) c.requires).0
+
+pub expression-variable-requires-clause-slot : goal.expression-variable-requires-clause-slot
+expression-variable-requires-clause-slot t c = (subst (λ (x : plain.Code). Fits (view_layout c.args.layout.now) x c.args.at.temporary c.args.at.arrays c.args.at.exit) (ap view c.in-Get.is) c.requires).1
+
+pub expression-returns-in-Get-clause-emits : goal.expression-returns-in-Get-clause-emits
+unfolding emitted
+expression-returns-in-Get-clause-emits t c =
+    subst (λ (x : plain.Code). OnOk c.variable.result (Emits c.args.out.now.items c.variable.new.out.items
+    (emitted (view_layout c.args.layout.now) c.args.only c.args.kept.now.forms c.args.kept.now.temporaries x c.args.at.temporary c.args.at.arrays c.args.at.exit)))
+    (sym (ap view c.in-Get.is)) c.variable.ensures.emits
+
+pub expression-returns-in-Get-clause-form : goal.expression-returns-in-Get-clause-form
+expression-returns-in-Get-clause-form t c = IfOk-weaker c.variable.result _ _ (λ r h. h ∙ ap (form_of c.args.kept.now.forms)
+    (sym (ap view c.in-Get.is))) c.variable.ensures.form
+
+pub expression-is_open-requires-clause-within : goal.expression-is_open-requires-clause-within
+expression-is_open-requires-clause-within t c = (subst (λ (x : plain.Code). Fits (view_layout c.args.layout.now) x c.args.at.temporary c.args.at.arrays c.args.at.exit) (ap view c.in-IsOpen.is) c.requires).0
+
+pub expression-is_open-requires-clause-few : goal.expression-is_open-requires-clause-few
+expression-is_open-requires-clause-few t c = (subst (λ (x : plain.Code). Fits (view_layout c.args.layout.now) x c.args.at.temporary c.args.at.arrays c.args.at.exit) (ap view c.in-IsOpen.is) c.requires).1
+
+pub expression-returns-in-IsOpen-clause-emits : goal.expression-returns-in-IsOpen-clause-emits
+unfolding emitted
+expression-returns-in-IsOpen-clause-emits t c =
+    subst (λ (x : plain.Code). OnOk c.is_open.result (Emits c.args.out.now.items c.is_open.new.out.items
+    (emitted (view_layout c.args.layout.now) c.args.only c.args.kept.now.forms c.args.kept.now.temporaries x c.args.at.temporary c.args.at.arrays c.args.at.exit)))
+    (sym (ap view c.in-IsOpen.is)) c.is_open.ensures.emits
+
+pub expression-returns-in-IsOpen-clause-form : goal.expression-returns-in-IsOpen-clause-form
+expression-returns-in-IsOpen-clause-form t c = IfOk-weaker c.is_open.result _ _ (λ r h. h ∙ ap (form_of c.args.kept.now.forms)
+    (sym (ap view c.in-IsOpen.is))) c.is_open.ensures.form
+
+pub expression-bound-requires : goal.expression-bound-requires
+expression-bound-requires t c = subst (λ (x : plain.Code). Fits (view_layout c.args.layout.now) x c.args.at.temporary c.args.at.arrays c.args.at.exit) (ap view c.in-Bound.is) c.requires
+
+pub expression-returns-in-Bound-clause-emits : goal.expression-returns-in-Bound-clause-emits
+unfolding emitted
+expression-returns-in-Bound-clause-emits t c =
+    subst (λ (x : plain.Code). OnOk c.bound.result (Emits c.args.out.now.items c.bound.new.out.items
+    (emitted (view_layout c.args.layout.now) c.args.only c.args.kept.now.forms c.args.kept.now.temporaries x c.args.at.temporary c.args.at.arrays c.args.at.exit)))
+    (sym (ap view c.in-Bound.is)) c.bound.ensures.emits
+
+pub expression-returns-in-Bound-clause-form : goal.expression-returns-in-Bound-clause-form
+expression-returns-in-Bound-clause-form t c = IfOk-weaker c.bound.result _ _ (λ r h. h ∙ ap (form_of c.args.kept.now.forms)
+    (sym (ap view c.in-Bound.is))) c.bound.ensures.form
+
+pub expression-returns-in-Array-clause-emits : goal.expression-returns-in-Array-clause-emits
+unfolding emitted
+expression-returns-in-Array-clause-emits t c =
+    subst (λ (x : plain.Code). Emits c.args.out.now.items c.args.out.now.items
+    (emitted (view_layout c.args.layout.now) c.args.only c.args.kept.now.forms c.args.kept.now.temporaries x c.args.at.temporary c.args.at.arrays c.args.at.exit))
+    (sym (ap view c.in-Array.is)) (λ k. refl)
 
 -- keys
 
@@ -379,10 +554,8 @@ operation-operated-requires-clause-places t c =
     omega (arith, p)
 
 pub operation-operated-requires-clause-labels : goal.operation-operated-requires-clause-labels
-operation-operated-requires-clause-labels t c =
-    let w = all_within (view_layout c.args.layout.now) (views c.args.operands.now) c.args.at.temporary c.args.at.arrays c.args.at.exit c.requires in
-    let l = w.1.1 in
-    omega (arith, l)
+operation-operated-requires-clause-labels t c = label_fits c.args.at.temporary c.args.at.arrays c.args.at.exit
+    (all_within (view_layout c.args.layout.now) (views c.args.operands.now) c.args.at.temporary c.args.at.arrays c.args.at.exit c.requires)
 
 pub operation-operated-requires-clause-arrays : goal.operation-operated-requires-clause-arrays
 operation-operated-requires-clause-arrays t c = arrays_fit (view_layout c.args.layout.now) (views c.args.operands.now) c.args.at.temporary c.args.at.arrays
@@ -418,10 +591,8 @@ call-called-requires-clause-fit t c = arrays_fit (view_layout c.args.layout.now)
     c.requires.1.1.1
 
 pub call-called-requires-clause-labels : goal.call-called-requires-clause-labels
-call-called-requires-clause-labels t c =
-    let p = all_within (view_layout c.args.layout.now) (views c.args.operands.now) c.args.at.temporary c.args.at.arrays c.args.at.exit c.requires.1.1.1 in
-    let l = p.1.1 in
-    omega (arith, l)
+call-called-requires-clause-labels t c = label_fits c.args.at.temporary c.args.at.arrays c.args.at.exit
+    (all_within (view_layout c.args.layout.now) (views c.args.operands.now) c.args.at.temporary c.args.at.arrays c.args.at.exit c.requires.1.1.1)
 
 pub replacement-all_operands-requires : goal.replacement-all_operands-requires
 replacement-all_operands-requires t c = (omega (arith, c.decreases), c.requires.1.0)
@@ -432,20 +603,16 @@ replacement-replaced-requires-clause-places t c =
     omega (arith, p)
 
 pub replacement-replaced-requires-clause-labels : goal.replacement-replaced-requires-clause-labels
-replacement-replaced-requires-clause-labels t c =
-    let w = all_within (view_layout c.args.layout.now) (views c.args.operands.now) c.args.at.temporary c.args.at.arrays c.args.at.exit c.requires.1.0 in
-    let l = w.1.1 in
-    omega (arith, l)
+replacement-replaced-requires-clause-labels t c = label_fits c.args.at.temporary c.args.at.arrays c.args.at.exit
+    (all_within (view_layout c.args.layout.now) (views c.args.operands.now) c.args.at.temporary c.args.at.arrays c.args.at.exit c.requires.1.0)
 
 pub replacement-replaced-requires-clause-arrays : goal.replacement-replaced-requires-clause-arrays
 replacement-replaced-requires-clause-arrays t c = arrays_fit (view_layout c.args.layout.now) (views c.args.operands.now) c.args.at.temporary c.args.at.arrays
     c.args.at.exit c.requires.1.0
 
 pub operation-field_read-requires : goal.operation-field_read-requires
-operation-field_read-requires t c =
-    let w = all_within (view_layout c.args.layout.now) (views c.args.operands.now) c.args.at.temporary c.args.at.arrays c.args.at.exit c.requires in
-    let l = w.0 in
-    omega (arith, l)
+operation-field_read-requires t c = place_fits c.args.at.temporary c.args.at.arrays c.args.at.exit
+    (all_within (view_layout c.args.layout.now) (views c.args.operands.now) c.args.at.temporary c.args.at.arrays c.args.at.exit c.requires)
 
 pub operation-returns-in-Some-clause-emits : goal.operation-returns-in-Some-clause-emits
 operation-returns-in-Some-clause-emits t c =
@@ -500,19 +667,13 @@ pub comparison-expression-requires-2 : goal.comparison-expression-requires-2
 comparison-expression-requires-2 t c = (omega (arith, c.decreases), rw c.next.ensures c.requires.1.1)
 
 pub comparison-compared-requires-clause-places : goal.comparison-compared-requires-clause-places
-comparison-compared-requires-clause-places t c =
-    let a = c.requires.0.0 in
-    omega (arith, a)
+comparison-compared-requires-clause-places t c = next_fits c.args.at.temporary c.args.at.arrays c.args.at.exit c.requires.0
 
 pub comparison-compared-requires-clause-labels : goal.comparison-compared-requires-clause-labels
-comparison-compared-requires-clause-labels t c =
-    let a = c.requires.0.1.1 in
-    omega (arith, a)
+comparison-compared-requires-clause-labels t c = label_fits c.args.at.temporary c.args.at.arrays c.args.at.exit c.requires.0
 
 pub comparison-immediately_compared-requires-clause-places : goal.comparison-immediately_compared-requires-clause-places
-comparison-immediately_compared-requires-clause-places t c =
-    let a = c.requires.0.0 in
-    omega (arith, a)
+comparison-immediately_compared-requires-clause-places t c = next_fits c.args.at.temporary c.args.at.arrays c.args.at.exit c.requires.0
 
 pub comparison-immediately_compared-requires-clause-operand : goal.comparison-immediately_compared-requires-clause-operand
 comparison-immediately_compared-requires-clause-operand t c =
@@ -539,9 +700,7 @@ comparison-returns-clause-emits t c = λ v. comparison_emitted (view_layout c.ar
 -- texts that are stored
 
 pub stored-text_kept-requires : goal.stored-text_kept-requires
-stored-text_kept-requires t c =
-    let a = c.requires.within.0 in
-    omega (arith, a)
+stored-text_kept-requires t c = next_fits c.args.at.temporary c.args.at.arrays c.args.at.exit c.requires.within
 
 pub stored-overflow_add-at : goal.stored-overflow_add-at
 stored-overflow_add-at t c =
@@ -553,100 +712,63 @@ stored-push-requires t c =
     let a = c.requires.within.0 in
     omega (arith, a)
 
-pub stored-overflow_add-at-2 : goal.stored-overflow_add-at-2
-stored-overflow_add-at-2 t c =
-    let a = c.requires.within.0 in
-    omega (arith, a)
+pub stored-text_let_go-requires : goal.stored-text_let_go-requires
+stored-text_let_go-requires t c = c.requires.within.0
 
-pub stored-handle-local-requires : goal.stored-handle-local-requires
-stored-handle-local-requires t c =
-    let a = c.requires.within.0 in
-    omega (arith, a)
-
-pub stored-stored_at-inner-requires : goal.stored-stored_at-inner-requires
-stored-stored_at-inner-requires t c = c.requires.within
+pub stored-stored_at-requires : goal.stored-stored_at-requires
+stored-stored_at-requires t c = c.requires.within
 
 pub stored-expression-requires : goal.stored-expression-requires
-stored-expression-requires t c = (omega (arith, c.decreases), rw c.stored_at-inner.ensures c.requires.fit)
-
-pub stored-left_over-requires : goal.stored-left_over-requires
-stored-left_over-requires t c =
-    let a = c.requires.within.0 in
-    rw c.stored_at-inner.ensures (omega (arith, a))
+stored-expression-requires t c = (omega (arith, c.decreases), rw c.stored_at.ensures c.requires.fit)
 
 pub stored-returns-clause-emits : goal.stored-returns-clause-emits
 stored-returns-clause-emits t c =
     let n : c.args.at.temporary + 1 ≡ suc c.args.at.temporary = omega arith in
     stored_emitted (view_layout c.args.layout.now) c.args.kept.now c.push.new.self c.args.primitive (view c.args.store.now) (view_form c.in_ok-form.form)
-    c.args.at.temporary c.args.at.arrays c.args.at.exit [] c.text_kept.new.out.items c.expression.new.out.items c.left_over.new.out.items
-    c.let_go.new.out.items (c.in_ok-push.ensures ∙ ap (λ (x : ℕ). kept_more plain.a_value x c.args.kept.now) n) c.in_ok-form.ensures.form
-    (rw c.new-code.ensures.items at c.in_ok-text_kept.ensures) (rw c.stored_at-inner.ensures at c.in_ok-form.ensures.emits) (rw
-    c.stored_at-inner.ensures at c.in_ok-left_over.ensures)
-    (subst (λ (x : ℕ). Emits c.left_over.new.out.items c.let_go.new.out.items (let_go Drop x)) (c.handle-local.ensures ∙ ap (handle_local
-    c.args.layout.now.bases.now) n) c.in_ok-let_go.ensures)
+    c.args.at.temporary c.args.at.arrays c.args.at.exit [] c.in_ok-code.code.items c.expression.new.out.items c.text_let_go.new.out.items
+    (c.in_ok-push.ensures ∙ ap (λ (x : ℕ). kept_more plain.a_value x c.args.kept.now) n) c.in_ok-form.ensures.form
+    c.in_ok-code.ensures (rw c.stored_at.ensures at c.in_ok-form.ensures.emits) c.in_ok-text_let_go.ensures
 
 pub stored-returns-clause-kept : goal.stored-returns-clause-kept
 stored-returns-clause-kept t c = c.pop.ensures ∙ ap kept_but_one (c.in_ok-form.ensures.kept ∙ c.in_ok-push.ensures)
 
 pub line_into-asked-requires-clause-places : goal.line_into-asked-requires-clause-places
-line_into-asked-requires-clause-places t c =
-    let a = c.requires.0.0 in
-    omega (arith, a)
+line_into-asked-requires-clause-places t c = next_fits c.args.at.temporary c.args.at.arrays c.args.at.exit c.requires.0
 
 pub line_into-asked-requires-clause-labels : goal.line_into-asked-requires-clause-labels
-line_into-asked-requires-clause-labels t c =
-    let a = c.requires.0.1.1 in
-    omega (arith, a)
+line_into-asked-requires-clause-labels t c = label_fits c.args.at.temporary c.args.at.arrays c.args.at.exit c.requires.0
 
 pub line_into-stored-requires : goal.line_into-stored-requires
 line_into-stored-requires t c = (omega (arith, c.decreases), (c.requires.1, c.requires.0))
 
-pub line_into-stored_when-requires : goal.line_into-stored_when-requires
-line_into-stored_when-requires t c =
-    let a = c.requires.0.0 in
-    omega (arith, a)
-
-pub line_into-code_number-requires : goal.line_into-code_number-requires
-line_into-code_number-requires t c =
-    let a = c.requires.0.0 in
-    omega (arith, a)
+pub line_into-line_stored-requires : goal.line_into-line_stored-requires
+line_into-line_stored-requires t c = place_fits c.args.at.temporary c.args.at.arrays c.args.at.exit c.requires.0
 
 pub line_into-returns-clause-emits : goal.line_into-returns-clause-emits
 line_into-returns-clause-emits t c = λ v. line_emitted (view_layout c.args.layout.now) v c.args.kept.now.forms c.args.kept.now.temporaries (view
-    c.args.store.now) c.args.at.temporary c.args.at.arrays c.args.at.exit c.args.out.now.items c.asked.new.out.items c.stored_when.new.out.items
-    c.code_number.new.out.items c.in_ok-asked.ensures
-    (c.in_ok-stored_when.ensures (stored_with (view_layout c.args.layout.now) c.args.kept.now.forms c.args.kept.now.temporaries row.Line (view
-    c.args.store.now) c.args.at.temporary c.args.at.arrays c.args.at.exit) c.in_ok-store.ensures.emits) c.in_ok-code_number.ensures
+    c.args.store.now) c.args.at.temporary c.args.at.arrays c.args.at.exit c.args.out.now.items c.asked.new.out.items c.line_stored.new.out.items c.in_ok-asked.ensures
+    (c.in_ok-line_stored.ensures (stored_with (view_layout c.args.layout.now) c.args.kept.now.forms c.args.kept.now.temporaries row.Line (view
+    c.args.store.now) c.args.at.temporary c.args.at.arrays c.args.at.exit) c.in_ok-store.ensures.emits)
 
 pub file_line-expression-requires : goal.file_line-expression-requires
 file_line-expression-requires t c = (omega (arith, c.decreases), c.requires.1.0)
 
 pub file_line-file_asked-requires : goal.file_line-file_asked-requires
-file_line-file_asked-requires t c =
-    let a = c.requires.0.0 in
-    omega (arith, a)
+file_line-file_asked-requires t c = place_fits c.args.at.temporary c.args.at.arrays c.args.at.exit c.requires.0
 
 pub file_line-stored-requires : goal.file_line-stored-requires
 file_line-stored-requires t c = (omega (arith, c.decreases), (c.requires.1.1, c.requires.0))
 
-pub file_line-stored_when-requires : goal.file_line-stored_when-requires
-file_line-stored_when-requires t c =
-    let a = c.requires.0.0 in
-    omega (arith, a)
-
-pub file_line-code_number-requires : goal.file_line-code_number-requires
-file_line-code_number-requires t c =
-    let a = c.requires.0.0 in
-    omega (arith, a)
+pub file_line-line_stored-requires : goal.file_line-line_stored-requires
+file_line-line_stored-requires t c = place_fits c.args.at.temporary c.args.at.arrays c.args.at.exit c.requires.0
 
 pub file_line-returns-clause-emits : goal.file_line-returns-clause-emits
 file_line-returns-clause-emits t c = λ v. file_line_emitted (view_layout c.args.layout.now) v c.args.kept.now.forms c.args.kept.now.temporaries (view
     c.args.file.now) (view c.args.store.now) (view_form c.in_ok-form.form) c.args.at.temporary c.args.at.arrays c.args.at.exit c.args.out.now.items
-    c.expression.new.out.items c.file_asked.new.out.items c.stored_when.new.out.items c.code_number.new.out.items c.in_ok-form.ensures.form
+    c.expression.new.out.items c.file_asked.new.out.items c.line_stored.new.out.items c.in_ok-form.ensures.form
     c.in_ok-form.ensures.emits c.in_ok-file_asked.ensures
-    (c.in_ok-stored_when.ensures (stored_with (view_layout c.args.layout.now) c.args.kept.now.forms c.args.kept.now.temporaries row.Line (view
+    (c.in_ok-line_stored.ensures (stored_with (view_layout c.args.layout.now) c.args.kept.now.forms c.args.kept.now.temporaries row.Line (view
     c.args.store.now) c.args.at.temporary c.args.at.arrays c.args.at.exit) (rw c.in_ok-form.ensures.kept at c.in_ok-store.ensures.emits))
-    c.in_ok-code_number.ensures
 
 -- an assignment
 
@@ -657,9 +779,7 @@ pub assignment-slot_set-requires-clause-slot : goal.assignment-slot_set-requires
 assignment-slot_set-requires-clause-slot t c = c.requires.1.0
 
 pub assignment-slot_set-requires-clause-places : goal.assignment-slot_set-requires-clause-places
-assignment-slot_set-requires-clause-places t c =
-    let a = c.requires.0.0 in
-    omega (arith, a)
+assignment-slot_set-requires-clause-places t c = place_fits c.args.at.temporary c.args.at.arrays c.args.at.exit c.requires.0
 
 pub assignment-returns-clause-emits : goal.assignment-returns-clause-emits
 assignment-returns-clause-emits t c = assignment_emitted (view_layout c.args.layout.now) c.args.only c.args.kept.now.forms c.args.kept.now.temporaries
@@ -676,14 +796,10 @@ pub branch-expression-requires : goal.branch-expression-requires
 branch-expression-requires t c = (omega (arith, c.decreases), rw c.inner_at-inner.ensures c.requires.fit)
 
 pub branch-converted-requires-clause-places : goal.branch-converted-requires-clause-places
-branch-converted-requires-clause-places t c =
-    let a = c.requires.within.0 in
-    omega (arith, a)
+branch-converted-requires-clause-places t c = place_fits c.args.at.temporary c.args.at.arrays c.args.at.exit c.requires.within
 
 pub branch-converted-requires-clause-labels : goal.branch-converted-requires-clause-labels
-branch-converted-requires-clause-labels t c =
-    let a = c.requires.within.1.1 in
-    rw c.inner_at-inner.ensures (omega (arith, a))
+branch-converted-requires-clause-labels t c = rw c.inner_at-inner.ensures (inner_fits c.args.at.temporary c.args.at.arrays c.args.at.exit c.requires.within)
 
 pub branch-returns-clause-emits : goal.branch-returns-clause-emits
 branch-returns-clause-emits t c = branch_emitted (view_layout c.args.layout.now) c.args.kept.now.forms c.args.kept.now.temporaries c.args.sort (view
@@ -695,9 +811,7 @@ pub choice-expression-requires : goal.choice-expression-requires
 choice-expression-requires t c = (omega (arith, c.decreases), c.requires.1.0)
 
 pub choice-truth-requires : goal.choice-truth-requires
-choice-truth-requires t c =
-    let a = c.requires.0.0 in
-    omega (arith, a)
+choice-truth-requires t c = place_fits c.args.at.temporary c.args.at.arrays c.args.at.exit c.requires.0
 
 pub choice-branch-layout-requires : goal.choice-branch-layout-requires
 choice-branch-layout-requires t c = (omega (arith, c.decreases), (c.requires.1.1.0, c.requires.0))
@@ -722,17 +836,13 @@ pub sequence-expression-requires : goal.sequence-expression-requires
 sequence-expression-requires t c = (omega (arith, c.decreases), c.requires.1.0)
 
 pub sequence-left_over-requires : goal.sequence-left_over-requires
-sequence-left_over-requires t c =
-    let a = c.requires.0.0 in
-    omega (arith, a)
+sequence-left_over-requires t c = place_fits c.args.at.temporary c.args.at.arrays c.args.at.exit c.requires.0
 
 pub sequence-expression-requires-2 : goal.sequence-expression-requires-2
 sequence-expression-requires-2 t c = (omega (arith, c.decreases), c.requires.1.1)
 
 pub sequence-sequence_closed-requires : goal.sequence-sequence_closed-requires
-sequence-sequence_closed-requires t c =
-    let a = c.requires.0.0 in
-    omega (arith, a)
+sequence-sequence_closed-requires t c = place_fits c.args.at.temporary c.args.at.arrays c.args.at.exit c.requires.0
 
 pub sequence-returns-clause-form : goal.sequence-returns-clause-form
 sequence-returns-clause-form t c = rw c.in_ok-form.ensures.kept at c.in_ok-answer.ensures.form
@@ -750,9 +860,7 @@ pub keeping-expression-requires : goal.keeping-expression-requires
 keeping-expression-requires t c = (omega (arith, c.decreases), c.requires.1.0)
 
 pub keeping-push-requires : goal.keeping-push-requires
-keeping-push-requires t c =
-    let a = c.requires.0.0 in
-    omega (arith, a)
+keeping-push-requires t c = place_fits c.args.at.temporary c.args.at.arrays c.args.at.exit c.requires.0
 
 pub keeping-next-requires : goal.keeping-next-requires
 keeping-next-requires t c = c.requires.0
@@ -761,9 +869,7 @@ pub keeping-expression-requires-2 : goal.keeping-expression-requires-2
 keeping-expression-requires-2 t c = (omega (arith, c.decreases), rw c.next.ensures c.requires.1.1)
 
 pub keeping-keeping_closed-requires : goal.keeping-keeping_closed-requires
-keeping-keeping_closed-requires t c =
-    let a = c.requires.0.0 in
-    omega (arith, a)
+keeping-keeping_closed-requires t c = next_fits c.args.at.temporary c.args.at.arrays c.args.at.exit c.requires.0
 
 pub keeping-returns-clause-form : goal.keeping-returns-clause-form
 keeping-returns-clause-form t c =

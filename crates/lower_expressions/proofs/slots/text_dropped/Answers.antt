@@ -1,6 +1,6 @@
 use Rattle.std.proofs.Common.{[], ◌∷◌}
 use Rattle.std.proofs.lemmas.Result.{on_ok_weaker}
-use Rattle.wasm_types.specs.Syntax.{Instructions, Done}
+use Rattle.wasm_types.specs.Syntax.{Done}
 use Rattle.wasm_types.specs.declared.types.ValType.TheVariants.{I64}
 use Rattle.wasm_types.specs.declared.instr.IRelOp.TheVariants.{Eq}
 use Rattle.wasm_types.specs.declared.instr.Simple.TheVariants.{Compare, GlobalGet, I64Const}
@@ -15,7 +15,7 @@ use Rattle.lower_expressions.proofs.slots.text_dropped.Goals as goal
 pub returns : goal.returns
 returns c =
     let y = view_layout c.args.layout.now in
-    let code : Instructions → Instructions = handle_dropped y c.args.name in
-    on_ok_weaker c.when.result
-    (emits_then (does_all (GlobalGet (global_number y c.args.name) ∷ I64Const text_beside ∷ Compare I64 Eq ∷ [])) (when (code Done)) _ _ _ (rw c.global_number.ensures at c.in_ok-does_all.ensures))
-    (c.when.ensures code c.in_ok-text_let_go.ensures)
+    on_ok_weaker c.when_all.result
+    (emits_then (does_all (GlobalGet (global_number y c.args.name) ∷ I64Const text_beside ∷ Compare I64 Eq ∷ [])) (when (handle_dropped y c.args.name Done)) _ _ _
+    (rw c.global_number.ensures at c.in_ok-does_all.ensures))
+    (rw c.global_handle-global.ensures at (rw c.import_call.ensures at c.when_all.ensures))
