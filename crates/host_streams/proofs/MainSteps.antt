@@ -283,9 +283,9 @@ rests m state nothing live =
     ap (λ r. record { standard = left m.standard (state.readers m.standard.id); next = m.next; operands = operands_of m.found; reading = reading_of r state; ended = m.ended }) nothing
     ∙ ap (λ b. record { standard = left m.standard (state.readers m.standard.id); next = m.next; operands = operands_of m.found; reading = None; ended = b }) live
 
-pub no_bytes : (xs text : List ℕ) (b : Bool) → xs ≡ text → b ≡ (length xs == 0) → b ≡ true → text ≡ []
-no_bytes [] text b e is held = sym e
-no_bytes (x ∷ xs) text b e is held = (let none : length (x ∷ xs) ≡ 0 = eqb-true (length (x ∷ xs)) 0 (sym is ∙ held) in absurd (omega (arith, none)))
+pub no_bytes : (xs copy text : List ℕ) (b : Bool) → xs ≡ copy → copy ≡ text → b ≡ (length xs == 0) → b ≡ true → text ≡ []
+no_bytes [] copy text b d e is held = sym (d ∙ e)
+no_bytes (x ∷ xs) copy text b d e is held = (let none : length (x ∷ xs) ≡ 0 = eqb-true (length (x ∷ xs)) 0 (sym is ∙ held) in absurd (omega (arith, none)))
 
 -- an empty operand is skipped
 pub skip_given : (old : Mains) (state : State) (text : List ℕ) (inner : Inner) → old.reading ≡ reading.Nothing → old.ended ≡ false → old.found ≢ found.NoneLeft → text ≡ [] →
