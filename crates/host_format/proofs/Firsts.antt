@@ -79,8 +79,11 @@ none_first t text from r low is none = subst (λ x. IsFirstBy (longest t text) f
 
 -- Matches that are not empty.
 
-abbrev pub NoneFrom : Tree → List ℕ → ℕ → ℕ → Type 0
-NoneFrom t text from to = (k : ℕ) → from ≤ k → k < to → not_empty t text k ≡ None
+pub record NoneFrom (t : Tree) (text : List ℕ) (from to : ℕ) : Type 0 where
+  pub none : (k : ℕ) → from ≤ k → k < to → not_empty t text k ≡ None
+
+pub none_yet : (t : Tree) (text : List ℕ) (from : ℕ) → NoneFrom t text from from
+none_yet t text from = record { none = λ k low high. absurd (omega (arith, low, high)) }
 
 none_there : (t : Tree) (text : List ℕ) (k : ℕ) → longest t text k ≡ None → not_empty t text k ≡ None
 none_there t text k e = ap (unless_empty k) e
@@ -97,28 +100,60 @@ empty_there t text k e is le = ap (unless_empty k) is ∙ ap (λ b. if b then So
 some_there : (t : Tree) (text : List ℕ) (k e : ℕ) → longest t text k ≡ Some e → k < e → not_empty t text k ≡ Some e
 some_there t text k e is less = ap (unless_empty k) is ∙ ap (λ b. if b then Some e else None) (less_by k e less)
 
-pub skipped : (t : Tree) (text : List ℕ) (from at s e size : ℕ) → e ≤ s → NoneFrom t text from at → IsFirstAt (longest t text) at size s e → NoneFrom t text from (s + 1)
-skipped t text from at s e size le none f = λ k low high. elim (cases_lt k at) [
-  | inl less ↦ none k low less
-  | inr not ↦ elim (same_or_less k s (omega (arith, high))) [
-    | inl q ↦ subst (λ x. not_empty t text x ≡ None) (sym q) (empty_there t text s e f.is le)
-    | inr less ↦ none_there t text k (f.before k not less)
-  ]
-]
+skipped : (t : Tree) (text : List ℕ) (from at s e size : ℕ) → e ≤ s → NoneFrom t text from at → IsFirstAt (longest t text) at size s e → NoneFrom t text from (s + 1)
+skipped t text from at s e size le before f = record {
+  none = λ k low high. elim (cases_lt k at) [
+    | inl less ↦ before.none k low less
+    | inr not ↦ elim (same_or_less k s (omega (arith, high))) [
+      | inl q ↦ subst (λ x. not_empty t text x ≡ None) (sym q) (empty_there t text s e f.is le)
+      | inr less ↦ none_there t text k (f.before k not less)
+    ]
+  ];
+}
 
-pub taken : (t : Tree) (text : List ℕ) (from at s e size : ℕ) → s < e → e ≤ length text → from ≤ at → NoneFrom t text from at → IsFirstAt (longest t text) at size s e → IsFirstAt (not_empty t text) from (length text) s e
-taken t text from at s e size less inside low none f = record {
+taken : (t : Tree) (text : List ℕ) (from at s e size : ℕ) → s < e → e ≤ length text → from ≤ at → NoneFrom t text from at → IsFirstAt (longest t text) at size s e → IsFirstAt (not_empty t text) from (length text) s e
+taken t text from at s e size less inside low before f = record {
   low = (let le = f.low in omega (arith, le, low));
   high = omega (arith, less, inside);
   is = some_there t text s e f.is less;
   before = λ k a b. elim (cases_lt k at) [
-    | inl l ↦ none k a l
+    | inl l ↦ before.none k a l
     | inr not ↦ none_there t text k (f.before k not b)
   ];
 }
 
-pub none_left : (t : Tree) (text : List ℕ) (from at : ℕ) → NoneFrom t text from at → IsFirstBy (longest t text) at (length text + 1) None → NoneFrom t text from (length text)
-none_left t text from at none f = λ k low high. elim (cases_lt k at) [
-  | inl less ↦ none k low less
-  | inr not ↦ none_there t text k (f k not (omega (arith, high)))
-]
+none_left : (t : Tree) (text : List ℕ) (from at : ℕ) → NoneFrom t text from at → IsFirstBy (longest t text) at (length text + 1) None → NoneFrom t text from (length text)
+none_left t text from at before f = record {
+  none = λ k low high. elim (cases_lt k at) [
+    | inl less ↦ before.none k low less
+    | inr not ↦ none_there t text k (f k not (omega (arith, high)))
+  ];
+}
+
+-- Where a match lies, and what it says of those that are not empty.
+
+abbrev pub MatchIn : ℕ → ℕ → Option (ℕ × ℕ) → Type 0
+MatchIn from size found = IfSome found (λ m. (from ≤ m.0) × (m.0 ≤ m.1) × (m.1 ≤ size))
+
+pub match_in : (from size s e : ℕ) (found : Option (ℕ × ℕ)) → found ≡ Some (s, e) → MatchIn from size found → (from ≤ s) × (s ≤ e) × (e ≤ size)
+match_in from size s e found is inside = subst (MatchIn from size) is inside
+
+pub full_in : (from at size s e : ℕ) (found : Option (ℕ × ℕ)) → found ≡ Some (s, e) → MatchIn at size found → from ≤ at → s < e → (from ≤ s) × (s + 1 ≤ e) × (e ≤ size)
+full_in from at size s e found is inside low less = let m = match_in at size s e found is inside in (omega (arith, low, m.0), omega (arith, less), m.2)
+
+pub next_in : (from at size s e : ℕ) (found : Option (ℕ × ℕ)) → found ≡ Some (s, e) → MatchIn at size found → from ≤ at → (s ≡ size → ⊥) → (from ≤ s + 1) × (s + 1 ≤ size)
+next_in from at size s e found is inside low not = let m = match_in at size s e found is inside in (omega (arith, low, m.0), omega (arith, m.1, m.2, not))
+
+module _ (t : Tree) (text : List ℕ) (from at : ℕ) (found : Option (ℕ × ℕ)) (high : at ≤ length text) (first : found ≡ first_match t text at) (before : NoneFrom t text from at) where
+  pub taken_at : (s e : ℕ) → found ≡ Some (s, e) → MatchIn at (length text) found → from ≤ at → s < e → IsFirstBy (not_empty t text) from (length text) (Some (s, e))
+  taken_at s e is inside low less =
+      taken t text from at s e (length text + 1) less (match_in at (length text) s e found is inside).2 low before (some_first t text at s e found high first is)
+
+  pub skipped_at : (s e : ℕ) → found ≡ Some (s, e) → e ≤ s → NoneFrom t text from (s + 1)
+  skipped_at s e is le = skipped t text from at s e (length text + 1) le before (some_first t text at s e found high first is)
+
+  pub none_behind : (s e : ℕ) → found ≡ Some (s, e) → e ≤ s → s ≡ length text → IsFirstBy (not_empty t text) from (length text) None
+  none_behind s e is le end = λ k low less. (skipped_at s e is le).none k low (omega (arith, less, end))
+
+  pub none_at : found ≡ None → IsFirstBy (not_empty t text) from (length text) None
+  none_at is = (none_left t text from at before (none_first t text at found high first is)).none

@@ -1,6 +1,6 @@
 -- The pieces between separators, from the first separator on.
-use Rattle.std.proofs.Common.{◌≡◌, inl, inr, ℕ, zero, suc, ◌+◌, ◌-◌, ◌<◌, ◌≤◌, Bool, true, false, List, [], ◌∷◌, length, drop, get_or, slice_range, Option, Some, None, refl, sym, ap, subst, ◌∙◌, arith}
-use Rattle.std.specs.Prelude.{◌==◌, is_some, nat_lt, if◌then◌else◌}
+use Rattle.std.proofs.Common.{◌≡◌, inl, inr, ℕ, zero, suc, ◌+◌, ◌-◌, ◌<◌, ◌≤◌, Bool, true, false, List, [], ◌∷◌, length, drop, get_or, slice_range, Option, Some, None, refl, sym, ap, subst, ◌∙◌, arith, le_refl}
+use Rattle.std.specs.Prelude.{◌==◌, IfSome, is_some, nat_lt, if◌then◌else◌}
 use Rattle.std.proofs.lemmas.Bool.{true≢false, cases_Bool, cases_lt}
 use Rattle.std.proofs.lemmas.List.{get_or-drop, get_or-take, length-take}
 use Rattle.memchr.specs.Find.{IsFirstByte, is_byte}
@@ -9,9 +9,9 @@ use Rattle.sem_primitives.specs.FirstMatch.{first_by, longest, or_next}
 use Rattle.sem_primitives.specs.Fields.{Expression, between, end_or_newline, newline_end, pieces, separators}
 use Rattle.host_format.specs.Between.{IsOpen, separator_end}
 use Rattle.host_format.specs.Expressions.{IsFirstAt, IsFirstBy, not_empty, unless_empty}
-use Rattle.host_format.specs.Spans.{IsSoFar}
+use Rattle.host_format.specs.Spans.{AreSpans, IsSoFar}
 use Rattle.host_format.specs.declared.span.Span.{Span}
-use Rattle.host_format.proofs.Pieces.{begun, length_of_range, rest_of, with_rest}
+use Rattle.host_format.proofs.Pieces.{all_parts, begun, length_of_range, rest_of, with_rest}
 
 abbrev End : Type 0
 End = ℕ → Option ℕ
@@ -152,14 +152,61 @@ by_match newlines text k e (Some f) is = less_some (nat_lt k f) f e (newline_end
 pub match_there : (t : Tree) (newlines : Bool) (text : List ℕ) (k e : ℕ) → not_empty t text k ≡ Some e → separator_end t newlines text k ≡ Some e
 match_there t newlines text k e is = by_match newlines text k e (longest t text k) is
 
-pub agrees_before : (t : Tree) (newlines : Bool) (text : List ℕ) (from s e : ℕ) → IsFirstAt (not_empty t text) from (length text) s e → Agrees (separator_end t newlines text) newlines text from s
+agrees_before : (t : Tree) (newlines : Bool) (text : List ℕ) (from s e : ℕ) → IsFirstAt (not_empty t text) from (length text) s e → Agrees (separator_end t newlines text) newlines text from s
 agrees_before t newlines text from s e f = λ k low high. newline_alone t newlines text k (f.before k low high)
 
-pub agrees_to_end : (t : Tree) (newlines : Bool) (text : List ℕ) (from : ℕ) → IsFirstBy (not_empty t text) from (length text) None → Agrees (separator_end t newlines text) newlines text from (length text)
+agrees_to_end : (t : Tree) (newlines : Bool) (text : List ℕ) (from : ℕ) → IsFirstBy (not_empty t text) from (length text) None → Agrees (separator_end t newlines text) newlines text from (length text)
 agrees_to_end t newlines text from f = λ k low high. newline_alone t newlines text k (f k low high)
 
-pub first_of_line : (t : Tree) (newlines : Bool) (text : List ℕ) (from line s e : ℕ) → line ≤ s → IsFirstAt (not_empty t text) from (length text) s e → ((k : ℕ) → line ≤ k → k < s → separator_end t newlines text k ≡ None) → IsFirstAt (separator_end t newlines text) line (length text) s e
+first_of_line : (t : Tree) (newlines : Bool) (text : List ℕ) (from line s e : ℕ) → line ≤ s → IsFirstAt (not_empty t text) from (length text) s e → ((k : ℕ) → line ≤ k → k < s → separator_end t newlines text k ≡ None) → IsFirstAt (separator_end t newlines text) line (length text) s e
 first_of_line t newlines text from line s e low f none = record { low = low; high = f.high; is = match_there t newlines text s e f.is; before = none }
 
-pub whole_open : (t : Tree) (newlines : Bool) (text : List ℕ) → IsOpen (separator_end t newlines text) text [] 0 (pieces (Expression t) newlines text)
-whole_open t newlines text = record { count = length text; enough = omega arith; pieces = begun text (pieces (Expression t) newlines text) }
+-- Pieces between the matches of an expression: those so far, and those from a place on.
+pub record IsCut (t : Tree) (newlines : Bool) (text : List ℕ) (spans : List Span) (from : ℕ) : Type 0 where
+  pub left : IsOpen (separator_end t newlines text) text spans from (pieces (Expression t) newlines text)
+
+pub none_cut : (t : Tree) (newlines : Bool) (text : List ℕ) (spans : List Span) → spans ≡ [] → IsCut t newlines text spans 0
+none_cut t newlines text spans e = subst (λ (xs : List Span). IsCut t newlines text xs 0) (sym e)
+    (record { left = record { count = length text; enough = omega arith; pieces = begun text (pieces (Expression t) newlines text) }; })
+
+-- lines up to a place were added, and no newline is left before it
+pub record LinesTo (newlines : Bool) (text : List ℕ) (from to line : ℕ) (old new : List Span) : Type 0 where
+  pub within : (from ≤ line) × (line ≤ to)
+  pub rest : (end : End) → Agrees end newlines text from to → (k : ℕ) → line ≤ k → k < to → end k ≡ None
+  pub lines : (end : End) (total : List (List ℕ)) → Agrees end newlines text from to → IsOpen end text old from total → IsOpen end text new line total
+
+-- a piece was added
+abbrev pub Pushes : List ℕ → List Span → List Span → ℕ → ℕ → Type 0
+Pushes text old new start end = (rest total : List (List ℕ)) → start ≤ end → end ≤ length text → IsSoFar text old (slice_range text start end ∷ rest) total → IsSoFar text new rest total
+
+-- where a match lies
+abbrev pub MatchFrom : ℕ → ℕ → Option (ℕ × ℕ) → Type 0
+MatchFrom from size found = IfSome found (λ m. (from ≤ m.0) × (m.0 + 1 ≤ m.1) × (m.1 ≤ size))
+
+pub match_inside : (from size s e : ℕ) (found : Option (ℕ × ℕ)) → found ≡ Some (s, e) → MatchFrom from size found → (from ≤ s) × (s + 1 ≤ e) × (e ≤ size)
+match_inside from size s e found is inside = subst (MatchFrom from size) is inside
+
+-- the pieces up to a match, and those behind it
+pub cut_behind : (t : Tree) (newlines : Bool) (text : List ℕ) (from line s e : ℕ) (old lined new : List Span) (found : Option (ℕ × ℕ)) → found ≡ Some (s, e) → MatchFrom from (length text) found →
+    IsFirstBy (not_empty t text) from (length text) found → LinesTo newlines text from s line old lined → Pushes text lined new line s → IsCut t newlines text old from → IsCut t newlines text new e
+cut_behind t newlines text from line s e old lined new found is within first lines pushes cut =
+    let end = separator_end t newlines text in
+    let inside = match_inside from (length text) s e found is within in
+    let f = subst (IsFirstBy (not_empty t text) from (length text)) is first in
+    let agrees = agrees_before t newlines text from s e f in
+    let at = first_of_line t newlines text from line s e lines.within.1 f (lines.rest end agrees) in
+    let r = ready end text lined line s e (pieces (Expression t) newlines text) (omega (arith, inside.1)) at (lines.lines end (pieces (Expression t) newlines text) agrees cut.left) in
+    record {
+      left = opened end text new e (pieces (Expression t) newlines text) r.count r.enough
+          (pushes (between text e (separators end (length text) r.count e)) (pieces (Expression t) newlines text) lines.within.1 (omega (arith, inside.1, inside.2)) r.pieces);
+    }
+
+-- the last piece
+pub all_cut : (t : Tree) (newlines : Bool) (text : List ℕ) (from line : ℕ) (old lined new : List Span) (found : Option (ℕ × ℕ)) → found ≡ None →
+    IsFirstBy (not_empty t text) from (length text) found → LinesTo newlines text from (length text) line old lined → Pushes text lined new line (length text) → IsCut t newlines text old from →
+    AreSpans text new (pieces (Expression t) newlines text)
+all_cut t newlines text from line old lined new found is first lines pushes cut =
+    let end = separator_end t newlines text in
+    let agrees = agrees_to_end t newlines text from (subst (IsFirstBy (not_empty t text) from (length text)) is first) in
+    let last = closed end text lined line (pieces (Expression t) newlines text) lines.within.1 (lines.rest end agrees) (lines.lines end (pieces (Expression t) newlines text) agrees cut.left) in
+    all_parts text new (pieces (Expression t) newlines text) (pushes [] (pieces (Expression t) newlines text) lines.within.1 (le_refl (length text)) last)

@@ -34,7 +34,7 @@ fn first_blank(text: &[u8]) -> Option<usize>
 }
 
 /// Which bytes stand between fields.
-#[derive(Clone, Copy, Debug)]
+#[derive(Clone, Copy)]
 pub(crate) enum Marks {
     Byte(u8),
     ByteOrNewline(u8),

@@ -1,9 +1,9 @@
 -- How putting a text ends in every world, and how much was put out where memory was wanting.
-use Rattle.std.proofs.Common.{◌≡◌, ℕ, suc, ◌<◌, ◌≤◌, ◌+◌, Bool, true, false, List, [], ◌∷◌, length, take, drop, Result, Ok, Err, OnErr, sym, ap, ◌∙◌, subst, arith}
+use Rattle.std.proofs.Common.{◌≡◌, ℕ, suc, ◌<◌, ◌≤◌, ◌+◌, Bool, true, false, List, [], ◌∷◌, length, take, drop, Result, Ok, Err, IsErrAnd, OnErr, refl, sym, ap, ◌∙◌, subst, arith}
 use Rattle.std.proofs.lemmas.List.{length-map}
 use Rattle.std.proofs.lemmas.Bool.Decides.{nat_tests}
 use Rattle.awk_values.specs.declared.fault.Fault.{Fault}
-use Rattle.awk_values.specs.declared.fault.Fault.TheVariants.{WriteFailed}
+use Rattle.awk_values.specs.declared.fault.Fault.TheVariants.{TooManyStreams, WriteFailed}
 use Rattle.awk_values.specs.declared.fault.Stop.{Stop}
 use Rattle.awk_values.specs.declared.fault.Stop.TheVariants.{Fault as IsFault, NoMemory as OutOfMemory}
 use Rattle.world_core.specs.declared.world.WorldFault.{WorldFault}
@@ -12,9 +12,10 @@ use Rattle.world_core.specs.WorldState.{Named, Open, Outside, State, Target, aft
 use Rattle.world_core.specs.Calls.{Does, Fits, OpensWriter, Writes}
 use Rattle.sem_primitives.specs.Finds.{seen}
 use Rattle.sem_primitives.specs.SharedState.{Does as Doing, Shared}
-use Rattle.sem_primitives.specs.OutputMeaning.{has_room, opened_if, what_fits, written}
+use Rattle.sem_primitives.specs.OutputMeaning.{has_room, opened_if, what_fits, written, written_by}
+use Rattle.host_streams.specs.OpenFiles.{has_room as may_open}
 use Rattle.host_streams.specs.Outputs.{IsOf}
-use Rattle.host_streams.specs.Puts.{BeginsBy, BeginsText, EndsPut, IsOver, PutFault, PutsPart}
+use Rattle.host_streams.specs.Puts.{BeginsBy, BeginsText, EndsPut, IsOver, PutFault, PutsBy, PutsPart}
 use Rattle.host_streams.specs.declared.streams.Streams.{Streams}
 use Rattle.host_streams.proofs.Outputs.{opened_in, over_opened}
 use Rattle.host_streams.proofs.Writing.{part_is, seen_over}
@@ -93,3 +94,58 @@ room_is s state shared is few =
     let writers : length shared.inner.writers ≡ length s.writers.items = ap length is.writers ∙ length-map s.writers.items _ in
     let least : length shared.inner.readers + length shared.inner.writers + 1 ≤ 256 = omega (arith, readers, writers, few) in
     grind (arith, nat_tests, least)
+
+pub few_streams : (s : Streams) (n m : ℕ) → n ≡ length s.readers.items → m ≡ length s.writers.items → n + m < 256 → length s.readers.items + length s.writers.items < 256
+few_streams s n m e f few = omega (arith, e, f, few)
+
+pub may_by : (s : Streams) → length s.readers.items + length s.writers.items < 256 → may_open s ≡ true
+may_by s few = grind (arith, nat_tests, few)
+
+-- no more may be opened
+no_room : (s : Streams) (state : State) (shared : Shared) → IsOf s state shared → 256 ≤ length s.readers.items + length s.writers.items → has_room shared.inner ≡ false
+no_room s state shared is many =
+    let readers : length shared.inner.readers ≡ length s.readers.items = ap length is.readers ∙ length-map s.readers.items _ in
+    let writers : length shared.inner.writers ≡ length s.writers.items = ap length is.writers ∙ length-map s.writers.items _ in
+    let more : 256 < length shared.inner.readers + length shared.inner.writers + 1 = omega (arith, readers, writers, many) in
+    grind (arith, nat_tests, more)
+
+pub many_streams : (s : Streams) (n m : ℕ) → n ≡ length s.readers.items → m ≡ length s.writers.items → 256 ≤ n + m → 256 ≤ length s.readers.items + length s.writers.items
+many_streams s n m e f many = omega (arith, e, f, many)
+
+pub may_not : (s : Streams) → 256 ≤ length s.readers.items + length s.writers.items → may_open s ≡ false
+may_not s many = grind (arith, nat_tests, many)
+
+-- a text is put to a file that is opened, where there is room
+pub put_room : {A : Type 0} (name text : List ℕ) (append : Bool) (s : Streams) (state later : State) (shared : Shared) (r : Result A Stop) → IsOf s state shared → length s.readers.items + length s.writers.items < 256
+    → PutsBy (opened_if true (seen shared.inner shared.outside (Named name)).opens name append text shared) r state later → PutsBy (written_by false name append text shared) r state later
+put_room name text append s state later shared r is few h =
+    subst (λ (b : Bool). PutsBy (opened_if b (seen shared.inner shared.outside (Named name)).opens name append text shared) r state later) (sym (room_is s state shared is few)) h
+
+-- and where there is none
+pub put_refused : (name text : List ℕ) (append : Bool) (s : Streams) (state : State) (shared : Shared) → IsOf s state shared → 256 ≤ length s.readers.items + length s.writers.items
+    → PutsBy {A = Unit {0}} (written_by false name append text shared) (Err (IsFault TooManyStreams)) state state
+put_refused name text append s state shared is many =
+    subst (λ (b : Bool). PutsBy {A = Unit {0}} (opened_if b (seen shared.inner shared.outside (Named name)).opens name append text shared) (Err (IsFault TooManyStreams)) state state)
+    (sym (no_room s state shared is many)) (record { answer_is = refl; outside = refl })
+
+-- Without memory nothing was done.
+module _ {A : Type 0} (r : Result A Stop) (refused : IsErrAnd r (λ stop. stop ≡ OutOfMemory)) where
+  pub is_refused : r ≡ Err OutOfMemory
+  is_refused = by r refused
+    where
+      by : (x : Result A Stop) → IsErrAnd x (λ stop. stop ≡ OutOfMemory) → x ≡ Err OutOfMemory
+      by (Ok x) h = absurd h
+      by (Err stop) h = ap (λ y. Err y) h
+
+  pub nothing_put : (d : Doing (Result (Unit {0}) Fault)) (s : State) → PutsBy d r s s
+  nothing_put d s = subst (λ (x : Result A Stop). PutsBy d x s s) (sym is_refused) (0, refl)
+
+  pub nothing_begun : (tells : Type 0) (is : Shared → Type 0) (does : Shared → Doing (Result (Unit {0}) Fault)) (s : State) → BeginsBy tells is does r s s
+  nothing_begun tells is does s = subst (λ (x : Result A Stop). BeginsBy tells is does x s s) (sym is_refused) (0, λ w shared i. refl)
+
+  pub nothing_ends : (room : Bool) (text : List ℕ) → EndsPut false room text r
+  nothing_ends room text = subst (λ (x : Result A Stop). EndsPut false room text x) (sym is_refused) (by room)
+    where
+      by : (b : Bool) → EndsPut {A = A} false b text (Err OutOfMemory)
+      by true = tt
+      by false = tt

@@ -1,6 +1,6 @@
 -- What the definition gives of the main input, step by step.
 use Rattle.std.specs.List.{prefix_len, take_while}
-use Rattle.std.proofs.lemmas.Bool.{false≢true, leb-true, leb-false}
+use Rattle.std.proofs.lemmas.Bool.{eqb-true, false≢true, leb-true, leb-false}
 use Rattle.std.proofs.lemmas.List.{drop-drop, take_all}
 use Rattle.awk_values.specs.Values.{number_of_value}
 use Rattle.std.proofs.Common.{◌≡◌, ◌≢◌, ℤ, ℕ, zero, suc, ◌+◌, ◌-◌, ◌^◌, ◌<◌, ◌≤◌, ◌==◌, ◌&&◌, nat_le, List, [], ◌∷◌, length, length-take, take, drop, Option, Some, None, Result, Ok, Err, cond, if◌then◌else◌, Bool, true, false, refl, sym, ap, ◌∙◌, arith, subst, inl, inr}
@@ -22,6 +22,7 @@ use Rattle.host_streams.specs.declared.main_input.Found.{Found}
 use Rattle.host_streams.specs.declared.main_input.Found.TheVariants as found
 use Rattle.host_streams.specs.declared.main_input.MainInput.{MainInput as Mains}
 use Rattle.host_streams.specs.declared.main_input.MainNext.{MainNext}
+use Rattle.host_streams.specs.declared.main_input.Reading.{Reading}
 use Rattle.host_streams.specs.declared.main_input.Reading.TheVariants as reading
 use Rattle.host_streams.specs.declared.main_input.MainNext.TheVariants as main
 use Rattle.host_streams.specs.declared.reader.FileNext.{FileNext}
@@ -281,6 +282,63 @@ pub rests : (m : Mains) (state : State) → m.reading ≡ reading.Nothing → m.
 rests m state nothing live =
     ap (λ r. record { standard = left m.standard (state.readers m.standard.id); next = m.next; operands = operands_of m.found; reading = reading_of r state; ended = m.ended }) nothing
     ∙ ap (λ b. record { standard = left m.standard (state.readers m.standard.id); next = m.next; operands = operands_of m.found; reading = None; ended = b }) live
+
+pub no_bytes : (xs copy text : List ℕ) (b : Bool) → xs ≡ copy → copy ≡ text → b ≡ (length xs == 0) → b ≡ true → text ≡ []
+no_bytes [] copy text b d e is held = sym (d ∙ e)
+no_bytes (x ∷ xs) copy text b d e is held = (let none : length (x ∷ xs) ≡ 0 = eqb-true (length (x ∷ xs)) 0 (sym is ∙ held) in absurd (omega (arith, none)))
+
+-- an empty operand is skipped
+pub skip_given : (old : Mains) (state : State) (text : List ℕ) (inner : Inner) → old.reading ≡ reading.Nothing → old.ended ≡ false → old.found ≢ found.NoneLeft → text ≡ [] →
+    taken (rest_of (passed (main_of old state)) state.outside) state.outside text (with_main (passed (main_of old state)) (kept_in inner)) ≡ main_input state.outside (with_main (passed (main_of old state)) (kept_in inner))
+skip_given old state text inner nothing live some none =
+    let s : Source = left old.standard (state.readers old.standard.id) in
+    let at : passed (main_of old state) ≡ resting s (old.next + 1) old.found = ap passed (rests old state nothing live) in
+    ap (λ (m : MainInput). taken (rest_of m state.outside) state.outside text (with_main m (kept_in inner))) at
+    ∙ skips_at state.outside (kept_in inner) s (old.next + 1) old.found some text none
+    ∙ ap (λ (m : MainInput). main_input state.outside (with_main m (kept_in inner))) (sym at)
+
+abbrev reader_in : Reading → State → MainReader
+reader_in reading.Nothing state = Standard
+reader_in reading.Standard state = Standard
+reader_in (reading.File r) state = File (left r (state.readers r.id))
+
+is_in : (r : Reading) (state : State) → r ≢ reading.Nothing → reading_of r state ≡ Some (reader_in r state)
+is_in reading.Nothing state busy = absurd (busy refl)
+is_in reading.Standard state busy = refl
+is_in (reading.File r) state busy = refl
+
+-- an operand names a file, which is opened, or does not open
+module _ (old : Mains) (reads : Reading) (before after : State) (name : List ℕ) (inner : Inner) (live : old.ended ≡ false) (plain : name ≢ []) (none : assignment_of name ≡ None)
+    (is : reader_of before.outside name ≡ reading_of reads after) (same : after.readers old.standard.id ≡ before.readers old.standard.id) where
+  file_is : main_of (record old { next = old.next + 1; found = found.SomeFile; reading = reads }) after
+      ≡ record { standard = left old.standard (before.readers old.standard.id); next = old.next + 1; operands = SomeFile; reading = reading_of reads after; ended = false }
+  file_is =
+      ap (λ (x : Source). record { standard = left old.standard x; next = old.next + 1; operands = SomeFile; reading = reading_of reads after; ended = old.ended }) same
+      ∙ ap (λ (b : Bool). record { standard = left old.standard (before.readers old.standard.id); next = old.next + 1; operands = SomeFile; reading = reading_of reads after; ended = b }) live
+
+  passed_is : passed (main_of old before)
+      ≡ record { standard = left old.standard (before.readers old.standard.id); next = old.next + 1; operands = operands_of old.found; reading = reading_of old.reading before; ended = false }
+  passed_is = ap (λ (b : Bool). record { standard = left old.standard (before.readers old.standard.id); next = old.next + 1; operands = operands_of old.found; reading = reading_of old.reading before; ended = b }) live
+
+  pub open_given : reads ≢ reading.Nothing →
+      taken (rest_of (passed (main_of old before)) before.outside) before.outside name (with_main (passed (main_of old before)) (kept_in inner))
+      ≡ main_input before.outside (begun name (with_main (main_of (record old { next = old.next + 1; found = found.SomeFile; reading = reads }) after) (kept_in inner)))
+  open_given busy =
+      ap (λ (m : MainInput). taken (rest_of m before.outside) before.outside name (with_main m (kept_in inner))) passed_is
+      ∙ opens_at before.outside (kept_in inner) (left old.standard (before.readers old.standard.id)) (old.next + 1) (operands_of old.found) (reading_of old.reading before) name (reader_in reads after) plain none (is ∙ is_in reads after busy)
+      ∙ ap (λ (r : Option MainReader). main_input before.outside (begun name (with_main (record { standard = left old.standard (before.readers old.standard.id); next = old.next + 1; operands = SomeFile; reading = r; ended = false }) (kept_in inner))))
+      (sym (is_in reads after busy))
+      ∙ ap (λ (m : MainInput). main_input before.outside (begun name (with_main m (kept_in inner)))) (sym file_is)
+
+  pub unopened_given : old.reading ≡ reading.Nothing → reads ≡ reading.Nothing →
+      taken (rest_of (passed (main_of old before)) before.outside) before.outside name (with_main (passed (main_of old before)) (kept_in inner))
+      ≡ Ok (with_main (main_of (record old { next = old.next + 1; found = found.SomeFile; reading = reads }) after) (kept_in inner), NotOpened)
+  unopened_given idle nothing =
+      opens_not before.outside (kept_in inner) (passed (main_of old before)) name plain none (is ∙ ap (λ (r : Reading). reading_of r after) nothing)
+      ∙ ap (λ (m : MainInput). Ok (with_main (with_file m) (kept_in inner), NotOpened)) passed_is
+      ∙ ap (λ (r : Option MainReader). Ok (with_main (record { standard = left old.standard (before.readers old.standard.id); next = old.next + 1; operands = SomeFile; reading = r; ended = false }) (kept_in inner), NotOpened))
+      (ap (λ (r : Reading). reading_of r before) idle ∙ sym (ap (λ (r : Reading). reading_of r after) nothing))
+      ∙ ap (λ (m : MainInput). Ok (with_main m (kept_in inner), NotOpened)) (sym file_is)
 
 module _ (outside : Outside) (inner : Inner) (m : MainInput) (s : Source) (n : ℕ) (f : Found) (is : m ≡ resting s n f) where
   pub none_left : f ≡ found.NoneLeft → main_input outside (with_main m inner) ≡ follows m.operands (with_main m inner)

@@ -14,7 +14,9 @@ use Rattle.host_streams.specs.declared.main_input.Reading.{Reading}
 use Rattle.host_streams.specs.declared.main_input.Reading.TheVariants as reading
 use Rattle.host_streams.specs.declared.reader.Reader.{Reader}
 use Rattle.host_streams.specs.Mains.{IsOfNumber, has_operand}
-use Rattle.host_streams.specs.Passing.{AreThere, FollowsAll, HandsMain, HandsStep, IdleAfter, IsAtEnd, IsNotRead, IsOfOperands, NoRecord, NoneMore, Passes, Skips, StandardStays, StepNoneMore, StepPasses, Takes, TakesFile}
+use Rattle.host_streams.specs.declared.reader.FileNext.{FileNext}
+use Rattle.host_streams.specs.Readers.{OnlyLimit}
+use Rattle.host_streams.specs.Passing.{AreThere, FollowsAll, HandsMain, HandsStep, IdleAfter, IsAtEnd, IsNotRead, IsOfOperands, NoRecord, NoneMore, Passes, ReadsAt, Skips, StandardStays, StepNoneMore, StepPasses, Takes, TakesFile}
 
 pub none_skipped : (texts : ℕ → List ℕ) (n : ℕ) → Skips texts n n
 none_skipped texts n = record { order = omega arith; empty = λ k low high. absurd (omega arith) }
@@ -87,6 +89,12 @@ number_more count n f fault (inr e) h = subst (λ (x : Fault). StepNoneMore coun
 pub number_answers : (fault : Fault) → IsOfNumber fault → IsOfOperands (Err (IsFault fault))
 number_answers fault (inl e) = subst (λ (x : Fault). IsOfOperands (Err (IsFault x))) (sym e) tt
 number_answers fault (inr e) = subst (λ (x : Fault). IsOfOperands (Err (IsFault x))) (sym e) tt
+
+-- the reader at hand refuses a text that is too long, or there is no memory
+pub refused_hands : (rs : Option ℕ) (old new : Mains) (stop : Stop) → OnlyLimit {A = FileNext} (Err stop) → ReadsAt rs old (Err stop) new → HandsStep rs old (Err stop) new
+refused_hands rs old new (IsFault fault) limit h =
+    subst (λ (f : Fault). HandsStep rs old (Err (IsFault f)) new) (sym limit) (subst (λ (f : Fault). ReadsAt rs old (Err (IsFault f)) new) limit h)
+refused_hands rs old new NoMemory limit h = inl h
 
 -- Steps before the last one of a call: nothing is done, or nothing is read any more.
 abbrev pub SoFarMain : Option ℕ → Mains → Mains → Type 0

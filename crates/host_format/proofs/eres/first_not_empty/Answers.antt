@@ -1,37 +1,56 @@
-use Rattle.std.proofs.Common.{◌+◌, ◌≤◌, length, arith, rules}
-use Rattle.host_format.proofs.Firsts.{some_first, none_first, skipped, taken, none_left}
+use Rattle.std.proofs.Common.{arith, length}
+use Rattle.host_format.proofs.Firsts.{full_in, next_in, none_at, none_behind, none_yet, skipped_at, taken_at}
 use Rattle.host_format.proofs.eres.first_not_empty.Goals as goal
 
-pub returns-then-start-end-clause-found : goal.returns-then-start-end-clause-found
-returns-then-start-end-clause-found c = λ t a.
+pub returns-then-start-end : goal.returns-then-start-end
+returns-then-start-end c =
     let i = c.loop-start.invariant in
-    let e = c.in_ok-start.ensures.found t (i.kept t a) in
-    let inside : c.in-Some.end ≤ length c.args.text.now = search rules in
-    taken t c.args.text.now c.args.from c.loop-start.at c.in-Some.start c.in-Some.end (length c.args.text.now + 1) c.if-start-end.true inside i.low (i.none t a)
-    (some_first t c.args.text.now c.loop-start.at c.in-Some.start c.in-Some.end c.in_ok-start.field-0 i.high e c.in-Some.is)
+    let found = c.in_ok-start.field-0 in
+    record {
+      found = λ t a. taken_at t c.args.text.now c.args.from c.loop-start.at found i.high (c.in_ok-start.ensures.found t (i.kept t a)) (i.none t a) c.in-Some.start c.in-Some.end c.in-Some.is c.in_ok-start.ensures.inside i.low c.if-start-end.true;
+      inside = full_in c.args.from c.loop-start.at (length c.args.text.now) c.in-Some.start c.in-Some.end found c.in-Some.is c.in_ok-start.ensures.inside i.low c.if-start-end.true;
+      kept = λ t a. c.first.ensures.kept t (i.kept t a);
+      auto = c.first.ensures.auto;
+    }
 
-pub returns-then-start-text-clause-found : goal.returns-then-start-text-clause-found
-returns-then-start-text-clause-found c = λ t a k low high.
+pub returns-then-start-text : goal.returns-then-start-text
+returns-then-start-text c =
     let i = c.loop-start.invariant in
-    let e = c.in_ok-start.ensures.found t (i.kept t a) in
-    skipped t c.args.text.now c.args.from c.loop-start.at c.in-Some.start c.in-Some.end (length c.args.text.now + 1) c.if-start-end.false (i.none t a)
-    (some_first t c.args.text.now c.loop-start.at c.in-Some.start c.in-Some.end c.in_ok-start.field-0 i.high e c.in-Some.is) k low (omega (arith, high, c.if-start-text.true))
+    record {
+      found = λ t a. none_behind t c.args.text.now c.args.from c.loop-start.at c.in_ok-start.field-0 i.high (c.in_ok-start.ensures.found t (i.kept t a)) (i.none t a) c.in-Some.start c.in-Some.end c.in-Some.is c.if-start-end.false c.if-start-text.true;
+      inside = tt;
+      kept = λ t a. c.first.ensures.kept t (i.kept t a);
+      auto = c.first.ensures.auto;
+    }
 
 pub loop-start-preserved : goal.loop-start-preserved
 loop-start-preserved c =
     let i = c.loop-start.invariant in
+    let found = c.in_ok-start.field-0 in
+    let next = next_in c.args.from c.loop-start.at (length c.args.text.now) c.in-Some.start c.in-Some.end found c.in-Some.is c.in_ok-start.ensures.inside i.low c.if-start-text.false in
     record {
-      low = search rules;
-      high = search rules;
+      low = next.0;
+      high = next.1;
       auto = c.first.ensures.auto;
       kept = λ t a. c.first.ensures.kept t (i.kept t a);
-      none = λ t a. skipped t c.args.text.now c.args.from c.loop-start.at c.in-Some.start c.in-Some.end (length c.args.text.now + 1) c.if-start-end.false (i.none t a)
-          (some_first t c.args.text.now c.loop-start.at c.in-Some.start c.in-Some.end c.in_ok-start.field-0 i.high (c.in_ok-start.ensures.found t (i.kept t a)) c.in-Some.is);
+      none = λ t a. skipped_at t c.args.text.now c.args.from c.loop-start.at found i.high (c.in_ok-start.ensures.found t (i.kept t a)) (i.none t a) c.in-Some.start c.in-Some.end c.in-Some.is c.if-start-end.false;
     }
 
-pub returns-clause-found : goal.returns-clause-found
-returns-clause-found c = λ t a.
+pub returns : goal.returns
+returns c =
     let i = c.loop-start.invariant in
-    let e = c.in_ok-start.ensures.found t (i.kept t a) in
-    none_left t c.args.text.now c.args.from c.loop-start.at (i.none t a)
-    (none_first t c.args.text.now c.loop-start.at c.in_ok-start.field-0 i.high e c.in_default.is)
+    record {
+      found = λ t a. none_at t c.args.text.now c.args.from c.loop-start.at c.in_ok-start.field-0 i.high (c.in_ok-start.ensures.found t (i.kept t a)) (i.none t a) c.in_default.is;
+      inside = tt;
+      kept = λ t a. c.first.ensures.kept t (i.kept t a);
+      auto = c.first.ensures.auto;
+    }
+
+pub loop-start-init : goal.loop-start-init
+loop-start-init c = record {
+  low = omega arith;
+  high = c.requires.within;
+  auto = c.requires.auto;
+  kept = λ t a. a;
+  none = λ t a. none_yet t c.args.text.now c.args.from;
+}

@@ -1,4 +1,10 @@
-use Rattle.std.proofs.Common.{inl, refl}
+use Rattle.std.proofs.Common.{◌≡◌, ◌+◌, ℕ, List, inl, refl, subst, sym}
+use Rattle.sem_primitives.specs.InputMeaning.{reader_of}
+use Rattle.host_streams.specs.MainFinds.{entry_of_reading, reading_found}
+use Rattle.host_streams.specs.Mains.{reading_of}
+use Rattle.host_streams.specs.declared.main_input.Found.TheVariants.{SomeFile}
+use Rattle.host_streams.proofs.MainFound.{no_file_finds, open_finds}
+use Rattle.host_streams.proofs.MainSteps.{open_given, unopened_given}
 use Rattle.host_streams.proofs.Passed.{one_taken}
 use Rattle.host_streams.proofs.main_input.MainInput.open.Goals as goal
 
@@ -11,3 +17,29 @@ returns-clause-passes g c = λ texts e. inl (
   },
   refl,
 )
+
+pub returns-in-Nothing-clause-told : goal.returns-in-Nothing-clause-told
+returns-in-Nothing-clause-told g c = λ tells inner.
+    let before = g.W.World.state c.args.world.now in
+    let after = g.W.World.state c.open_operand.new.world in
+    unopened_given c.args.self.now c.in_ok-opened.opened before after c.args.name inner c.requires.live c.requires.plain c.requires.file
+    (subst (λ (n : List ℕ). reader_of before.outside n ≡ reading_of c.in_ok-opened.opened after) c.as_slice.ensures.value (c.in_ok-opened.ensures.told tells))
+    (subst (λ (k : ℕ). after.readers k ≡ before.readers k) (sym c.requires.held.0) (c.open_operand.ensures.standard tells)) c.requires.idle c.in-Nothing.is
+
+pub returns-in-Nothing-clause-finds : goal.returns-in-Nothing-clause-finds
+returns-in-Nothing-clause-finds g c =
+    no_file_finds c.args.self.now (record c.args.self.now { next = c.args.self.now.next + 1; found = SomeFile; reading = c.in_ok-opened.opened }) c.args.name c.requires.live c.requires.plain c.requires.file
+    (subst (λ (n : List ℕ). reader_of (λ target. entry_of_reading c.in_ok-opened.opened) n ≡ reading_found c.in_ok-opened.opened) c.as_slice.ensures.value c.in_ok-opened.ensures.finds) refl refl refl c.requires.idle c.in-Nothing.is
+
+pub returns-clause-told : goal.returns-clause-told
+returns-clause-told g c = λ tells inner.
+    let before = g.W.World.state c.args.world.now in
+    let after = g.W.World.state c.open_operand.new.world in
+    open_given c.args.self.now c.in_ok-opened.opened before after c.args.name inner c.requires.live c.requires.plain c.requires.file
+    (subst (λ (n : List ℕ). reader_of before.outside n ≡ reading_of c.in_ok-opened.opened after) c.as_slice.ensures.value (c.in_ok-opened.ensures.told tells))
+    (subst (λ (k : ℕ). after.readers k ≡ before.readers k) (sym c.requires.held.0) (c.open_operand.ensures.standard tells)) c.in_default.not-Nothing
+
+pub returns-clause-finds : goal.returns-clause-finds
+returns-clause-finds g c =
+    open_finds c.args.self.now (record c.args.self.now { next = c.args.self.now.next + 1; found = SomeFile; reading = c.in_ok-opened.opened }) c.args.name c.requires.live c.requires.plain c.requires.file
+    (subst (λ (n : List ℕ). reader_of (λ target. entry_of_reading c.in_ok-opened.opened) n ≡ reading_found c.in_ok-opened.opened) c.as_slice.ensures.value c.in_ok-opened.ensures.finds) refl refl refl c.in_default.not-Nothing

@@ -3,6 +3,9 @@ use Rattle.host_streams.specs.Mains.{idle}
 use Rattle.host_streams.specs.Passing.{HandsAt}
 use Rattle.host_streams.specs.declared.reader.FileNext.{FileNext}
 use Rattle.host_streams.proofs.MainFound.{end_finds, failure_finds, found_idle, record_finds, refusal_finds}
+use Rattle.host_streams.specs.Mains.{ReadsMain, main_of}
+use Rattle.host_streams.proofs.MainSteps.{reads_end, reads_failure, reads_record, reads_refused}
+use Rattle.host_streams.proofs.Passed.{refused_hands}
 use Rattle.host_streams.proofs.main_input.MainInput.read_on.Goals as goal
 
 pub returns-in-Ok-Record-clause-finds : goal.returns-in-Ok-Record-clause-finds
@@ -29,3 +32,49 @@ pub returns-in-Err-clause-finds : goal.returns-in-Err-clause-finds
 returns-in-Err-clause-finds g c =
     refusal_finds c.args.rs c.args.self.now c.read.new.self c.requires.live c.requires.busy c.read.new.self.reading c.read.new.self.standard c.in-Err.stop
     c.in-Err.ensures.limit c.in-Err.ensures.handed
+
+pub returns-in-Ok-Record-clause-told : goal.returns-in-Ok-Record-clause-told
+returns-in-Ok-Record-clause-told g c = λ tells inner asked.
+    let old = main_of c.args.self.now (g.W.World.state c.args.world.now) in
+    let new = main_of c.read.new.self (g.W.World.state c.read.new.world) in
+    reads_record (g.W.World.state c.args.world.now).outside old inner c.args.rs c.requires.live asked.separator c.in-Ok-Record.text new
+    (subst (λ (o : FileNext). ReadsMain c.args.rs old (Ok o) new) c.in-Ok-Record.field-0-is (c.in-Ok-Record.ensures.told tells))
+
+pub returns-in-Ok-End-clause-told : goal.returns-in-Ok-End-clause-told
+returns-in-Ok-End-clause-told g c = λ tells inner asked.
+    let old = main_of c.args.self.now (g.W.World.state c.args.world.now) in
+    let new = main_of c.read.new.self (g.W.World.state c.read.new.world) in
+    reads_end (g.W.World.state c.args.world.now).outside old inner c.args.rs c.requires.live asked.separator new (main_of c.stop_reading.new.self (g.W.World.state c.stop_reading.new.world))
+    (subst (λ (o : FileNext). ReadsMain c.args.rs old (Ok o) new) c.in-Ok-End.field-0-is (c.in-Ok-End.ensures.told tells)) (c.stop_reading.ensures.told tells)
+
+pub returns-in-Ok-Failed-clause-told : goal.returns-in-Ok-Failed-clause-told
+returns-in-Ok-Failed-clause-told g c = λ tells inner asked.
+    let old = main_of c.args.self.now (g.W.World.state c.args.world.now) in
+    let new = main_of c.read.new.self (g.W.World.state c.read.new.world) in
+    reads_failure (g.W.World.state c.args.world.now).outside old inner c.args.rs c.requires.live asked.separator new
+    (subst (λ (o : FileNext). ReadsMain c.args.rs old (Ok o) new) c.in-Ok-Failed.field-0-is (c.in-Ok-Failed.ensures.told tells))
+
+pub returns-in-Err-clause-told : goal.returns-in-Err-clause-told
+returns-in-Err-clause-told g c = λ tells inner asked.
+    reads_refused (g.W.World.state c.args.world.now).outside (main_of c.args.self.now (g.W.World.state c.args.world.now)) inner c.args.rs c.requires.live asked.separator c.in-Err.stop (main_of c.read.new.self (g.W.World.state c.read.new.world))
+    c.in-Err.ensures.limit (c.in-Err.ensures.told tells)
+
+pub returns-in-Ok-Record-clause-handed : goal.returns-in-Ok-Record-clause-handed
+returns-in-Ok-Record-clause-handed g c = record {
+  live = c.requires.live;
+  busy = c.requires.busy;
+  handed = subst (λ (o : FileNext). HandsAt c.args.rs c.args.self.now.reading c.args.self.now.standard (Ok o) c.read.new.self.reading c.read.new.self.standard)
+      c.in-Ok-Record.field-0-is c.in-Ok-Record.ensures.handed;
+}
+
+pub returns-in-Ok-Failed-clause-handed : goal.returns-in-Ok-Failed-clause-handed
+returns-in-Ok-Failed-clause-handed g c = record {
+  live = c.requires.live;
+  busy = c.requires.busy;
+  handed = subst (λ (o : FileNext). HandsAt c.args.rs c.args.self.now.reading c.args.self.now.standard (Ok o) c.read.new.self.reading c.read.new.self.standard)
+      c.in-Ok-Failed.field-0-is c.in-Ok-Failed.ensures.handed;
+}
+
+pub returns-in-Err-clause-handed : goal.returns-in-Err-clause-handed
+returns-in-Err-clause-handed g c =
+    refused_hands c.args.rs c.args.self.now c.read.new.self c.in-Err.stop c.in-Err.ensures.limit (record { live = c.requires.live; busy = c.requires.busy; handed = c.in-Err.ensures.handed })

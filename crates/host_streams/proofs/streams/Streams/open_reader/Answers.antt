@@ -1,13 +1,14 @@
-use Rattle.std.proofs.Common.{◌≡◌, ◌∙◌, ◌++◌, ◌∷◌, [], ◌<◌, ◌+◌, sym, ap, subst, List, Some, length, arith}
+use Rattle.std.proofs.Common.{◌≡◌, ◌∙◌, ◌++◌, ◌∷◌, [], ◌<◌, ◌+◌, refl, sym, ap, subst, List, Some, length, arith}
 use Rattle.std.proofs.lemmas.Bool.{lt-ltb}
 use Rattle.sem_primitives.specs.InputMeaning.{with_reader}
 use Rattle.host_streams.specs.declared.streams.NamedReader.{NamedReader}
-use Rattle.host_streams.specs.OpenFiles.{IsAdded, is_reader, kept_named, phase_named, reader_place, readers_beside, readers_in}
+use Rattle.host_streams.specs.OpenFiles.{IsAdded, has_room, is_reader, kept_named, phase_named, reader_place, readers_beside, readers_in}
 use Rattle.host_streams.specs.declared.reader.Phase.TheVariants.{Open}
 use Rattle.host_streams.specs.Readers.{unread}
 use Rattle.host_streams.proofs.Places.{all_fail}
 use Rattle.host_streams.proofs.Held.{held_open, go_on, opened_last, source_opened, named_last, none_last, shown_last}
-use Rattle.host_streams.proofs.Opened.{added_last, beside_last, none_but_last}
+use Rattle.host_streams.proofs.Begun.{few_streams, many_streams, may_by, may_not}
+use Rattle.host_streams.proofs.Opened.{added_last, beside_last, none_but_last, none_opened, none_told, nothing_opened, nothing_told}
 use Rattle.host_streams.proofs.Outputs.{kind_stays, other_number, was_kind}
 use Rattle.host_streams.proofs.streams.Streams.open_reader.Goals as goal
 
@@ -91,3 +92,24 @@ returns-in-Ok-clause-no_others g c = λ k none was.
       was_kind _ c.in-Ok.id k (g.W.World.kinds c.args.world.now) _ c.in-Ok.ensures.opened (rw c.new-reader.ensures.id at rest.0),
       (rest.1, none.1),
     )
+
+pub returns-then-as_slice-ge-MAX_STREAMS-clause-readers : goal.returns-then-as_slice-ge-MAX_STREAMS-clause-readers
+returns-then-as_slice-ge-MAX_STREAMS-clause-readers g c = none_opened c.args.name.now (has_room c.args.self.now) c.args.self.now.readers.items (may_not c.args.self.now (many_streams c.args.self.now (length c.as_slice.result.now) (length c.as_slice-2.result.now) (ap length c.as_slice.ensures.value) (ap length c.as_slice-2.ensures.value) c.if-as_slice-ge-MAX_STREAMS.true))
+
+pub returns-then-as_slice-ge-MAX_STREAMS-clause-told : goal.returns-then-as_slice-ge-MAX_STREAMS-clause-told
+returns-then-as_slice-ge-MAX_STREAMS-clause-told g c = λ tells. none_told c.args.name.now (has_room c.args.self.now) (g.W.World.state c.args.world.now) (readers_in c.args.self.now.readers.items (g.W.World.state c.args.world.now)) (may_not c.args.self.now (many_streams c.args.self.now (length c.as_slice.result.now) (length c.as_slice-2.result.now) (ap length c.as_slice.ensures.value) (ap length c.as_slice-2.ensures.value) c.if-as_slice-ge-MAX_STREAMS.true))
+
+pub returns-in_err-own-clause-readers : goal.returns-in_err-own-clause-readers
+returns-in_err-own-clause-readers g c = nothing_opened c.from_residual.result c.from_residual.ensures.1 c.args.name.now (has_room c.args.self.now) c.args.self.now.readers.items c.args.self.now.readers.items (may_by c.args.self.now (few_streams c.args.self.now (length c.as_slice.result.now) (length c.as_slice-2.result.now) (ap length c.as_slice.ensures.value) (ap length c.as_slice-2.ensures.value) c.if-as_slice-ge-MAX_STREAMS.false)) refl
+
+pub returns-in_err-own-clause-told : goal.returns-in_err-own-clause-told
+returns-in_err-own-clause-told g c = λ tells. nothing_told c.from_residual.result c.from_residual.ensures.1 c.args.name.now (has_room c.args.self.now) (g.W.World.state c.args.world.now) (readers_in c.args.self.now.readers.items (g.W.World.state c.args.world.now)) (readers_in c.args.self.now.readers.items (g.W.World.state c.args.world.now)) (may_by c.args.self.now (few_streams c.args.self.now (length c.as_slice.result.now) (length c.as_slice-2.result.now) (ap length c.as_slice.ensures.value) (ap length c.as_slice-2.ensures.value) c.if-as_slice-ge-MAX_STREAMS.false)) refl
+
+pub returns-in_err-reserve-clause-readers : goal.returns-in_err-reserve-clause-readers
+returns-in_err-reserve-clause-readers g c = nothing_opened c.from_residual-in_err-reserve.result c.from_residual-in_err-reserve.ensures.1 c.args.name.now (has_room c.args.self.now) c.args.self.now.readers.items c.reserve.new.self.items (may_by c.args.self.now (few_streams c.args.self.now (length c.as_slice.result.now) (length c.as_slice-2.result.now) (ap length c.as_slice.ensures.value) (ap length c.as_slice-2.ensures.value) c.if-as_slice-ge-MAX_STREAMS.false)) c.reserve.ensures.items
+
+pub returns-in_err-reserve-clause-told : goal.returns-in_err-reserve-clause-told
+returns-in_err-reserve-clause-told g c = λ tells. nothing_told c.from_residual-in_err-reserve.result c.from_residual-in_err-reserve.ensures.1 c.args.name.now (has_room c.args.self.now) (g.W.World.state c.args.world.now) (readers_in c.args.self.now.readers.items (g.W.World.state c.args.world.now)) (readers_in c.reserve.new.self.items (g.W.World.state c.args.world.now)) (may_by c.args.self.now (few_streams c.args.self.now (length c.as_slice.result.now) (length c.as_slice-2.result.now) (ap length c.as_slice.ensures.value) (ap length c.as_slice-2.ensures.value) c.if-as_slice-ge-MAX_STREAMS.false)) (ap (λ xs. readers_in xs (g.W.World.state c.args.world.now)) c.reserve.ensures.items)
+
+pub returns-in-Err-Failed-clause-readers : goal.returns-in-Err-Failed-clause-readers
+returns-in-Err-Failed-clause-readers g c = (may_by c.args.self.now (few_streams c.args.self.now (length c.as_slice.result.now) (length c.as_slice-2.result.now) (ap length c.as_slice.ensures.value) (ap length c.as_slice-2.ensures.value) c.if-as_slice-ge-MAX_STREAMS.false), c.reserve.ensures.items)

@@ -1,13 +1,15 @@
-use Rattle.std.proofs.Common.{◌≡◌, ◌∙◌, ◌++◌, ◌∷◌, ◌+◌, ◌<◌, [], ℕ, true, false, length, sym, ap, arith}
+use Rattle.std.proofs.Common.{◌≡◌, ◌∙◌, ◌++◌, ◌∷◌, ◌+◌, ◌<◌, [], ℕ, Bool, Err, Ok, true, false, length, sym, subst, ap, arith}
 use Rattle.std.proofs.lemmas.Result.{err_from_is_err_and}
 use Rattle.sem_primitives.specs.Finds.{seen}
 use Rattle.sem_primitives.specs.OutputMeaning.{opened_if, written_by}
 use Rattle.world_core.specs.WorldState.{Named}
 use Rattle.host_streams.specs.declared.streams.NamedWriter.{NamedWriter}
-use Rattle.host_streams.specs.OpenFiles.{names_of, writer_place}
+use Rattle.host_streams.specs.OpenFiles.{has_room, names_of, writer_place}
 use Rattle.host_streams.specs.Outputs.{IsOf}
-use Rattle.host_streams.specs.Puts.{IsOver}
-use Rattle.host_streams.proofs.Begun.{begins_first, room_is}
+use Rattle.awk_values.specs.declared.fault.Fault.TheVariants.{TooManyStreams}
+use Rattle.awk_values.specs.declared.fault.Stop.TheVariants.{Fault as IsFault}
+use Rattle.host_streams.specs.Puts.{EndsPut, IsOver}
+use Rattle.host_streams.proofs.Begun.{begins_first, few_streams, many_streams, may_by, may_not, nothing_begun, nothing_ends, nothing_put, put_refused, put_room, room_is}
 use Rattle.host_streams.proofs.Outputs.{go_last, go_spared, none_but_last, was_kind, held_written, kind_stays, names_last, none_more, other_number, with_missing, writer_missing}
 use Rattle.host_streams.proofs.streams.Streams.put_first.Goals as goal
 
@@ -63,3 +65,41 @@ returns-in_err-id-clause-begun g c =
     let state = g.W.World.state c.args.world.now in
     rw (p.1, p.2) (begins_first ℕ (Unit {0}) g.W.World.tells (IsOver state) (IsOf c.args.self.now state) (λ shared. opened_if true (seen shared.inner shared.outside (Named c.args.name.now)).opens c.args.name.now c.args.append c.args.text.now shared) (written_by false c.args.name.now c.args.append c.args.text.now) c.in_err-id.field-0.0 _ _
     (λ tells shared is. (record { kept = is.kept; outside = is.outside }, sym (ap (λ b. (opened_if b (seen shared.inner shared.outside (Named c.args.name.now)).opens c.args.name.now c.args.append c.args.text.now shared).added) (room_is c.args.self.now state shared is few)))) c.in_err-id.ensures.begun)
+
+pub returns-then-as_slice-ge-MAX_STREAMS-clause-told : goal.returns-then-as_slice-ge-MAX_STREAMS-clause-told
+returns-then-as_slice-ge-MAX_STREAMS-clause-told g c = λ tells shared is.
+    put_refused c.args.name.now c.args.text.now c.args.append c.args.self.now (g.W.World.state c.args.world.now) shared is
+    (many_streams c.args.self.now (length c.as_slice.result.now) (length c.as_slice-2.result.now) (ap length c.as_slice.ensures.value) (ap length c.as_slice-2.ensures.value) c.if-as_slice-ge-MAX_STREAMS.true)
+
+pub returns-then-as_slice-ge-MAX_STREAMS-clause-ends : goal.returns-then-as_slice-ge-MAX_STREAMS-clause-ends
+returns-then-as_slice-ge-MAX_STREAMS-clause-ends g c =
+    subst (λ (b : Bool). EndsPut {A = Unit {0}} false b c.args.text.now (Err (IsFault TooManyStreams)))
+    (sym (may_not c.args.self.now (many_streams c.args.self.now (length c.as_slice.result.now) (length c.as_slice-2.result.now) (ap length c.as_slice.ensures.value) (ap length c.as_slice-2.ensures.value) c.if-as_slice-ge-MAX_STREAMS.true))) tt
+
+pub returns-clause-told : goal.returns-clause-told
+returns-clause-told g c = λ tells shared is.
+    put_room c.args.name.now c.args.text.now c.args.append c.args.self.now (g.W.World.state c.args.world.now) (g.W.World.state c.put_new.new.world) shared (Ok c.in_ok-id.id) is
+    (few_streams c.args.self.now (length c.as_slice.result.now) (length c.as_slice-2.result.now) (ap length c.as_slice.ensures.value) (ap length c.as_slice-2.ensures.value) c.if-as_slice-ge-MAX_STREAMS.false)
+    (c.in_ok-id.ensures.told tells shared (record { kept = is.kept; outside = is.outside }))
+
+pub returns-clause-ends : goal.returns-clause-ends
+returns-clause-ends g c =
+    subst (λ (b : Bool). EndsPut false b c.args.text.now (Ok tt)) (sym (may_by c.args.self.now (few_streams c.args.self.now (length c.as_slice.result.now) (length c.as_slice-2.result.now) (ap length c.as_slice.ensures.value) (ap length c.as_slice-2.ensures.value) c.if-as_slice-ge-MAX_STREAMS.false))) tt
+
+pub returns-in_err-own-clause-told : goal.returns-in_err-own-clause-told
+returns-in_err-own-clause-told g c = λ tells shared is. nothing_put c.from_residual.result c.from_residual.ensures.1 (written_by false c.args.name.now c.args.append c.args.text.now shared) (g.W.World.state c.args.world.now)
+
+pub returns-in_err-own-clause-begun : goal.returns-in_err-own-clause-begun
+returns-in_err-own-clause-begun g c = nothing_begun c.from_residual.result c.from_residual.ensures.1 g.W.World.tells (IsOf c.args.self.now (g.W.World.state c.args.world.now)) (written_by false c.args.name.now c.args.append c.args.text.now) (g.W.World.state c.args.world.now)
+
+pub returns-in_err-own-clause-ends : goal.returns-in_err-own-clause-ends
+returns-in_err-own-clause-ends g c = nothing_ends c.from_residual.result c.from_residual.ensures.1 (has_room c.args.self.now) c.args.text.now
+
+pub returns-in_err-reserve-clause-told : goal.returns-in_err-reserve-clause-told
+returns-in_err-reserve-clause-told g c = λ tells shared is. nothing_put c.from_residual-in_err-reserve.result c.from_residual-in_err-reserve.ensures.1 (written_by false c.args.name.now c.args.append c.args.text.now shared) (g.W.World.state c.args.world.now)
+
+pub returns-in_err-reserve-clause-begun : goal.returns-in_err-reserve-clause-begun
+returns-in_err-reserve-clause-begun g c = nothing_begun c.from_residual-in_err-reserve.result c.from_residual-in_err-reserve.ensures.1 g.W.World.tells (IsOf c.args.self.now (g.W.World.state c.args.world.now)) (written_by false c.args.name.now c.args.append c.args.text.now) (g.W.World.state c.args.world.now)
+
+pub returns-in_err-reserve-clause-ends : goal.returns-in_err-reserve-clause-ends
+returns-in_err-reserve-clause-ends g c = nothing_ends c.from_residual-in_err-reserve.result c.from_residual-in_err-reserve.ensures.1 (has_room c.args.self.now) c.args.text.now
