@@ -7,7 +7,7 @@ ghost use Rattle.awk_grammar.specs.View.{view as tree};
 ghost use Rattle.awk_grammar.specs.ViewStmt.{view_item, view_items, view_pattern, view_stmts as tree_stmts};
 ghost use Rattle.sem_scripts.specs.Items.{item_ranges, print_record, range_count, reads_records};
 ghost use Rattle.mid_program.specs.Mid as plain;
-ghost use Rattle.mid_program.specs.Translation.{begin_code, code_of, end_code, items_code, one, record_code, steps_code, where_code};
+ghost use Rattle.mid_program.specs.Translation.{begin_code, code_of, end_code, items_code, steps_code, where_code};
 ghost use Rattle.mid_program.specs.ViewCode.{maybe_then, view_step, view_steps};
 ghost use Rattle.mid_code.specs.ViewScope.{scope_of, texts_of};
 ghost use Rattle.mid_code.specs.ViewSteps.{unboxed};
@@ -30,24 +30,15 @@ fn action(scope: &Scope<'_>, body: &[Stmt]) -> Result<Box<Step>, AllocError>
     block(scope.alloc, steps(scope, body)?)
 }
 
-/// The code that prints the record.
-fn print(alloc: Global) -> Result<Box<Step>, AllocError>
-    ensures { IfOk result (λ step. view_step step.value ≡ plain.Eval (plain.Over (Listed.Print
-        Destination.Standard) (one record_code))) }
-{
-    let values = single(alloc, Operand::Code(record(alloc)?))?;
-    let printed = over(Listed::Print(Destination::Standard), values);
-    boxed(alloc, Step::Eval(printed))
-}
-
-/// The code of an action that is left out.
+/// The code of an action that is left out: the record is printed.
 #[tactic(auto, using(crate::proofs::StepParts::print_record_is))]
 fn print_record(scope: &Scope<'_>) -> Result<Box<Step>, AllocError>
     ensures { IfOk result (λ step. view_step step.value ≡ plain.Block (steps_code (texts_of
         scope.now) (scope_of scope.now) print_record)) }
 {
-    let print = Box::into_inner(print(scope.alloc)?);
-    block(scope.alloc, single(scope.alloc, print)?)
+    let values = single(scope.alloc, Operand::Code(record(scope.alloc)?))?;
+    let printed = over(Listed::Print(Destination::Standard), values);
+    block(scope.alloc, single(scope.alloc, Step::Eval(printed))?)
 }
 
 /// The code that opens or closes a range where a pattern is true.

@@ -225,9 +225,8 @@ fn next_file(alloc: Global) -> Result<Box<Step>, AllocError>
         (plain.Then plain.Next plain.NoStep))) }
 {
     let rest = applied(Operation::Host(Primitive::NextFile), Vec::new(alloc));
-    let given_up = boxed(alloc, Step::Eval(rest))?;
-    let left = boxed(alloc, Step::Next)?;
-    in_turn(alloc, given_up, left)
+    let steps = pair(alloc, Step::Eval(rest), Step::Next)?;
+    block(alloc, steps)
 }
 
 #[tactic(auto, unfolding(mid_program::specs::Translation::step_code))]
