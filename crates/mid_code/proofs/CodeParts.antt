@@ -27,6 +27,7 @@ use Rattle.sem_scripts.specs.Names.{Name, Scope, array_of, function_at, function
 use Rattle.sem_scripts.specs.Steps.{ere_in, is_ere}
 use Rattle.mid_program.specs.Translation.{FieldTarget, applied_code, argument_codes, code_of, codes_of, ere_code, fresh_codes, given_code, host, keeping, kept_code, key_code, one, passed_code, record_code, special_code, substituted_at, target_in, truncated_code, two, zero_code}
 use Rattle.mid_program.specs.ViewCode.{before, followed, view, views}
+use Rattle.mid_code.specs.Applied.{applied_to}
 use Rattle.mid_code.specs.Keys.{each_code, key_of}
 use Rattle.mid_code.specs.ViewTarget.{sub_or_gsub}
 use Rattle.mid_program.specs.declared.code.Code.{Code as Owned}
@@ -98,6 +99,11 @@ module _ (texts : List (List ℕ)) (scope : Scope) where
       first ≡ code_of texts scope t → rest ≡ key_code texts scope ts → host row.Has (two (Array (array_of scope x)) key) ≡ code_of texts scope e
   unfolding code_of
   in_list_code e x t ts key first rest is k f r = rw (k, f, r) (ap (code_of texts scope) is)
+
+  pub element_code : (e : Tree) (x : List ℕ) (ts : Trees) (key : Code) → Index x ts ≡ e → key ≡ key_code texts scope ts →
+      host row.Elem (two (Array (array_of scope x)) key) ≡ code_of texts scope e
+  unfolding code_of
+  element_code e x ts key is k = rw k (ap (code_of texts scope) is)
 
   pub conditional_code : (e : Expr) (p q r : Box Expr Global) (a b c : Expr) (test first second : Code) → e ≡ Conditional p q r → a ≡ p.value →
       b ≡ q.value → c ≡ r.value →
@@ -305,6 +311,52 @@ module _ (texts : List (List ℕ)) (scope : Scope) where
   other_code builtin.Int ts other = refl
   other_code builtin.Close ts other = refl
   other_code builtin.Fflush ts other = refl
+
+  -- one operand
+  one_applied : (f : Builtin) (t : Tree) → f ≢ builtin.Int → applied_to f (code_of texts scope t) ≡ applied_code texts scope f (Then t NoTree)
+  unfolding applied_code
+  one_applied builtin.Int t other = absurd (other refl)
+  one_applied builtin.Length t other = refl
+  one_applied builtin.Substr t other = refl
+  one_applied builtin.Index t other = refl
+  one_applied builtin.Split t other = refl
+  one_applied builtin.Sub t other = refl
+  one_applied builtin.Gsub t other = refl
+  one_applied builtin.Match t other = refl
+  one_applied builtin.Sprintf t other = refl
+  one_applied builtin.ToLower t other = refl
+  one_applied builtin.ToUpper t other = refl
+  one_applied builtin.Close t other = refl
+  one_applied builtin.Fflush t other = refl
+
+  pub applied_one : (f : Builtin) (t : Tree) (e : Code) → f ≢ builtin.Int → e ≡ code_of texts scope t →
+      applied_to f e ≡ applied_code texts scope f (Then t NoTree)
+  applied_one f t e other is = ap (applied_to f) is ∙ one_applied f t other
+
+  -- operands of which only the first counts
+  first_counts : (f : Builtin) (t : Tree) (ts : Trees) → f ≢ builtin.Length → f ≢ builtin.Index → f ≢ builtin.Match → f ≢ builtin.Substr →
+      f ≢ builtin.Split → f ≢ builtin.Sub → f ≢ builtin.Gsub →
+      applied_code texts scope f (Then t NoTree) ≡ applied_code texts scope f (Then t ts)
+  unfolding applied_code
+  first_counts builtin.Length t ts l i m s p u g = absurd (l refl)
+  first_counts builtin.Index t ts l i m s p u g = absurd (i refl)
+  first_counts builtin.Match t ts l i m s p u g = absurd (m refl)
+  first_counts builtin.Substr t ts l i m s p u g = absurd (s refl)
+  first_counts builtin.Split t ts l i m s p u g = absurd (p refl)
+  first_counts builtin.Sub t ts l i m s p u g = absurd (u refl)
+  first_counts builtin.Gsub t ts l i m s p u g = absurd (g refl)
+  first_counts builtin.Sprintf t ts l i m s p u g = refl
+  first_counts builtin.ToLower t ts l i m s p u g = refl
+  first_counts builtin.ToUpper t ts l i m s p u g = refl
+  first_counts builtin.Int t ts l i m s p u g = refl
+  first_counts builtin.Close t ts l i m s p u g = refl
+  first_counts builtin.Fflush t ts l i m s p u g = refl
+
+  pub only_first : (f : Builtin) (es : List Expr) (a : Expr) → 2 ≤ length es → a ≡ get_or es 0 a → f ≢ builtin.Length → f ≢ builtin.Index →
+      f ≢ builtin.Match → f ≢ builtin.Substr → f ≢ builtin.Split → f ≢ builtin.Sub → f ≢ builtin.Gsub →
+      applied_code texts scope f (Then (tree a) NoTree) ≡ applied_code texts scope f (trees es)
+  only_first f es a le first l i m s p u g =
+      first_counts f (tree a) (trees (drop 1 es)) l i m s p u g ∙ sym (ap (applied_code texts scope f) (part_of es 0 a (omega arith) first))
 
   pub length_more : (f : Builtin) (es : List Expr) → 2 ≤ length es → f ≡ builtin.Length →
       host row.Length (one record_code) ≡ applied_code texts scope f (trees es)

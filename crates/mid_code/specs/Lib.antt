@@ -1,3 +1,4 @@
+pub mod Applied
 pub mod Keys
 pub mod ViewNames
 pub mod ViewBodies

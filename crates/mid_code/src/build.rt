@@ -3,12 +3,12 @@
 ghost use Rattle.std.specs.Prelude.{◌≡◌, true, false, IfOk, pos};
 ghost use Rattle.sem_primitives.specs.declared.sorts.Sort.TheVariants as sort;
 ghost use Rattle.mid_program.specs.Mid as plain;
-ghost use Rattle.mid_program.specs.Translation.{one, two, record_code, set_variable_code, special_code, store_variable_code, truth_code, untruth_code, variable_code};
+ghost use Rattle.mid_program.specs.Translation.{moved, one, two, record_code, set_variable_code, special_code, store_variable_code, truth_code, untruth_code, variable_code};
 ghost use Rattle.mid_program.specs.ViewCode.{view, view_slot, views};
 ghost use Rattle.mid_code.specs.ViewNames.{view_variable};
 
+use crate::held::{boxed, pair, single, triple};
 use crate::names::Variable;
-use awk_values::CompareOp;
 use mid_program::{Code, Operand, Operation, Slot};
 use sem_primitives::{Listed, Primitive, Sort, Special};
 use std::alloc::{AllocError, Global};
@@ -35,8 +35,7 @@ pub(crate) fn called(function: usize, operands: Vec<Operand>) -> Code
 pub(crate) fn unary(alloc: Global, operation: Operation, operand: Code) -> Result<Code, AllocError>
     ensures { IfOk result (λ code. view code ≡ plain.Do operation (one (view operand))) }
 {
-    let mut operands = Vec::new(alloc);
-    operands.push(Operand::Code(operand))?;
+    let operands = single(alloc, Operand::Code(operand))?;
     Ok(applied(operation, operands))
 }
 
@@ -49,7 +48,7 @@ pub(crate) fn binary(
 ) -> Result<Code, AllocError>
     ensures { IfOk result (λ code. view code ≡ plain.Do operation (two (view left) (view right))) }
 {
-    let operands = vec![in alloc; Operand::Code(left), Operand::Code(right)]?;
+    let operands = pair(alloc, Operand::Code(left), Operand::Code(right))?;
     Ok(applied(operation, operands))
 }
 
@@ -63,11 +62,8 @@ pub(crate) fn three(
     ensures { IfOk result (λ operands. views operands.items
         ≡ plain.At (view first) (two (view second) (view third))) }
 {
-    Ok(vec![in alloc;
-        Operand::Code(first),
-        Operand::Code(second),
-        Operand::Code(third),
-    ]?)
+    let (first, second) = (Operand::Code(first), Operand::Code(second));
+    triple(alloc, first, second, Operand::Code(third))
 }
 
 /// What the host does with three operands.
@@ -85,24 +81,11 @@ pub(crate) fn ternary(
     Ok(applied(Operation::Host(primitive), operands))
 }
 
-/// Code in a box.
-pub(crate) fn boxed(alloc: Global, code: Code) -> Result<Box<Code>, AllocError>
-    ensures { IfOk result (λ boxed. boxed.value ≡ code) }
-{
-    Ok(Box::new(alloc, code)?)
-}
-
 /// A number in a box.
 pub(crate) fn number(alloc: Global, number: i64) -> Result<Box<Code>, AllocError>
     ensures { IfOk result (λ code. view code.value ≡ plain.Number number) }
 {
     boxed(alloc, Code::Number(number))
-}
-
-pub(crate) fn compared(op: CompareOp, left: Box<Code>, right: Box<Code>) -> Code
-    ensures { view result ≡ plain.Compare op (view left.value) (view right.value) }
-{
-    Code::Compare(op, left, right)
 }
 
 /// One of two codes, by the truth of a test.
@@ -119,11 +102,19 @@ pub(crate) fn kept_while(alloc: Global, kept: Box<Code>, body: Code) -> Result<C
     Ok(Code::Let(kept, boxed(alloc, body)?))
 }
 
-/// One code after the other.
-pub(crate) fn in_turn(alloc: Global, first: Box<Code>, second: Code) -> Result<Code, AllocError>
-    ensures { IfOk result (λ code. view code ≡ plain.Seq (view first.value) (view second)) }
+/// Code is kept while other code stores it; then what was kept with so many others after it is the answer.
+pub(crate) fn kept_and_stored(
+    alloc: Global,
+    kept: Box<Code>,
+    store: Code,
+    after: usize,
+) -> Result<Code, AllocError>
+    ensures { IfOk result (λ code. view code ≡ plain.Let (view kept.value) (plain.Seq (view store)
+        (moved after))) }
 {
-    Ok(Code::Seq(first, boxed(alloc, second)?))
+    let store = boxed(alloc, store)?;
+    let answer = boxed(alloc, Code::Bound(true, after))?;
+    kept_while(alloc, kept, Code::Seq(store, answer))
 }
 
 /// A substitution: expression, replacement and target; and the code that stores the new text.
@@ -146,20 +137,6 @@ pub(crate) fn substitution(
         replacement) (view target))) (view store.value)) }
 {
     Ok(replaced(all, three(alloc, ere, replacement, target)?, store))
-}
-
-/// A record of the main input, which the code stores.
-pub(crate) fn ask_line(alloc: Global, store: Code) -> Result<Code, AllocError>
-    ensures { IfOk result (λ code. view code ≡ plain.AskLine (view store)) }
-{
-    Ok(Code::AskLine(boxed(alloc, store)?))
-}
-
-/// A record of a file, which the code stores.
-pub(crate) fn file_line(alloc: Global, file: Box<Code>, store: Code) -> Result<Code, AllocError>
-    ensures { IfOk result (λ code. view code ≡ plain.FileLine (view file.value) (view store)) }
-{
-    Ok(Code::FileLine(file, boxed(alloc, store)?))
 }
 
 fn set(alloc: Global, slot: Slot, code: Code) -> Result<Code, AllocError>
@@ -204,8 +181,7 @@ pub(crate) fn record(alloc: Global) -> Result<Code, AllocError>
 pub(crate) fn reserved(alloc: Global, special: Special) -> Result<Code, AllocError>
     ensures { IfOk result (λ code. view code ≡ special_code special) }
 {
-    let mut operands = Vec::new(alloc);
-    operands.push(Operand::Constant(u32::from(special.number())))?;
+    let operands = single(alloc, Operand::Constant(u32::from(special.number())))?;
     Ok(applied(Operation::Host(Primitive::GetSpecial), operands))
 }
 
@@ -215,7 +191,7 @@ fn set_reserved(alloc: Global, special: Special, code: Code) -> Result<Code, All
         special)) (view code)) }
 {
     let number = Operand::Constant(u32::from(special.number()));
-    let operands = vec![in alloc; number, Operand::Code(code)]?;
+    let operands = pair(alloc, number, Operand::Code(code))?;
     Ok(applied(Operation::Host(Primitive::SetSpecial), operands))
 }
 
@@ -260,9 +236,8 @@ pub(crate) fn set_variable(
         Variable::Parameter(place) => set(alloc, Slot::Parameter(false, place), code),
         Variable::Reserved(special) => {
             let code = boxed(alloc, code)?;
-            let store = boxed(alloc, set_reserved(alloc, special, Code::Bound(false, 0))?)?;
-            let both = in_turn(alloc, store, Code::Bound(true, 0))?;
-            kept_while(alloc, code, both)
+            let store = set_reserved(alloc, special, Code::Bound(false, 0))?;
+            kept_and_stored(alloc, code, store, 0)
         }
     }
 }

@@ -14,14 +14,15 @@ ghost use Rattle.sem_scripts.specs.Names.{Name, array_of};
 ghost use Rattle.mid_program.specs.Texts.{text_place};
 ghost use Rattle.mid_program.specs.Translation.{FieldTarget, applied_code, assigned_at, code_of, fresh_codes, keeping, one, passed_code, received_at, record_code, special_code, step_after_at, stepped_at, substituted_at, target_in, two, zero_code};
 ghost use Rattle.mid_program.specs.ViewCode.{before, view, view_array};
+ghost use Rattle.mid_code.specs.Applied.{applied_to};
 ghost use Rattle.mid_code.specs.Keys.{key_of};
 ghost use Rattle.mid_code.specs.ViewScope.{scope_of, texts_of};
 ghost use Rattle.mid_code.specs.ViewTarget.{view_kept};
 
 use crate::build::{
-    applied, ask_line, binary, boxed, file_line, kept_while, number, record, reserved, ternary,
-    three, unary, variable,
+    applied, binary, kept_while, number, record, reserved, ternary, three, unary, variable,
 };
+use crate::held::{boxed, push};
 use crate::operators::host;
 use crate::peek::ere_text;
 use crate::scope::Scope;
@@ -213,8 +214,7 @@ pub(crate) fn line_into(
         (target_in (texts_of scope.now) (scope_of scope.now) (tree place.now))))) }
 {
     let store = received(scope.alloc, target_in(scope, place))?;
-    let body = ask_line(scope.alloc, store)?;
-    keeping(scope.alloc, kept, body)
+    keeping(scope.alloc, kept, Code::AskLine(store))
 }
 
 /// A record of a file into a place.
@@ -229,8 +229,7 @@ pub(crate) fn file_line_into(
         place.now))))) }
 {
     let store = received(scope.alloc, target_in(scope, place))?;
-    let body = file_line(scope.alloc, file, store)?;
-    keeping(scope.alloc, kept, body)
+    keeping(scope.alloc, kept, Code::FileLine(file, store))
 }
 
 /// What a bare name gives for a parameter.
@@ -286,6 +285,31 @@ pub(crate) fn apply_none(alloc: Global, function: Builtin) -> Result<Code, Alloc
     }
 }
 
+/// What a built-in function does with one operand, but for `int`, whose code depends on what its operand is.
+pub(crate) fn applied_to(
+    alloc: Global,
+    function: Builtin,
+    operand: Code,
+) -> Result<Code, AllocError>
+    ensures { IfOk result (λ code. view code ≡ applied_to function (view operand)) }
+{
+    match function {
+        Builtin::Length => host_one(alloc, Primitive::Length, operand),
+        Builtin::ToLower => host_one(alloc, Primitive::Lower, operand),
+        Builtin::ToUpper => host_one(alloc, Primitive::Upper, operand),
+        Builtin::Close => host_number(alloc, Primitive::Close, operand),
+        Builtin::Fflush => host_number(alloc, Primitive::Flush, operand),
+        Builtin::Substr
+        | Builtin::Index
+        | Builtin::Split
+        | Builtin::Sub
+        | Builtin::Gsub
+        | Builtin::Match
+        | Builtin::Sprintf
+        | Builtin::Int => Ok(Code::Unset),
+    }
+}
+
 /// A part of a text, from a place on and of a length.
 pub(crate) fn part_of(
     alloc: Global,
@@ -323,7 +347,7 @@ pub(crate) fn split_into(
     let text = Box::into_inner(text);
     let separator = Box::into_inner(separator);
     let mut operands = three(alloc, text, Code::Array(array), separator)?;
-    operands.push(Operand::Constant(u32::from(is_ere)))?;
+    push(&mut operands, Operand::Constant(u32::from(is_ere)))?;
     Ok(applied(Operation::Host(Primitive::Split), operands))
 }
 

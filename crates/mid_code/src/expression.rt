@@ -1,8 +1,8 @@
 //! The code of expressions.
 
 ghost use Rattle.std.specs.Prelude.{◌≡◌, ◌≤◌, length, map, IfOk, OnOk};
-ghost use Rattle.awk_grammar.specs.Tree.{Apply, Call, GetInto, Has, Index, NoTree, Post, Pre, Then};
-ghost use Rattle.awk_grammar.specs.View.{view as tree, views as trees, view_binary, view_step};
+ghost use Rattle.awk_grammar.specs.Tree.{Apply, Call, NoTree, Then};
+ghost use Rattle.awk_grammar.specs.View.{view as tree, views as trees, view_binary};
 ghost use Rattle.sem_primitives.specs.declared.table.Primitive.TheVariants as row;
 ghost use Rattle.mid_program.specs.Mid as plain;
 ghost use Rattle.mid_program.specs.Translation.{applied_code, code_of, codes_of, ere_code, ere_for, key_code, kept_code, one, truncated_code};
@@ -12,13 +12,14 @@ ghost use Rattle.mid_code.specs.Keys.{each_code};
 ghost use Rattle.mid_code.specs.ViewScope.{scope_of, texts_of};
 ghost use Rattle.mid_code.specs.ViewTarget.{sub_or_gsub, view_kept};
 
-use crate::build::{boxed, called, chosen, number, over, variable};
+use crate::build::{called, chosen, number, over, variable};
 use crate::compound::{
-    apply_none, assign_place, field_number, field_separator, file_line_into, host_array,
-    host_number, host_one, joined, key_of, line_into, missing, part_of, passed, record_length,
-    record_matches, split_into, step_place, step_place_after, string, substitute_place,
-    substitute_record,
+    applied_to, apply_none, assign_place, field_number, field_separator, file_line_into,
+    host_array, host_number, host_one, joined, key_of, line_into, missing, part_of, passed,
+    record_length, record_matches, split_into, step_place, step_place_after, string,
+    substitute_place, substitute_record,
 };
+use crate::held::{boxed, push};
 use crate::operators::{combined, constant, host, inline, prefixed};
 use crate::peek::{bare_name, ere_in, is_ere, is_match, is_quotient};
 use crate::scope::Scope;
@@ -41,14 +42,14 @@ pub(crate) fn code(scope: &Scope<'_>, e: &Expr) -> Result<Code, AllocError>
         Expr::Ere(token) => record_matches(scope, token),
         Expr::Length => record_length(alloc),
         Expr::Var(name) => variable(alloc, scope.variable(name)),
-        Expr::Element(name, keys) => element(scope, name, keys),
+        Expr::Element(name, keys) => host_array(scope, Primitive::Elem, name, key(scope, keys)?),
         Expr::Field(number) => host_of(scope, Primitive::Field, number),
         Expr::Group(inner) => code(scope, inner),
         Expr::Call(name, arguments) => call(scope, name, arguments),
         Expr::Apply(function, arguments) => apply(scope, *function, arguments),
         Expr::Unary(op, inner) => prefixed(alloc, *op, code(scope, inner)?),
-        Expr::PreStep(op, place) => pre_step(scope, *op, place),
-        Expr::PostStep(op, place) => post_step(scope, *op, place),
+        Expr::PreStep(op, place) => step_place(scope, *op, place, kept(scope, place)?),
+        Expr::PostStep(op, place) => step_place_after(scope, *op, place, kept(scope, place)?),
         Expr::Binary(op, left, right) => {
             let left = boxed_code(scope, left)?;
             combined(alloc, *op, left, operand(scope, *op, right)?)
@@ -57,7 +58,7 @@ pub(crate) fn code(scope: &Scope<'_>, e: &Expr) -> Result<Code, AllocError>
             let kept = kept(scope, place)?;
             assign_place(scope, *op, place, kept, code(scope, value)?)
         }
-        Expr::In(key, name) => has_key(scope, key, name),
+        Expr::In(key, name) => host_array(scope, Primitive::Has, name, boxed_code(scope, key)?),
         Expr::InList(first, others, name) => {
             let first = boxed_code(scope, first)?;
             let others = codes(scope, others)?;
@@ -70,8 +71,8 @@ pub(crate) fn code(scope: &Scope<'_>, e: &Expr) -> Result<Code, AllocError>
             Ok(chosen(Sort::Value, test, yes, boxed_code(scope, no)?))
         }
         Expr::Getline => Ok(Code::Ask),
-        Expr::GetlineInto(place) => line_to(scope, place),
-        Expr::GetlineFrom(file) => host_number_of(scope, Primitive::GetlineFile, file),
+        Expr::GetlineInto(place) => line_into(scope, place, kept(scope, place)?),
+        Expr::GetlineFrom(file) => host_number(alloc, Primitive::GetlineFile, code(scope, file)?),
         Expr::GetlineIntoFrom(place, file) => {
             let kept = kept(scope, place)?;
             file_line_into(scope, place, kept, boxed_code(scope, file)?)
@@ -98,72 +99,6 @@ fn host_of(scope: &Scope<'_>, primitive: Primitive, e: &Expr) -> Result<Code, Al
     host_one(scope.alloc, primitive, operand)
 }
 
-/// The number of what the host does with an expression's answer.
-#[cycle(expressions)]
-fn host_number_of(scope: &Scope<'_>, primitive: Primitive, e: &Expr) -> Result<Code, AllocError>
-    ensures { IfOk result (λ code. view code ≡ plain.Do Operation.AsNumber (one (plain.Do
-        (Operation.Host primitive) (one (code_of (texts_of scope.now) (scope_of scope.now) (tree
-        e.now)))))) }
-{
-    let operand = code(scope, e)?;
-    host_number(scope.alloc, primitive, operand)
-}
-
-/// The code of an element.
-#[cycle(expressions)]
-#[tactic(auto, unfolding(mid_program::specs::Translation::code_of))]
-fn element(scope: &Scope<'_>, name: &[u8], subscripts: &[Expr]) -> Result<Code, AllocError>
-    ensures { IfOk result (λ code. view code ≡ code_of (texts_of scope.now) (scope_of scope.now)
-        (Index name.now (trees subscripts.now))) }
-{
-    let key = key(scope, subscripts)?;
-    host_array(scope, Primitive::Elem, name, key)
-}
-
-/// Whether an array has an element.
-#[cycle(expressions)]
-#[tactic(auto, unfolding(mid_program::specs::Translation::code_of))]
-fn has_key(scope: &Scope<'_>, key: &Expr, name: &[u8]) -> Result<Code, AllocError>
-    ensures { IfOk result (λ code. view code ≡ code_of (texts_of scope.now) (scope_of scope.now)
-        (Has (tree key.now) name.now)) }
-{
-    let key = boxed_code(scope, key)?;
-    host_array(scope, Primitive::Has, name, key)
-}
-
-/// The code of a step whose answer is the number after it.
-#[cycle(expressions)]
-#[tactic(auto, unfolding(mid_program::specs::Translation::code_of))]
-fn pre_step(scope: &Scope<'_>, op: StepOp, place: &Expr) -> Result<Code, AllocError>
-    ensures { IfOk result (λ code. view code ≡ code_of (texts_of scope.now) (scope_of scope.now)
-        (Pre (view_step op) (tree place.now))) }
-{
-    let kept = kept(scope, place)?;
-    step_place(scope, op, place, kept)
-}
-
-/// The code of a step whose answer is the number before it.
-#[cycle(expressions)]
-#[tactic(auto, unfolding(mid_program::specs::Translation::code_of))]
-fn post_step(scope: &Scope<'_>, op: StepOp, place: &Expr) -> Result<Code, AllocError>
-    ensures { IfOk result (λ code. view code ≡ code_of (texts_of scope.now) (scope_of scope.now)
-        (Post (view_step op) (tree place.now))) }
-{
-    let kept = kept(scope, place)?;
-    step_place_after(scope, op, place, kept)
-}
-
-/// The code of `getline` into a place.
-#[cycle(expressions)]
-#[tactic(auto, unfolding(mid_program::specs::Translation::code_of))]
-fn line_to(scope: &Scope<'_>, place: &Expr) -> Result<Code, AllocError>
-    ensures { IfOk result (λ code. view code ≡ code_of (texts_of scope.now) (scope_of scope.now)
-        (GetInto (tree place.now))) }
-{
-    let kept = kept(scope, place)?;
-    line_into(scope, place, kept)
-}
-
 /// Adds the code of operands.
 #[cycle(expressions)]
 pub(crate) fn push_operands(
@@ -175,7 +110,7 @@ pub(crate) fn push_operands(
         (texts_of scope.now) (scope_of scope.now) (trees es.now))) }
 {
     for e in es {
-        codes.push(Operand::Code(code(scope, e)?))?;
+        push(codes, Operand::Code(code(scope, e)?))?;
     }
     Ok(())
 }
@@ -188,7 +123,7 @@ fn codes(scope: &Scope<'_>, es: &[Expr]) -> Result<Vec<Code>, AllocError>
 {
     let mut codes = Vec::new(scope.alloc);
     for e in es {
-        codes.push(code(scope, e)?)?;
+        push(&mut codes, code(scope, e)?)?;
     }
     Ok(codes)
 }
@@ -265,11 +200,14 @@ fn call(scope: &Scope<'_>, name: &[u8], es: &[Expr]) -> Result<Code, AllocError>
     let mut operands = Vec::new(scope.alloc);
     for i in 0..parameters.len() {
         if i >= es.len() {
-            operands.push(missing(&parameters[i]))?;
+            push(&mut operands, missing(&parameters[i]))?;
         } else if let Some(name) = bare_name(&es[i]) {
-            operands.push(Operand::Code(passed(scope, &parameters[i], name)?))?;
+            push(
+                &mut operands,
+                Operand::Code(passed(scope, &parameters[i], name)?),
+            )?;
         } else {
-            operands.push(Operand::Code(code(scope, &es[i])?))?;
+            push(&mut operands, Operand::Code(code(scope, &es[i])?))?;
         }
     }
     Ok(called(function, operands))
@@ -314,25 +252,13 @@ fn apply_one(scope: &Scope<'_>, function: Builtin, e: &Expr) -> Result<Code, All
         scope.now) function (Then (tree e.now) NoTree)) }
 {
     match function {
-        Builtin::Length => host_of(scope, Primitive::Length, e),
-        Builtin::ToLower => host_of(scope, Primitive::Lower, e),
-        Builtin::ToUpper => host_of(scope, Primitive::Upper, e),
-        Builtin::Close => host_number_of(scope, Primitive::Close, e),
-        Builtin::Fflush => host_number_of(scope, Primitive::Flush, e),
         Builtin::Int => truncated(scope, e),
-        Builtin::Substr
-        | Builtin::Index
-        | Builtin::Split
-        | Builtin::Sub
-        | Builtin::Gsub
-        | Builtin::Match
-        | Builtin::Sprintf => Ok(Code::Unset),
+        _ => applied_to(scope.alloc, function, code(scope, e)?),
     }
 }
 
-/// The code of a built-in function of two operands and perhaps more.
+/// The code of a built-in function of two operands and perhaps more; some take only the first.
 #[cycle(expressions)]
-#[tactic(auto, unfolding(mid_program::specs::Translation::applied_code))]
 fn apply_more(scope: &Scope<'_>, function: Builtin, es: &[Expr]) -> Result<Code, AllocError>
     requires { 2 ≤ length es.now }
     ensures { IfOk result (λ code. view code ≡ applied_code (texts_of scope.now) (scope_of
@@ -340,11 +266,6 @@ fn apply_more(scope: &Scope<'_>, function: Builtin, es: &[Expr]) -> Result<Code,
 {
     match function {
         Builtin::Length => record_length(scope.alloc),
-        Builtin::ToLower => host_of(scope, Primitive::Lower, &es[0]),
-        Builtin::ToUpper => host_of(scope, Primitive::Upper, &es[0]),
-        Builtin::Close => host_number_of(scope, Primitive::Close, &es[0]),
-        Builtin::Fflush => host_number_of(scope, Primitive::Flush, &es[0]),
-        Builtin::Int => truncated(scope, &es[0]),
         Builtin::Index => {
             let text = boxed_code(scope, &es[0])?;
             let part = boxed_code(scope, &es[1])?;
@@ -359,7 +280,7 @@ fn apply_more(scope: &Scope<'_>, function: Builtin, es: &[Expr]) -> Result<Code,
         Builtin::Split => split(scope, es),
         Builtin::Sub => substitute(scope, false, es),
         Builtin::Gsub => substitute(scope, true, es),
-        Builtin::Sprintf => Ok(Code::Unset),
+        _ => apply_one(scope, function, &es[0]),
     }
 }
 

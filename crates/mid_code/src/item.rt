@@ -7,17 +7,16 @@ ghost use Rattle.awk_grammar.specs.View.{view as tree};
 ghost use Rattle.awk_grammar.specs.ViewStmt.{view_item, view_items, view_pattern, view_stmts as tree_stmts};
 ghost use Rattle.sem_scripts.specs.Items.{item_ranges, print_record, range_count, reads_records};
 ghost use Rattle.mid_program.specs.Mid as plain;
-ghost use Rattle.mid_program.specs.Translation.{begin_code, code_of, end_code, items_code, one, record_code, steps_code, where_code};
+ghost use Rattle.mid_program.specs.Translation.{begin_code, code_of, end_code, items_code, steps_code, where_code};
 ghost use Rattle.mid_program.specs.ViewCode.{maybe_then, view_step, view_steps};
 ghost use Rattle.mid_code.specs.ViewScope.{scope_of, texts_of};
 ghost use Rattle.mid_code.specs.ViewSteps.{unboxed};
 
 use crate::build::{over, record};
 use crate::expression::code;
+use crate::held::{boxed, single};
 use crate::scope::Scope;
-use crate::statement::{
-    block, boxed, chosen, done_where, evaluated, in_turn, nothing, push_step, steps,
-};
+use crate::statement::{block, done_where, in_turn, nothing, push_step, steps};
 use awk_grammar::{Expr, Item, Pattern, Stmt};
 use mid_program::{Code, Operand, Step};
 use sem_primitives::{Destination, Listed};
@@ -31,25 +30,15 @@ fn action(scope: &Scope<'_>, body: &[Stmt]) -> Result<Box<Step>, AllocError>
     block(scope.alloc, steps(scope, body)?)
 }
 
-/// The code that prints the record.
-fn print(alloc: Global) -> Result<Box<Step>, AllocError>
-    ensures { IfOk result (λ step. view_step step.value ≡ plain.Eval (plain.Over (Listed.Print
-        Destination.Standard) (one record_code))) }
-{
-    let mut values = Vec::new(alloc);
-    values.push(Operand::Code(record(alloc)?))?;
-    evaluated(alloc, over(Listed::Print(Destination::Standard), values))
-}
-
-/// The code of an action that is left out.
+/// The code of an action that is left out: the record is printed.
 #[tactic(auto, using(crate::proofs::StepParts::print_record_is))]
 fn print_record(scope: &Scope<'_>) -> Result<Box<Step>, AllocError>
     ensures { IfOk result (λ step. view_step step.value ≡ plain.Block (steps_code (texts_of
         scope.now) (scope_of scope.now) print_record)) }
 {
-    let mut steps = Vec::new(scope.alloc);
-    push_step(&mut steps, print(scope.alloc)?)?;
-    block(scope.alloc, steps)
+    let values = single(scope.alloc, Operand::Code(record(scope.alloc)?))?;
+    let printed = over(Listed::Print(Destination::Standard), values);
+    block(scope.alloc, single(scope.alloc, Step::Eval(printed))?)
 }
 
 /// The code that opens or closes a range where a pattern is true.
@@ -75,7 +64,8 @@ fn opening(scope: &Scope<'_>, number: usize, first: &Expr) -> Result<Box<Step>, 
 {
     let opened = marked(scope, number, first, true)?;
     let nothing = nothing(scope.alloc)?;
-    chosen(scope.alloc, Code::IsOpen(number), nothing, opened)
+    let is_open = Code::IsOpen(number);
+    boxed(scope.alloc, Step::If(is_open, nothing, opened))
 }
 
 /// The code that closes a range where its last pattern is true, before its action.
@@ -93,7 +83,8 @@ fn closing(
     let closed = marked(scope, number, last, false)?;
     let both = in_turn(scope.alloc, closed, action)?;
     let nothing = nothing(scope.alloc)?;
-    chosen(scope.alloc, Code::IsOpen(number), both, nothing)
+    let is_open = Code::IsOpen(number);
+    boxed(scope.alloc, Step::If(is_open, both, nothing))
 }
 
 /// The code of an action where its pattern is met, which has this number if it is a range.

@@ -165,9 +165,9 @@ impl<'a> Names<'a> {
     pub fn new(alloc: Global, resolved: &'a Resolved<'a>) -> Result<Self, AllocError>
         ensures { IfOk result (λ names. names.resolved.now ≡ resolved.now) }
     {
+        let numbers = array_numbers(alloc, &resolved.globals)?;
         let globals = places_of_globals(alloc, &resolved.globals)?;
         let functions = places_of_functions(alloc, &resolved.functions)?;
-        let numbers = array_numbers(alloc, &resolved.globals)?;
         Ok(Names {
             resolved,
             globals,

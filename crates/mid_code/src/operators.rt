@@ -8,7 +8,8 @@ ghost use Rattle.sem_scripts.specs.Steps.{constant, or_nought};
 ghost use Rattle.mid_program.specs.Translation.{combined, one_code, prefixed, truth_code, two, zero_code};
 ghost use Rattle.mid_program.specs.ViewCode.{view};
 
-use crate::build::{binary, boxed, chosen, compared, number, truth, unary, untruth};
+use crate::build::{binary, chosen, number, truth, unary, untruth};
+use crate::held::boxed;
 use awk_grammar::{BinaryOp, UnaryOp};
 use awk_text::number_of;
 use awk_values::CompareOp;
@@ -114,12 +115,12 @@ pub(crate) fn combined(
             let matched = host(alloc, Primitive::Matches, left, right)?;
             untruth(alloc, matched)
         }
-        BinaryOp::Less => Ok(compared(CompareOp::Less, left, right)),
-        BinaryOp::LessEqual => Ok(compared(CompareOp::LessOrEqual, left, right)),
-        BinaryOp::Equal => Ok(compared(CompareOp::Equal, left, right)),
-        BinaryOp::NotEqual => Ok(compared(CompareOp::NotEqual, left, right)),
-        BinaryOp::Greater => Ok(compared(CompareOp::Greater, left, right)),
-        BinaryOp::GreaterEqual => Ok(compared(CompareOp::GreaterOrEqual, left, right)),
+        BinaryOp::Less => Ok(Code::Compare(CompareOp::Less, left, right)),
+        BinaryOp::LessEqual => Ok(Code::Compare(CompareOp::LessOrEqual, left, right)),
+        BinaryOp::Equal => Ok(Code::Compare(CompareOp::Equal, left, right)),
+        BinaryOp::NotEqual => Ok(Code::Compare(CompareOp::NotEqual, left, right)),
+        BinaryOp::Greater => Ok(Code::Compare(CompareOp::Greater, left, right)),
+        BinaryOp::GreaterEqual => Ok(Code::Compare(CompareOp::GreaterOrEqual, left, right)),
         BinaryOp::Concat => host(alloc, Primitive::Concat, left, right),
         BinaryOp::Add => inline(alloc, Arithmetic::Plus, left, right),
         BinaryOp::Subtract => inline(alloc, Arithmetic::Minus, left, right),

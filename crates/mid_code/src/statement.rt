@@ -1,7 +1,7 @@
 //! The code of statements.
 
 ghost use Rattle.std.specs.Prelude.{◌≡◌, ℕ, List, [], ◌∷◌, ◌++◌, true, false, IfOk, OnOk};
-ghost use Rattle.awk_grammar.specs.View.{view as tree};
+ghost use Rattle.awk_grammar.specs.View.{view as tree, views as trees};
 ghost use Rattle.awk_grammar.specs.ViewStmt.{view_args, view_jump, view_leaving, view_maybe, view_maybe_simple, view_simple, view_stmt as tree_stmt, view_stmts as tree_stmts, view_target as tree_target, view_word};
 ghost use Rattle.awk_grammar.specs.Stmt.{Jumping, Leave};
 ghost use Rattle.sem_primitives.specs.declared.table.Primitive.TheVariants as row;
@@ -10,15 +10,16 @@ ghost use Rattle.sem_scripts.specs.Names as names;
 ghost use Rattle.sem_scripts.specs.Names.{array_of, variable_of};
 ghost use Rattle.sem_scripts.specs.Statements.{destination_of, listed_of, operands_of, with_target};
 ghost use Rattle.mid_program.specs.Translation.{code_of, codes_of, maybe_step, moved, plain_step, step_code, steps_code, store_variable_code, test_code};
-ghost use Rattle.mid_program.specs.ViewCode.{view, view_array, view_step, view_steps, views};
+ghost use Rattle.mid_program.specs.ViewCode.{followed, view, view_step, view_steps, views};
 ghost use Rattle.mid_code.specs.ViewScope.{scope_of, texts_of};
 
 use crate::build::{applied, over, record, store_variable};
 use crate::compound::{host_array, host_whole};
 use crate::expression::{code, key, push_operands};
+use crate::held::{boxed, pair, push, single};
 use crate::scope::Scope;
 use awk_grammar::{Expr, Jump, Leaving, PrintArgs, PrintTarget, PrintWord, SimpleStmt, Stmt};
-use mid_program::{ArrayName, Code, Operand, Operation, Step};
+use mid_program::{Code, Operand, Operation, Step};
 use sem_primitives::{Destination, Listed, Primitive};
 use std::alloc::{AllocError, Global};
 
@@ -43,26 +44,32 @@ fn listed_of(word: PrintWord, destination: Destination) -> Listed
     }
 }
 
+/// Operands, and the code of others behind them.
+fn followed_by(
+    scope: &Scope<'_>,
+    first: Vec<Operand>,
+    others: &[Expr],
+) -> Result<Vec<Operand>, AllocError>
+    ensures { IfOk result (λ codes. views codes.items ≡ followed (views first.items) (codes_of
+        (texts_of scope.now) (scope_of scope.now) (trees others.now))) }
+{
+    let mut codes = first;
+    push_operands(scope, others, &mut codes)?;
+    Ok(codes)
+}
+
 /// The values of a print statement; without any it is the record.
 #[tactic(auto, unfolding(mid_program::specs::Translation::codes_of, mid_program::specs::Translation::code_of))]
 fn values(scope: &Scope<'_>, args: &PrintArgs) -> Result<Vec<Operand>, AllocError>
     ensures { IfOk result (λ codes. views codes.items
         ≡ codes_of (texts_of scope.now) (scope_of scope.now) (operands_of (view_args args.now))) }
 {
-    let mut codes = Vec::new(scope.alloc);
     match args {
-        PrintArgs::Bare => {
-            codes.push(Operand::Code(record(scope.alloc)?))?;
-            Ok(codes)
-        }
-        PrintArgs::Listed(es) => {
-            push_operands(scope, es, &mut codes)?;
-            Ok(codes)
-        }
+        PrintArgs::Bare => single(scope.alloc, Operand::Code(record(scope.alloc)?)),
+        PrintArgs::Listed(es) => followed_by(scope, Vec::new(scope.alloc), es),
         PrintArgs::Enclosed(first, others) => {
-            codes.push(Operand::Code(code(scope, first)?))?;
-            push_operands(scope, others, &mut codes)?;
-            Ok(codes)
+            let first = single(scope.alloc, Operand::Code(code(scope, first)?))?;
+            followed_by(scope, first, others)
         }
     }
 }
@@ -82,24 +89,10 @@ fn printed(
     match target {
         PrintTarget::Output => Ok(codes),
         PrintTarget::File(file) | PrintTarget::FileEnd(file) => {
-            codes.push(Operand::Code(code(scope, file)?))?;
+            push(&mut codes, Operand::Code(code(scope, file)?))?;
             Ok(codes)
         }
     }
-}
-
-/// A step in a box.
-pub(crate) fn boxed(alloc: Global, step: Step) -> Result<Box<Step>, AllocError>
-    ensures { IfOk result (λ boxed. boxed.value ≡ step) }
-{
-    Ok(Box::new(alloc, step)?)
-}
-
-/// Code whose answer is dropped.
-pub(crate) fn evaluated(alloc: Global, code: Code) -> Result<Box<Step>, AllocError>
-    ensures { IfOk result (λ step. view_step step.value ≡ plain.Eval (view code)) }
-{
-    boxed(alloc, Step::Eval(code))
 }
 
 /// The code of a simple statement.
@@ -108,41 +101,36 @@ fn simple(scope: &Scope<'_>, s: &SimpleStmt) -> Result<Box<Step>, AllocError>
         scope.now) (view_simple s.now)) }
 {
     match s {
-        SimpleStmt::Eval(e) => evaluated(scope.alloc, code(scope, e)?),
+        SimpleStmt::Eval(e) => boxed(scope.alloc, Step::Eval(code(scope, e)?)),
         SimpleStmt::Print(word, args, target) => {
             let listed = listed_of(*word, destination_of(target));
-            evaluated(scope.alloc, over(listed, printed(scope, args, target)?))
+            let values = printed(scope, args, target)?;
+            boxed(scope.alloc, Step::Eval(over(listed, values)))
         }
         SimpleStmt::Delete(name, subscripts) => {
             let key = key(scope, subscripts)?;
             let deletion = host_array(scope, Primitive::Delete, name, key)?;
-            evaluated(scope.alloc, deletion)
+            boxed(scope.alloc, Step::Eval(deletion))
         }
         SimpleStmt::Clear(name) => {
-            evaluated(scope.alloc, host_whole(scope, Primitive::Clear, name)?)
+            let clearing = host_whole(scope, Primitive::Clear, name)?;
+            boxed(scope.alloc, Step::Eval(clearing))
         }
     }
-}
-
-fn block_of(steps: Vec<Step>) -> Step
-    ensures { view_step result ≡ plain.Block (view_steps steps.items) }
-{
-    Step::Block(steps)
 }
 
 /// Steps one after the other.
 pub(crate) fn block(alloc: Global, steps: Vec<Step>) -> Result<Box<Step>, AllocError>
     ensures { IfOk result (λ step. view_step step.value ≡ plain.Block (view_steps steps.items)) }
 {
-    boxed(alloc, block_of(steps))
+    boxed(alloc, Step::Block(steps))
 }
 
 /// Adds a step.
 pub(crate) fn push_step(steps: &mut Vec<Step>, step: Box<Step>) -> Result<(), AllocError>
     ensures { OnOk result (steps.new.items ≡ steps.old.items ++ step.value ∷ []) }
 {
-    steps.push(Box::into_inner(step))?;
-    Ok(())
+    push(steps, Box::into_inner(step))
 }
 
 /// One step after the other.
@@ -154,9 +142,7 @@ pub(crate) fn in_turn(
     ensures { IfOk result (λ step. view_step step.value ≡ plain.Block (plain.Then (view_step
         first.value) (plain.Then (view_step second.value) plain.NoStep))) }
 {
-    let mut steps = Vec::new(alloc);
-    push_step(&mut steps, first)?;
-    push_step(&mut steps, second)?;
+    let steps = pair(alloc, Box::into_inner(first), Box::into_inner(second))?;
     block(alloc, steps)
 }
 
@@ -189,19 +175,6 @@ fn test(scope: &Scope<'_>, e: &Option<Expr>) -> Result<Code, AllocError>
     }
 }
 
-/// One of two steps, by the truth of a test.
-pub(crate) fn chosen(
-    alloc: Global,
-    test: Code,
-    yes: Box<Step>,
-    no: Box<Step>,
-) -> Result<Box<Step>, AllocError>
-    ensures { IfOk result (λ step. view_step step.value ≡ plain.If (view test) (view_step yes.value)
-        (view_step no.value)) }
-{
-    boxed(alloc, Step::If(test, yes, no))
-}
-
 /// The code of `if` and `else`, where both branches have their code.
 fn branches(
     scope: &Scope<'_>,
@@ -212,7 +185,8 @@ fn branches(
     ensures { IfOk result (λ step. view_step step.value ≡ plain.If (code_of (texts_of scope.now)
         (scope_of scope.now) (tree test.now)) (view_step yes.value) (view_step no.value)) }
 {
-    chosen(scope.alloc, code(scope, test)?, yes, no)
+    let test = code(scope, test)?;
+    boxed(scope.alloc, Step::If(test, yes, no))
 }
 
 /// The code of `if`, where what is done has its code.
@@ -228,19 +202,6 @@ pub(crate) fn done_where(
     branches(scope, test, done, otherwise)
 }
 
-fn repeated(
-    alloc: Global,
-    first: bool,
-    test: Code,
-    body: Box<Step>,
-    next: Box<Step>,
-) -> Result<Box<Step>, AllocError>
-    ensures { IfOk result (λ step. view_step step.value ≡ plain.Loop first (view test) (view_step
-        body.value) (view_step next.value)) }
-{
-    boxed(alloc, Step::Loop(first, test, body, next))
-}
-
 /// The code of `while` and `do`, where the body has its code.
 fn rounds(
     scope: &Scope<'_>,
@@ -253,19 +214,8 @@ fn rounds(
         plain.NoStep)) }
 {
     let next = nothing(scope.alloc)?;
-    repeated(scope.alloc, first, code(scope, test)?, body, next)
-}
-
-fn for_each(
-    alloc: Global,
-    array: ArrayName,
-    store: Code,
-    body: Box<Step>,
-) -> Result<Box<Step>, AllocError>
-    ensures { IfOk result (λ step. view_step step.value ≡ plain.Each (view_array array) (view store)
-        (view_step body.value)) }
-{
-    boxed(alloc, Step::Each(array, store, body))
+    let test = code(scope, test)?;
+    boxed(scope.alloc, Step::Loop(first, test, body, next))
 }
 
 /// The rest of what is being read is given up, and then the record is left.
@@ -275,9 +225,8 @@ fn next_file(alloc: Global) -> Result<Box<Step>, AllocError>
         (plain.Then plain.Next plain.NoStep))) }
 {
     let rest = applied(Operation::Host(Primitive::NextFile), Vec::new(alloc));
-    let given_up = evaluated(alloc, rest)?;
-    let left = boxed(alloc, Step::Next)?;
-    in_turn(alloc, given_up, left)
+    let steps = pair(alloc, Step::Eval(rest), Step::Next)?;
+    block(alloc, steps)
 }
 
 #[tactic(auto, unfolding(mid_program::specs::Translation::step_code))]
@@ -294,20 +243,6 @@ fn jump(alloc: Global, jump: Jump) -> Result<Box<Step>, AllocError>
     }
 }
 
-/// `exit` with a status.
-fn exit_with(alloc: Global, status: Code) -> Result<Box<Step>, AllocError>
-    ensures { IfOk result (λ step. view_step step.value ≡ plain.ExitWith (view status)) }
-{
-    boxed(alloc, Step::ExitWith(status))
-}
-
-/// `return` with a value.
-fn return_with(alloc: Global, value: Code) -> Result<Box<Step>, AllocError>
-    ensures { IfOk result (λ step. view_step step.value ≡ plain.Return (view value)) }
-{
-    boxed(alloc, Step::Return(value))
-}
-
 /// The code of `exit` and `return`.
 #[tactic(auto, unfolding(mid_program::specs::Translation::step_code))]
 fn leave(scope: &Scope<'_>, leaving: Leaving, e: &Option<Expr>) -> Result<Box<Step>, AllocError>
@@ -316,9 +251,9 @@ fn leave(scope: &Scope<'_>, leaving: Leaving, e: &Option<Expr>) -> Result<Box<St
 {
     match (leaving, e) {
         (Leaving::Exit, None) => boxed(scope.alloc, Step::Exit),
-        (Leaving::Exit, Some(e)) => exit_with(scope.alloc, code(scope, e)?),
-        (Leaving::Return, None) => return_with(scope.alloc, Code::Unset),
-        (Leaving::Return, Some(e)) => return_with(scope.alloc, code(scope, e)?),
+        (Leaving::Exit, Some(e)) => boxed(scope.alloc, Step::ExitWith(code(scope, e)?)),
+        (Leaving::Return, None) => boxed(scope.alloc, Step::Return(Code::Unset)),
+        (Leaving::Return, Some(e)) => boxed(scope.alloc, Step::Return(code(scope, e)?)),
     }
 }
 
@@ -334,7 +269,8 @@ fn counting(
         (maybe_step (texts_of scope.now) (scope_of scope.now) (view_maybe_simple next.now))) }
 {
     let next = optional_simple(scope, next)?;
-    repeated(scope.alloc, true, test(scope, condition)?, body, next)
+    let test = test(scope, condition)?;
+    boxed(scope.alloc, Step::Loop(true, test, body, next))
 }
 
 /// The code of `for`, where its body has its code.
@@ -370,7 +306,7 @@ fn walked(
     let variable = scope.variable(name);
     let array = scope.array(array);
     let store = store_variable(scope.alloc, variable, Code::Bound(true, 0))?;
-    for_each(scope.alloc, array, store, body)
+    boxed(scope.alloc, Step::Each(array, store, body))
 }
 
 /// The code of a statement.

@@ -2,15 +2,17 @@
 
 ghost use Rattle.std.specs.Prelude.{◌≡◌, IfOk};
 ghost use Rattle.awk_grammar.specs.View.{view as tree, view_assign, view_step};
-ghost use Rattle.mid_program.specs.Translation.{assigned_at, kept_at, keeping, read_at, received_at, step_after_at, step_of, stepped_at, store_at, stored_at, substituted_at, target_in, updated_at};
+ghost use Rattle.mid_program.specs.Translation.{assigned_at, copied, kept_at, keeping, moved, one_code, read_at, received_at, step_after_at, step_of, stepped_at, store_at, stored_at, substituted_at, target_in, two, updated_at};
+ghost use Rattle.mid_program.specs.Mid as plain;
 ghost use Rattle.mid_program.specs.ViewCode.{view};
 ghost use Rattle.mid_code.specs.ViewScope.{scope_of, texts_of};
 ghost use Rattle.mid_code.specs.ViewTarget.{view_kept, view_target};
 
 use crate::build::{
-    binary, boxed, in_turn, kept_while, set_variable, store_variable, substitution, ternary, unary,
-    variable,
+    binary, kept_and_stored, kept_while, set_variable, store_variable, substitution, ternary,
+    unary, variable,
 };
+use crate::held::boxed;
 use crate::names::Variable;
 use crate::scope::Scope;
 use awk_grammar::{AssignOp, Expr, StepOp};
@@ -107,9 +109,8 @@ fn stored(alloc: Global, target: Target, after: u8, code: Code) -> Result<Code, 
         Target::Element(_) | Target::Field => {
             let code = boxed(alloc, code)?;
             let after = usize::from(after) + 1;
-            let store = boxed(alloc, store(alloc, target, after, Code::Bound(false, 0))?)?;
-            let both = in_turn(alloc, store, Code::Bound(true, 0))?;
-            kept_while(alloc, code, both)
+            let store = store(alloc, target, after, Code::Bound(false, 0))?;
+            kept_and_stored(alloc, code, store, 0)
         }
     }
 }
@@ -133,22 +134,25 @@ pub(crate) fn stepped(alloc: Global, op: StepOp, target: Target) -> Result<Code,
     stored(alloc, target, 0, new)
 }
 
+/// A step from a number that is kept, which is the answer.
+fn step_from(alloc: Global, op: StepOp, target: Target) -> Result<Code, AllocError>
+    ensures { IfOk result (λ code. view code ≡ plain.Let (plain.Do (step_of (view_step op)) (two
+        (copied 0) one_code)) (plain.Seq (store_at (view_target target) 2 (moved 0)) (moved 1))) }
+{
+    let kept = Code::Bound(false, 0);
+    let new = binary(alloc, step_operation(op), kept, Code::Number(1))?;
+    let new = boxed(alloc, new)?;
+    let store = store(alloc, target, 2, Code::Bound(true, 0))?;
+    kept_and_stored(alloc, new, store, 1)
+}
+
 /// A step; the number before it is the answer.
 pub(crate) fn step_after(alloc: Global, op: StepOp, target: Target) -> Result<Code, AllocError>
     ensures { IfOk result (λ code. view code ≡ step_after_at (view_step op) (view_target target)) }
 {
     let old = read(alloc, target, 0)?;
     let number = boxed(alloc, unary(alloc, Operation::AsNumber, old)?)?;
-    let new = binary(
-        alloc,
-        step_operation(op),
-        Code::Bound(false, 0),
-        Code::Number(1),
-    )?;
-    let new = boxed(alloc, new)?;
-    let store = boxed(alloc, store(alloc, target, 2, Code::Bound(true, 0))?)?;
-    let both = in_turn(alloc, store, Code::Bound(true, 1))?;
-    let body = kept_while(alloc, new, both)?;
+    let body = step_from(alloc, op, target)?;
     kept_while(alloc, number, body)
 }
 
@@ -192,10 +196,10 @@ pub(crate) fn assigned(
 }
 
 /// A text that was read is stored.
-pub(crate) fn received(alloc: Global, target: Target) -> Result<Code, AllocError>
-    ensures { IfOk result (λ code. view code ≡ received_at (view_target target)) }
+pub(crate) fn received(alloc: Global, target: Target) -> Result<Box<Code>, AllocError>
+    ensures { IfOk result (λ code. view code.value ≡ received_at (view_target target)) }
 {
-    store(alloc, target, 1, Code::Bound(true, 0))
+    boxed(alloc, store(alloc, target, 1, Code::Bound(true, 0))?)
 }
 
 /// How many answers are kept for a target.
@@ -213,7 +217,7 @@ pub(crate) fn substituted(alloc: Global, all: bool, target: Target) -> Result<Co
     ensures { IfOk result (λ code. view code ≡ substituted_at all (view_target target)) }
 {
     let after = usize::from(kept_count(target));
-    let store = boxed(alloc, store(alloc, target, 1, Code::Bound(true, 0))?)?;
+    let store = received(alloc, target)?;
     let old = read(alloc, target, 0)?;
     let ere = Code::Bound(true, after + 1);
     let replacement = Code::Bound(true, after);

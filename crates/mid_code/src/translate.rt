@@ -12,6 +12,7 @@ ghost use Rattle.mid_code.specs.ViewScope.{scope_of, texts_of as texts_in};
 ghost use Rattle.mid_code.specs.ViewScript.{view_script_code};
 
 use crate::bodies::{bodies, body_at};
+use crate::held::push;
 use crate::item::{begin, end, range_count, reads_records, record_items};
 use crate::names::Names;
 use crate::scope::Scope;
@@ -54,7 +55,7 @@ fn declared(alloc: Global, names: &[NameKind<'_>]) -> Result<Vec<Declared>, Allo
     for name in names {
         let kind = kind_of(name);
         let name = name.name.to_vec(alloc)?;
-        found.push(Declared { name, kind })?;
+        push(&mut found, Declared { name, kind })?;
     }
     Ok(found)
 }
@@ -98,7 +99,10 @@ fn routines(
             texts,
             parameters: &function.parameters,
         };
-        found.push(routine(&scope, function.name, body_at(bodies, i))?)?;
+        push(
+            &mut found,
+            routine(&scope, function.name, body_at(bodies, i))?,
+        )?;
     }
     Ok(found)
 }

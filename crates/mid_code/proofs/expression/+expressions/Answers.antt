@@ -8,17 +8,17 @@ use Rattle.mid_program.specs.Mid as plain
 use Rattle.mid_program.specs.Translation.{applied_code, code_of}
 use Rattle.mid_code.specs.Keys.{key_of}
 use Rattle.mid_code.specs.ViewScope.{scope_of, texts_of}
-use Rattle.mid_code.proofs.CodeParts.{binary_is, call_computed, call_end, call_missing, call_named, conditional_code, element_kept, in_list_code, index_code, each_end, each_step, key_each, length_more, list_code, match_code, no_trees, one_tree, operands_end, operands_step, other_code, other_operator, place_replaced, quotient_code, record_replaced, split_by_code, split_code, split_none, substr_code, substr_from}
+use Rattle.mid_code.proofs.CodeParts.{applied_one, binary_is, call_computed, call_end, call_missing, call_named, conditional_code, element_code, element_kept, in_list_code, index_code, each_end, each_step, key_each, length_more, list_code, match_code, no_trees, one_tree, only_first, operands_end, operands_step, other_code, other_operator, place_replaced, quotient_code, record_replaced, split_by_code, split_code, split_none, substr_code, substr_from}
 use Rattle.mid_code.proofs.expression.+expressions.Goals.{call-then-i-es+in_ok-push, call-else-i-es+in-Some+in_ok-passed+in_ok-push-2, call-else-i-es+in_default+in_ok-code+in_ok-push-3}
 use Rattle.mid_code.proofs.expression.+expressions.Goals as goal
 
 -- code
 
-pub code-returns-in-Element : goal.code-returns-in-Element
-code-returns-in-Element t c =
-    IfOk-weaker c.element.result _ _ (λ r h. h ∙ ap (code_of (texts_of c.args.scope.now) (scope_of c.args.scope.now))
+pub code-returns-in_ok-key-in-Element : goal.code-returns-in_ok-key-in-Element
+code-returns-in_ok-key-in-Element t c =
+    IfOk-weaker c.host_array.result _ _ (λ r h. h ∙ element_code (texts_of c.args.scope.now) (scope_of c.args.scope.now) (tree c.args.e.now) _ _ _
     (element_is c.args.e.now c.in-Element.name c.in-Element.keys _ _ c.in-Element.is c.deref-in-Element.ensures.value
-    c.deref-in-Element-2.ensures.value)) c.element.ensures
+    c.deref-in-Element-2.ensures.value) c.in_ok-key-in-Element.ensures) c.host_array.ensures
 
 pub code-returns-in-Call : goal.code-returns-in-Call
 code-returns-in-Call t c =
@@ -34,10 +34,10 @@ code-returns-in-Apply t c =
 pub code-returns-in_ok-key-in-InList : goal.code-returns-in_ok-key-in-InList
 code-returns-in_ok-key-in-InList t c =
     let others = ap key_of c.in_ok-others-in-InList.ensures ∙ key_each (texts_of c.args.scope.now) (scope_of c.args.scope.now) _ in
-    IfOk-weaker c.host_array.result _ _ (λ r h. h ∙ in_list_code (texts_of c.args.scope.now) (scope_of c.args.scope.now) (tree c.args.e.now) _ _ _ _ _ _
+    IfOk-weaker c.host_array-in-InList.result _ _ (λ r h. h ∙ in_list_code (texts_of c.args.scope.now) (scope_of c.args.scope.now) (tree c.args.e.now) _ _ _ _ _ _
     (in_list_is c.args.e.now c.in-InList.first c.in-InList.others c.in-InList.name _ _ _ c.in-InList.is c.deref-in-InList.ensures
     c.deref-in-InList-2.ensures.value c.deref-in-InList-3.ensures.value) c.in_ok-key-in-InList.ensures c.in_ok-first-in-InList.ensures others)
-    c.host_array.ensures
+    c.host_array-in-InList.ensures
 
 pub code-returns-in_ok-boxed_code-in-Conditional : goal.code-returns-in_ok-boxed_code-in-Conditional
 code-returns-in_ok-boxed_code-in-Conditional t c =
@@ -120,6 +120,17 @@ applied-returns-then-es-eq1 t c =
     IfOk-weaker c.apply_one.result _ _ (λ r h. h ∙ ap (applied_code (texts_of c.args.scope.now) (scope_of c.args.scope.now) c.args.function)
     (sym (one_tree c.args.es.now c.index-es-0.result (omega arith) c.index-es-0.is))) c.apply_one.ensures
 
+pub apply_one-returns-in_ok-code-in_default : goal.apply_one-returns-in_ok-code-in_default
+apply_one-returns-in_ok-code-in_default t c =
+    IfOk-weaker c.applied_to.result _ _ (λ r h. h ∙ applied_one (texts_of c.args.scope.now) (scope_of c.args.scope.now) c.args.function
+    (tree c.args.e.now) _ c.in_default.not-Int c.in_ok-code-in_default.ensures) c.applied_to.ensures
+
+pub apply_more-returns-in_default : goal.apply_more-returns-in_default
+apply_more-returns-in_default t c =
+    IfOk-weaker c.apply_one.result _ _ (λ r h. h ∙ only_first (texts_of c.args.scope.now) (scope_of c.args.scope.now) c.args.function
+    c.args.es.now c.index-es-0-in_default.result (omega arith) c.index-es-0-in_default.is c.in_default.not-Length c.in_default.not-Index
+    c.in_default.not-Match c.in_default.not-Substr c.in_default.not-Split c.in_default.not-Sub c.in_default.not-Gsub) c.apply_one.ensures
+
 pub apply_more-returns-in-Length : goal.apply_more-returns-in-Length
 apply_more-returns-in-Length t c =
     IfOk-weaker c.record_length.result _ _ (λ r h. h ∙ length_more (texts_of c.args.scope.now)
@@ -129,7 +140,7 @@ pub apply_more-returns-in_ok-part-in-Index : goal.apply_more-returns-in_ok-part-
 apply_more-returns-in_ok-part-in-Index t c =
     IfOk-weaker c.host.result _ _ (λ r h. h ∙ index_code (texts_of c.args.scope.now)
     (scope_of c.args.scope.now) c.args.function c.args.es.now _ _ _ _
-    (omega arith) c.index-es-0-in-Index.is c.index-es-1.is c.in-Index.is c.in_ok-text-in-Index.ensures c.in_ok-part-in-Index.ensures)
+    (omega arith) c.index-es-0.is c.index-es-1.is c.in-Index.is c.in_ok-text-in-Index.ensures c.in_ok-part-in-Index.ensures)
     c.host.ensures
 
 pub apply_more-returns-in_ok-ere-in-Match : goal.apply_more-returns-in_ok-ere-in-Match
