@@ -1,11 +1,11 @@
 -- Rows and ranks.
-use Rattle.std.proofs.Common.{◌≡◌, ℕ, zero, suc, ◌+◌, ◌<◌, ◌≤◌, ◌++◌, inl, inr, Bool, true, false, cond, List, [], ◌∷◌, length, Option, Some, None, refl, sym, ap, ◌∙◌, subst, arith, set, get_or, length-set, length-append, get_or-set_same, get_or-set_other, nat_le}
+use Rattle.std.proofs.Common.{◌≡◌, ◌≢◌, ◌⊎◌, ℕ, zero, suc, ◌+◌, ◌<◌, ◌≤◌, ◌++◌, inl, inr, Bool, true, false, cond, List, [], ◌∷◌, length, Option, Some, None, refl, sym, ap, ◌∙◌, subst, arith, set, get_or, length-set, length-append, get_or-set_same, get_or-set_other, nat_le}
 use Rattle.std.specs.Prelude.{slice_get}
-use Rattle.std.proofs.lemmas.Bool.{cases_lt, leb-false}
+use Rattle.std.proofs.lemmas.Bool.{cases_eq, cases_lt, leb-false}
 use Rattle.std.proofs.lemmas.List.{ext_get_or, get_or_append_left}
 use Rattle.ere_match.specs.Threads.{Holds}
 use Rattle.ere_match.specs.Rows.{AreRanked, HasRank, IsNumbered, IsRanked, IsRankedTo, cut, numbered, numbers, rank_of, spread, start_of_rank}
-use Rattle.ere_match.proofs.Marks.{holds_read}
+use Rattle.ere_match.proofs.Marks.{holds_read, read_holds}
 
 abbrev Set : Type 0
 Set = List (Option ℕ)
@@ -223,3 +223,26 @@ cut_all limit (Some n ∷ xs) h = by (cut_all limit xs (λ id s holds. h (suc id
     by : cut limit xs ≡ xs → (b : Bool) → nat_le n limit ≡ b → cond b (Some n) None ∷ cut limit xs ≡ Some n ∷ xs
     by rest true e = ap (λ (ys : Set). Some n ∷ ys) rest
     by rest false e = absurd (let l = h zero n (record { is = refl }) in let m = leb-false n limit e in omega (arith, l, m))
+
+-- ---- the numbers that threads have, marked one after another
+
+none_some : (s : ℕ) → None ≡ Some s → ⊥
+none_some s e = cc
+
+pub marks_on : (threads : Set) (i n : ℕ) (used next : List ℕ) → get_or threads i None ≡ Some n → n < length used → next ≡ set used n 1 → ((id s : ℕ) → id < i → Holds threads id s → get_or used s 0 ≡ 1) → (id s : ℕ) → id < i + 1 → Holds threads id s → get_or next s 0 ≡ 1
+marks_on threads i n used next here room e before id s less h = ap (λ (xs : List ℕ). get_or xs s 0) e ∙ by (cases_eq s n)
+  where
+    earlier : (s ≢ n) → (id < i) ⊎ (i ≤ id) → id < i
+    earlier other (inl low) = low
+    earlier other (inr high) = (let same : id ≡ i = omega (arith, less, high) in absurd (other (some_is s n (sym (read_holds threads id s h) ∙ ap (λ (m : ℕ). get_or threads m None) same ∙ here))))
+
+    by : (s ≡ n) ⊎ (s ≢ n) → get_or (set used n 1) s 0 ≡ 1
+    by (inl same) = ap (λ (m : ℕ). get_or (set used n 1) m 0) same ∙ get_or-set_same used n 1 0 room
+    by (inr other) = get_or-set_other used n s 1 0 other ∙ before id s (earlier other (cases_lt id i)) h
+
+pub marks_past : (threads : Set) (i : ℕ) (used next : List ℕ) → get_or threads i None ≡ None → next ≡ used → ((id s : ℕ) → id < i → Holds threads id s → get_or used s 0 ≡ 1) → (id s : ℕ) → id < i + 1 → Holds threads id s → get_or next s 0 ≡ 1
+marks_past threads i used next here e before id s less h = ap (λ (xs : List ℕ). get_or xs s 0) e ∙ before id s (earlier (cases_lt id i)) h
+  where
+    earlier : (id < i) ⊎ (i ≤ id) → id < i
+    earlier (inl low) = low
+    earlier (inr high) = (let same : i ≡ id = omega (arith, less, high) in absurd (none_some s (sym here ∙ ap (λ (m : ℕ). get_or threads m None) same ∙ read_holds threads id s h)))

@@ -24,3 +24,9 @@ returns-clause-led c =
 pub returns-clause-table : goal.returns-clause-table
 returns-clause-table c = λ entry classes t.
     known_table c.args.nodes.now entry classes c.args.table.now _ (written_len c.args.table.now.set c.load.new.set c.args.nodes.now t.set_len (omega (arith, c.load.auto.set, c.deref_mut.ensures.len, t.set_len))) (written_len c.args.table.now.next c.step.new.next c.args.nodes.now t.next_len (omega (arith, c.step.auto.next, c.deref_mut-2.ensures.len, t.next_len))) t.wide (rows_same c.args.nodes.now _ _) (moves_same _) (items_same _) (omega arith) (begins_same c.args.table.now _ refl refl) t
+
+pub returns-clause-set_len : goal.returns-clause-set_len
+returns-clause-set_len c = written_len c.args.table.now.set c.load.new.set c.args.nodes.now c.requires.set_len (omega (arith, c.load.auto.set, c.deref_mut.ensures.len, c.requires.set_len))
+
+pub returns-clause-next_len : goal.returns-clause-next_len
+returns-clause-next_len c = written_len c.args.table.now.next c.step.new.next c.args.nodes.now c.requires.next_len (omega (arith, c.step.auto.next, c.deref_mut-2.ensures.len, c.requires.next_len))

@@ -1,6 +1,13 @@
 use Rattle.std.proofs.Common.{arith, ◌+◌, ◌<◌, length}
-use Rattle.ere_match.proofs.Steps.{node_is, advanced_some}
+use Rattle.ere_match.proofs.Steps.{node_is, advanced_none, advanced_out, advanced_some}
 use Rattle.ere_match.proofs.step.advance.Goals as goal
+
+pub returns-in-None : goal.returns-in-None
+returns-in-None c = advanced_out c.args.nodes.now c.args.byte c.args.id c.args.set.now c.args.next.now c.in-None.is
+
+pub returns-in-None-target : goal.returns-in-None-target
+returns-in-None-target c =
+    advanced_none c.args.nodes.now c.args.id c.args.byte c.index-nodes-id.result c.args.set.now c.args.next.now (node_is c.args.nodes.now c.args.id c.index-nodes-id.result c.requires.node c.index-nodes-id.is) c.in-None-target.ensures
 
 pub returns-in-Some-target : goal.returns-in-Some-target
 returns-in-Some-target c =
