@@ -10,11 +10,12 @@ use Rattle.wasm_types.specs.declared.types.ValType.TheVariants.{I32, I64}
 use Rattle.wasm_types.specs.declared.instr.CvtOp.TheVariants.{I32WrapI64}
 use Rattle.wasm_types.specs.declared.instr.IRelOp.TheVariants.{Eq, GtU, LeS, Ne}
 use Rattle.wasm_types.specs.declared.instr.ITestOp.TheVariants.{Eqz}
+use Rattle.wasm_types.specs.declared.instr.Simple.{Simple}
 use Rattle.wasm_types.specs.declared.instr.Simple.TheVariants.{Nop, Br, BrIf, LocalGet, LocalSet, LocalTee, GlobalGet, GlobalSet, I32Const, I64Const, Test, Compare as Comparing, Convert, Drop as Discard}
 use Rattle.sem_scripts.specs.Names.{ArrayName}
 use Rattle.mid_program.specs.Mid.{Kind, Boxed, Unboxed, Many, Code, Form, Step, Steps, Program, form_of}
 use Rattle.lower_model.specs.Emission.{Layout, array_pushed, emitted, pending_assigned, tested}
-use Rattle.lower_model.specs.Quick.{Counted, Pair, Remainder, Sum, all_unsure, sum_names, sum_op, Tally, Within, is_nothing, pair_in, step_jumps, test_within}
+use Rattle.lower_model.specs.Quick.{Constant, Counted, Named, Pair, Remainder, Source, Sum, all_unsure, sum_names, sum_op, Tally, Within, is_nothing, pair_in, step_jumps, test_within}
 use Rattle.lower_model.specs.Places.{Bases, answer_local, handle_global, iterator_local, status_global, way_global, handle_local, number_local}
 use Rattle.lower_model.specs.Small.{ask, ask_row, does, either, end_code, fail_if, kept_code, least, number_is, text_beside, to_number, when}
 use Rattle.lower_model.specs.Statements.{again, all_emptied, before_parts, block, constant_given, first_part, goes_on, iterator_left, iterators_swept, operands_swept, key_stored, last_part, left_by, left_unless, left_unless_counted, left_unless_pair, name_numbered, name_read, names_declared, parameters_dropped, part_done, record_done, records_read, routines_declared, step_emitted, steps_emitted, sum_kept, element_given, remainder_dropped, summed, summed_anyway, swept, way_exit, way_next}
@@ -56,6 +57,11 @@ sum_done layout sum exit after =
 -- a remainder that a name takes: quickly where no product leaves the range
 abbrev pub remainder_done : Layout → Remainder → Code → ℕ → Instructions → Instructions
 remainder_done layout remainder code exit after = remainder_dropped layout (Some remainder) code exit after
+
+-- what puts a source on the stack
+abbrev pub source_read : Layout → Source → Simple
+source_read layout (Named name) = name_read layout name
+source_read layout (Constant number) = I64Const (cast_unsigned w64 number)
 
 -- whether a name has no number
 abbrev pub unnumbered : Layout → ℕ → Instructions → Instructions
