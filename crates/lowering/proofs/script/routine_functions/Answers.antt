@@ -1,4 +1,4 @@
-use Rattle.std.proofs.Common.{◌≡◌, ◌+◌, Bool, true, false, List, ◌∷◌, ap, sym, ◌∙◌, drop, get_or, length, map, subst, arith}
+use Rattle.std.proofs.Common.{◌≡◌, ◌+◌, true, false, List, ap, sym, ◌∙◌, drop, get_or, length, map, subst, arith}
 use Rattle.std.specs.List.{AllByRecursion}
 use Rattle.std.proofs.lemmas.Bool.{and_parts}
 use Rattle.mid_program.specs.Mid as plain
