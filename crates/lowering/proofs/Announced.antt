@@ -1,17 +1,18 @@
 -- Names and parameters, one before others; and the first part of a script.
-use Rattle.std.proofs.Common.{◌≡◌, ℕ, zero, suc, ◌+◌, ◌<◌, Bool, true, false, if◌then◌else◌, List, ◌∷◌, drop, drop-cons, get_or, length, map, refl, sym, ap, ◌∙◌, arith}
+use Rattle.std.proofs.Common.{◌≡◌, ℕ, zero, suc, ◌+◌, ◌-◌, ◌<◌, Bool, true, false, if◌then◌else◌, List, ◌∷◌, drop, drop-cons, get_or, length, map, refl, sym, ap, ◌∙◌, arith}
 use Rattle.wasm_types.specs.Syntax.{Instructions, Done}
 use Rattle.wasm_types.specs.declared.instr.Simple.TheVariants.{Br}
 use Rattle.mid_program.specs.Mid.{Kind, Boxed, Unboxed, Many, Program, Steps}
 use Rattle.mid_program.specs.declared.program.Kind.{Kind as ParameterKind}
 use Rattle.mid_program.specs.declared.program.Kind.TheVariants as one
 use Rattle.sem_primitives.specs.declared.constants.NameKind.{NameKind}
+use Rattle.sem_primitives.specs.declared.constants.NameKind.TheVariants.{ArrayOrFunction}
 use Rattle.mid_program.specs.declared.program.Declared.{Declared as DeclaredName}
 use Rattle.mid_program.specs.View.{view_declared, view_kind}
 use Rattle.mid_program.specs.Sorted.{kinds_of}
 use Rattle.lower_model.specs.Emission.{Layout}
 use Rattle.lower_model.specs.Small.{does}
-use Rattle.lower_model.specs.Statements.{declared, declared_kind, first_part, names_declared, parameters_dropped, records_read, steps_emitted}
+use Rattle.lower_model.specs.Statements.{declared, declared_kind, first_part, names_declared, parameters_dropped, records_read, routines_declared, steps_emitted}
 use Rattle.lowering.specs.Parts.{first_code, parameter_dropped, records_if}
 
 records_choice : (y : Layout) (reads : Bool) (items : Steps) (k : Instructions) → records_if y reads items k ≡ (if reads then records_read y items zero k else k)
@@ -30,6 +31,14 @@ names_step y ds i text d e k lt at h =
     (λ j. declared y (h j) text (names_declared y (more j) (kinds_of (map view_declared (drop (next j) ds))) k))
     ∙ ap (λ (x : DeclaredName). declared y (declared_kind y (view_kind x.kind)) text (names_declared y (suc text) (kinds_of (map view_declared (drop (suc i) ds))) k)) at
     ∙ sym (ap (λ (xs : List DeclaredName). names_declared y text (kinds_of (map view_declared xs)) k) (drop-cons ds i d lt))
+
+-- a function before others
+pub routines_step : (y : Layout) (text past : ℕ) (k : Instructions) → text < past →
+    routines_declared y text (past - text) k ≡ declared y ArrayOrFunction text (routines_declared y (text + 1) (past - (text + 1)) k)
+routines_step y text past k lt =
+    let more : past - text ≡ suc (past - (text + 1)) = omega arith in
+    let next : suc text ≡ text + 1 = omega arith in
+    ap (λ (m : ℕ). routines_declared y text m k) more ∙ ap (λ (j : ℕ). declared y ArrayOrFunction text (routines_declared y j (past - (text + 1)) k)) next
 
 -- a parameter before others
 

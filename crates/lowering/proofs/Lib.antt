@@ -5,3 +5,4 @@ pub mod Weighing
 pub mod Smallness
 pub mod Stepping
 pub mod QuickNames
+pub mod Ways

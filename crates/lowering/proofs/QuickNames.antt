@@ -1,10 +1,13 @@
 -- The names of quick ways are numbers of globals, where the code can be emitted.
-use Rattle.std.proofs.Common.{◌≡◌, ℕ, zero, suc, ◌^◌, ◌<◌, ◌≤◌, Bool, true, false, nat_eq, List, [], ◌∷◌, length, get_or, take, drop, drop-cons, ◌-◌, Option, Some, None, ℤ, pos, ◌+ℤ◌, unsigned_abs, refl, sym, ap, subst, arith, if◌then◌else◌}
+use Rattle.std.proofs.Common.{◌≡◌, ℕ, zero, suc, ◌+◌, ◌^◌, ◌<◌, ◌≤◌, Bool, true, false, nat_eq, List, [], ◌∷◌, length, get_or, take, drop, drop-cons, ◌-◌, Option, Some, None, ℤ, pos, ◌+ℤ◌, unsigned_abs, refl, sym, ap, ◌∙◌, subst, arith, if◌then◌else◌}
 use Rattle.std.proofs.lemmas.List.{take_all}
 use Rattle.awk_values.specs.declared.comparison.CompareOp.{CompareOp}
 use Rattle.awk_values.specs.declared.comparison.CompareOp.TheVariants as compare
 use Rattle.wasm_types.specs.Syntax.{Instructions}
+use Rattle.wasm_types.specs.declared.types.ValType.TheVariants.{I64}
+use Rattle.wasm_types.specs.declared.instr.IBinOp.TheVariants.{Or}
 use Rattle.wasm_types.specs.declared.instr.Simple.{Simple}
+use Rattle.wasm_types.specs.declared.instr.Simple.TheVariants.{Binary}
 use Rattle.mid_program.specs.declared.mid.Arithmetic.{Arithmetic}
 use Rattle.mid_program.specs.declared.mid.Operation.TheVariants.{Inline, AsNumber}
 use Rattle.mid_program.specs.Mid.{Global, Code, Do, Compare, Number, Set, Let, Bound, Codes, End, At}
@@ -15,9 +18,11 @@ use Rattle.lower_model.proofs.Tallies.{Shape, Updating, Following, Leading, tall
 use Rattle.lower_model.proofs.Remainders.{IsRemainder, factored_code, remainder_code, remainder_is}
 use Rattle.lower_model.proofs.Updating.{added_is}
 use Rattle.lower_model.proofs.QuickNames.{near_sum, some_is, source_code, source_is, stored_is}
+use Rattle.lower_model.specs.Small.{does}
+use Rattle.lower_model.specs.Statements.{source_pushed}
 use Rattle.lower_pieces.specs.Bounds.{most_labels, most_places}
 use Rattle.lower_expressions.specs.Fits.{AllFit, Fits}
-use Rattle.lowering.specs.Parts.{past}
+use Rattle.lowering.specs.Parts.{past, source_read}
 use Rattle.lowering.specs.QuickFits.{FactorFits, NamesFit, PairFits, RemainderFits, SourceFits, SumFits, TallyFits}
 
 -- lists of names
@@ -43,14 +48,31 @@ pub pair_list : (q : Pair) → PairFits q → NamesFit (pair_names q)
 pair_list q f = source_list q.left (and_source q.right []) f.0 (source_list q.right [] f.1 tt)
 
 -- the first of the names that are left
-pub first_name : (is : List ℕ) (n i : ℕ) → n < length is → i ≡ get_or is n i → NamesFit (drop n is) → (i ≤ most_places) × NamesFit (drop (suc n) is)
-first_name is n i lt e f = subst (λ (j : ℕ). (j ≤ most_places) × NamesFit (drop (suc n) is)) (sym e) (subst NamesFit (drop-cons is n i lt) f)
+
+pub names_left : (is : List ℕ) (i : ℕ) → i < length is → NamesFit (drop i is) → (get_or is i 0 ≤ most_places) × NamesFit (drop (i + 1) is)
+names_left is i lt f =
+    let next : suc i ≡ i + 1 = omega arith in
+    subst (λ (n : ℕ). (get_or is i 0 ≤ most_places) × NamesFit (drop n is)) next (subst NamesFit (drop-cons is i 0 lt) f)
+
+pub joined_step : (read : ℕ → Simple) (is : List ℕ) (i : ℕ) (q : ℤ) (k : Instructions) → i < length is →
+    shifted (read (get_or is i 0)) q (does (Binary I64 Or) (joined read (drop (i + 1) is) q k)) ≡ joined read (drop i is) q k
+joined_step read is i q k lt =
+    let next : suc i ≡ i + 1 = omega arith in
+    ap (λ (n : ℕ). shifted (read (get_or is i 0)) q (does (Binary I64 Or) (joined read (drop n is) q k))) (sym next)
+    ∙ sym (ap (λ (js : List ℕ). joined read js q k) (drop-cons is i 0 lt))
 
 -- the test of names, from that of the first and the others
 pub all_of : (read : ℕ → Simple) (is : List ℕ) (q : ℤ) (w : ℕ) (k : Instructions) → 1 ≤ length is →
     shifted (read (get_or is 0 0)) q (joined read (take (length is - 1) (drop 1 is)) q (past w k)) ≡ all_unsure read is q w k
 all_of read [] q w k h = absurd (omega arith)
 all_of read (i ∷ is) q w k h = ap (λ (js : List ℕ). shifted (read i) q (joined read js q (past w k))) (take_all (suc (length is) - 1) is (omega arith))
+
+-- two sources on the stack
+pub two_read : (y : Layout) (a b : Source) (k : Instructions) → does (source_read y a) (does (source_read y b) k) ≡ source_pushed y a (source_pushed y b k)
+two_read y (Named i) (Named j) k = refl
+two_read y (Named i) (Constant z) k = refl
+two_read y (Constant z) (Named j) k = refl
+two_read y (Constant z) (Constant x) k = refl
 
 -- names in code
 

@@ -1,5 +1,5 @@
 -- The code of a well-sorted script that is small enough can be emitted.
-use Rattle.std.proofs.Common.{◌≡◌, ℕ, zero, suc, ◌+◌, ◌<◌, ◌≤◌, Bool, true, false, List, [], ◌∷◌, length, map, get_or, drop, drop-cons, refl, sym, ap, ◌∙◌, arith, length-append}
+use Rattle.std.proofs.Common.{◌≡◌, ℕ, zero, suc, ◌+◌, ◌<◌, ◌≤◌, Bool, true, false, List, [], ◌∷◌, ◌++◌, length, map, get_or, drop, drop-cons, refl, sym, ap, ◌∙◌, arith, length-append}
 use Rattle.std.specs.Prelude.{◌&&◌}
 use Rattle.std.proofs.lemmas.Bool.{and_parts}
 use Rattle.std.proofs.lemmas.List.{length-map}
@@ -7,12 +7,16 @@ use Rattle.mid_program.specs.Mid.{Kind, Declared, Routine, Program, Steps}
 use Rattle.mid_program.specs.View.{view_routine}
 use Rattle.mid_program.specs.declared.program.Routine.{Routine as RoutineCode}
 use Rattle.mid_program.specs.Sorted.{announced_names, context_of, parts_sorted, steps_sorted}
-use Rattle.lower_model.specs.Functions.{layout_of, main_bases, routine_bases}
+use Rattle.lower_model.specs.Functions.{layout_of, main_bases, main_callee, routine_bases, routine_callee}
+use Rattle.lower_model.specs.Machine.{Callee}
+use Rattle.lower_model.specs.Modules.{all_callees}
 use Rattle.lower_model.specs.Places.{Bases, steps_arrays, steps_iterators, steps_room}
 use Rattle.lower_pieces.specs.Bounds.{most_places}
 use Rattle.lower_needs.proofs.Lengths.{local_count}
 use Rattle.lower_needs.specs.Fits.{FewLocals}
 use Rattle.lower_layout.specs.Spans.{IsSmall}
+use Rattle.lower_modules.specs.View.{view_function, view_functions}
+use Rattle.lower_modules.specs.declared.function.Function.{Function}
 use Rattle.lowering.specs.Limits.{IsShallow, MainIsSmall, RoutineIsSmall}
 use Rattle.lowering.specs.StepFits.{PartsFit, StepsFit}
 use Rattle.lowering.proofs.Fitting.{Named, steps_fit}
@@ -58,3 +62,24 @@ routines_left rs i r lt at =
     let next : suc i ≡ i + 1 = omega arith in
     ap (map view_routine) (drop-cons rs i r lt)
     ∙ (λ j. view_routine (sym at j) ∷ map view_routine (drop (next j) rs))
+
+-- one more function, before those of the functions that are left
+
+moved : (before : List Function) (f : Function) (others : List Callee) → view_functions (before ++ f ∷ []) ++ others ≡ view_functions before ++ view_function f ∷ others
+moved [] f others = refl
+moved (g ∷ gs) f others = ap (λ (fs : List Callee). view_function g ∷ fs) (moved gs f others)
+
+pub more_functions : (p : Program) (before after : List Function) (f : Function) (r : Routine) (these rest : List Routine) (all : List Callee) → after ≡ before ++ f ∷ [] → view_function f ≡ routine_callee p r → these ≡ r ∷ rest →
+    view_functions before ++ map (routine_callee p) these ≡ all → view_functions after ++ map (routine_callee p) rest ≡ all
+more_functions p before after f r these rest all pushed same left h =
+    ap (λ (fs : List Function). view_functions fs ++ map (routine_callee p) rest) pushed ∙ moved before f (map (routine_callee p) rest)
+    ∙ ap (λ (g : Callee). view_functions before ++ g ∷ map (routine_callee p) rest) same ∙ ap (λ (rs : List Routine). view_functions before ++ map (routine_callee p) rs) (sym left) ∙ h
+
+-- `main` after all others
+pub with_main : (p : Program) (before after : List Function) (f : Function) → after ≡ before ++ f ∷ [] → view_function f ≡ main_callee p → view_functions before ≡ map (routine_callee p) p.routines → view_functions after ≡ all_callees p
+with_main p before after f pushed same h =
+    ap view_functions pushed ∙ together before f ∙ (λ i. h i ++ same i ∷ [])
+  where
+    together : (gs : List Function) (f : Function) → view_functions (gs ++ f ∷ []) ≡ view_functions gs ++ view_function f ∷ []
+    together [] f = refl
+    together (g ∷ gs) f = ap (λ (fs : List Callee). view_function g ∷ fs) (together gs f)

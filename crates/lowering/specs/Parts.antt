@@ -10,11 +10,12 @@ use Rattle.wasm_types.specs.declared.types.ValType.TheVariants.{I32, I64}
 use Rattle.wasm_types.specs.declared.instr.CvtOp.TheVariants.{I32WrapI64}
 use Rattle.wasm_types.specs.declared.instr.IRelOp.TheVariants.{Eq, GtU, LeS, Ne}
 use Rattle.wasm_types.specs.declared.instr.ITestOp.TheVariants.{Eqz}
-use Rattle.wasm_types.specs.declared.instr.Simple.TheVariants.{Nop, Br, BrIf, LocalGet, LocalSet, LocalTee, GlobalGet, GlobalSet, I32Const, I64Const, Test, Compare as Comparing, Convert, Drop as Discard}
+use Rattle.wasm_types.specs.declared.instr.Simple.{Simple}
+use Rattle.wasm_types.specs.declared.instr.Simple.TheVariants.{Nop, Br, BrIf, LocalGet, LocalSet, LocalTee, GlobalGet, GlobalSet, I32Const, I64Const, Test, Compare as Comparing, Convert}
 use Rattle.sem_scripts.specs.Names.{ArrayName}
 use Rattle.mid_program.specs.Mid.{Kind, Boxed, Unboxed, Many, Code, Form, Step, Steps, Program, form_of}
 use Rattle.lower_model.specs.Emission.{Layout, array_pushed, emitted, pending_assigned, tested}
-use Rattle.lower_model.specs.Quick.{Counted, Pair, Remainder, Sum, all_unsure, sum_names, sum_op, Tally, Within, is_nothing, pair_in, step_jumps, test_within}
+use Rattle.lower_model.specs.Quick.{Constant, Counted, Named, Pair, Remainder, Source, Sum, all_unsure, sum_names, sum_op, Tally, Within, is_nothing, pair_in, step_jumps, test_within}
 use Rattle.lower_model.specs.Places.{Bases, answer_local, handle_global, iterator_local, status_global, way_global, handle_local, number_local}
 use Rattle.lower_model.specs.Small.{ask, ask_row, does, either, end_code, fail_if, kept_code, least, number_is, text_beside, to_number, when}
 use Rattle.lower_model.specs.Statements.{again, all_emptied, before_parts, block, constant_given, first_part, goes_on, iterator_left, iterators_swept, operands_swept, key_stored, last_part, left_by, left_unless, left_unless_counted, left_unless_pair, name_numbered, name_read, names_declared, parameters_dropped, part_done, record_done, records_read, routines_declared, step_emitted, steps_emitted, sum_kept, element_given, remainder_dropped, summed, summed_anyway, swept, way_exit, way_next}
@@ -57,6 +58,11 @@ sum_done layout sum exit after =
 abbrev pub remainder_done : Layout → Remainder → Code → ℕ → Instructions → Instructions
 remainder_done layout remainder code exit after = remainder_dropped layout (Some remainder) code exit after
 
+-- what puts a source on the stack
+abbrev pub source_read : Layout → Source → Simple
+source_read layout (Named name) = name_read layout name
+source_read layout (Constant number) = I64Const (cast_unsigned w64 number)
+
 -- whether a name has no number
 abbrev pub unnumbered : Layout → ℕ → Instructions → Instructions
 unnumbered layout name after = does (name_read layout name) (does (I64Const text_beside) (does (Comparing I64 LeS) after))
@@ -68,12 +74,6 @@ counted_tested layout counted test exit out after = left_unless_counted layout (
 -- 0 where there is no number yet
 abbrev pub zero_put : Bases → ℕ → Instructions → Instructions
 zero_put bases temporary after = does (I64Const 0) (does (LocalSet (number_local bases temporary)) after)
-
--- the numbers of a name and of what is added, on the stack
-abbrev pub number_asked : Layout → ℕ → Form → ℕ → Instructions → Instructions
-number_asked layout name form exit after =
-    name_numbered layout name 1 exit
-    (to_number layout.bases form zero exit (does (LocalGet (number_local layout.bases 1)) (does (LocalGet (number_local layout.bases zero)) after)))
 
 -- the number of temporary 0 is put on the stack, and that of the field that a constant gives, by its bits
 abbrev pub field_added : Bases → (bits : ℕ) → Instructions → Instructions
@@ -87,15 +87,6 @@ field_asked layout name number exit after = name_numbered layout name zero exit 
 abbrev pub tally_evaluated : Layout → Tally → ℕ → Instructions → Instructions
 tally_evaluated layout tally exit after =
     emitted layout false [] [] tally.key zero zero exit (emitted layout false (form_of [] tally.key ∷ []) (zero ∷ []) tally.added 1 zero exit after)
-
--- a second handle of the key asks for the element's number
-abbrev pub element_asked : Bases → Instructions → Instructions
-element_asked bases after =
-    does (LocalGet (handle_local bases zero)) (does (LocalTee (handle_local bases zero)) (ask_row row.Dup (ask_row row.Elem (ask_row row.ToNum after))))
-
--- the number of the third temporary goes to an element, whose array and key are on the stack
-abbrev pub number_given : Bases → Instructions → Instructions
-number_given bases after = does (LocalGet (number_local bases 2)) (ask_row row.Num (ask_row row.SetElem (does Discard after)))
 
 -- an element takes the sum
 abbrev pub sum_given : Layout → Tally → ℕ → Instructions → Instructions

@@ -6,7 +6,7 @@ ghost use Rattle.lowering.specs.StepFits.{LoopFits};
 
 /// How many iterators are in use; and how many labels further out the function's exit is, the place where `break` goes, and the one where
 /// `continue` goes.
-#[derive(Clone, Copy, Debug, Drop)]
+#[derive(Clone, Copy, Drop)]
 pub struct Around {
     pub iterators: u32,
     pub exit: u32,

@@ -9,8 +9,9 @@ ghost use Rattle.lower_pieces.specs.Emits.{Emits};
 ghost use Rattle.lower_expressions.specs.View.{view_layout};
 ghost use Rattle.lowering.specs.Parts.{name_made, names_told};
 
+use crate::lists::call_of;
 use lower_expressions::{FunctionLayout, asked, global_handle, text_pushed};
-use lower_pieces::{ask_row, does, does_all, kept_number};
+use lower_pieces::{does_all, kept_number};
 use mid_program::Kind;
 use sem_primitives::{NameKind, Primitive};
 use std::alloc::AllocError;
@@ -20,8 +21,8 @@ use wasm_types::{Instr, Simple};
 fn started(layout: &FunctionLayout<'_>, out: &mut Vec<Instr>) -> Result<(), AllocError>
     ensures { OnOk result (Emits out.old.items out.new.items (started (view_layout layout.now))) }
 {
-    does_all(out, &[Simple::I64Const(1), Simple::I64Const(1)])?;
-    ask_row(out, Primitive::Pow)?;
+    let one = Simple::I64Const(1);
+    does_all(out, &[one, one, call_of(Primitive::Pow)])?;
     kept_number(layout.bases, out, true, 0, 0)
 }
 
@@ -47,8 +48,8 @@ fn declared(
         (Emits out.old.items out.new.items (declared (view_layout layout.now) kind text)) }
 {
     text_pushed(layout, out, text)?;
-    does(out, Simple::I32Const(kind_number(kind)))?;
-    ask_row(out, Primitive::Declare)
+    let kind = Simple::I32Const(kind_number(kind));
+    does_all(out, &[kind, call_of(Primitive::Declare)])
 }
 
 /// What the host is told of a name of this kind.
@@ -93,10 +94,9 @@ fn routines_declared(
     ensures { OnOk result (Emits out.old.items out.new.items (routines_declared
         (view_layout layout.now) first (length (view_layout layout.now).calls))) }
 {
-    let mut text = first;
-    for _routine in layout.script.routines() {
+    let past = first + layout.script.routines().len();
+    for text in first..past {
         declared(layout, out, NameKind::ArrayOrFunction, text)?;
-        text += 1;
     }
     Ok(())
 }
@@ -126,12 +126,12 @@ fn name_made(
 {
     match kind {
         Kind::Boxed => {
-            ask_row(out, Primitive::Uninit)?;
-            does(out, Simple::GlobalSet(global_handle(layout, name)))
+            let set = Simple::GlobalSet(global_handle(layout, name));
+            does_all(out, &[call_of(Primitive::Uninit), set])
         }
         Kind::Many => {
-            ask_row(out, Primitive::NewArray)?;
-            does(out, Simple::GlobalSet(global_handle(layout, name)))
+            let set = Simple::GlobalSet(global_handle(layout, name));
+            does_all(out, &[call_of(Primitive::NewArray), set])
         }
         Kind::Unboxed => Ok(()),
     }

@@ -4,8 +4,8 @@ ghost use Rattle.wasm_types.specs.Syntax.{Done};
 ghost use Rattle.mid_program.specs.Mid.{form_of};
 ghost use Rattle.mid_program.specs.ViewCode.{view};
 ghost use Rattle.lower_model.specs.Emission.{dropped, emitted, tested};
-ghost use Rattle.lower_model.specs.Quick.{remainder_in, sum_in, tally_in, update_in};
-ghost use Rattle.lower_model.specs.Statements.{barely_dropped, plainly_dropped, quickly_dropped, remainder_dropped};
+ghost use Rattle.lower_model.specs.Quick.{sum_in};
+ghost use Rattle.lower_model.specs.Statements.{quickly_dropped};
 ghost use Rattle.lower_pieces.specs.Bounds.{most_labels, most_places};
 ghost use Rattle.lower_pieces.specs.Emits.{Emits};
 ghost use Rattle.lower_pieces.specs.Forms.{view_form};
@@ -15,17 +15,17 @@ ghost use Rattle.lower_quick.specs.View.{view_remainder, view_sum};
 ghost use Rattle.lowering.specs.Parts.{remainder_done, status_left, sum_done};
 ghost use Rattle.lowering.specs.QuickFits.{RemainderFits, SumFits};
 
-use crate::leaving::{WAY_EXIT, left_by};
+use crate::leaving::WAY_EXIT;
 use crate::quick::{all_unsure, most_multiplied, remainder_code, sum_code};
-use crate::summing::{anyway_code, updated};
+use crate::summing::{summed_anyway, updated};
 use crate::tallying::tallied;
 use lower_expressions::{At, FunctionLayout, Kept, expression, left_over};
-use lower_pieces::{Bases, Form, does_all, either, to_number, truth};
+use lower_pieces::{Form, does_all, either, to_number, truth};
 use lower_quick::{
     Remainder, Sum, remainder_in, remainder_names, sum_in, sum_names, tally_in, update_in,
 };
 use mid_program::Code;
-use std::alloc::{AllocError, Global};
+use std::alloc::AllocError;
 use wasm_types::{Instr, Simple};
 
 /// Adds code that is evaluated for what it does alone.
@@ -71,17 +71,6 @@ fn done_alone(
     dropped(layout, &mut kept, out, code, at_first(exit))
 }
 
-/// The same in a list of its own.
-fn alone_code(layout: &FunctionLayout<'_>, code: &Code, exit: u32) -> Result<Vec<Instr>, AllocError>
-    requires { Fits (view_layout layout.now) (view code.now) 0 0 exit }
-    ensures { IfOk result (λ made. Emits [] made.items
-        (dropped (view_layout layout.now) [] [] (view code.now) 0 0 exit)) }
-{
-    let mut all = Vec::new(layout.alloc);
-    done_alone(layout, &mut all, code, exit)?;
-    Ok(all)
-}
-
 /// Adds a remainder that a name takes: by the module itself where no product leaves the range.
 fn remainder_done(
     layout: &FunctionLayout<'_>,
@@ -96,30 +85,18 @@ fn remainder_done(
     ensures { OnOk result (Emits out.old.items out.new.items
         (remainder_done (view_layout layout.now) (view_remainder remainder) (view code.now) exit)) }
 {
-    let names = remainder_names(layout.alloc, remainder)?;
     let most = most_multiplied(remainder.multiple.factor);
-    all_unsure(layout, out, &names, most, most + most)?;
-    let all_cases = alone_code(layout, code, exit + 1)?;
+    all_unsure(
+        layout,
+        out,
+        &remainder_names(layout.alloc, remainder)?,
+        most,
+        most + most,
+    )?;
+    let mut all_cases = Vec::new(layout.alloc);
+    done_alone(layout, &mut all_cases, code, exit + 1)?;
     let quick = remainder_code(layout, remainder)?;
     either(layout.alloc, out, all_cases, quick)
-}
-
-/// Adds code for what it does alone that is no sum for a name, and no counter.
-fn rest_done(
-    layout: &FunctionLayout<'_>,
-    out: &mut Vec<Instr>,
-    code: &Code,
-    exit: u32,
-) -> Result<(), AllocError>
-    requires labels { suc (suc (suc exit)) ≤ most_labels }
-    requires fit { Fits (view_layout layout.now) (view code.now) 0 0 exit }
-    ensures { OnOk result (Emits out.old.items out.new.items (remainder_dropped
-        (view_layout layout.now) (remainder_in (view code.now)) (view code.now) exit)) }
-{
-    match remainder_in(code) {
-        Some(remainder) => remainder_done(layout, out, remainder, code, exit),
-        None => done_alone(layout, out, code, exit),
-    }
 }
 
 /// Adds a sum that a name takes: by the module itself where all numbers are near.
@@ -134,47 +111,17 @@ fn sum_done(
     ensures { OnOk result (Emits out.old.items out.new.items
         (sum_done (view_layout layout.now) (view_sum sum) exit)) }
 {
-    let names = sum_names(layout.alloc, sum)?;
-    all_unsure(layout, out, &names, 1 << 52, 1 << 53)?;
-    let all_cases = anyway_code(layout, sum, exit + 1)?;
+    all_unsure(
+        layout,
+        out,
+        &sum_names(layout.alloc, sum)?,
+        1 << 52,
+        1 << 53,
+    )?;
+    let mut all_cases = Vec::new(layout.alloc);
+    summed_anyway(layout, &mut all_cases, sum, exit + 1)?;
     let quick = sum_code(layout, sum)?;
     either(layout.alloc, out, all_cases, quick)
-}
-
-/// Adds code for what it does alone that is no sum for a name.
-fn barely_done(
-    layout: &FunctionLayout<'_>,
-    out: &mut Vec<Instr>,
-    code: &Code,
-    exit: u32,
-) -> Result<(), AllocError>
-    requires labels { suc (suc (suc exit)) ≤ most_labels }
-    requires fit { Fits (view_layout layout.now) (view code.now) 0 0 exit }
-    ensures { OnOk result (Emits out.old.items out.new.items
-        (barely_dropped (view_layout layout.now) (tally_in (view code.now)) (view code.now) exit)) }
-{
-    match tally_in(code) {
-        Some(tally) => tallied(layout, out, tally, exit),
-        None => rest_done(layout, out, code, exit),
-    }
-}
-
-/// Adds code for what it does alone that is no sum of sources.
-fn plainly_done(
-    layout: &FunctionLayout<'_>,
-    out: &mut Vec<Instr>,
-    code: &Code,
-    exit: u32,
-) -> Result<(), AllocError>
-    requires labels { suc (suc (suc exit)) ≤ most_labels }
-    requires fit { Fits (view_layout layout.now) (view code.now) 0 0 exit }
-    ensures { OnOk result (Emits out.old.items out.new.items (plainly_dropped
-        (view_layout layout.now) (update_in (view code.now)) (view code.now) exit)) }
-{
-    match update_in(code) {
-        Some(update) => updated(layout, out, update, exit),
-        None => barely_done(layout, out, code, exit),
-    }
 }
 
 /// Adds code for what it does alone, where nothing is kept.
@@ -189,9 +136,18 @@ pub(crate) fn done(
     ensures { OnOk result (Emits out.old.items out.new.items
         (quickly_dropped (view_layout layout.now) (sum_in (view code.now)) (view code.now) exit)) }
 {
-    match sum_in(code) {
-        Some(sum) => sum_done(layout, out, sum, exit),
-        None => plainly_done(layout, out, code, exit),
+    if let Some(sum) = sum_in(code) {
+        return sum_done(layout, out, sum, exit);
+    }
+    if let Some(update) = update_in(code) {
+        return updated(layout, out, update, exit);
+    }
+    if let Some(tally) = tally_in(code) {
+        return tallied(layout, out, tally, exit);
+    }
+    match remainder_in(code) {
+        Some(remainder) => remainder_done(layout, out, remainder, code, exit),
+        None => done_alone(layout, out, code, exit),
     }
 }
 
@@ -226,27 +182,7 @@ pub(crate) fn tested(
     truth(layout.alloc, layout.bases, out, form, 0)
 }
 
-/// Sets the status, and leaves the function by `exit`.
-fn status_left(
-    alloc: Global,
-    bases: &Bases,
-    out: &mut Vec<Instr>,
-    form: Form,
-    exit: u32,
-) -> Result<(), AllocError>
-    requires { exit ≤ most_labels }
-    ensures { OnOk result
-        (Emits out.old.items out.new.items (status_left bases.now (view_form form) exit)) }
-{
-    to_number(alloc, bases, out, form, 0, exit)?;
-    does_all(
-        out,
-        &[Simple::LocalGet(bases.number(0)), Simple::GlobalSet(1)],
-    )?;
-    left_by(out, WAY_EXIT, exit)
-}
-
-/// Adds `exit` with a status.
+/// Adds `exit` with a status: sets the status, and leaves the function by `exit`.
 pub(crate) fn exit_with(
     layout: &FunctionLayout<'_>,
     out: &mut Vec<Instr>,
@@ -260,5 +196,13 @@ pub(crate) fn exit_with(
         (status_left layout.now.bases.now (form_of [] (view code.now)) exit after))) }
 {
     let form = answered(layout, out, code, exit)?;
-    status_left(layout.alloc, layout.bases, out, form, exit)
+    to_number(layout.alloc, layout.bases, out, form, 0, exit)?;
+    let all = [
+        Simple::LocalGet(layout.bases.number(0)),
+        Simple::GlobalSet(1),
+        Simple::I32Const(WAY_EXIT),
+        Simple::GlobalSet(0),
+        Simple::Br(exit),
+    ];
+    does_all(out, &all)
 }

@@ -13,7 +13,7 @@ use std::alloc::AllocError;
 use wasm_types::{Instr, Simple};
 
 /// What a function holds beside its answer.
-#[derive(Clone, Copy, Debug, Drop)]
+#[derive(Clone, Copy, Drop)]
 pub enum Held {
     Temporaries,
     Iterators,

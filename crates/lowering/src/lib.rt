@@ -7,6 +7,7 @@ mod evaluating;
 mod holding;
 mod leaving;
 mod lengths;
+mod lists;
 mod loops;
 mod main_parts;
 mod quick;

@@ -12,11 +12,10 @@ ghost use Rattle.lower_expressions.specs.View.{view_layout};
 ghost use Rattle.lowering.specs.Parts.{iterator_made, key_asked, rounds, tested_on};
 
 use crate::evaluating::{dropped, tested};
+use crate::lists::call_of;
 use host_imports::Import;
 use lower_expressions::{At, FunctionLayout, Kept, array_pushed};
-use lower_pieces::{
-    Bases, Form, again, ask, ask_row, block, does, does_all, emptied, let_go, moved_out,
-};
+use lower_pieces::{Bases, Form, again, ask, block, does, does_all, emptied, let_go, moved_out};
 use mid_program::{ArrayName, Code};
 use sem_primitives::{Answer, Primitive, Sort};
 use std::alloc::{AllocError, Global};
@@ -69,8 +68,8 @@ pub(crate) fn iterator_made(
         (iterator_made (view_layout layout.now) (view_array array) iterator)) }
 {
     array_pushed(layout, out, array)?;
-    ask_row(out, Primitive::Iter)?;
-    does(out, Simple::LocalSet(layout.bases.iterator(iterator)))
+    let set = Simple::LocalSet(layout.bases.iterator(iterator));
+    does_all(out, &[call_of(Primitive::Iter), set])
 }
 
 /// Asks for the next key, and leaves the loop where there is none.
@@ -79,9 +78,10 @@ fn key_asked(bases: &Bases, out: &mut Vec<Instr>, iterator: u32) -> Result<(), A
     ensures { OnOk result (Emits out.old.items out.new.items (key_asked bases.now iterator)) }
 {
     let local = bases.iterator(iterator);
-    does_all(out, &[Simple::LocalGet(local), Simple::LocalTee(local)])?;
-    ask_row(out, Primitive::IterNext)?;
     let all = [
+        Simple::LocalGet(local),
+        Simple::LocalTee(local),
+        call_of(Primitive::IterNext),
         Simple::LocalTee(bases.handle(0)),
         Simple::I32Const(END_CODE),
         Simple::Compare(ValType::I32, IRelOp::Eq),

@@ -8,14 +8,14 @@ ghost use Rattle.lower_model.specs.Statements.{main_body, part_done};
 ghost use Rattle.lower_pieces.specs.Bounds.{most_places};
 ghost use Rattle.lower_pieces.specs.Emits.{Emits};
 ghost use Rattle.lower_expressions.specs.View.{view_layout};
-ghost use Rattle.lowering.specs.Parts.{first_code, items_code, main_code, part_code, part_left, parts_code, records_if, status_given};
+ghost use Rattle.lowering.specs.Parts.{first_code, main_code, part_left, parts_code, records_if};
 ghost use Rattle.lowering.specs.StepFits.{LoopFits, PartsFit, StepsFit};
 
 use crate::around::OUTERMOST;
 use crate::beginning::before_parts;
 use crate::holding::{all_emptied, swept};
 use crate::leaving::WAY_NEXT;
-use crate::records::{goes_on, items_code, records_read};
+use crate::records::{goes_on, items_added, records_read};
 use crate::steps::statements;
 use awk_values::Fault;
 use lower_expressions::FunctionLayout;
@@ -44,23 +44,7 @@ fn part_left(layout: &FunctionLayout<'_>, out: &mut Vec<Instr>, exit: u32) -> Re
     goes_on(layout, out)
 }
 
-/// A part, and how it was left.
-fn part_code(
-    layout: &FunctionLayout<'_>,
-    actions: Vec<Instr>,
-    exit: u32,
-) -> Result<Vec<Instr>, AllocError>
-    requires { LoopFits exit }
-    ensures { (adds : Instructions → Instructions) → Emits [] actions.items adds → IfOk result
-        (λ code. Emits [] code.items (part_code (view_layout layout.now) (adds Done) exit)) }
-{
-    let mut code = Vec::new(layout.alloc);
-    block(layout.alloc, &mut code, actions)?;
-    part_left(layout, &mut code, exit)?;
-    Ok(code)
-}
-
-/// Adds a part of `main`, whose exit is `exit` labels further out.
+/// Adds a part of `main`, and how it was left; its exit is `exit` labels further out.
 fn part_done(
     layout: &FunctionLayout<'_>,
     out: &mut Vec<Instr>,
@@ -71,7 +55,9 @@ fn part_done(
     ensures { (adds : Instructions → Instructions) → Emits [] actions.items adds → OnOk result
         (Emits out.old.items out.new.items (part_done (view_layout layout.now) (adds Done) exit)) }
 {
-    let inside = part_code(layout, actions, exit)?;
+    let mut inside = Vec::new(layout.alloc);
+    block(layout.alloc, &mut inside, actions)?;
+    part_left(layout, &mut inside, exit)?;
     block(layout.alloc, out, inside)
 }
 
@@ -93,51 +79,36 @@ fn records_if(
     }
 }
 
-/// What is done at the beginning, and for each record.
-fn first_code(layout: &FunctionLayout<'_>) -> Result<Vec<Instr>, AllocError>
+/// Adds what is done at the beginning, and for each record.
+fn first_added(layout: &FunctionLayout<'_>, out: &mut Vec<Instr>) -> Result<(), AllocError>
     requires { PartsFit (view_layout layout.now) (view_mid layout.now.script.now.program.now) }
-    ensures { IfOk result (λ code. Emits [] code.items
+    ensures { OnOk result (Emits out.old.items out.new.items
         (first_code (view_layout layout.now) (view_mid layout.now.script.now.program.now))) }
 {
     let program = layout.script.program;
-    let mut code = Vec::new(layout.alloc);
-    statements(layout, &mut code, &program.begin, OUTERMOST)?;
-    records_if(layout, &mut code, program.reads, &program.items)?;
-    does(&mut code, Simple::Br(1))?;
-    Ok(code)
+    statements(layout, out, &program.begin, OUTERMOST)?;
+    records_if(layout, out, program.reads, &program.items)?;
+    does(out, Simple::Br(1))
 }
 
-/// Both parts, and what goes before them.
-fn parts_code(layout: &FunctionLayout<'_>) -> Result<Vec<Instr>, AllocError>
+/// Adds both parts, and what goes before them.
+fn parts_added(layout: &FunctionLayout<'_>, out: &mut Vec<Instr>) -> Result<(), AllocError>
     requires fit { PartsFit (view_layout layout.now) (view_mid layout.now.script.now.program.now) }
     requires few { length (view_mid layout.now.script.now.program.now).routines ≤ most_places }
-    ensures { IfOk result (λ code. Emits [] code.items
+    ensures { OnOk result (Emits out.old.items out.new.items
         (parts_code (view_layout layout.now) (view_mid layout.now.script.now.program.now))) }
 {
-    let mut code = Vec::new(layout.alloc);
-    before_parts(layout, &mut code)?;
-    part_done(layout, &mut code, first_code(layout)?, 0)?;
-    ask_row(&mut code, Primitive::BeginEnd)?;
-    part_done(
-        layout,
-        &mut code,
-        items_code(layout, &layout.script.program.end)?,
-        0,
-    )?;
-    Ok(code)
+    before_parts(layout, out)?;
+    let mut first = Vec::new(layout.alloc);
+    first_added(layout, &mut first)?;
+    part_done(layout, out, first, 0)?;
+    ask_row(out, Primitive::BeginEnd)?;
+    let mut last = Vec::new(layout.alloc);
+    items_added(layout, &mut last, &layout.script.program.end)?;
+    part_done(layout, out, last, 0)
 }
 
-/// Lets go of what `main` has, and gives the status.
-fn status_given(layout: &FunctionLayout<'_>, out: &mut Vec<Instr>) -> Result<(), AllocError>
-    ensures { OnOk result
-        (Emits out.old.items out.new.items (status_given (view_layout layout.now))) }
-{
-    swept(layout, out)?;
-    let all = [Simple::GlobalGet(1), Simple::Convert(CvtOp::I32WrapI64)];
-    does_all(out, &all)
-}
-
-/// Adds the code of `main`.
+/// Adds the code of `main`, which gives the status once what it has is let go.
 fn main_added(layout: &FunctionLayout<'_>, out: &mut Vec<Instr>) -> Result<(), AllocError>
     requires fit { PartsFit (view_layout layout.now) (view_mid layout.now.script.now.program.now) }
     requires few { length (view_mid layout.now.script.now.program.now).routines ≤ most_places }
@@ -145,9 +116,12 @@ fn main_added(layout: &FunctionLayout<'_>, out: &mut Vec<Instr>) -> Result<(), A
         (main_code (view_layout layout.now) (view_mid layout.now.script.now.program.now))) }
 {
     all_emptied(layout, out)?;
-    let inside = parts_code(layout)?;
+    let mut inside = Vec::new(layout.alloc);
+    parts_added(layout, &mut inside)?;
     block(layout.alloc, out, inside)?;
-    status_given(layout, out)
+    swept(layout, out)?;
+    let all = [Simple::GlobalGet(1), Simple::Convert(CvtOp::I32WrapI64)];
+    does_all(out, &all)
 }
 
 /// The code of `main`.

@@ -1,19 +1,19 @@
 //! Quick ways of statements on numbers: names whose numbers are within bounds, and what is done with them on the stack.
 ghost use Rattle.std.specs.Prelude.{[], ◌≡◌, ◌≤◌, ◌^◌, IfOk, OnOk, pos, suc};
 ghost use Rattle.awk_text.specs.Number.{largest};
-ghost use Rattle.wasm_types.specs.Syntax.{Done};
-ghost use Rattle.lower_model.specs.Quick.{all_unsure, joined, most_multiplied, multiplied, shifted, sum_op, unsure};
-ghost use Rattle.lower_model.specs.Statements.{counted_left, name_read, pair_left, remainder_taken, source_pushed, summed};
+ghost use Rattle.lower_model.specs.Quick.{all_unsure, joined, most_multiplied, sum_op, unsure};
+ghost use Rattle.lower_model.specs.Statements.{counted_left, name_read, pair_left, remainder_taken, summed};
 ghost use Rattle.lower_pieces.specs.Bounds.{most_labels, most_places};
 ghost use Rattle.lower_pieces.specs.Emits.{Emits};
 ghost use Rattle.lower_expressions.specs.View.{view_layout};
 ghost use Rattle.lower_quick.specs.View.{view_counted, view_pair, view_remainder, view_source, view_sum};
-ghost use Rattle.lowering.specs.Parts.{past, unnumbered};
+ghost use Rattle.lowering.specs.Parts.{source_read, unnumbered};
 ghost use Rattle.lowering.specs.QuickFits.{FactorFits, NamesFit, PairFits, RemainderFits, SourceFits, SumFits};
 
+use crate::lists::{call_of, listed};
 use awk_text::MAX_NUMBER;
 use lower_expressions::{FunctionLayout, global_number};
-use lower_pieces::{TEXT_BESIDE, ask_row, does, does_all, relation};
+use lower_pieces::{TEXT_BESIDE, does, does_all, relation};
 use lower_quick::{Counted, Pair, Remainder, Source, Sum, Within, contrary};
 use mid_program::Arithmetic;
 use sem_primitives::{Primitive, Special};
@@ -28,29 +28,6 @@ fn name_read(layout: &FunctionLayout<'_>, name: usize) -> Simple
     Simple::GlobalGet(global_number(layout, name))
 }
 
-/// Adds a word and what is added to it.
-fn shifted(out: &mut Vec<Instr>, word: Simple, shift: u64) -> Result<(), AllocError>
-    ensures { OnOk result (Emits out.old.items out.new.items (shifted word (pos shift))) }
-{
-    let all = [
-        word,
-        Simple::I64Const(shift),
-        Simple::Binary(ValType::I64, IBinOp::Add),
-    ];
-    does_all(out, &all)
-}
-
-/// Adds the test whether a word is past a width.
-fn past(out: &mut Vec<Instr>, width: u64) -> Result<(), AllocError>
-    ensures { OnOk result (Emits out.old.items out.new.items (past width)) }
-{
-    let all = [
-        Simple::I64Const(width),
-        Simple::Compare(ValType::I64, IRelOp::GtU),
-    ];
-    does_all(out, &all)
-}
-
 /// Adds the test whether a name has none of these numbers.
 pub(crate) fn unsure(
     layout: &FunctionLayout<'_>,
@@ -61,11 +38,17 @@ pub(crate) fn unsure(
     ensures { OnOk result (Emits out.old.items out.new.items
         (unsure (name_read (view_layout layout.now) within.name) (pos largest) within.width)) }
 {
-    shifted(out, name_read(layout, within.name), MAX_NUMBER)?;
-    past(out, within.width)
+    let all = [
+        name_read(layout, within.name),
+        Simple::I64Const(MAX_NUMBER),
+        Simple::Binary(ValType::I64, IBinOp::Add),
+        Simple::I64Const(within.width),
+        Simple::Compare(ValType::I64, IRelOp::GtU),
+    ];
+    does_all(out, &all)
 }
 
-/// Joins the words of names, each shifted, to the one on the stack.
+/// Joins the words of names, each with what is added to it, to the one on the stack.
 fn joined(
     layout: &FunctionLayout<'_>,
     out: &mut Vec<Instr>,
@@ -77,8 +60,13 @@ fn joined(
         (joined (name_read (view_layout layout.now)) names.now (pos shift))) }
 {
     for name in names {
-        shifted(out, name_read(layout, *name), shift)?;
-        does(out, Simple::Binary(ValType::I64, IBinOp::Or))?;
+        let all = [
+            name_read(layout, *name),
+            Simple::I64Const(shift),
+            Simple::Binary(ValType::I64, IBinOp::Add),
+            Simple::Binary(ValType::I64, IBinOp::Or),
+        ];
+        does_all(out, &all)?;
     }
     Ok(())
 }
@@ -98,24 +86,28 @@ pub(crate) fn all_unsure(
     let [first, others @ ..] = names else {
         return does(out, Simple::I32Const(0));
     };
-    shifted(out, name_read(layout, *first), shift)?;
+    let word = [
+        name_read(layout, *first),
+        Simple::I64Const(shift),
+        Simple::Binary(ValType::I64, IBinOp::Add),
+    ];
+    does_all(out, &word)?;
     joined(layout, out, others, shift)?;
-    past(out, width)
+    let past = [
+        Simple::I64Const(width),
+        Simple::Compare(ValType::I64, IRelOp::GtU),
+    ];
+    does_all(out, &past)
 }
 
-/// Puts a source on the stack.
-fn source_pushed(
-    layout: &FunctionLayout<'_>,
-    out: &mut Vec<Instr>,
-    source: Source,
-) -> Result<(), AllocError>
+/// What puts a source on the stack.
+fn source_read(layout: &FunctionLayout<'_>, source: Source) -> Simple
     requires { SourceFits (view_source source) }
-    ensures { OnOk result (Emits out.old.items out.new.items
-        (source_pushed (view_layout layout.now) (view_source source))) }
+    ensures { result ≡ source_read (view_layout layout.now) (view_source source) }
 {
     match source {
-        Source::Named(name) => does(out, name_read(layout, name)),
-        Source::Constant(number) => does(out, Simple::I64Const(number.cast_unsigned())),
+        Source::Named(name) => name_read(layout, name),
+        Source::Constant(number) => Simple::I64Const(number.cast_unsigned()),
     }
 }
 
@@ -132,30 +124,19 @@ pub(crate) fn sum_op(op: Arithmetic) -> IBinOp
     }
 }
 
-/// Adds a sum in range, which its name takes.
-fn summed(layout: &FunctionLayout<'_>, out: &mut Vec<Instr>, sum: Sum) -> Result<(), AllocError>
-    requires { SumFits (view_sum sum) }
-    ensures { OnOk result
-        (Emits out.old.items out.new.items (summed (view_layout layout.now) (view_sum sum))) }
-{
-    source_pushed(layout, out, sum.left)?;
-    source_pushed(layout, out, sum.right)?;
-    let all = [
-        Simple::Binary(ValType::I64, sum_op(sum.op)),
-        Simple::GlobalSet(global_number(layout, sum.target)),
-    ];
-    does_all(out, &all)
-}
-
-/// The same in a list of its own.
+/// A sum in range, which its name takes.
 pub(crate) fn sum_code(layout: &FunctionLayout<'_>, sum: Sum) -> Result<Vec<Instr>, AllocError>
     requires { SumFits (view_sum sum) }
     ensures { IfOk result
         (λ code. Emits [] code.items (summed (view_layout layout.now) (view_sum sum))) }
 {
-    let mut code = Vec::new(layout.alloc);
-    summed(layout, &mut code, sum)?;
-    Ok(code)
+    let all = [
+        source_read(layout, sum.left),
+        source_read(layout, sum.right),
+        Simple::Binary(ValType::I64, sum_op(sum.op)),
+        Simple::GlobalSet(global_number(layout, sum.target)),
+    ];
+    listed(layout.alloc, &all)
 }
 
 /// The greatest number whose product with a factor is in range.
@@ -170,39 +151,7 @@ pub(crate) fn most_multiplied(factor: Option<i64>) -> u64
     }
 }
 
-/// Multiplies the number on the stack.
-fn multiplied(out: &mut Vec<Instr>, factor: Option<i64>) -> Result<(), AllocError>
-    ensures { OnOk result (Emits out.old.items out.new.items (multiplied factor)) }
-{
-    let Some(factor) = factor else { return Ok(()) };
-    let all = [
-        Simple::I64Const(factor.cast_unsigned()),
-        Simple::Binary(ValType::I64, IBinOp::Mul),
-    ];
-    does_all(out, &all)
-}
-
-/// Adds a remainder of a number in range, which its name takes.
-fn remainder_taken(
-    layout: &FunctionLayout<'_>,
-    out: &mut Vec<Instr>,
-    remainder: Remainder,
-) -> Result<(), AllocError>
-    requires { RemainderFits (view_remainder remainder) }
-    ensures { OnOk result (Emits out.old.items out.new.items
-        (remainder_taken (view_layout layout.now) (view_remainder remainder))) }
-{
-    does(out, name_read(layout, remainder.multiple.name))?;
-    multiplied(out, remainder.multiple.factor)?;
-    let all = [
-        Simple::I64Const(remainder.divisor.cast_unsigned()),
-        Simple::Binary(ValType::I64, IBinOp::RemS),
-        Simple::GlobalSet(global_number(layout, remainder.target)),
-    ];
-    does_all(out, &all)
-}
-
-/// The same in a list of its own.
+/// A remainder of a number in range, which its name takes.
 pub(crate) fn remainder_code(
     layout: &FunctionLayout<'_>,
     remainder: Remainder,
@@ -211,32 +160,21 @@ pub(crate) fn remainder_code(
     ensures { IfOk result (λ code. Emits [] code.items
         (remainder_taken (view_layout layout.now) (view_remainder remainder))) }
 {
-    let mut code = Vec::new(layout.alloc);
-    remainder_taken(layout, &mut code, remainder)?;
-    Ok(code)
+    let read = name_read(layout, remainder.multiple.name);
+    let divisor = Simple::I64Const(remainder.divisor.cast_unsigned());
+    let taken = Simple::Binary(ValType::I64, IBinOp::RemS);
+    let stored = Simple::GlobalSet(global_number(layout, remainder.target));
+    match remainder.multiple.factor {
+        Some(factor) => {
+            let factor = Simple::I64Const(factor.cast_unsigned());
+            let times = Simple::Binary(ValType::I64, IBinOp::Mul);
+            listed(layout.alloc, &[read, factor, times, divisor, taken, stored])
+        }
+        None => listed(layout.alloc, &[read, divisor, taken, stored]),
+    }
 }
 
-/// Adds a comparison of numbers, and leaves to a label where it does not hold.
-fn pair_left(
-    layout: &FunctionLayout<'_>,
-    out: &mut Vec<Instr>,
-    pair: Pair,
-    label: u32,
-) -> Result<(), AllocError>
-    requires { PairFits (view_pair pair) }
-    ensures { OnOk result (Emits out.old.items out.new.items
-        (pair_left (view_layout layout.now) (view_pair pair) label)) }
-{
-    source_pushed(layout, out, pair.left)?;
-    source_pushed(layout, out, pair.right)?;
-    let all = [
-        Simple::Compare(ValType::I64, relation(contrary(pair.op))),
-        Simple::BrIf(label),
-    ];
-    does_all(out, &all)
-}
-
-/// The same in a list of its own, from within one label more.
+/// A comparison of numbers, which leaves to a label where it does not hold, from within one label more.
 pub(crate) fn pair_code(
     layout: &FunctionLayout<'_>,
     pair: Pair,
@@ -247,34 +185,16 @@ pub(crate) fn pair_code(
     ensures { IfOk result (λ code. Emits [] code.items
         (pair_left (view_layout layout.now) (view_pair pair) (suc label))) }
 {
-    let mut code = Vec::new(layout.alloc);
-    pair_left(layout, &mut code, pair, label + 1)?;
-    Ok(code)
-}
-
-/// Adds a comparison of a name's number with how many fields there are, and leaves to a label where it does not hold.
-fn counted_left(
-    layout: &FunctionLayout<'_>,
-    out: &mut Vec<Instr>,
-    counted: Counted,
-    label: u32,
-) -> Result<(), AllocError>
-    requires { counted.name ≤ most_places }
-    ensures { OnOk result (Emits out.old.items out.new.items
-        (counted_left (view_layout layout.now) (view_counted counted) label)) }
-{
-    does(out, name_read(layout, counted.name))?;
-    does(out, Simple::I32Const(u32::from(Special::Nf.number())))?;
-    ask_row(out, Primitive::GetSpecial)?;
-    ask_row(out, Primitive::ToNum)?;
     let all = [
-        Simple::Compare(ValType::I64, relation(contrary(counted.op))),
-        Simple::BrIf(label),
+        source_read(layout, pair.left),
+        source_read(layout, pair.right),
+        Simple::Compare(ValType::I64, relation(contrary(pair.op))),
+        Simple::BrIf(label + 1),
     ];
-    does_all(out, &all)
+    listed(layout.alloc, &all)
 }
 
-/// The same in a list of its own, from within one label more.
+/// A comparison of a name's number with how many fields there are, which leaves to a label where it does not hold, from within one label more.
 pub(crate) fn counted_code(
     layout: &FunctionLayout<'_>,
     counted: Counted,
@@ -285,9 +205,15 @@ pub(crate) fn counted_code(
     ensures { IfOk result (λ code. Emits [] code.items
         (counted_left (view_layout layout.now) (view_counted counted) (suc label))) }
 {
-    let mut code = Vec::new(layout.alloc);
-    counted_left(layout, &mut code, counted, label + 1)?;
-    Ok(code)
+    let all = [
+        name_read(layout, counted.name),
+        Simple::I32Const(u32::from(Special::Nf.number())),
+        call_of(Primitive::GetSpecial),
+        call_of(Primitive::ToNum),
+        Simple::Compare(ValType::I64, relation(contrary(counted.op))),
+        Simple::BrIf(label + 1),
+    ];
+    listed(layout.alloc, &all)
 }
 
 /// Adds the test whether a name has no number.

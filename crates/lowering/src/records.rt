@@ -1,7 +1,7 @@
 //! The records of the main input.
-ghost use Rattle.std.specs.Prelude.{[], ◌≤◌, IfOk, OnOk};
+ghost use Rattle.std.specs.Prelude.{◌≤◌, OnOk};
 ghost use Rattle.mid_program.specs.ViewCode.{view_steps};
-ghost use Rattle.lower_model.specs.Statements.{goes_on, record_done, records_read};
+ghost use Rattle.lower_model.specs.Statements.{goes_on, records_read};
 ghost use Rattle.lower_pieces.specs.Bounds.{most_labels};
 ghost use Rattle.lower_pieces.specs.Emits.{Emits};
 ghost use Rattle.lower_expressions.specs.View.{view_layout};
@@ -47,41 +47,22 @@ fn next_taken(
     goes_on(layout, out)
 }
 
-/// Statements of `main` that nothing left.
-pub(crate) fn items_code(
+/// Adds statements of `main` that nothing left.
+pub(crate) fn items_added(
     layout: &FunctionLayout<'_>,
+    out: &mut Vec<Instr>,
     items: &[Step],
-) -> Result<Vec<Instr>, AllocError>
+) -> Result<(), AllocError>
     requires { StepsFit (view_layout layout.now) (view_steps items.now) 0 0 }
-    ensures { IfOk result
-        (λ code. Emits [] code.items (items_code (view_layout layout.now) (view_steps items.now))) }
+    ensures { OnOk result (Emits out.old.items out.new.items
+        (items_code (view_layout layout.now) (view_steps items.now))) }
 {
-    let mut code = Vec::new(layout.alloc);
-    statements(layout, &mut code, items, OUTERMOST)?;
-    does(&mut code, Simple::Br(1))?;
-    Ok(code)
+    statements(layout, out, items, OUTERMOST)?;
+    does(out, Simple::Br(1))
 }
 
-/// The items for a record, and how they were left.
-fn record_code(
-    layout: &FunctionLayout<'_>,
-    items: &[Step],
-    exit: u32,
-) -> Result<Vec<Instr>, AllocError>
-    requires labels { exit ≤ most_labels }
-    requires fit { StepsFit (view_layout layout.now) (view_steps items.now) 0 0 }
-    ensures { IfOk result (λ code. Emits [] code.items
-        (record_code (view_layout layout.now) (view_steps items.now) exit)) }
-{
-    let mut code = Vec::new(layout.alloc);
-    let inside = items_code(layout, items)?;
-    block(layout.alloc, &mut code, inside)?;
-    next_taken(layout, &mut code, exit)?;
-    Ok(code)
-}
-
-/// Adds the items for a record.
-fn record_done(
+/// Adds the items for a record, and how they were left.
+fn record_added(
     layout: &FunctionLayout<'_>,
     out: &mut Vec<Instr>,
     items: &[Step],
@@ -90,10 +71,12 @@ fn record_done(
     requires labels { exit ≤ most_labels }
     requires fit { StepsFit (view_layout layout.now) (view_steps items.now) 0 0 }
     ensures { OnOk result (Emits out.old.items out.new.items
-        (record_done (view_layout layout.now) (view_steps items.now) exit)) }
+        (record_code (view_layout layout.now) (view_steps items.now) exit)) }
 {
-    let inside = record_code(layout, items, exit)?;
-    block(layout.alloc, out, inside)
+    let mut inside = Vec::new(layout.alloc);
+    items_added(layout, &mut inside, items)?;
+    block(layout.alloc, out, inside)?;
+    next_taken(layout, out, exit)
 }
 
 /// Asks for a record, and adds the test whether there is one.
@@ -106,21 +89,22 @@ fn record_asked(bases: &Bases, out: &mut Vec<Instr>, exit: u32) -> Result<(), Al
     number_is(out, bases.number(0), 1)
 }
 
-/// What is done where there is a record.
+/// Adds what is done where there is a record: the items for it, in a block, and the next one.
 fn record_way(
     layout: &FunctionLayout<'_>,
+    out: &mut Vec<Instr>,
     items: &[Step],
     exit: u32,
-) -> Result<Vec<Instr>, AllocError>
+) -> Result<(), AllocError>
     requires labels { exit ≤ most_labels }
     requires fit { StepsFit (view_layout layout.now) (view_steps items.now) 0 0 }
-    ensures { IfOk result (λ code. Emits [] code.items
+    ensures { OnOk result (Emits out.old.items out.new.items
         (record_way (view_layout layout.now) (view_steps items.now) exit)) }
 {
-    let mut code = Vec::new(layout.alloc);
-    record_done(layout, &mut code, items, exit)?;
-    does(&mut code, Simple::Br(1))?;
-    Ok(code)
+    let mut inside = Vec::new(layout.alloc);
+    record_added(layout, &mut inside, items, exit)?;
+    block(layout.alloc, out, inside)?;
+    does(out, Simple::Br(1))
 }
 
 /// Makes an assignment of the command line, where one stands before the next record.
@@ -132,26 +116,23 @@ fn assignment_made(layout: &FunctionLayout<'_>, out: &mut Vec<Instr>) -> Result<
     when(layout.alloc, out, pending_code(layout, 0)?)
 }
 
-/// One record, or one assignment.
+/// Adds one record, or one assignment.
 fn record_turn(
     layout: &FunctionLayout<'_>,
+    out: &mut Vec<Instr>,
     items: &[Step],
     exit: u32,
-) -> Result<Vec<Instr>, AllocError>
+) -> Result<(), AllocError>
     requires labels { LoopFits exit }
     requires fit { StepsFit (view_layout layout.now) (view_steps items.now) 0 0 }
-    ensures { IfOk result (λ code. Emits [] code.items
+    ensures { OnOk result (Emits out.old.items out.new.items
         (record_turn (view_layout layout.now) (view_steps items.now) exit)) }
 {
-    let mut code = Vec::new(layout.alloc);
-    record_asked(layout.bases, &mut code, exit)?;
-    when(
-        layout.alloc,
-        &mut code,
-        record_way(layout, items, exit + 2)?,
-    )?;
-    assignment_made(layout, &mut code)?;
-    Ok(code)
+    record_asked(layout.bases, out, exit)?;
+    let mut way = Vec::new(layout.alloc);
+    record_way(layout, &mut way, items, exit + 2)?;
+    when(layout.alloc, out, way)?;
+    assignment_made(layout, out)
 }
 
 /// Reads records to the last one, with the items for each.
@@ -166,6 +147,7 @@ pub(crate) fn records_read(
     ensures { OnOk result (Emits out.old.items out.new.items
         (records_read (view_layout layout.now) (view_steps items.now) exit)) }
 {
-    let turn = record_turn(layout, items, exit)?;
+    let mut turn = Vec::new(layout.alloc);
+    record_turn(layout, &mut turn, items, exit)?;
     again(layout.alloc, out, turn)
 }

@@ -1,5 +1,5 @@
 //! `return`: what a function answers.
-ghost use Rattle.std.specs.Prelude.{[], ◌≡◌, ◌≤◌, false, IfOk, OnOk};
+ghost use Rattle.std.specs.Prelude.{[], ◌≡◌, ◌≤◌, false, OnOk};
 ghost use Rattle.sem_primitives.specs.declared.sorts.Sort.TheVariants.{Value};
 ghost use Rattle.mid_program.specs.Mid as plain;
 ghost use Rattle.mid_program.specs.Mid.{Bare, form_of};
@@ -67,15 +67,6 @@ fn text_given(layout: &FunctionLayout<'_>, out: &mut Vec<Instr>) -> Result<(), A
     does(out, Simple::GlobalSet(TEXT_GLOBAL))
 }
 
-/// The same in a list of its own.
-fn text_code(layout: &FunctionLayout<'_>) -> Result<Vec<Instr>, AllocError>
-    ensures { IfOk result (λ code. Emits [] code.items (text_given (view_layout layout.now))) }
-{
-    let mut code = Vec::new(layout.alloc);
-    text_given(layout, &mut code)?;
-    Ok(code)
-}
-
 /// Gives what may be a number, nothing or a text.
 fn bare_given(
     layout: &FunctionLayout<'_>,
@@ -87,7 +78,9 @@ fn bare_given(
         (Emits out.old.items out.new.items (answer_given (view_layout layout.now) Bare exit)) }
 {
     number_is(out, layout.bases.number(0), TEXT_BESIDE)?;
-    when(layout.alloc, out, text_code(layout)?)?;
+    let mut text = Vec::new(layout.alloc);
+    text_given(layout, &mut text)?;
+    when(layout.alloc, out, text)?;
     word_given(layout, out, exit)
 }
 
@@ -115,23 +108,6 @@ fn answer_given(
     }
 }
 
-/// The code of `return` in a list of its own.
-#[cycle(returned)]
-fn returned_code(
-    layout: &FunctionLayout<'_>,
-    code: &Code,
-    exit: u32,
-) -> Result<Vec<Instr>, AllocError>
-    requires fit { Fits (view_layout layout.now) (view code.now) 0 0 exit }
-    requires labels { exit ≤ most_labels }
-    ensures { IfOk result (λ all. Emits [] all.items
-        (returned (view_layout layout.now) (view code.now) exit)) }
-{
-    let mut all = Vec::new(layout.alloc);
-    returned(layout, &mut all, code, exit)?;
-    Ok(all)
-}
-
 /// Returns one of two.
 #[cycle(returned)]
 fn chosen_returned(
@@ -148,9 +124,11 @@ fn chosen_returned(
         (plain.Choose Value (view test.now) (view yes.now) (view no.now)) exit)) }
 {
     tested(layout, out, test, exit)?;
-    let yes = returned_code(layout, yes, exit + 1)?;
-    let no = returned_code(layout, no, exit + 1)?;
-    either(layout.alloc, out, yes, no)
+    let mut so = Vec::new(layout.alloc);
+    returned(layout, &mut so, yes, exit + 1)?;
+    let mut otherwise = Vec::new(layout.alloc);
+    returned(layout, &mut otherwise, no, exit + 1)?;
+    either(layout.alloc, out, so, otherwise)
 }
 
 /// Returns what is no choice of values.
@@ -190,24 +168,6 @@ pub(crate) fn returned(
                 plainly_returned(layout, out, code, exit)
             }
         },
-        Code::Do(_, _)
-        | Code::Over(_, _)
-        | Code::Compare(_, _, _)
-        | Code::Joined(_, _, _)
-        | Code::Call(_, _)
-        | Code::Ask
-        | Code::AskLine(_)
-        | Code::FileLine(_, _)
-        | Code::Replace(_, _, _)
-        | Code::Number(_)
-        | Code::Text(_)
-        | Code::Unset
-        | Code::Get(_)
-        | Code::Set(_, _)
-        | Code::Array(_)
-        | Code::IsOpen(_)
-        | Code::Seq(_, _)
-        | Code::Let(_, _)
-        | Code::Bound(_, _) => plainly_returned(layout, out, code, exit),
+        _ => plainly_returned(layout, out, code, exit),
     }
 }

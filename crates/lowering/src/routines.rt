@@ -1,5 +1,5 @@
 //! The code of a function.
-ghost use Rattle.std.specs.Prelude.{[], ◌≡◌, ◌≤◌, IfOk, OnOk, length, map};
+ghost use Rattle.std.specs.Prelude.{◌≡◌, ◌≤◌, IfOk, OnOk, length, map};
 ghost use Rattle.wasm_types.specs.View.{views};
 ghost use Rattle.mid_program.specs.View.{view_kind};
 ghost use Rattle.mid_program.specs.ViewCode.{view_steps};
@@ -53,29 +53,34 @@ fn parameters_dropped(
     Ok(())
 }
 
-/// The statements of a function, after which it answers nothing.
-fn body_code(layout: &FunctionLayout<'_>, body: &[Step]) -> Result<Vec<Instr>, AllocError>
+/// Adds the statements of a function, after which it answers nothing.
+fn body_added(
+    layout: &FunctionLayout<'_>,
+    out: &mut Vec<Instr>,
+    body: &[Step],
+) -> Result<(), AllocError>
     requires { StepsFit (view_layout layout.now) (view_steps body.now) 0 0 }
-    ensures { IfOk result (λ code. Emits [] code.items
+    ensures { OnOk result (Emits out.old.items out.new.items
         (routine_steps (view_layout layout.now) (view_steps body.now))) }
 {
-    let mut code = Vec::new(layout.alloc);
-    statements(layout, &mut code, body, OUTERMOST)?;
-    constant_given(layout, &mut code, LEAST, 1)?;
-    Ok(code)
+    statements(layout, out, body, OUTERMOST)?;
+    constant_given(layout, out, LEAST, 1)
 }
 
-/// The statements of a function, and what it holds let go where it is left.
-fn left_code(layout: &FunctionLayout<'_>, body: &[Step]) -> Result<Vec<Instr>, AllocError>
+/// Adds the statements of a function, and lets what it holds go where it is left.
+fn left_added(
+    layout: &FunctionLayout<'_>,
+    out: &mut Vec<Instr>,
+    body: &[Step],
+) -> Result<(), AllocError>
     requires { StepsFit (view_layout layout.now) (view_steps body.now) 0 0 }
-    ensures { IfOk result
-        (λ code. Emits [] code.items (routine_way (view_layout layout.now) (view_steps body.now))) }
+    ensures { OnOk result (Emits out.old.items out.new.items
+        (routine_way (view_layout layout.now) (view_steps body.now))) }
 {
-    let mut code = Vec::new(layout.alloc);
-    let inside = body_code(layout, body)?;
-    block(layout.alloc, &mut code, inside)?;
-    operands_swept(layout, &mut code)?;
-    Ok(code)
+    let mut inside = Vec::new(layout.alloc);
+    body_added(layout, &mut inside, body)?;
+    block(layout.alloc, out, inside)?;
+    operands_swept(layout, out)
 }
 
 /// Lets go of iterators and of the values of parameters, and gives the answer.
@@ -106,7 +111,8 @@ fn routine_added(
         (routine_code (view_layout layout.now) (map view_kind kinds.now) (view_steps body.now))) }
 {
     all_emptied(layout, out)?;
-    let inside = left_code(layout, body)?;
+    let mut inside = Vec::new(layout.alloc);
+    left_added(layout, &mut inside, body)?;
     block(layout.alloc, out, inside)?;
     answer_given(layout, out, kinds)
 }

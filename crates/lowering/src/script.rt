@@ -14,6 +14,7 @@ ghost use Rattle.lowering.specs.Limits.{AreSmallEnough, MainIsSmall, RoutineIsSm
 ghost use Rattle.wasm_types.specs.View.{view_module};
 
 use crate::lengths::{MOST_BYTES, main_length};
+use crate::lists::pushed;
 use crate::main_parts::main_code;
 use crate::routines::routine_code;
 use lower_expressions::FunctionLayout;
@@ -154,7 +155,7 @@ fn routine_functions(alloc: Global, layout: &Layout<'_>) -> Result<Vec<Function>
     let mut all = Vec::new(alloc);
     for routine in layout.routines() {
         let function = routine_function(alloc, layout, routine)?;
-        all.push(function)?;
+        pushed(&mut all, function)?;
     }
     Ok(all)
 }
@@ -178,7 +179,7 @@ pub fn functions(alloc: Global, layout: &Layout<'_>) -> Result<Vec<Function>, Lo
     }
     let mut all = routine_functions(alloc, layout)?;
     let main = main_function(alloc, layout)?;
-    all.push(main)?;
+    pushed(&mut all, main)?;
     Ok(all)
 }
 

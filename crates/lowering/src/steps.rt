@@ -121,27 +121,26 @@ fn plain_choice(
     either(layout.alloc, out, yes, no)
 }
 
-/// The test of a choice, and what is done where it holds; elsewhere the block around it is left.
+/// Adds the test of a choice, and what is done where it holds; elsewhere the block around it is left.
 #[cycle(statements)]
 fn quick_way(
     layout: &FunctionLayout<'_>,
+    out: &mut Vec<Instr>,
     test: &Code,
     yes: &Step,
     at: Around,
-) -> Result<Vec<Instr>, AllocError>
+) -> Result<(), AllocError>
     requires labels { suc (suc (suc at.exit)) ≤ most_labels }
     requires own { OwnLabels at }
     requires test { TestFits (view_layout layout.now) (view test.now) (suc (suc at.exit)) }
     requires yes { StepFits (view_layout layout.now) (view_step yes.now) at.iterators
         (suc (suc at.exit)) }
-    ensures { IfOk result (λ code. Emits [] code.items
+    ensures { OnOk result (Emits out.old.items out.new.items
         (quick_way (view_layout layout.now) (view test.now) (view_step yes.now) at)) }
 {
-    let mut code = Vec::new(layout.alloc);
-    left_unless_pair(layout, &mut code, test, at.exit + 2, 0)?;
-    statement(layout, &mut code, yes, in_branch(in_branch(at)))?;
-    does(&mut code, Simple::Br(1))?;
-    Ok(code)
+    left_unless_pair(layout, out, test, at.exit + 2, 0)?;
+    statement(layout, out, yes, in_branch(in_branch(at)))?;
+    does(out, Simple::Br(1))
 }
 
 /// Adds a choice of two statements by a comparison of sources.
@@ -163,7 +162,8 @@ fn quick_choice(
     ensures { OnOk result (Emits out.old.items out.new.items (quickly_chosen
         (view_layout layout.now) (view test.now) (view_step yes.now) (view_step no.now) at)) }
 {
-    let way = quick_way(layout, test, yes, at)?;
+    let mut way = Vec::new(layout.alloc);
+    quick_way(layout, &mut way, test, yes, at)?;
     let mut ways = Vec::new(layout.alloc);
     block(layout.alloc, &mut ways, way)?;
     statement(layout, &mut ways, no, in_branch(at))?;
@@ -239,55 +239,81 @@ fn turn_ended(
     }
 }
 
-/// A turn of a loop that begins with its test.
+/// Adds a turn of a loop that begins with its test.
 #[cycle(statements)]
 fn tested_turn(
     layout: &FunctionLayout<'_>,
+    out: &mut Vec<Instr>,
     test: &Code,
     body: &Step,
     last: &Step,
     at: Around,
-) -> Result<Vec<Instr>, AllocError>
+) -> Result<(), AllocError>
     requires labels { LoopFits at.exit }
     requires test { TestFits (view_layout layout.now) (view test.now) (suc (suc at.exit)) }
     requires body { StepFits (view_layout layout.now) (view_step body.now) at.iterators
         (suc (suc (more_if (step_jumps (view_step body.now)) at.exit))) }
     requires last { StepFits (view_layout layout.now) (view_step last.now) at.iterators
         (suc (suc at.exit)) }
-    ensures { IfOk result (λ code. Emits [] code.items (tested_turn (view_layout layout.now)
+    ensures { OnOk result (Emits out.old.items out.new.items (tested_turn (view_layout layout.now)
         (view test.now) (view_step body.now) (view_step last.now) at.iterators at.exit)) }
 {
-    let mut code = Vec::new(layout.alloc);
-    left_unless(layout, &mut code, test, at.exit + 2, 1)?;
-    turn_body(layout, &mut code, body, at)?;
-    turn_ended(layout, &mut code, last, at)?;
-    Ok(code)
+    left_unless(layout, out, test, at.exit + 2, 1)?;
+    turn_body(layout, out, body, at)?;
+    turn_ended(layout, out, last, at)
 }
 
-/// A turn of a loop that ends with its test.
+/// Adds a turn of a loop that ends with its test.
 #[cycle(statements)]
 fn first_turn(
     layout: &FunctionLayout<'_>,
+    out: &mut Vec<Instr>,
     test: &Code,
     body: &Step,
     last: &Step,
     at: Around,
-) -> Result<Vec<Instr>, AllocError>
+) -> Result<(), AllocError>
     requires labels { LoopFits at.exit }
     requires test { Fits (view_layout layout.now) (view test.now) 0 0 (suc (suc at.exit)) }
     requires body { StepFits (view_layout layout.now) (view_step body.now) at.iterators
         (suc (suc (suc at.exit))) }
     requires last { StepFits (view_layout layout.now) (view_step last.now) at.iterators
         (suc (suc at.exit)) }
-    ensures { IfOk result (λ code. Emits [] code.items (first_turn (view_layout layout.now)
+    ensures { OnOk result (Emits out.old.items out.new.items (first_turn (view_layout layout.now)
         (view test.now) (view_step body.now) (view_step last.now) at.iterators at.exit)) }
 {
-    let mut code = Vec::new(layout.alloc);
     let inside = inner(layout, body, in_body(at))?;
-    block(layout.alloc, &mut code, inside)?;
-    statement(layout, &mut code, last, in_last(at))?;
-    tested_on(layout, &mut code, test, at.exit)?;
-    Ok(code)
+    block(layout.alloc, out, inside)?;
+    statement(layout, out, last, in_last(at))?;
+    tested_on(layout, out, test, at.exit)
+}
+
+/// Adds a turn of a loop.
+#[cycle(statements)]
+fn turn(
+    layout: &FunctionLayout<'_>,
+    out: &mut Vec<Instr>,
+    tests_first: bool,
+    test: &Code,
+    body: &Step,
+    last: &Step,
+    at: Around,
+) -> Result<(), AllocError>
+    requires labels { LoopFits at.exit }
+    requires test { TestFits (view_layout layout.now) (view test.now) (suc (suc at.exit)) }
+    requires body { StepFits (view_layout layout.now) (view_step body.now) at.iterators
+        (suc (suc (more_if (has_block tests_first (view_step body.now)) at.exit))) }
+    requires last { StepFits (view_layout layout.now) (view_step last.now) at.iterators
+        (suc (suc at.exit)) }
+    ensures { OnOk result
+        (Emits out.old.items out.new.items (turn tests_first (view_layout layout.now)
+        (view test.now) (view_step body.now) (view_step last.now) at.iterators at.exit)) }
+{
+    if tests_first {
+        tested_turn(layout, out, test, body, last, at)
+    } else {
+        first_turn(layout, out, test, body, last, at)
+    }
 }
 
 /// Adds a loop.
@@ -311,37 +337,32 @@ fn looped(
         (Emits out.old.items out.new.items (rounds (turn tests_first (view_layout layout.now)
         (view test.now) (view_step body.now) (view_step last.now) at.iterators at.exit Done))) }
 {
-    if tests_first {
-        let turn = tested_turn(layout, test, body, last, at)?;
-        rounds(layout.alloc, out, turn)
-    } else {
-        let turn = first_turn(layout, test, body, last, at)?;
-        rounds(layout.alloc, out, turn)
-    }
+    let mut code = Vec::new(layout.alloc);
+    turn(layout, &mut code, tests_first, test, body, last, at)?;
+    rounds(layout.alloc, out, code)
 }
 
-/// A turn of a loop over keys.
+/// Adds a turn of a loop over keys.
 #[cycle(statements)]
 fn key_turn(
     layout: &FunctionLayout<'_>,
+    out: &mut Vec<Instr>,
     store: &Code,
     body: &Step,
     at: Around,
-) -> Result<Vec<Instr>, AllocError>
+) -> Result<(), AllocError>
     requires labels { LoopFits at.exit }
     requires few { suc at.iterators ≤ most_places }
     requires store { Fits (view_layout layout.now) (view store.now) 1 0 (suc (suc at.exit)) }
     requires body { StepFits (view_layout layout.now) (view_step body.now) (suc at.iterators)
         (suc (suc (suc at.exit))) }
-    ensures { IfOk result (λ code. Emits [] code.items (key_turn (view_layout layout.now)
+    ensures { OnOk result (Emits out.old.items out.new.items (key_turn (view_layout layout.now)
         (view store.now) (view_step body.now) at.iterators at.exit)) }
 {
-    let mut code = Vec::new(layout.alloc);
-    key_stored(layout, &mut code, store, at.iterators, at.exit + 2)?;
+    key_stored(layout, out, store, at.iterators, at.exit + 2)?;
     let inside = inner(layout, body, in_keys(at))?;
-    block(layout.alloc, &mut code, inside)?;
-    does(&mut code, Simple::Br(0))?;
-    Ok(code)
+    block(layout.alloc, out, inside)?;
+    does(out, Simple::Br(0))
 }
 
 /// Adds a loop over the keys of an array.
@@ -364,7 +385,8 @@ fn keys(
         (view_array array) (view store.now) (view_step body.now) at.iterators at.exit)) }
 {
     iterator_made(layout, out, array, at.iterators)?;
-    let turn = key_turn(layout, store, body, at)?;
+    let mut turn = Vec::new(layout.alloc);
+    key_turn(layout, &mut turn, store, body, at)?;
     rounds(layout.alloc, out, turn)?;
     iterator_left(layout, out, at.iterators)
 }

@@ -1,96 +1,73 @@
 //! Sums in all cases: a name's number may not be there yet, or be that of the text beside it.
-ghost use Rattle.std.specs.Prelude.{[], ◌≤◌, IfOk, None, OnOk, suc};
-ghost use Rattle.mid_program.specs.Mid.{form_of};
+ghost use Rattle.std.specs.Prelude.{◌≤◌, None, OnOk, suc};
 ghost use Rattle.mid_program.specs.ViewCode.{view};
 ghost use Rattle.lower_model.specs.Quick.{sum_op};
 ghost use Rattle.lower_model.specs.Statements.{name_numbered, number_found, number_there, source_numbered, source_taken, sum_kept, sum_taken, summed_anyway, both_asked, updated};
 ghost use Rattle.lower_model.specs.Emission.{field_at};
 ghost use Rattle.lower_pieces.specs.Bounds.{most_labels, most_places};
 ghost use Rattle.lower_pieces.specs.Emits.{Emits};
-ghost use Rattle.lower_pieces.specs.Forms.{view_form};
 ghost use Rattle.lower_expressions.specs.Fits.{Fits};
 ghost use Rattle.lower_expressions.specs.View.{view_layout};
 ghost use Rattle.lower_quick.specs.View.{view_source, view_sum, view_update};
-ghost use Rattle.lowering.specs.Parts.{field_added, field_asked, number_asked, zero_put};
+ghost use Rattle.lowering.specs.Parts.{field_asked};
 ghost use Rattle.lowering.specs.QuickFits.{SourceFits, SumFits};
 
 use crate::evaluating::answered;
+use crate::lists::{call_of, listed};
 use crate::quick::sum_op;
 use awk_text::MAX_NUMBER;
 use awk_values::Fault;
 use lower_expressions::{FunctionLayout, field_at, global_handle, global_number, text_dropped};
 use lower_pieces::{
-    Form, TEXT_BESIDE, ask_row, copied_by, does, does_all, either, fail_if, number_is, to_number,
-    when,
+    Form, TEXT_BESIDE, copied_by, does, does_all, either, fail_if, number_is, to_number, when,
 };
 use lower_quick::{Source, Sum, Update};
 use sem_primitives::{Answer, Primitive, Sort};
 use std::alloc::AllocError;
 use wasm_types::{IBinOp, IRelOp, Instr, Simple, ValType};
 
-/// What makes a number of the text beside a name, from within two labels more.
+/// Makes a number of the text beside a name, from within two labels more.
 fn number_there(
     layout: &FunctionLayout<'_>,
+    out: &mut Vec<Instr>,
     name: usize,
     temporary: u32,
     exit: u32,
-) -> Result<Vec<Instr>, AllocError>
+) -> Result<(), AllocError>
     requires name { name ≤ most_places }
     requires places { temporary ≤ most_places }
     requires labels { suc (suc exit) ≤ most_labels }
-    ensures { IfOk result (λ code. Emits [] code.items
+    ensures { OnOk result (Emits out.old.items out.new.items
         (number_there (view_layout layout.now) name temporary (suc (suc exit)))) }
 {
-    let mut code = Vec::new(layout.alloc);
     let global = global_handle(layout, name);
     let (get, set) = (Simple::GlobalGet(global), Simple::GlobalSet(global));
-    copied_by(&mut code, get, set, layout.bases.handle(temporary))?;
+    copied_by(out, get, set, layout.bases.handle(temporary))?;
     let value = Form::Answered(Answer::Of(Sort::Value));
-    to_number(
-        layout.alloc,
-        layout.bases,
-        &mut code,
-        value,
-        temporary,
-        exit + 2,
-    )?;
-    Ok(code)
+    to_number(layout.alloc, layout.bases, out, value, temporary, exit + 2)
 }
 
-/// What makes 0 of what is no number yet.
-fn zero_put(layout: &FunctionLayout<'_>, temporary: u32) -> Result<Vec<Instr>, AllocError>
-    requires { temporary ≤ most_places }
-    ensures { IfOk result (λ code. Emits [] code.items (zero_put layout.now.bases.now temporary)) }
-{
-    let mut code = Vec::new(layout.alloc);
-    does_all(
-        &mut code,
-        &[
-            Simple::I64Const(0),
-            Simple::LocalSet(layout.bases.number(temporary)),
-        ],
-    )?;
-    Ok(code)
-}
-
-/// What makes a number of what a name has that has none, from within one label more.
+/// Makes a number of what a name has that has none, from within one label more: what is no number yet is 0.
 fn number_found(
     layout: &FunctionLayout<'_>,
+    out: &mut Vec<Instr>,
     name: usize,
     temporary: u32,
     exit: u32,
-) -> Result<Vec<Instr>, AllocError>
+) -> Result<(), AllocError>
     requires name { name ≤ most_places }
     requires places { temporary ≤ most_places }
     requires labels { suc (suc exit) ≤ most_labels }
-    ensures { IfOk result
-        (λ code. Emits [] code.items (number_found (view_layout layout.now) name temporary exit)) }
+    ensures { OnOk result (Emits out.old.items out.new.items
+        (number_found (view_layout layout.now) name temporary exit)) }
 {
-    let mut code = Vec::new(layout.alloc);
-    number_is(&mut code, layout.bases.number(temporary), TEXT_BESIDE)?;
-    let some = number_there(layout, name, temporary, exit)?;
-    either(layout.alloc, &mut code, some, zero_put(layout, temporary)?)?;
-    Ok(code)
+    let local = layout.bases.number(temporary);
+    number_is(out, local, TEXT_BESIDE)?;
+    let mut some = Vec::new(layout.alloc);
+    number_there(layout, &mut some, name, temporary, exit)?;
+    let zero = [Simple::I64Const(0), Simple::LocalSet(local)];
+    let none = listed(layout.alloc, &zero)?;
+    either(layout.alloc, out, some, none)
 }
 
 /// Puts a name's number into a temporary.
@@ -114,11 +91,9 @@ fn name_numbered(
         Simple::Compare(ValType::I64, IRelOp::LeS),
     ];
     does_all(out, &all)?;
-    when(
-        layout.alloc,
-        out,
-        number_found(layout, name, temporary, exit)?,
-    )
+    let mut code = Vec::new(layout.alloc);
+    number_found(layout, &mut code, name, temporary, exit)?;
+    when(layout.alloc, out, code)
 }
 
 /// The same of a source: a constant needs no temporary.
@@ -206,7 +181,7 @@ fn sum_taken(
 }
 
 /// Adds a sum of sources.
-fn summed_anyway(
+pub(crate) fn summed_anyway(
     layout: &FunctionLayout<'_>,
     out: &mut Vec<Instr>,
     sum: Sum,
@@ -224,59 +199,6 @@ fn summed_anyway(
     sum_taken(layout, out, sum_op(sum.op), sum.target, exit)
 }
 
-/// The same in a list of its own.
-pub(crate) fn anyway_code(
-    layout: &FunctionLayout<'_>,
-    sum: Sum,
-    exit: u32,
-) -> Result<Vec<Instr>, AllocError>
-    requires sum { SumFits (view_sum sum) }
-    requires labels { suc (suc exit) ≤ most_labels }
-    ensures { IfOk result
-        (λ code. Emits [] code.items (summed_anyway (view_layout layout.now) (view_sum sum) exit)) }
-{
-    let mut code = Vec::new(layout.alloc);
-    summed_anyway(layout, &mut code, sum, exit)?;
-    Ok(code)
-}
-
-/// Asks for the number of a name, and then for that of what is added; both are put on the stack.
-fn number_asked(
-    layout: &FunctionLayout<'_>,
-    out: &mut Vec<Instr>,
-    name: usize,
-    form: Form,
-    exit: u32,
-) -> Result<(), AllocError>
-    requires name { name ≤ most_places }
-    requires labels { suc (suc exit) ≤ most_labels }
-    ensures { OnOk result (Emits out.old.items out.new.items
-        (number_asked (view_layout layout.now) name (view_form form) exit)) }
-{
-    name_numbered(layout, out, name, 1, exit)?;
-    to_number(layout.alloc, layout.bases, out, form, 0, exit)?;
-    let all = [
-        Simple::LocalGet(layout.bases.number(1)),
-        Simple::LocalGet(layout.bases.number(0)),
-    ];
-    does_all(out, &all)
-}
-
-/// Puts the number of the first temporary on the stack, and that of the field that a constant gives, by its bits.
-fn field_added(
-    layout: &FunctionLayout<'_>,
-    out: &mut Vec<Instr>,
-    bits: u64,
-) -> Result<(), AllocError>
-    ensures { OnOk result
-        (Emits out.old.items out.new.items (field_added layout.now.bases.now bits)) }
-{
-    let number = layout.bases.number(0);
-    does_all(out, &[Simple::LocalGet(number), Simple::I64Const(bits)])?;
-    ask_row(out, Primitive::Field)?;
-    ask_row(out, Primitive::ToNum)
-}
-
 /// Asks for the number of a name, and for that of the field with this number; both are put on the stack.
 fn field_asked(
     layout: &FunctionLayout<'_>,
@@ -291,10 +213,16 @@ fn field_asked(
         (field_asked (view_layout layout.now) name number exit)) }
 {
     name_numbered(layout, out, name, 0, exit)?;
-    field_added(layout, out, number.cast_unsigned())
+    let all = [
+        Simple::LocalGet(layout.bases.number(0)),
+        Simple::I64Const(number.cast_unsigned()),
+        call_of(Primitive::Field),
+        call_of(Primitive::ToNum),
+    ];
+    does_all(out, &all)
 }
 
-/// Evaluates what is added to a name, and asks for both numbers.
+/// Evaluates what is added to a name, and asks for both numbers, that of the name first; both are put on the stack.
 fn added_asked(
     layout: &FunctionLayout<'_>,
     out: &mut Vec<Instr>,
@@ -308,7 +236,13 @@ fn added_asked(
         (both_asked (view_layout layout.now) None (view_update update.entry) exit)) }
 {
     let form = answered(layout, out, update.added, exit)?;
-    number_asked(layout, out, update.name, form, exit)
+    name_numbered(layout, out, update.name, 1, exit)?;
+    to_number(layout.alloc, layout.bases, out, form, 0, exit)?;
+    let all = [
+        Simple::LocalGet(layout.bases.number(1)),
+        Simple::LocalGet(layout.bases.number(0)),
+    ];
+    does_all(out, &all)
 }
 
 /// Puts the number of a name and that of what is added on the stack.

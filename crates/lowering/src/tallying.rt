@@ -9,14 +9,15 @@ ghost use Rattle.lower_pieces.specs.Forms.{view_form};
 ghost use Rattle.lower_expressions.specs.Fits.{ArrayFits};
 ghost use Rattle.lower_expressions.specs.View.{view_layout};
 ghost use Rattle.lower_quick.specs.View.{view_tally};
-ghost use Rattle.lowering.specs.Parts.{element_asked, number_given, sum_given, tally_evaluated};
+ghost use Rattle.lowering.specs.Parts.{sum_given, tally_evaluated};
 ghost use Rattle.lowering.specs.QuickFits.{TallyFits};
 
 use crate::evaluating::at_first;
+use crate::lists::call_of;
 use crate::quick::sum_op;
 use crate::summing::sum_kept;
 use lower_expressions::{At, FunctionLayout, Kept, array_pushed, expression};
-use lower_pieces::{Form, ask_row, does, does_all, kept_number, moved_out, to_number, to_value};
+use lower_pieces::{Form, does_all, kept_number, moved_out, to_number, to_value};
 use lower_quick::Tally;
 use mid_program::ArrayName;
 use sem_primitives::Primitive;
@@ -49,18 +50,7 @@ fn tally_evaluated(
     Ok((key, added))
 }
 
-/// Puts a second handle of the key on the stack, and asks for the element's number.
-fn element_asked(layout: &FunctionLayout<'_>, out: &mut Vec<Instr>) -> Result<(), AllocError>
-    ensures { OnOk result (Emits out.old.items out.new.items (element_asked layout.now.bases.now)) }
-{
-    let key = layout.bases.handle(0);
-    does_all(out, &[Simple::LocalGet(key), Simple::LocalTee(key)])?;
-    ask_row(out, Primitive::Dup)?;
-    ask_row(out, Primitive::Elem)?;
-    ask_row(out, Primitive::ToNum)
-}
-
-/// Adds the number of an element, whose key stays where it is.
+/// Adds the number of an element: a second handle of the key asks for it, and the key stays where it is.
 fn element_numbered(
     layout: &FunctionLayout<'_>,
     out: &mut Vec<Instr>,
@@ -72,18 +62,16 @@ fn element_numbered(
         (element_numbered (view_layout layout.now) (view_array array) exit)) }
 {
     array_pushed(layout, out, array)?;
-    element_asked(layout, out)?;
+    let key = layout.bases.handle(0);
+    let all = [
+        Simple::LocalGet(key),
+        Simple::LocalTee(key),
+        call_of(Primitive::Dup),
+        call_of(Primitive::Elem),
+        call_of(Primitive::ToNum),
+    ];
+    does_all(out, &all)?;
     kept_number(layout.bases, out, true, 2, exit)
-}
-
-/// Gives the number of the third temporary to an element, whose array and key are on the stack.
-fn number_given(layout: &FunctionLayout<'_>, out: &mut Vec<Instr>) -> Result<(), AllocError>
-    ensures { OnOk result (Emits out.old.items out.new.items (number_given layout.now.bases.now)) }
-{
-    does(out, Simple::LocalGet(layout.bases.number(2)))?;
-    ask_row(out, Primitive::Num)?;
-    ask_row(out, Primitive::SetElem)?;
-    does(out, Simple::Drop)
 }
 
 /// Gives the number of the third temporary to an element, and the key with it.
@@ -98,7 +86,13 @@ fn element_given(
 {
     array_pushed(layout, out, array)?;
     moved_out(out, layout.bases.handle(0))?;
-    number_given(layout, out)
+    let all = [
+        Simple::LocalGet(layout.bases.number(2)),
+        call_of(Primitive::Num),
+        call_of(Primitive::SetElem),
+        Simple::Drop,
+    ];
+    does_all(out, &all)
 }
 
 /// Adds the sum of the element's number and what is added, and gives it to an element.

@@ -2,8 +2,8 @@
 ghost use Rattle.std.specs.Prelude.{[], ◌≤◌, IfOk, OnOk, suc};
 ghost use Rattle.wasm_types.specs.Syntax.{Done};
 ghost use Rattle.mid_program.specs.ViewCode.{view};
-ghost use Rattle.lower_model.specs.Quick.{counted_in, pair_in, test_within};
-ghost use Rattle.lower_model.specs.Statements.{left_unless, left_unless_counted, left_unless_pair};
+ghost use Rattle.lower_model.specs.Quick.{pair_in, test_within};
+ghost use Rattle.lower_model.specs.Statements.{left_unless, left_unless_pair};
 ghost use Rattle.lower_pieces.specs.Bounds.{most_labels, most_places};
 ghost use Rattle.lower_pieces.specs.Emits.{Emits};
 ghost use Rattle.lower_expressions.specs.Fits.{Fits};
@@ -77,8 +77,13 @@ fn pair_tested(
     ensures { OnOk result (Emits out.old.items out.new.items
         (pair_tested (view_layout layout.now) (view_pair pair) (view test.now) exit label)) }
 {
-    let names = pair_names(layout.alloc, pair)?;
-    all_unsure(layout, out, &names, MAX_NUMBER, 1 << 54)?;
+    all_unsure(
+        layout,
+        out,
+        &pair_names(layout.alloc, pair)?,
+        MAX_NUMBER,
+        1 << 54,
+    )?;
     let all_cases = test_code(layout, test, exit, label)?;
     let quick = pair_code(layout, pair, label)?;
     either(layout.alloc, out, all_cases, quick)
@@ -106,27 +111,7 @@ fn counted_tested(
     either(layout.alloc, out, all_cases, quick)
 }
 
-/// Adds a test that may compare a name with how many fields there are, and leaves to a label where it does not hold.
-fn left_unless_counted(
-    layout: &FunctionLayout<'_>,
-    out: &mut Vec<Instr>,
-    test: &Code,
-    exit: u32,
-    label: u32,
-) -> Result<(), AllocError>
-    requires labels { suc exit ≤ most_labels }
-    requires label { label ≤ exit }
-    requires fit { TestFits (view_layout layout.now) (view test.now) exit }
-    ensures { OnOk result (Emits out.old.items out.new.items (left_unless_counted
-        (view_layout layout.now) (counted_in (view test.now)) (view test.now) exit label)) }
-{
-    match counted_in(test) {
-        Some(counted) => counted_tested(layout, out, counted, test, exit, label),
-        None => test_left(layout, out, test, exit, label),
-    }
-}
-
-/// Adds a test that may compare sources, and leaves to a label where it does not hold.
+/// Adds a test that may compare sources, or a name with how many fields there are, and leaves to a label where it does not hold.
 pub(crate) fn left_unless_pair(
     layout: &FunctionLayout<'_>,
     out: &mut Vec<Instr>,
@@ -140,9 +125,12 @@ pub(crate) fn left_unless_pair(
     ensures { OnOk result (Emits out.old.items out.new.items (left_unless_pair
         (view_layout layout.now) (pair_in (view test.now)) (view test.now) exit label)) }
 {
-    match pair_in(test) {
-        Some(pair) => pair_tested(layout, out, pair, test, exit, label),
-        None => left_unless_counted(layout, out, test, exit, label),
+    if let Some(pair) = pair_in(test) {
+        return pair_tested(layout, out, pair, test, exit, label);
+    }
+    match counted_in(test) {
+        Some(counted) => counted_tested(layout, out, counted, test, exit, label),
+        None => test_left(layout, out, test, exit, label),
     }
 }
 

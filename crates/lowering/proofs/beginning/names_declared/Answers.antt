@@ -16,6 +16,14 @@ overflow_add-text c =
     let views = length-map names view_declared in
     omega (arith, n, kinds, views)
 
+pub declared-requires : goal.declared-requires
+declared-requires c =
+    let names = c.args.layout.now.script.now.program.now.globals.items in
+    let n = ap length c.names-name-items.ensures.names in
+    let kinds = length-map (map view_declared names) (λ (d : plain.Declared). d.kind) in
+    let views = length-map names view_declared in
+    omega (arith, n, kinds, views)
+
 pub loop-name-preserved : goal.loop-name-preserved
 loop-name-preserved c =
     let n = ap length c.names-name-items.ensures.names in

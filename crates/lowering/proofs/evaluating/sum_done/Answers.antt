@@ -1,10 +1,9 @@
-use Rattle.std.proofs.Common.{ℕ, [], suc, pos, arith, ◌^◌, ◌∙◌, sym, subst}
+use Rattle.std.proofs.Common.{◌≡◌, ◌+◌, suc, pos, arith, ◌^◌, ◌∙◌, sym, subst}
 use Rattle.std.proofs.lemmas.Result.{on_ok_weaker}
 use Rattle.wasm_types.specs.Syntax.{Instructions, Done}
 use Rattle.lower_model.specs.Quick.{all_unsure, sum_names}
 use Rattle.lower_model.specs.Small.{either}
 use Rattle.lower_model.specs.Statements.{name_read, summed, summed_anyway}
-use Rattle.lower_pieces.specs.Emits.{Emits}
 use Rattle.lower_pieces.proofs.Appended.{emits_then}
 use Rattle.lower_expressions.specs.View.{view_layout}
 use Rattle.lower_quick.specs.View.{view_sum}
@@ -13,15 +12,15 @@ use Rattle.lowering.proofs.QuickNames.{sum_list}
 use Rattle.lowering.proofs.evaluating.sum_done.Goals as goal
 
 pub all_unsure-requires : goal.all_unsure-requires
-all_unsure-requires c = subst NamesFit (sym (c.deref.ensures.value ∙ c.in_ok-names.ensures)) (sum_list (view_sum c.args.sum) c.requires.sum)
+all_unsure-requires c = subst NamesFit (sym (c.deref.ensures.value ∙ c.in_ok-sum_names.ensures)) (sum_list (view_sum c.args.sum) c.requires.sum)
 
 pub returns : goal.returns
 returns c =
     let y = view_layout c.args.layout.now in
+    let inner : c.args.exit + 1 ≡ suc c.args.exit = omega arith in
     let slow : Instructions → Instructions = summed_anyway y (view_sum c.args.sum) (suc c.args.exit) in
     let quick : Instructions → Instructions = summed y (view_sum c.args.sum) in
     on_ok_weaker c.either.result
     (emits_then (all_unsure (name_read y) (sum_names (view_sum c.args.sum)) (pos (2 ^ 52)) (2 ^ 53)) (either (slow Done) (quick Done)) _ _ _
-    (rw (c.deref.ensures.value ∙ c.in_ok-names.ensures) at c.in_ok-all_unsure.ensures))
-    (c.either.ensures slow quick
-    (subst (λ (d : ℕ). Emits [] c.in_ok-all_cases.all_cases.items (summed_anyway y (view_sum c.args.sum) d)) (omega arith) c.in_ok-all_cases.ensures) c.in_ok-quick.ensures)
+    (rw (c.deref.ensures.value ∙ c.in_ok-sum_names.ensures) at c.in_ok-all_unsure.ensures))
+    (c.either.ensures slow quick (rw (c.new-all_cases.ensures.items, inner) at c.in_ok-summed_anyway.ensures) c.in_ok-quick.ensures)

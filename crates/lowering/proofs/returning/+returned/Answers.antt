@@ -13,21 +13,17 @@ use Rattle.lower_expressions.specs.View.{view_layout}
 use Rattle.lower_expressions.proofs.Weights.{weight}
 use Rattle.lowering.proofs.returning.+returned.Goals as goal
 
--- the code, as that of a choice
-pub returned_code-returned-requires : goal.returned_code-returned-requires
-returned_code-returned-requires t c = (omega (arith, c.decreases), (c.requires.fit, c.requires.labels))
-
 pub chosen_returned-tested-requires : goal.chosen_returned-tested-requires
 chosen_returned-tested-requires t c = c.requires.1.0
 
-pub chosen_returned-returned_code-requires : goal.chosen_returned-returned_code-requires
-chosen_returned-returned_code-requires t c =
+pub chosen_returned-returned-requires : goal.chosen_returned-returned-requires
+chosen_returned-returned-requires t c =
     let a = c.requires.0.1.1 in
     let fits : Fits (view_layout c.args.layout.now) (view c.args.yes.now) 0 0 (c.args.exit + 1) = subst (λ (d : ℕ). Fits (view_layout c.args.layout.now) (view c.args.yes.now) 0 0 d) (omega arith) c.requires.1.1.0 in
     (omega (arith, c.decreases), (fits, omega (arith, a)))
 
-pub chosen_returned-returned_code-requires-2 : goal.chosen_returned-returned_code-requires-2
-chosen_returned-returned_code-requires-2 t c =
+pub chosen_returned-returned-requires-2 : goal.chosen_returned-returned-requires-2
+chosen_returned-returned-requires-2 t c =
     let a = c.requires.0.1.1 in
     let fits : Fits (view_layout c.args.layout.now) (view c.args.no.now) 0 0 (c.args.exit + 1) = subst (λ (d : ℕ). Fits (view_layout c.args.layout.now) (view c.args.no.now) 0 0 d) (omega arith) c.requires.1.1.1 in
     (omega (arith, c.decreases), (fits, omega (arith, a)))
@@ -40,7 +36,7 @@ chosen_returned-returns t c =
     let no_code : Instructions → Instructions = returned y (view c.args.no.now) (suc c.args.exit) in
     on_ok_weaker c.either.result
     (emits_then (tested y [] [] (view c.args.test.now) 0 0 c.args.exit) (either (yes_code Done) (no_code Done)) _ _ _ c.in_ok-tested.ensures)
-    (c.either.ensures yes_code no_code (rw inner at c.in_ok-yes.ensures) (rw inner at c.in_ok-no.ensures))
+    (c.either.ensures yes_code no_code (rw (c.new-so.ensures.items, inner) at c.in_ok-returned.ensures) (rw (c.new-otherwise.ensures.items, inner) at c.in_ok-returned-2.ensures))
 
 pub returned-chosen_returned-requires : goal.returned-chosen_returned-requires
 returned-chosen_returned-requires t c =

@@ -4,10 +4,7 @@ use Rattle.lower_expressions.proofs.Weights.{weight}
 use Rattle.lowering.proofs.returning.+returned.Given as goal
 
 abbrev pub decreases-returned : goal.decreases-returned
-decreases-returned l = 3 * weight (view l.code.now)
-
-abbrev pub decreases-returned_code : goal.decreases-returned_code
-decreases-returned_code l = 3 * weight (view l.code.now) + 1
+decreases-returned l = 2 * weight (view l.code.now)
 
 abbrev pub decreases-chosen_returned : goal.decreases-chosen_returned
-decreases-chosen_returned l = 3 * (weight (view l.test.now) + (weight (view l.yes.now) + weight (view l.no.now))) + 2
+decreases-chosen_returned l = 2 * (weight (view l.test.now) + (weight (view l.yes.now) + weight (view l.no.now))) + 1

@@ -9,5 +9,5 @@ pub returns : goal.returns
 returns c =
     let text : Instructions → Instructions = text_given (view_layout c.args.layout.now) in
     on_ok_weaker c.word_given.result
-    (λ h k. h k ∙ c.in_ok-when.ensures text c.in_ok-text_code.ensures _ ∙ (rw c.number.ensures at c.in_ok-number_is.ensures) _)
+    (λ h k. h k ∙ c.in_ok-when.ensures text (rw c.new-text.ensures.items at c.in_ok-text_given.ensures) _ ∙ (rw c.number.ensures at c.in_ok-number_is.ensures) _)
     c.word_given.ensures

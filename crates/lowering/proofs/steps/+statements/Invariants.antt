@@ -42,8 +42,11 @@ decreases-tested_turn l = 8 * (step_places (view_step l.body.now) + last_places 
 abbrev pub decreases-first_turn : goal.decreases-first_turn
 decreases-first_turn l = 8 * (step_places (view_step l.body.now) + step_places (view_step l.last.now)) + 2
 
+abbrev pub decreases-turn : goal.decreases-turn
+decreases-turn l = 8 * (step_places (view_step l.body.now) + last_places l.tests_first (view_step l.last.now)) + 4
+
 abbrev pub decreases-looped : goal.decreases-looped
-decreases-looped l = 8 * (step_places (view_step l.body.now) + last_places l.tests_first (view_step l.last.now)) + 4
+decreases-looped l = 8 * (step_places (view_step l.body.now) + last_places l.tests_first (view_step l.last.now)) + 5
 
 abbrev pub decreases-key_turn : goal.decreases-key_turn
 decreases-key_turn l = 8 * step_places (view_step l.body.now) + 2

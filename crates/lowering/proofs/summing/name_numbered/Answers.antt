@@ -20,4 +20,4 @@ returns c =
     on_ok_weaker c.when.result
     (emits_then (does_all (GlobalGet (global_number y c.args.name) ∷ LocalTee (number_local c.args.layout.now.bases.now c.args.temporary) ∷ I64Const text_beside ∷ Compare I64 LeS ∷ [])) (when (code Done)) _ _ _
     (rw c.global_number.ensures at (rw c.number.ensures at c.in_ok-does_all.ensures)))
-    (c.when.ensures code c.in_ok-number_found.ensures)
+    (c.when.ensures code (rw c.new-code.ensures.items at c.in_ok-number_found.ensures))

@@ -14,7 +14,7 @@ use Rattle.lowering.proofs.QuickNames.{pair_list}
 use Rattle.lowering.proofs.testing.pair_tested.Goals as goal
 
 pub all_unsure-requires : goal.all_unsure-requires
-all_unsure-requires c = subst NamesFit (sym (c.deref.ensures.value ∙ c.in_ok-names.ensures)) (pair_list (view_pair c.args.pair) c.requires.pair)
+all_unsure-requires c = subst NamesFit (sym (c.deref.ensures.value ∙ c.in_ok-pair_names.ensures)) (pair_list (view_pair c.args.pair) c.requires.pair)
 
 pub returns : goal.returns
 returns c =
@@ -23,5 +23,5 @@ returns c =
     let quick : Instructions → Instructions = pair_left y (view_pair c.args.pair) (suc c.args.label) in
     on_ok_weaker c.either.result
     (emits_then (all_unsure (name_read y) (pair_names (view_pair c.args.pair)) (pos (2 ^ 53)) (2 ^ 54)) (either (slow Done) (quick Done)) _ _ _
-    (rw (c.deref.ensures.value ∙ c.in_ok-names.ensures) at c.in_ok-all_unsure.ensures))
+    (rw (c.deref.ensures.value ∙ c.in_ok-pair_names.ensures) at c.in_ok-all_unsure.ensures))
     (c.either.ensures slow quick c.in_ok-all_cases.ensures c.in_ok-quick.ensures)
