@@ -1,2 +1,3 @@
 pub mod Peeks
 pub mod Binds
+pub mod Starts

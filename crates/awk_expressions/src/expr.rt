@@ -1,8 +1,7 @@
 //! Expressions, by operator precedence: an operand, and the operators behind it that may stand there.
 
-ghost use Rattle.std.specs.Prelude.{◌≡◌, ◌<◌, ◌≤◌, ◌+◌, ◌-◌, ◌∷◌, IfOk, true, None, Some, length, max};
+ghost use Rattle.std.specs.Prelude.{◌≡◌, ◌<◌, ◌≤◌, ◌+◌, ◌-◌, IfOk, true, None, Some, length, max};
 ghost use Rattle.awk_grammar.specs.Token.{Assign};
-ghost use Rattle.awk_grammar.specs.Lexeme.{mark_lexeme};
 ghost use Rattle.awk_grammar.specs.Reading.{Joined, expr_at, stops, after, climb, list_at, arguments_at, indexed_by, call_by, applied_by, getline_at, from_by, first_at, bare, open_at, index_at, less_at};
 ghost use Rattle.awk_grammar.specs.Tree.{Other, depth, depths, is_start, class_at};
 ghost use Rattle.awk_grammar.specs.View.{view, views, view_step, view_unary, view_binary, view_assign};
@@ -18,10 +17,11 @@ use crate::peek::{
     Link, after_bracket, after_close, after_comma, after_less, after_open, close, close_bracket,
     colon, line_of, link_left, link_level, next_link, next_of, stopped,
 };
+use crate::start::{Start, constant, start_of};
 use awk_grammar::{
     AssignOp, BinaryOp, Builtin, Expr, Next, StepOp, UnaryOp, has_edge, suits, takes,
 };
-use awk_tokens::{Keyword, Punctuator, Token, TokenKind};
+use awk_tokens::Token;
 use std::alloc::Global;
 
 /// An expression of at most this depth, where `greater` says whether `>` may stand outside parentheses and brackets.
@@ -652,35 +652,6 @@ fn pre_step<'a>(
     })
 }
 
-/// The operand that a punctuator on this line begins, with the tokens behind that.
-#[cycle(expr)]
-fn marked<'a>(
-    alloc: Global,
-    limit: u32,
-    greater: bool,
-    mode: Mode,
-    mark: Punctuator,
-    line: usize,
-    tokens: &'a [Token<'a>],
-) -> Result<Parsed<'a>, Refusal>
-    requires room { limit < 4294967295 }
-    ensures tree { Gives seen_tree result
-        (first_at (expr_at limit) greater (view_mode mode) (mark_lexeme mark ∷ seen tokens.now)) }
-    ensures depth { IfOk result (λ x. x.depth ≡ depth (view x.tree)) }
-    ensures small { IfOk result (λ x. x.depth ≤ limit + 1) }
-{
-    match mark {
-        Punctuator::Dollar => field(alloc, limit, greater, tokens),
-        Punctuator::OpenParen => parenthesised(alloc, limit, tokens),
-        Punctuator::Bang => unary(alloc, limit, greater, mode, UnaryOp::Not, tokens),
-        Punctuator::Plus => unary(alloc, limit, greater, mode, UnaryOp::Plus, tokens),
-        Punctuator::Minus => unary(alloc, limit, greater, mode, UnaryOp::Minus, tokens),
-        Punctuator::Increment => pre_step(alloc, limit, greater, StepOp::Increment, tokens),
-        Punctuator::Decrement => pre_step(alloc, limit, greater, StepOp::Decrement, tokens),
-        _ => Err(Refusal::Syntax(Some(line))),
-    }
-}
-
 /// An operand, without the step behind it.
 #[cycle(expr)]
 fn operand<'a>(
@@ -696,32 +667,16 @@ fn operand<'a>(
     ensures depth { IfOk result (λ x. x.depth ≡ depth (view x.tree)) }
     ensures small { IfOk result (λ x. x.depth ≤ limit + 1) }
 {
-    let [first, rest @ ..] = tokens else {
-        return Err(stopped(tokens));
-    };
-    match first.kind {
-        TokenKind::Number => Ok(Parsed {
-            tree: Expr::Number(first.text.to_vec(alloc)?),
-            depth: 1,
-            rest,
-        }),
-        TokenKind::Str => Ok(Parsed {
-            tree: Expr::Str(first.text.to_vec(alloc)?),
-            depth: 1,
-            rest,
-        }),
-        TokenKind::Ere => Ok(Parsed {
-            tree: Expr::Ere(first.text.to_vec(alloc)?),
-            depth: 1,
-            rest,
-        }),
-        TokenKind::Name => named(alloc, limit, first.text, rest),
-        TokenKind::FuncName => call(alloc, limit, first.text, rest),
-        TokenKind::Builtin(function) => applied(alloc, limit, function, rest),
-        TokenKind::Keyword(Keyword::Getline) => getline(alloc, limit, greater, rest),
-        TokenKind::Punctuator(mark) => {
-            marked(alloc, limit, greater, mode, mark, first.line, rest)
-        }
-        TokenKind::Keyword(_) | TokenKind::LeftOut(_) => Err(stopped(tokens)),
+    match start_of(tokens) {
+        Start::Literal(literal, text, rest) => constant(alloc, literal, text, rest),
+        Start::Name(text, rest) => named(alloc, limit, text, rest),
+        Start::FuncName(text, rest) => call(alloc, limit, text, rest),
+        Start::Builtin(function, rest) => applied(alloc, limit, function, rest),
+        Start::Getline(rest) => getline(alloc, limit, greater, rest),
+        Start::Dollar(rest) => field(alloc, limit, greater, rest),
+        Start::Paren(rest) => parenthesised(alloc, limit, rest),
+        Start::Unary(op, rest) => unary(alloc, limit, greater, mode, op, rest),
+        Start::Step(op, rest) => pre_step(alloc, limit, greater, op, rest),
+        Start::Nothing => Err(stopped(tokens)),
     }
 }

@@ -8,6 +8,7 @@ mod mode;
 mod node;
 mod parsed;
 mod peek;
+mod start;
 
 pub use expr::{expression, list};
 pub use fault::Refusal;

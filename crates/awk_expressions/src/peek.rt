@@ -258,7 +258,7 @@ pub(crate) fn next_of(tokens: &[Token<'_>]) -> Next
 }
 
 /// What joins an expression to what follows it.
-#[derive(Clone, Copy, Debug, PartialEq, Eq)]
+#[derive(Clone, Copy)]
 pub(crate) enum Link {
     Binary(BinaryOp),
     Assign(AssignOp),

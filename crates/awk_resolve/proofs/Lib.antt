@@ -8,3 +8,4 @@ pub mod Transfer
 pub mod Places
 pub mod Causes
 pub mod Tables
+pub mod Keeping

@@ -14,6 +14,7 @@ ghost use Rattle.awk_resolve.specs.ViewScopes.{functions_in};
 ghost use Rattle.awk_resolve.specs.ViewSets.{variables_in, arrays_in, scalars_in};
 
 use crate::fault::{Name, ResolveFault};
+use crate::held::after;
 use crate::kinds::kinds_of;
 use crate::listing::{listed_functions, listed_globals};
 use crate::mark::Mark;
@@ -86,8 +87,8 @@ fn checked<'a>(
 {
     check_names(alloc, scopes, marks)?;
     let kinds = kinds_of(alloc, scopes, marks)?;
-    check_kinds(alloc, scopes, marks, &kinds)?;
-    Ok(kinds)
+    let checked = check_kinds(alloc, scopes, marks, &kinds);
+    after(checked, kinds)
 }
 
 /// The names with their kinds.

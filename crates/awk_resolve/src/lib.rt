@@ -5,6 +5,7 @@ mod answer;
 mod closure;
 mod fault;
 mod function_names;
+mod held;
 mod index;
 mod kinds;
 mod listing;

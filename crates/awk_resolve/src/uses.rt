@@ -10,6 +10,7 @@ ghost use Rattle.awk_resolve.specs.Numbered.{one_if, all_if};
 ghost use Rattle.awk_resolve.specs.ViewScopes.{functions_in};
 ghost use Rattle.awk_resolve.specs.ViewUses.{numbered, AreArrays, AreScalars, AreGiven, AddsArrays, AddsScalars, AddsGiven};
 
+use crate::held::after;
 use crate::mark::{Kind, Mark};
 use crate::scopes::{Head, Scopes, Variable, all_parameters};
 use crate::special::{special_arrays, special_scalars};
@@ -184,6 +185,6 @@ pub(crate) fn uses_of<'a>(
         (λ uses. AreGiven uses (pairs (functions_in scopes.now) (view_marks marks.now))) }
 {
     let mut uses = no_uses(alloc, &scopes.heads)?;
-    note_all(&mut uses, scopes, marks)?;
-    Ok(uses)
+    let noted = note_all(&mut uses, scopes, marks);
+    after(noted, uses)
 }

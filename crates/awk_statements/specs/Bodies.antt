@@ -21,6 +21,10 @@ stmts_then (And s ss) us = And s (stmts_then ss us)
 abbrev pub with_one : StmtReader → Stmts → List Token → Read Stmts
 with_one stmt front ts = stmt ts >>= λ x. Ok (stmts_then front (And x.0 NoStmt), x.1)
 
+-- a statement that was read, and the tokens behind it
+abbrev pub read_as : Stmt → List Token → Read Stmt
+read_as s ts = Ok (s, ts)
+
 abbrev pub empty_at : List Token → Read Stmt
 empty_at ts = Ok (Empty, ts)
 

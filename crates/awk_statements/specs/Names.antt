@@ -1,5 +1,5 @@
 -- Parameters and items that were read, and the tokens behind them.
-use Rattle.std.specs.Prelude.{ℕ, List, [], ◌∷◌, ◌++◌, Result, Ok}
+use Rattle.std.specs.Prelude.{ℕ, List, [], ◌∷◌, ◌++◌, Ok}
 use Rattle.awk_grammar.specs.Token.{Token}
 use Rattle.awk_grammar.specs.Item.{Item, Function, most_depth}
 use Rattle.awk_grammar.specs.Reading.{◌>>=◌, close_at, name_at}

@@ -12,13 +12,14 @@ ghost use Rattle.awk_expressions.specs.Seen.{seen, Gives};
 ghost use Rattle.awk_statements.specs.Bodies.{seen_body, with_one, empty_at, do_test_at, loop_over_at};
 
 use crate::head::loop_head;
-use crate::held::{beside, boxed, pushed_boxed};
-use crate::node::{block_of, do_of, for_in_of, for_of, if_else_of, if_of, while_of};
+use crate::held::{beside, pushed_boxed};
+use crate::node::{block_of, do_of, for_in_of, for_of, if_else_of, if_of, on_heap, while_of};
 use crate::peek::{after_brace, after_else, keys, open, semicolon, while_word};
+use crate::start::{StmtStart, stmt_start};
 use crate::stmt::{condition, optional, simple};
 use awk_expressions::{Refusal, line_of, stopped};
 use awk_grammar::{Expr, Jump, Leaving, Stmt};
-use awk_tokens::{Keyword, Punctuator, Token, TokenKind};
+use awk_tokens::Token;
 use std::alloc::Global;
 
 /// A statement of at most this depth.
@@ -52,23 +53,16 @@ fn one<'a>(
     ensures { Gives (λ x. (view_stmt x.0.value, seen x.1.now)) result
         (one_at (expr_at limit) (stmt_at limit) (seen tokens.now)) }
 {
-    let [first, rest @ ..] = tokens else {
-        return simple_statement(alloc, limit, tokens);
-    };
-    match first.kind {
-        TokenKind::Punctuator(Punctuator::OpenBrace) => block(alloc, limit, rest),
-        TokenKind::Punctuator(Punctuator::Semicolon) => empty(alloc, rest),
-        TokenKind::Keyword(Keyword::If) => if_statement(alloc, limit, rest),
-        TokenKind::Keyword(Keyword::While) => while_loop(alloc, limit, rest),
-        TokenKind::Keyword(Keyword::Do) => do_loop(alloc, limit, rest),
-        TokenKind::Keyword(Keyword::For) => for_loop(alloc, limit, rest),
-        TokenKind::Keyword(Keyword::Break) => jump(alloc, Jump::Break, rest),
-        TokenKind::Keyword(Keyword::Continue) => jump(alloc, Jump::Continue, rest),
-        TokenKind::Keyword(Keyword::Next) => jump(alloc, Jump::Next, rest),
-        TokenKind::Keyword(Keyword::NextFile) => jump(alloc, Jump::NextFile, rest),
-        TokenKind::Keyword(Keyword::Exit) => leave(alloc, limit, Leaving::Exit, rest),
-        TokenKind::Keyword(Keyword::Return) => leave(alloc, limit, Leaving::Return, rest),
-        _ => simple_statement(alloc, limit, tokens),
+    match stmt_start(tokens) {
+        StmtStart::Block(rest) => block(alloc, limit, rest),
+        StmtStart::Empty(rest) => empty(alloc, rest),
+        StmtStart::If(rest) => if_statement(alloc, limit, rest),
+        StmtStart::While(rest) => while_loop(alloc, limit, rest),
+        StmtStart::Do(rest) => do_loop(alloc, limit, rest),
+        StmtStart::For(rest) => for_loop(alloc, limit, rest),
+        StmtStart::Jump(kind, rest) => jump(alloc, kind, rest),
+        StmtStart::Leave(kind, rest) => leave(alloc, limit, kind, rest),
+        StmtStart::Simple => simple_statement(alloc, limit, tokens),
     }
 }
 
@@ -133,7 +127,7 @@ fn block<'a>(
         (block_at (stmt_at limit) (seen tokens.now)) }
 {
     let body = statements(alloc, limit, tokens)?;
-    Ok((block_of(alloc, body.statements)?, body.rest))
+    block_of(alloc, body.statements, body.rest)
 }
 
 /// What stands behind `if`.
@@ -168,10 +162,10 @@ fn else_part<'a>(
         (view test) (view_stmt then.value) (seen tokens.now) (else_at (seen tokens.now))) }
 {
     let Some(behind) = after_else(tokens) else {
-        return Ok((if_of(alloc, test, then)?, tokens));
+        return if_of(alloc, test, then, tokens);
     };
     let (test, (otherwise, rest)) = beside(test, statement(alloc, limit, behind))?;
-    Ok((if_else_of(alloc, test, then, otherwise)?, rest))
+    if_else_of(alloc, test, then, otherwise, rest)
 }
 
 /// What stands behind `while`.
@@ -188,7 +182,7 @@ fn while_loop<'a>(
 {
     let (test, behind) = condition(alloc, limit, tokens)?;
     let (test, (body, rest)) = beside(test, statement(alloc, limit, behind))?;
-    Ok((while_of(alloc, test, body)?, rest))
+    while_of(alloc, test, body, rest)
 }
 
 /// What stands behind `do`.
@@ -221,7 +215,7 @@ fn do_test<'a>(
 {
     let behind = while_word(tokens)?;
     let (test, rest) = condition(alloc, limit, behind)?;
-    Ok((do_of(alloc, body, test)?, rest))
+    do_of(alloc, body, test, rest)
 }
 
 /// What stands behind `for`.
@@ -258,7 +252,7 @@ fn loop_over<'a>(
         (loop_over_at (stmt_at limit) key.now array.now (seen tokens.now)) }
 {
     let (body, rest) = statement(alloc, limit, tokens)?;
-    Ok((for_in_of(alloc, key, array, body)?, rest))
+    for_in_of(alloc, key, array, body, rest)
 }
 
 /// What stands behind `for (`, where it is no loop over keys.
@@ -275,7 +269,7 @@ fn counted_loop<'a>(
 {
     let (head, behind) = loop_head(alloc, limit, tokens)?;
     let (head, (body, rest)) = beside(head, statement(alloc, limit, behind))?;
-    Ok((for_of(alloc, head, body)?, rest))
+    for_of(alloc, head, body, rest)
 }
 
 /// The statement of a `;` alone.
@@ -286,7 +280,7 @@ fn empty<'a>(
 ) -> Result<(Box<Stmt>, &'a [Token<'a>]), Refusal>
     ensures { Gives (λ x. (view_stmt x.0.value, seen x.1.now)) result (empty_at (seen tokens.now)) }
 {
-    Ok((boxed(alloc, Stmt::Empty)?, tokens))
+    on_heap(alloc, Stmt::Empty, tokens)
 }
 
 #[inline(never)]
@@ -299,7 +293,7 @@ fn jump<'a>(
         (jump_at (view_jump kind) (seen tokens.now)) }
 {
     let rest = semicolon(tokens)?;
-    Ok((boxed(alloc, Stmt::Jump(kind))?, rest))
+    on_heap(alloc, Stmt::Jump(kind), rest)
 }
 
 /// What stands behind `exit` or `return`.
@@ -316,7 +310,7 @@ fn leave<'a>(
 {
     let (value, behind) = optional(alloc, limit, tokens)?;
     let (value, rest) = beside(value, semicolon(behind))?;
-    Ok((boxed(alloc, Stmt::Leave(kind, value))?, rest))
+    on_heap(alloc, Stmt::Leave(kind, value), rest)
 }
 
 #[inline(never)]
@@ -331,5 +325,5 @@ fn simple_statement<'a>(
 {
     let (inner, behind) = simple(alloc, limit, tokens)?;
     let (inner, rest) = beside(inner, semicolon(behind))?;
-    Ok((boxed(alloc, Stmt::Simple(inner))?, rest))
+    on_heap(alloc, Stmt::Simple(inner), rest)
 }

@@ -13,9 +13,10 @@ ghost use Rattle.awk_statements.specs.Names.{seen_names, with_names, one_name, d
 use crate::flow::{Body, statements};
 use crate::held::{beside, pushed};
 use crate::peek::{after_name, after_semicolon, open};
+use crate::start::{ItemStart, item_start, taken};
 use awk_expressions::{Mode, Refusal, after_comma, close, expression, name, stopped};
 use awk_grammar::{Item, MAX_DEPTH, Pattern};
-use awk_tokens::{Keyword, Punctuator, Token, TokenKind};
+use awk_tokens::{Punctuator, Token, TokenKind};
 use std::alloc::Global;
 
 /// Statements in braces.
@@ -202,30 +203,18 @@ fn action<'a>(
 }
 
 /// An item.
-#[tactic(auto, using(awk_expressions::proofs::Binds::fails_bind))]
 fn item<'a>(alloc: Global, tokens: &'a [Token<'a>]) -> Result<(Item, &'a [Token<'a>]), Refusal>
     ensures { Gives (λ x. (view_item x.0, seen x.1.now)) result
         (item_at most_depth (seen tokens.now)) }
 {
-    let [first, rest @ ..] = tokens else {
-        return rule(alloc, tokens);
-    };
-    match first.kind {
-        TokenKind::Keyword(Keyword::Function) => named_function(alloc, rest),
-        TokenKind::Keyword(Keyword::Begin) => {
+    match item_start(tokens) {
+        ItemStart::Function(rest) => named_function(alloc, rest),
+        ItemStart::Action(when, rest) => {
             let action = body(alloc, rest)?;
-            Ok((Item::Begin(action.statements), action.rest))
+            Ok((taken(when, action.statements), action.rest))
         }
-        TokenKind::Keyword(Keyword::End) => {
-            let action = body(alloc, rest)?;
-            Ok((Item::End(action.statements), action.rest))
-        }
-        TokenKind::Punctuator(Punctuator::OpenBrace) => {
-            let action = body(alloc, tokens)?;
-            Ok((Item::Action(action.statements), action.rest))
-        }
-        TokenKind::Punctuator(Punctuator::Semicolon) => Ok((Item::Empty, rest)),
-        _ => rule(alloc, tokens),
+        ItemStart::Nothing(rest) => Ok((Item::Empty, rest)),
+        ItemStart::Rule => rule(alloc, tokens),
     }
 }
 

@@ -7,6 +7,7 @@ mod held;
 mod item;
 mod node;
 mod peek;
+mod start;
 mod stmt;
 
 pub use item::items;

@@ -2,7 +2,7 @@
 
 ghost use Rattle.std.specs.Prelude.{◌≡◌, MatchOption, None, Some, Ok, Err};
 ghost use Rattle.awk_grammar.specs.Token.{Syntax as SyntaxFault};
-ghost use Rattle.awk_grammar.specs.Reading.{in_at, name_at};
+ghost use Rattle.awk_grammar.specs.Reading.{in_at, index_at, name_at};
 ghost use Rattle.awk_grammar.specs.ReadStmt.{open_here, comma_here, semicolon_at, while_at, else_at, brace_at, keys_at, is_in};
 ghost use Rattle.awk_expressions.specs.Seen.{seen, Gives};
 
@@ -45,15 +45,9 @@ pub(crate) fn comma<'a>(tokens: &'a [Token<'a>]) -> Result<&'a [Token<'a>], Refu
 pub(crate) fn semicolon<'a>(tokens: &'a [Token<'a>]) -> Result<&'a [Token<'a>], Refusal>
     ensures { Gives (λ r. seen r.now) result (semicolon_at (seen tokens.now)) }
 {
-    match tokens {
-        [
-            Token {
-                kind: TokenKind::Punctuator(Punctuator::Semicolon),
-                ..
-            },
-            rest @ ..,
-        ] => Ok(rest),
-        _ => Err(stopped(tokens)),
+    match after_semicolon(tokens) {
+        Some(rest) => Ok(rest),
+        None => Err(stopped(tokens)),
     }
 }
 
@@ -99,6 +93,23 @@ pub(crate) fn after_brace<'a>(tokens: &'a [Token<'a>]) -> Option<&'a [Token<'a>]
         [
             Token {
                 kind: TokenKind::Punctuator(Punctuator::CloseBrace),
+                ..
+            },
+            rest @ ..,
+        ] => Some(rest),
+        _ => None,
+    }
+}
+
+/// The tokens behind `[`.
+pub(crate) fn after_bracket<'a>(tokens: &'a [Token<'a>]) -> Option<&'a [Token<'a>]>
+    ensures { MatchOption result (index_at (seen tokens.now) ≡ None)
+        (λ r. index_at (seen tokens.now) ≡ Some (seen r.now)) }
+{
+    match tokens {
+        [
+            Token {
+                kind: TokenKind::Punctuator(Punctuator::OpenBracket),
                 ..
             },
             rest @ ..,

@@ -11,12 +11,13 @@ ghost use Rattle.awk_tokens.specs.Views.{spelled};
 ghost use Rattle.awk_statements.specs.Bodies.{others_at, ended_at};
 
 use crate::held::beside;
-use crate::peek::{comma, is_in, open};
+use crate::peek::{after_bracket, comma, is_in, open};
+use crate::start::{PlainStart, plain_start, redirected, target_of};
 use awk_expressions::{
     Mode, Refusal, begins_expr, close, close_bracket, expression, list, name, stopped,
 };
 use awk_grammar::{Expr, PrintArgs, PrintTarget, PrintWord, SimpleStmt};
-use awk_tokens::{Keyword, Punctuator, Token, TokenKind};
+use awk_tokens::{Keyword, Token, TokenKind};
 use std::alloc::Global;
 
 /// Two expressions or more in parentheses that no `in` follows.
@@ -126,7 +127,6 @@ fn print_args<'a>(
 }
 
 /// Where it is printed.
-#[tactic(auto, using(awk_expressions::proofs::Binds::fails_bind))]
 fn print_target<'a>(
     alloc: Global,
     limit: u32,
@@ -136,29 +136,11 @@ fn print_target<'a>(
     ensures { Gives (λ x. (view_target x.0, seen x.1.now)) result
         (target_at (expr_at limit) (seen tokens.now)) }
 {
-    match tokens {
-        [
-            Token {
-                kind: TokenKind::Punctuator(Punctuator::Greater),
-                ..
-            },
-            behind @ ..,
-        ] => {
-            let file = expression(alloc, limit, true, Mode::AfterCompare, behind)?;
-            Ok((PrintTarget::File(file.tree), file.rest))
-        }
-        [
-            Token {
-                kind: TokenKind::Punctuator(Punctuator::Append),
-                ..
-            },
-            behind @ ..,
-        ] => {
-            let file = expression(alloc, limit, true, Mode::AfterCompare, behind)?;
-            Ok((PrintTarget::FileEnd(file.tree), file.rest))
-        }
-        _ => Ok((PrintTarget::Output, tokens)),
-    }
+    let Some((way, behind)) = redirected(tokens) else {
+        return Ok((PrintTarget::Output, tokens));
+    };
+    let file = expression(alloc, limit, true, Mode::AfterCompare, behind)?;
+    Ok((target_of(way, file.tree), file.rest))
 }
 
 /// What stands behind `print` or `printf`.
@@ -178,7 +160,6 @@ fn printing<'a>(
 }
 
 /// What stands behind the name that `delete` has: the subscripts of an element, or nothing where all elements are deleted.
-#[tactic(auto, using(awk_expressions::proofs::Binds::fails_bind))]
 fn deleted<'a>(
     alloc: Global,
     limit: u32,
@@ -189,20 +170,12 @@ fn deleted<'a>(
     ensures { Gives (λ x. (view_simple x.0, seen x.1.now)) result
         (delete_by (expr_at limit) array.items (seen tokens.now)) }
 {
-    match tokens {
-        [
-            Token {
-                kind: TokenKind::Punctuator(Punctuator::OpenBracket),
-                ..
-            },
-            behind @ ..,
-        ] => {
-            let subscripts = list(alloc, limit, true, behind)?;
-            let rest = close_bracket(subscripts.rest)?;
-            Ok((SimpleStmt::Delete(array, subscripts.trees), rest))
-        }
-        _ => Ok((SimpleStmt::Clear(array), tokens)),
-    }
+    let Some(behind) = after_bracket(tokens) else {
+        return Ok((SimpleStmt::Clear(array), tokens));
+    };
+    let subscripts = list(alloc, limit, true, behind)?;
+    let rest = close_bracket(subscripts.rest)?;
+    Ok((SimpleStmt::Delete(array, subscripts.trees), rest))
 }
 
 /// What stands behind `delete`.
@@ -242,14 +215,10 @@ pub(crate) fn simple<'a>(
     ensures { Gives (λ x. (view_simple x.0, seen x.1.now)) result
         (plain_at (expr_at limit) (seen tokens.now)) }
 {
-    let [first, rest @ ..] = tokens else {
-        return evaluation(alloc, limit, tokens);
-    };
-    match first.kind {
-        TokenKind::Keyword(Keyword::Print) => printing(alloc, limit, PrintWord::Print, rest),
-        TokenKind::Keyword(Keyword::Printf) => printing(alloc, limit, PrintWord::Printf, rest),
-        TokenKind::Keyword(Keyword::Delete) => deletion(alloc, limit, rest),
-        _ => evaluation(alloc, limit, tokens),
+    match plain_start(tokens) {
+        PlainStart::Print(word, rest) => printing(alloc, limit, word, rest),
+        PlainStart::Delete(rest) => deletion(alloc, limit, rest),
+        PlainStart::Value => evaluation(alloc, limit, tokens),
     }
 }
 

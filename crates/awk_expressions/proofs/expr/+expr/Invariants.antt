@@ -69,9 +69,6 @@ decreases-unary l = 9 * l.limit + 5
 abbrev pub decreases-pre_step : goal.decreases-pre_step
 decreases-pre_step l = 9 * l.limit + 5
 
-abbrev pub decreases-marked : goal.decreases-marked
-decreases-marked l = 9 * l.limit + 6
-
 abbrev pub decreases-operand : goal.decreases-operand
 decreases-operand l = 9 * l.limit + 7
 

@@ -1,10 +1,13 @@
-use Rattle.std.proofs.Common.{◌≡◌, ℕ, List, [], ◌∷◌, ◌++◌, Option, ap, sym, ◌∙◌, append_assoc}
+use Rattle.std.proofs.Common.{◌≡◌, ℕ, ◌+◌, List, [], ◌∷◌, ◌++◌, Option, drop, ap, sym, ◌∙◌, append_assoc}
 use Rattle.std.proofs.lemmas.Result.{on_ok_weaker}
 use Rattle.awk_grammar.specs.Tree.{Tree, Trees, HasList}
 use Rattle.awk_grammar.specs.View.{view, views}
+use Rattle.awk_grammar.specs.declared.tree.Expr.{Expr}
 use Rattle.awk_grammar.proofs.Views.{count_views, element_is, call_is, apply_is, in_list_is}
 use Rattle.awk_kinds.specs.Marks.{Mark, Array, Used, Called, marks, all_marks}
 use Rattle.awk_resolve.specs.View.{view_marks, view_place}
+use Rattle.awk_resolve.proofs.Keeping.{more_marks}
+use Rattle.awk_resolve.proofs.Names.{drop_at}
 use Rattle.awk_resolve.proofs.walk.+walk.Goals as goal
 
 -- the marks of a call in three parts
@@ -35,3 +38,13 @@ push_expr-returns-in_ok-push_expr-in-InList t c =
 pub push_call-returns : goal.push_call-returns
 push_call-returns t c =
     on_ok_weaker c.push_arguments.result (λ h. call_marks _ _ _ _ _ _ _ _ _ (sym (count_views c.args.arguments.now)) c.in_ok-put.ensures c.in_ok-push_computed.ensures h) c.push_arguments.ensures
+
+pub push_all-loop-e-preserved : goal.push_all-loop-e-preserved
+push_all-loop-e-preserved t c =
+    let es = c.args.es.now in
+    let i = c.loop-e.e-index in
+    let old = view_marks c.loop-e.out.items in
+    let place = view_place c.args.place in
+    more_marks old _ _ (all_marks place (views (drop (i + 1) es))) c.in_ok-push_expr.ensures
+    ∙ sym (ap (λ (us : List Expr). old ++ all_marks place (views us)) (drop_at es i c.e-item.result c.loop-e-test.true c.e-item.is))
+    ∙ c.loop-e.invariant

@@ -14,3 +14,6 @@ returns-in_err-test c =
     let p = err_from_is_err_and c.from_residual-in_err-test.result c.from_residual-in_err-test.ensures.1 in
     let e = c.in_err-test.field-0.0 in
     rw (p.1, p.2) (fails_then e _ _ _ c.in_ok-behind.ensures (fails_bind e _ _ c.in_err-test.ensures))
+
+pub returns : goal.returns
+returns c = rw (c.in_ok-behind.ensures, c.in_ok-test.ensures) c.do_of.ensures
