@@ -167,7 +167,7 @@ pub record IsCut (t : Tree) (newlines : Bool) (text : List ℕ) (spans : List Sp
 
 pub none_cut : (t : Tree) (newlines : Bool) (text : List ℕ) (spans : List Span) → spans ≡ [] → IsCut t newlines text spans 0
 none_cut t newlines text spans e = subst (λ (xs : List Span). IsCut t newlines text xs 0) (sym e)
-    (record { left = record { count = length text; enough = omega arith; pieces = begun text (pieces (Expression t) newlines text) }; })
+    (record { left = record { count = length text; enough = omega arith; pieces = begun text (pieces (Expression t) newlines text) } })
 
 -- lines up to a place were added, and no newline is left before it
 pub record LinesTo (newlines : Bool) (text : List ℕ) (from to line : ℕ) (old new : List Span) : Type 0 where

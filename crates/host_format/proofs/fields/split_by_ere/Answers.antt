@@ -19,7 +19,7 @@ loop-start-preserved c =
       auto = c.first_not_empty.ensures.auto;
       kept = λ t a. c.first_not_empty.ensures.kept t (i.kept t a);
       cut = λ t a. cut_behind t c.args.newlines text c.loop-start.from c.in_ok-line.line c.in-Some.start c.in-Some.end c.loop-start.spans.items c.push_lines.new.spans.items c.push.new.spans.items c.in_ok-start.field-0 c.in-Some.is c.in_ok-start.ensures.inside
-          (c.in_ok-start.ensures.found t (i.kept t a)) (record { within = c.in_ok-line.ensures.from; rest = c.in_ok-line.ensures.rest; lines = c.in_ok-line.ensures.lines; }) (c.in_ok-push.ensures text) (i.cut t a);
+          (c.in_ok-start.ensures.found t (i.kept t a)) (record { within = c.in_ok-line.ensures.from; rest = c.in_ok-line.ensures.rest; lines = c.in_ok-line.ensures.lines }) (c.in_ok-push.ensures text) (i.cut t a);
     }
 
 pub returns-clause-ok : goal.returns-clause-ok
@@ -27,4 +27,4 @@ returns-clause-ok c = λ t a.
     let i = c.loop-start.invariant in
     let text = c.args.text.now in
     all_cut t c.args.newlines text c.loop-start.from c.in_ok-line-2.line c.loop-start.spans.items c.push_lines-2.new.spans.items c.push-2.new.spans.items c.in_ok-start.field-0 c.in_default.is
-    (c.in_ok-start.ensures.found t (i.kept t a)) (record { within = c.in_ok-line-2.ensures.from; rest = c.in_ok-line-2.ensures.rest; lines = c.in_ok-line-2.ensures.lines; }) (c.in_ok-push-2.ensures text) (i.cut t a)
+    (c.in_ok-start.ensures.found t (i.kept t a)) (record { within = c.in_ok-line-2.ensures.from; rest = c.in_ok-line-2.ensures.rest; lines = c.in_ok-line-2.ensures.lines }) (c.in_ok-push-2.ensures text) (i.cut t a)
