@@ -2,11 +2,11 @@
 #![tactic(auto)]
 
 ghost use Rattle.std.specs.Prelude.{◌≡◌, ◌↔◌, IfOk, IfSome, IsTrue, false};
-ghost use Rattle.std.specs.Prelude.{map, option_map, true, IfErr, codes};
-ghost use Rattle.clap.specs.Words.{app_of, rule_of, takes, kind_of, rows_of, found_of, matches_of, one_of, first_of, subcommand_rows_of, subcommand_of};
+ghost use Rattle.std.specs.Prelude.{IsOkAnd, Some, map, option_map, true, IfErr, codes};
+ghost use Rattle.clap.specs.Words.{app_of, rule_of, takes, kind_of, rows_of, found_of, matches_of, one_of, first_of, new_rule, shape_of, subcommand_rows_of, subcommand_of, with_subcommand};
 ghost use Rattle.clap.specs.declared.builder.command.Command.TheViews.{out-Command as fields_of};
 ghost use Rattle.command_line.specs.Request.{Asks, IsFences, IsFlag, IsSteps, IsTask, texts, word_at, words_at};
-ghost use Rattle.command_line.specs.Line.{single, separator_rule, assign_rule, steps_rule, flag_rule, words_rule, topic_rule, options_app, fences_app, compile_app, task_app, explain_app, imports_app, line_app, is_file_option, has_file_option, status_of_kind};
+ghost use Rattle.command_line.specs.Line.{single, steps_rule, flag_rule, options_app, fences_app, compile_app, task_app, explain_app, imports_app, top_app, line_app, is_file_option, has_file_option, status_of_kind};
 
 use clap::builder::ValueParser;
 use clap::error::ErrorKind;
@@ -81,25 +81,22 @@ fn single_arg<'a>(alloc: Global, id: &'a str, help: &'a str) -> Arg<'a>
         .action(ArgAction::Set)
 }
 
-fn separator_arg<'a>(alloc: Global) -> Arg<'a>
-    ensures rule { rule_of result ≡ separator_rule }
+/// An option of one letter, which may be given often.
+fn letter_arg<'a>(
+    alloc: Global,
+    id: &'a str,
+    letter: char,
+    help: &'a str,
+    value: &'a str,
+) -> Arg<'a>
+    ensures rule { rule_of result ≡ record (new_rule id.now)
+        { short = Some letter; action = Some ArgAction.Append; value_names = 1 } }
     ensures local { result.global ≡ false }
 {
-    Arg::new(alloc, "separator")
-        .short('F')
-        .help("Separate fields by this text: a last -v FS=TEXT")
-        .value_name("TEXT")
-        .action(ArgAction::Append)
-}
-
-fn assign_arg<'a>(alloc: Global) -> Arg<'a>
-    ensures rule { rule_of result ≡ assign_rule }
-    ensures local { result.global ≡ false }
-{
-    Arg::new(alloc, "assign")
-        .short('v')
-        .help("Assign to a variable before the script begins")
-        .value_name("NAME=TEXT")
+    Arg::new(alloc, id)
+        .short(letter)
+        .help(help)
+        .value_name(value)
         .action(ArgAction::Append)
 }
 
@@ -125,22 +122,12 @@ fn flag_arg<'a>(alloc: Global, name: &'a str, help: &'a str) -> Arg<'a>
         .action(ArgAction::SetTrue)
 }
 
-fn topic_arg<'a>(alloc: Global) -> Arg<'a>
-    ensures rule { rule_of result ≡ topic_rule }
+/// Words that need not be there.
+fn free_arg<'a>(alloc: Global, id: &'a str, help: &'a str, action: ArgAction) -> Arg<'a>
+    ensures rule { rule_of result ≡ record (new_rule id.now) { action = Some action } }
     ensures local { result.global ≡ false }
 {
-    Arg::new(alloc, "name")
-        .help("The name after 'awkwasm: ', or an exit status; without it all names are listed")
-        .action(ArgAction::Set)
-}
-
-fn words_arg<'a>(alloc: Global) -> Arg<'a>
-    ensures rule { rule_of result ≡ words_rule }
-    ensures local { result.global ≡ false }
-{
-    Arg::new(alloc, "words")
-        .help("Files to read, - for standard input, and assignments NAME=TEXT")
-        .action(ArgAction::Append)
+    Arg::new(alloc, id).help(help).action(action)
 }
 
 fn options_command<'a>(
@@ -153,8 +140,20 @@ fn options_command<'a>(
 {
     Command::new(alloc, name)
         .about(about)
-        .arg(separator_arg(alloc))?
-        .arg(assign_arg(alloc))?
+        .arg(letter_arg(
+            alloc,
+            "separator",
+            'F',
+            "Separate fields by this text: a last -v FS=TEXT",
+            "TEXT",
+        ))?
+        .arg(letter_arg(
+            alloc,
+            "assign",
+            'v',
+            "Assign to a variable before the script begins",
+            "NAME=TEXT",
+        ))?
         .arg(steps_arg(alloc))
 }
 
@@ -176,26 +175,46 @@ fn fences_command<'a>(
         ))
 }
 
+/// `run` or `exec`: the options, what is run, and the operands.
+fn task_command<'a>(
+    alloc: Global,
+    name: &'a str,
+    about: &'a str,
+    subject: &'a str,
+    help: &'a str,
+) -> Result<Command<'a>, AllocError>
+    ensures app { IfOk result (λ c. app_of c ≡ task_app name.now subject.now) }
+    ensures local { IfOk result (λ c. (fields_of c).has_globals ≡ false) }
+{
+    fences_command(alloc, name, about)?
+        .arg(single_arg(alloc, subject, help))?
+        .arg(free_arg(
+            alloc,
+            "words",
+            "Files to read, - for standard input, and assignments NAME=TEXT",
+            ArgAction::Append,
+        ))
+}
+
 fn run_command<'a>(alloc: Global) -> Result<Command<'a>, AllocError>
     ensures app { IfOk result (λ c. app_of c ≡ task_app (codes "run") (codes "script")) }
     ensures local { IfOk result (λ c. (fields_of c).has_globals ≡ false) }
 {
-    fences_command(alloc, "run", "Run a script")?
-        .arg(single_arg(
-            alloc,
-            "script",
-            "The script's text; of a file: \"$(cat prog.awk)\"",
-        ))?
-        .arg(words_arg(alloc))
+    let help = "The script's text; of a file: \"$(cat prog.awk)\"";
+    task_command(alloc, "run", "Run a script", "script", help)
 }
 
 fn exec_command<'a>(alloc: Global) -> Result<Command<'a>, AllocError>
     ensures app { IfOk result (λ c. app_of c ≡ task_app (codes "exec") (codes "module")) }
     ensures local { IfOk result (λ c. (fields_of c).has_globals ≡ false) }
 {
-    fences_command(alloc, "exec", "Run a compiled module")?
-        .arg(single_arg(alloc, "module", "The module's file"))?
-        .arg(words_arg(alloc))
+    task_command(
+        alloc,
+        "exec",
+        "Run a compiled module",
+        "module",
+        "The module's file",
+    )
 }
 
 fn compile_command<'a>(alloc: Global) -> Result<Command<'a>, AllocError>
@@ -223,23 +242,45 @@ fn explain_command<'a>(alloc: Global) -> Result<Command<'a>, AllocError>
 {
     Command::new(alloc, "explain")
         .about("Say what the name of a fault, a refusal or an end means, and what to do")
-        .arg(topic_arg(alloc))
+        .arg(free_arg(
+            alloc,
+            "name",
+            "The name after 'awkwasm: ', or an exit status; without it all names are listed",
+            ArgAction::Set,
+        ))
 }
 
-fn command<'a>(alloc: Global) -> Result<Command<'a>, AllocError>
-    ensures { IfOk result (λ c. app_of c ≡ line_app) }
+/// The line's own settings.
+fn top_command<'a>(alloc: Global) -> Command<'a>
+    ensures { app_of result ≡ top_app }
 {
-    let compile = compile_command(alloc)?;
     Command::new(alloc, "awkwasm")
         .about("Compiles AWK scripts to WebAssembly modules, and runs them")
         .after_help(AFTER_HELP)
         .version("0.1.0")
         .subcommand_required(true)
-        .subcommand(compile)?
-        .subcommand(run_command(alloc)?)?
-        .subcommand(exec_command(alloc)?)?
-        .subcommand(imports_command(alloc)?)?
-        .subcommand(explain_command(alloc)?)
+}
+
+/// The line with one more subcommand, where that one was built.
+fn with_subcommand<'a>(
+    line: Command<'a>,
+    added: Result<Command<'a>, AllocError>,
+) -> Result<Command<'a>, AllocError>
+    ensures { IfOk result (λ c. IsOkAnd added.entry (λ sub.
+        (fields_of sub).has_globals ≡ false
+        → app_of c ≡ with_subcommand (app_of line.entry) (shape_of sub))) }
+{
+    line.subcommand(added?)
+}
+
+fn command<'a>(alloc: Global) -> Result<Command<'a>, AllocError>
+    ensures { IfOk result (λ c. app_of c ≡ line_app) }
+{
+    let line = with_subcommand(top_command(alloc), compile_command(alloc))?;
+    let line = with_subcommand(line, run_command(alloc))?;
+    let line = with_subcommand(line, exec_command(alloc))?;
+    let line = with_subcommand(line, imports_command(alloc))?;
+    with_subcommand(line, explain_command(alloc))
 }
 
 /// What clap finds in a line, whose first word is the program's name: it follows from the words.

@@ -1,15 +1,12 @@
-use Rattle.std.proofs.Common.{◌∙◌, ◌≡◌, ap, ap₂, rules}
 use Rattle.std.proofs.lemmas.Result.{IfOk-weaker}
-use Rattle.clap.specs.Words.{App, app_of, with_subcommand}
-use Rattle.command_line.specs.Line.{top_app}
+use Rattle.command_line.proofs.LineLemmas.{one_more}
 use Rattle.command_line.proofs.command.Goals as goal
 
 pub returns : goal.returns
 returns c =
-    let top = λ (a : App). a.top in
-    let base : app_of c.subcommand_required.result ≡ top_app = search rules in
-    let first = c.in_ok-subcommand.ensures.shape c.in_ok-compile.ensures.local ∙ ap₂ with_subcommand base (ap top c.in_ok-compile.ensures.app) in
-    let second = c.in_ok-subcommand-2.ensures.shape c.in_ok-run_command.ensures.local ∙ ap₂ with_subcommand first (ap top c.in_ok-run_command.ensures.app) in
-    let third = c.in_ok-subcommand-3.ensures.shape c.in_ok-exec_command.ensures.local ∙ ap₂ with_subcommand second (ap top c.in_ok-exec_command.ensures.app) in
-    let fourth = c.in_ok-subcommand-4.ensures.shape c.in_ok-imports_command.ensures.local ∙ ap₂ with_subcommand third (ap top c.in_ok-imports_command.ensures.app) in
-    IfOk-weaker c.subcommand-5.result _ _ (λ r h. h.shape c.in_ok-explain_command.ensures.local ∙ ap₂ with_subcommand fourth (ap top c.in_ok-explain_command.ensures.app)) c.subcommand-5.ensures
+    let first = one_more _ _ _ _ _ c.in_ok-line.ensures c.compile_command.ensures.local c.compile_command.ensures.app c.top_command.ensures in
+    let second = one_more _ _ _ _ _ c.in_ok-line-2.ensures c.run_command.ensures.local c.run_command.ensures.app first in
+    let third = one_more _ _ _ _ _ c.in_ok-line-3.ensures c.exec_command.ensures.local c.exec_command.ensures.app second in
+    let fourth = one_more _ _ _ _ _ c.in_ok-line-4.ensures c.imports_command.ensures.local c.imports_command.ensures.app third in
+    IfOk-weaker c.with_subcommand-5.result _ _
+    (λ r h. one_more _ _ _ _ _ h c.explain_command.ensures.local c.explain_command.ensures.app fourth) c.with_subcommand-5.ensures
