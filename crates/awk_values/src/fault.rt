@@ -3,8 +3,7 @@ ghost use Rattle.std.specs.Prelude.{◌≡◌};
 ghost use Rattle.awk_values.specs.Faults.{fault_name, fault_number};
 
 use std::alloc::AllocError;
-use std::error;
-use std::fmt;
+use std::{error, fmt};
 use thiserror::Error;
 
 /// A fault of a run, by its name.
