@@ -2,86 +2,66 @@
 
 ghost use Rattle.std.specs.Prelude.{◌≡◌, map};
 ghost use Rattle.folding.specs.Folding.{folded, reduced, same};
-ghost use Rattle.mid_program.specs.Mid.{End};
+ghost use Rattle.mid_program.specs.Mid.{End, Number};
 ghost use Rattle.mid_program.specs.ViewCode.{before, view, views};
 ghost use Rattle.mid_rewriting.specs.Rewriting.{codes_in};
 
 use crate::value::value_of;
-use mid_program::{Code, Operand, Operation};
-use std::mem;
+use mid_program::{Code, Operand};
 
-/// An operation on operands that are folded.
-fn reduced(operation: Operation, operands: Vec<Operand>) -> Code
-    ensures { view result ≡ reduced operation (views operands.items) }
+/// Puts a number in the place of code.
+fn set_number(code: &mut Code, number: i64)
+    ensures { view code.new ≡ Number number }
 {
-    match value_of(operation, &operands) {
-        Some(number) => Code::Number(number),
-        None => Code::Do(operation, operands),
-    }
+    *code = Code::Number(number);
 }
 
-/// The code with its constant parts computed, those of its operands first.
+/// Computes the constant parts of code, those of its operands first.
 #[cycle(folding)]
-fn folded(code: Code) -> Code
-    ensures { view result ≡ folded (view code) }
+pub(crate) fn fold_code(code: &mut Code)
+    ensures { view code.new ≡ folded (view code.old) }
 {
     match code {
-        Code::Do(operation, mut operands) => {
-            fold_operands(&mut operands);
-            reduced(operation, operands)
+        Code::Do(operation, operands) => {
+            fold_operands(operands);
+            match value_of(*operation, operands) {
+                Some(number) => set_number(code, number),
+                None => {}
+            }
         }
-        Code::Joined(mut first, mut others, mut last) => {
-            fold_code(&mut first);
-            fold_codes(&mut others);
-            fold_code(&mut last);
-            Code::Joined(first, others, last)
+        Code::Joined(first, others, last) => {
+            fold_code(first);
+            fold_codes(others);
+            fold_code(last);
         }
-        Code::Over(listed, mut operands) => {
-            fold_operands(&mut operands);
-            Code::Over(listed, operands)
+        Code::Over(_listed, operands) => fold_operands(operands),
+        Code::Compare(_, left, right) => {
+            fold_code(left);
+            fold_code(right);
         }
-        Code::Compare(op, mut left, mut right) => {
-            fold_code(&mut left);
-            fold_code(&mut right);
-            Code::Compare(op, left, right)
+        Code::Call(_function, operands) => fold_operands(operands),
+        Code::AskLine(store) => fold_code(store),
+        Code::FileLine(file, store) => {
+            fold_code(file);
+            fold_code(store);
         }
-        Code::Call(function, mut operands) => {
-            fold_operands(&mut operands);
-            Code::Call(function, operands)
+        Code::Replace(_all, operands, store) => {
+            fold_operands(operands);
+            fold_code(store);
         }
-        Code::AskLine(mut store) => {
-            fold_code(&mut store);
-            Code::AskLine(store)
+        Code::Set(_, value) => fold_code(value),
+        Code::Choose(_, test, yes, no) => {
+            fold_code(test);
+            fold_code(yes);
+            fold_code(no);
         }
-        Code::FileLine(mut file, mut store) => {
-            fold_code(&mut file);
-            fold_code(&mut store);
-            Code::FileLine(file, store)
+        Code::Seq(first, second) => {
+            fold_code(first);
+            fold_code(second);
         }
-        Code::Replace(all, mut operands, mut store) => {
-            fold_operands(&mut operands);
-            fold_code(&mut store);
-            Code::Replace(all, operands, store)
-        }
-        Code::Set(slot, mut value) => {
-            fold_code(&mut value);
-            Code::Set(slot, value)
-        }
-        Code::Choose(sort, mut test, mut yes, mut no) => {
-            fold_code(&mut test);
-            fold_code(&mut yes);
-            fold_code(&mut no);
-            Code::Choose(sort, test, yes, no)
-        }
-        Code::Seq(mut first, mut second) => {
-            fold_code(&mut first);
-            fold_code(&mut second);
-            Code::Seq(first, second)
-        }
-        Code::Let(mut kept, mut body) => {
-            fold_code(&mut kept);
-            fold_code(&mut body);
-            Code::Let(kept, body)
+        Code::Let(kept, body) => {
+            fold_code(kept);
+            fold_code(body);
         }
         Code::Ask
         | Code::Number(_)
@@ -90,16 +70,8 @@ fn folded(code: Code) -> Code
         | Code::Get(_)
         | Code::Array(_)
         | Code::IsOpen(_)
-        | Code::Bound(_, _) => code,
+        | Code::Bound(_, _) => {}
     }
-}
-
-/// Computes the constant parts of code.
-#[cycle(folding)]
-pub(crate) fn fold_code(code: &mut Code)
-    ensures { view code.new ≡ folded (view code.old) }
-{
-    *code = folded(mem::replace(code, Code::Ask));
 }
 
 #[cycle(folding)]

@@ -7,57 +7,33 @@ ghost use Rattle.mid_rewriting.specs.Rewriting.{step_in};
 
 use crate::code::fold_code;
 use mid_program::Step;
-use std::mem;
-
-/// The step with its constant parts computed.
-#[cycle(folding_steps)]
-fn folded(step: Step) -> Step
-    ensures { view_step result ≡ step_in same reduced (view_step step) }
-{
-    match step {
-        Step::Eval(mut code) => {
-            fold_code(&mut code);
-            Step::Eval(code)
-        }
-        Step::Block(mut steps) => {
-            fold_steps(&mut steps);
-            Step::Block(steps)
-        }
-        Step::If(mut test, mut yes, mut no) => {
-            fold_code(&mut test);
-            fold_step(&mut yes);
-            fold_step(&mut no);
-            Step::If(test, yes, no)
-        }
-        Step::Loop(first, mut test, mut body, mut between) => {
-            fold_code(&mut test);
-            fold_step(&mut body);
-            fold_step(&mut between);
-            Step::Loop(first, test, body, between)
-        }
-        Step::Each(array, mut store, mut body) => {
-            fold_code(&mut store);
-            fold_step(&mut body);
-            Step::Each(array, store, body)
-        }
-        Step::ExitWith(mut code) => {
-            fold_code(&mut code);
-            Step::ExitWith(code)
-        }
-        Step::Return(mut code) => {
-            fold_code(&mut code);
-            Step::Return(code)
-        }
-        Step::Break | Step::Continue | Step::Next | Step::Exit | Step::Mark(_, _) => step,
-    }
-}
 
 /// Computes the constant parts of a step.
 #[cycle(folding_steps)]
 fn fold_step(step: &mut Step)
     ensures { view_step step.new ≡ step_in same reduced (view_step step.old) }
 {
-    *step = folded(mem::replace(step, Step::Break));
+    match step {
+        Step::Eval(code) => fold_code(code),
+        Step::Block(steps) => fold_steps(steps),
+        Step::If(test, yes, no) => {
+            fold_code(test);
+            fold_step(yes);
+            fold_step(no);
+        }
+        Step::Loop(_, test, body, between) => {
+            fold_code(test);
+            fold_step(body);
+            fold_step(between);
+        }
+        Step::Each(_, store, body) => {
+            fold_code(store);
+            fold_step(body);
+        }
+        Step::ExitWith(code) => fold_code(code),
+        Step::Return(code) => fold_code(code),
+        Step::Break | Step::Continue | Step::Next | Step::Exit | Step::Mark(_, _) => {}
+    }
 }
 
 /// Computes the constant parts of steps.

@@ -1,4 +1,5 @@
 pub mod Calls
 pub mod Lengths
 pub mod Limits
+pub mod Parts
 pub mod View

@@ -7,6 +7,7 @@ ghost use Rattle.lower_model.specs.Modules.{called_from, calls_by, calls_in, cho
 ghost use Rattle.wasm_types.specs.View.{view, views};
 
 use crate::function::Function;
+use crate::held::put;
 use host_imports::{IMPORT_COUNT, IMPORTS, Import};
 use std::alloc::{AllocError, Global};
 use std::rc::Rc;
@@ -119,20 +120,24 @@ fn renumbered_one(alloc: Global, called: &[bool], instr: &Instr) -> Result<Instr
     match instr {
         Instr::Plain(simple) => Ok(Instr::Plain(renumbered_simple(called, *simple))),
         Instr::BrTable(labels, last) => Ok(Instr::BrTable(labels.as_slice().to_vec(alloc)?, *last)),
-        Instr::Block(kind, inner) => {
-            let inner = Rc::new(alloc, renumbered(alloc, called, inner)?)?;
-            Ok(Instr::Block(*kind, inner))
-        }
-        Instr::Loop(kind, inner) => {
-            let inner = Rc::new(alloc, renumbered(alloc, called, inner)?)?;
-            Ok(Instr::Loop(*kind, inner))
-        }
+        Instr::Block(kind, inner) => Ok(Instr::Block(*kind, renumbered(alloc, called, inner)?)),
+        Instr::Loop(kind, inner) => Ok(Instr::Loop(*kind, renumbered(alloc, called, inner)?)),
         Instr::If(kind, inner, other) => {
-            let inner = Rc::new(alloc, renumbered(alloc, called, inner)?)?;
-            let other = Rc::new(alloc, renumbered(alloc, called, other)?)?;
-            Ok(Instr::If(*kind, inner, other))
+            let inner = renumbered(alloc, called, inner)?;
+            Ok(Instr::If(*kind, inner, renumbered(alloc, called, other)?))
         }
     }
+}
+
+#[cycle(renumbering)]
+fn renumbered_all(alloc: Global, called: &[bool], code: &[Instr]) -> Result<Vec<Instr>, AllocError>
+    ensures { IfOk result (λ out. views out.items ≡ renumbered called.now (views code.now)) }
+{
+    let mut out = Vec::with_capacity(alloc, code.len())?;
+    for instr in code {
+        put(&mut out, renumbered_one(alloc, called, instr)?)?;
+    }
+    Ok(out)
 }
 
 /// Code whose calls have the new numbers.
@@ -141,12 +146,9 @@ pub(crate) fn renumbered(
     alloc: Global,
     called: &[bool],
     code: &[Instr],
-) -> Result<Vec<Instr>, AllocError>
-    ensures { IfOk result (λ out. views out.items ≡ renumbered called.now (views code.now)) }
+) -> Result<Rc<Vec<Instr>>, AllocError>
+    ensures { IfOk result
+        (λ out. views out.value.items ≡ renumbered called.now (views code.now)) }
 {
-    let mut out = Vec::with_capacity(alloc, code.len())?;
-    for instr in code {
-        out.push(renumbered_one(alloc, called, instr)?)?;
-    }
-    Ok(out)
+    Ok(Rc::new(alloc, renumbered_all(alloc, called, code)?)?)
 }

@@ -3,6 +3,7 @@
 
 mod calls;
 mod function;
+mod held;
 mod lengths;
 mod module;
 mod sections;

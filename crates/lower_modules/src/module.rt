@@ -1,11 +1,12 @@
 //! The module of a script.
-ghost use Rattle.std.specs.Prelude.{◌≡◌, ◌≤◌, ◌++◌, length, map, IfErr, IfOk};
+ghost use Rattle.std.specs.Prelude.{◌≡◌, ◌+◌, ◌≤◌, ◌++◌, length, map, IfErr, IfOk};
 ghost use Rattle.mid_program.specs.View.{view_mid};
 ghost use Rattle.lower_modules.specs.Limits.{most_bytes, IsTooLarge};
+ghost use Rattle.lower_modules.specs.Parts.{AreCodeParts, AreDataParts};
 ghost use Rattle.lower_modules.specs.View.{view_functions};
 ghost use Rattle.lower_model.specs.Functions.{texts_of};
-ghost use Rattle.host_imports.specs.Imports.{import_type};
-ghost use Rattle.lower_model.specs.Modules.{all_callees, callee_type, module_of};
+ghost use Rattle.host_imports.specs.Imports.{import_type, imports};
+ghost use Rattle.lower_model.specs.Modules.{all_callees, called_from, callee_type, chosen, module_of};
 ghost use Rattle.lower_model.specs.Places.{memory_of};
 ghost use Rattle.wasm_types.specs.View.{signature_of, view_module};
 
@@ -13,14 +14,14 @@ use crate::calls::{called_imports, chosen};
 use crate::function::Function;
 use crate::lengths::least_among;
 use crate::sections::{
-    function_forms, globals, import_forms, main_export, memory, memory_for, text_segment,
+    exports, function_forms, globals, import_forms, memory, memory_for, segments,
 };
 use crate::types::{function_types, import_types};
 use host_imports::Import;
 use lower_layout::LowerFault;
 use mid_program::Mid;
 use std::alloc::{AllocError, Global};
-use wasm_types::{FuncType, MAX_MODULE_BYTES, Module};
+use wasm_types::{Data, Export, Func, FuncType, Limits, MAX_MODULE_BYTES, Module};
 
 /// The types of imports, and those of functions.
 fn types(
@@ -36,6 +37,58 @@ fn types(
     let mut others = function_types(alloc, functions)?;
     all.append(&mut others)?;
     Ok(all)
+}
+
+/// The parts of a module that have to do with functions.
+#[derive(Drop)]
+struct CodeParts {
+    /// The number of the first function that is no import.
+    first: u32,
+    types: Vec<FuncType>,
+    imports: Vec<wasm_types::Import>,
+    funcs: Vec<Func>,
+}
+
+/// Types, imports and functions.
+fn code_parts(alloc: Global, functions: &[Function]) -> Result<CodeParts, AllocError>
+    requires { length functions.now ≤ most_bytes + 1 }
+    ensures few { IfOk result (λ parts. parts.first ≤ most_bytes) }
+    ensures parts { IfOk result (AreCodeParts (called_from 0 imports (view_functions functions.now))
+        (chosen (called_from 0 imports (view_functions functions.now)) imports)
+        (view_functions functions.now)) }
+{
+    let called = called_imports(alloc, functions)?;
+    let used = chosen(alloc, &called)?;
+    let first = used.len() as u32;
+    Ok(CodeParts {
+        first,
+        types: types(alloc, &used, functions)?,
+        imports: import_forms(alloc, &used)?,
+        funcs: function_forms(alloc, &called, first, functions)?,
+    })
+}
+
+/// The other parts of a module.
+#[derive(Drop)]
+struct DataParts {
+    memories: Vec<Limits>,
+    globals: Vec<wasm_types::Global>,
+    exports: Vec<Export>,
+    segments: Vec<Data>,
+}
+
+/// The memory with its bytes, the globals, and the export of `main`, which has this number.
+fn data_parts(alloc: Global, mid: &Mid, bytes: Vec<u8>, main: u32) -> Result<DataParts, AllocError>
+    requires { length bytes.items ≤ most_bytes }
+    ensures { IfOk result (AreDataParts (view_mid mid.now) bytes.items main) }
+{
+    let size = bytes.len() as u32;
+    Ok(DataParts {
+        segments: segments(alloc, bytes)?,
+        memories: vec![in alloc; memory_for(size)]?,
+        globals: globals(alloc, mid)?,
+        exports: exports(alloc, main)?,
+    })
 }
 
 /// The texts in memory, if the script is small enough.
@@ -75,21 +128,19 @@ pub fn module_for(alloc: Global, mid: &Mid, functions: &[Function]) -> Result<Mo
         return Err(LowerFault::TooLarge);
     }
     let bytes = small_memory(alloc, mid)?;
-    let called = called_imports(alloc, functions)?;
-    let used = chosen(alloc, &called)?;
-    let first = used.len() as u32;
-    let size = bytes.len() as u32;
-    let main = first + mid.routines.len() as u32;
+    let code = code_parts(alloc, functions)?;
+    let main = code.first + mid.routines.len() as u32;
+    let others = data_parts(alloc, mid, bytes, main)?;
     Ok(Module {
-        types: types(alloc, &used, functions)?,
-        imports: import_forms(alloc, &used)?,
-        funcs: function_forms(alloc, &called, first, functions)?,
+        types: code.types,
+        imports: code.imports,
+        funcs: code.funcs,
         tables: Vec::new(alloc),
-        memories: vec![in alloc; memory_for(size)]?,
-        globals: globals(alloc, mid)?,
-        exports: vec![in alloc; main_export(alloc, main)?]?,
+        memories: others.memories,
+        globals: others.globals,
+        exports: others.exports,
         start: None,
         elems: Vec::new(alloc),
-        data: vec![in alloc; text_segment(alloc, bytes)?]?,
+        data: others.segments,
     })
 }

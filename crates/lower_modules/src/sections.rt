@@ -1,8 +1,9 @@
 //! The parts of a module.
-ghost use Rattle.std.specs.Prelude.{◌≡◌, ◌+◌, ◌*◌, ◌≤◌, ◌++◌, ◌∷◌, length, map, codes, replicate, IfOk, OnOk};
+ghost use Rattle.std.specs.Prelude.{◌≡◌, ◌+◌, ◌*◌, ◌≤◌, ◌++◌, ◌∷◌, [], length, map, replicate, true, IfOk, OnOk};
 ghost use Rattle.mid_program.specs.Sorted.{announced_names, kinds_of};
 ghost use Rattle.mid_program.specs.View.{view_declared, view_mid, view_routine, view_texts};
 ghost use Rattle.lower_modules.specs.Limits.{most_bytes};
+ghost use Rattle.lower_modules.specs.Parts.{main_form, text_form};
 ghost use Rattle.lower_modules.specs.View.{view_function, view_functions};
 ghost use Rattle.lower_model.specs.Functions.{texts_of};
 ghost use Rattle.host_imports.specs.Imports.{import_name, imports, module_name};
@@ -11,15 +12,13 @@ ghost use Rattle.lower_model.specs.Places.{memory_of};
 ghost use Rattle.lower_model.specs.Small.{does, minus_one};
 ghost use Rattle.wasm_types.specs.Syntax.{Done};
 ghost use Rattle.wasm_types.specs.View.{view_data, view_export, view_func, view_global, view_import, views};
-ghost use Rattle.wasm_types.specs.declared.instr.Simple.TheVariants.{I32Const};
-ghost use Rattle.wasm_types.specs.declared.module.ExportDesc.TheVariants as desc;
 
 use crate::calls::renumbered;
 use crate::function::Function;
+use crate::held::{only, put};
 use host_imports::Import;
 use mid_program::{Declared, Kind, Mid, Routine};
 use std::alloc::{AllocError, Global};
-use std::rc::Rc;
 use wasm_types::{Data, Export, ExportDesc, Func, GlobalType, Instr, Limits, Simple, ValType};
 
 fn import_form(alloc: Global, import: Import, ty: u32) -> Result<wasm_types::Import, AllocError>
@@ -45,7 +44,7 @@ pub(crate) fn import_forms(
     let mut all = Vec::new(alloc);
     let mut ty = 0;
     for import in used {
-        all.push(import_form(alloc, *import, ty)?)?;
+        put(&mut all, import_form(alloc, *import, ty)?)?;
         ty += 1;
     }
     Ok(all)
@@ -64,11 +63,10 @@ fn function_form(
           renumbered called.now (views function.now.body.items);
     }) }
 {
-    let body = renumbered(alloc, called, &function.body)?;
     Ok(Func {
         ty,
         locals: function.locals.as_slice().to_vec(alloc)?,
-        body: Rc::new(alloc, body)?,
+        body: renumbered(alloc, called, &function.body)?,
     })
 }
 
@@ -87,42 +85,40 @@ pub(crate) fn function_forms(
     let mut all = Vec::new(alloc);
     let mut ty = first;
     for function in functions {
-        all.push(function_form(alloc, called, ty, function)?)?;
+        put(&mut all, function_form(alloc, called, ty, function)?)?;
         ty += 1;
     }
     Ok(all)
 }
 
-fn constant(alloc: Global, simple: Simple) -> Result<Vec<Instr>, AllocError>
-    ensures { IfOk result (λ code. views code.items ≡ does simple Done) }
-{
-    Ok(vec![in alloc; Instr::Plain(simple)]?)
-}
-
-/// A global of 32 bits.
-fn word_global(alloc: Global, number: u32) -> Result<wasm_types::Global, AllocError>
-    ensures { IfOk result (λ made. view_global made ≡ word_global number) }
+/// A global that begins with a constant.
+fn global(alloc: Global, value: ValType, constant: Simple) -> Result<wasm_types::Global, AllocError>
+    ensures { IfOk result (λ made. view_global made
+        ≡ record { ty = record { value = value; mutable = true }; init = does constant Done }) }
 {
     Ok(wasm_types::Global {
         ty: GlobalType {
-            value: ValType::I32,
+            value,
             mutable: true,
         },
-        init: constant(alloc, Simple::I32Const(number))?,
+        init: only(alloc, Instr::Plain(constant))?,
     })
 }
 
-/// A global of 64 bits.
-fn long_global(alloc: Global, number: u64) -> Result<wasm_types::Global, AllocError>
-    ensures { IfOk result (λ made. view_global made ≡ long_global number) }
+/// Puts a global of 32 bits.
+fn put_word(alloc: Global, all: &mut Vec<wasm_types::Global>, number: u32) -> Result<(), AllocError>
+    ensures { OnOk result (map view_global all.new.items
+        ≡ map view_global all.old.items ++ word_global number ∷ []) }
 {
-    Ok(wasm_types::Global {
-        ty: GlobalType {
-            value: ValType::I64,
-            mutable: true,
-        },
-        init: constant(alloc, Simple::I64Const(number))?,
-    })
+    put(all, global(alloc, ValType::I32, Simple::I32Const(number))?)
+}
+
+/// Puts a global of 64 bits.
+fn put_long(alloc: Global, all: &mut Vec<wasm_types::Global>, number: u64) -> Result<(), AllocError>
+    ensures { OnOk result (map view_global all.new.items
+        ≡ map view_global all.old.items ++ long_global number ∷ []) }
+{
+    put(all, global(alloc, ValType::I64, Simple::I64Const(number))?)
 }
 
 /// The module's own globals, and one for each range.
@@ -131,13 +127,12 @@ fn first_globals(alloc: Global, ranges: usize) -> Result<Vec<wasm_types::Global>
         ≡ word_global 0 ∷ (long_global 0 ∷ (word_global minus_one
         ∷ replicate ranges (word_global 0)))) }
 {
-    let mut all = vec![in alloc;
-        word_global(alloc, 0)?,
-        long_global(alloc, 0)?,
-        word_global(alloc, u32::MAX)?,
-    ]?;
+    let mut all = Vec::new(alloc);
+    put_word(alloc, &mut all, 0)?;
+    put_long(alloc, &mut all, 0)?;
+    put_word(alloc, &mut all, u32::MAX)?;
     for _done in 0..ranges {
-        all.push(word_global(alloc, 0)?)?;
+        put_word(alloc, &mut all, 0)?;
     }
     Ok(all)
 }
@@ -148,8 +143,8 @@ pub(crate) fn globals(alloc: Global, mid: &Mid) -> Result<Vec<wasm_types::Global
 {
     let mut all = first_globals(alloc, mid.ranges)?;
     for _name in &mid.globals {
-        all.push(word_global(alloc, u32::MAX)?)?;
-        all.push(long_global(alloc, 1 << 63)?)?;
+        put_word(alloc, &mut all, u32::MAX)?;
+        put_long(alloc, &mut all, 1 << 63)?;
     }
     Ok(all)
 }
@@ -208,25 +203,31 @@ pub(crate) fn memory_for(bytes: u32) -> Limits
     }
 }
 
-/// The texts at address 0.
-pub(crate) fn text_segment(alloc: Global, memory: Vec<u8>) -> Result<Data, AllocError>
-    ensures { IfOk result (λ made. view_data made
-        ≡ record { memory = 0; offset = does (I32Const 0) Done; init = memory.items }) }
+/// The texts at address 0: the one segment.
+pub(crate) fn segments(alloc: Global, memory: Vec<u8>) -> Result<Vec<Data>, AllocError>
+    ensures { IfOk result (λ all. map view_data all.items ≡ text_form memory.items ∷ []) }
 {
-    Ok(Data {
-        memory: 0,
-        offset: constant(alloc, Simple::I32Const(0))?,
-        init: memory,
-    })
+    let offset = only(alloc, Instr::Plain(Simple::I32Const(0)))?;
+    only(
+        alloc,
+        Data {
+            memory: 0,
+            offset,
+            init: memory,
+        },
+    )
 }
 
-/// The export of `main`.
-pub(crate) fn main_export(alloc: Global, number: u32) -> Result<Export, AllocError>
-    ensures { IfOk result
-        (λ made. view_export made ≡ record { name = codes "main"; desc = desc.Func number }) }
+/// The export of `main`: the one export.
+pub(crate) fn exports(alloc: Global, number: u32) -> Result<Vec<Export>, AllocError>
+    ensures { IfOk result (λ all. map view_export all.items ≡ main_form number ∷ []) }
 {
-    Ok(Export {
-        name: String::from_str(alloc, "main")?,
-        desc: ExportDesc::Func(number),
-    })
+    let name = String::from_str(alloc, "main")?;
+    only(
+        alloc,
+        Export {
+            name,
+            desc: ExportDesc::Func(number),
+        },
+    )
 }

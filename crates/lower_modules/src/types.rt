@@ -8,6 +8,7 @@ ghost use Rattle.lower_model.specs.Places.{kind_type};
 ghost use Rattle.wasm_types.specs.View.{signature_of};
 
 use crate::function::Function;
+use crate::held::put;
 use host_imports::{Import, type_of};
 use mid_program::Kind;
 use std::alloc::{AllocError, Global};
@@ -49,7 +50,7 @@ pub(crate) fn import_types(alloc: Global, used: &[Import]) -> Result<Vec<FuncTyp
 {
     let mut types = Vec::new(alloc);
     for import in used {
-        types.push(type_of(alloc, *import)?)?;
+        put(&mut types, type_of(alloc, *import)?)?;
     }
     Ok(types)
 }
@@ -64,7 +65,7 @@ pub(crate) fn function_types(
 {
     let mut types = Vec::new(alloc);
     for function in functions {
-        types.push(function_type(alloc, function)?)?;
+        put(&mut types, function_type(alloc, function)?)?;
     }
     Ok(types)
 }

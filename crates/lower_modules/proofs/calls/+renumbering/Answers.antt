@@ -12,47 +12,47 @@ use Rattle.lower_model.specs.Modules.{renumbered, renumbered_one}
 use Rattle.lower_modules.proofs.Pieces.{followed_end, followed_more}
 use Rattle.lower_modules.proofs.calls.+renumbering.Goals as goal
 
-pub renumbered-loop-instr-preserved : goal.renumbered-loop-instr-preserved
-renumbered-loop-instr-preserved t c =
+pub renumbered_all-loop-instr-preserved : goal.renumbered_all-loop-instr-preserved
+renumbered_all-loop-instr-preserved t c =
     let bs = c.args.called.now in
     let i = c.loop-instr.instr-index in
     let before = views c.loop-instr.out.items in
     let rest = renumbered bs (views (drop (i + 1) c.args.code.now)) in
-    ap (λ (is : List Instr). followed_by (views is) rest) c.in_ok-push.ensures.items
+    ap (λ (is : List Instr). followed_by (views is) rest) c.in_ok-put.ensures
     ∙ followed_more c.loop-instr.out.items c.in_ok-renumbered_one.field-0 rest
     ∙ ap (λ (a : Instruction). followed_by before (Then a rest)) c.in_ok-renumbered_one.ensures
     ∙ sym (ap (λ (is : List Instr). followed_by before (renumbered bs (views is))) (drop_at c.args.code.now i c.instr-item.result c.loop-instr-test.true c.instr-item.is))
     ∙ c.loop-instr.invariant
 
-pub renumbered-returns : goal.renumbered-returns
-renumbered-returns t c =
+pub renumbered_all-returns : goal.renumbered_all-returns
+renumbered_all-returns t c =
     let out = c.loop-instr.out.items in
     sym (followed_end out)
     ∙ sym (at_drop_all (λ (is : List Instr). followed_by (views out) (renumbered c.args.called.now (views is))) c.args.code.now c.loop-instr.instr-index c.loop-instr-test.false)
     ∙ c.loop-instr.invariant
 
-pub renumbered_one-returns-in_ok-inner-in-Block : goal.renumbered_one-returns-in_ok-inner-in-Block
-renumbered_one-returns-in_ok-inner-in-Block t c =
+pub renumbered_one-returns-in_ok-renumbered-in-Block : goal.renumbered_one-returns-in_ok-renumbered-in-Block
+renumbered_one-returns-in_ok-renumbered-in-Block t c =
     let bs = c.args.called.now in
     let within = c.deref-in-Block.ensures.value ∙ ap (λ (v : Vec Instr Global). v.items) c.deref.ensures in
-    let inner = ap (λ (v : Vec Instr Global). views v.items) c.in_ok-inner-in-Block.ensures.ok ∙ c.in_ok-renumbered-in-Block.ensures ∙ ap (λ (is : List Instr). renumbered bs (views is)) within in
-    view_block c.in-Block.kind c.in_ok-inner-in-Block.inner ∙ ap (tree.Block c.in-Block.kind) inner
+    let inner = c.in_ok-renumbered-in-Block.ensures ∙ ap (λ (is : List Instr). renumbered bs (views is)) within in
+    view_block c.in-Block.kind c.in_ok-renumbered-in-Block.field-0 ∙ ap (tree.Block c.in-Block.kind) inner
     ∙ sym (ap (renumbered_one bs) (ap view c.in-Block.is ∙ view_block c.in-Block.kind c.in-Block.inner))
 
-pub renumbered_one-returns-in_ok-inner-in-Loop : goal.renumbered_one-returns-in_ok-inner-in-Loop
-renumbered_one-returns-in_ok-inner-in-Loop t c =
+pub renumbered_one-returns-in_ok-renumbered-in-Loop : goal.renumbered_one-returns-in_ok-renumbered-in-Loop
+renumbered_one-returns-in_ok-renumbered-in-Loop t c =
     let bs = c.args.called.now in
     let within = c.deref-in-Loop-2.ensures.value ∙ ap (λ (v : Vec Instr Global). v.items) c.deref-in-Loop.ensures in
-    let inner = ap (λ (v : Vec Instr Global). views v.items) c.in_ok-inner-in-Loop.ensures.ok ∙ c.in_ok-renumbered-in-Loop.ensures ∙ ap (λ (is : List Instr). renumbered bs (views is)) within in
-    view_loop c.in-Loop.kind c.in_ok-inner-in-Loop.inner ∙ ap (tree.Loop c.in-Loop.kind) inner
+    let inner = c.in_ok-renumbered-in-Loop.ensures ∙ ap (λ (is : List Instr). renumbered bs (views is)) within in
+    view_loop c.in-Loop.kind c.in_ok-renumbered-in-Loop.field-0 ∙ ap (tree.Loop c.in-Loop.kind) inner
     ∙ sym (ap (renumbered_one bs) (ap view c.in-Loop.is ∙ view_loop c.in-Loop.kind c.in-Loop.inner))
 
-pub renumbered_one-returns-in_ok-other-in-If : goal.renumbered_one-returns-in_ok-other-in-If
-renumbered_one-returns-in_ok-other-in-If t c =
+pub renumbered_one-returns-in_ok-renumbered-in-If : goal.renumbered_one-returns-in_ok-renumbered-in-If
+renumbered_one-returns-in_ok-renumbered-in-If t c =
     let bs = c.args.called.now in
     let first = c.deref-in-If-2.ensures.value ∙ ap (λ (v : Vec Instr Global). v.items) c.deref-in-If.ensures in
     let second = c.deref-in-If-4.ensures.value ∙ ap (λ (v : Vec Instr Global). v.items) c.deref-in-If-3.ensures in
-    let inner = ap (λ (v : Vec Instr Global). views v.items) c.in_ok-inner-in-If.ensures.ok ∙ c.in_ok-renumbered-in-If.ensures ∙ ap (λ (is : List Instr). renumbered bs (views is)) first in
-    let other = ap (λ (v : Vec Instr Global). views v.items) c.in_ok-other-in-If.ensures.ok ∙ c.in_ok-renumbered-in-If-2.ensures ∙ ap (λ (is : List Instr). renumbered bs (views is)) second in
-    view_if c.in-If.kind c.in_ok-inner-in-If.inner c.in_ok-other-in-If.other ∙ (λ i. tree.If c.in-If.kind (inner i) (other i))
+    let inner = c.in_ok-inner-in-If.ensures ∙ ap (λ (is : List Instr). renumbered bs (views is)) first in
+    let other = c.in_ok-renumbered-in-If.ensures ∙ ap (λ (is : List Instr). renumbered bs (views is)) second in
+    view_if c.in-If.kind c.in_ok-inner-in-If.inner c.in_ok-renumbered-in-If.field-0 ∙ (λ i. tree.If c.in-If.kind (inner i) (other i))
     ∙ sym (ap (renumbered_one bs) (ap view c.in-If.is ∙ view_if c.in-If.kind c.in-If.inner c.in-If.other))
