@@ -1,5 +1,5 @@
 -- Topics: the names that lines for the standard error begin with, and the exit statuses.
-use Rattle.std.specs.Prelude.{ℕ, ◌==◌, List, [], ◌∷◌, Bool, Option, codes}
+use Rattle.std.specs.Prelude.{ℕ, ◌==◌, List, [], ◌∷◌, Bool, Option, codes, ◌≡◌, ◌++◌, length, take}
 use Rattle.std.specs.List.{find}
 use Rattle.std.specs.Cmp.Lexicographic.{pointwise}
 use Rattle.awk_values.specs.Faults.{fault_name}
@@ -79,6 +79,14 @@ topic_name (Trap kind) = trap_word kind
 topic_name (End end) = end_name end
 topic_name (File fault) = file_name fault
 topic_name (Status status) = status_name status
+
+-- What is shown of a topic begins so: with the program's name and the topic's, or with a status alone.
+abbrev pub shown_first : Topic → List ℕ
+shown_first (Status status) = status_name status
+shown_first topic = codes "awkwasm: " ++ topic_name topic
+
+abbrev pub Shows : Topic → List ℕ → Type 0
+Shows topic text = take (length (shown_first topic)) text ≡ shown_first topic
 
 abbrev pub all_topics : List Topic
 all_topics =

@@ -1,4 +1,6 @@
 //! What the name of a fault, a refusal, a trap, an end or a status means, and what to do.
+ghost use Rattle.run_report.specs.Topics.{Shows};
+
 mod ends;
 mod faults;
 mod files;
@@ -29,8 +31,10 @@ pub struct Explanation {
     pub advice: &'static str,
 }
 
-/// What is said of a topic.
-pub fn explain(topic: Topic) -> Explanation {
+/// What is said of a topic. What its command shows is the line that tells the topic, with whatever that line goes on to say; of a status the number.
+pub fn explain(topic: Topic) -> Explanation
+    ensures { Shows topic result.shown.now }
+{
     match topic {
         Topic::Fault(fault) => fault_explanation(fault),
         Topic::Script(refusal) => script_explanation(refusal),

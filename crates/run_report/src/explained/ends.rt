@@ -1,4 +1,7 @@
 //! What is said of runs that were cut off.
+ghost use Rattle.run_report.specs.Topics.{Shows};
+ghost use Rattle.run_report.specs.declared.topic.Topic.TheVariants as Topic;
+
 use crate::explained::Explanation;
 use crate::topic::EndTopic;
 
@@ -24,7 +27,9 @@ const NO_MEMORY: Explanation = Explanation {
 };
 
 /// What is said of such an end.
-pub(crate) fn end_explanation(end: EndTopic) -> Explanation {
+pub(crate) fn end_explanation(end: EndTopic) -> Explanation
+    ensures { Shows (Topic.End end) result.shown.now }
+{
     match end {
         EndTopic::OutOfSteps => OUT_OF_STEPS,
         EndTopic::Exhausted => EXHAUSTED,

@@ -1,4 +1,7 @@
 //! What is said of the faults of a run.
+ghost use Rattle.run_report.specs.Topics.{Shows};
+ghost use Rattle.run_report.specs.declared.topic.Topic.TheVariants as Topic;
+
 use crate::explained::Explanation;
 use awk_values::Fault;
 
@@ -115,7 +118,9 @@ const BAD_ASSIGNMENT: Explanation = Explanation {
 };
 
 /// What is said of a fault.
-pub(crate) fn fault_explanation(fault: Fault) -> Explanation {
+pub(crate) fn fault_explanation(fault: Fault) -> Explanation
+    ensures { Shows (Topic.Fault fault) result.shown.now }
+{
     match fault {
         Fault::Range => RANGE,
         Fault::Fraction => FRACTION,

@@ -1,4 +1,7 @@
 //! What is said of files that the command line names.
+ghost use Rattle.run_report.specs.Topics.{Shows};
+ghost use Rattle.run_report.specs.declared.topic.Topic.TheVariants as Topic;
+
 use crate::explained::Explanation;
 use crate::report::FileFault;
 
@@ -17,7 +20,9 @@ const CANNOT_WRITE: Explanation = Explanation {
 };
 
 /// What is said of such a file.
-pub(crate) fn file_explanation(fault: FileFault) -> Explanation {
+pub(crate) fn file_explanation(fault: FileFault) -> Explanation
+    ensures { Shows (Topic.File fault) result.shown.now }
+{
     match fault {
         FileFault::CannotRead => CANNOT_READ,
         FileFault::CannotWrite => CANNOT_WRITE,

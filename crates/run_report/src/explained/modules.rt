@@ -1,4 +1,7 @@
 //! What is said of modules that are refused.
+ghost use Rattle.run_report.specs.Topics.{Shows};
+ghost use Rattle.run_report.specs.declared.topic.Topic.TheVariants as Topic;
+
 use crate::explained::Explanation;
 use crate::topic::ModuleTopic;
 
@@ -94,7 +97,9 @@ const SEGMENT_BOUNDS: Explanation = Explanation {
 };
 
 /// What is said of a refusal.
-pub(crate) fn module_explanation(refusal: ModuleTopic) -> Explanation {
+pub(crate) fn module_explanation(refusal: ModuleTopic) -> Explanation
+    ensures { Shows (Topic.Module refusal) result.shown.now }
+{
     match refusal {
         ModuleTopic::BadHeader => BAD_HEADER,
         ModuleTopic::Truncated => TRUNCATED,

@@ -1,4 +1,7 @@
 //! What is said of scripts that are refused.
+ghost use Rattle.run_report.specs.Topics.{Shows};
+ghost use Rattle.run_report.specs.declared.topic.Topic.TheVariants as Topic;
+
 use crate::explained::Explanation;
 use crate::topic::ScriptTopic;
 
@@ -108,7 +111,9 @@ const KIND_CLASH: Explanation = Explanation {
 };
 
 /// What is said of a refusal.
-pub(crate) fn script_explanation(refusal: ScriptTopic) -> Explanation {
+pub(crate) fn script_explanation(refusal: ScriptTopic) -> Explanation
+    ensures { Shows (Topic.Script refusal) result.shown.now }
+{
     match refusal {
         ScriptTopic::TooLarge => TOO_LARGE,
         ScriptTopic::BadByte => BAD_BYTE,

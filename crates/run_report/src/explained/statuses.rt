@@ -1,4 +1,7 @@
 //! What is said of exit statuses.
+ghost use Rattle.run_report.specs.Topics.{Shows};
+ghost use Rattle.run_report.specs.declared.topic.Topic.TheVariants as Topic;
+
 use crate::explained::Explanation;
 use crate::topic::StatusTopic;
 
@@ -59,7 +62,9 @@ const LINE: Explanation = Explanation {
 };
 
 /// What is said of a status.
-pub(crate) fn status_explanation(status: StatusTopic) -> Explanation {
+pub(crate) fn status_explanation(status: StatusTopic) -> Explanation
+    ensures { Shows (Topic.Status status) result.shown.now }
+{
     match status {
         StatusTopic::Own => OWN,
         StatusTopic::Faulted => FAULTED,

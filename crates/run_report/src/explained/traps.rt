@@ -1,4 +1,7 @@
 //! What is said of traps.
+ghost use Rattle.run_report.specs.Topics.{Shows};
+ghost use Rattle.run_report.specs.declared.topic.Topic.TheVariants as Topic;
+
 use crate::explained::Explanation;
 use wasm_store::TrapKind;
 
@@ -73,7 +76,9 @@ const BAD_ARGUMENT: Explanation = Explanation {
 };
 
 /// What is said of a trap.
-pub(crate) fn trap_explanation(kind: TrapKind) -> Explanation {
+pub(crate) fn trap_explanation(kind: TrapKind) -> Explanation
+    ensures { Shows (Topic.Trap kind) result.shown.now }
+{
     match kind {
         TrapKind::Unreachable => UNREACHABLE,
         TrapKind::DivideByZero => DIVIDE_BY_ZERO,
