@@ -68,7 +68,7 @@ pub(crate) fn after_open<'a>(tokens: &'a [Token<'a>]) -> Option<&'a [Token<'a>]>
     }
 }
 
-/// The tokens behind `[`.
+/// The tokens after `[`.
 pub(crate) fn after_bracket<'a>(tokens: &'a [Token<'a>]) -> Option<&'a [Token<'a>]>
     ensures { MatchOption result (index_at (seen tokens.now) ≡ None)
         (λ r. index_at (seen tokens.now) ≡ Some (seen r.now)) }
@@ -183,7 +183,7 @@ pub(crate) fn in_word<'a>(tokens: &'a [Token<'a>]) -> Result<&'a [Token<'a>], Re
     }
 }
 
-/// A name, which must come first, and the tokens behind it.
+/// A name, which must come first, and the tokens after it.
 pub fn name<'a>(
     alloc: Global,
     tokens: &'a [Token<'a>],
@@ -203,7 +203,7 @@ pub fn name<'a>(
     }
 }
 
-/// A step, and the tokens behind it.
+/// A step, and the tokens after it.
 pub(crate) fn step<'a>(tokens: &'a [Token<'a>]) -> Option<(StepOp, &'a [Token<'a>])>
     ensures { MatchOption result (step_at (seen tokens.now) ≡ None)
         (λ r. step_at (seen tokens.now) ≡ Some (view_step r.0, seen r.1.now)) }

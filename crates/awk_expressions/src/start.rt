@@ -21,7 +21,7 @@ pub(crate) enum Literal {
     Ere,
 }
 
-/// What an operand begins with: what of it is read, and the tokens behind that.
+/// What an operand begins with: what of it is read, and the tokens after that.
 #[derive(Clone, Copy)]
 pub(crate) enum Start<'a> {
     Literal(Literal, &'a [u8], &'a [Token<'a>]),
@@ -36,7 +36,7 @@ pub(crate) enum Start<'a> {
     Nothing,
 }
 
-/// What begins with a punctuator that has these tokens behind it.
+/// What begins with a punctuator that has these tokens after it.
 fn marked<'a>(mark: Punctuator, rest: &'a [Token<'a>]) -> Start<'a>
     ensures { view_start result ≡ start_at (mark_lexeme mark ∷ seen rest.now) }
 {

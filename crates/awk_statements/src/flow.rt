@@ -66,7 +66,7 @@ fn one<'a>(
     }
 }
 
-/// Statements that were read, and the tokens behind them.
+/// Statements that were read, and the tokens after them.
 #[derive(Drop)]
 pub(crate) struct Body<'a> {
     pub(crate) statements: Vec<Stmt>,

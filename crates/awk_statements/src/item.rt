@@ -36,7 +36,7 @@ fn body<'a>(alloc: Global, tokens: &'a [Token<'a>]) -> Result<Body<'a>, Refusal>
     }
 }
 
-/// Parameters that were read, and the tokens behind them.
+/// Parameters that were read, and the tokens after them.
 #[derive(Drop)]
 struct NamesRead<'a> {
     names: Vec<Vec<u8>>,
@@ -218,7 +218,7 @@ fn item<'a>(alloc: Global, tokens: &'a [Token<'a>]) -> Result<(Item, &'a [Token<
     }
 }
 
-/// Items that were read, and the tokens behind them.
+/// Items that were read, and the tokens after them.
 #[derive(Drop)]
 struct ItemsRead<'a> {
     items: Vec<Item>,

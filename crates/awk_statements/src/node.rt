@@ -1,4 +1,4 @@
-//! Statements that hold others, on the heap, and the tokens behind them.
+//! Statements that hold others, on the heap, and the tokens after them.
 
 ghost use Rattle.awk_grammar.specs.Stmt.{Block, If, IfElse, While, Do, For, ForIn};
 ghost use Rattle.awk_grammar.specs.View.{view};
@@ -13,7 +13,7 @@ use awk_grammar::{Expr, Stmt};
 use awk_tokens::Token;
 use std::alloc::Global;
 
-/// A statement, and the tokens behind it.
+/// A statement, and the tokens after it.
 #[inline(never)]
 pub(crate) fn on_heap<'a>(
     alloc: Global,

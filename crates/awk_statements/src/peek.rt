@@ -101,7 +101,7 @@ pub(crate) fn after_brace<'a>(tokens: &'a [Token<'a>]) -> Option<&'a [Token<'a>]
     }
 }
 
-/// The tokens behind `[`.
+/// The tokens after `[`.
 pub(crate) fn after_bracket<'a>(tokens: &'a [Token<'a>]) -> Option<&'a [Token<'a>]>
     ensures { MatchOption result (index_at (seen tokens.now) ≡ None)
         (λ r. index_at (seen tokens.now) ≡ Some (seen r.now)) }
@@ -152,7 +152,7 @@ pub(crate) fn after_semicolon<'a>(tokens: &'a [Token<'a>]) -> Option<&'a [Token<
     }
 }
 
-/// A name, and the tokens behind it.
+/// A name, and the tokens after it.
 pub(crate) fn after_name<'a>(tokens: &'a [Token<'a>]) -> Option<(&'a [u8], &'a [Token<'a>])>
     ensures { MatchOption result (name_at (seen tokens.now) ≡ Err SyntaxFault)
         (λ n. name_at (seen tokens.now) ≡ Ok (n.0.now, seen n.1.now)) }

@@ -19,7 +19,7 @@ pub(crate) enum Redirection {
     FileEnd,
 }
 
-/// The redirection that comes first, and the tokens behind it.
+/// The redirection that comes first, and the tokens after it.
 pub(crate) fn redirected<'a>(tokens: &'a [Token<'a>]) -> Option<(Redirection, &'a [Token<'a>])>
     ensures { MatchOption result (redirected_at (seen tokens.now) ≡ None)
         (λ o. redirected_at (seen tokens.now) ≡ Some (o.0, seen o.1.now)) }
@@ -53,7 +53,7 @@ pub(crate) fn target_of(redirection: Redirection, file: Expr) -> PrintTarget
     }
 }
 
-/// What a simple statement begins with, and the tokens behind that.
+/// What a simple statement begins with, and the tokens after that.
 #[derive(Clone, Copy)]
 pub(crate) enum PlainStart<'a> {
     Print(PrintWord, &'a [Token<'a>]),
@@ -76,7 +76,7 @@ pub(crate) fn plain_start<'a>(tokens: &'a [Token<'a>]) -> PlainStart<'a>
     }
 }
 
-/// What a statement begins with, and the tokens behind that.
+/// What a statement begins with, and the tokens after that.
 #[derive(Clone, Copy)]
 pub(crate) enum StmtStart<'a> {
     Block(&'a [Token<'a>]),
@@ -90,7 +90,7 @@ pub(crate) enum StmtStart<'a> {
     Simple,
 }
 
-/// What statement begins with a word that has these tokens behind it.
+/// What statement begins with a word that has these tokens after it.
 fn stmt_by<'a>(word: Keyword, rest: &'a [Token<'a>]) -> StmtStart<'a>
     ensures { view_stmt_start result ≡ lead_at
         (keyword_lexeme word ∷ spoken_after (is_function (OfWord word)) (map spelled rest.now)) }
@@ -145,7 +145,7 @@ pub(crate) fn taken(when: When, statements: Vec<Stmt>) -> Item
     }
 }
 
-/// What an item begins with, and the tokens behind that.
+/// What an item begins with, and the tokens after that.
 #[derive(Clone, Copy)]
 pub(crate) enum ItemStart<'a> {
     Function(&'a [Token<'a>]),
@@ -155,7 +155,7 @@ pub(crate) enum ItemStart<'a> {
     Rule,
 }
 
-/// What item begins with a word that has these tokens behind it.
+/// What item begins with a word that has these tokens after it.
 fn item_by<'a>(word: Keyword, rest: &'a [Token<'a>]) -> ItemStart<'a>
     ensures { view_item_start result ≡ opening_at
         (keyword_lexeme word ∷ spoken_after (is_function (OfWord word)) (map spelled rest.now)) }
