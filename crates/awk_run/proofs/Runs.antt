@@ -25,9 +25,9 @@ use Rattle.host_meaning.specs.FormMeaning.{Told, form_meaning}
 use Rattle.host_meaning.specs.Shown.{Shown}
 use Rattle.agree_runs.specs.ToldRuns.{AnyhowRun, FoundRun, ToldRun}
 use Rattle.awk_run.specs.ModuleRun.{run_end, undecoded, IsRefused, IsRunOf, RunAnswers, Answers, IsTyped, Unread}
-use Rattle.awk_run.specs.declared.end.Refusal.TheVariants.{Compile, Decode, Invalid, Link}
-use Rattle.awk_run.specs.declared.end.RunEnd.{RunEnd}
-use Rattle.awk_run.specs.declared.end.RunEnd.TheVariants as run
+use Rattle.run_ends.specs.declared.end.Refusal.TheVariants.{Compile, Decode, Invalid, Link}
+use Rattle.run_ends.specs.declared.end.RunEnd.{RunEnd}
+use Rattle.run_ends.specs.declared.end.RunEnd.TheVariants as run
 
 module _ (tells : Type 0) (whole : ModuleForm) (job : JobForm) (steps : ℕ) (before after : State) where
   -- what is told of an end is the run itself

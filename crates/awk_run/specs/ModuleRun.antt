@@ -28,10 +28,10 @@ use Rattle.host_elements.specs.Forms.{HostForm}
 use Rattle.host_meaning.specs.FormMeaning.{Told, form_meaning}
 use Rattle.host_meaning.specs.Shown.{Shown}
 use Rattle.agree_runs.specs.ToldRuns.{AnyhowRun, FoundRun, ToldRun}
-use Rattle.awk_run.specs.declared.end.Refusal.{Refusal}
-use Rattle.awk_run.specs.declared.end.Refusal.TheVariants.{Decode, Invalid, Link}
-use Rattle.awk_run.specs.declared.end.RunEnd.{RunEnd}
-use Rattle.awk_run.specs.declared.end.RunEnd.TheVariants as run
+use Rattle.run_ends.specs.declared.end.Refusal.{Refusal}
+use Rattle.run_ends.specs.declared.end.Refusal.TheVariants.{Decode, Invalid, Link}
+use Rattle.run_ends.specs.declared.end.RunEnd.{RunEnd}
+use Rattle.run_ends.specs.declared.end.RunEnd.TheVariants as run
 
 -- `main`'s result modulo 256
 abbrev pub status : ℤ → ℕ

@@ -9,10 +9,10 @@ use Rattle.script_code.specs.declared.fault.CompileFault.TheVariants as compile
 use Rattle.script_compiler.specs.Compiled.{IsCompiled}
 use Rattle.script_compiler.specs.Refusals.{IsNotCompiled}
 use Rattle.awk_run.specs.ModuleRun.{HasRun}
-use Rattle.awk_run.specs.declared.end.Refusal.TheVariants.{Compile}
-use Rattle.awk_run.specs.declared.end.RunEnd.{RunEnd}
-use Rattle.awk_run.specs.declared.end.RunEnd.TheVariants as run
-use Rattle.awk_run.specs.declared.end.RunEnd.TheVariants.{OutOfSteps}
+use Rattle.run_ends.specs.declared.end.Refusal.TheVariants.{Compile}
+use Rattle.run_ends.specs.declared.end.RunEnd.{RunEnd}
+use Rattle.run_ends.specs.declared.end.RunEnd.TheVariants as run
+use Rattle.run_ends.specs.declared.end.RunEnd.TheVariants.{OutOfSteps}
 
 -- what an answer tells of how the script ends; a script never traps
 abbrev pub told_of : RunEnd → Told

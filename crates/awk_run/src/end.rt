@@ -1,45 +1,10 @@
-//! How a run ends.
+//! What is told of a machine's end.
 ghost use Rattle.std.specs.Prelude.{◌≡◌};
 ghost use Rattle.awk_run.specs.ModuleRun.{run_end, status};
 
 use awk_values::Fault;
-use module_decoder::DecodeFault;
-use module_validator::InvalidFault;
-use script_compiler::CompileFault;
-use wasm_machine::{LinkFault, MachineEnd};
-use wasm_store::TrapKind;
-
-/// Why something is not run.
-#[derive(Debug, Drop)]
-pub enum Refusal {
-    /// The script is not compiled.
-    Compile(CompileFault),
-    /// The bytes are no module.
-    Decode(DecodeFault),
-    /// The typing rules do not allow the module.
-    Invalid(InvalidFault),
-    /// The module does not link with the host.
-    Link(LinkFault),
-}
-
-/// How a run ends.
-#[derive(Debug, Drop)]
-pub enum RunEnd {
-    /// It ended with this status.
-    Ended(u8),
-    /// A fault ended it.
-    Faulted(Fault),
-    /// All steps were taken.
-    OutOfSteps,
-    /// Calls were nested too deeply.
-    Exhausted,
-    /// Memory was wanting.
-    NoMemory,
-    /// It did not begin.
-    Refused(Refusal),
-    /// The module trapped.
-    Trapped(TrapKind),
-}
+use run_ends::RunEnd;
+use wasm_machine::MachineEnd;
 
 /// A result modulo 256.
 fn status(value: i32) -> u8

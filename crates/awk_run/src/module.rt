@@ -9,10 +9,11 @@ ghost use Rattle.host_tables.specs.Starts.{job_of};
 ghost use Rattle.wasm_types.specs.Typing.{ModuleOk};
 ghost use Rattle.wasm_types.specs.View.{view_module};
 
-use crate::end::{Refusal, RunEnd, run_end};
+use crate::end::run_end;
 use host_calls::{Host, Job};
 use module_decoder::{DecodeFault, decode};
 use module_validator::{InvalidFault, ValidModule, validate};
+use run_ends::{Refusal, RunEnd};
 use std::alloc::Global;
 use std::hash::RandomState;
 use wasm_machine::{LinkFault, Machine};

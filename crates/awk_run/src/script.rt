@@ -2,9 +2,9 @@
 ghost use Rattle.awk_run.specs.ScriptRuns.{ScriptAnswers};
 ghost use Rattle.host_tables.specs.Starts.{job_of};
 
-use crate::end::{Refusal, RunEnd};
 use crate::module::run_module;
 use host_calls::Job;
+use run_ends::{Refusal, RunEnd};
 use script_compiler::{CompileFault, compile};
 use std::alloc::Global;
 use std::hash::RandomState;

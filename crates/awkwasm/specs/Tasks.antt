@@ -4,10 +4,10 @@ use Rattle.script_compiler.specs.Refusals.{IsNotCompiled}
 use Rattle.wasm_model.specs.declared.fault.LinkFault.TheVariants.{BadImport}
 use Rattle.run_imports.specs.Calls.{IsUnlisted}
 use Rattle.run_imports.specs.declared.imports.Unlisted.TheVariants as unlisted
-use Rattle.awk_run.specs.declared.end.Refusal.TheVariants.{Compile, Decode, Invalid, Link}
-use Rattle.awk_run.specs.declared.end.RunEnd.{RunEnd}
-use Rattle.awk_run.specs.declared.end.RunEnd.TheVariants.{Refused}
-use Rattle.awk_run.specs.declared.end.RunEnd.TheVariants as end
+use Rattle.run_ends.specs.declared.end.Refusal.TheVariants.{Compile, Decode, Invalid, Link}
+use Rattle.run_ends.specs.declared.end.RunEnd.{RunEnd}
+use Rattle.run_ends.specs.declared.end.RunEnd.TheVariants.{Refused}
+use Rattle.run_ends.specs.declared.end.RunEnd.TheVariants as end
 use Rattle.run_report.specs.EndTexts.{end_text, exit_code, file_text}
 use Rattle.awkwasm.specs.declared.undone.Undone.{Undone}
 use Rattle.awkwasm.specs.declared.undone.Undone.TheVariants.{Arguments, Environment, File, NoMemory, RandomNumbers, ScriptFile, Unexplained}

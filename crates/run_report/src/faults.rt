@@ -6,11 +6,12 @@ ghost use Rattle.run_report.specs.Parts.{words_of};
 use crate::line::{Part, Told};
 use awk_parse::{Feature, ParseFault};
 use awk_resolve::ResolveFault;
-use awk_run::{CompileFault, Refusal};
 use awk_tokens::{LeftOut, TokenFault};
 use ere_syntax::EreFault;
 use module_decoder::DecodeFault;
 use module_validator::InvalidFault;
+use run_ends::Refusal;
+use script_code::CompileFault;
 use wasm_model::LinkFault;
 use wasm_store::TrapKind;
 

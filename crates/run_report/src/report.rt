@@ -5,7 +5,7 @@ ghost use Rattle.run_report.specs.Parts.{words_of};
 
 use crate::faults::{refusal_words, trap_word};
 use crate::line::{Told, line_of};
-use awk_run::RunEnd;
+use run_ends::RunEnd;
 use std::alloc::{AllocError, Global};
 
 /// What failed of a file that the command line names.

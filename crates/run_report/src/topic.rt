@@ -7,12 +7,13 @@ use crate::faults::trap_word;
 use crate::report::FileFault;
 use awk_parse::ParseFault;
 use awk_resolve::ResolveFault;
-use awk_run::{CompileFault, Refusal, RunEnd};
 use awk_tokens::TokenFault;
 use awk_values::Fault;
 use ere_syntax::EreFault;
 use module_decoder::DecodeFault;
 use module_validator::InvalidFault;
+use run_ends::{Refusal, RunEnd};
+use script_code::CompileFault;
 use wasm_model::LinkFault;
 use wasm_store::TrapKind;
 

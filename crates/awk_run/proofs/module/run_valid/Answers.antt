@@ -5,7 +5,7 @@ use Rattle.host_calls.specs.Forms.{host_form}
 use Rattle.host_step.specs.Starts.{state_at_start}
 use Rattle.wasm_types.specs.View.{view_module}
 use Rattle.awk_run.specs.ModuleRun.{RunAnswers, run_end}
-use Rattle.awk_run.specs.declared.end.RunEnd.{RunEnd}
+use Rattle.run_ends.specs.declared.end.RunEnd.{RunEnd}
 use Rattle.awk_run.proofs.Runs.{did_answers}
 use Rattle.awk_run.proofs.module.run_valid.Goals as goal
 

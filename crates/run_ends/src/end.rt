@@ -1,0 +1,40 @@
+//! Ends and refusals.
+
+use awk_values::Fault;
+use module_decoder::DecodeFault;
+use module_validator::InvalidFault;
+use script_code::CompileFault;
+use wasm_model::LinkFault;
+use wasm_store::TrapKind;
+
+/// Why something is not run.
+#[derive(Debug, Drop)]
+pub enum Refusal {
+    /// The script is not compiled.
+    Compile(CompileFault),
+    /// The bytes are no module.
+    Decode(DecodeFault),
+    /// The typing rules do not allow the module.
+    Invalid(InvalidFault),
+    /// The module does not link with the host.
+    Link(LinkFault),
+}
+
+/// How a run ends.
+#[derive(Debug, Drop)]
+pub enum RunEnd {
+    /// It ended with this status.
+    Ended(u8),
+    /// A fault ended it.
+    Faulted(Fault),
+    /// All steps were taken.
+    OutOfSteps,
+    /// Calls were nested too deeply.
+    Exhausted,
+    /// Memory was wanting.
+    NoMemory,
+    /// It did not begin.
+    Refused(Refusal),
+    /// The module trapped.
+    Trapped(TrapKind),
+}
