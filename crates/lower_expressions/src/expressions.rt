@@ -21,13 +21,15 @@ use crate::lists::listed;
 use crate::operands::{all_joined, operated, operation_form};
 use crate::pending::asked;
 use crate::slots::slot_set;
+use crate::sums::{all_far, both_far, both_summed, near_sum};
 use crate::storing::{
     array_made, file_asked, keeping_closed, left_over, line_stored, replaced, sequence_closed,
     text_kept, text_let_go,
 };
 use awk_values::CompareOp;
 use lower_pieces::{Form, compared, converted, either, is_value, truth};
-use mid_program::{Code, Operand, Operation, Slot};
+use lower_quick::sources_in;
+use mid_program::{Arithmetic, Code, Operand, Operation, Slot};
 use sem_primitives::{Answer, Listed, Primitive, Sort};
 use std::alloc::AllocError;
 use wasm_types::Instr;
@@ -130,8 +132,32 @@ fn operation(
     if let Some(number) = field_in(what, operands) {
         return field_read(layout, out, number, at.temporary);
     }
+    let sources = match what {
+        Operation::Inline(op) => sources_in(op, operands),
+        Operation::Host(_) | Operation::AsNumber | Operation::FieldNumber => None,
+    };
     let mut forms = Vec::new(layout.alloc);
+    if let (Operation::Inline(op), Some((left, right))) = (what, sources) {
+        all_far(layout, out, left, right)?;
+        let mut slow = Vec::new(layout.alloc);
+        let inside = At { exit: at.exit + 1, ..at };
+        all_operands(layout, kept, &mut slow, &mut forms, operands, inside)?;
+        operated(layout, &mut slow, &forms, what, operands, at.temporary, at.exit + 1)?;
+        let fast = near_sum(layout, op, left, right, at.temporary)?;
+        either(layout.alloc, out, slow, fast)?;
+        return Ok(operation_form(what));
+    }
     all_operands(layout, kept, out, &mut forms, operands, at)?;
+    if let Operation::Inline(op) = what {
+        if matches!(op, Arithmetic::Plus | Arithmetic::Minus) && !is_value(forms[0]) && !is_value(forms[1]) {
+            both_far(layout, out, at.temporary)?;
+            let mut slow = Vec::new(layout.alloc);
+            operated(layout, &mut slow, &forms, what, operands, at.temporary, at.exit + 1)?;
+            let fast = both_summed(layout, op, at.temporary)?;
+            either(layout.alloc, out, slow, fast)?;
+            return Ok(operation_form(what));
+        }
+    }
     operated(layout, out, &forms, what, operands, at.temporary, at.exit)?;
     Ok(operation_form(what))
 }

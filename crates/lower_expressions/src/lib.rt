@@ -15,6 +15,7 @@ mod pending;
 mod places;
 mod slots;
 mod storing;
+mod sums;
 mod walks;
 
 pub use at::At;

@@ -8,14 +8,14 @@ ghost use Rattle.lower_model.specs.Quick.{counted_in, field_count, is_count};
 
 use crate::source::name_in;
 use awk_values::CompareOp;
-use mid_program::{Code, Operand, Operation};
+use mid_program::{Code, Operand, Operation, Slot};
 use sem_primitives::{Primitive, Special};
 
 /// A comparison of a name with how many fields there are.
 #[derive(Clone, Copy, Debug, PartialEq, Eq, Drop)]
 pub struct Counted {
     pub op: CompareOp,
-    pub name: usize,
+    pub name: Slot,
 }
 
 /// Whether operands are the number of `NF`.

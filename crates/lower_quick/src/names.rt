@@ -7,16 +7,17 @@ use crate::pair::Pair;
 use crate::remainder::Remainder;
 use crate::source::Source;
 use crate::sum::Sum;
+use mid_program::Slot;
 use std::alloc::{AllocError, Global};
 
-fn is_among(name: usize, names: &[usize]) -> bool
+fn is_among(name: Slot, names: &[Slot]) -> bool
     ensures { result ≡ is_among name names.now }
 {
     names.contains(&name)
 }
 
 /// Puts a name before others, unless it is among them.
-fn and_name(names: &mut Vec<usize>, name: usize) -> Result<(), AllocError>
+fn and_name(names: &mut Vec<Slot>, name: Slot) -> Result<(), AllocError>
     ensures { OnOk result (names.new.items ≡ and_name name names.old.items) }
 {
     if !is_among(name, names) {
@@ -25,7 +26,7 @@ fn and_name(names: &mut Vec<usize>, name: usize) -> Result<(), AllocError>
     Ok(())
 }
 
-fn and_source(names: &mut Vec<usize>, source: Source) -> Result<(), AllocError>
+fn and_source(names: &mut Vec<Slot>, source: Source) -> Result<(), AllocError>
     ensures { OnOk result (names.new.items ≡ and_source (view_source source) names.old.items) }
 {
     match source {
@@ -35,7 +36,7 @@ fn and_source(names: &mut Vec<usize>, source: Source) -> Result<(), AllocError>
 }
 
 /// The names of a sum, the one that it goes to among them.
-pub fn sum_names(alloc: Global, sum: Sum) -> Result<Vec<usize>, AllocError>
+pub fn sum_names(alloc: Global, sum: Sum) -> Result<Vec<Slot>, AllocError>
     ensures { IfOk result (λ names. names.items ≡ sum_names (view_sum sum)) }
 {
     let mut names = Vec::new(alloc);
@@ -45,8 +46,17 @@ pub fn sum_names(alloc: Global, sum: Sum) -> Result<Vec<usize>, AllocError>
     Ok(names)
 }
 
+/// The names of two sources.
+pub fn both_names(alloc: Global, left: Source, right: Source) -> Result<Vec<Slot>, AllocError>
+{
+    let mut names = Vec::new(alloc);
+    and_source(&mut names, right)?;
+    and_source(&mut names, left)?;
+    Ok(names)
+}
+
 /// The names of a comparison.
-pub fn pair_names(alloc: Global, pair: Pair) -> Result<Vec<usize>, AllocError>
+pub fn pair_names(alloc: Global, pair: Pair) -> Result<Vec<Slot>, AllocError>
     ensures { IfOk result (λ names. names.items ≡ pair_names (view_pair pair)) }
 {
     let mut names = Vec::new(alloc);
@@ -56,7 +66,7 @@ pub fn pair_names(alloc: Global, pair: Pair) -> Result<Vec<usize>, AllocError>
 }
 
 /// The names of a remainder, the one that it goes to among them.
-pub fn remainder_names(alloc: Global, remainder: Remainder) -> Result<Vec<usize>, AllocError>
+pub fn remainder_names(alloc: Global, remainder: Remainder) -> Result<Vec<Slot>, AllocError>
     ensures { IfOk result (λ names. names.items ≡ remainder_names (view_remainder remainder)) }
 {
     let mut names = Vec::new(alloc);

@@ -7,20 +7,20 @@ ghost use Rattle.lower_quick.specs.View.{view_multiple, view_remainder};
 ghost use Rattle.lower_model.specs.Quick.{factor_in, multiple_in, product_of, remainder_in, remainder_of, set_remainder, two_product, two_remainder};
 
 use crate::operands::{calculated_in, two_codes};
-use crate::source::name_in;
+use crate::source::{name_in, unboxed};
 use mid_program::{Arithmetic, Code, Operand, Slot};
 
 /// A name, and what it is multiplied by, if it is.
 #[derive(Clone, Copy, Debug, PartialEq, Eq, Drop)]
 pub struct Multiple {
-    pub name: usize,
+    pub name: Slot,
     pub factor: Option<i64>,
 }
 
 /// A remainder of a multiple, and the name that it goes to.
 #[derive(Clone, Copy, Debug, PartialEq, Eq, Drop)]
 pub struct Remainder {
-    pub target: usize,
+    pub target: Slot,
     pub multiple: Multiple,
     pub divisor: i64,
 }
@@ -59,7 +59,7 @@ fn factor_in(code: &Code) -> Option<i64>
 }
 
 /// The product of a name and a constant.
-fn product_of(name: Option<usize>, factor: Option<i64>) -> Option<Multiple>
+fn product_of(name: Option<Slot>, factor: Option<i64>) -> Option<Multiple>
     ensures { option_map view_multiple result ≡ product_of name factor }
 {
     let (name, factor) = (name?, factor?);
@@ -108,7 +108,7 @@ fn multiple_in(code: &Code) -> Option<Multiple>
 
 /// The remainder of a multiple by a constant.
 fn remainder_of(
-    target: usize,
+    target: Slot,
     multiple: Option<Multiple>,
     divisor: Option<i64>,
 ) -> Option<Remainder>
@@ -124,7 +124,7 @@ fn remainder_of(
 }
 
 /// The remainder that the operands of `%` have.
-fn divided_by(target: usize, operands: &[Operand]) -> Option<Remainder>
+fn divided_by(target: Slot, operands: &[Operand]) -> Option<Remainder>
     ensures { option_map view_remainder result ≡ divided_by target (views operands.now) }
 {
     let (left, right) = two_codes(operands)?;
@@ -132,7 +132,7 @@ fn divided_by(target: usize, operands: &[Operand]) -> Option<Remainder>
 }
 
 /// The same, if the operator is `%`.
-fn two_remainder(target: usize, op: Arithmetic, operands: &[Operand]) -> Option<Remainder>
+fn two_remainder(target: Slot, op: Arithmetic, operands: &[Operand]) -> Option<Remainder>
     ensures { option_map view_remainder result ≡ two_remainder target op (views operands.now) }
 {
     if is_modulo(op) {
@@ -143,7 +143,7 @@ fn two_remainder(target: usize, op: Arithmetic, operands: &[Operand]) -> Option<
 }
 
 /// The same, of what the name takes.
-fn set_remainder(target: usize, value: &Code) -> Option<Remainder>
+fn set_remainder(target: Slot, value: &Code) -> Option<Remainder>
     ensures { option_map view_remainder result ≡ set_remainder target (view value.now) }
 {
     let (op, operands) = calculated_in(value)?;
@@ -155,7 +155,7 @@ pub fn remainder_in(code: &Code) -> Option<Remainder>
     ensures { option_map view_remainder result ≡ remainder_in (view code.now) }
 {
     match code {
-        Code::Set(Slot::Global(true, target), value) => set_remainder(*target, value),
+        Code::Set(slot, value) => set_remainder(unboxed(*slot)?, value),
         _ => None,
     }
 }

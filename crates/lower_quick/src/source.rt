@@ -13,7 +13,7 @@ const MOST: u64 = 1 << 52;
 /// An unboxed name by its number, or a constant.
 #[derive(Clone, Copy, Debug, PartialEq, Eq, Drop)]
 pub enum Source {
-    Named(usize),
+    Named(Slot),
     Constant(i64),
 }
 
@@ -27,23 +27,32 @@ pub(crate) fn is_near(source: Source) -> bool
     }
 }
 
+/// The slot, if it is unboxed.
+pub(crate) fn unboxed(slot: Slot) -> Option<Slot>
+{
+    match slot {
+        Slot::Global(true, _) | Slot::Parameter(true, _) => Some(slot),
+        Slot::Global(false, _) | Slot::Parameter(false, _) => None,
+    }
+}
+
 /// The source that code is, if it is one.
 pub(crate) fn source_in(code: &Code) -> Option<Source>
     ensures { option_map view_source result ≡ source_in (view code.now) }
 {
     match code {
-        Code::Get(Slot::Global(true, name)) => Some(Source::Named(*name)),
+        Code::Get(slot) => Some(Source::Named(unboxed(*slot)?)),
         Code::Number(number) => Some(Source::Constant(*number)),
         _ => None,
     }
 }
 
 /// The unboxed name that code reads.
-pub(crate) fn name_in(code: &Code) -> Option<usize>
+pub(crate) fn name_in(code: &Code) -> Option<Slot>
     ensures { result ≡ name_in (view code.now) }
 {
     match code {
-        Code::Get(Slot::Global(true, name)) => Some(*name),
+        Code::Get(slot) => unboxed(*slot),
         _ => None,
     }
 }

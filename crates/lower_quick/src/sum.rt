@@ -7,13 +7,13 @@ ghost use Rattle.lower_quick.specs.View.{view_source, view_sum};
 ghost use Rattle.lower_model.specs.Quick.{is_sum, kept_sum, let_sum, new_sum, old_source, set_sum, step_sum, stored_name, sum_in, sum_of, two_sum, update_sum};
 
 use crate::operands::{calculated_in, is_bound, number_of, one_code, two_codes};
-use crate::source::{Source, constant_in, is_near, source_in};
+use crate::source::{Source, constant_in, is_near, source_in, unboxed};
 use mid_program::{Arithmetic, Code, Operand, Slot};
 
 /// A sum or a difference, and the name that it goes to.
 #[derive(Clone, Copy, Debug, PartialEq, Eq, Drop)]
 pub struct Sum {
-    pub target: usize,
+    pub target: Slot,
     pub op: Arithmetic,
     pub left: Source,
     pub right: Source,
@@ -26,7 +26,7 @@ pub(crate) fn is_sum(op: Arithmetic) -> bool
 }
 
 /// The sum of two sources.
-fn sum_of(target: usize, op: Arithmetic, left: Option<Source>, right: Option<Source>) -> Option<Sum>
+fn sum_of(target: Slot, op: Arithmetic, left: Option<Source>, right: Option<Source>) -> Option<Sum>
     ensures { option_map view_sum result
         ≡ sum_of target op (option_map view_source left) (option_map view_source right) }
 {
@@ -43,8 +43,20 @@ fn sum_of(target: usize, op: Arithmetic, left: Option<Source>, right: Option<Sou
     }
 }
 
+/// The sum or the difference of sources that an operator and its operands are.
+pub fn sources_in(op: Arithmetic, operands: &[Operand]) -> Option<(Source, Source)>
+{
+    let (left, right) = two_codes(operands)?;
+    let (left, right) = (source_in(left)?, source_in(right)?);
+    if is_sum(op) && is_near(left) && is_near(right) {
+        Some((left, right))
+    } else {
+        None
+    }
+}
+
 /// `n = a + e`, of the operands of `+`.
-fn two_sum(target: usize, op: Arithmetic, operands: &[Operand]) -> Option<Sum>
+fn two_sum(target: Slot, op: Arithmetic, operands: &[Operand]) -> Option<Sum>
     ensures { option_map view_sum result ≡ two_sum target op (views operands.now) }
 {
     let (left, right) = two_codes(operands)?;
@@ -52,7 +64,7 @@ fn two_sum(target: usize, op: Arithmetic, operands: &[Operand]) -> Option<Sum>
 }
 
 /// The same, of what `n` takes.
-fn set_sum(target: usize, value: &Code) -> Option<Sum>
+fn set_sum(target: Slot, value: &Code) -> Option<Sum>
     ensures { option_map view_sum result ≡ set_sum target (view value.now) }
 {
     let (op, operands) = calculated_in(value)?;
@@ -60,7 +72,7 @@ fn set_sum(target: usize, value: &Code) -> Option<Sum>
 }
 
 /// `n += e`, of what is kept first and the operands of `+`.
-fn kept_sum(target: usize, op: Arithmetic, kept: &Code, operands: &[Operand]) -> Option<Sum>
+fn kept_sum(target: Slot, op: Arithmetic, kept: &Code, operands: &[Operand]) -> Option<Sum>
     ensures { option_map view_sum result ≡ kept_sum target op (view kept.now) (views operands.now) }
 {
     let (left, right) = two_codes(operands)?;
@@ -72,7 +84,7 @@ fn kept_sum(target: usize, op: Arithmetic, kept: &Code, operands: &[Operand]) ->
 }
 
 /// The same, of what `n` takes.
-fn update_sum(target: usize, kept: &Code, value: &Code) -> Option<Sum>
+fn update_sum(target: Slot, kept: &Code, value: &Code) -> Option<Sum>
     ensures { option_map view_sum result ≡ update_sum target (view kept.now) (view value.now) }
 {
     let (op, operands) = calculated_in(value)?;
@@ -88,17 +100,17 @@ fn old_source(code: &Code) -> Option<Source>
 }
 
 /// The unboxed name that takes what was kept last.
-fn set_last(code: &Code) -> Option<usize>
+fn set_last(code: &Code) -> Option<Slot>
     ensures { result ≡ set_last (view code.now) }
 {
     match code {
-        Code::Set(Slot::Global(true, name), value) if is_bound(value, true, 0) => Some(*name),
+        Code::Set(slot, value) if is_bound(value, true, 0) => unboxed(*slot),
         _ => None,
     }
 }
 
 /// The name that `n++` stores in, where its old number is the answer.
-fn stored_name(code: &Code) -> Option<usize>
+fn stored_name(code: &Code) -> Option<Slot>
     ensures { result ≡ stored_name (view code.now) }
 {
     match code {
@@ -108,7 +120,7 @@ fn stored_name(code: &Code) -> Option<usize>
 }
 
 /// What the number that was kept and a constant are together.
-fn new_sum(old: Option<Source>, target: Option<usize>, code: &Code) -> Option<Sum>
+fn new_sum(old: Option<Source>, target: Option<Slot>, code: &Code) -> Option<Sum>
     ensures { option_map view_sum result
         ≡ new_sum (option_map view_source old) target (view code.now) }
 {
@@ -135,7 +147,7 @@ fn let_sum(kept: &Code, body: &Code) -> Option<Sum>
     ensures { option_map view_sum result ≡ let_sum (view kept.now) (view body.now) }
 {
     match body {
-        Code::Set(Slot::Global(true, target), value) => update_sum(*target, kept, value),
+        Code::Set(slot, value) => update_sum(unboxed(*slot)?, kept, value),
         Code::Let(new, stores) => step_sum(kept, new, stores),
         _ => None,
     }
@@ -146,7 +158,7 @@ pub fn sum_in(code: &Code) -> Option<Sum>
     ensures { option_map view_sum result ≡ sum_in (view code.now) }
 {
     match code {
-        Code::Set(Slot::Global(true, target), value) => set_sum(*target, value),
+        Code::Set(slot, value) => set_sum(unboxed(*slot)?, value),
         Code::Let(kept, body) => let_sum(kept, body),
         _ => None,
     }

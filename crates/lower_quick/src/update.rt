@@ -6,24 +6,24 @@ ghost use Rattle.lower_quick.specs.View.{view_update};
 ghost use Rattle.lower_model.specs.Quick.{kept_update, let_update, set_update, update_in, update_of};
 
 use crate::operands::{calculated_in, is_bound, two_codes};
-use crate::source::name_in;
+use crate::source::{name_in, unboxed};
 use crate::sum::is_sum;
 use mid_program::{Arithmetic, Code, Operand, Slot};
 
 /// A sum or a difference of a name and what is added, and the name that it goes to.
 #[derive(Clone, Copy)]
 pub struct Update<'a> {
-    pub target: usize,
+    pub target: Slot,
     pub op: Arithmetic,
-    pub name: usize,
+    pub name: Slot,
     pub added: &'a Code,
 }
 
 /// The sum of a name and what is added.
 fn update_of<'a>(
-    target: usize,
+    target: Slot,
     op: Arithmetic,
-    name: Option<usize>,
+    name: Option<Slot>,
     added: &'a Code,
 ) -> Option<Update<'a>>
     ensures { option_map view_update result ≡ update_of target op name (view added.now) }
@@ -43,7 +43,7 @@ fn update_of<'a>(
 
 /// `n += e`, of what is added and the operands of `+`.
 fn kept_update<'a>(
-    target: usize,
+    target: Slot,
     op: Arithmetic,
     added: &'a Code,
     operands: &[Operand],
@@ -60,7 +60,7 @@ fn kept_update<'a>(
 }
 
 /// The same, of what `n` takes.
-fn set_update<'a>(target: usize, added: &'a Code, value: &Code) -> Option<Update<'a>>
+fn set_update<'a>(target: Slot, added: &'a Code, value: &Code) -> Option<Update<'a>>
     ensures { option_map view_update result ≡ set_update target (view added.now) (view value.now) }
 {
     let (op, operands) = calculated_in(value)?;
@@ -72,7 +72,7 @@ fn let_update<'a>(added: &'a Code, body: &Code) -> Option<Update<'a>>
     ensures { option_map view_update result ≡ let_update (view added.now) (view body.now) }
 {
     match body {
-        Code::Set(Slot::Global(true, target), value) => set_update(*target, added, value),
+        Code::Set(slot, value) => set_update(unboxed(*slot)?, added, value),
         _ => None,
     }
 }

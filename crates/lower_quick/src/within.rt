@@ -8,7 +8,7 @@ ghost use Rattle.lower_model.specs.Quick.{compared_within, test_within};
 use crate::source::{constant_in, name_in};
 use awk_text::MAX_NUMBER;
 use awk_values::CompareOp;
-use mid_program::Code;
+use mid_program::{Code, Slot};
 
 /// The least number.
 const LEAST_NUMBER: i64 = -(MAX_NUMBER as i64);
@@ -16,12 +16,12 @@ const LEAST_NUMBER: i64 = -(MAX_NUMBER as i64);
 /// Of a name the numbers from the least one on, up to one that is so much greater.
 #[derive(Clone, Copy, Debug, PartialEq, Eq, Drop)]
 pub struct Within {
-    pub name: usize,
+    pub name: Slot,
     pub width: u64,
 }
 
 /// The numbers of which the comparison with a constant is true.
-fn compared_within(op: CompareOp, name: usize, number: i64) -> Option<Within>
+fn compared_within(op: CompareOp, name: Slot, number: i64) -> Option<Within>
     ensures { option_map view_within result ≡ compared_within op name number }
 {
     let below = number.abs_diff(LEAST_NUMBER);

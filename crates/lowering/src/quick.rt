@@ -15,17 +15,29 @@ use awk_text::MAX_NUMBER;
 use lower_expressions::{FunctionLayout, global_number};
 use lower_pieces::{TEXT_BESIDE, does, does_all, relation};
 use lower_quick::{Counted, Pair, Remainder, Source, Sum, Within, contrary};
-use mid_program::Arithmetic;
+use mid_program::{Arithmetic, Slot};
 use sem_primitives::{Primitive, Special};
 use std::alloc::AllocError;
 use wasm_types::{IBinOp, IRelOp, Instr, Simple, ValType};
 
 /// What reads an unboxed name's number.
-fn name_read(layout: &FunctionLayout<'_>, name: usize) -> Simple
+pub(crate) fn name_read(layout: &FunctionLayout<'_>, name: Slot) -> Simple
     requires { name ≤ most_places }
     ensures { result ≡ name_read (view_layout layout.now) name }
 {
-    Simple::GlobalGet(global_number(layout, name))
+    match name {
+        Slot::Global(_, name) => Simple::GlobalGet(global_number(layout, name)),
+        Slot::Parameter(_, place) => Simple::LocalGet(place as u32),
+    }
+}
+
+/// What writes an unboxed name's number.
+pub(crate) fn name_written(layout: &FunctionLayout<'_>, name: Slot) -> Simple
+{
+    match name {
+        Slot::Global(_, name) => Simple::GlobalSet(global_number(layout, name)),
+        Slot::Parameter(_, place) => Simple::LocalSet(place as u32),
+    }
 }
 
 /// Adds the test whether a name has none of these numbers.
@@ -52,7 +64,7 @@ pub(crate) fn unsure(
 fn joined(
     layout: &FunctionLayout<'_>,
     out: &mut Vec<Instr>,
-    names: &[usize],
+    names: &[Slot],
     shift: u64,
 ) -> Result<(), AllocError>
     requires { NamesFit names.now }
@@ -75,7 +87,7 @@ fn joined(
 pub(crate) fn all_unsure(
     layout: &FunctionLayout<'_>,
     out: &mut Vec<Instr>,
-    names: &[usize],
+    names: &[Slot],
     shift: u64,
     width: u64,
 ) -> Result<(), AllocError>
@@ -134,7 +146,7 @@ pub(crate) fn sum_code(layout: &FunctionLayout<'_>, sum: Sum) -> Result<Vec<Inst
         source_read(layout, sum.left),
         source_read(layout, sum.right),
         Simple::Binary(ValType::I64, sum_op(sum.op)),
-        Simple::GlobalSet(global_number(layout, sum.target)),
+        name_written(layout, sum.target),
     ];
     listed(layout.alloc, &all)
 }
@@ -163,7 +175,7 @@ pub(crate) fn remainder_code(
     let read = name_read(layout, remainder.multiple.name);
     let divisor = Simple::I64Const(remainder.divisor.cast_unsigned());
     let taken = Simple::Binary(ValType::I64, IBinOp::RemS);
-    let stored = Simple::GlobalSet(global_number(layout, remainder.target));
+    let stored = name_written(layout, remainder.target);
     match remainder.multiple.factor {
         Some(factor) => {
             let factor = Simple::I64Const(factor.cast_unsigned());
@@ -220,7 +232,7 @@ pub(crate) fn counted_code(
 pub(crate) fn unnumbered(
     layout: &FunctionLayout<'_>,
     out: &mut Vec<Instr>,
-    name: usize,
+    name: Slot,
 ) -> Result<(), AllocError>
     requires { name ≤ most_places }
     ensures { OnOk result

@@ -13,9 +13,11 @@ ghost use Rattle.lower_expressions.specs.Fits.{Fits};
 ghost use Rattle.lower_expressions.specs.View.{view_layout};
 
 use crate::evaluating::{answered, tested};
+use crate::testing::left_unless_pair;
+use lower_quick::pair_in;
 use lower_expressions::FunctionLayout;
 use lower_pieces::{
-    Form, LEAST, TEXT_BESIDE, TEXT_GLOBAL, does, does_all, either, moved_out, number_is, when,
+    Form, LEAST, TEXT_BESIDE, TEXT_GLOBAL, block, does, does_all, either, moved_out, number_is, when,
 };
 use mid_program::Code;
 use sem_primitives::{Answer, Sort};
@@ -123,8 +125,14 @@ fn chosen_returned(
     ensures { OnOk result (Emits out.old.items out.new.items (returned (view_layout layout.now)
         (plain.Choose Value (view test.now) (view yes.now) (view no.now)) exit)) }
 {
-    tested(layout, out, test, exit)?;
     let mut so = Vec::new(layout.alloc);
+    if pair_in(test).is_some() {
+        left_unless_pair(layout, &mut so, test, exit + 1, 0)?;
+        returned(layout, &mut so, yes, exit + 1)?;
+        block(layout.alloc, out, so)?;
+        return returned(layout, out, no, exit);
+    }
+    tested(layout, out, test, exit)?;
     returned(layout, &mut so, yes, exit + 1)?;
     let mut otherwise = Vec::new(layout.alloc);
     returned(layout, &mut otherwise, no, exit + 1)?;

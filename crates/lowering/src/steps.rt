@@ -163,6 +163,11 @@ fn quick_choice(
         (view_layout layout.now) (view test.now) (view_step yes.now) (view_step no.now) at)) }
 {
     let mut way = Vec::new(layout.alloc);
+    if is_nothing(no) {
+        left_unless_pair(layout, &mut way, test, at.exit + 1, 0)?;
+        statement(layout, &mut way, yes, in_branch(at))?;
+        return block(layout.alloc, out, way);
+    }
     quick_way(layout, &mut way, test, yes, at)?;
     let mut ways = Vec::new(layout.alloc);
     block(layout.alloc, &mut ways, way)?;

@@ -14,14 +14,15 @@ ghost use Rattle.lowering.specs.QuickFits.{SourceFits, SumFits};
 
 use crate::evaluating::answered;
 use crate::lists::{call_of, listed};
-use crate::quick::sum_op;
+use crate::quick::{name_read, name_written, sum_op};
 use awk_text::MAX_NUMBER;
 use awk_values::Fault;
-use lower_expressions::{FunctionLayout, field_at, global_handle, global_number, text_dropped};
+use lower_expressions::{FunctionLayout, field_at, global_handle, text_dropped};
 use lower_pieces::{
     Form, TEXT_BESIDE, copied_by, does, does_all, either, fail_if, number_is, to_number, when,
 };
 use lower_quick::{Source, Sum, Update};
+use mid_program::Slot;
 use sem_primitives::{Answer, Primitive, Sort};
 use std::alloc::AllocError;
 use wasm_types::{IBinOp, IRelOp, Instr, Simple, ValType};
@@ -51,7 +52,7 @@ fn number_there(
 fn number_found(
     layout: &FunctionLayout<'_>,
     out: &mut Vec<Instr>,
-    name: usize,
+    name: Slot,
     temporary: u32,
     exit: u32,
 ) -> Result<(), AllocError>
@@ -62,10 +63,13 @@ fn number_found(
         (number_found (view_layout layout.now) name temporary exit)) }
 {
     let local = layout.bases.number(temporary);
+    let zero = [Simple::I64Const(0), Simple::LocalSet(local)];
+    let Slot::Global(_, name) = name else {
+        return does_all(out, &zero);
+    };
     number_is(out, local, TEXT_BESIDE)?;
     let mut some = Vec::new(layout.alloc);
     number_there(layout, &mut some, name, temporary, exit)?;
-    let zero = [Simple::I64Const(0), Simple::LocalSet(local)];
     let none = listed(layout.alloc, &zero)?;
     either(layout.alloc, out, some, none)
 }
@@ -74,7 +78,7 @@ fn number_found(
 fn name_numbered(
     layout: &FunctionLayout<'_>,
     out: &mut Vec<Instr>,
-    name: usize,
+    name: Slot,
     temporary: u32,
     exit: u32,
 ) -> Result<(), AllocError>
@@ -85,7 +89,7 @@ fn name_numbered(
         (name_numbered (view_layout layout.now) name temporary exit)) }
 {
     let all = [
-        Simple::GlobalGet(global_number(layout, name)),
+        name_read(layout, name),
         Simple::LocalTee(layout.bases.number(temporary)),
         Simple::I64Const(TEXT_BESIDE),
         Simple::Compare(ValType::I64, IRelOp::LeS),
@@ -163,7 +167,7 @@ fn sum_taken(
     layout: &FunctionLayout<'_>,
     out: &mut Vec<Instr>,
     op: IBinOp,
-    name: usize,
+    name: Slot,
     exit: u32,
 ) -> Result<(), AllocError>
     requires name { name ≤ most_places }
@@ -172,10 +176,12 @@ fn sum_taken(
         (Emits out.old.items out.new.items (sum_taken (view_layout layout.now) op name 0 exit)) }
 {
     sum_kept(layout, out, op, 0, exit)?;
-    text_dropped(layout, out, name)?;
+    if let Slot::Global(_, name) = name {
+        text_dropped(layout, out, name)?;
+    }
     let all = [
         Simple::LocalGet(layout.bases.number(0)),
-        Simple::GlobalSet(global_number(layout, name)),
+        name_written(layout, name),
     ];
     does_all(out, &all)
 }
@@ -203,7 +209,7 @@ pub(crate) fn summed_anyway(
 fn field_asked(
     layout: &FunctionLayout<'_>,
     out: &mut Vec<Instr>,
-    name: usize,
+    name: Slot,
     number: i64,
     exit: u32,
 ) -> Result<(), AllocError>
