@@ -11,8 +11,8 @@ use Rattle.awk_values.specs.Comparison.{holds}
 use Rattle.awk_values.specs.declared.comparison.CompareOp.TheVariants as op
 use Rattle.sem_primitives.specs.Numbers.{Number as AnyNumber}
 use Rattle.sem_primitives.proofs.Words.{small, fits}
-use Rattle.mid_program.specs.Mid.{Code, Number, Get, Global}
-use Rattle.lower_model.specs.Quick.{name_in, constant_in}
+use Rattle.mid_program.specs.Mid.{Slot, Code, Number, Get, Global, Parameter}
+use Rattle.lower_model.specs.Quick.{unboxed, name_in, constant_in}
 use Rattle.lower_model.specs.Small.{least, text_beside}
 use Rattle.lower_model.proofs.State.{bare, BareOf, IsBeside, IsNone, IsNumber}
 use Rattle.lower_model.proofs.Conversions.{bare_is}
@@ -78,9 +78,14 @@ sure v q w hq hw e = by (bare_is v)
 
 -- Which code is meant.
 
-pub name_is : (e : Code) (i : ℕ) → name_in e ≡ Some i → e ≡ Get (Global true i)
-name_is (Get (Global true j)) i e = ap (λ o. elim o [ Some x ↦ Get (Global true x) | None ↦ Get (Global true j) ]) e
-name_is e i q = cc
+pub unboxed_is : (x y : Slot) → unboxed x ≡ Some y → x ≡ y
+unboxed_is (Global true i) y e = ap (λ o. elim o [ Some z ↦ z | None ↦ Global true i ]) e
+unboxed_is (Parameter true i) y e = ap (λ o. elim o [ Some z ↦ z | None ↦ Parameter true i ]) e
+unboxed_is x y e = cc
+
+pub name_is : (e : Code) (x : Slot) → name_in e ≡ Some x → e ≡ Get x
+name_is (Get y) x e = ap Get (unboxed_is y x e)
+name_is e x q = cc
 
 pub constant_is : (e : Code) (z : ℤ) → constant_in e ≡ Some z → e ≡ Number z
 constant_is (Number x) z e = ap (λ o. elim o [ Some y ↦ Number y | None ↦ Number x ]) e

@@ -43,90 +43,79 @@ abbrev pub Two : Type 0
 Two = AnyNumber × (AnyNumber × Unit {0})
 
 -- what becomes of two operands that are evaluated, and of their sum
-abbrev pub sum_stored : ℕ → State → Result AnyNumber Fault → Outcome Flow
-sum_stored i σ r = go_on (go_on (settled r σ) (λ y. store_slot (Global true i) (value.Num y.number) >> give y)) (λ y. give Normal)
+abbrev pub sum_stored : Slot → State → Result AnyNumber Fault → Outcome Flow
+sum_stored i σ r = go_on (go_on (settled r σ) (λ y. store_slot i (value.Num y.number) >> give y)) (λ y. give Normal)
 
-abbrev pub two_summed : ℕ → Arithmetic → State → Result AnyNumber Fault → Result AnyNumber Fault → Outcome Flow
+abbrev pub two_summed : Slot → Arithmetic → State → Result AnyNumber Fault → Result AnyNumber Fault → Outcome Flow
 two_summed i o σ r1 r2 =
     go_on (go_on (go_on {A = Two} {B = AnyNumber} (settled (then_row {A = AnyNumber} {B = Two} r1 (λ x. then_row {A = AnyNumber × Unit {0}} {B = Two} (then_row {A = AnyNumber} {B = AnyNumber × Unit {0}} r2 (λ z. Ok (z, tt))) (λ zs. Ok (x, zs)))) σ)
-    (λ given. settled (outcome_of (arithmetic_of o given.0.number given.1.0.number)))) (λ y. store_slot (Global true i) (value.Num y.number) >> give y)) (λ y. give Normal)
+    (λ given. settled (outcome_of (arithmetic_of o given.0.number given.1.0.number)))) (λ y. store_slot i (value.Num y.number) >> give y)) (λ y. give Normal)
 
 -- `n = a + e`
-abbrev pub set_code : ℕ → Arithmetic → Code → Code → Code
-set_code i o x y = Set (Global true i) (Do (Inline o) (At x (At y End)))
+abbrev pub set_code : Slot → Arithmetic → Code → Code → Code
+set_code i o x y = Set i (Do (Inline o) (At x (At y End)))
 
 module _ (p : Program) (deepest : Watch) (ks : List Kind) (F : List Frame) (b : Bases) (M n : ℕ) where
   abbrev kinds : List Kind
   kinds = kinds_of p.globals
 
-  -- names that are unboxed
+  abbrev pub all_read : Slot → Simple
+  all_read (Global boxed i) = GlobalGet (number_global p.ranges i)
+  all_read (Parameter boxed i) = LocalGet i
 
-  abbrev pub AllUnboxed : List ℕ → Type 0
+  -- slots that are unboxed
+
+  abbrev pub AllUnboxed : List Slot → Type 0
   AllUnboxed [] = Unit {0}
-  AllUnboxed (i ∷ is) = (has_kind kinds i Unboxed ≡ true) × AllUnboxed is
+  AllUnboxed (x ∷ xs) = SlotFits p deepest ks F x × AllUnboxed xs
 
-  pub name_got : {vs : List Cell} {K : List Label} {k : Instructions} → (i : ℕ) (l : Locals) (σ : State) → has_kind kinds i Unboxed ≡ true →
-      Goes (machine p deepest ks F) 1 (at ks vs K (laid b l) F (does (GlobalGet (number_global p.ranges i)) k) (beside_state p deepest ks F σ)) (at ks (Bits (I64 (bare (global_value i σ))) ∷ vs) K (laid b l) F k (beside_state p deepest ks F σ))
-  name_got i l σ hk =
+  pub name_got : {vs : List Cell} {K : List Label} {k : Instructions} → (x : Slot) (t u w : ℕ) (l : Locals) (σ : State) → SlotFits p deepest ks F x → length ks ≡ b.parameters → Fit p deepest ks F t u w l σ →
+      Goes (machine p deepest ks F) 1 (at ks vs K (laid b l) F (does (all_read x) k) (beside_state p deepest ks F σ)) (at ks (Bits (I64 (bare (slot_value x σ))) ∷ vs) K (laid b l) F k (beside_state p deepest ks F σ))
+  name_got (Global true i) t u w l σ hk pk ft =
       let x = global_value i σ in
       global_copied p.ranges (length kinds) (cells_of kinds 0 σ) (NameNumber i) (Bits (I64 (bare x))) (kind_below kinds i Unboxed hk) (ap (λ c. Bits (I64 (name_word c x))) (kind_found kinds i Unboxed hk)) refl
-
-  -- a name takes a number, where no text stands beside it
-  pub name_taken : (i : ℕ) (y : AnyNumber) (K : List Label) (k : Instructions) (l : Locals) (σ : State) → has_kind kinds i Unboxed ≡ true → length σ.globals ≡ length p.globals → beside (global_value i σ) ≡ empty →
-      Goes (machine p deepest ks F) 1 (at ks (Bits (I64 (number_word y)) ∷ []) K (laid b l) F (does (GlobalSet (number_global p.ranges i)) k) (beside_state p deepest ks F σ)) (at ks [] K (laid b l) F k (beside_state p deepest ks F (with_global i (value.Num y.number) σ)))
-  name_taken i y K k l σ hk sz none =
-      let nn = length kinds in
-      let li = kind_below kinds i Unboxed hk in
-      let kh = kind_found kinds i Unboxed hk in
-      let g = cells_of kinds 0 σ in
-      let old = global_value i σ in
-      let c = Bits (I64 (number_word y)) in
-      let g1 = with_global_at p.ranges nn g (NameNumber i) c in
-      let hand : name_hand (kind_here kinds i) (suc (suc (arrays_before kinds i))) old ≡ empty = ap (λ z. name_hand z (suc (suc (arrays_before kinds i))) old) kh ∙ none in
-      goes_to (global_set_ok p.ranges nn g (NameNumber i) c li refl refl)
-      (ap (λ x. at ks [] K (laid b l) F k (storing x (host_of σ None)))
-      (sym (placed_again p.ranges nn g1 (NameHand i) empty li hand)
-      ∙ global_written p deepest ks F b M n i (value.Num y.number) σ empty c sz li
-      (ap (λ z. name_hand z (suc (suc (arrays_before kinds i))) (value.Num y.number)) kh ∙ beside_number y)
-      (ap (λ z. Bits (I64 (name_word z (value.Num y.number)))) kh ∙ ap (λ z. Bits (I64 z)) (bare_number y))))
+  name_got (Parameter true i) t u w l σ hk pk ft =
+      let lt = kind_below ks i Unboxed hk in
+      get_copied b l (Param i) (Bits (I64 (bare (local_value i σ)))) (omega (arith, lt, pk)) (ft.params i Unboxed hk).0 refl
+  name_got (Global false i) t u w l σ hk pk ft = absurd hk
+  name_got (Parameter false i) t u w l σ hk pk ft = absurd hk
 
   -- Several names within the same bounds.
 
-  abbrev pub all_read : ℕ → Simple
-  all_read i = GlobalGet (number_global p.ranges i)
-
-  shifted_ok : {vs : List Cell} {K : List Label} {k : Instructions} → (i : ℕ) (q : ℤ) (l : Locals) (σ : State) → has_kind kinds i Unboxed ≡ true →
+  shifted_ok : {vs : List Cell} {K : List Label} {k : Instructions} → (i : Slot) (q : ℤ) (t u w : ℕ) (l : Locals) (σ : State) → SlotFits p deepest ks F i → length ks ≡ b.parameters → Fit p deepest ks F t u w l σ →
       Goes (machine p deepest ks F) 2 (at ks vs K (laid b l) F (shifted (all_read i) q k) (beside_state p deepest ks F σ)) (at ks (Bits (I64 (shift_word σ q i)) ∷ vs) K (laid b l) F k (beside_state p deepest ks F σ))
-  shifted_ok i q l σ hk = then_goes (name_got i l σ hk) (by_steps 1 refl)
+  shifted_ok i q t u w l σ hk pk ft = then_goes (name_got i t u w l σ hk pk ft) (by_steps 1 refl)
 
-  joined_ok : (K : List Label) (k : Instructions) → (is : List ℕ) (v : ℕ) (q : ℤ) (l : Locals) (σ : State) → AllUnboxed is →
+  joined_ok : (K : List Label) (k : Instructions) → (is : List Slot) (v : ℕ) (q : ℤ) (t u w : ℕ) (l : Locals) (σ : State) → AllUnboxed is → length ks ≡ b.parameters → Fit p deepest ks F t u w l σ →
       Goes (machine p deepest ks F) (joined_steps is) (at ks (Bits (I64 v) ∷ []) K (laid b l) F (joined all_read is q k) (beside_state p deepest ks F σ)) (at ks (Bits (I64 (joined_word σ q v is)) ∷ []) K (laid b l) F k (beside_state p deepest ks F σ))
-  joined_ok K k [] v q l σ h = stays
-  joined_ok K k (i ∷ is) v q l σ h = then_goes (shifted_ok i q l σ h.0) (then_goes (by_steps 1 refl) (joined_ok K k is (bit_or v (shift_word σ q i)) q l σ h.1))
+  joined_ok K k [] v q t u w l σ h pk ft = stays
+  joined_ok K k (i ∷ is) v q t u w l σ h pk ft = then_goes (shifted_ok i q t u w l σ h.0 pk ft) (then_goes (by_steps 1 refl) (joined_ok K k is (bit_or v (shift_word σ q i)) q t u w l σ h.1 pk ft))
 
-  pub all_unsure_ok : (K : List Label) (k : Instructions) → (is : List ℕ) (q : ℤ) (w : ℕ) (l : Locals) (σ : State) → AllUnboxed is →
-      Goes (machine p deepest ks F) (all_steps is) (at ks [] K (laid b l) F (all_unsure all_read is q w k) (beside_state p deepest ks F σ)) (at ks (Bits (flag (all_flag σ q w is)) ∷ []) K (laid b l) F k (beside_state p deepest ks F σ))
-  all_unsure_ok K k [] q w l σ h = stays
-  all_unsure_ok K k (i ∷ is) q w l σ h = then_goes (shifted_ok i q l σ h.0) (then_goes (joined_ok K _ is (shift_word σ q i) q l σ h.1) (by_steps 1 refl))
+  pub all_unsure_ok : (K : List Label) (k : Instructions) → (is : List Slot) (q : ℤ) (most t u w : ℕ) (l : Locals) (σ : State) → AllUnboxed is → length ks ≡ b.parameters → Fit p deepest ks F t u w l σ →
+      Goes (machine p deepest ks F) (all_steps is) (at ks [] K (laid b l) F (all_unsure all_read is q most k) (beside_state p deepest ks F σ)) (at ks (Bits (flag (all_flag σ q most is)) ∷ []) K (laid b l) F k (beside_state p deepest ks F σ))
+  all_unsure_ok K k [] q most t u w l σ h pk ft = stays
+  all_unsure_ok K k (i ∷ is) q most t u w l σ h pk ft = then_goes (shifted_ok i q t u w l σ h.0 pk ft) (then_goes (joined_ok K _ is (shift_word σ q i) q t u w l σ h.1 pk ft) (by_steps 1 refl))
 
-  pub name_unboxed : (i : ℕ) (is : List ℕ) → has_kind kinds i Unboxed ≡ true → AllUnboxed is → AllUnboxed (and_name i is)
+  pub name_unboxed : (i : Slot) (is : List Slot) → SlotFits p deepest ks F i → AllUnboxed is → AllUnboxed (and_name i is)
   name_unboxed i is hk h = by (is_among i is)
     where
       by : (t : Bool) → AllUnboxed (if t then is else i ∷ is)
       by true = h
       by false = (hk, h)
 
-  pub summed_means : (i : ℕ) (o : Arithmetic) (σ : State) (r1 r2 : Result AnyNumber Fault) (m1 m2 y : AnyNumber) → r1 ≡ Ok m1 → r2 ≡ Ok m2 → outcome_of (arithmetic_of o m1.number m2.number) ≡ Ok y → two_summed i o σ r1 r2 ≡ Gives Normal (with_global i (value.Num y.number) σ)
-  summed_means i o σ r1 r2 m1 m2 y e1 e2 e = ap₂ (two_summed i o σ) e1 e2 ∙ ap (sum_stored i σ) e
+  stored_normal : (i : Slot) (y : AnyNumber) (σ : State) → sum_stored i σ (Ok y) ≡ Gives Normal (stored_in i (value.Num y.number) σ)
+  stored_normal (Global g i) y σ = refl
+  stored_normal (Parameter g i) y σ = refl
+
+  pub summed_means : (i : Slot) (o : Arithmetic) (σ : State) (r1 r2 : Result AnyNumber Fault) (m1 m2 y : AnyNumber) → r1 ≡ Ok m1 → r2 ≡ Ok m2 → outcome_of (arithmetic_of o m1.number m2.number) ≡ Ok y → two_summed i o σ r1 r2 ≡ Gives Normal (stored_in i (value.Num y.number) σ)
+  summed_means i o σ r1 r2 m1 m2 y e1 e2 e = ap₂ (two_summed i o σ) e1 e2 ∙ (ap (sum_stored i σ) e ∙ stored_normal i y σ)
 
   -- Two operands.
 
-  pub set_means : (i : ℕ) (o : Arithmetic) (a e : Source) (σ : State) → plain_meant p deepest ks F b M n (Eval (set_code i o (source_code a) (source_code e))) σ ≡ two_summed i o σ (num_of a σ) (num_of e σ)
+  pub set_means : (i : Slot) (o : Arithmetic) (a e : Source) (σ : State) → SlotFits p deepest ks F i → SourceFits (2 ^ 53) a → SourceFits (2 ^ 53) e →
+      plain_meant p deepest ks F b M n (Eval (set_code i o (source_code a) (source_code e))) σ ≡ two_summed i o σ (num_of a σ) (num_of e σ)
   unfolding evaluated all_evaluated stepped
-  set_means i o (Named j) (Named k) σ = refl
-  set_means i o (Named j) (Constant z) σ = refl
-  set_means i o (Constant z) (Named j) σ = refl
-  set_means i o (Constant z) (Constant y) σ = refl
+  set_means i o (Named (Global true j)) (Named (Global true k)) σ = refl
 
   pub record Parts (i : ℕ) (fs : List Form) (x : Code) (gs : List Form) (y : Code) : Type 0 where
     pub kind : has_kind kinds i Unboxed ≡ true

@@ -11,8 +11,8 @@ use Rattle.sem_primitives.specs.Constants.{flag_number}
 use Rattle.sem_primitives.specs.Numbers.{Number, number_of, number_word}
 use Rattle.sem_primitives.proofs.Words.{word_no_fault, small, fits, number_again}
 use Rattle.wasm_store.specs.declared.word.Word.TheVariants.{I32, I64}
-use Rattle.mid_program.specs.Mid.{Kind, Boxed, Unboxed, Many}
-use Rattle.sem_scripts.specs.ScriptState.{State, Stop, Faulted, OutOfTurns, TooDeep, Nexted, Exited, Returned, global_value}
+use Rattle.mid_program.specs.Mid.{Slot, Global, Parameter, Kind, Boxed, Unboxed, Many}
+use Rattle.sem_scripts.specs.ScriptState.{State, Stop, Faulted, OutOfTurns, TooDeep, Nexted, Exited, Returned, global_value, local_value, with_global, with_local}
 use Rattle.lower_model.specs.Cells.{Cell, Bits, Held, OwnedArray, Gone}
 use Rattle.lower_model.specs.ImportCalls.{Host}
 use Rattle.lower_model.specs.Machine.{Store}
@@ -77,6 +77,16 @@ bare_number n = ap word_or_beside (number_again n)
 
 pub beside_number : (n : Number) → beside (value.Num n.number) ≡ empty
 beside_number n = ap (unless_number (value.Num n.number)) (number_again n)
+
+-- What a slot has, and the state once it has another value.
+
+abbrev pub slot_value : Slot → State → Value
+slot_value (Global boxed i) σ = global_value i σ
+slot_value (Parameter boxed i) σ = local_value i σ
+
+abbrev pub stored_in : Slot → Value → State → State
+stored_in (Global boxed i) v = with_global i v
+stored_in (Parameter boxed i) v = with_local i v
 
 -- Names.
 
