@@ -12,9 +12,9 @@ use Rattle.awk_values.specs.declared.comparison.CompareOp.TheVariants as op
 use Rattle.sem_primitives.specs.Numbers.{Number as AnyNumber}
 use Rattle.sem_primitives.proofs.Words.{small, fits}
 use Rattle.mid_program.specs.Mid.{Slot, Code, Number, Get, Global, Parameter}
-use Rattle.lower_model.specs.Quick.{unboxed, name_in, constant_in}
+use Rattle.lower_model.specs.Quick.{Holder, holder_of, name_in, constant_in}
 use Rattle.lower_model.specs.Small.{least, text_beside}
-use Rattle.lower_model.proofs.State.{bare, BareOf, IsBeside, IsNone, IsNumber}
+use Rattle.lower_model.proofs.State.{holder_slot, bare, BareOf, IsBeside, IsNone, IsNumber}
 use Rattle.lower_model.proofs.Conversions.{bare_is}
 use Rattle.lower_model.proofs.Products.{word, sum_word, mod_small, mod_once}
 
@@ -78,14 +78,14 @@ sure v q w hq hw e = by (bare_is v)
 
 -- Which code is meant.
 
-pub unboxed_is : (x y : Slot) → unboxed x ≡ Some y → x ≡ y
-unboxed_is (Global true i) y e = ap (λ o. elim o [ Some z ↦ z | None ↦ Global true i ]) e
-unboxed_is (Parameter true i) y e = ap (λ o. elim o [ Some z ↦ z | None ↦ Parameter true i ]) e
-unboxed_is x y e = cc
+pub holder_is : (x : Slot) (h : Holder) → holder_of x ≡ Some h → x ≡ holder_slot h
+holder_is (Global true i) h e = ap (λ o. elim o [ Some z ↦ holder_slot z | None ↦ Global true i ]) e
+holder_is (Parameter true i) h e = ap (λ o. elim o [ Some z ↦ holder_slot z | None ↦ Parameter true i ]) e
+holder_is x h e = cc
 
-pub name_is : (e : Code) (x : Slot) → name_in e ≡ Some x → e ≡ Get x
-name_is (Get y) x e = ap Get (unboxed_is y x e)
-name_is e x q = cc
+pub name_is : (e : Code) (h : Holder) → name_in e ≡ Some h → e ≡ Get (holder_slot h)
+name_is (Get y) h e = ap Get (holder_is y h e)
+name_is e h q = cc
 
 pub constant_is : (e : Code) (z : ℤ) → constant_in e ≡ Some z → e ≡ Number z
 constant_is (Number x) z e = ap (λ o. elim o [ Some y ↦ Number y | None ↦ Number x ]) e
