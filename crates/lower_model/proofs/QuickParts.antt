@@ -158,6 +158,10 @@ module _ (p : Program) (deepest : Watch) (ks : List Kind) (F : List Frame) (b : 
   stored_normal (OfName i) y σ = refl
   stored_normal (OfParameter i) y σ = refl
 
+  pub stored_turns : (i : Holder) (y : AnyNumber) (σ : State) → (stored_in (holder_slot i) (value.Num y.number) σ).turns ≡ σ.turns
+  stored_turns (OfName i) y σ = refl
+  stored_turns (OfParameter i) y σ = refl
+
   pub summed_means : (i : Holder) (o : Arithmetic) (σ : State) (r1 r2 : Result AnyNumber Fault) (m1 m2 y : AnyNumber) → r1 ≡ Ok m1 → r2 ≡ Ok m2 → outcome_of (arithmetic_of o m1.number m2.number) ≡ Ok y → two_summed i o σ r1 r2 ≡ Gives Normal (stored_in (holder_slot i) (value.Num y.number) σ)
   summed_means i o σ r1 r2 m1 m2 y e1 e2 e = ap₂ (two_summed i o σ) e1 e2 ∙ (ap (sum_stored i σ) e ∙ stored_normal i y σ)
 

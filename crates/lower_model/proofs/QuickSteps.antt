@@ -76,25 +76,25 @@ module _ (p : Program) (deepest : Watch) (ks : List Kind) (F : List Frame) (b : 
   -- What the tests mean that are sure.
 
   pub record TestIs (e : Code) (q : Within) : Type 0 where
-    pub kind : has_kind kinds q.name Unboxed ≡ true
+    pub kind : HolderFits p deepest ks F b M n q.name
     pub shift : unsigned_abs q.shift ≤ 2 ^ 54
     pub width : q.width ≤ 2 ^ 54
-    pub means : (σ : State) → Sure (global_value q.name σ) q.shift q.width → test_meant p deepest ks F b M n e σ ≡ Gives true σ
+    pub means : (σ : State) → Sure (holder_value q.name σ) q.shift q.width → test_meant p deepest ks F b M n e σ ≡ Gives true σ
 
-  compare_means : (c : CompareOp) (i : ℕ) (z : ℤ) (m : AnyNumber) (σ : State) → nat_le (unsigned_abs z) (2 ^ 53) ≡ true → global_value i σ ≡ value.Num m.number → holds c (int_cmp m.number z) ≡ true → test_meant p deepest ks F b M n (Compare c (Get (Global true i)) (Number z)) σ ≡ Gives true σ
+  compare_means : (c : CompareOp) (i : Holder) (z : ℤ) (m : AnyNumber) (σ : State) → nat_le (unsigned_abs z) (2 ^ 53) ≡ true → holder_value i σ ≡ value.Num m.number → holds c (int_cmp m.number z) ≡ true → test_meant p deepest ks F b M n (Compare c (Get (holder_slot i)) (Number z)) σ ≡ Gives true σ
   unfolding evaluated all_evaluated
   compare_means c i z m σ hz ev h =
       let nz = or_zero (number_of z) in
-      let v = global_value i σ in
+      let v = holder_value i σ in
       let r : comparison v (value.Num nz.number) c ≡ Ok true =
       ap (λ o. held c (order_by v (value.Num nz.number) o (Some (Ok nz.number)))) (ap numeric_side ev)
       ∙ (ap (λ x. Ok (holds c (int_cmp m.number x))) (nought_number z hz) ∙ ap Ok h) in
       ap (λ o. go_on (settled o σ) (λ x. give x)) r
 
-  first_is : (c : CompareOp) (i : ℕ) (z : ℤ) (k : ℕ) (q : Within) → first_ones i k ≡ Some q → has_kind kinds i Unboxed ≡ true → nat_le (unsigned_abs z) (2 ^ 53) ≡ true → k ≤ suc (2 ^ 54) →
-      ((m : AnyNumber) (j : ℕ) → m.number +ℤ pos (2 ^ 53) ≡ pos j → j < k → holds c (int_cmp m.number z) ≡ true) → TestIs (Compare c (Get (Global true i)) (Number z)) q
+  first_is : (c : CompareOp) (i : Holder) (z : ℤ) (k : ℕ) (q : Within) → first_ones i k ≡ Some q → HolderFits p deepest ks F b M n i → nat_le (unsigned_abs z) (2 ^ 53) ≡ true → k ≤ suc (2 ^ 54) →
+      ((m : AnyNumber) (j : ℕ) → m.number +ℤ pos (2 ^ 53) ≡ pos j → j < k → holds c (int_cmp m.number z) ≡ true) → TestIs (Compare c (Get (holder_slot i)) (Number z)) q
   first_is c i z zero q eq hk hz hb f = none_is eq
-  first_is c i z (suc k) q eq hk hz hb f = subst (TestIs (Compare c (Get (Global true i)) (Number z))) (some_is _ q eq)
+  first_is c i z (suc k) q eq hk hz hb f = subst (TestIs (Compare c (Get (holder_slot i)) (Number z))) (some_is _ q eq)
       (record {
         kind = hk;
         shift = omega arith;
@@ -102,7 +102,7 @@ module _ (p : Program) (deepest : Watch) (ks : List Kind) (F : List Frame) (b : 
         means = λ σ s. compare_means c i z s.number σ hz s.value (f s.number s.above s.sum (let w = s.few in omega (arith, w)));
       })
 
-  named_is : (c : CompareOp) (i : ℕ) (z : ℤ) (q : Within) → compared_within c i z ≡ Some q → sorted (context p deepest ks F b M n) [] (Compare c (Get (Global true i)) (Number z)) ≡ true → TestIs (Compare c (Get (Global true i)) (Number z)) q
+  named_is : (c : CompareOp) (i : Holder) (z : ℤ) (q : Within) → compared_within c i z ≡ Some q → sorted (context p deepest ks F b M n) [] (Compare c (Get (holder_slot i)) (Number z)) ≡ true → TestIs (Compare c (Get (holder_slot i)) (Number z)) q
   unfolding sorted all_sorted
   named_is op.Less i z q eq so =
       let s = and_parts (has_kind kinds i Unboxed) (nat_le (unsigned_abs z) (2 ^ 53)) so in
@@ -119,17 +119,17 @@ module _ (p : Program) (deepest : Watch) (ks : List Kind) (F : List Frame) (b : 
   pub test_is : (e : Code) (q : Within) → test_within e ≡ Some q → sorted (context p deepest ks F b M n) [] e ≡ true → TestIs e q
   test_is (Compare c a e) q eq so = by (name_in a) refl (constant_in e) refl eq
     where
-      by : (o : Option ℕ) → name_in a ≡ o → (r : Option ℤ) → constant_in e ≡ r → both_within c o r ≡ Some q → TestIs (Compare c a e) q
+      by : (o : Option Holder) → name_in a ≡ o → (r : Option ℤ) → constant_in e ≡ r → both_within c o r ≡ Some q → TestIs (Compare c a e) q
       by (Some i) e1 (Some z) e2 eq = subst (λ t. sorted (context p deepest ks F b M n) [] t ≡ true → TestIs t q) (sym (ap₂ (λ x y. Compare c x y) (name_is a i e1) (constant_is e z e2))) (named_is c i z q eq) so
       by (Some i) e1 None e2 eq = none_is eq
       by None e1 r e2 eq = none_is eq
   test_is e q eq so = none_is eq
 
   -- one comparison of a name's number
-  pub unsure_ok : {K : List Label} {k : Instructions} → (i : ℕ) (q : ℤ) (w : ℕ) (l : Locals) (σ : State) → has_kind kinds i Unboxed ≡ true →
-      Goes (machine p deepest ks F) 3 (at ks [] K (laid b l) F (unsure (GlobalGet (number_global p.ranges i)) q w k) (beside_state p deepest ks F σ)) (at ks (Bits (flag (shown_by (global_value i σ) q w)) ∷ []) K (laid b l) F k (beside_state p deepest ks F σ))
+  pub unsure_ok : {K : List Label} {k : Instructions} → (i : Holder) (q : ℤ) (w : ℕ) (l : Locals) (σ : State) → HolderFits p deepest ks F b M n i →
+      Goes (machine p deepest ks F) 3 (at ks [] K (laid b l) F (unsure (GlobalGet (number_global p.ranges i)) q w k) (beside_state p deepest ks F σ)) (at ks (Bits (flag (shown_by (holder_value i σ) q w)) ∷ []) K (laid b l) F k (beside_state p deepest ks F σ))
   unsure_ok i q w l σ hk =
-      let x = global_value i σ in
+      let x = holder_value i σ in
       then_goes (global_copied p.ranges (length kinds) (cells_of kinds 0 σ) (NameNumber i) (Bits (I64 (bare x))) (kind_below kinds i Unboxed hk) (ap (λ c. Bits (I64 (name_word c x))) (kind_found kinds i Unboxed hk)) refl) (by_steps 2 refl)
 
   -- the machine goes on where a test holds, and elsewhere some labels further out
@@ -162,16 +162,16 @@ module _ (p : Program) (deepest : Watch) (ks : List Kind) (F : List Frame) (b : 
   -- Sources: what they push, and what they are as operands.
 
   abbrev pub SourceFits : ℕ → Source → Type 0
-  SourceFits most (Named i) = has_kind kinds i Unboxed ≡ true
+  SourceFits most (Held i) = HolderFits p deepest ks F b M n i
   SourceFits most (Constant z) = nat_le (unsigned_abs z) most ≡ true
 
   source_ok : (vs : List Cell) (K : List Label) (k : Instructions) → (m : ℕ) (s : Source) (l : Locals) (σ : State) → SourceFits m s →
       Goes (machine p deepest ks F) (source_steps s) (at ks vs K (laid b l) F (source_pushed (layout p deepest ks F b M n) s k) (beside_state p deepest ks F σ)) (at ks (Bits (I64 (word_of s σ)) ∷ vs) K (laid b l) F k (beside_state p deepest ks F σ))
-  source_ok vs K k m (Named i) l σ h = name_got p deepest ks F b M n i l σ h
+  source_ok vs K k m (Held i) l σ h = name_got p deepest ks F b M n i l σ h
   source_ok vs K k m (Constant z) l σ h = stays
 
-  source_unboxed : (m : ℕ) (s : Source) (is : List ℕ) → SourceFits m s → AllUnboxed p deepest ks F b M n is → AllUnboxed p deepest ks F b M n (and_source s is)
-  source_unboxed m (Named i) is hs h = name_unboxed p deepest ks F b M n i is hs h
+  source_unboxed : (m : ℕ) (s : Source) (is : List Holder) → SourceFits m s → AllUnboxed p deepest ks F b M n is → AllUnboxed p deepest ks F b M n (and_source s is)
+  source_unboxed m (Held i) is hs h = name_unboxed p deepest ks F b M n i is hs h
   source_unboxed m (Constant z) is hs h = h
 
   -- a source as an operand
@@ -182,12 +182,12 @@ module _ (p : Program) (deepest : Watch) (ks : List Kind) (F : List Frame) (b : 
     words : word_of s σ ≡ number_word number
     side : numeric_side (val_of s σ) ≡ Some (Ok number.number)
 
-  operand : (s : Source) (is : List ℕ) (c w : ℕ) (σ : State) → w ≤ c + c → SourceFits c s → c ≤ 2 ^ 53 → StandsAmong s is → AllSure σ (pos c) w is → Operand s σ c
-  operand (Named i) is c w σ hw hf hc h a =
+  operand : (s : Source) (is : List Holder) (c w : ℕ) (σ : State) → w ≤ c + c → SourceFits c s → c ≤ 2 ^ 53 → StandsAmong s is → AllSure σ (pos c) w is → Operand s σ c
+  operand (Held i) is c w σ hw hf hc h a =
       let s = among_sure i is (pos c) w σ h a in
       record {
         number = s.number;
-        num = own_number p deepest ks F b M (global_value i σ) s.number s.value;
+        num = own_number p deepest ks F b M (holder_value i σ) s.number s.value;
         few = let x = s.sum in let y = s.few in grind (arith, ints, x, y, hw);
         words = ap bare s.value ∙ bare_number s.number;
         side = ap numeric_side s.value;
@@ -207,14 +207,14 @@ module _ (p : Program) (deepest : Watch) (ks : List Kind) (F : List Frame) (b : 
 
   pair_means : (c : CompareOp) (a e : Source) (σ : State) → test_meant p deepest ks F b M n (Compare c (source_code a) (source_code e)) σ ≡ go_on (settled (comparison (val_of a σ) (val_of e σ) c) σ) (λ x. give x)
   unfolding evaluated all_evaluated
-  pair_means c (Named i) (Named j) σ = refl
-  pair_means c (Named i) (Constant z) σ = refl
+  pair_means c (Held i) (Named j) σ = refl
+  pair_means c (Held i) (Constant z) σ = refl
   pair_means c (Constant z) (Named j) σ = refl
   pair_means c (Constant z) (Constant y) σ = refl
 
   range_fits : (fs : List Form) (s : Source) → sorted (context p deepest ks F b M n) fs (source_code s) ≡ true → SourceFits (2 ^ 53) s
   unfolding sorted all_sorted
-  range_fits fs (Named i) so = so
+  range_fits fs (Held i) so = so
   range_fits fs (Constant z) so = so
 
   pair_sorted : (c : CompareOp) (x y : Code) → sorted (context p deepest ks F b M n) [] (Compare c x y) ≡ true → (sorted (context p deepest ks F b M n) [] x ≡ true) × (sorted (context p deepest ks F b M n) [] y ≡ true)
@@ -245,17 +245,17 @@ module _ (p : Program) (deepest : Watch) (ks : List Kind) (F : List Frame) (b : 
   -- Comparisons with how many fields there are.
 
   pub record CountedIs (e : Code) (q : Counted) : Type 0 where
-    pub kind : has_kind kinds q.name Unboxed ≡ true
-    pub means : (σ : State) (m : AnyNumber) → global_value q.name σ ≡ value.Num m.number → test_meant p deepest ks F b M n e σ ≡ Gives (holds q.op (int_cmp m.number (pos (length σ.shared.inner.fields)))) σ
+    pub kind : HolderFits p deepest ks F b M n q.name
+    pub means : (σ : State) (m : AnyNumber) → holder_value q.name σ ≡ value.Num m.number → test_meant p deepest ks F b M n e σ ≡ Gives (holds q.op (int_cmp m.number (pos (length σ.shared.inner.fields)))) σ
 
-  abbrev count_code : CompareOp → ℕ → Code
-  count_code c i = Compare c (Get (Global true i)) (Do (Host row.GetSpecial) (Fixed (special_number Nf) End))
+  abbrev count_code : CompareOp → Holder → Code
+  count_code c i = Compare c (Get (holder_slot i)) (Do (Host row.GetSpecial) (Fixed (special_number Nf) End))
 
-  count_means : (c : CompareOp) (i : ℕ) (m : AnyNumber) (σ : State) → global_value i σ ≡ value.Num m.number → test_meant p deepest ks F b M n (count_code c i) σ ≡ Gives (holds c (int_cmp m.number (pos (length σ.shared.inner.fields)))) σ
+  count_means : (c : CompareOp) (i : Holder) (m : AnyNumber) (σ : State) → holder_value i σ ≡ value.Num m.number → test_meant p deepest ks F b M n (count_code c i) σ ≡ Gives (holds c (int_cmp m.number (pos (length σ.shared.inner.fields)))) σ
   unfolding evaluated all_evaluated
   count_means c i m σ ev =
       let v = value.Num (pos (length σ.shared.inner.fields)) in
-      ap (λ τ. go_on (settled (comparison (global_value i σ) v c) τ) (λ x. give x)) (same_state σ v)
+      ap (λ τ. go_on (settled (comparison (holder_value i σ) v c) τ) (λ x. give x)) (same_state σ v)
       ∙ ap (λ x. go_on (settled (comparison x v c) σ) (λ y. give y)) ev
 
   count_of : (e : Code) → field_count e ≡ true → e ≡ Do (Host row.GetSpecial) (Fixed (special_number Nf) End)
@@ -265,13 +265,13 @@ module _ (p : Program) (deepest : Watch) (ks : List Kind) (F : List Frame) (b : 
   pub counted_is : (e : Code) (q : Counted) → counted_in e ≡ Some q → sorted (context p deepest ks F b M n) [] e ≡ true → CountedIs e q
   counted_is (Compare c x y) q eq so = by (name_in x) refl (field_count y) refl eq
     where
-      by : (o : Option ℕ) → name_in x ≡ o → (t : Bool) → field_count y ≡ t → counted_of c o t ≡ Some q → CountedIs (Compare c x y) q
+      by : (o : Option Holder) → name_in x ≡ o → (t : Bool) → field_count y ≡ t → counted_of c o t ≡ Some q → CountedIs (Compare c x y) q
       by (Some i) e1 true e2 eq =
           subst (λ z. sorted (context p deepest ks F b M n) [] z ≡ true → CountedIs z q) (sym (ap₂ (λ a g. Compare c a g) (name_is x i e1) (count_of y e2)))
           (λ so1.
-          let s = pair_sorted c (Get (Global true i)) (Do (Host row.GetSpecial) (Fixed (special_number Nf) End)) so1 in
+          let s = pair_sorted c (Get (holder_slot i)) (Do (Host row.GetSpecial) (Fixed (special_number Nf) End)) so1 in
           subst (CountedIs (count_code c i)) (some_is _ q eq)
-          (record { kind = range_fits [] (Named i) s.0; means = λ σ m ev. count_means c i m σ ev })) so
+          (record { kind = range_fits [] (Held i) s.0; means = λ σ m ev. count_means c i m σ ev })) so
       by (Some i) e1 false e2 eq = none_is eq
       by None e1 t e2 eq = none_is eq
   counted_is e q eq so = none_is eq
@@ -324,7 +324,7 @@ module _ (p : Program) (deepest : Watch) (ks : List Kind) (F : List Frame) (b : 
         record { number = pos (length σ.shared.inner.fields); in_range = subst T (sym (le-leb (length σ.shared.inner.fields) (2 ^ 53) (omega (arith, few)))) tt }
 
     -- both numbers are there, and are compared
-    count_way : (q : Counted) → CountedIs e q → (m : AnyNumber) → global_value q.name σ ≡ value.Num m.number →
+    count_way : (q : Counted) → CountedIs e q → (m : AnyNumber) → holder_value q.name σ ≡ value.Num m.number →
         Reached p deepest ks F b M (work_of e + 17) σ.turns (at ks [] PK (laid b l) F (counted_left (layout p deepest ks F b M n) q (suc out) NoMore) PS) (Left out k K u l) (Away p deepest ks F b d K) (test_meant p deepest ks F b M n e σ)
     unfolding fields_number
     count_way q t m ev =
@@ -346,7 +346,7 @@ module _ (p : Program) (deepest : Watch) (ks : List Kind) (F : List Frame) (b : 
         (then_goes (goes_to (by_steps 1 refl) (ap (λ g. at ks (Bits (flag g) ∷ []) PK (laid b l) F (does (BrIf (suc out)) NoMore) PS) c)) w.2)))) (omega (arith, w1))
         (record { next = l; comes = refl; starts = s; iterators = λ y. refl }))
 
-    count_chosen : (q : Counted) → CountedIs e q → (f : Bool) → compare_at w64 LeS (bare (global_value q.name σ)) text_beside ≡ f → BareOf (global_value q.name σ) →
+    count_chosen : (q : Counted) → CountedIs e q → (f : Bool) → compare_at w64 LeS (bare (holder_value q.name σ)) text_beside ≡ f → BareOf (holder_value q.name σ) →
         Reached p deepest ks F b M (work_of e + 17) σ.turns (at ks [] PK (laid b l) F (cond (nat_eq (if f then 1 else 0) 0) (counted_left (layout p deepest ks F b M n) q (suc out) NoMore) pair_slow) PS) (Left out k K u l) (Away p deepest ks F b d K) (test_meant p deepest ks F b M n e σ)
     count_chosen q t true eq is = slow_way
     count_chosen q t false eq (IsBeside eb eh) = absurd (true≢false (sym (ap (λ y. compare_at w64 LeS y text_beside) eb) ∙ eq))
@@ -357,10 +357,10 @@ module _ (p : Program) (deepest : Watch) (ks : List Kind) (F : List Frame) (b : 
     counted None eq = within (machine p deepest ks F) M (work_of e + 16) (work_of e + 24) σ.turns _ (Left out k K u l) (Away p deepest ks F b d K) (test_meant p deepest ks F b M n e σ) (omega arith) (plain_ok e ok u d out k K l σ so rm ar s)
     counted (Some q) eq =
         let t = counted_is e q eq (and_parts (is_tested (form_of [] e)) (sorted (context p deepest ks F b M n) [] e) so).1 in
-        let f = compare_at w64 LeS (bare (global_value q.name σ)) text_beside in
+        let f = compare_at w64 LeS (bare (holder_value q.name σ)) text_beside in
         first (machine p deepest ks F) M 3 (work_of e + 17) (work_of e + 24) σ.turns _ _ (Left out k K u l) (Away p deepest ks F b d K) (test_meant p deepest ks F b M n e σ)
         (then_goes (name_got p deepest ks F b M n q.name l σ t.kind) (then_goes (by_steps 1 refl) (chooses pair_slow (counted_left (layout p deepest ks F b M n) q (suc out) NoMore) (if f then 1 else 0)))) (omega arith)
-        (count_chosen q t f refl (bare_is (global_value q.name σ)))
+        (count_chosen q t f refl (bare_is (holder_value q.name σ)))
 
     pub left_unless_pair_ok : Reached p deepest ks F b M (work_of e + 24) σ.turns (at ks [] K (laid b l) F (left_unless_pair (layout p deepest ks F b M n) (pair_in e) e d out k) PS) (Left out k K u l) (Away p deepest ks F b d K) (test_meant p deepest ks F b M n e σ)
     left_unless_pair_ok = by (pair_in e) refl
@@ -394,14 +394,14 @@ module _ (p : Program) (deepest : Watch) (ks : List Kind) (F : List Frame) (b : 
       slow : Instructions
       slow = tested (layout p deepest ks F b M n) [] [] e zero zero (suc d) (does (Test I32 Eqz) (does (BrIf (suc out)) NoMore))
 
-      chosen : (q : Within) → TestIs e q → (f : Bool) → shown_by (global_value q.name σ) q.shift q.width ≡ f →
+      chosen : (q : Within) → TestIs e q → (f : Bool) → shown_by (holder_value q.name σ) q.shift q.width ≡ f →
           Reached p deepest ks F b M (work_of e + 17) σ.turns (at ks [] K1 (laid b l) F (cond (nat_eq (if f then 1 else 0) 0) NoMore slow) S) (Left out k K u l) (Away p deepest ks F b d K) (test_meant p deepest ks F b M n e σ)
       chosen q t true eq =
           within (machine p deepest ks F) M ((work_of e + 16) + 1) (work_of e + 17) σ.turns _ (Left out k K u l) (Away p deepest ks F b d K) (test_meant p deepest ks F b M n e σ) (omega arith)
           (blocked p deepest ks F b M (work_of e + 16) σ.turns d k K _ (Left (suc out) NoMore K1 u l) (Left out k K u l) (test_meant p deepest ks F b M n e σ) (λ x τ c h. left_closes out u k K l x τ c h)
           (plain_ok e ok u (suc d) (suc out) NoMore K1 l σ so rm ar (starts_among p deepest ks F b M n u K K1 l σ refl s)))
       chosen q t false eq =
-          subst (λ o. Reached p deepest ks F b M (work_of e + 17) σ.turns (at ks [] K1 (laid b l) F NoMore S) (Left out k K u l) (Away p deepest ks F b d K) o) (sym (t.means σ (sure (global_value q.name σ) q.shift q.width t.shift t.width eq)))
+          subst (λ o. Reached p deepest ks F b M (work_of e + 17) σ.turns (at ks [] K1 (laid b l) F NoMore S) (Left out k K u l) (Away p deepest ks F b d K) o) (sym (t.means σ (sure (holder_value q.name σ) q.shift q.width t.shift t.width eq)))
           (there (machine p deepest ks F) M (work_of e + 17) 1 _ _ true σ (Left out k K u l) (Away p deepest ks F b d K) closes (omega arith) (record { next = l; comes = refl; starts = s; iterators = λ y. refl }))
 
       by : (o : Option Within) → test_within e ≡ o → Reached p deepest ks F b M (work_of e + 24) σ.turns (at ks [] K (laid b l) F (left_unless (layout p deepest ks F b M n) o e d out k) S) (Left out k K u l) (Away p deepest ks F b d K) (test_meant p deepest ks F b M n e σ)
@@ -409,13 +409,13 @@ module _ (p : Program) (deepest : Watch) (ks : List Kind) (F : List Frame) (b : 
       by (Some q) eq =
           let t = test_is e q eq (and_parts (is_tested (form_of [] e)) (sorted (context p deepest ks F b M n) [] e) so).1 in
           first (machine p deepest ks F) M 4 (work_of e + 17) (work_of e + 24) σ.turns _ _ (Left out k K u l) (Away p deepest ks F b d K) (test_meant p deepest ks F b M n e σ)
-          (then_goes (unsure_ok q.name q.shift q.width l σ t.kind) (chooses slow NoMore (if shown_by (global_value q.name σ) q.shift q.width then 1 else 0))) (omega arith)
-          (chosen q t (shown_by (global_value q.name σ) q.shift q.width) refl)
+          (then_goes (unsure_ok q.name q.shift q.width l σ t.kind) (chooses slow NoMore (if shown_by (holder_value q.name σ) q.shift q.width then 1 else 0))) (omega arith)
+          (chosen q t (shown_by (holder_value q.name σ) q.shift q.width) refl)
 
   -- Sums.
 
   pub record SumIs (e : Code) (s : Sum) : Type 0 where
-    pub kind : has_kind kinds s.target Unboxed ≡ true
+    pub kind : HolderFits p deepest ks F b M n s.target
     pub left : SourceFits (2 ^ 52) s.left
     pub right : SourceFits (2 ^ 52) s.right
     pub sum : is_sum s.op ≡ true
@@ -426,12 +426,12 @@ module _ (p : Program) (deepest : Watch) (ks : List Kind) (F : List Frame) (b : 
 
   near_fits : (fs : List Form) (s : Source) → sorted (context p deepest ks F b M n) fs (source_code s) ≡ true → is_near s ≡ true → SourceFits (2 ^ 52) s
   unfolding sorted all_sorted
-  near_fits fs (Named i) so h = so
+  near_fits fs (Held i) so h = so
   near_fits fs (Constant z) so h = h
 
   -- `n = a + e`
 
-  set_is : (i : ℕ) (o : Arithmetic) (x y : Code) (s : Sum) → sum_of i o (source_in x) (source_in y) ≡ Some s → sorted (context p deepest ks F b M n) [] (set_code i o x y) ≡ true → SumIs (set_code i o x y) s
+  set_is : (i : Holder) (o : Arithmetic) (x y : Code) (s : Sum) → sum_of i o (source_in x) (source_in y) ≡ Some s → sorted (context p deepest ks F b M n) [] (set_code i o x y) ≡ true → SumIs (set_code i o x y) s
   set_is i o x y s eq so = by (source_in x) refl (source_in y) refl eq
     where
       by : (q : Option Source) → source_in x ≡ q → (r : Option Source) → source_in y ≡ r → sum_of i o q r ≡ Some s → SumIs (set_code i o x y) s
@@ -447,17 +447,17 @@ module _ (p : Program) (deepest : Watch) (ks : List Kind) (F : List Frame) (b : 
 
   -- `n += e`
 
-  abbrev update_code : ℕ → Arithmetic → Code → Code → Code
+  abbrev update_code : Holder → Arithmetic → Code → Code → Code
   update_code i o a x = Let a (set_code i o x (Bound true zero))
 
-  update_means : (i : ℕ) (o : Arithmetic) (a e : Source) (σ : State) → plain_meant p deepest ks F b M n (Eval (update_code i o (source_code e) (source_code a))) σ ≡ two_summed i o σ (num_of a σ) (num_of e σ)
+  update_means : (i : Holder) (o : Arithmetic) (a e : Source) (σ : State) → plain_meant p deepest ks F b M n (Eval (update_code i o (source_code e) (source_code a))) σ ≡ two_summed i o σ (num_of a σ) (num_of e σ)
   unfolding evaluated all_evaluated stepped
   update_means i o (Named j) (Named k) σ = refl
   update_means i o (Named j) (Constant z) σ = refl
   update_means i o (Constant z) (Named j) σ = refl
   update_means i o (Constant z) (Constant y) σ = refl
 
-  update_sorted : (i : ℕ) (o : Arithmetic) (a x : Code) → sorted (context p deepest ks F b M n) [] (update_code i o a x) ≡ true → Parts p deepest ks F b M n i (form_of [] a ∷ []) x [] a
+  update_sorted : (i : Holder) (o : Arithmetic) (a x : Code) → sorted (context p deepest ks F b M n) [] (update_code i o a x) ≡ true → Parts p deepest ks F b M n i (form_of [] a ∷ []) x [] a
   unfolding sorted all_sorted
   update_sorted i o a x so =
       let ctx = context p deepest ks F b M n in
@@ -469,7 +469,7 @@ module _ (p : Program) (deepest : Watch) (ks : List Kind) (F : List Frame) (b : 
       let h = set_sorted p deepest ks F b M n (f ∷ []) i o x (Bound true zero) s2.1 in
       record { kind = h.kind; first_one = h.first_one; second = s2.0 }
 
-  update_is : (i : ℕ) (o : Arithmetic) (a x : Code) (s : Sum) → sum_of i o (source_in x) (source_in a) ≡ Some s → sorted (context p deepest ks F b M n) [] (update_code i o a x) ≡ true → SumIs (update_code i o a x) s
+  update_is : (i : Holder) (o : Arithmetic) (a x : Code) (s : Sum) → sum_of i o (source_in x) (source_in a) ≡ Some s → sorted (context p deepest ks F b M n) [] (update_code i o a x) ≡ true → SumIs (update_code i o a x) s
   update_is i o a x s eq so = by (source_in x) refl (source_in a) refl eq
     where
       by : (q : Option Source) → source_in x ≡ q → (r : Option Source) → source_in a ≡ r → sum_of i o q r ≡ Some s → SumIs (update_code i o a x) s
@@ -485,8 +485,8 @@ module _ (p : Program) (deepest : Watch) (ks : List Kind) (F : List Frame) (b : 
 
   -- `n++`
 
-  abbrev old_code : ℕ → Arithmetic → Code → Code → Code
-  old_code i o a z = Let (Do AsNumber (At a End)) (Let (Do (Inline o) (At (Bound false zero) (At z End))) (Seq (Set (Global true i) (Bound true zero)) (Bound true (suc zero))))
+  abbrev old_code : Holder → Arithmetic → Code → Code → Code
+  old_code i o a z = Let (Do AsNumber (At a End)) (Let (Do (Inline o) (At (Bound false zero) (At z End))) (Seq (Set (holder_slot i) (Bound true zero)) (Bound true (suc zero))))
 
   abbrev old_summed : ℕ → Arithmetic → State → Result AnyNumber Fault → Result AnyNumber Fault → Outcome Flow
   old_summed i o σ r1 r2 =
@@ -497,12 +497,12 @@ module _ (p : Program) (deepest : Watch) (ks : List Kind) (F : List Frame) (b : 
   abbrev old_stored : ℕ → AnyNumber → State → Result AnyNumber Fault → Outcome Flow
   old_stored i x σ r = go_on (go_on (settled r σ) (λ y. (store_slot (Global true i) (value.Num y.number) >> give y) >> give x)) (λ y. give Normal)
 
-  old_means : (i : ℕ) (o : Arithmetic) (a : Source) (z : ℤ) (σ : State) → plain_meant p deepest ks F b M n (Eval (old_code i o (source_code a) (Number z))) σ ≡ old_summed i o σ (num_of a σ) (num_of (Constant z) σ)
+  old_means : (i : Holder) (o : Arithmetic) (a : Source) (z : ℤ) (σ : State) → plain_meant p deepest ks F b M n (Eval (old_code i o (source_code a) (Number z))) σ ≡ old_summed i o σ (num_of a σ) (num_of (Constant z) σ)
   unfolding evaluated all_evaluated stepped
   old_means i o (Named j) z σ = refl
   old_means i o (Constant y) z σ = refl
 
-  old_same : (i : ℕ) (o : Arithmetic) (σ : State) (r1 r2 : Result AnyNumber Fault) → old_summed i o σ r1 r2 ≡ two_summed i o σ r1 r2
+  old_same : (i : Holder) (o : Arithmetic) (σ : State) (r1 r2 : Result AnyNumber Fault) → old_summed i o σ r1 r2 ≡ two_summed i o σ r1 r2
   old_same i o σ (Ok x) (Ok z) = by (outcome_of (arithmetic_of o x.number z.number))
     where
       by : (r : Result AnyNumber Fault) → old_stored i x σ r ≡ sum_stored i σ r
@@ -511,11 +511,11 @@ module _ (p : Program) (deepest : Watch) (ks : List Kind) (F : List Frame) (b : 
   old_same i o σ (Ok x) (Err f) = refl
   old_same i o σ (Err f) r2 = refl
 
-  old_sorted : (i : ℕ) (o : Arithmetic) (a z : Code) → sorted (context p deepest ks F b M n) [] (old_code i o a z) ≡ true → Parts p deepest ks F b M n i [] a (a_number ∷ []) z
+  old_sorted : (i : Holder) (o : Arithmetic) (a z : Code) → sorted (context p deepest ks F b M n) [] (old_code i o a z) ≡ true → Parts p deepest ks F b M n i [] a (a_number ∷ []) z
   unfolding sorted all_sorted
   old_sorted i o a z so =
       let ctx = context p deepest ks F b M n in
-      let c = Seq (Set (Global true i) (Bound true zero)) (Bound true (suc zero)) in
+      let c = Seq (Set (holder_slot i) (Bound true zero)) (Bound true (suc zero)) in
       let d = Do (Inline o) (At (Bound false zero) (At z End)) in
       let fs = a_number ∷ [] in
       let fa = fits_sort (form_of [] a) sort.Number && true in
@@ -530,7 +530,7 @@ module _ (p : Program) (deepest : Watch) (ks : List Kind) (F : List Frame) (b : 
       let t3 = and_parts (sorted ctx fs z) true t2.1 in
       record { kind = (and_parts (has_kind kinds i Unboxed) true (and_parts (has_kind kinds i Unboxed && true) true t1.1).0).0; first_one = s3.0; second = t3.0 }
 
-  old_is : (i : ℕ) (o : Arithmetic) (a : Code) (z : ℤ) (s : Sum) → sum_of i o (source_in a) (Some (Constant z)) ≡ Some s → sorted (context p deepest ks F b M n) [] (old_code i o a (Number z)) ≡ true → SumIs (old_code i o a (Number z)) s
+  old_is : (i : Holder) (o : Arithmetic) (a : Code) (z : ℤ) (s : Sum) → sum_of i o (source_in a) (Some (Constant z)) ≡ Some s → sorted (context p deepest ks F b M n) [] (old_code i o a (Number z)) ≡ true → SumIs (old_code i o a (Number z)) s
   old_is i o a z s eq so = by (source_in a) refl eq
     where
       by : (q : Option Source) → source_in a ≡ q → sum_of i o q (Some (Constant z)) ≡ Some s → SumIs (old_code i o a (Number z)) s
@@ -548,47 +548,47 @@ module _ (p : Program) (deepest : Watch) (ks : List Kind) (F : List Frame) (b : 
   abbrev WellSorted : Code → Type 0
   WellSorted e = sorted (context p deepest ks F b M n) [] e ≡ true
 
-  two_is : (i : ℕ) (o : Arithmetic) (es : Codes) (s : Sum) → two_sum i o es ≡ Some s → WellSorted (Set (Global true i) (Do (Inline o) es)) → SumIs (Set (Global true i) (Do (Inline o) es)) s
+  two_is : (i : Holder) (o : Arithmetic) (es : Codes) (s : Sum) → two_sum i o es ≡ Some s → WellSorted (Set (holder_slot i) (Do (Inline o) es)) → SumIs (Set (holder_slot i) (Do (Inline o) es)) s
   two_is i o (At x (At y End)) s eq so = set_is i o x y s eq so
   two_is i o es s eq so = none_is eq
 
-  do_is : (i : ℕ) (e : Code) (s : Sum) → set_sum i e ≡ Some s → WellSorted (Set (Global true i) e) → SumIs (Set (Global true i) e) s
+  do_is : (i : Holder) (e : Code) (s : Sum) → set_sum i e ≡ Some s → WellSorted (Set (holder_slot i) e) → SumIs (Set (holder_slot i) e) s
   do_is i (Do (Inline o) es) s eq so = two_is i o es s eq so
   do_is i e s eq so = none_is eq
 
-  kept_is : (i : ℕ) (o : Arithmetic) (a : Code) (es : Codes) (s : Sum) → kept_sum i o a es ≡ Some s → WellSorted (Let a (Set (Global true i) (Do (Inline o) es))) → SumIs (Let a (Set (Global true i) (Do (Inline o) es))) s
+  kept_is : (i : Holder) (o : Arithmetic) (a : Code) (es : Codes) (s : Sum) → kept_sum i o a es ≡ Some s → WellSorted (Let a (Set (holder_slot i) (Do (Inline o) es))) → SumIs (Let a (Set (holder_slot i) (Do (Inline o) es))) s
   kept_is i o a (At x (At (Bound true zero) End)) s eq so = update_is i o a x s eq so
   kept_is i o a es s eq so = none_is eq
 
-  set_kept_is : (i : ℕ) (a e : Code) (s : Sum) → update_sum i a e ≡ Some s → WellSorted (Let a (Set (Global true i) e)) → SumIs (Let a (Set (Global true i) e)) s
+  set_kept_is : (i : Holder) (a e : Code) (s : Sum) → update_sum i a e ≡ Some s → WellSorted (Let a (Set (holder_slot i) e)) → SumIs (Let a (Set (holder_slot i) e)) s
   set_kept_is i a (Do (Inline o) es) s eq so = kept_is i o a es s eq so
   set_kept_is i a e s eq so = none_is eq
 
-  new_is : (a : Code) (i : ℕ) (x : Code) (s : Sum) → new_sum (source_in a) (Some i) x ≡ Some s → WellSorted (Let (Do AsNumber (At a End)) (Let x (Seq (Set (Global true i) (Bound true zero)) (Bound true (suc zero))))) →
-      SumIs (Let (Do AsNumber (At a End)) (Let x (Seq (Set (Global true i) (Bound true zero)) (Bound true (suc zero))))) s
+  new_is : (a : Code) (i : Holder) (x : Code) (s : Sum) → new_sum (source_in a) (Some i) x ≡ Some s → WellSorted (Let (Do AsNumber (At a End)) (Let x (Seq (Set (holder_slot i) (Bound true zero)) (Bound true (suc zero))))) →
+      SumIs (Let (Do AsNumber (At a End)) (Let x (Seq (Set (holder_slot i) (Bound true zero)) (Bound true (suc zero))))) s
   new_is a i (Do (Inline o) (At (Bound false zero) (At (Number z) End))) s eq so = old_is i o a z s eq so
   new_is a i x s eq so = none_is eq
 
   step_is : (a x y : Code) (s : Sum) → new_sum (old_source a) (stored_name y) x ≡ Some s → WellSorted (Let a (Let x y)) → SumIs (Let a (Let x y)) s
   step_is (Do AsNumber (At a End)) x y s eq so = by (stored_name y) refl eq
     where
-      by : (i : Option ℕ) → stored_name y ≡ i → new_sum (source_in a) i x ≡ Some s → SumIs (Let (Do AsNumber (At a End)) (Let x y)) s
+      by : (i : Option Holder) → stored_name y ≡ i → new_sum (source_in a) i x ≡ Some s → SumIs (Let (Do AsNumber (At a End)) (Let x y)) s
       by (Some i) e1 e2 = subst (λ t. WellSorted (Let (Do AsNumber (At a End)) (Let x t)) → SumIs (Let (Do AsNumber (At a End)) (Let x t)) s) (sym (stored_is y i e1)) (new_is a i x s e2) so
       by None e1 e2 = cc
   step_is a x y s eq so = absurd (none_new (stored_name y) x s eq)
 
   let_is : (a e : Code) (s : Sum) → let_sum a e ≡ Some s → WellSorted (Let a e) → SumIs (Let a e) s
-  let_is a (Set (Global true i) e) s eq so = set_kept_is i a e s eq so
+  let_is a (Set (holder_slot i) e) s eq so = set_kept_is i a e s eq so
   let_is a (Let x y) s eq so = step_is a x y s eq so
   let_is a e s eq so = none_is eq
 
   pub sum_is : (e : Code) (s : Sum) → sum_in e ≡ Some s → WellSorted e → SumIs e s
-  sum_is (Set (Global true i) e) s eq so = do_is i e s eq so
+  sum_is (Set (holder_slot i) e) s eq so = do_is i e s eq so
   sum_is (Let a e) s eq so = let_is a e s eq so
   sum_is e s eq so = none_is eq
 
   -- the machine adds
-  summed_ok : (s : Sum) (y : AnyNumber) (K : List Label) (k : Instructions) (l : Locals) (σ : State) → has_kind kinds s.target Unboxed ≡ true → SourceFits (2 ^ 52) s.left → SourceFits (2 ^ 52) s.right → length σ.globals ≡ length p.globals → beside (global_value s.target σ) ≡ empty →
+  summed_ok : (s : Sum) (y : AnyNumber) (K : List Label) (k : Instructions) (l : Locals) (σ : State) → HolderFits p deepest ks F b M n s.target → SourceFits (2 ^ 52) s.left → SourceFits (2 ^ 52) s.right → length σ.globals ≡ length p.globals → beside (holder_value s.target σ) ≡ empty →
       binary_at w64 (sum_op s.op) (word_of s.left σ) (word_of s.right σ) ≡ Ok (number_word y) →
       Goes (machine p deepest ks F) (source_steps s.left + (source_steps s.right + 2)) (at ks [] K (laid b l) F (summed (layout p deepest ks F b M n) s k) (beside_state p deepest ks F σ)) (at ks [] K (laid b l) F k (beside_state p deepest ks F (with_global s.target (value.Num y.number) σ)))
   summed_ok s y K k l σ hk f1 f2 sz none e =
@@ -600,13 +600,13 @@ module _ (p : Program) (deepest : Watch) (ks : List Kind) (F : List Frame) (b : 
   sum_unboxed e s t = name_unboxed p deepest ks F b M n s.target (and_source s.left (and_source s.right [])) t.kind (source_unboxed (2 ^ 52) s.left (and_source s.right []) t.left (source_unboxed (2 ^ 52) s.right [] t.right tt))
 
   -- the same, one after the other
-  summed_again : (i : ℕ) (o : Arithmetic) (σ : State) (r1 r2 : Result AnyNumber Fault) → two_summed i o σ r1 r2 ≡ go_on (summed_in_turn p deepest ks F b M n i o r1 r2 σ) (λ y. give Normal)
+  summed_again : (i : Holder) (o : Arithmetic) (σ : State) (r1 r2 : Result AnyNumber Fault) → two_summed i o σ r1 r2 ≡ go_on (summed_in_turn p deepest ks F b M n i o r1 r2 σ) (λ y. give Normal)
   summed_again i o σ (Ok x) (Ok z) = refl
   summed_again i o σ (Ok x) (Err f) = refl
   summed_again i o σ (Err f) r2 = refl
 
   pub near_source : (s : Source) → SourceFits (2 ^ 52) s → IsSource p deepest ks F b M n s
-  near_source (Named i) h = h
+  near_source (Held i) h = h
   near_source (Constant z) h = let le = leb-true (unsigned_abs z) (2 ^ 52) h in le-leb (unsigned_abs z) (2 ^ 53) (omega (arith, le))
 
   -- what is done once its place is noted

@@ -52,7 +52,7 @@ use Rattle.lower_model.proofs.Branches.{block_ends}
 use Rattle.lower_model.proofs.Sequences.{dropped_ok}
 use Rattle.lower_model.proofs.Quick.{holder_is, name_is}
 use Rattle.lower_model.proofs.QuickNames.{all_flag, all_steps, all_few, name_longer, AllSure, none_is, some_is, nought_number, all_sure, among_sure, name_among, still_among}
-use Rattle.lower_model.proofs.QuickParts.{HolderFits, slot_fits, all_put, taken, stored_normal, Two, sum_stored, two_summed, set_code, AllUnboxed, name_got, all_unsure_ok, name_unboxed, set_means, set_sorted}
+use Rattle.lower_model.proofs.QuickParts.{stored_turns, HolderFits, slot_fits, all_put, taken, stored_normal, Two, sum_stored, two_summed, set_code, AllUnboxed, name_got, all_unsure_ok, name_unboxed, set_means, set_sorted}
 
 -- Which code is such a step.
 
@@ -301,20 +301,18 @@ module _ (p : Program) (deepest : Watch) (ks : List Kind) (F : List Frame) (b : 
           let xf = x.few in
           let last = does (all_put p deepest ks F b M n q.target) NoMore in
           let to_taken = taken p deepest ks F b M n q.target y u K1 NoMore l σ parts.target s.parameters s.fit (ap beside to.value ∙ beside_number to.number) in
+          let tk = stored_turns p deepest ks F b M n q.target y σ in
           let means : meant ≡ Gives Normal σ1 =
           x.means q.target q.divisor ∙ (ap (λ t. sum_stored q.target σ (outcome_of (if t then Err DivisionByZero else Ok r))) some ∙ (ap (sum_stored q.target σ) (in_range r rs) ∙ stored_normal p deepest ks F b M n q.target y σ)) in
           subst (λ o. Reached p deepest ks F b M (W + 12) σ.turns (at ks [] K1 (laid b l) F fast S) P Q o) (sym means)
+          (subst (λ g. Reached p deepest ks F b M (W + 12) g (at ks [] K1 (laid b l) F fast S) P Q (Gives Normal σ1)) tk
           (there (machine p deepest ks F) M (W + 12) (1 + (x.steps + (1 + (1 + 1)))) _ _ Normal σ1 P Q
           (then_goes (goes_to (name_got p deepest ks F b M n _ _ _ q.multiple.name 0 u 0 l σ parts.name s.parameters s.fit) (ap (λ v. at ks (Bits (I64 v) ∷ []) K1 (laid b l) F (multiplied q.multiple.factor (does (I64Const (word q.divisor)) (does (Binary ty.I64 RemS) last))) S) (ap bare own.value ∙ bare_number m)))
           (then_goes (x.goes K1 (does (I64Const (word q.divisor)) (does (Binary ty.I64 RemS) last)) l)
           (then_goes (by_steps 1 (ap (λ o. with_operands (push_result [] (Some (given_by I64 o))) ks K1 (laid b l) F last S) (ap (λ v. remainder_by x.number v) (sym ez) ∙ remainder_word x.number nz some)))
           (then_goes to_taken.goes closes)))) (omega (arith, xf))
-          (record { next = to_taken.next; comes = refl; starts = starts_after p deepest ks F b M n u K K l to_taken.next σ σ1 s refl (turns_kept q.target y) to_taken.iterators to_taken.fit; iterators = to_taken.iterators; flows = flows_on lo }))
+          (record { next = to_taken.next; comes = refl; starts = starts_after p deepest ks F b M n u K K l to_taken.next σ σ1 s refl (let e = tk in omega (arith, e)) to_taken.iterators to_taken.fit; iterators = to_taken.iterators; flows = flows_on lo })))
         where
-          turns_kept : (h : Holder) (y : AnyNumber) → (stored_in (holder_slot h) (value.Num y.number) σ).turns ≤ σ.turns
-          turns_kept (OfName i) y = omega arith
-          turns_kept (OfParameter i) y = omega arith
-
           remainder_by : AnyNumber → ℤ → Result ℕ TrapKind
           remainder_by x z = remainder_signed w64 (number_word x) (word z)
 

@@ -49,7 +49,7 @@ use Rattle.lower_model.proofs.Copies.{copied_global}
 use Rattle.lower_model.proofs.Inlining.{tested, sum_fits, difference_fits}
 use Rattle.lower_model.proofs.Products.{word, is_out, out_word, sum_word, difference_word}
 use Rattle.lower_model.proofs.QuickNames.{num_of, nought_number}
-use Rattle.lower_model.proofs.QuickParts.{HolderFits, taken}
+use Rattle.lower_model.proofs.QuickParts.{HolderFits, taken, stored_turns}
 use Rattle.lower_model.proofs.Reading.{kind_below, kind_found}
 use Rattle.lower_model.proofs.SettingNames.{bare_global_set}
 use Rattle.lower_model.proofs.Written.{fit_global}
@@ -248,10 +248,6 @@ module _ (p : Program) (deepest : Watch) (ks : List Kind) (F : List Frame) (b : 
   stored_gives (OfName i) m σ = refl
   stored_gives (OfParameter i) m σ = refl
 
-  stored_turns : (h : Holder) (m : AnyNumber) (σ : State) → (stored_in (holder_slot h) (value.Num m.number) σ).turns ≡ σ.turns
-  stored_turns (OfName i) m σ = refl
-  stored_turns (OfParameter i) m σ = refl
-
   -- a holder takes it
   pub sum_taken_ok : (op : IBinOp) (h : Holder) (x y : AnyNumber) (z : ℤ) (u d : ℕ) (k : Instructions) (K : List Label) (l : Locals) (σ : State) → HolderFits p deepest ks F b M n h → length ks ≡ b.parameters → FitsSigned w64 z → binary_at w64 op (number_word x) (number_word y) ≡ Ok (word z) →
       0 < b.temporaries → Fit p deepest ks F 1 u 0 l σ → l.hand 0 ≡ empty →
@@ -267,7 +263,7 @@ module _ (p : Program) (deepest : Watch) (ks : List Kind) (F : List Frame) (b : 
       let f0 = fit_less p deepest ks F 0 u 0 a.next σ a.holds.0 a.fit in
       let g = put_in h m u k K a.next σ hk pk lt f0 a.holds.0 a.holds.1 in
       subst (λ o. Reached p deepest ks F b M 16 σ.turns c1 P1 Q o) (stored_gives h m σ)
-      (subst (λ q. Reached p deepest ks F b M 16 q c1 P1 Q (Gives m (stored_in (holder_slot h) (value.Num m.number) σ))) (stored_turns h m σ)
+      (subst (λ q. Reached p deepest ks F b M 16 q c1 P1 Q (Gives m (stored_in (holder_slot h) (value.Num m.number) σ))) (stored_turns p deepest ks F b M n h m σ)
       (there mach M 16 g.steps c1 _ m (stored_in (holder_slot h) (value.Num m.number) σ) P1 Q (goes_from a.comes g.goes) g.few
       (record { next = g.next; comes = refl; fit = g.fit; iterators = λ y. g.iterators y ∙ a.same.iterators y }))))
 

@@ -1,5 +1,5 @@
 -- `n += e`: what is added is evaluated first, the name's number is asked then, and the sum goes to the name.
-use Rattle.std.proofs.Common.{◌≡◌, ℕ, zero, suc, ◌+◌, ◌-◌, ◌%◌, ◌^◌, ◌<◌, ◌≤◌, Bool, true, false, List, [], ◌∷◌, Some, None, Option, Ok, Err, Result, ℤ, pos, negsuc, unsigned_abs, w64, refl, sym, ap, ◌∙◌, subst, arith, if◌then◌else◌}
+use Rattle.std.proofs.Common.{◌≡◌, ℕ, zero, suc, ◌+◌, ◌-◌, ◌%◌, ◌^◌, ◌<◌, ◌≤◌, Bool, true, false, List, [], ◌∷◌, Some, None, Option, Ok, Err, Result, ℤ, pos, negsuc, unsigned_abs, w64, refl, sym, ap, ◌∙◌, subst, arith, if◌then◌else◌, length}
 use Rattle.std.specs.Prelude.{◌&&◌}
 use Rattle.std.proofs.lemmas.Bool.{and_parts, lt-ltb}
 use Rattle.awk_values.specs.Faults.{fault_number}
@@ -25,16 +25,16 @@ use Rattle.wasm_store.specs.declared.word.Word.TheVariants.{I32, I64}
 use Rattle.mid_program.specs.declared.mid.Arithmetic.{Arithmetic}
 use Rattle.mid_program.specs.declared.mid.Arithmetic.TheVariants as inline
 use Rattle.mid_program.specs.declared.mid.Operation.TheVariants.{Inline}
-use Rattle.mid_program.specs.Mid.{Kind, Unboxed, Program, Global, Code, Do, Get, Set, Let, Bound, Codes, End, At, Eval, a_number, a_value, form_of, Slot}
+use Rattle.mid_program.specs.Mid.{Kind, Unboxed, Program, Global, Code, Do, Get, Set, Let, Bound, Codes, End, At, Eval, a_number, a_value, form_of, Slot, Form}
 use Rattle.mid_program.specs.MidMeaning.{Holds, converted, evaluated, all_evaluated, stepped, then_row, arithmetic_of, store_slot}
-use Rattle.sem_scripts.specs.ScriptState.{State, Faulted, Outcome, ◌>>◌, give, go_on, settled, global_value}
+use Rattle.sem_scripts.specs.ScriptState.{State, Faulted, Outcome, ◌>>◌, give, go_on, settled, global_value, local_value}
 use Rattle.mid_program.specs.Sorted.{There, has_kind, kinds_of, sorted, all_sorted, is_kept, keeps_well, fits as fits_sort}
 use Rattle.sem_scripts.specs.Statements.{Normal}
 use Rattle.lower_model.specs.Cells.{Bits}
 use Rattle.lower_model.specs.Emission.{field_at, text_dropped}
 use Rattle.lower_model.specs.Machine.{Conf, Label, Frame, at, with_operands, push_result}
 use Rattle.lower_model.specs.Places.{Bases, room, arrays_in, number_local}
-use Rattle.lower_model.specs.Quick.{Update, is_sum, sum_op, name_in, update_of, kept_update, set_update, let_update, update_in, Holder, holder_of, update_after}
+use Rattle.lower_model.specs.Quick.{Update, is_sum, sum_op, name_in, update_of, kept_update, set_update, let_update, update_in, Holder, holder_of, update_after, OfName, OfParameter}
 use Rattle.lower_model.specs.Small.{does, ask_row, fail_if}
 use Rattle.lower_model.specs.Small
 use Rattle.lower_model.specs.Statements.{holder_cleared, name_put, name_numbered, field_numbered, sum_taken, both_asked, updated}
@@ -155,9 +155,13 @@ module _ (p : Program) (deepest : Watch) (ks : List Kind) (F : List Frame) (b : 
   abbrev added_meant : (q : Update) → Holds (form_of [] q.added) → State → Outcome AnyNumber
   added_meant q x τ = summed_in_turn p deepest ks F b M n q.target q.op (number_of_row (holder_value q.name τ)) (converted (form_of [] q.added) sort.Number x) τ
 
-  stored_means : (q : Update) (x : Holds (form_of [] q.added)) (τ : State) → meant p deepest ks F b M n (form_of [] q.added ∷ []) (x, tt) (Set (holder_slot q.target) (Do (Inline q.op) (At (Get (holder_slot q.name)) (At (Bound true zero) End)))) τ ≡ added_meant q x τ
+  added_means : (i h : Holder) (o : Arithmetic) (g : Form) (x : Holds g) (τ : State) → meant p deepest ks F b M n (g ∷ []) (x, tt) (Set (holder_slot i) (Do (Inline o) (At (Get (holder_slot h)) (At (Bound true zero) End)))) τ ≡ summed_in_turn p deepest ks F b M n i o (number_of_row (holder_value h τ)) (converted g sort.Number x) τ
   unfolding evaluated all_evaluated
-  stored_means q x τ = row_in_turn q.target q.op (number_of_row (holder_value q.name τ)) (converted (form_of [] q.added) sort.Number x) τ
+  added_means i (OfName j) o g x τ = row_in_turn i o (number_of_row (global_value j τ)) (converted g sort.Number x) τ
+  added_means i (OfParameter j) o g x τ = row_in_turn i o (number_of_row (local_value j τ)) (converted g sort.Number x) τ
+
+  stored_means : (q : Update) (x : Holds (form_of [] q.added)) (τ : State) → meant p deepest ks F b M n (form_of [] q.added ∷ []) (x, tt) (Set (holder_slot q.target) (Do (Inline q.op) (At (Get (holder_slot q.name)) (At (Bound true zero) End)))) τ ≡ added_meant q x τ
+  stored_means q x τ = added_means q.target q.name q.op (form_of [] q.added) x τ
 
   -- the name takes the sum, once what is added is there
   name_takes : (q : Update) (u d : ℕ) (k : Instructions) (K : List Label) (l : Locals) (x : Holds (form_of [] q.added)) (τ : State) → UpdateParts q → length ks ≡ b.parameters → is_sum q.op ≡ true → 1 < b.temporaries → Fit p deepest ks F 1 u 0 l τ → HoldsAt (form_of [] q.added) 0 l x →
