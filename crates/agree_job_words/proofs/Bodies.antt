@@ -21,9 +21,9 @@ use Rattle.lower_model.specs.Emission.{Layout, asked, dropped, field_at, tested}
 use Rattle.lower_model.specs.Machine.{zeros}
 use Rattle.wasm_types.specs.declared.types.ValType.{ValType}
 use Rattle.lower_model.specs.Places.{Bases, answer_local, array_local, handle_local, handle_types, iterator_local, local_types, number_global, number_local, status_global, temporary_types, text_global, way_global}
-use Rattle.lower_model.specs.Quick.{Within, test_within, Source, Named, Constant, joined, all_unsure, Sum, sum_names, sum_op, sum_in, Update, update_in, Tally, tally_in, Remainder, remainder_in, remainder_names, multiplied, Counted, counted_in, Pair, pair_names, pair_in, step_jumps, is_nothing}
+use Rattle.lower_model.specs.Quick.{Within, test_within, Source, Holder, OfName, OfParameter, Held, Constant, joined, all_unsure, Sum, sum_names, sum_op, sum_in, Update, update_in, Tally, tally_in, Remainder, remainder_in, remainder_names, multiplied, Counted, counted_in, Pair, pair_names, pair_in, step_jumps, is_nothing}
 use Rattle.lower_model.specs.Small.{ask_row, does, either, moved_out}
-use Rattle.lower_model.specs.Statements.{again, answer_given, returned, routine_ended, left_by, pair_left, summed, way_exit, way_next, name_read, source_pushed, name_numbered, source_numbered, source_taken, sum_kept, sum_taken, summed_anyway, field_numbered, both_asked, element_numbered, element_given, remainder_taken, remainder_dropped, barely_dropped, plainly_dropped, quickly_dropped, left_unless_counted, left_unless_pair, left_unless, all_emptied, arrays_emptied, arrays_swept, block, first_part, goes_on, has_functions, iterator_left, iterators_emptied, iterators_swept, key_stored, last_part, left_swept, main_body, names_declared, names_made, parameters_dropped, part_done, record_done, records_read, routine_body, routines_declared, step_emitted, steps_emitted, swept, temporaries_emptied, temporaries_swept}
+use Rattle.lower_model.specs.Statements.{again, answer_given, returned, routine_ended, left_by, pair_left, summed, way_exit, way_next, name_read, source_pushed, name_numbered, source_numbered, source_taken, sum_kept, sum_taken, summed_anyway, field_numbered, both_asked, element_numbered, element_given, remainder_taken, remainder_dropped, barely_dropped, plainly_dropped, quickly_dropped, left_unless_counted, left_unless_pair, left_unless, all_emptied, arrays_emptied, arrays_swept, block, first_part, goes_on, has_functions, iterator_left, iterators_emptied, iterators_swept, key_stored, last_part, left_swept, main_body, names_declared, names_made, parameters_dropped, part_done, record_done, records_read, routine_body, routines_declared, step_emitted, steps_emitted, swept, temporaries_emptied, temporaries_swept, name_put}
 use Rattle.lower_model.proofs.Tallies.{Shape, Updating, Following, Leading, tally_code, tally_is, tally_sorted}
 use Rattle.lower_model.proofs.Updating.{added_code, added_is}
 use Rattle.agree_job_words.specs.Naming.{is_argv, names_argv, step_names, steps_name}
@@ -101,32 +101,42 @@ module _ (tells : Bool) (y : Layout) (sizes : ℕ → Option ℕ) (whole : Progr
 
   -- Quick ways.
 
-  joined_spares : {e : Bool} {k : Instructions} → So e k → (is : List ℕ) (q : ℤ) (A : Tags) → At e (joined (name_read y) is q k) (true ∷ A)
+  -- a holder's number is read, and written
+  read_spares : (h : Holder) (e : Bool) (k : Instructions) (A : Tags) → At e k (true ∷ A) → At e (does (name_read y h) k) A
+  read_spares (OfName i) e k A r = (true, (λ q. numbered tells y sizes i), r)
+  read_spares (OfParameter i) e k A r = r
+
+  put_spares : (h : Holder) (e : Bool) (k : Instructions) (A : Tags) → At e k A → At e (does (name_put y h) k) (true ∷ A)
+  put_spares (OfName i) e k A r = (refl, r)
+  put_spares (OfParameter i) e k A r = r
+
+  joined_spares : {e : Bool} {k : Instructions} → So e k → (is : List Holder) (q : ℤ) (A : Tags) → At e (joined (name_read y) is q k) (true ∷ A)
   joined_spares r [] q A = r.so (true ∷ A)
-  joined_spares r (i ∷ is) q A = (false, (λ z. cc), joined_spares r is q A)
+  joined_spares r (i ∷ is) q A = read_spares i _ _ (true ∷ A) (joined_spares r is q A)
 
   module _ {e : Bool} {k : Instructions} (r : So e k) where
-    all_spares : (is : List ℕ) (q : ℤ) (w : ℕ) → So e (all_unsure (name_read y) is q w k)
+    all_spares : (is : List Holder) (q : ℤ) (w : ℕ) → So e (all_unsure (name_read y) is q w k)
     all_spares [] q w = record { so = λ A. r.so (false ∷ A) }
-    all_spares (i ∷ is) q w = record { so = λ A. (false, (λ z. cc), joined_spares compared is q A) }
+    all_spares (i ∷ is) q w = record { so = λ A. read_spares i _ _ A (joined_spares compared is q A) }
       where
         compared : So e (does (I64Const w) (does (Compare ty.I64 GtU) k))
         compared = record { so = λ A. r.so (false ∷ popped A) }
 
   source_spares : (e : Bool) (k : Instructions) (x : Source) (A : Tags) → At e k (true ∷ A) → At e (source_pushed y x k) A
-  source_spares e k (Named i) A r = (true, (λ q. numbered tells y sizes i), r)
+  source_spares e k (Held i) A r = read_spares i e k A r
   source_spares e k (Constant z) A r = r
 
   module _ {e : Bool} {k : Instructions} (r : So e k) where
-    name_spares : (i t d : ℕ) → So e (name_numbered y i t d k)
-    name_spares i t d = record { so = λ A. (true, (λ q. numbered tells y sizes i), (((true, (λ q. named tells y sizes i), (refl, (refl, (refl, tt)))), (tt, tt)), (tt, r.so []))) }
+    name_spares : (i : Holder) (t d : ℕ) → So e (name_numbered y i t d k)
+    name_spares (OfName i) t d = record { so = λ A. (true, (λ q. numbered tells y sizes i), (((true, (λ q. named tells y sizes i), (refl, (refl, (refl, tt)))), (tt, tt)), (tt, r.so []))) }
+    name_spares (OfParameter i) t d = record { so = λ A. (tt, (tt, r.so [])) }
 
     numbered_spares : (x : Source) (t d : ℕ) → So e (source_numbered y x t d k)
-    numbered_spares (Named i) t d = name_spares i t d
+    numbered_spares (Held i) t d = name_spares i t d
     numbered_spares (Constant z) t d = r
 
     taken_spares : (x : Source) (t : ℕ) → So e (source_taken y x t k)
-    taken_spares (Named i) t = record { so = λ A. r.so (true ∷ A) }
+    taken_spares (Held i) t = record { so = λ A. r.so (true ∷ A) }
     taken_spares (Constant z) t = record { so = λ A. r.so (true ∷ A) }
 
     kept_spares : (op : IBinOp) (t d : ℕ) → So e (sum_kept y op t d k)
@@ -140,11 +150,15 @@ module _ (tells : Bool) (y : Layout) (sizes : ℕ → Option ℕ) (whole : Progr
     given_spares a n = record { so = λ A. array_spares tells y sizes _ _ _ a n (refl, (refl, r.so A)) }
 
   module _ {e : Bool} {k : Instructions} (r : So e k) where
-    sum_spares : (op : IBinOp) (i t d : ℕ) → So e (sum_taken y op i t d k)
-    sum_spares op i t d = kept_spares (dropped_text tells y sizes stored i) op t d
+    sum_spares : (op : IBinOp) (i : Holder) (t d : ℕ) → So e (sum_taken y op i t d k)
+    sum_spares op (OfName i) t d = kept_spares (dropped_text tells y sizes stored i) op t d
       where
         stored : So e (does (LocalGet (number_local b t)) (does (GlobalSet (number_global y.ranges i)) k))
         stored = record { so = λ A. (refl, r.so A) }
+    sum_spares op (OfParameter i) t d = kept_spares stored op t d
+      where
+        stored : So e (does (LocalGet (number_local b t)) (does (LocalSet i) k))
+        stored = record { so = λ A. r.so A }
 
   -- a remainder of the number on the stack goes to a name
   multiplied_spares : (e : Bool) (k : Instructions) (f : Option ℤ) (A : Tags) → At e k (true ∷ A) → At e (multiplied f k) (true ∷ A)
@@ -163,7 +177,7 @@ module _ (tells : Bool) (y : Layout) (sizes : ℕ → Option ℕ) (whole : Progr
         slow = dropped_spares tells y sizes c sized same done [] [] s zero zero (suc d) none_kept o q
 
         both : So e (either (dropped y [] [] s zero zero (suc d) Done) (remainder_taken y x Done) k)
-        both = record { so = λ A. (slow.so [], ((true, (λ z. numbered tells y sizes x.multiple.name), multiplied_spares _ _ x.multiple.factor _ (refl, tt)), r.so [])) }
+        both = record { so = λ A. (slow.so [], (read_spares x.multiple.name _ _ [] (multiplied_spares _ _ x.multiple.factor _ (put_spares x.target _ _ [] tt)), r.so [])) }
 
     barely_spares : (o : Option Tally) (s : Code) (d : ℕ) → tally_in s ≡ o → sorted c [] s ≡ true → names_argv s ≡ false → So e (barely_dropped y o s d k)
     barely_spares None s d h o q = remainder_spares (remainder_in s) s d o q
@@ -207,7 +221,7 @@ module _ (tells : Bool) (y : Layout) (sizes : ℕ → Option ℕ) (whole : Progr
     quick_spares (Some x) s d o q = all_spares both (sum_names x) _ _
       where
         both : So e (either (summed_anyway y x (suc d) Done) (summed y x Done) k)
-        both = record { so = λ A. ((anyway_spares done x (suc d)).so [], (source_spares _ _ x.left [] (source_spares _ _ x.right (true ∷ []) (refl, tt)), r.so [])) }
+        both = record { so = λ A. ((anyway_spares done x (suc d)).so [], (source_spares _ _ x.left [] (source_spares _ _ x.right (true ∷ []) (put_spares x.target _ _ [] tt)), r.so [])) }
 
     -- where it is not so this code goes on
     tested_out : (s : Code) (d out : ℕ) → sorted c [] s ≡ true → names_argv s ≡ false → So false (tested y [] [] s zero zero (suc d) (does (Test ty.I32 Eqz) (does (BrIf (suc out)) Done)))
@@ -215,7 +229,7 @@ module _ (tells : Bool) (y : Layout) (sizes : ℕ → Option ℕ) (whole : Progr
 
     counted_spares : (o : Option Counted) (s : Code) (d out : ℕ) → sorted c [] s ≡ true → names_argv s ≡ false → So e (left_unless_counted y o s d out k)
     counted_spares None s d out o q = tested_spares tells y sizes c sized same (out_if r out) [] [] s zero zero d none_kept o q
-    counted_spares (Some x) s d out o q = record { so = λ A. (false, (λ z. cc), ((tested_out s d out o q).so [], ((false, (λ z. cc), (refl, (refl, tt))), r.so []))) }
+    counted_spares (Some x) s d out o q = record { so = λ A. read_spares x.name _ _ A ((tested_out s d out o q).so [], (read_spares x.name _ _ [] (refl, (refl, tt)), r.so [])) }
 
     pair_spares : (o : Option Pair) (s : Code) (d out : ℕ) → sorted c [] s ≡ true → names_argv s ≡ false → So e (left_unless_pair y o s d out k)
     pair_spares None s d out o q = counted_spares (counted_in s) s d out o q
@@ -226,7 +240,7 @@ module _ (tells : Bool) (y : Layout) (sizes : ℕ → Option ℕ) (whole : Progr
 
     left_spares : (o : Option Within) (s : Code) (d out : ℕ) → sorted c [] s ≡ true → names_argv s ≡ false → So e (left_unless y o s d out k)
     left_spares None s d out o q = pair_spares (pair_in s) s d out o q
-    left_spares (Some x) s d out o q = record { so = λ A. (false, (λ z. cc), ((tested_out s d out o q).so [], (tt, r.so []))) }
+    left_spares (Some x) s d out o q = record { so = λ A. read_spares x.name _ _ A ((tested_out s d out o q).so [], (tt, r.so [])) }
 
   chosen_code : {e : Bool} {a d : Instructions} (z : Bool) → So e a → So e d → So e (if z then a else d)
   chosen_code true p q = p

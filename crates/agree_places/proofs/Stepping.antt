@@ -16,9 +16,9 @@ use Rattle.lower_model.specs.Emission.{Layout, field_at, tested}
 use Rattle.lower_model.specs.Functions.{layout_of, main_bases, main_callee, routine_bases, routine_callee}
 use Rattle.lower_model.specs.Noted.{routine_rest}
 use Rattle.lower_model.specs.Places.{Bases}
-use Rattle.lower_model.specs.Quick.{Within, test_within, Source, Named, Constant, joined, all_unsure, Sum, sum_names, sum_op, sum_in, Update, update_in, Tally, tally_in, Remainder, remainder_in, remainder_names, multiplied, Counted, counted_in, Pair, pair_names, pair_in, step_jumps, is_nothing}
+use Rattle.lower_model.specs.Quick.{Within, test_within, Source, Holder, OfName, OfParameter, Held, Constant, joined, all_unsure, Sum, sum_names, sum_op, sum_in, Update, update_in, Tally, tally_in, Remainder, remainder_in, remainder_names, multiplied, Counted, counted_in, Pair, pair_names, pair_in, step_jumps, is_nothing}
 use Rattle.lower_model.specs.Small.{ask_row, does, either}
-use Rattle.lower_model.specs.Statements.{name_read, source_pushed, name_numbered, source_numbered, source_taken, sum_kept, sum_taken, summed_anyway, both_asked, element_numbered, element_given, remainder_taken, remainder_dropped, barely_dropped, plainly_dropped, quickly_dropped, left_unless_counted, left_unless_pair, left_unless, all_emptied, arrays_emptied, arrays_swept, before_parts, block, first_part, goes_on, has_functions, iterator_left, iterators_emptied, iterators_swept, key_stored, left_by, left_swept, main_body, names_declared, names_made, parameters_dropped, part_done, record_done, records_read, routine_body, routines_declared, started, step_emitted, steps_emitted, swept, temporaries_emptied, temporaries_swept, answer_given, returned}
+use Rattle.lower_model.specs.Statements.{name_read, source_pushed, name_numbered, source_numbered, source_taken, sum_kept, sum_taken, summed_anyway, both_asked, element_numbered, element_given, remainder_taken, remainder_dropped, barely_dropped, plainly_dropped, quickly_dropped, left_unless_counted, left_unless_pair, left_unless, all_emptied, arrays_emptied, arrays_swept, before_parts, block, first_part, goes_on, has_functions, iterator_left, iterators_emptied, iterators_swept, key_stored, left_by, left_swept, main_body, names_declared, names_made, parameters_dropped, part_done, record_done, records_read, routine_body, routines_declared, started, step_emitted, steps_emitted, swept, temporaries_emptied, temporaries_swept, answer_given, returned, name_put, counted_left}
 use Rattle.lower_model.proofs.Tallies.{Shape, Updating, Following, Leading, tally_code, IsAdded, tally_is}
 use Rattle.lower_model.proofs.Updating.{added_is}
 use Rattle.agree_places.specs.Statements.{main_places, main_starts, routine_starts, starts_in, starts_of, step_starts, steps_starts}
@@ -88,33 +88,44 @@ module _ (y : Layout) (asks : Bool) (most : ℕ) where
 
   -- Quick ways.
 
-  joined_nops : {k : Instructions} {m : List Instructions} (is : List ℕ) (q : ℤ) → Nops l k m → Nops l (joined (name_read y) is q k) m
-  joined_nops [] q r = r
-  joined_nops (i ∷ is) q r = plain _ refl (plain _ refl (plain _ refl (plain _ refl (joined_nops is q r))))
+  -- a holder's number is read, and written
+  read_nops : {k : Instructions} {m : List Instructions} (h : Holder) → Nops l k m → Nops l (does (name_read y h) k) m
+  read_nops (OfName i) r = plain _ refl r
+  read_nops (OfParameter i) r = plain _ refl r
 
-  all_nops : {k : Instructions} {m : List Instructions} (is : List ℕ) (q : ℤ) (w : ℕ) → Nops l k m → Nops l (all_unsure (name_read y) is q w k) m
+  put_nops : {k : Instructions} {m : List Instructions} (h : Holder) → Nops l k m → Nops l (does (name_put y h) k) m
+  put_nops (OfName i) r = plain _ refl r
+  put_nops (OfParameter i) r = plain _ refl r
+
+  joined_nops : {k : Instructions} {m : List Instructions} (is : List Holder) (q : ℤ) → Nops l k m → Nops l (joined (name_read y) is q k) m
+  joined_nops [] q r = r
+  joined_nops (i ∷ is) q r = read_nops i (plain _ refl (plain _ refl (plain _ refl (joined_nops is q r))))
+
+  all_nops : {k : Instructions} {m : List Instructions} (is : List Holder) (q : ℤ) (w : ℕ) → Nops l k m → Nops l (all_unsure (name_read y) is q w k) m
   all_nops [] q w r = plain _ refl r
-  all_nops (i ∷ is) q w r = plain _ refl (plain _ refl (plain _ refl (joined_nops is q (plain _ refl (plain _ refl r)))))
+  all_nops (i ∷ is) q w r = read_nops i (plain _ refl (plain _ refl (joined_nops is q (plain _ refl (plain _ refl r)))))
 
   source_nops : {k : Instructions} {m : List Instructions} (x : Source) → Nops l k m → Nops l (source_pushed y x k) m
-  source_nops (Named i) r = plain _ refl r
+  source_nops (Held i) r = read_nops i r
   source_nops (Constant z) r = plain _ refl r
 
   -- sums in all cases
 
-  name_nops : {k : Instructions} {m : List Instructions} (i t d : ℕ) → Nops l k m → Nops l (name_numbered y i t d k) m
-  name_nops i t d r = record { are = r.are; calls = r.calls }
+  name_nops : {k : Instructions} {m : List Instructions} (i : Holder) (t d : ℕ) → Nops l k m → Nops l (name_numbered y i t d k) m
+  name_nops (OfName i) t d r = record { are = r.are; calls = r.calls }
+  name_nops (OfParameter i) t d r = record { are = r.are; calls = r.calls }
 
   numbered_nops : {k : Instructions} {m : List Instructions} (x : Source) (t d : ℕ) → Nops l k m → Nops l (source_numbered y x t d k) m
-  numbered_nops (Named i) t d r = name_nops i t d r
+  numbered_nops (Held i) t d r = name_nops i t d r
   numbered_nops (Constant z) t d r = r
 
   taken_nops : {k : Instructions} {m : List Instructions} (x : Source) (t : ℕ) → Nops l k m → Nops l (source_taken y x t k) m
-  taken_nops (Named i) t r = plain _ refl r
+  taken_nops (Held i) t r = plain _ refl r
   taken_nops (Constant z) t r = plain _ refl r
 
-  sum_nops : {k : Instructions} {m : List Instructions} (op : IBinOp) (i t d : ℕ) → Nops l k m → Nops l (sum_taken y op i t d k) m
-  sum_nops op i t d r = record { are = r.are; calls = r.calls }
+  sum_nops : {k : Instructions} {m : List Instructions} (op : IBinOp) (i : Holder) (t d : ℕ) → Nops l k m → Nops l (sum_taken y op i t d k) m
+  sum_nops op (OfName i) t d r = record { are = r.are; calls = r.calls }
+  sum_nops op (OfParameter i) t d r = record { are = r.are; calls = r.calls }
 
   anyway_nops : {k : Instructions} {m : List Instructions} (x : Sum) (d : ℕ) → Nops l k m → Nops l (summed_anyway y x d k) m
   anyway_nops x d r = numbered_nops x.left zero d (numbered_nops x.right 1 d (taken_nops x.left zero (taken_nops x.right 1 (sum_nops (sum_op x.op) x.target zero d r))))
@@ -137,7 +148,7 @@ module _ (y : Layout) (asks : Bool) (most : ℕ) where
   multiplied_nops (Some c) r = plain _ refl (plain _ refl r)
 
   taken_remainder_nops : {k : Instructions} {m : List Instructions} (q : Remainder) → Nops l k m → Nops l (remainder_taken y q k) m
-  taken_remainder_nops q r = plain _ refl (multiplied_nops q.multiple.factor (plain _ refl (plain _ refl (plain _ refl r))))
+  taken_remainder_nops q r = read_nops q.multiple.name (multiplied_nops q.multiple.factor (plain _ refl (plain _ refl (put_nops q.target r))))
 
   remainder_nops : {k : Instructions} {m : List Instructions} (o : Option Remainder) (e : Code) (d : ℕ) → (asks ≡ true → Few most zero e) → Nops l k m → Nops l (remainder_dropped y o e d k) m
   remainder_nops None e d lo r = dropped_nops y asks most [] [] e zero zero d lo r
@@ -166,12 +177,16 @@ module _ (y : Layout) (asks : Bool) (most : ℕ) where
     quick_nops : (o : Option Sum) (e : Code) (d : ℕ) → (asks ≡ true → Few most zero e) → Nops l k m → Nops l (quickly_dropped y o e d k) m
     quick_nops None e d lo r = plainly_nops (update_in e) e d refl lo r
     quick_nops (Some x) e d lo r =
-        all_nops (sum_names x) _ _ (choice (anyway_nops x (suc d) none) (source_nops x.left (source_nops x.right (plain _ refl (plain _ refl none)))) r)
+        all_nops (sum_names x) _ _ (choice (anyway_nops x (suc d) none) (source_nops x.left (source_nops x.right (plain _ refl (put_nops x.target none)))) r)
 
     counted_nops : (o : Option Counted) (e : Code) (d out : ℕ) → (asks ≡ true → Few most zero e) → Nops l k m → Nops l (left_unless_counted y o e d out k) m
     counted_nops None e d out lo r = tested_nops y asks most [] [] e zero zero d lo (plain _ refl (plain _ refl r))
     counted_nops (Some q) e d out lo r =
-        plain _ refl (plain _ refl (plain _ refl (choice (tested_nops y asks most [] [] e zero zero (suc d) lo (plain _ refl (plain _ refl none))) (record { are = refl; calls = λ z. refl }) r)))
+        read_nops q.name (plain _ refl (plain _ refl (choice (tested_nops y asks most [] [] e zero zero (suc d) lo (plain _ refl (plain _ refl none))) (by q.name) r)))
+      where
+        by : (h : Holder) → Nops l (counted_left y (record { op = q.op; name = h }) (suc out) Done) []
+        by (OfName i) = record { are = refl; calls = λ z. refl }
+        by (OfParameter i) = record { are = refl; calls = λ z. refl }
 
     pair_nops : (o : Option Pair) (e : Code) (d out : ℕ) → (asks ≡ true → Few most zero e) → Nops l k m → Nops l (left_unless_pair y o e d out k) m
     pair_nops None e d out lo r = counted_nops (counted_in e) e d out lo r
@@ -180,7 +195,7 @@ module _ (y : Layout) (asks : Bool) (most : ℕ) where
 
     left_nops : (o : Option Within) (e : Code) (d out : ℕ) → (asks ≡ true → Few most zero e) → Nops l k m → Nops l (left_unless y o e d out k) m
     left_nops None e d out lo r = pair_nops (pair_in e) e d out lo r
-    left_nops (Some q) e d out lo r = plain _ refl (plain _ refl (plain _ refl (plain _ refl (plain _ refl (choice (tested_nops y asks most [] [] e zero zero (suc d) lo (plain _ refl (plain _ refl none))) none r)))))
+    left_nops (Some q) e d out lo r = read_nops q.name (plain _ refl (plain _ refl (plain _ refl (plain _ refl (choice (tested_nops y asks most [] [] e zero zero (suc d) lo (plain _ refl (plain _ refl none))) none r)))))
 
   -- `return`
 

@@ -19,9 +19,10 @@ use Rattle.mid_program.specs.Mid.{Kind, Boxed, Unboxed, Many, Global, Code, Do, 
 use Rattle.sem_scripts.specs.Names.{ArrayName}
 use Rattle.lower_model.specs.Emission.{Layout, field_at}
 use Rattle.lower_model.specs.Places.{Bases, memory_of}
-use Rattle.lower_model.specs.Quick.{Within, test_within, both_within, compared_within, constant_in, first_ones, name_in, joined, all_unsure, Source, Named, Constant, source_in, Sum, sum_names, sum_op, sum_in, Update, update_in, Tally, tally_in, Remainder, remainder_in, remainder_names, most_multiplied, multiplied, Counted, counted_in, sum_of, two_sum, set_sum, kept_sum, update_sum, old_source, stored_name, new_sum, let_sum, is_near, Pair, pair_names, pair_in, pair_of, step_jumps, is_nothing}
-use Rattle.lower_model.specs.Statements.{answer_given, returned, name_read, source_pushed, summed, name_numbered, source_numbered, source_taken, sum_kept, sum_taken, summed_anyway, both_asked, element_numbered, element_given, remainder_taken, remainder_dropped, barely_dropped, plainly_dropped, quickly_dropped, left_unless_counted, pair_left, left_unless_pair, left_unless, all_emptied, arrays_emptied, arrays_swept, before_parts, declared, goes_on, iterator_left, iterators_emptied, iterators_swept, key_stored, left_by, main_body, names_declared, names_made, parameters_dropped, part_done, record_done, records_read, routine_body, routines_declared, step_emitted, steps_emitted, swept, temporaries_emptied, temporaries_swept, has_functions, left_swept}
+use Rattle.lower_model.specs.Quick.{Within, test_within, both_within, compared_within, constant_in, first_ones, name_in, joined, all_unsure, Holder, OfName, OfParameter, holder_of, set_after, set_alone, Source, Held, Constant, source_in, Sum, sum_names, sum_op, sum_in, Update, update_in, Tally, tally_in, Remainder, remainder_in, remainder_names, most_multiplied, multiplied, Counted, counted_in, sum_of, two_sum, set_sum, kept_sum, update_sum, old_source, stored_name, new_sum, let_sum, is_near, Pair, pair_names, pair_in, pair_of, step_jumps, is_nothing}
+use Rattle.lower_model.specs.Statements.{answer_given, returned, name_put, name_read, source_pushed, summed, name_numbered, source_numbered, source_taken, sum_kept, sum_taken, summed_anyway, both_asked, element_numbered, element_given, remainder_taken, remainder_dropped, barely_dropped, plainly_dropped, quickly_dropped, left_unless_counted, pair_left, left_unless_pair, left_unless, all_emptied, arrays_emptied, arrays_swept, before_parts, declared, goes_on, iterator_left, iterators_emptied, iterators_swept, key_stored, left_by, main_body, names_declared, names_made, parameters_dropped, part_done, record_done, records_read, routine_body, routines_declared, step_emitted, steps_emitted, swept, temporaries_emptied, temporaries_swept, has_functions, left_swept}
 use Rattle.std.proofs.lemmas.Bool.{leb-true}
+use Rattle.lower_model.specs.Small.{does}
 use Rattle.lower_model.proofs.Quick.{constant_is, shift_pos}
 use Rattle.lower_model.proofs.QuickNames.{near_sum, some_is, source_code, source_is}
 use Rattle.lower_model.proofs.Tallies.{Shape, Updating, Following, Leading, tally_code, tally_is}
@@ -34,7 +35,7 @@ use Rattle.agree_sizes.proofs.Small.{Small, SmallStep, SmallSteps}
 -- ---- quick ways
 
 abbrev SourceSmall : Source → Type 0
-SourceSmall (Named i) = Unit {0}
+SourceSmall (Held i) = Unit {0}
 SourceSmall (Constant z) = unsigned_abs z ≤ 2 ^ 53
 
 abbrev MaybeSmall : Option Source → Type 0
@@ -48,41 +49,49 @@ abbrev PairSmall : Pair → Type 0
 PairSmall q = SourceSmall q.left × SourceSmall q.right
 
 near_small : (s : Source) → is_near s ≡ true → SourceSmall s
-near_small (Named i) e = tt
+near_small (Held i) e = tt
 near_small (Constant z) e = let h = leb-true (unsigned_abs z) (2 ^ 52) e in omega (arith, h)
 
-sum_of_small : (i : ℕ) (o : Arithmetic) (a e : Option Source) (s : Sum) → sum_of i o a e ≡ Some s → SumSmall s
+sum_of_small : (i : Holder) (o : Arithmetic) (a e : Option Source) (s : Sum) → sum_of i o a e ≡ Some s → SumSmall s
 sum_of_small i o (Some a) (Some e) s q = let n = near_sum i o a e s q in subst SumSmall n.1 (near_small a n.0.1, near_small e n.0.2)
 sum_of_small i o (Some a) None s q = cc
 sum_of_small i o None e s q = cc
 
-two_small : (i : ℕ) (o : Arithmetic) (es : Codes) (s : Sum) → two_sum i o es ≡ Some s → SumSmall s
+two_small : (i : Holder) (o : Arithmetic) (es : Codes) (s : Sum) → two_sum i o es ≡ Some s → SumSmall s
 two_small i o (At a (At e End)) s q = sum_of_small i o (source_in a) (source_in e) s q
 two_small i o es s q = cc
 
-set_small : (i : ℕ) (e : Code) (s : Sum) → set_sum i e ≡ Some s → SumSmall s
+set_small : (i : Holder) (e : Code) (s : Sum) → set_sum i e ≡ Some s → SumSmall s
 set_small i (Do (Inline o) es) s q = two_small i o es s q
 set_small i e s q = cc
 
-kept_small : (i : ℕ) (o : Arithmetic) (a : Code) (es : Codes) (s : Sum) → kept_sum i o a es ≡ Some s → SumSmall s
+kept_small : (i : Holder) (o : Arithmetic) (a : Code) (es : Codes) (s : Sum) → kept_sum i o a es ≡ Some s → SumSmall s
 kept_small i o a (At x (At (Bound true zero) End)) s q = sum_of_small i o (source_in x) (source_in a) s q
 kept_small i o a es s q = cc
 
-update_small : (i : ℕ) (a e : Code) (s : Sum) → update_sum i a e ≡ Some s → SumSmall s
+update_small : (i : Holder) (a e : Code) (s : Sum) → update_sum i a e ≡ Some s → SumSmall s
 update_small i a (Do (Inline o) es) s q = kept_small i o a es s q
 update_small i a e s q = cc
 
-new_small : (a : Option Source) (i : Option ℕ) (e : Code) (s : Sum) → new_sum a i e ≡ Some s → SumSmall s
+new_small : (a : Option Source) (i : Option Holder) (e : Code) (s : Sum) → new_sum a i e ≡ Some s → SumSmall s
 new_small a (Some i) (Do (Inline o) (At (Bound false zero) (At (Number z) End))) s q = sum_of_small i o a (Some (Constant z)) s q
 new_small a i e s q = cc
 
 let_small : (a e : Code) (s : Sum) → let_sum a e ≡ Some s → SumSmall s
-let_small a (Set (Global true i) e) s q = update_small i a e s q
+let_small a (Set x e) s q = by (holder_of x) q
+  where
+    by : (o : Option Holder) → set_after o a e ≡ Some s → SumSmall s
+    by (Some i) h = update_small i a e s h
+    by None h = cc
 let_small a (Let x z) s q = new_small (old_source a) (stored_name z) x s q
 let_small a e s q = cc
 
 sum_small : (e : Code) (s : Sum) → sum_in e ≡ Some s → SumSmall s
-sum_small (Set (Global true i) e) s q = set_small i e s q
+sum_small (Set x e) s q = by (holder_of x) q
+  where
+    by : (o : Option Holder) → set_alone o e ≡ Some s → SumSmall s
+    by (Some i) h = set_small i e s h
+    by None h = cc
 sum_small (Let a e) s q = let_small a e s q
 sum_small e s q = cc
 
@@ -90,7 +99,7 @@ source_small : (e : Code) (s : Source) → source_in e ≡ Some s → Small e �
 source_small e s q f = by s (subst Small (source_is e s q) f)
   where
     by : (r : Source) → Small (source_code r) → SourceSmall r
-    by (Named i) g = tt
+    by (Held i) g = tt
     by (Constant z) g = g
 
 maybe_small : (e : Code) → Small e → MaybeSmall (source_in e)
@@ -112,16 +121,16 @@ pair_small e q h s = cc
 abbrev WithinSmall : Within → Type 0
 WithinSmall q = (cast_unsigned w64 q.shift < 2 ^ 64) × (q.width < 2 ^ 64)
 
-ones_small : (i n : ℕ) (q : Within) → first_ones i n ≡ Some q → n ≤ 2 ^ 55 → WithinSmall q
+ones_small : (i : Holder) (n : ℕ) (q : Within) → first_ones i n ≡ Some q → n ≤ 2 ^ 55 → WithinSmall q
 ones_small i zero q h few = cc
 ones_small i (suc k) q h few = subst WithinSmall (some_is (record { name = i; shift = pos (2 ^ 53); width = k }) q h) (omega arith, omega (arith, few))
 
-compared_small : (c : CompareOp) (i : ℕ) (z : ℤ) (q : Within) → compared_within c i z ≡ Some q → unsigned_abs z ≤ 2 ^ 53 → WithinSmall q
+compared_small : (c : CompareOp) (i : Holder) (z : ℤ) (q : Within) → compared_within c i z ≡ Some q → unsigned_abs z ≤ 2 ^ 53 → WithinSmall q
 compared_small compare.Less i z q h s = let x = (shift_pos z s).1 in ones_small i (unsigned_abs (z +ℤ pos (2 ^ 53))) q h (omega (arith, x))
 compared_small compare.LessOrEqual i z q h s = let x = (shift_pos z s).1 in ones_small i (suc (unsigned_abs (z +ℤ pos (2 ^ 53)))) q h (omega (arith, x))
 compared_small c i z q h s = cc
 
-both_small : (c : CompareOp) (e : Code) (i : Option ℕ) (r : Option ℤ) (q : Within) → constant_in e ≡ r → both_within c i r ≡ Some q → Small e → WithinSmall q
+both_small : (c : CompareOp) (e : Code) (i : Option Holder) (r : Option ℤ) (q : Within) → constant_in e ≡ r → both_within c i r ≡ Some q → Small e → WithinSmall q
 both_small c e (Some i) (Some z) q is h s = compared_small c i z q h (subst Small (constant_is e z is) s)
 both_small c e (Some i) None q is h s = cc
 both_small c e None r q is h s = cc
@@ -142,40 +151,51 @@ module _ (y : Layout) (names : length y.names ≤ 2 ^ 24) (memory : length (memo
   abbrev b : Bases
   b = y.bases
 
+  -- a holder's number is read, and written
+  read_fits : {k : Instructions} (h : Holder) → Fits k → Fits (does (name_read y h) k)
+  read_fits (OfName i) r = plain _ refl r
+  read_fits (OfParameter i) r = plain _ refl r
+
+  put_fits : {k : Instructions} (h : Holder) → Fits k → Fits (does (name_put y h) k)
+  put_fits (OfName i) r = plain _ refl r
+  put_fits (OfParameter i) r = plain _ refl r
+
   source_fits : {k : Instructions} (s : Source) → SourceSmall s → Fits k → Fits (source_pushed y s k)
-  source_fits (Named i) s r = plain _ refl r
+  source_fits (Held i) s r = read_fits i r
   source_fits (Constant z) s r = plain (I64Const (cast_unsigned w64 z)) (long_fits (cast_unsigned w64 z) (number_small z s)) r
 
   sum_fits : {k : Instructions} (s : Sum) → SumSmall s → Fits k → Fits (summed y s k)
-  sum_fits s h r = source_fits s.left h.0 (source_fits s.right h.1 (plain _ refl (plain _ refl r)))
+  sum_fits s h r = source_fits s.left h.0 (source_fits s.right h.1 (plain _ refl (put_fits s.target r)))
 
-  joined_fits : {k : Instructions} (is : List ℕ) (z : ℤ) → cast_unsigned w64 z < 2 ^ 64 → Fits k → Fits (joined (name_read y) is z k)
+  joined_fits : {k : Instructions} (is : List Holder) (z : ℤ) → cast_unsigned w64 z < 2 ^ 64 → Fits k → Fits (joined (name_read y) is z k)
   joined_fits [] z h r = r
   joined_fits (i ∷ is) z h r =
-      plain _ refl (plain (I64Const (cast_unsigned w64 z)) (long_fits (cast_unsigned w64 z) h) (plain _ refl (plain _ refl (joined_fits is z h r))))
+      read_fits i (plain (I64Const (cast_unsigned w64 z)) (long_fits (cast_unsigned w64 z) h) (plain _ refl (plain _ refl (joined_fits is z h r))))
 
-  unsure_fits : {k : Instructions} (is : List ℕ) (z : ℤ) (width : ℕ) → cast_unsigned w64 z < 2 ^ 64 → width < 2 ^ 64 → Fits k →
+  unsure_fits : {k : Instructions} (is : List Holder) (z : ℤ) (width : ℕ) → cast_unsigned w64 z < 2 ^ 64 → width < 2 ^ 64 → Fits k →
       Fits (all_unsure (name_read y) is z width k)
   unsure_fits [] z width h w r = plain _ refl r
   unsure_fits (i ∷ is) z width h w r =
-      plain _ refl (plain (I64Const (cast_unsigned w64 z)) (long_fits (cast_unsigned w64 z) h) (plain _ refl
+      read_fits i (plain (I64Const (cast_unsigned w64 z)) (long_fits (cast_unsigned w64 z) h) (plain _ refl
       (joined_fits is z h (plain (I64Const width) (long_fits width w) (plain _ refl r)))))
 
   -- sums in all cases
 
-  name_fits : {k : Instructions} (i t d : ℕ) → Fits k → Fits (name_numbered y i t d k)
-  name_fits i t d r = record { has = r.has }
+  name_fits : {k : Instructions} (i : Holder) (t d : ℕ) → Fits k → Fits (name_numbered y i t d k)
+  name_fits (OfName i) t d r = record { has = r.has }
+  name_fits (OfParameter i) t d r = record { has = r.has }
 
   numbered_fits : {k : Instructions} (x : Source) (t d : ℕ) → Fits k → Fits (source_numbered y x t d k)
-  numbered_fits (Named i) t d r = name_fits i t d r
+  numbered_fits (Held i) t d r = name_fits i t d r
   numbered_fits (Constant z) t d r = r
 
   taken_fits : {k : Instructions} (x : Source) (t : ℕ) → SourceSmall x → Fits k → Fits (source_taken y x t k)
-  taken_fits (Named i) t s r = plain _ refl r
+  taken_fits (Held i) t s r = plain _ refl r
   taken_fits (Constant z) t s r = plain (I64Const (cast_unsigned w64 z)) (long_fits (cast_unsigned w64 z) (number_small z s)) r
 
-  taking_fits : {k : Instructions} (op : IBinOp) (i t d : ℕ) → Fits k → Fits (sum_taken y op i t d k)
-  taking_fits op i t d r = record { has = r.has }
+  taking_fits : {k : Instructions} (op : IBinOp) (i : Holder) (t d : ℕ) → Fits k → Fits (sum_taken y op i t d k)
+  taking_fits op (OfName i) t d r = record { has = r.has }
+  taking_fits op (OfParameter i) t d r = record { has = r.has }
 
   anyway_fits : {k : Instructions} (x : Sum) (d : ℕ) → SumSmall x → Fits k → Fits (summed_anyway y x d k)
   anyway_fits x d h r = numbered_fits x.left zero d (numbered_fits x.right 1 d (taken_fits x.left zero h.0 (taken_fits x.right 1 h.1 (taking_fits (sum_op x.op) x.target zero d r))))
@@ -193,13 +213,13 @@ module _ (y : Layout) (names : length y.names ≤ 2 ^ 24) (memory : length (memo
 
   -- remainders
 
-  multiplied_fits : {k : Instructions} (i : ℕ) (f : Option ℤ) → Small (factored_code i f) → Fits k → Fits (multiplied f k)
+  multiplied_fits : {k : Instructions} (i : Holder) (f : Option ℤ) → Small (factored_code i f) → Fits k → Fits (multiplied f k)
   multiplied_fits i None h r = r
   multiplied_fits i (Some c) h r = plain (I64Const (cast_unsigned w64 c)) (long_fits (cast_unsigned w64 c) (number_small c h.1.0)) (plain _ refl r)
 
   taken_remainder_fits : {k : Instructions} (q : Remainder) → Small (remainder_code q) → Fits k → Fits (remainder_taken y q k)
   taken_remainder_fits q h r =
-      plain _ refl (multiplied_fits q.multiple.name q.multiple.factor h.0 (plain (I64Const (cast_unsigned w64 q.divisor)) (long_fits (cast_unsigned w64 q.divisor) (number_small q.divisor h.1.0)) (plain _ refl (plain _ refl r))))
+      read_fits q.multiple.name (multiplied_fits q.multiple.name q.multiple.factor h.0 (plain (I64Const (cast_unsigned w64 q.divisor)) (long_fits (cast_unsigned w64 q.divisor) (number_small q.divisor h.1.0)) (plain _ refl (put_fits q.target r))))
 
   remainder_fits : {k : Instructions} (o : Option Remainder) (e : Code) (d : ℕ) → remainder_in e ≡ o → Small e → Fits k → Fits (remainder_dropped y o e d k)
   remainder_fits None e d h s r = dropped_fits y names memory [] [] e zero zero d s r
@@ -247,7 +267,7 @@ module _ (y : Layout) (names : length y.names ≤ 2 ^ 24) (memory : length (memo
     counted_fits : (o : Option Counted) (e : Code) (d out : ℕ) → Small e → Fits k → Fits (left_unless_counted y o e d out k)
     counted_fits None e d out s r = tested_fits y names memory [] [] e zero zero d s (plain _ refl (plain _ refl r))
     counted_fits (Some q) e d out s r =
-        plain _ refl (plain _ refl (plain _ refl (choice (tested_fits y names memory [] [] e zero zero (suc d) s (plain _ refl (plain _ refl none))) (plain _ refl (plain _ refl (plain _ refl (plain _ refl (plain _ refl (plain _ refl none)))))) r)))
+        read_fits q.name (plain _ refl (plain _ refl (choice (tested_fits y names memory [] [] e zero zero (suc d) s (plain _ refl (plain _ refl none))) (read_fits q.name (plain _ refl (plain _ refl (plain _ refl (plain _ refl (plain _ refl none)))))) r)))
 
     pair_fits : (o : Option Pair) (e : Code) (d out : ℕ) → pair_in e ≡ o → Small e → Fits k → Fits (left_unless_pair y o e d out k)
     pair_fits None e d out h s r = counted_fits (counted_in e) e d out s r
@@ -261,7 +281,7 @@ module _ (y : Layout) (names : length y.names ≤ 2 ^ 24) (memory : length (memo
     unless_fits None e d out h s r = pair_fits (pair_in e) e d out refl s r
     unless_fits (Some q) e d out h s r =
         let w = within_small e q h s in
-        plain _ refl (plain (I64Const (cast_unsigned w64 q.shift)) (long_fits (cast_unsigned w64 q.shift) w.0) (plain _ refl
+        read_fits q.name (plain (I64Const (cast_unsigned w64 q.shift)) (long_fits (cast_unsigned w64 q.shift) w.0) (plain _ refl
         (plain (I64Const q.width) (long_fits q.width w.1) (plain _ refl
         (choice (tested_fits y names memory [] [] e zero zero (suc d) s (plain _ refl (plain _ refl none))) none r)))))
 

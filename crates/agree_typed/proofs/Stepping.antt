@@ -11,23 +11,23 @@ use Rattle.wasm_types.specs.Typing.{Context, CodeOk, done}
 use Rattle.wasm_types.specs.declared.types.ValType.{ValType}
 use Rattle.wasm_types.specs.declared.types.ValType.TheVariants.{I32, I64}
 use Rattle.wasm_types.specs.declared.instr.IBinOp.{IBinOp}
-use Rattle.wasm_types.specs.declared.instr.Simple.TheVariants.{GlobalGet}
 use Rattle.mid_program.specs.Mid.{Kind, Unboxed, Program, Code, Step, Eval, Block, If, Loop, Each, Break, Continue, Next, Exit as ExitStep, ExitWith, Return, Mark, Steps, NoStep, Then, Choose, Form, Answered, Bare, Perhaps, a_value, form_of}
 use Rattle.sem_scripts.specs.Names.{ArrayName}
 use Rattle.mid_program.specs.Sorted.{context_of, kinds_of, is_array_place, fits, is_tested, is_dropped, stores_well, sorted, test_sorted, step_sorted, steps_sorted}
 use Rattle.lower_model.specs.Emission.{dropped, field_at, tested}
 use Rattle.lower_model.specs.Functions.{layout_of}
 use Rattle.lower_model.specs.Places.{Bases, room, arrays_in, step_room, steps_room, step_arrays, steps_arrays, step_iterators, steps_iterators}
-use Rattle.lower_model.specs.Quick.{Within, unsure, test_within, Source, Named, Constant, joined, all_unsure, Sum, sum_names, sum_op, sum_in, Update, update_in, Tally, tally_in, Remainder, remainder_in, remainder_names, most_multiplied, multiplied, Counted, counted_in, Pair, pair_names, pair_in, step_jumps, is_nothing}
+use Rattle.lower_model.specs.Quick.{Within, unsure, test_within, Holder, OfName, OfParameter, Source, Held, Constant, joined, all_unsure, Sum, sum_names, sum_op, sum_in, Update, update_in, Tally, tally_in, Remainder, remainder_in, remainder_names, most_multiplied, multiplied, Counted, counted_in, Pair, pair_names, pair_in, step_jumps, is_nothing}
 use Rattle.lower_model.specs.Machine.{no_notes}
-use Rattle.lower_model.proofs.QuickParts.{AllUnboxed}
+use Rattle.lower_model.specs.Small.{does}
+use Rattle.lower_model.proofs.QuickParts.{HolderFits, AllUnboxed}
 use Rattle.lower_model.proofs.Remainders.{remainder_is, remainder_sorted, remainder_unboxed}
 use Rattle.lower_model.proofs.QuickSteps.{SourceFits, near_source, test_is, sum_is, sum_unboxed, pair_is, pair_unboxed, counted_is}
 use Rattle.lower_model.proofs.Summing.{IsSource}
 use Rattle.lower_model.proofs.Tallies.{Shape, tally_code, IsAdded, tally_is, tally_room, tally_sorted}
 use Rattle.lower_model.proofs.Updating.{UpdateParts, added_code, added_is, added_sorted}
 use Rattle.lower_model.proofs.Watch.{Watch}
-use Rattle.lower_model.specs.Statements.{name_read, source_pushed, name_numbered, source_numbered, source_taken, sum_kept, sum_taken, summed_anyway, both_asked, updated, element_numbered, element_given, tallied, remainder_taken, remainder_dropped, barely_dropped, plainly_dropped, quickly_dropped, left_unless_counted, left_unless_pair, left_unless, left_by, key_stored, iterator_left, step_emitted, steps_emitted, answer_given, returned}
+use Rattle.lower_model.specs.Statements.{holder_cleared, name_put, name_read, source_pushed, name_numbered, source_numbered, source_taken, sum_kept, sum_taken, summed_anyway, both_asked, updated, element_numbered, element_given, tallied, remainder_taken, remainder_dropped, barely_dropped, plainly_dropped, quickly_dropped, left_unless_counted, left_unless_pair, left_unless, left_by, key_stored, iterator_left, step_emitted, steps_emitted, answer_given, returned}
 use Rattle.host_imports.specs.declared.import.Import.TheVariants.{Of, Drop, IterFree}
 use Rattle.agree_typed.proofs.Singles.{Stack, Labels, Exit, inner, nearest, reads_global, writes_global, nothing, called, get, put, tee, read, write, word, long, binary, variable, compare, test, discard, leave, leave_if, blocked, looped, branched}
 use Rattle.agree_typed.proofs.Standing.{Stands, kind_below}
@@ -68,11 +68,21 @@ module _ {p : Program} {ks : List Kind} {b : Bases} {C : Context} (at : Stands p
         (omega (arith, h)) (omega (arith, g)) x
         (truth_ok at (form_of [] e) lt r)
 
-    unsure_ok : {ps : Stack} {x : ℕ} (q : ℤ) (w : ℕ) → slice_get C.globals x ≡ Some (variable I64) → CodeOk C L k (I32 ∷ ps) rs → CodeOk C L (unsure (GlobalGet x) q w k) ps rs
-    unsure_ok q w e r = read e (long (binary (long (compare r))))
+    -- a holder's number is read, and written
+    holder_read : {ps : Stack} (h : Holder) → HolderFits p unwatched ks [] b 0 0 h → CodeOk C L k (I64 ∷ ps) rs → CodeOk C L (does (name_read (layout_of p b) h) k) ps rs
+    holder_read (OfName i) hf r = read (at.name_number i (kind_below (kinds_of p.globals) i Unboxed hf)) r
+    holder_read (OfParameter i) hf r = get (at.parameter i Unboxed hf) r
+
+    holder_put : {ps : Stack} (h : Holder) → HolderFits p unwatched ks [] b 0 0 h → CodeOk C L k ps rs → CodeOk C L (does (name_put (layout_of p b) h) k) (I64 ∷ ps) rs
+    holder_put (OfName i) hf r = write (at.name_number i (kind_below (kinds_of p.globals) i Unboxed hf)) r
+    holder_put (OfParameter i) hf r = put (at.parameter i Unboxed hf) r
+
+    holder_cleared_ok : (h : Holder) → HolderFits p unwatched ks [] b 0 0 h → CodeOk C L k [] rs → CodeOk C L (holder_cleared (layout_of p b) h k) [] rs
+    holder_cleared_ok (OfName i) hf r = text_dropped_ok at (kind_below (kinds_of p.globals) i Unboxed hf) r
+    holder_cleared_ok (OfParameter i) hf r = r
 
     source_ok : {ps : Stack} (m : ℕ) (q : Source) → SourceFits p unwatched ks [] b 0 0 m q → CodeOk C L k (I64 ∷ ps) rs → CodeOk C L (source_pushed (layout_of p b) q k) ps rs
-    source_ok m (Named i) h r = read (at.name_number i (kind_below (kinds_of p.globals) i Unboxed h)) r
+    source_ok m (Held i) h r = holder_read i h r
     source_ok m (Constant z) h r = long r
 
     left_by_ok : {d : ℕ} (n : ℕ) → Exit L d → CodeOk C L k [] rs → CodeOk C L (left_by n d k) [] rs
@@ -83,41 +93,44 @@ module _ {p : Program} {ks : List Kind} {b : Bases} {C : Context} (at : Stands p
 
   -- quick ways: the names that are read are there
   module _ {L : Labels} {rs : Stack} where
-    joined_ok : {k : Instructions} {ps : Stack} (is : List ℕ) (q : ℤ) → AllUnboxed p unwatched ks [] b 0 0 is → CodeOk C L k (I64 ∷ ps) rs → CodeOk C L (joined (name_read (layout_of p b)) is q k) (I64 ∷ ps) rs
+    joined_ok : {k : Instructions} {ps : Stack} (is : List Holder) (q : ℤ) → AllUnboxed p unwatched ks [] b 0 0 is → CodeOk C L k (I64 ∷ ps) rs → CodeOk C L (joined (name_read (layout_of p b)) is q k) (I64 ∷ ps) rs
     joined_ok [] q h r = r
-    joined_ok (i ∷ is) q h r = read (at.name_number i (kind_below (kinds_of p.globals) i Unboxed h.0)) (long (binary (binary (joined_ok is q h.1 r))))
+    joined_ok (i ∷ is) q h r = holder_read i h.0 (long (binary (binary (joined_ok is q h.1 r))))
 
-    all_unsure_ok : {k : Instructions} {ps : Stack} (is : List ℕ) (q : ℤ) (w : ℕ) → AllUnboxed p unwatched ks [] b 0 0 is → CodeOk C L k (I32 ∷ ps) rs → CodeOk C L (all_unsure (name_read (layout_of p b)) is q w k) ps rs
+    all_unsure_ok : {k : Instructions} {ps : Stack} (is : List Holder) (q : ℤ) (w : ℕ) → AllUnboxed p unwatched ks [] b 0 0 is → CodeOk C L k (I32 ∷ ps) rs → CodeOk C L (all_unsure (name_read (layout_of p b)) is q w k) ps rs
     all_unsure_ok [] q w h r = word r
-    all_unsure_ok (i ∷ is) q w h r = read (at.name_number i (kind_below (kinds_of p.globals) i Unboxed h.0)) (long (binary (joined_ok is q h.1 (long (compare r)))))
+    all_unsure_ok (i ∷ is) q w h r = holder_read i h.0 (long (binary (joined_ok is q h.1 (long (compare r)))))
 
   -- sums in all cases
   module _ {L : Labels} {k : Instructions} {rs : Stack} where
-    name_numbered_ok : {ps : Stack} {i t d : ℕ} → i < length (kinds_of p.globals) → t < b.temporaries → Exit L d → CodeOk C L k ps rs → CodeOk C L (name_numbered (layout_of p b) i t d k) ps rs
-    name_numbered_ok {i = i} {t = t} li lt x r =
+    name_numbered_ok : {ps : Stack} {t d : ℕ} (h : Holder) → HolderFits p unwatched ks [] b 0 0 h → t < b.temporaries → Exit L d → CodeOk C L k ps rs → CodeOk C L (name_numbered (layout_of p b) h t d k) ps rs
+    name_numbered_ok {t = t} (OfName i) hf lt x r =
+        let li = kind_below (kinds_of p.globals) i Unboxed hf in
         let g = at.name_handle i li in
         read (at.name_number i li) (tee (at.number t lt) (long (compare (branched
         (number_is_ok at (at.number t lt) (branched
         (copied_ok at (reads_global g) (writes_global g) (at.handle t lt) (number_of_value_ok at lt (inner (inner x)) done))
         (long (put (at.number t lt) done)) done)) done r))))
+    name_numbered_ok {t = t} (OfParameter i) hf lt x r =
+        get (at.parameter i Unboxed hf) (tee (at.number t lt) (long (compare (branched (long (put (at.number t lt) done)) done r))))
 
     source_numbered_ok : {ps : Stack} {t d : ℕ} (q : Source) → IsSource p unwatched ks [] b 0 0 q → t < b.temporaries → Exit L d → CodeOk C L k ps rs → CodeOk C L (source_numbered (layout_of p b) q t d k) ps rs
-    source_numbered_ok {t = t} (Named i) h lt x r = name_numbered_ok {t = t} (kind_below (kinds_of p.globals) i Unboxed h) lt x r
+    source_numbered_ok {t = t} (Held i) h lt x r = name_numbered_ok {t = t} i h lt x r
     source_numbered_ok (Constant z) h lt x r = r
 
     source_taken_ok : {ps : Stack} (q : Source) (t : ℕ) → t < b.temporaries → CodeOk C L k (I64 ∷ ps) rs → CodeOk C L (source_taken (layout_of p b) q t k) ps rs
-    source_taken_ok (Named i) t lt r = get (at.number t lt) r
+    source_taken_ok (Held i) t lt r = get (at.number t lt) r
     source_taken_ok (Constant z) t lt r = long r
 
     sum_kept_ok : {t d : ℕ} (op : IBinOp) → t < b.temporaries → Exit L d → CodeOk C L k [] rs → CodeOk C L (sum_kept (layout_of p b) op t d k) (I64 ∷ (I64 ∷ [])) rs
     sum_kept_ok {t = t} op lt x r = binary (tee (at.number t lt) (long (binary (long (compare (fail_if_ok at Range x r))))))
 
   module _ {L : Labels} {k : Instructions} {rs : Stack} where
-    sum_taken_ok : {t d : ℕ} (op : IBinOp) (i : ℕ) → i < length (kinds_of p.globals) → t < b.temporaries → Exit L d → CodeOk C L k [] rs → CodeOk C L (sum_taken (layout_of p b) op i t d k) (I64 ∷ (I64 ∷ [])) rs
-    sum_taken_ok {t = t} op i li lt x r = sum_kept_ok {t = t} op lt x (text_dropped_ok at li (get (at.number t lt) (write (at.name_number i li) r)))
+    sum_taken_ok : {t d : ℕ} (op : IBinOp) (h : Holder) → HolderFits p unwatched ks [] b 0 0 h → t < b.temporaries → Exit L d → CodeOk C L k [] rs → CodeOk C L (sum_taken (layout_of p b) op h t d k) (I64 ∷ (I64 ∷ [])) rs
+    sum_taken_ok {t = t} op h hf lt x r = sum_kept_ok {t = t} op lt x (holder_cleared_ok h hf (get (at.number t lt) (holder_put h hf r)))
 
   module _ {L : Labels} {k : Instructions} {rs : Stack} where
-    anyway_ok : {d : ℕ} (s : Sum) → IsSource p unwatched ks [] b 0 0 s.left → IsSource p unwatched ks [] b 0 0 s.right → s.target < length (kinds_of p.globals) → 1 < b.temporaries → Exit L d →
+    anyway_ok : {d : ℕ} (s : Sum) → IsSource p unwatched ks [] b 0 0 s.left → IsSource p unwatched ks [] b 0 0 s.right → HolderFits p unwatched ks [] b 0 0 s.target → 1 < b.temporaries → Exit L d →
         CodeOk C L k [] rs → CodeOk C L (summed_anyway (layout_of p b) s d k) [] rs
     anyway_ok s hl hr li lt x r =
         source_numbered_ok s.left hl (omega (arith, lt)) x (source_numbered_ok s.right hr lt x
@@ -136,19 +149,16 @@ module _ {p : Program} {ks : List Kind} {b : Bases} {C : Context} (at : Stands p
         parts : UpdateParts p unwatched ks [] b 0 0 q
         parts = added_sorted p unwatched ks [] b 0 0 q s
 
-        name : q.name < length (kinds_of p.globals)
-        name = kind_below (kinds_of p.globals) q.name Unboxed parts.name
-
         taken : CodeOk C L (sum_taken (layout_of p b) (sum_op q.op) q.target 0 d k) (I64 ∷ (I64 ∷ [])) rs
-        taken = sum_taken_ok {t = 0} (sum_op q.op) q.target (kind_below (kinds_of p.globals) q.target Unboxed parts.kind) first x r
+        taken = sum_taken_ok {t = 0} (sum_op q.op) q.target parts.kind first x r
 
         by : (o : Option ℤ) → CodeOk C L (both_asked (layout_of p b) o q d (sum_taken (layout_of p b) (sum_op q.op) q.target 0 d k)) [] rs
         by (Some z) =
-            name_numbered_ok {t = 0} name first x (get (at.number 0 first)
+            name_numbered_ok {t = 0} q.name parts.name first x (get (at.number 0 first)
             (long (called (I64 ∷ []) (at.imported (Of row.Field)) (called (I64 ∷ []) (at.imported (Of row.ToNum)) taken))))
         by None =
             code_ok at false [] [] q.added 0 0 d (none_below b.temporaries first) parts.added (omega (arith, h)) (omega (arith, g)) x
-            (name_numbered_ok {t = 1} name there x
+            (name_numbered_ok {t = 1} q.name parts.name there x
             (to_number_ok at (form_of [] q.added) first x (get (at.number 1 there) (get (at.number 0 first) taken))))
 
   -- counters in arrays
@@ -184,8 +194,8 @@ module _ {p : Program} {ks : List Kind} {b : Bases} {C : Context} (at : Stands p
     multiplied_ok None r = r
     multiplied_ok (Some c) r = long (binary r)
 
-    remainder_taken_ok : {k : Instructions} (q : Remainder) → q.multiple.name < length (kinds_of p.globals) → q.target < length (kinds_of p.globals) → CodeOk C L k [] rs → CodeOk C L (remainder_taken (layout_of p b) q k) [] rs
-    remainder_taken_ok q ln lt r = read (at.name_number q.multiple.name ln) (multiplied_ok q.multiple.factor (long (binary (write (at.name_number q.target lt) r))))
+    remainder_taken_ok : {k : Instructions} (q : Remainder) → HolderFits p unwatched ks [] b 0 0 q.multiple.name → HolderFits p unwatched ks [] b 0 0 q.target → CodeOk C L k [] rs → CodeOk C L (remainder_taken (layout_of p b) q k) [] rs
+    remainder_taken_ok q hn ht r = holder_read q.multiple.name hn (multiplied_ok q.multiple.factor (long (binary (holder_put q.target ht r))))
 
   module _ {L : Labels} {k : Instructions} {rs : Stack} where
     remainder_dropped_ok : (o : Option Remainder) (e : Code) (d : ℕ) → remainder_in e ≡ o → sorted (context_of p ks) [] e ≡ true → room e ≤ b.temporaries → arrays_in e ≤ b.arrays → Exit L d →
@@ -196,7 +206,7 @@ module _ {p : Program} {ks : List Kind} {b : Bases} {C : Context} (at : Stands p
         let t = remainder_sorted p unwatched ks [] b 0 0 q (subst (λ (c : Code). sorted (context_of p ks) [] c ≡ true) (remainder_is e q eq).code s) in
         all_unsure_ok (remainder_names q) (pos (most_multiplied q.multiple.factor)) (most_multiplied q.multiple.factor + most_multiplied q.multiple.factor) (remainder_unboxed p unwatched ks [] b 0 0 q t)
         (branched (dropped_ok [] [] e 0 0 (suc d) (none_below b.temporaries (omega (arith, h, he))) s (omega (arith, h)) (omega (arith, g)) (inner x) done)
-        (remainder_taken_ok q (kind_below (kinds_of p.globals) q.multiple.name Unboxed t.name) (kind_below (kinds_of p.globals) q.target Unboxed t.target) done) r)
+        (remainder_taken_ok q t.name t.target done) r)
 
   module _ {L : Labels} {k : Instructions} {rs : Stack} where
     barely_dropped_ok : (o : Option Tally) (e : Code) (d : ℕ) → tally_in e ≡ o → sorted (context_of p ks) [] e ≡ true → room e ≤ b.temporaries → arrays_in e ≤ b.arrays → Exit L d →
@@ -222,16 +232,16 @@ module _ {p : Program} {ks : List Kind} {b : Bases} {C : Context} (at : Stands p
         let t = sum_is p unwatched ks [] b 0 0 e a eq s in
         let few = t.room in
         all_unsure_ok (sum_names a) (pos (2 ^ 52)) (2 ^ 53) (sum_unboxed p unwatched ks [] b 0 0 e a t)
-        (branched (anyway_ok a (near_source p unwatched ks [] b 0 0 a.left t.left) (near_source p unwatched ks [] b 0 0 a.right t.right) (kind_below (kinds_of p.globals) a.target Unboxed t.kind) (omega (arith, h, few)) (inner x) done)
-        (source_ok (2 ^ 52) a.left t.left (source_ok (2 ^ 52) a.right t.right (binary (write (at.name_number a.target (kind_below (kinds_of p.globals) a.target Unboxed t.kind)) done)))) r)
+        (branched (anyway_ok a (near_source p unwatched ks [] b 0 0 a.left t.left) (near_source p unwatched ks [] b 0 0 a.right t.right) t.kind (omega (arith, h, few)) (inner x) done)
+        (source_ok (2 ^ 52) a.left t.left (source_ok (2 ^ 52) a.right t.right (binary (holder_put a.target t.kind done)))) r)
 
     left_unless_counted_ok : (o : Option Counted) (e : Code) (d out : ℕ) → counted_in e ≡ o → test_sorted (context_of p ks) e ≡ true → room e ≤ b.temporaries → arrays_in e ≤ b.arrays → Exit L d → Exit L out →
         CodeOk C L k [] rs → CodeOk C L (left_unless_counted (layout_of p b) o e d out k) [] rs
     left_unless_counted_ok None e d out eq s h g x z r = tested_ok e s h g x (test (leave_if z r))
     left_unless_counted_ok (Some q) e d out eq s h g x z r =
-        let g1 = at.name_number q.name (kind_below (kinds_of p.globals) q.name Unboxed (counted_is p unwatched ks [] b 0 0 e q eq (and_parts (is_tested (form_of [] e)) (sorted (context_of p ks) [] e) s).1).kind) in
-        read g1 (long (compare (branched (tested_ok e s h g (inner x) (test (leave_if (inner z) done)))
-        (read g1 (word (called (I64 ∷ []) (at.imported (Of row.GetSpecial)) (called (I64 ∷ []) (at.imported (Of row.ToNum)) (compare (leave_if (inner z) done)))))) r)))
+        let hf = (counted_is p unwatched ks [] b 0 0 e q eq (and_parts (is_tested (form_of [] e)) (sorted (context_of p ks) [] e) s).1).kind in
+        holder_read q.name hf (long (compare (branched (tested_ok e s h g (inner x) (test (leave_if (inner z) done)))
+        (holder_read q.name hf (word (called (I64 ∷ []) (at.imported (Of row.GetSpecial)) (called (I64 ∷ []) (at.imported (Of row.ToNum)) (compare (leave_if (inner z) done)))))) r)))
 
     left_unless_pair_ok : (o : Option Pair) (e : Code) (d out : ℕ) → pair_in e ≡ o → test_sorted (context_of p ks) e ≡ true → room e ≤ b.temporaries → arrays_in e ≤ b.arrays → Exit L d → Exit L out →
         CodeOk C L k [] rs → CodeOk C L (left_unless_pair (layout_of p b) o e d out k) [] rs
@@ -246,8 +256,8 @@ module _ {p : Program} {ks : List Kind} {b : Bases} {C : Context} (at : Stands p
         CodeOk C L k [] rs → CodeOk C L (left_unless (layout_of p b) o e d out k) [] rs
     left_unless_ok None e d out eq s h g x z r = left_unless_pair_ok (pair_in e) e d out refl s h g x z r
     left_unless_ok (Some q) e d out eq s h g x z r =
-        let lt = kind_below (kinds_of p.globals) q.name Unboxed (test_is p unwatched ks [] b 0 0 e q eq (and_parts (is_tested (form_of [] e)) (sorted (context_of p ks) [] e) s).1).kind in
-        unsure_ok q.shift q.width (at.name_number q.name lt) (branched (tested_ok e s h g (inner x) (test (leave_if (inner z) done))) done r)
+        let hf = (test_is p unwatched ks [] b 0 0 e q eq (and_parts (is_tested (form_of [] e)) (sorted (context_of p ks) [] e) s).1).kind in
+        holder_read q.name hf (long (binary (long (compare (branched (tested_ok e s h g (inner x) (test (leave_if (inner z) done))) done r)))))
 
   -- one of two codes
   chosen_ok : {L : Labels} {rs : Stack} (j : Bool) (A B : Instructions) → CodeOk C L A [] rs → CodeOk C L B [] rs → CodeOk C L (if j then A else B) [] rs

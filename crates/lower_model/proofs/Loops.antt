@@ -4,7 +4,7 @@ use Rattle.std.specs.Prelude.{◌&&◌, cond, if◌then◌else◌, pos}
 use Rattle.std.proofs.lemmas.Bool.{and_parts}
 use Rattle.wasm_types.specs.Syntax.{Instructions, Done as NoMore}
 use Rattle.wasm_types.specs.declared.types.ValType.TheVariants.{I32}
-use Rattle.wasm_types.specs.declared.instr.Simple.TheVariants.{Nop, Br, BrIf, Test}
+use Rattle.wasm_types.specs.declared.instr.Simple.TheVariants.{Nop, Br, BrIf, Test, I64Const}
 use Rattle.wasm_types.specs.declared.instr.ITestOp.TheVariants.{Eqz}
 use Rattle.mid_program.specs.Mid.{Kind, Program, Code, Step, Loop}
 use Rattle.sem_scripts.specs.ScriptRun.{GoesOn}
@@ -13,7 +13,7 @@ use Rattle.mid_program.specs.Sorted.{test_sorted, step_sorted, steps_sorted}
 use Rattle.sem_scripts.specs.Statements.{Flow, Normal, Broke, Continued, after_round, loop}
 use Rattle.lower_model.specs.Emission.{tested}
 use Rattle.lower_model.specs.Noted.{noted, noting, step_noted, steps_noted}
-use Rattle.lower_model.specs.Quick.{Within, test_within, Counted, counted_in, Pair, pair_in, pair_names, all_unsure, step_jumps, is_nothing}
+use Rattle.lower_model.specs.Quick.{Within, test_within, Counted, counted_in, Pair, pair_in, pair_names, all_unsure, step_jumps, is_nothing, Holder, OfName, OfParameter}
 use Rattle.lower_model.specs.Machine.{Conf, Label, Frame, at, label, ending_at, is_walk, loops_walked}
 use Rattle.lower_model.specs.Places.{Bases, step_room, step_iterators, step_arrays}
 use Rattle.lower_model.specs.Small.{does}
@@ -219,13 +219,17 @@ module _ (p : Program) (deepest : Watch) (ks : List Kind) (F : List Frame) (b : 
     first_plain : is_walk (Some first_round) ≡ false
     first_plain = by (test_within e)
       where
-        names : (is : List ℕ) (k1 : Instructions) → is_walk (Some (all_unsure (name_read (layout p deepest ks F b M n)) is (pos (2 ^ 53)) (2 ^ 54) k1)) ≡ false
+        reads : (h : Holder) (z : ℕ) (k1 : Instructions) → is_walk (Some (does (name_read (layout p deepest ks F b M n) h) (does (I64Const z) k1))) ≡ false
+        reads (OfName i) z k1 = refl
+        reads (OfParameter i) z k1 = refl
+
+        names : (is : List Holder) (k1 : Instructions) → is_walk (Some (all_unsure (name_read (layout p deepest ks F b M n)) is (pos (2 ^ 53)) (2 ^ 54) k1)) ≡ false
         names [] k1 = refl
-        names (i ∷ is) k1 = refl
+        names (i ∷ is) k1 = reads i _ _
 
         counted : (o : Option Counted) → is_walk (Some (left_unless_counted (layout p deepest ks F b M n) o e (suc (suc d)) 1 first_body)) ≡ false
         counted None = test_walks (layout p deepest ks F b M n) e (suc (suc d)) (does (Test I32 Eqz) (does (BrIf 1) first_body))
-        counted (Some q) = refl
+        counted (Some q) = reads q.name _ _
 
         pair : (o : Option Pair) → is_walk (Some (left_unless_pair (layout p deepest ks F b M n) o e (suc (suc d)) 1 first_body)) ≡ false
         pair None = counted (counted_in e)
@@ -233,7 +237,7 @@ module _ (p : Program) (deepest : Watch) (ks : List Kind) (F : List Frame) (b : 
 
         by : (o : Option Within) → is_walk (Some (left_unless (layout p deepest ks F b M n) o e (suc (suc d)) 1 first_body)) ≡ false
         by None = pair (pair_in e)
-        by (Some q) = refl
+        by (Some q) = reads q.name _ _
 
     first_chosen : (l1 : Locals) (t : Bool) (σ : State) (c : Conf) → ((z : ℕ) → l1.iterator z ≡ l.iterator z) → Left p deepest ks F b M n 1 first_body (loop_labels first_round k K) u l1 t σ c →
         after_test (Here p deepest ks F b M n first_body (loop_labels first_round k K) u l) (Here p deepest ks F b M n k K u l) t σ c

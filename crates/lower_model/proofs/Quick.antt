@@ -11,10 +11,10 @@ use Rattle.awk_values.specs.Comparison.{holds}
 use Rattle.awk_values.specs.declared.comparison.CompareOp.TheVariants as op
 use Rattle.sem_primitives.specs.Numbers.{Number as AnyNumber}
 use Rattle.sem_primitives.proofs.Words.{small, fits}
-use Rattle.mid_program.specs.Mid.{Code, Number, Get, Global}
-use Rattle.lower_model.specs.Quick.{name_in, constant_in}
+use Rattle.mid_program.specs.Mid.{Slot, Code, Number, Get, Global, Parameter}
+use Rattle.lower_model.specs.Quick.{Holder, holder_of, name_in, constant_in}
 use Rattle.lower_model.specs.Small.{least, text_beside}
-use Rattle.lower_model.proofs.State.{bare, BareOf, IsBeside, IsNone, IsNumber}
+use Rattle.lower_model.proofs.State.{holder_slot, bare, BareOf, IsBeside, IsNone, IsNumber}
 use Rattle.lower_model.proofs.Conversions.{bare_is}
 use Rattle.lower_model.proofs.Products.{word, sum_word, mod_small, mod_once}
 
@@ -78,9 +78,14 @@ sure v q w hq hw e = by (bare_is v)
 
 -- Which code is meant.
 
-pub name_is : (e : Code) (i : ℕ) → name_in e ≡ Some i → e ≡ Get (Global true i)
-name_is (Get (Global true j)) i e = ap (λ o. elim o [ Some x ↦ Get (Global true x) | None ↦ Get (Global true j) ]) e
-name_is e i q = cc
+pub holder_is : (x : Slot) (h : Holder) → holder_of x ≡ Some h → x ≡ holder_slot h
+holder_is (Global true i) h e = ap (λ o. elim o [ Some z ↦ holder_slot z | None ↦ Global true i ]) e
+holder_is (Parameter true i) h e = ap (λ o. elim o [ Some z ↦ holder_slot z | None ↦ Parameter true i ]) e
+holder_is x h e = cc
+
+pub name_is : (e : Code) (h : Holder) → name_in e ≡ Some h → e ≡ Get (holder_slot h)
+name_is (Get y) h e = ap Get (holder_is y h e)
+name_is e h q = cc
 
 pub constant_is : (e : Code) (z : ℤ) → constant_in e ≡ Some z → e ≡ Number z
 constant_is (Number x) z e = ap (λ o. elim o [ Some y ↦ Number y | None ↦ Number x ]) e

@@ -18,14 +18,14 @@ use Rattle.sem_primitives.proofs.Words.{small, fits, number_again}
 use Rattle.mid_program.specs.declared.mid.Arithmetic.{Arithmetic}
 use Rattle.mid_program.specs.declared.mid.Arithmetic.TheVariants as inline
 use Rattle.mid_program.specs.declared.mid.Operation.TheVariants.{Inline}
-use Rattle.mid_program.specs.Mid.{Global, Code, Do, Number, Get, Set, Seq, Bound, End, At}
+use Rattle.mid_program.specs.Mid.{Code, Do, Number, Get, Set, Seq, Bound, End, At}
 use Rattle.mid_program.specs.MidMeaning.{or_zero, arithmetic_of}
-use Rattle.sem_scripts.specs.ScriptState.{State, global_value}
-use Rattle.lower_model.specs.Quick.{Source, Named, Constant, source_in, is_among, and_name, and_source, Sum, sum_names, is_near, is_sum, sum_op, sum_of, stored_name, new_sum, Pair, pair_names, contrary}
-use Rattle.lower_model.proofs.State.{bare}
+use Rattle.sem_scripts.specs.ScriptState.{State}
+use Rattle.lower_model.specs.Quick.{Holder, OfName, OfParameter, holder_of, held, Source, Held, Constant, source_in, same_holder, is_among, and_name, and_source, Sum, sum_names, is_near, is_sum, sum_op, sum_of, stored_name, new_sum, Pair, pair_names, contrary}
+use Rattle.lower_model.proofs.State.{bare, holder_slot, holder_value}
 use Rattle.lower_model.proofs.Products.{word, sum_word, difference_word, triangle}
 use Rattle.lower_model.proofs.Inlining.{checked_in, added_abs}
-use Rattle.lower_model.proofs.Quick.{Sure, sure}
+use Rattle.lower_model.proofs.Quick.{Sure, sure, holder_is}
 
 -- Nothing is not something. `cc` finds it too, but reads all else that stands there.
 pub none_is : {A P : Type 0} {x : A} → None ≡ Some x → P
@@ -38,45 +38,45 @@ pub nought_number : (z : ℤ) → nat_le (unsigned_abs z) (2 ^ 53) ≡ true → 
 nought_number z e = ap (λ o. (or_zero o).number) (number_again (record { number = z; in_range = subst T (sym e) tt }))
 
 abbrev pub num_of : Source → State → Result AnyNumber Fault
-num_of (Named i) σ = number_of_row (global_value i σ)
+num_of (Held x) σ = number_of_row (holder_value x σ)
 num_of (Constant z) σ = Ok (or_zero (number_of z))
 
 abbrev pub word_of : Source → State → ℕ
-word_of (Named i) σ = bare (global_value i σ)
+word_of (Held x) σ = bare (holder_value x σ)
 word_of (Constant z) σ = word z
 
 abbrev pub val_of : Source → State → Value
-val_of (Named i) σ = global_value i σ
+val_of (Held x) σ = holder_value x σ
 val_of (Constant z) σ = value.Num (or_zero (number_of z)).number
 
 abbrev pub source_steps : Source → ℕ
-source_steps (Named i) = 1
+source_steps (Held i) = 1
 source_steps (Constant z) = 0
 
-abbrev pub shift_word : State → ℤ → ℕ → ℕ
-shift_word σ q i = (bare (global_value i σ) + word q) % 2 ^ 64
+abbrev pub shift_word : State → ℤ → Holder → ℕ
+shift_word σ q i = (bare (holder_value i σ) + word q) % 2 ^ 64
 
-abbrev pub joined_word : State → ℤ → ℕ → List ℕ → ℕ
+abbrev pub joined_word : State → ℤ → ℕ → List Holder → ℕ
 joined_word σ q v [] = v
 joined_word σ q v (i ∷ is) = joined_word σ q (bit_or v (shift_word σ q i)) is
 
-abbrev pub all_flag : State → ℤ → ℕ → List ℕ → Bool
+abbrev pub all_flag : State → ℤ → ℕ → List Holder → Bool
 all_flag σ q w [] = false
 all_flag σ q w (i ∷ is) = nat_lt w (joined_word σ q (shift_word σ q i) is)
 
-abbrev pub joined_steps : List ℕ → ℕ
+abbrev pub joined_steps : List Holder → ℕ
 joined_steps [] = 0
 joined_steps (i ∷ is) = 2 + (1 + joined_steps is)
 
-abbrev pub all_steps : List ℕ → ℕ
+abbrev pub all_steps : List Holder → ℕ
 all_steps [] = 0
 all_steps (i ∷ is) = 2 + (joined_steps is + 1)
 
-abbrev pub AllSure : State → ℤ → ℕ → List ℕ → Type 0
+abbrev pub AllSure : State → ℤ → ℕ → List Holder → Type 0
 AllSure σ q w [] = Unit {0}
-AllSure σ q w (i ∷ is) = Sure (global_value i σ) q w × AllSure σ q w is
+AllSure σ q w (i ∷ is) = Sure (holder_value i σ) q w × AllSure σ q w is
 
-pub joined_above : (is : List ℕ) (v : ℕ) (q : ℤ) (σ : State) → v ≤ joined_word σ q v is
+pub joined_above : (is : List Holder) (v : ℕ) (q : ℤ) (σ : State) → v ≤ joined_word σ q v is
 joined_above [] v q σ = omega arith
 joined_above (i ∷ is) v q σ =
     let x = le_or_l v (shift_word σ q i) in
@@ -86,87 +86,100 @@ joined_above (i ∷ is) v q σ =
 pub one_sure : (v : Value) (q : ℤ) (w : ℕ) → unsigned_abs q ≤ 2 ^ 54 → w ≤ 2 ^ 54 → (bare v + word q) % 2 ^ 64 ≤ w → Sure v q w
 one_sure v q w hq hw le = sure v q w hq hw (le-ltb w ((bare v + word q) % 2 ^ 64) le)
 
-pub joined_sure : (is : List ℕ) (v : ℕ) (q : ℤ) (w : ℕ) (σ : State) → unsigned_abs q ≤ 2 ^ 54 → w ≤ 2 ^ 54 → joined_word σ q v is ≤ w → AllSure σ q w is
+pub joined_sure : (is : List Holder) (v : ℕ) (q : ℤ) (w : ℕ) (σ : State) → unsigned_abs q ≤ 2 ^ 54 → w ≤ 2 ^ 54 → joined_word σ q v is ≤ w → AllSure σ q w is
 joined_sure [] v q w σ hq hw le = tt
 joined_sure (i ∷ is) v q w σ hq hw le =
     let x = le_or_r v (shift_word σ q i) in
     let y = joined_above is (bit_or v (shift_word σ q i)) q σ in
-    (one_sure (global_value i σ) q w hq hw (omega (arith, x, y, le)), joined_sure is (bit_or v (shift_word σ q i)) q w σ hq hw le)
+    (one_sure (holder_value i σ) q w hq hw (omega (arith, x, y, le)), joined_sure is (bit_or v (shift_word σ q i)) q w σ hq hw le)
 
-pub all_sure : (is : List ℕ) (q : ℤ) (w : ℕ) (σ : State) → unsigned_abs q ≤ 2 ^ 54 → w ≤ 2 ^ 54 → all_flag σ q w is ≡ false → AllSure σ q w is
+pub all_sure : (is : List Holder) (q : ℤ) (w : ℕ) (σ : State) → unsigned_abs q ≤ 2 ^ 54 → w ≤ 2 ^ 54 → all_flag σ q w is ≡ false → AllSure σ q w is
 all_sure [] q w σ hq hw e = tt
 all_sure (i ∷ is) q w σ hq hw e =
     let le = ltb-false w (joined_word σ q (shift_word σ q i) is) e in
     let y = joined_above is (shift_word σ q i) q σ in
-    (one_sure (global_value i σ) q w hq hw (omega (arith, le, y)), joined_sure is (shift_word σ q i) q w σ hq hw le)
+    (one_sure (holder_value i σ) q w hq hw (omega (arith, le, y)), joined_sure is (shift_word σ q i) q w σ hq hw le)
 
-pub among_sure : (i : ℕ) (is : List ℕ) (q : ℤ) (w : ℕ) (σ : State) → is_among i is ≡ true → AllSure σ q w is → Sure (global_value i σ) q w
+pub same_is : (x y : Holder) → same_holder x y ≡ true → x ≡ y
+same_is (OfName i) (OfName j) e = ap OfName (eqb-true i j e)
+same_is (OfParameter i) (OfParameter j) e = ap OfParameter (eqb-true i j e)
+same_is x y e = cc
+
+pub same_self : (x : Holder) → same_holder x x ≡ true
+same_self (OfName i) = eq-eqb i i refl
+same_self (OfParameter i) = eq-eqb i i refl
+
+pub among_sure : (i : Holder) (is : List Holder) (q : ℤ) (w : ℕ) (σ : State) → is_among i is ≡ true → AllSure σ q w is → Sure (holder_value i σ) q w
 among_sure i [] q w σ e h = cc
-among_sure i (j ∷ js) q w σ e h = by (λ e1. among_sure i js q w σ e1 h.1) (nat_eq i j) refl e
+among_sure i (j ∷ js) q w σ e h = by (λ e1. among_sure i js q w σ e1 h.1) (same_holder i j) refl e
   where
-    by : (is_among i js ≡ true → Sure (global_value i σ) q w) → (t : Bool) → nat_eq i j ≡ t → t || is_among i js ≡ true → Sure (global_value i σ) q w
-    by r true et e1 = subst (λ k. Sure (global_value k σ) q w) (sym (eqb-true i j et)) h.0
+    by : (is_among i js ≡ true → Sure (holder_value i σ) q w) → (t : Bool) → same_holder i j ≡ t → t || is_among i js ≡ true → Sure (holder_value i σ) q w
+    by r true et e1 = subst (λ k. Sure (holder_value k σ) q w) (sym (same_is i j et)) h.0
     by r false et e1 = r e1
 
-pub name_among : (i : ℕ) (is : List ℕ) → is_among i (and_name i is) ≡ true
+pub name_among : (i : Holder) (is : List Holder) → is_among i (and_name i is) ≡ true
 name_among i is = by (is_among i is) refl
   where
     by : (t : Bool) → is_among i is ≡ t → is_among i (if t then is else i ∷ is) ≡ true
     by true e = e
-    by false e = ap (λ t. t || is_among i is) (eq-eqb i i refl)
+    by false e = ap (λ t. t || is_among i is) (same_self i)
 
 pub or_true : (t : Bool) → t || true ≡ true
 or_true true = refl
 or_true false = refl
 
-pub still_among : (i j : ℕ) (is : List ℕ) → is_among j is ≡ true → is_among j (and_name i is) ≡ true
+pub still_among : (i j : Holder) (is : List Holder) → is_among j is ≡ true → is_among j (and_name i is) ≡ true
 still_among i j is e = by (is_among i is)
   where
     by : (t : Bool) → is_among j (if t then is else i ∷ is) ≡ true
     by true = e
-    by false = ap (λ t. nat_eq j i || t) e ∙ or_true (nat_eq j i)
+    by false = ap (λ t. same_holder j i || t) e ∙ or_true (same_holder j i)
 
-abbrev pub StandsAmong : Source → List ℕ → Type 0
-StandsAmong (Named i) is = is_among i is ≡ true
+abbrev pub StandsAmong : Source → List Holder → Type 0
+StandsAmong (Held i) is = is_among i is ≡ true
 StandsAmong (Constant z) is = Unit {0}
 
-pub source_among : (s : Source) (is : List ℕ) → StandsAmong s (and_source s is)
-source_among (Named i) is = name_among i is
+pub source_among : (s : Source) (is : List Holder) → StandsAmong s (and_source s is)
+source_among (Held i) is = name_among i is
 source_among (Constant z) is = tt
 
-pub source_still : (s : Source) (i : ℕ) (is : List ℕ) → StandsAmong s is → StandsAmong s (and_name i is)
-source_still (Named j) i is h = still_among i j is h
+pub source_still : (s : Source) (i : Holder) (is : List Holder) → StandsAmong s is → StandsAmong s (and_name i is)
+source_still (Held j) i is h = still_among i j is h
 source_still (Constant z) i is h = tt
 
-pub source_beside : (s o : Source) (is : List ℕ) → StandsAmong s is → StandsAmong s (and_source o is)
-source_beside s (Named i) is h = source_still s i is h
+pub source_beside : (s o : Source) (is : List Holder) → StandsAmong s is → StandsAmong s (and_source o is)
+source_beside s (Held i) is h = source_still s i is h
 source_beside s (Constant z) is h = h
 
-pub joined_few : (is : List ℕ) → joined_steps is ≤ length is + (length is + length is)
+pub joined_few : (is : List Holder) → joined_steps is ≤ length is + (length is + length is)
 joined_few [] = omega arith
 joined_few (i ∷ is) = let h = joined_few is in omega (arith, h)
 
-pub all_few : (is : List ℕ) → all_steps is ≤ length is + (length is + length is)
+pub all_few : (is : List Holder) → all_steps is ≤ length is + (length is + length is)
 all_few [] = omega arith
 all_few (i ∷ is) = let h = joined_few is in omega (arith, h)
 
-pub name_longer : (i : ℕ) (is : List ℕ) → length (and_name i is) ≤ suc (length is)
+pub name_longer : (i : Holder) (is : List Holder) → length (and_name i is) ≤ suc (length is)
 name_longer i is = by (is_among i is)
   where
     by : (t : Bool) → length (if t then is else i ∷ is) ≤ suc (length is)
     by true = omega arith
     by false = omega arith
 
-pub source_longer : (s : Source) (is : List ℕ) → length (and_source s is) ≤ suc (length is)
-source_longer (Named i) is = name_longer i is
+pub source_longer : (s : Source) (is : List Holder) → length (and_source s is) ≤ suc (length is)
+source_longer (Held i) is = name_longer i is
 source_longer (Constant z) is = omega arith
 
 abbrev pub source_code : Source → Code
-source_code (Named i) = Get (Global true i)
+source_code (Held x) = Get (holder_slot x)
 source_code (Constant z) = Number z
 
 pub source_is : (e : Code) (s : Source) → source_in e ≡ Some s → e ≡ source_code s
-source_is (Get (Global true j)) s q = ap source_code (some_is (Named j) s q)
+source_is (Get x) s q = by (holder_of x) refl q
+  where
+    by : (o : Option Holder) → holder_of x ≡ o → held o ≡ Some s → Get x ≡ source_code s
+    by (Some y) e h = ap Get (holder_is x y e) ∙ ap source_code (some_is (Held y) s h)
+    by None e h = none_is h
 source_is (Number z) s q = ap source_code (some_is (Constant z) s q)
 source_is e s q = cc
 
@@ -198,11 +211,11 @@ pair_few q =
     omega (arith, x, y, z)
 
 pub one_few : (s : Source) → source_steps s ≤ 1
-one_few (Named i) = omega arith
+one_few (Held i) = omega arith
 one_few (Constant z) = omega arith
 
 -- sources, if they are such, and near
-pub near_sum : (i : ℕ) (o : Arithmetic) (a e : Source) (s : Sum) → sum_of i o (Some a) (Some e) ≡ Some s → ((is_sum o ≡ true) × (is_near a ≡ true) × (is_near e ≡ true)) × (record { target = i; op = o; left = a; right = e } ≡ s)
+pub near_sum : (i : Holder) (o : Arithmetic) (a e : Source) (s : Sum) → sum_of i o (Some a) (Some e) ≡ Some s → ((is_sum o ≡ true) × (is_near a ≡ true) × (is_near e ≡ true)) × (record { target = i; op = o; left = a; right = e } ≡ s)
 near_sum i o a e s eq = by (is_sum o && (is_near a && is_near e)) refl eq
   where
     by : (t : Bool) → is_sum o && (is_near a && is_near e) ≡ t → (if t then Some (record { target = i; op = o; left = a; right = e }) else None) ≡ Some s → ((is_sum o ≡ true) × (is_near a ≡ true) × (is_near e ≡ true)) × (record { target = i; op = o; left = a; right = e } ≡ s)
@@ -212,11 +225,11 @@ near_sum i o a e s eq = by (is_sum o && (is_near a && is_near e)) refl eq
         let g = and_parts (is_near a) (is_near e) h.1 in
         ((h.0, g.0, g.1), some_is _ s e2)
 
-pub stored_is : (y : Code) (i : ℕ) → stored_name y ≡ Some i → y ≡ Seq (Set (Global true i) (Bound true zero)) (Bound true (suc zero))
-stored_is (Seq (Set (Global true j) (Bound true zero)) (Bound true (suc zero))) i e = ap (λ k. Seq (Set (Global true k) (Bound true zero)) (Bound true (suc zero))) (some_is j i e)
+pub stored_is : (y : Code) (i : Holder) → stored_name y ≡ Some i → y ≡ Seq (Set (holder_slot i) (Bound true zero)) (Bound true (suc zero))
+stored_is (Seq (Set x (Bound true zero)) (Bound true (suc zero))) i e = ap (λ k. Seq (Set k (Bound true zero)) (Bound true (suc zero))) (holder_is x i e)
 stored_is y i e = cc
 
-pub none_new : (i : Option ℕ) (x : Code) (s : Sum) → new_sum None i x ≡ Some s → ⊥
+pub none_new : (i : Option Holder) (x : Code) (s : Sum) → new_sum None i x ≡ Some s → ⊥
 none_new (Some i) (Do (Inline o) (At (Bound false zero) (At (Number z) End))) s e = cc
 none_new i x s e = cc
 

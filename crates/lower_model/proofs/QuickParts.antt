@@ -1,5 +1,5 @@
 -- Quick ways of statements: how names are read and written, several within the same bounds, and what `n = a + e` means.
-use Rattle.std.proofs.Common.{◌≡◌, ℕ, suc, Bool, true, false, List, [], ◌∷◌, length, None, Ok, Result, ℤ, refl, sym, ap, ap₂, ◌∙◌, if◌then◌else◌}
+use Rattle.std.proofs.Common.{◌≡◌, ℕ, suc, Bool, true, false, List, [], ◌∷◌, length, None, Ok, Result, ℤ, refl, sym, ap, ap₂, ◌∙◌, if◌then◌else◌, arith, ◌^◌}
 use Rattle.std.specs.Prelude.{◌&&◌, bit_or}
 use Rattle.std.proofs.lemmas.Bool.{and_parts}
 use Rattle.awk_values.specs.declared.fault.Fault.{Fault}
@@ -9,29 +9,31 @@ use Rattle.lower_model.proofs.Watch.{Watch}
 use Rattle.sem_primitives.specs.Numbers.{Number as AnyNumber, number_word, outcome_of}
 use Rattle.wasm_types.specs.Syntax.{Instructions}
 use Rattle.wasm_types.specs.declared.instr.Simple.{Simple}
-use Rattle.wasm_types.specs.declared.instr.Simple.TheVariants.{GlobalGet, GlobalSet}
+use Rattle.wasm_types.specs.declared.instr.Simple.TheVariants.{GlobalGet, GlobalSet, LocalGet, LocalSet}
 use Rattle.wasm_store.specs.declared.word.Word.TheVariants.{I64}
 use Rattle.wasm_store.specs.Words.{flag}
 use Rattle.mid_program.specs.declared.mid.Arithmetic.{Arithmetic}
 use Rattle.mid_program.specs.declared.mid.Operation.TheVariants.{Inline}
 use Rattle.mid_program.specs.Mid.{Kind, Unboxed, Program, Global, Code, Do, Set, End, At, Eval, Form, form_of}
 use Rattle.mid_program.specs.MidMeaning.{evaluated, all_evaluated, stepped, then_row, store_slot, arithmetic_of}
-use Rattle.sem_scripts.specs.ScriptState.{State, Gives, Outcome, go_on, settled, give, ◌>>◌, global_value, with_global}
-use Rattle.mid_program.specs.Sorted.{sorted, all_sorted, has_kind, kinds_of, fits as fits_sort}
+use Rattle.sem_scripts.specs.ScriptState.{State, Gives, Outcome, go_on, settled, give, ◌>>◌, global_value, local_value, with_global}
+use Rattle.mid_program.specs.Sorted.{is_slot, takes, sorted, all_sorted, has_kind, kinds_of, fits as fits_sort}
 use Rattle.sem_scripts.specs.Statements.{Flow, Normal}
-use Rattle.lower_model.specs.Cells.{Cell, Bits}
+use Rattle.lower_model.specs.Cells.{Cell, Bits, is_owned}
 use Rattle.lower_model.specs.Machine.{Label, Frame, at}
 use Rattle.lower_model.specs.Places.{Bases, number_global}
-use Rattle.lower_model.specs.Quick.{Source, Named, Constant, is_among, and_name, shifted, joined, all_unsure}
+use Rattle.lower_model.specs.Quick.{Holder, OfName, OfParameter, Source, Held, Constant, is_among, and_name, shifted, joined, all_unsure}
 use Rattle.lower_model.specs.Small.{does}
 use Rattle.lower_model.proofs.Runs.{Goes, goes_to, then_goes, by_steps, stays}
-use Rattle.lower_model.proofs.Locals.{Locals, laid}
+use Rattle.lower_model.proofs.Locals.{Locals, Param, with_at, laid}
 use Rattle.lower_model.proofs.Globals.{Hand as NameHand, Number as NameNumber, with_global_at, placed_again}
 use Rattle.lower_model.proofs.GlobalSteps.{storing, global_copied, global_set_ok}
-use Rattle.lower_model.proofs.Steps.{empty}
-use Rattle.lower_model.proofs.State.{bare, beside, bare_number, beside_number, cells_of, host_of, kind_here, arrays_before, name_hand, name_word}
+use Rattle.lower_model.proofs.Steps.{empty, get_copied, set_ok}
+use Rattle.lower_model.proofs.Relation.{Fit}
+use Rattle.lower_model.proofs.State.{bare, holder_slot, holder_value, stored_in, beside, bare_number, beside_number, cells_of, host_of, kind_here, arrays_before, name_hand, name_word}
 use Rattle.lower_model.proofs.Answers.{machine, beside_state}
-use Rattle.lower_model.proofs.Written.{global_written}
+use Rattle.lower_model.proofs.Setting.{fit_param}
+use Rattle.lower_model.proofs.Written.{fit_global, global_written}
 use Rattle.lower_model.proofs.Reading.{kind_below, kind_found}
 use Rattle.lower_model.proofs.Simulation.{context}
 use Rattle.lower_model.proofs.StatementForms.{plain_meant}
@@ -43,36 +45,51 @@ abbrev pub Two : Type 0
 Two = AnyNumber × (AnyNumber × Unit {0})
 
 -- what becomes of two operands that are evaluated, and of their sum
-abbrev pub sum_stored : ℕ → State → Result AnyNumber Fault → Outcome Flow
-sum_stored i σ r = go_on (go_on (settled r σ) (λ y. store_slot (Global true i) (value.Num y.number) >> give y)) (λ y. give Normal)
+abbrev pub sum_stored : Holder → State → Result AnyNumber Fault → Outcome Flow
+sum_stored i σ r = go_on (go_on (settled r σ) (λ y. store_slot (holder_slot i) (value.Num y.number) >> give y)) (λ y. give Normal)
 
-abbrev pub two_summed : ℕ → Arithmetic → State → Result AnyNumber Fault → Result AnyNumber Fault → Outcome Flow
+abbrev pub two_summed : Holder → Arithmetic → State → Result AnyNumber Fault → Result AnyNumber Fault → Outcome Flow
 two_summed i o σ r1 r2 =
     go_on (go_on (go_on {A = Two} {B = AnyNumber} (settled (then_row {A = AnyNumber} {B = Two} r1 (λ x. then_row {A = AnyNumber × Unit {0}} {B = Two} (then_row {A = AnyNumber} {B = AnyNumber × Unit {0}} r2 (λ z. Ok (z, tt))) (λ zs. Ok (x, zs)))) σ)
-    (λ given. settled (outcome_of (arithmetic_of o given.0.number given.1.0.number)))) (λ y. store_slot (Global true i) (value.Num y.number) >> give y)) (λ y. give Normal)
+    (λ given. settled (outcome_of (arithmetic_of o given.0.number given.1.0.number)))) (λ y. store_slot (holder_slot i) (value.Num y.number) >> give y)) (λ y. give Normal)
 
 -- `n = a + e`
-abbrev pub set_code : ℕ → Arithmetic → Code → Code → Code
-set_code i o x y = Set (Global true i) (Do (Inline o) (At x (At y End)))
+abbrev pub set_code : Holder → Arithmetic → Code → Code → Code
+set_code i o x y = Set (holder_slot i) (Do (Inline o) (At x (At y End)))
 
 module _ (p : Program) (deepest : Watch) (ks : List Kind) (F : List Frame) (b : Bases) (M n : ℕ) where
   abbrev kinds : List Kind
   kinds = kinds_of p.globals
 
-  -- names that are unboxed
+  abbrev pub all_read : Holder → Simple
+  all_read (OfName i) = GlobalGet (number_global p.ranges i)
+  all_read (OfParameter i) = LocalGet i
 
-  abbrev pub AllUnboxed : List ℕ → Type 0
+  abbrev pub HolderFits : Holder → Type 0
+  HolderFits (OfName i) = has_kind kinds i Unboxed ≡ true
+  HolderFits (OfParameter i) = has_kind ks i Unboxed ≡ true
+
+  abbrev pub all_put : Holder → Simple
+  all_put (OfName i) = GlobalSet (number_global p.ranges i)
+  all_put (OfParameter i) = LocalSet i
+
+  -- holders, each of its kind
+
+  abbrev pub AllUnboxed : List Holder → Type 0
   AllUnboxed [] = Unit {0}
-  AllUnboxed (i ∷ is) = (has_kind kinds i Unboxed ≡ true) × AllUnboxed is
+  AllUnboxed (x ∷ xs) = HolderFits x × AllUnboxed xs
 
-  pub name_got : {vs : List Cell} {K : List Label} {k : Instructions} → (i : ℕ) (l : Locals) (σ : State) → has_kind kinds i Unboxed ≡ true →
-      Goes (machine p deepest ks F) 1 (at ks vs K (laid b l) F (does (GlobalGet (number_global p.ranges i)) k) (beside_state p deepest ks F σ)) (at ks (Bits (I64 (bare (global_value i σ))) ∷ vs) K (laid b l) F k (beside_state p deepest ks F σ))
-  name_got i l σ hk =
+  pub name_got : (vs : List Cell) (K : List Label) (k : Instructions) (x : Holder) (t u w : ℕ) (l : Locals) (σ : State) → HolderFits x → length ks ≡ b.parameters → Fit p deepest ks F t u w l σ →
+      Goes (machine p deepest ks F) 1 (at ks vs K (laid b l) F (does (all_read x) k) (beside_state p deepest ks F σ)) (at ks (Bits (I64 (bare (holder_value x σ))) ∷ vs) K (laid b l) F k (beside_state p deepest ks F σ))
+  name_got vs K k (OfName i) t u w l σ hk pk ft =
       let x = global_value i σ in
       global_copied p.ranges (length kinds) (cells_of kinds 0 σ) (NameNumber i) (Bits (I64 (bare x))) (kind_below kinds i Unboxed hk) (ap (λ c. Bits (I64 (name_word c x))) (kind_found kinds i Unboxed hk)) refl
+  name_got vs K k (OfParameter i) t u w l σ hk pk ft =
+      let lt = kind_below ks i Unboxed hk in
+      get_copied b l (Param i) (Bits (I64 (bare (local_value i σ)))) (omega (arith, lt, pk)) (ft.params i Unboxed hk).0 refl
 
   -- a name takes a number, where no text stands beside it
-  pub name_taken : (i : ℕ) (y : AnyNumber) (K : List Label) (k : Instructions) (l : Locals) (σ : State) → has_kind kinds i Unboxed ≡ true → length σ.globals ≡ length p.globals → beside (global_value i σ) ≡ empty →
+  name_taken : (i : ℕ) (y : AnyNumber) (K : List Label) (k : Instructions) (l : Locals) (σ : State) → has_kind kinds i Unboxed ≡ true → length σ.globals ≡ length p.globals → beside (global_value i σ) ≡ empty →
       Goes (machine p deepest ks F) 1 (at ks (Bits (I64 (number_word y)) ∷ []) K (laid b l) F (does (GlobalSet (number_global p.ranges i)) k) (beside_state p deepest ks F σ)) (at ks [] K (laid b l) F k (beside_state p deepest ks F (with_global i (value.Num y.number) σ)))
   name_taken i y K k l σ hk sz none =
       let nn = length kinds in
@@ -90,56 +107,99 @@ module _ (p : Program) (deepest : Watch) (ks : List Kind) (F : List Frame) (b : 
       (ap (λ z. name_hand z (suc (suc (arrays_before kinds i))) (value.Num y.number)) kh ∙ beside_number y)
       (ap (λ z. Bits (I64 (name_word z (value.Num y.number)))) kh ∙ ap (λ z. Bits (I64 z)) (bare_number y))))
 
+  -- the same of a holder
+  pub record Taken (h : Holder) (y : AnyNumber) (u : ℕ) (K : List Label) (k : Instructions) (l : Locals) (σ : State) : Type 0 where
+    pub next : Locals
+    pub goes : Goes (machine p deepest ks F) 1 (at ks (Bits (I64 (number_word y)) ∷ []) K (laid b l) F (does (all_put h) k) (beside_state p deepest ks F σ)) (at ks [] K (laid b next) F k (beside_state p deepest ks F (stored_in (holder_slot h) (value.Num y.number) σ)))
+    pub fit : Fit p deepest ks F 0 u 0 next (stored_in (holder_slot h) (value.Num y.number) σ)
+    pub iterators : (z : ℕ) → next.iterator z ≡ l.iterator z
+
+  pub taken : (h : Holder) (y : AnyNumber) (u : ℕ) (K : List Label) (k : Instructions) (l : Locals) (σ : State) → HolderFits h → length ks ≡ b.parameters → Fit p deepest ks F 0 u 0 l σ → beside (holder_value h σ) ≡ empty → Taken h y u K k l σ
+  taken (OfName i) y u K k l σ hk pk ft none = record {
+    next = l;
+    goes = name_taken i y K k l σ hk ft.sound.names none;
+    fit = fit_global p deepest ks F b M n i (value.Num y.number) 0 u 0 l σ ft;
+    iterators = λ z. refl;
+  }
+  taken (OfParameter i) y u K k l σ hk pk ft none =
+      let c = Bits (I64 (number_word y)) in
+      let lt = kind_below ks i Unboxed hk in
+      record {
+        next = with_at l (Param i) c;
+        goes = set_ok b l (Param i) c (omega (arith, lt, pk)) (ap is_owned (ft.params i Unboxed hk).0);
+        fit = fit_param p deepest ks F b M n i Unboxed (value.Num y.number) c 0 u 0 l σ hk (ap (λ z. Bits (I64 z)) (sym (bare_number y)), beside_number y) ft;
+        iterators = λ z. refl;
+      }
+
   -- Several names within the same bounds.
 
-  abbrev pub all_read : ℕ → Simple
-  all_read i = GlobalGet (number_global p.ranges i)
-
-  shifted_ok : {vs : List Cell} {K : List Label} {k : Instructions} → (i : ℕ) (q : ℤ) (l : Locals) (σ : State) → has_kind kinds i Unboxed ≡ true →
+  shifted_ok : (vs : List Cell) (K : List Label) (k : Instructions) (i : Holder) (q : ℤ) (t u w : ℕ) (l : Locals) (σ : State) → HolderFits i → length ks ≡ b.parameters → Fit p deepest ks F t u w l σ →
       Goes (machine p deepest ks F) 2 (at ks vs K (laid b l) F (shifted (all_read i) q k) (beside_state p deepest ks F σ)) (at ks (Bits (I64 (shift_word σ q i)) ∷ vs) K (laid b l) F k (beside_state p deepest ks F σ))
-  shifted_ok i q l σ hk = then_goes (name_got i l σ hk) (by_steps 1 refl)
+  shifted_ok vs K k i q t u w l σ hk pk ft = then_goes (name_got _ _ _ i t u w l σ hk pk ft) (by_steps 1 refl)
 
-  joined_ok : (K : List Label) (k : Instructions) → (is : List ℕ) (v : ℕ) (q : ℤ) (l : Locals) (σ : State) → AllUnboxed is →
+  joined_ok : (K : List Label) (k : Instructions) → (is : List Holder) (v : ℕ) (q : ℤ) (t u w : ℕ) (l : Locals) (σ : State) → AllUnboxed is → length ks ≡ b.parameters → Fit p deepest ks F t u w l σ →
       Goes (machine p deepest ks F) (joined_steps is) (at ks (Bits (I64 v) ∷ []) K (laid b l) F (joined all_read is q k) (beside_state p deepest ks F σ)) (at ks (Bits (I64 (joined_word σ q v is)) ∷ []) K (laid b l) F k (beside_state p deepest ks F σ))
-  joined_ok K k [] v q l σ h = stays
-  joined_ok K k (i ∷ is) v q l σ h = then_goes (shifted_ok i q l σ h.0) (then_goes (by_steps 1 refl) (joined_ok K k is (bit_or v (shift_word σ q i)) q l σ h.1))
+  joined_ok K k [] v q t u w l σ h pk ft = stays
+  joined_ok K k (i ∷ is) v q t u w l σ h pk ft = then_goes (shifted_ok _ _ _ i q t u w l σ h.0 pk ft) (then_goes (by_steps 1 refl) (joined_ok K k is (bit_or v (shift_word σ q i)) q t u w l σ h.1 pk ft))
 
-  pub all_unsure_ok : (K : List Label) (k : Instructions) → (is : List ℕ) (q : ℤ) (w : ℕ) (l : Locals) (σ : State) → AllUnboxed is →
-      Goes (machine p deepest ks F) (all_steps is) (at ks [] K (laid b l) F (all_unsure all_read is q w k) (beside_state p deepest ks F σ)) (at ks (Bits (flag (all_flag σ q w is)) ∷ []) K (laid b l) F k (beside_state p deepest ks F σ))
-  all_unsure_ok K k [] q w l σ h = stays
-  all_unsure_ok K k (i ∷ is) q w l σ h = then_goes (shifted_ok i q l σ h.0) (then_goes (joined_ok K _ is (shift_word σ q i) q l σ h.1) (by_steps 1 refl))
+  pub all_unsure_ok : (K : List Label) (k : Instructions) → (is : List Holder) (q : ℤ) (most t u w : ℕ) (l : Locals) (σ : State) → AllUnboxed is → length ks ≡ b.parameters → Fit p deepest ks F t u w l σ →
+      Goes (machine p deepest ks F) (all_steps is) (at ks [] K (laid b l) F (all_unsure all_read is q most k) (beside_state p deepest ks F σ)) (at ks (Bits (flag (all_flag σ q most is)) ∷ []) K (laid b l) F k (beside_state p deepest ks F σ))
+  all_unsure_ok K k [] q most t u w l σ h pk ft = stays
+  all_unsure_ok K k (i ∷ is) q most t u w l σ h pk ft = then_goes (shifted_ok _ _ _ i q t u w l σ h.0 pk ft) (then_goes (joined_ok K _ is (shift_word σ q i) q t u w l σ h.1 pk ft) (by_steps 1 refl))
 
-  pub name_unboxed : (i : ℕ) (is : List ℕ) → has_kind kinds i Unboxed ≡ true → AllUnboxed is → AllUnboxed (and_name i is)
+  pub name_unboxed : (i : Holder) (is : List Holder) → HolderFits i → AllUnboxed is → AllUnboxed (and_name i is)
   name_unboxed i is hk h = by (is_among i is)
     where
       by : (t : Bool) → AllUnboxed (if t then is else i ∷ is)
       by true = h
       by false = (hk, h)
 
-  pub summed_means : (i : ℕ) (o : Arithmetic) (σ : State) (r1 r2 : Result AnyNumber Fault) (m1 m2 y : AnyNumber) → r1 ≡ Ok m1 → r2 ≡ Ok m2 → outcome_of (arithmetic_of o m1.number m2.number) ≡ Ok y → two_summed i o σ r1 r2 ≡ Gives Normal (with_global i (value.Num y.number) σ)
-  summed_means i o σ r1 r2 m1 m2 y e1 e2 e = ap₂ (two_summed i o σ) e1 e2 ∙ ap (sum_stored i σ) e
+  pub stored_normal : (i : Holder) (y : AnyNumber) (σ : State) → sum_stored i σ (Ok y) ≡ Gives Normal (stored_in (holder_slot i) (value.Num y.number) σ)
+  stored_normal (OfName i) y σ = refl
+  stored_normal (OfParameter i) y σ = refl
+
+  pub stored_turns : (i : Holder) (y : AnyNumber) (σ : State) → (stored_in (holder_slot i) (value.Num y.number) σ).turns ≡ σ.turns
+  stored_turns (OfName i) y σ = refl
+  stored_turns (OfParameter i) y σ = refl
+
+  pub summed_means : (i : Holder) (o : Arithmetic) (σ : State) (r1 r2 : Result AnyNumber Fault) (m1 m2 y : AnyNumber) → r1 ≡ Ok m1 → r2 ≡ Ok m2 → outcome_of (arithmetic_of o m1.number m2.number) ≡ Ok y → two_summed i o σ r1 r2 ≡ Gives Normal (stored_in (holder_slot i) (value.Num y.number) σ)
+  summed_means i o σ r1 r2 m1 m2 y e1 e2 e = ap₂ (two_summed i o σ) e1 e2 ∙ (ap (sum_stored i σ) e ∙ stored_normal i y σ)
 
   -- Two operands.
 
-  pub set_means : (i : ℕ) (o : Arithmetic) (a e : Source) (σ : State) → plain_meant p deepest ks F b M n (Eval (set_code i o (source_code a) (source_code e))) σ ≡ two_summed i o σ (num_of a σ) (num_of e σ)
+  pub set_means : (i : Holder) (o : Arithmetic) (a e : Source) (σ : State) → plain_meant p deepest ks F b M n (Eval (set_code i o (source_code a) (source_code e))) σ ≡ two_summed i o σ (num_of a σ) (num_of e σ)
   unfolding evaluated all_evaluated stepped
-  set_means i o (Named j) (Named k) σ = refl
-  set_means i o (Named j) (Constant z) σ = refl
-  set_means i o (Constant z) (Named j) σ = refl
-  set_means i o (Constant z) (Constant y) σ = refl
+  set_means i o (Held (OfName j)) (Held (OfName k)) σ = refl
+  set_means i o (Held (OfName j)) (Held (OfParameter k)) σ = refl
+  set_means i o (Held (OfName j)) (Constant z) σ = refl
+  set_means i o (Held (OfParameter j)) (Held (OfName k)) σ = refl
+  set_means i o (Held (OfParameter j)) (Held (OfParameter k)) σ = refl
+  set_means i o (Held (OfParameter j)) (Constant z) σ = refl
+  set_means i o (Constant y) (Held (OfName k)) σ = refl
+  set_means i o (Constant y) (Held (OfParameter k)) σ = refl
+  set_means i o (Constant y) (Constant z) σ = refl
 
-  pub record Parts (i : ℕ) (fs : List Form) (x : Code) (gs : List Form) (y : Code) : Type 0 where
-    pub kind : has_kind kinds i Unboxed ≡ true
+  pub record Parts (i : Holder) (fs : List Form) (x : Code) (gs : List Form) (y : Code) : Type 0 where
+    pub kind : HolderFits i
     pub first_one : sorted (context p deepest ks F b M n) fs x ≡ true
     pub second : sorted (context p deepest ks F b M n) gs y ≡ true
+    pub fits_second : fits_sort (form_of gs y) sort.Number ≡ true
 
-  pub set_sorted : (fs : List Form) (i : ℕ) (o : Arithmetic) (x y : Code) → sorted (context p deepest ks F b M n) fs (set_code i o x y) ≡ true → Parts i fs x fs y
+  -- an unboxed slot that is one
+  pub slot_fits : (i : Holder) → is_slot (context p deepest ks F b M n) (holder_slot i) ≡ true → HolderFits i
+  slot_fits (OfName i) e = e
+  slot_fits (OfParameter i) e = e
+
+  pub set_sorted : (fs : List Form) (i : Holder) (o : Arithmetic) (x y : Code) → sorted (context p deepest ks F b M n) fs (set_code i o x y) ≡ true → Parts i fs x fs y
   unfolding sorted all_sorted
   set_sorted fs i o x y so =
       let ctx = context p deepest ks F b M n in
       let fx = fits_sort (form_of fs x) sort.Number in
       let fy = fits_sort (form_of fs y) sort.Number in
-      let s = and_parts (has_kind kinds i Unboxed) ((fx && (fy && true)) && (sorted ctx fs x && (sorted ctx fs y && true))) so in
-      let s1 = and_parts (fx && (fy && true)) (sorted ctx fs x && (sorted ctx fs y && true)) s.1 in
+      let body = (fx && (fy && true)) && (sorted ctx fs x && (sorted ctx fs y && true)) in
+      let tk = takes (holder_slot i) (form_of fs (Do (Inline o) (At x (At y End)))) in
+      let s = and_parts (is_slot ctx (holder_slot i)) (tk && body) so in
+      let s0 = and_parts tk body s.1 in
+      let s1 = and_parts (fx && (fy && true)) (sorted ctx fs x && (sorted ctx fs y && true)) s0.1 in
       let s2 = and_parts (sorted ctx fs x) (sorted ctx fs y && true) s1.1 in
-      record { kind = s.0; first_one = s2.0; second = (and_parts (sorted ctx fs y) true s2.1).0 }
+      record { kind = slot_fits i s.0; first_one = s2.0; second = (and_parts (sorted ctx fs y) true s2.1).0; fits_second = (and_parts fy true (and_parts fx (fy && true) s1.0).1).0 }

@@ -5,6 +5,7 @@ use Rattle.std.proofs.Common.{true≢false}
 use Rattle.std.proofs.lemmas.Int.{ints}
 use Rattle.std.proofs.lemmas.Bool.{and_parts, eqb-true, le-leb, leb-true}
 use Rattle.awk_values.specs.declared.fault.Fault.{Fault}
+use Rattle.awk_values.specs.declared.value.Value.{Value}
 use Rattle.awk_values.specs.declared.value.Value.TheVariants as value
 use Rattle.awk_values.specs.Comparison.{comparison, numeric_side, order_by, held, holds}
 use Rattle.awk_values.specs.declared.comparison.CompareOp.{CompareOp}
@@ -32,17 +33,17 @@ use Rattle.wasm_store.specs.declared.word.Word.TheVariants as word
 use Rattle.wasm_store.specs.Words.{flag, given_by}
 use Rattle.mid_program.specs.declared.mid.Arithmetic.{Arithmetic}
 use Rattle.mid_program.specs.declared.mid.Operation.TheVariants.{Host, Inline, AsNumber}
-use Rattle.mid_program.specs.Mid.{Kind, Unboxed, Program, Global, Code, Do, Compare, Number, Get, Set, Seq, Let, Bound, Codes, End, At, Fixed, Eval, a_number, Form, form_of}
+use Rattle.mid_program.specs.Mid.{Kind, Unboxed, Program, Global, Code, Do, Compare, Number, Get, Set, Seq, Let, Bound, Codes, End, At, Fixed, Eval, a_number, Form, form_of, Slot}
 use Rattle.mid_program.specs.MidMeaning.{evaluated, all_evaluated, stepped, or_zero, then_row, store_slot, arithmetic_of}
-use Rattle.sem_scripts.specs.ScriptState.{State, Gives, Outcome, go_on, settled, give, ◌>>◌, global_value, with_global}
-use Rattle.mid_program.specs.Sorted.{sorted, all_sorted, has_kind, kinds_of, fits as fits_sort, is_tested, is_dropped, is_kept, keeps_well, test_sorted, step_sorted, steps_sorted}
+use Rattle.sem_scripts.specs.ScriptState.{State, Gives, Outcome, go_on, settled, give, ◌>>◌, global_value, with_global, local_value}
+use Rattle.mid_program.specs.Sorted.{sorted, all_sorted, has_kind, kinds_of, fits as fits_sort, is_tested, is_dropped, is_kept, keeps_well, test_sorted, step_sorted, steps_sorted, is_slot, takes}
 use Rattle.sem_scripts.specs.Statements.{Flow, Normal}
 use Rattle.lower_model.specs.Cells.{Cell, Bits, Held}
 use Rattle.lower_model.specs.Emission.{tested}
 use Rattle.lower_model.specs.Machine.{Conf, Label, Frame, Store, at, br, label, with_operands, push_result}
 use Rattle.lower_model.specs.Noted.{step_noted, steps_noted}
 use Rattle.lower_model.specs.Places.{Bases, number_global, room, arrays_in, step_room, step_arrays}
-use Rattle.lower_model.specs.Quick.{Within, unsure, name_in, constant_in, first_ones, compared_within, both_within, test_within, Source, Named, Constant, source_in, and_source, Sum, sum_names, update_in, is_near, is_sum, sum_op, sum_of, two_sum, set_sum, kept_sum, update_sum, old_source, stored_name, new_sum, let_sum, sum_in, Counted, field_count, counted_of, counted_in, Pair, pair_names, pair_of, pair_in, contrary}
+use Rattle.lower_model.specs.Quick.{Within, unsure, name_in, constant_in, first_ones, compared_within, both_within, test_within, Holder, OfName, OfParameter, holder_of, set_after, set_alone, Source, Held as Standing, Constant, source_in, and_source, Sum, sum_names, update_in, is_near, is_sum, sum_op, sum_of, two_sum, set_sum, kept_sum, update_sum, old_source, stored_name, new_sum, let_sum, sum_in, Counted, field_count, counted_of, counted_in, Pair, pair_names, pair_of, pair_in, contrary}
 use Rattle.lower_model.specs.Small.{does, ask_row, text_beside}
 use Rattle.lower_model.specs.Statements.{counted_left, left_unless_counted, source_pushed, summed, summed_anyway, quickly_dropped, pair_left, left_unless_pair, left_unless, step_emitted, steps_emitted}
 use Rattle.lower_model.proofs.Runs.{Goes, goes_from, goes_to, then_goes, by_steps, stays, first, within, there, then_on, then_step, Onward}
@@ -50,8 +51,8 @@ use Rattle.lower_model.proofs.Locals.{Locals, laid}
 use Rattle.lower_model.proofs.Globals.{Number as NameNumber}
 use Rattle.lower_model.proofs.GlobalSteps.{global_copied}
 use Rattle.lower_model.proofs.Steps.{empty}
-use Rattle.lower_model.proofs.State.{bare, beside, bare_number, beside_number, cells_of, name_word, BareOf, IsBeside, IsNone, IsNumber}
-use Rattle.lower_model.proofs.Relation.{Away}
+use Rattle.lower_model.proofs.State.{holder_slot, holder_value, stored_in, bare, beside, bare_number, beside_number, cells_of, name_word, BareOf, IsBeside, IsNone, IsNumber}
+use Rattle.lower_model.proofs.Relation.{Fit, Away}
 use Rattle.lower_model.proofs.Pieces.{chooses, closes}
 use Rattle.lower_model.proofs.Answers.{machine, beside_state, reply, after_reply, row_called, Reached}
 use Rattle.lower_model.proofs.Conversions.{bare_is, same_state, ask_to_num}
@@ -63,10 +64,10 @@ use Rattle.lower_model.proofs.Simulation.{work_of, context, layout, ExprOk}
 use Rattle.lower_model.proofs.StatementForms.{flows_on, plain_meant, Starts, starts_after, starts_among, StepDone, StepOk}
 use Rattle.lower_model.proofs.Tidy.{begun_step}
 use Rattle.lower_model.proofs.Branches.{TestDone, test_meant, test_ok, block_ends}
-use Rattle.lower_model.proofs.Quick.{Sure, sure, shown_by, name_is, constant_is, shift_pos, shifted_less, shifted_most, less_holds, most_holds}
+use Rattle.lower_model.proofs.Quick.{Sure, sure, shown_by, holder_is, name_is, constant_is, shift_pos, shifted_less, shifted_most, less_holds, most_holds}
 use Rattle.lower_model.proofs.QuickNames.{num_of, word_of, val_of, source_steps, all_flag, all_steps, AllSure, StandsAmong, source_code, none_is, some_is, nought_number, all_sure, among_sure, name_among, source_among, source_still, source_beside, source_is, contrary_holds, pair_few, one_few, near_sum, stored_is, none_new, result_of, sum_few}
 use Rattle.lower_model.proofs.Summing.{Summed, summed_in_turn, IsSource, anyway_ok}
-use Rattle.lower_model.proofs.QuickParts.{Two, sum_stored, two_summed, set_code, AllUnboxed, name_got, name_taken, all_unsure_ok, name_unboxed, summed_means, set_means, Parts, set_sorted}
+use Rattle.lower_model.proofs.QuickParts.{HolderFits, slot_fits, all_read, all_put, Taken, taken, stored_normal, stored_turns, Two, sum_stored, two_summed, set_code, AllUnboxed, name_got, all_unsure_ok, name_unboxed, summed_means, set_means, Parts, set_sorted}
 use Rattle.lower_model.proofs.Evaluating.{plainly_ok}
 
 module _ (p : Program) (deepest : Watch) (ks : List Kind) (F : List Frame) (b : Bases) (M n : ℕ) where
@@ -76,25 +77,28 @@ module _ (p : Program) (deepest : Watch) (ks : List Kind) (F : List Frame) (b : 
   -- What the tests mean that are sure.
 
   pub record TestIs (e : Code) (q : Within) : Type 0 where
-    pub kind : has_kind kinds q.name Unboxed ≡ true
+    pub kind : HolderFits p deepest ks F b M n q.name
     pub shift : unsigned_abs q.shift ≤ 2 ^ 54
     pub width : q.width ≤ 2 ^ 54
-    pub means : (σ : State) → Sure (global_value q.name σ) q.shift q.width → test_meant p deepest ks F b M n e σ ≡ Gives true σ
+    pub means : (σ : State) → Sure (holder_value q.name σ) q.shift q.width → test_meant p deepest ks F b M n e σ ≡ Gives true σ
 
-  compare_means : (c : CompareOp) (i : ℕ) (z : ℤ) (m : AnyNumber) (σ : State) → nat_le (unsigned_abs z) (2 ^ 53) ≡ true → global_value i σ ≡ value.Num m.number → holds c (int_cmp m.number z) ≡ true → test_meant p deepest ks F b M n (Compare c (Get (Global true i)) (Number z)) σ ≡ Gives true σ
-  unfolding evaluated all_evaluated
-  compare_means c i z m σ hz ev h =
+  compared_by : (c : CompareOp) (v : Value) (z : ℤ) (m : AnyNumber) (σ : State) → nat_le (unsigned_abs z) (2 ^ 53) ≡ true → v ≡ value.Num m.number → holds c (int_cmp m.number z) ≡ true → go_on (settled (comparison v (value.Num (or_zero (number_of z)).number) c) σ) (λ x. give x) ≡ Gives true σ
+  compared_by c v z m σ hz ev h =
       let nz = or_zero (number_of z) in
-      let v = global_value i σ in
       let r : comparison v (value.Num nz.number) c ≡ Ok true =
       ap (λ o. held c (order_by v (value.Num nz.number) o (Some (Ok nz.number)))) (ap numeric_side ev)
       ∙ (ap (λ x. Ok (holds c (int_cmp m.number x))) (nought_number z hz) ∙ ap Ok h) in
       ap (λ o. go_on (settled o σ) (λ x. give x)) r
 
-  first_is : (c : CompareOp) (i : ℕ) (z : ℤ) (k : ℕ) (q : Within) → first_ones i k ≡ Some q → has_kind kinds i Unboxed ≡ true → nat_le (unsigned_abs z) (2 ^ 53) ≡ true → k ≤ suc (2 ^ 54) →
-      ((m : AnyNumber) (j : ℕ) → m.number +ℤ pos (2 ^ 53) ≡ pos j → j < k → holds c (int_cmp m.number z) ≡ true) → TestIs (Compare c (Get (Global true i)) (Number z)) q
+  compare_means : (c : CompareOp) (i : Holder) (z : ℤ) (m : AnyNumber) (σ : State) → nat_le (unsigned_abs z) (2 ^ 53) ≡ true → holder_value i σ ≡ value.Num m.number → holds c (int_cmp m.number z) ≡ true → test_meant p deepest ks F b M n (Compare c (Get (holder_slot i)) (Number z)) σ ≡ Gives true σ
+  unfolding evaluated all_evaluated
+  compare_means c (OfName j) z m σ hz ev h = compared_by c (global_value j σ) z m σ hz ev h
+  compare_means c (OfParameter j) z m σ hz ev h = compared_by c (local_value j σ) z m σ hz ev h
+
+  first_is : (c : CompareOp) (i : Holder) (z : ℤ) (k : ℕ) (q : Within) → first_ones i k ≡ Some q → HolderFits p deepest ks F b M n i → nat_le (unsigned_abs z) (2 ^ 53) ≡ true → k ≤ suc (2 ^ 54) →
+      ((m : AnyNumber) (j : ℕ) → m.number +ℤ pos (2 ^ 53) ≡ pos j → j < k → holds c (int_cmp m.number z) ≡ true) → TestIs (Compare c (Get (holder_slot i)) (Number z)) q
   first_is c i z zero q eq hk hz hb f = none_is eq
-  first_is c i z (suc k) q eq hk hz hb f = subst (TestIs (Compare c (Get (Global true i)) (Number z))) (some_is _ q eq)
+  first_is c i z (suc k) q eq hk hz hb f = subst (TestIs (Compare c (Get (holder_slot i)) (Number z))) (some_is _ q eq)
       (record {
         kind = hk;
         shift = omega arith;
@@ -102,35 +106,43 @@ module _ (p : Program) (deepest : Watch) (ks : List Kind) (F : List Frame) (b : 
         means = λ σ s. compare_means c i z s.number σ hz s.value (f s.number s.above s.sum (let w = s.few in omega (arith, w)));
       })
 
-  named_is : (c : CompareOp) (i : ℕ) (z : ℤ) (q : Within) → compared_within c i z ≡ Some q → sorted (context p deepest ks F b M n) [] (Compare c (Get (Global true i)) (Number z)) ≡ true → TestIs (Compare c (Get (Global true i)) (Number z)) q
+  pair_sorted : (c : CompareOp) (x y : Code) → sorted (context p deepest ks F b M n) [] (Compare c x y) ≡ true → (sorted (context p deepest ks F b M n) [] x ≡ true) × (sorted (context p deepest ks F b M n) [] y ≡ true)
+  unfolding sorted all_sorted
+  pair_sorted c x y so =
+      let ctx = context p deepest ks F b M n in
+      let s1 = and_parts (fits_sort (form_of [] x) sort.Value) (fits_sort (form_of [] y) sort.Value && (sorted ctx [] x && sorted ctx [] y)) so in
+      let s2 = and_parts (fits_sort (form_of [] y) sort.Value) (sorted ctx [] x && sorted ctx [] y) s1.1 in
+      and_parts (sorted ctx [] x) (sorted ctx [] y) s2.1
+
+  named_is : (c : CompareOp) (i : Holder) (z : ℤ) (q : Within) → compared_within c i z ≡ Some q → sorted (context p deepest ks F b M n) [] (Compare c (Get (holder_slot i)) (Number z)) ≡ true → TestIs (Compare c (Get (holder_slot i)) (Number z)) q
   unfolding sorted all_sorted
   named_is op.Less i z q eq so =
-      let s = and_parts (has_kind kinds i Unboxed) (nat_le (unsigned_abs z) (2 ^ 53)) so in
+      let s = pair_sorted op.Less (Get (holder_slot i)) (Number z) so in
+      let hk = slot_fits p deepest ks F b M n i s.0 in
       let hz = leb-true (unsigned_abs z) (2 ^ 53) s.1 in
-      first_is op.Less i z (unsigned_abs (z +ℤ pos (2 ^ 53))) q eq s.0 s.1 (let x = (shift_pos z hz).1 in omega (arith, x))
+      first_is op.Less i z (unsigned_abs (z +ℤ pos (2 ^ 53))) q eq hk s.1 (let x = (shift_pos z hz).1 in omega (arith, x))
       (λ m j e lt. less_holds m.number z (shifted_less m.number z (small m) hz (let x : unsigned_abs (m.number +ℤ pos (2 ^ 53)) ≡ j = ap unsigned_abs e in omega (arith, x, lt))))
   named_is op.LessOrEqual i z q eq so =
-      let s = and_parts (has_kind kinds i Unboxed) (nat_le (unsigned_abs z) (2 ^ 53)) so in
+      let s = pair_sorted op.LessOrEqual (Get (holder_slot i)) (Number z) so in
+      let hk = slot_fits p deepest ks F b M n i s.0 in
       let hz = leb-true (unsigned_abs z) (2 ^ 53) s.1 in
-      first_is op.LessOrEqual i z (suc (unsigned_abs (z +ℤ pos (2 ^ 53)))) q eq s.0 s.1 (let x = (shift_pos z hz).1 in omega (arith, x))
+      first_is op.LessOrEqual i z (suc (unsigned_abs (z +ℤ pos (2 ^ 53)))) q eq hk s.1 (let x = (shift_pos z hz).1 in omega (arith, x))
       (λ m j e lt. most_holds m.number z (shifted_most m.number z (small m) hz (let x : unsigned_abs (m.number +ℤ pos (2 ^ 53)) ≡ j = ap unsigned_abs e in omega (arith, x, lt))))
   named_is c i z q eq so = none_is eq
 
   pub test_is : (e : Code) (q : Within) → test_within e ≡ Some q → sorted (context p deepest ks F b M n) [] e ≡ true → TestIs e q
   test_is (Compare c a e) q eq so = by (name_in a) refl (constant_in e) refl eq
     where
-      by : (o : Option ℕ) → name_in a ≡ o → (r : Option ℤ) → constant_in e ≡ r → both_within c o r ≡ Some q → TestIs (Compare c a e) q
+      by : (o : Option Holder) → name_in a ≡ o → (r : Option ℤ) → constant_in e ≡ r → both_within c o r ≡ Some q → TestIs (Compare c a e) q
       by (Some i) e1 (Some z) e2 eq = subst (λ t. sorted (context p deepest ks F b M n) [] t ≡ true → TestIs t q) (sym (ap₂ (λ x y. Compare c x y) (name_is a i e1) (constant_is e z e2))) (named_is c i z q eq) so
       by (Some i) e1 None e2 eq = none_is eq
       by None e1 r e2 eq = none_is eq
   test_is e q eq so = none_is eq
 
   -- one comparison of a name's number
-  pub unsure_ok : {K : List Label} {k : Instructions} → (i : ℕ) (q : ℤ) (w : ℕ) (l : Locals) (σ : State) → has_kind kinds i Unboxed ≡ true →
-      Goes (machine p deepest ks F) 3 (at ks [] K (laid b l) F (unsure (GlobalGet (number_global p.ranges i)) q w k) (beside_state p deepest ks F σ)) (at ks (Bits (flag (shown_by (global_value i σ) q w)) ∷ []) K (laid b l) F k (beside_state p deepest ks F σ))
-  unsure_ok i q w l σ hk =
-      let x = global_value i σ in
-      then_goes (global_copied p.ranges (length kinds) (cells_of kinds 0 σ) (NameNumber i) (Bits (I64 (bare x))) (kind_below kinds i Unboxed hk) (ap (λ c. Bits (I64 (name_word c x))) (kind_found kinds i Unboxed hk)) refl) (by_steps 2 refl)
+  pub unsure_ok : (K : List Label) (k : Instructions) (i : Holder) (q : ℤ) (w u : ℕ) (l : Locals) (σ : State) → HolderFits p deepest ks F b M n i → length ks ≡ b.parameters → Fit p deepest ks F 0 u 0 l σ →
+      Goes (machine p deepest ks F) 3 (at ks [] K (laid b l) F (unsure (all_read p deepest ks F b M n i) q w k) (beside_state p deepest ks F σ)) (at ks (Bits (flag (shown_by (holder_value i σ) q w)) ∷ []) K (laid b l) F k (beside_state p deepest ks F σ))
+  unsure_ok K k i q w u l σ hk pk ft = then_goes (name_got p deepest ks F b M n _ _ _ i 0 u 0 l σ hk pk ft) (by_steps 2 refl)
 
   -- the machine goes on where a test holds, and elsewhere some labels further out
   abbrev pub way_of : Bool → Conf → Conf → Conf
@@ -162,16 +174,16 @@ module _ (p : Program) (deepest : Watch) (ks : List Kind) (F : List Frame) (b : 
   -- Sources: what they push, and what they are as operands.
 
   abbrev pub SourceFits : ℕ → Source → Type 0
-  SourceFits most (Named i) = has_kind kinds i Unboxed ≡ true
+  SourceFits most (Standing i) = HolderFits p deepest ks F b M n i
   SourceFits most (Constant z) = nat_le (unsigned_abs z) most ≡ true
 
-  source_ok : (vs : List Cell) (K : List Label) (k : Instructions) → (m : ℕ) (s : Source) (l : Locals) (σ : State) → SourceFits m s →
+  source_ok : (vs : List Cell) (K : List Label) (k : Instructions) → (m : ℕ) (s : Source) (u : ℕ) (l : Locals) (σ : State) → SourceFits m s → length ks ≡ b.parameters → Fit p deepest ks F 0 u 0 l σ →
       Goes (machine p deepest ks F) (source_steps s) (at ks vs K (laid b l) F (source_pushed (layout p deepest ks F b M n) s k) (beside_state p deepest ks F σ)) (at ks (Bits (I64 (word_of s σ)) ∷ vs) K (laid b l) F k (beside_state p deepest ks F σ))
-  source_ok vs K k m (Named i) l σ h = name_got p deepest ks F b M n i l σ h
-  source_ok vs K k m (Constant z) l σ h = stays
+  source_ok vs K k m (Standing i) u l σ h pk ft = name_got p deepest ks F b M n vs K k i 0 u 0 l σ h pk ft
+  source_ok vs K k m (Constant z) u l σ h pk ft = stays
 
-  source_unboxed : (m : ℕ) (s : Source) (is : List ℕ) → SourceFits m s → AllUnboxed p deepest ks F b M n is → AllUnboxed p deepest ks F b M n (and_source s is)
-  source_unboxed m (Named i) is hs h = name_unboxed p deepest ks F b M n i is hs h
+  source_unboxed : (m : ℕ) (s : Source) (is : List Holder) → SourceFits m s → AllUnboxed p deepest ks F b M n is → AllUnboxed p deepest ks F b M n (and_source s is)
+  source_unboxed m (Standing i) is hs h = name_unboxed p deepest ks F b M n i is hs h
   source_unboxed m (Constant z) is hs h = h
 
   -- a source as an operand
@@ -182,12 +194,12 @@ module _ (p : Program) (deepest : Watch) (ks : List Kind) (F : List Frame) (b : 
     words : word_of s σ ≡ number_word number
     side : numeric_side (val_of s σ) ≡ Some (Ok number.number)
 
-  operand : (s : Source) (is : List ℕ) (c w : ℕ) (σ : State) → w ≤ c + c → SourceFits c s → c ≤ 2 ^ 53 → StandsAmong s is → AllSure σ (pos c) w is → Operand s σ c
-  operand (Named i) is c w σ hw hf hc h a =
+  operand : (s : Source) (is : List Holder) (c w : ℕ) (σ : State) → w ≤ c + c → SourceFits c s → c ≤ 2 ^ 53 → StandsAmong s is → AllSure σ (pos c) w is → Operand s σ c
+  operand (Standing i) is c w σ hw hf hc h a =
       let s = among_sure i is (pos c) w σ h a in
       record {
         number = s.number;
-        num = own_number p deepest ks F b M (global_value i σ) s.number s.value;
+        num = own_number p deepest ks F b M (holder_value i σ) s.number s.value;
         few = let x = s.sum in let y = s.few in grind (arith, ints, x, y, hw);
         words = ap bare s.value ∙ bare_number s.number;
         side = ap numeric_side s.value;
@@ -207,23 +219,20 @@ module _ (p : Program) (deepest : Watch) (ks : List Kind) (F : List Frame) (b : 
 
   pair_means : (c : CompareOp) (a e : Source) (σ : State) → test_meant p deepest ks F b M n (Compare c (source_code a) (source_code e)) σ ≡ go_on (settled (comparison (val_of a σ) (val_of e σ) c) σ) (λ x. give x)
   unfolding evaluated all_evaluated
-  pair_means c (Named i) (Named j) σ = refl
-  pair_means c (Named i) (Constant z) σ = refl
-  pair_means c (Constant z) (Named j) σ = refl
-  pair_means c (Constant z) (Constant y) σ = refl
+  pair_means c (Standing (OfName j)) (Standing (OfName k)) σ = refl
+  pair_means c (Standing (OfName j)) (Standing (OfParameter k)) σ = refl
+  pair_means c (Standing (OfName j)) (Constant z) σ = refl
+  pair_means c (Standing (OfParameter j)) (Standing (OfName k)) σ = refl
+  pair_means c (Standing (OfParameter j)) (Standing (OfParameter k)) σ = refl
+  pair_means c (Standing (OfParameter j)) (Constant z) σ = refl
+  pair_means c (Constant y) (Standing (OfName k)) σ = refl
+  pair_means c (Constant y) (Standing (OfParameter k)) σ = refl
+  pair_means c (Constant y) (Constant z) σ = refl
 
   range_fits : (fs : List Form) (s : Source) → sorted (context p deepest ks F b M n) fs (source_code s) ≡ true → SourceFits (2 ^ 53) s
   unfolding sorted all_sorted
-  range_fits fs (Named i) so = so
+  range_fits fs (Standing i) so = slot_fits p deepest ks F b M n i so
   range_fits fs (Constant z) so = so
-
-  pair_sorted : (c : CompareOp) (x y : Code) → sorted (context p deepest ks F b M n) [] (Compare c x y) ≡ true → (sorted (context p deepest ks F b M n) [] x ≡ true) × (sorted (context p deepest ks F b M n) [] y ≡ true)
-  unfolding sorted all_sorted
-  pair_sorted c x y so =
-      let ctx = context p deepest ks F b M n in
-      let s1 = and_parts (fits_sort (form_of [] x) sort.Value) (fits_sort (form_of [] y) sort.Value && (sorted ctx [] x && sorted ctx [] y)) so in
-      let s2 = and_parts (fits_sort (form_of [] y) sort.Value) (sorted ctx [] x && sorted ctx [] y) s1.1 in
-      and_parts (sorted ctx [] x) (sorted ctx [] y) s2.1
 
   pub pair_is : (e : Code) (q : Pair) → pair_in e ≡ Some q → sorted (context p deepest ks F b M n) [] e ≡ true → PairIs e q
   pair_is (Compare c x y) q eq so = by (source_in x) refl (source_in y) refl eq
@@ -245,17 +254,21 @@ module _ (p : Program) (deepest : Watch) (ks : List Kind) (F : List Frame) (b : 
   -- Comparisons with how many fields there are.
 
   pub record CountedIs (e : Code) (q : Counted) : Type 0 where
-    pub kind : has_kind kinds q.name Unboxed ≡ true
-    pub means : (σ : State) (m : AnyNumber) → global_value q.name σ ≡ value.Num m.number → test_meant p deepest ks F b M n e σ ≡ Gives (holds q.op (int_cmp m.number (pos (length σ.shared.inner.fields)))) σ
+    pub kind : HolderFits p deepest ks F b M n q.name
+    pub means : (σ : State) (m : AnyNumber) → holder_value q.name σ ≡ value.Num m.number → test_meant p deepest ks F b M n e σ ≡ Gives (holds q.op (int_cmp m.number (pos (length σ.shared.inner.fields)))) σ
 
-  abbrev count_code : CompareOp → ℕ → Code
-  count_code c i = Compare c (Get (Global true i)) (Do (Host row.GetSpecial) (Fixed (special_number Nf) End))
+  abbrev count_code : CompareOp → Holder → Code
+  count_code c i = Compare c (Get (holder_slot i)) (Do (Host row.GetSpecial) (Fixed (special_number Nf) End))
 
-  count_means : (c : CompareOp) (i : ℕ) (m : AnyNumber) (σ : State) → global_value i σ ≡ value.Num m.number → test_meant p deepest ks F b M n (count_code c i) σ ≡ Gives (holds c (int_cmp m.number (pos (length σ.shared.inner.fields)))) σ
+  count_means : (c : CompareOp) (i : Holder) (m : AnyNumber) (σ : State) → holder_value i σ ≡ value.Num m.number → test_meant p deepest ks F b M n (count_code c i) σ ≡ Gives (holds c (int_cmp m.number (pos (length σ.shared.inner.fields)))) σ
   unfolding evaluated all_evaluated
-  count_means c i m σ ev =
+  count_means c (OfName i) m σ ev =
       let v = value.Num (pos (length σ.shared.inner.fields)) in
       ap (λ τ. go_on (settled (comparison (global_value i σ) v c) τ) (λ x. give x)) (same_state σ v)
+      ∙ ap (λ x. go_on (settled (comparison x v c) σ) (λ y. give y)) ev
+  count_means c (OfParameter i) m σ ev =
+      let v = value.Num (pos (length σ.shared.inner.fields)) in
+      ap (λ τ. go_on (settled (comparison (local_value i σ) v c) τ) (λ x. give x)) (same_state σ v)
       ∙ ap (λ x. go_on (settled (comparison x v c) σ) (λ y. give y)) ev
 
   count_of : (e : Code) → field_count e ≡ true → e ≡ Do (Host row.GetSpecial) (Fixed (special_number Nf) End)
@@ -265,13 +278,13 @@ module _ (p : Program) (deepest : Watch) (ks : List Kind) (F : List Frame) (b : 
   pub counted_is : (e : Code) (q : Counted) → counted_in e ≡ Some q → sorted (context p deepest ks F b M n) [] e ≡ true → CountedIs e q
   counted_is (Compare c x y) q eq so = by (name_in x) refl (field_count y) refl eq
     where
-      by : (o : Option ℕ) → name_in x ≡ o → (t : Bool) → field_count y ≡ t → counted_of c o t ≡ Some q → CountedIs (Compare c x y) q
+      by : (o : Option Holder) → name_in x ≡ o → (t : Bool) → field_count y ≡ t → counted_of c o t ≡ Some q → CountedIs (Compare c x y) q
       by (Some i) e1 true e2 eq =
           subst (λ z. sorted (context p deepest ks F b M n) [] z ≡ true → CountedIs z q) (sym (ap₂ (λ a g. Compare c a g) (name_is x i e1) (count_of y e2)))
           (λ so1.
-          let s = pair_sorted c (Get (Global true i)) (Do (Host row.GetSpecial) (Fixed (special_number Nf) End)) so1 in
+          let s = pair_sorted c (Get (holder_slot i)) (Do (Host row.GetSpecial) (Fixed (special_number Nf) End)) so1 in
           subst (CountedIs (count_code c i)) (some_is _ q eq)
-          (record { kind = range_fits [] (Named i) s.0; means = λ σ m ev. count_means c i m σ ev })) so
+          (record { kind = range_fits [] (Standing i) s.0; means = λ σ m ev. count_means c i m σ ev })) so
       by (Some i) e1 false e2 eq = none_is eq
       by None e1 t e2 eq = none_is eq
   counted_is e q eq so = none_is eq
@@ -313,7 +326,7 @@ module _ (p : Program) (deepest : Watch) (ks : List Kind) (F : List Frame) (b : 
         let f2 = one_few q.right in
         subst (λ o. Reached p deepest ks F b M (work_of e + 17) σ.turns (at ks [] PK (laid b l) F (pair_left (layout p deepest ks F b M n) q (suc out) NoMore) PS) (Left out k K u l) (Away p deepest ks F b d K) o) (sym (t.means σ z c))
         (there (machine p deepest ks F) M (work_of e + 17) (source_steps q.left + (source_steps q.right + (1 + w.0))) _ _ z σ (Left out k K u l) (Away p deepest ks F b d K)
-        (then_goes (source_ok _ _ _ (2 ^ 53) q.left l σ t.left) (then_goes (source_ok _ _ _ (2 ^ 53) q.right l σ t.right)
+        (then_goes (source_ok _ _ _ (2 ^ 53) q.left u l σ t.left s.parameters s.fit) (then_goes (source_ok _ _ _ (2 ^ 53) q.right u l σ t.right s.parameters s.fit)
         (then_goes (goes_to (by_steps 1 refl) (ap (λ x. at ks (Bits (flag x) ∷ []) PK (laid b l) F (does (BrIf (suc out)) NoMore) PS) f)) w.2))) (omega (arith, w1, f1, f2))
         (record { next = l; comes = refl; starts = s; iterators = λ y. refl }))
 
@@ -324,7 +337,7 @@ module _ (p : Program) (deepest : Watch) (ks : List Kind) (F : List Frame) (b : 
         record { number = pos (length σ.shared.inner.fields); in_range = subst T (sym (le-leb (length σ.shared.inner.fields) (2 ^ 53) (omega (arith, few)))) tt }
 
     -- both numbers are there, and are compared
-    count_way : (q : Counted) → CountedIs e q → (m : AnyNumber) → global_value q.name σ ≡ value.Num m.number →
+    count_way : (q : Counted) → CountedIs e q → (m : AnyNumber) → holder_value q.name σ ≡ value.Num m.number →
         Reached p deepest ks F b M (work_of e + 17) σ.turns (at ks [] PK (laid b l) F (counted_left (layout p deepest ks F b M n) q (suc out) NoMore) PS) (Left out k K u l) (Away p deepest ks F b d K) (test_meant p deepest ks F b M n e σ)
     unfolding fields_number
     count_way q t m ev =
@@ -339,14 +352,14 @@ module _ (p : Program) (deepest : Watch) (ks : List Kind) (F : List Frame) (b : 
         let c : compare_at w64 (relation (contrary q.op)) (number_word m) (number_word f) ≡ not z = words_compared m f (contrary q.op) ∙ contrary_holds q.op (int_cmp m.number f.number) in
         subst (λ o. Reached p deepest ks F b M (work_of e + 17) σ.turns (at ks [] PK (laid b l) F (counted_left (layout p deepest ks F b M n) q (suc out) NoMore) PS) (Left out k K u l) (Away p deepest ks F b d K) o) (sym (t.means σ m ev))
         (there mach M (work_of e + 17) (1 + (1 + (1 + (1 + w.0)))) _ _ z σ (Left out k K u l) (Away p deepest ks F b d K)
-        (then_goes (goes_to (name_got p deepest ks F b M n q.name l σ t.kind) (ap (λ g. at ks (Bits (I64 g) ∷ []) PK (laid b l) F (does (I32Const (special_number Nf)) (ask_row row.GetSpecial (ask_row row.ToNum k2))) PS) (ap bare ev ∙ bare_number m)))
+        (then_goes (goes_to (name_got p deepest ks F b M n _ _ _ q.name 0 u 0 l σ t.kind s.parameters s.fit) (ap (λ g. at ks (Bits (I64 g) ∷ []) PK (laid b l) F (does (I32Const (special_number Nf)) (ask_row row.GetSpecial (ask_row row.ToNum k2))) PS) (ap bare ev ∙ bare_number m)))
         (then_goes (goes_to (row_called p deepest ks F row.GetSpecial (Nf, tt) (Bits (word.I32 (special_number Nf)) ∷ []) (x ∷ []) σ refl refl refl refl refl)
         (ap (λ τ. at ks (Held v ∷ (x ∷ [])) PK (laid b l) F (ask_row row.ToNum k2) (beside_state p deepest ks F τ)) (same_state σ v)))
         (then_goes (goes_to (ask_to_num p deepest ks F (x ∷ []) σ v) (ap (λ (o : Result AnyNumber Fault). at ks (reply (answer.Of sort.Number) o (x ∷ [])) PK (laid b l) F k2 (after_reply p deepest ks F o σ)) (own_number p deepest ks F b M v f refl)))
         (then_goes (goes_to (by_steps 1 refl) (ap (λ g. at ks (Bits (flag g) ∷ []) PK (laid b l) F (does (BrIf (suc out)) NoMore) PS) c)) w.2)))) (omega (arith, w1))
         (record { next = l; comes = refl; starts = s; iterators = λ y. refl }))
 
-    count_chosen : (q : Counted) → CountedIs e q → (f : Bool) → compare_at w64 LeS (bare (global_value q.name σ)) text_beside ≡ f → BareOf (global_value q.name σ) →
+    count_chosen : (q : Counted) → CountedIs e q → (f : Bool) → compare_at w64 LeS (bare (holder_value q.name σ)) text_beside ≡ f → BareOf (holder_value q.name σ) →
         Reached p deepest ks F b M (work_of e + 17) σ.turns (at ks [] PK (laid b l) F (cond (nat_eq (if f then 1 else 0) 0) (counted_left (layout p deepest ks F b M n) q (suc out) NoMore) pair_slow) PS) (Left out k K u l) (Away p deepest ks F b d K) (test_meant p deepest ks F b M n e σ)
     count_chosen q t true eq is = slow_way
     count_chosen q t false eq (IsBeside eb eh) = absurd (true≢false (sym (ap (λ y. compare_at w64 LeS y text_beside) eb) ∙ eq))
@@ -357,10 +370,10 @@ module _ (p : Program) (deepest : Watch) (ks : List Kind) (F : List Frame) (b : 
     counted None eq = within (machine p deepest ks F) M (work_of e + 16) (work_of e + 24) σ.turns _ (Left out k K u l) (Away p deepest ks F b d K) (test_meant p deepest ks F b M n e σ) (omega arith) (plain_ok e ok u d out k K l σ so rm ar s)
     counted (Some q) eq =
         let t = counted_is e q eq (and_parts (is_tested (form_of [] e)) (sorted (context p deepest ks F b M n) [] e) so).1 in
-        let f = compare_at w64 LeS (bare (global_value q.name σ)) text_beside in
+        let f = compare_at w64 LeS (bare (holder_value q.name σ)) text_beside in
         first (machine p deepest ks F) M 3 (work_of e + 17) (work_of e + 24) σ.turns _ _ (Left out k K u l) (Away p deepest ks F b d K) (test_meant p deepest ks F b M n e σ)
-        (then_goes (name_got p deepest ks F b M n q.name l σ t.kind) (then_goes (by_steps 1 refl) (chooses pair_slow (counted_left (layout p deepest ks F b M n) q (suc out) NoMore) (if f then 1 else 0)))) (omega arith)
-        (count_chosen q t f refl (bare_is (global_value q.name σ)))
+        (then_goes (name_got p deepest ks F b M n _ _ _ q.name 0 u 0 l σ t.kind s.parameters s.fit) (then_goes (by_steps 1 refl) (chooses pair_slow (counted_left (layout p deepest ks F b M n) q (suc out) NoMore) (if f then 1 else 0)))) (omega arith)
+        (count_chosen q t f refl (bare_is (holder_value q.name σ)))
 
     pub left_unless_pair_ok : Reached p deepest ks F b M (work_of e + 24) σ.turns (at ks [] K (laid b l) F (left_unless_pair (layout p deepest ks F b M n) (pair_in e) e d out k) PS) (Left out k K u l) (Away p deepest ks F b d K) (test_meant p deepest ks F b M n e σ)
     left_unless_pair_ok = by (pair_in e) refl
@@ -377,7 +390,7 @@ module _ (p : Program) (deepest : Watch) (ks : List Kind) (F : List Frame) (b : 
             let un = source_unboxed (2 ^ 53) q.left (and_source q.right []) t.left (source_unboxed (2 ^ 53) q.right [] t.right tt) in
             let fw = pair_few q in
             first (machine p deepest ks F) M (all_steps (pair_names q) + 1) (work_of e + 17) (work_of e + 24) σ.turns _ _ (Left out k K u l) (Away p deepest ks F b d K) (test_meant p deepest ks F b M n e σ)
-            (then_goes (all_unsure_ok p deepest ks F b M n _ _ (pair_names q) (pos (2 ^ 53)) (2 ^ 54) l σ un) (chooses pair_slow (pair_left (layout p deepest ks F b M n) q (suc out) NoMore) (if all_flag σ (pos (2 ^ 53)) (2 ^ 54) (pair_names q) then 1 else 0))) (omega (arith, fw))
+            (then_goes (all_unsure_ok p deepest ks F b M n _ _ (pair_names q) (pos (2 ^ 53)) (2 ^ 54) 0 u 0 l σ un s.parameters s.fit) (chooses pair_slow (pair_left (layout p deepest ks F b M n) q (suc out) NoMore) (if all_flag σ (pos (2 ^ 53)) (2 ^ 54) (pair_names q) then 1 else 0))) (omega (arith, fw))
             (chosen q t (all_flag σ (pos (2 ^ 53)) (2 ^ 54) (pair_names q)) refl)
 
   -- any test
@@ -394,14 +407,14 @@ module _ (p : Program) (deepest : Watch) (ks : List Kind) (F : List Frame) (b : 
       slow : Instructions
       slow = tested (layout p deepest ks F b M n) [] [] e zero zero (suc d) (does (Test I32 Eqz) (does (BrIf (suc out)) NoMore))
 
-      chosen : (q : Within) → TestIs e q → (f : Bool) → shown_by (global_value q.name σ) q.shift q.width ≡ f →
+      chosen : (q : Within) → TestIs e q → (f : Bool) → shown_by (holder_value q.name σ) q.shift q.width ≡ f →
           Reached p deepest ks F b M (work_of e + 17) σ.turns (at ks [] K1 (laid b l) F (cond (nat_eq (if f then 1 else 0) 0) NoMore slow) S) (Left out k K u l) (Away p deepest ks F b d K) (test_meant p deepest ks F b M n e σ)
       chosen q t true eq =
           within (machine p deepest ks F) M ((work_of e + 16) + 1) (work_of e + 17) σ.turns _ (Left out k K u l) (Away p deepest ks F b d K) (test_meant p deepest ks F b M n e σ) (omega arith)
           (blocked p deepest ks F b M (work_of e + 16) σ.turns d k K _ (Left (suc out) NoMore K1 u l) (Left out k K u l) (test_meant p deepest ks F b M n e σ) (λ x τ c h. left_closes out u k K l x τ c h)
           (plain_ok e ok u (suc d) (suc out) NoMore K1 l σ so rm ar (starts_among p deepest ks F b M n u K K1 l σ refl s)))
       chosen q t false eq =
-          subst (λ o. Reached p deepest ks F b M (work_of e + 17) σ.turns (at ks [] K1 (laid b l) F NoMore S) (Left out k K u l) (Away p deepest ks F b d K) o) (sym (t.means σ (sure (global_value q.name σ) q.shift q.width t.shift t.width eq)))
+          subst (λ o. Reached p deepest ks F b M (work_of e + 17) σ.turns (at ks [] K1 (laid b l) F NoMore S) (Left out k K u l) (Away p deepest ks F b d K) o) (sym (t.means σ (sure (holder_value q.name σ) q.shift q.width t.shift t.width eq)))
           (there (machine p deepest ks F) M (work_of e + 17) 1 _ _ true σ (Left out k K u l) (Away p deepest ks F b d K) closes (omega arith) (record { next = l; comes = refl; starts = s; iterators = λ y. refl }))
 
       by : (o : Option Within) → test_within e ≡ o → Reached p deepest ks F b M (work_of e + 24) σ.turns (at ks [] K (laid b l) F (left_unless (layout p deepest ks F b M n) o e d out k) S) (Left out k K u l) (Away p deepest ks F b d K) (test_meant p deepest ks F b M n e σ)
@@ -409,29 +422,29 @@ module _ (p : Program) (deepest : Watch) (ks : List Kind) (F : List Frame) (b : 
       by (Some q) eq =
           let t = test_is e q eq (and_parts (is_tested (form_of [] e)) (sorted (context p deepest ks F b M n) [] e) so).1 in
           first (machine p deepest ks F) M 4 (work_of e + 17) (work_of e + 24) σ.turns _ _ (Left out k K u l) (Away p deepest ks F b d K) (test_meant p deepest ks F b M n e σ)
-          (then_goes (unsure_ok q.name q.shift q.width l σ t.kind) (chooses slow NoMore (if shown_by (global_value q.name σ) q.shift q.width then 1 else 0))) (omega arith)
-          (chosen q t (shown_by (global_value q.name σ) q.shift q.width) refl)
+          (then_goes (unsure_ok _ _ q.name q.shift q.width u l σ t.kind s.parameters s.fit) (chooses slow NoMore (if shown_by (holder_value q.name σ) q.shift q.width then 1 else 0))) (omega arith)
+          (chosen q t (shown_by (holder_value q.name σ) q.shift q.width) refl)
 
   -- Sums.
 
   pub record SumIs (e : Code) (s : Sum) : Type 0 where
-    pub kind : has_kind kinds s.target Unboxed ≡ true
+    pub kind : HolderFits p deepest ks F b M n s.target
     pub left : SourceFits (2 ^ 52) s.left
     pub right : SourceFits (2 ^ 52) s.right
     pub sum : is_sum s.op ≡ true
     pub means : (σ : State) (m1 m2 y : AnyNumber) → num_of s.left σ ≡ Ok m1 → num_of s.right σ ≡ Ok m2 → outcome_of (arithmetic_of s.op m1.number m2.number) ≡ Ok y →
-        plain_meant p deepest ks F b M n (Eval e) σ ≡ Gives Normal (with_global s.target (value.Num y.number) σ)
+        plain_meant p deepest ks F b M n (Eval e) σ ≡ Gives Normal (stored_in (holder_slot s.target) (value.Num y.number) σ)
     pub room : 2 ≤ room e
     pub whole : (σ : State) → plain_meant p deepest ks F b M n (Eval e) σ ≡ two_summed s.target s.op σ (num_of s.left σ) (num_of s.right σ)
 
   near_fits : (fs : List Form) (s : Source) → sorted (context p deepest ks F b M n) fs (source_code s) ≡ true → is_near s ≡ true → SourceFits (2 ^ 52) s
   unfolding sorted all_sorted
-  near_fits fs (Named i) so h = so
+  near_fits fs (Standing i) so h = slot_fits p deepest ks F b M n i so
   near_fits fs (Constant z) so h = h
 
   -- `n = a + e`
 
-  set_is : (i : ℕ) (o : Arithmetic) (x y : Code) (s : Sum) → sum_of i o (source_in x) (source_in y) ≡ Some s → sorted (context p deepest ks F b M n) [] (set_code i o x y) ≡ true → SumIs (set_code i o x y) s
+  set_is : (i : Holder) (o : Arithmetic) (x y : Code) (s : Sum) → sum_of i o (source_in x) (source_in y) ≡ Some s → sorted (context p deepest ks F b M n) [] (set_code i o x y) ≡ true → SumIs (set_code i o x y) s
   set_is i o x y s eq so = by (source_in x) refl (source_in y) refl eq
     where
       by : (q : Option Source) → source_in x ≡ q → (r : Option Source) → source_in y ≡ r → sum_of i o q r ≡ Some s → SumIs (set_code i o x y) s
@@ -447,17 +460,22 @@ module _ (p : Program) (deepest : Watch) (ks : List Kind) (F : List Frame) (b : 
 
   -- `n += e`
 
-  abbrev update_code : ℕ → Arithmetic → Code → Code → Code
+  abbrev update_code : Holder → Arithmetic → Code → Code → Code
   update_code i o a x = Let a (set_code i o x (Bound true zero))
 
-  update_means : (i : ℕ) (o : Arithmetic) (a e : Source) (σ : State) → plain_meant p deepest ks F b M n (Eval (update_code i o (source_code e) (source_code a))) σ ≡ two_summed i o σ (num_of a σ) (num_of e σ)
+  update_means : (i : Holder) (o : Arithmetic) (a e : Source) (σ : State) → plain_meant p deepest ks F b M n (Eval (update_code i o (source_code e) (source_code a))) σ ≡ two_summed i o σ (num_of a σ) (num_of e σ)
   unfolding evaluated all_evaluated stepped
-  update_means i o (Named j) (Named k) σ = refl
-  update_means i o (Named j) (Constant z) σ = refl
-  update_means i o (Constant z) (Named j) σ = refl
-  update_means i o (Constant z) (Constant y) σ = refl
+  update_means i o (Standing (OfName j)) (Standing (OfName k)) σ = refl
+  update_means i o (Standing (OfName j)) (Standing (OfParameter k)) σ = refl
+  update_means i o (Standing (OfName j)) (Constant z) σ = refl
+  update_means i o (Standing (OfParameter j)) (Standing (OfName k)) σ = refl
+  update_means i o (Standing (OfParameter j)) (Standing (OfParameter k)) σ = refl
+  update_means i o (Standing (OfParameter j)) (Constant z) σ = refl
+  update_means i o (Constant y) (Standing (OfName k)) σ = refl
+  update_means i o (Constant y) (Standing (OfParameter k)) σ = refl
+  update_means i o (Constant y) (Constant z) σ = refl
 
-  update_sorted : (i : ℕ) (o : Arithmetic) (a x : Code) → sorted (context p deepest ks F b M n) [] (update_code i o a x) ≡ true → Parts p deepest ks F b M n i (form_of [] a ∷ []) x [] a
+  update_sorted : (i : Holder) (o : Arithmetic) (a x : Code) → sorted (context p deepest ks F b M n) [] (update_code i o a x) ≡ true → Parts p deepest ks F b M n i (form_of [] a ∷ []) x [] a
   unfolding sorted all_sorted
   update_sorted i o a x so =
       let ctx = context p deepest ks F b M n in
@@ -467,9 +485,9 @@ module _ (p : Program) (deepest : Watch) (ks : List Kind) (F : List Frame) (b : 
       let s1 = and_parts (keeps_well c) (sorted ctx [] a && sorted ctx (f ∷ []) c) s.1 in
       let s2 = and_parts (sorted ctx [] a) (sorted ctx (f ∷ []) c) s1.1 in
       let h = set_sorted p deepest ks F b M n (f ∷ []) i o x (Bound true zero) s2.1 in
-      record { kind = h.kind; first_one = h.first_one; second = s2.0 }
+      record { kind = h.kind; first_one = h.first_one; second = s2.0; fits_second = h.fits_second }
 
-  update_is : (i : ℕ) (o : Arithmetic) (a x : Code) (s : Sum) → sum_of i o (source_in x) (source_in a) ≡ Some s → sorted (context p deepest ks F b M n) [] (update_code i o a x) ≡ true → SumIs (update_code i o a x) s
+  update_is : (i : Holder) (o : Arithmetic) (a x : Code) (s : Sum) → sum_of i o (source_in x) (source_in a) ≡ Some s → sorted (context p deepest ks F b M n) [] (update_code i o a x) ≡ true → SumIs (update_code i o a x) s
   update_is i o a x s eq so = by (source_in x) refl (source_in a) refl eq
     where
       by : (q : Option Source) → source_in x ≡ q → (r : Option Source) → source_in a ≡ r → sum_of i o q r ≡ Some s → SumIs (update_code i o a x) s
@@ -485,37 +503,43 @@ module _ (p : Program) (deepest : Watch) (ks : List Kind) (F : List Frame) (b : 
 
   -- `n++`
 
-  abbrev old_code : ℕ → Arithmetic → Code → Code → Code
-  old_code i o a z = Let (Do AsNumber (At a End)) (Let (Do (Inline o) (At (Bound false zero) (At z End))) (Seq (Set (Global true i) (Bound true zero)) (Bound true (suc zero))))
+  abbrev old_code : Holder → Arithmetic → Code → Code → Code
+  old_code i o a z = Let (Do AsNumber (At a End)) (Let (Do (Inline o) (At (Bound false zero) (At z End))) (Seq (Set (holder_slot i) (Bound true zero)) (Bound true (suc zero))))
 
-  abbrev old_summed : ℕ → Arithmetic → State → Result AnyNumber Fault → Result AnyNumber Fault → Outcome Flow
+  abbrev old_summed : Holder → Arithmetic → State → Result AnyNumber Fault → Result AnyNumber Fault → Outcome Flow
   old_summed i o σ r1 r2 =
       go_on (go_on (go_on {A = AnyNumber × Unit {0}} {B = AnyNumber} (settled (then_row {A = AnyNumber} {B = AnyNumber × Unit {0}} r1 (λ x. Ok (x, tt))) σ) (λ given. give given.0))
       (λ x τ. go_on (go_on {A = Two} {B = AnyNumber} (settled (then_row {A = AnyNumber × Unit {0}} {B = Two} (then_row {A = AnyNumber} {B = AnyNumber × Unit {0}} r2 (λ z. Ok (z, tt))) (λ zs. Ok (x, zs))) τ)
-      (λ given. settled (outcome_of (arithmetic_of o given.0.number given.1.0.number)))) (λ y. (store_slot (Global true i) (value.Num y.number) >> give y) >> give x))) (λ y. give Normal)
+      (λ given. settled (outcome_of (arithmetic_of o given.0.number given.1.0.number)))) (λ y. (store_slot (holder_slot i) (value.Num y.number) >> give y) >> give x))) (λ y. give Normal)
 
-  abbrev old_stored : ℕ → AnyNumber → State → Result AnyNumber Fault → Outcome Flow
-  old_stored i x σ r = go_on (go_on (settled r σ) (λ y. (store_slot (Global true i) (value.Num y.number) >> give y) >> give x)) (λ y. give Normal)
+  abbrev old_stored : Holder → AnyNumber → State → Result AnyNumber Fault → Outcome Flow
+  old_stored i x σ r = go_on (go_on (settled r σ) (λ y. (store_slot (holder_slot i) (value.Num y.number) >> give y) >> give x)) (λ y. give Normal)
 
-  old_means : (i : ℕ) (o : Arithmetic) (a : Source) (z : ℤ) (σ : State) → plain_meant p deepest ks F b M n (Eval (old_code i o (source_code a) (Number z))) σ ≡ old_summed i o σ (num_of a σ) (num_of (Constant z) σ)
+  old_means : (i : Holder) (o : Arithmetic) (a : Source) (z : ℤ) (σ : State) → plain_meant p deepest ks F b M n (Eval (old_code i o (source_code a) (Number z))) σ ≡ old_summed i o σ (num_of a σ) (num_of (Constant z) σ)
   unfolding evaluated all_evaluated stepped
-  old_means i o (Named j) z σ = refl
+  old_means i o (Standing (OfName j)) z σ = refl
+  old_means i o (Standing (OfParameter j)) z σ = refl
   old_means i o (Constant y) z σ = refl
 
-  old_same : (i : ℕ) (o : Arithmetic) (σ : State) (r1 r2 : Result AnyNumber Fault) → old_summed i o σ r1 r2 ≡ two_summed i o σ r1 r2
-  old_same i o σ (Ok x) (Ok z) = by (outcome_of (arithmetic_of o x.number z.number))
+  old_same : (i : Holder) (o : Arithmetic) (σ : State) (r1 r2 : Result AnyNumber Fault) → old_summed i o σ r1 r2 ≡ two_summed i o σ r1 r2
+  old_same i o σ (Ok x) (Ok z) = by i (outcome_of (arithmetic_of o x.number z.number))
     where
-      by : (r : Result AnyNumber Fault) → old_stored i x σ r ≡ sum_stored i σ r
-      by (Ok y) = refl
-      by (Err f) = refl
+      by : (i : Holder) (r : Result AnyNumber Fault) → old_stored i x σ r ≡ sum_stored i σ r
+      by (OfName j) (Ok y) = refl
+      by (OfParameter j) (Ok y) = refl
+      by i (Err f) = refl
   old_same i o σ (Ok x) (Err f) = refl
   old_same i o σ (Err f) r2 = refl
 
-  old_sorted : (i : ℕ) (o : Arithmetic) (a z : Code) → sorted (context p deepest ks F b M n) [] (old_code i o a z) ≡ true → Parts p deepest ks F b M n i [] a (a_number ∷ []) z
+  old_normal : (i : Holder) (x y : AnyNumber) (σ : State) → old_stored i x σ (Ok y) ≡ Gives Normal (stored_in (holder_slot i) (value.Num y.number) σ)
+  old_normal (OfName j) x y σ = refl
+  old_normal (OfParameter j) x y σ = refl
+
+  old_sorted : (i : Holder) (o : Arithmetic) (a z : Code) → sorted (context p deepest ks F b M n) [] (old_code i o a z) ≡ true → Parts p deepest ks F b M n i [] a (a_number ∷ []) z
   unfolding sorted all_sorted
   old_sorted i o a z so =
       let ctx = context p deepest ks F b M n in
-      let c = Seq (Set (Global true i) (Bound true zero)) (Bound true (suc zero)) in
+      let c = Seq (Set (holder_slot i) (Bound true zero)) (Bound true (suc zero)) in
       let d = Do (Inline o) (At (Bound false zero) (At z End)) in
       let fs = a_number ∷ [] in
       let fa = fits_sort (form_of [] a) sort.Number && true in
@@ -528,9 +552,13 @@ module _ (p : Program) (deepest : Watch) (ks : List Kind) (F : List Frame) (b : 
       let t1 = and_parts (sorted ctx fs d) (sorted ctx (a_number ∷ fs) c) t.1 in
       let t2 = and_parts fz (sorted ctx fs z && true) t1.0 in
       let t3 = and_parts (sorted ctx fs z) true t2.1 in
-      record { kind = (and_parts (has_kind kinds i Unboxed) true (and_parts (has_kind kinds i Unboxed && true) true t1.1).0).0; first_one = s3.0; second = t3.0 }
+      let gs = a_number ∷ fs in
+      let own = is_slot ctx (holder_slot i) in
+      let tk = takes (holder_slot i) (form_of gs (Bound true zero)) && sorted ctx gs (Bound true zero) in
+      let w = and_parts (own && tk) (sorted ctx gs (Bound true (suc zero))) t1.1 in
+      record { kind = slot_fits p deepest ks F b M n i (and_parts own tk w.0).0; first_one = s3.0; second = t3.0; fits_second = (and_parts (fits_sort (form_of fs z) sort.Number) true t2.0).0 }
 
-  old_is : (i : ℕ) (o : Arithmetic) (a : Code) (z : ℤ) (s : Sum) → sum_of i o (source_in a) (Some (Constant z)) ≡ Some s → sorted (context p deepest ks F b M n) [] (old_code i o a (Number z)) ≡ true → SumIs (old_code i o a (Number z)) s
+  old_is : (i : Holder) (o : Arithmetic) (a : Code) (z : ℤ) (s : Sum) → sum_of i o (source_in a) (Some (Constant z)) ≡ Some s → sorted (context p deepest ks F b M n) [] (old_code i o a (Number z)) ≡ true → SumIs (old_code i o a (Number z)) s
   old_is i o a z s eq so = by (source_in a) refl eq
     where
       by : (q : Option Source) → source_in a ≡ q → sum_of i o q (Some (Constant z)) ≡ Some s → SumIs (old_code i o a (Number z)) s
@@ -540,7 +568,7 @@ module _ (p : Program) (deepest : Watch) (ks : List Kind) (F : List Frame) (b : 
           let g = near_sum i o l (Constant z) s eq in
           let h = old_sorted i o (source_code l) (Number z) so1 in
           subst (SumIs (old_code i o (source_code l) (Number z))) g.1
-          (record { kind = h.kind; left = near_fits [] l h.first_one g.0.1; right = near_fits (a_number ∷ []) (Constant z) h.second g.0.2; sum = g.0.0; means = λ σ m1 m2 y z1 z2 z0. old_means i o l z σ ∙ (ap₂ (old_summed i o σ) z1 z2 ∙ ap (old_stored i m1 σ) z0); room = omega arith; whole = λ σ. old_means i o l z σ ∙ old_same i o σ (num_of l σ) (num_of (Constant z) σ) })) so
+          (record { kind = h.kind; left = near_fits [] l h.first_one g.0.1; right = near_fits (a_number ∷ []) (Constant z) h.second g.0.2; sum = g.0.0; means = λ σ m1 m2 y z1 z2 z0. old_means i o l z σ ∙ (ap₂ (old_summed i o σ) z1 z2 ∙ (ap (old_stored i m1 σ) z0 ∙ old_normal i m1 y σ)); room = omega arith; whole = λ σ. old_means i o l z σ ∙ old_same i o σ (num_of l σ) (num_of (Constant z) σ) })) so
       by None e1 eq = none_is eq
 
   -- Which code is such a step.
@@ -548,65 +576,73 @@ module _ (p : Program) (deepest : Watch) (ks : List Kind) (F : List Frame) (b : 
   abbrev WellSorted : Code → Type 0
   WellSorted e = sorted (context p deepest ks F b M n) [] e ≡ true
 
-  two_is : (i : ℕ) (o : Arithmetic) (es : Codes) (s : Sum) → two_sum i o es ≡ Some s → WellSorted (Set (Global true i) (Do (Inline o) es)) → SumIs (Set (Global true i) (Do (Inline o) es)) s
+  two_is : (i : Holder) (o : Arithmetic) (es : Codes) (s : Sum) → two_sum i o es ≡ Some s → WellSorted (Set (holder_slot i) (Do (Inline o) es)) → SumIs (Set (holder_slot i) (Do (Inline o) es)) s
   two_is i o (At x (At y End)) s eq so = set_is i o x y s eq so
   two_is i o es s eq so = none_is eq
 
-  do_is : (i : ℕ) (e : Code) (s : Sum) → set_sum i e ≡ Some s → WellSorted (Set (Global true i) e) → SumIs (Set (Global true i) e) s
+  do_is : (i : Holder) (e : Code) (s : Sum) → set_sum i e ≡ Some s → WellSorted (Set (holder_slot i) e) → SumIs (Set (holder_slot i) e) s
   do_is i (Do (Inline o) es) s eq so = two_is i o es s eq so
   do_is i e s eq so = none_is eq
 
-  kept_is : (i : ℕ) (o : Arithmetic) (a : Code) (es : Codes) (s : Sum) → kept_sum i o a es ≡ Some s → WellSorted (Let a (Set (Global true i) (Do (Inline o) es))) → SumIs (Let a (Set (Global true i) (Do (Inline o) es))) s
+  kept_is : (i : Holder) (o : Arithmetic) (a : Code) (es : Codes) (s : Sum) → kept_sum i o a es ≡ Some s → WellSorted (Let a (Set (holder_slot i) (Do (Inline o) es))) → SumIs (Let a (Set (holder_slot i) (Do (Inline o) es))) s
   kept_is i o a (At x (At (Bound true zero) End)) s eq so = update_is i o a x s eq so
   kept_is i o a es s eq so = none_is eq
 
-  set_kept_is : (i : ℕ) (a e : Code) (s : Sum) → update_sum i a e ≡ Some s → WellSorted (Let a (Set (Global true i) e)) → SumIs (Let a (Set (Global true i) e)) s
+  set_kept_is : (i : Holder) (a e : Code) (s : Sum) → update_sum i a e ≡ Some s → WellSorted (Let a (Set (holder_slot i) e)) → SumIs (Let a (Set (holder_slot i) e)) s
   set_kept_is i a (Do (Inline o) es) s eq so = kept_is i o a es s eq so
   set_kept_is i a e s eq so = none_is eq
 
-  new_is : (a : Code) (i : ℕ) (x : Code) (s : Sum) → new_sum (source_in a) (Some i) x ≡ Some s → WellSorted (Let (Do AsNumber (At a End)) (Let x (Seq (Set (Global true i) (Bound true zero)) (Bound true (suc zero))))) →
-      SumIs (Let (Do AsNumber (At a End)) (Let x (Seq (Set (Global true i) (Bound true zero)) (Bound true (suc zero))))) s
+  new_is : (a : Code) (i : Holder) (x : Code) (s : Sum) → new_sum (source_in a) (Some i) x ≡ Some s → WellSorted (Let (Do AsNumber (At a End)) (Let x (Seq (Set (holder_slot i) (Bound true zero)) (Bound true (suc zero))))) →
+      SumIs (Let (Do AsNumber (At a End)) (Let x (Seq (Set (holder_slot i) (Bound true zero)) (Bound true (suc zero))))) s
   new_is a i (Do (Inline o) (At (Bound false zero) (At (Number z) End))) s eq so = old_is i o a z s eq so
   new_is a i x s eq so = none_is eq
 
   step_is : (a x y : Code) (s : Sum) → new_sum (old_source a) (stored_name y) x ≡ Some s → WellSorted (Let a (Let x y)) → SumIs (Let a (Let x y)) s
   step_is (Do AsNumber (At a End)) x y s eq so = by (stored_name y) refl eq
     where
-      by : (i : Option ℕ) → stored_name y ≡ i → new_sum (source_in a) i x ≡ Some s → SumIs (Let (Do AsNumber (At a End)) (Let x y)) s
+      by : (i : Option Holder) → stored_name y ≡ i → new_sum (source_in a) i x ≡ Some s → SumIs (Let (Do AsNumber (At a End)) (Let x y)) s
       by (Some i) e1 e2 = subst (λ t. WellSorted (Let (Do AsNumber (At a End)) (Let x t)) → SumIs (Let (Do AsNumber (At a End)) (Let x t)) s) (sym (stored_is y i e1)) (new_is a i x s e2) so
       by None e1 e2 = cc
   step_is a x y s eq so = absurd (none_new (stored_name y) x s eq)
 
   let_is : (a e : Code) (s : Sum) → let_sum a e ≡ Some s → WellSorted (Let a e) → SumIs (Let a e) s
-  let_is a (Set (Global true i) e) s eq so = set_kept_is i a e s eq so
+  let_is a (Set x e) s eq so = by (holder_of x) refl eq
+    where
+      by : (o : Option Holder) → holder_of x ≡ o → set_after o a e ≡ Some s → SumIs (Let a (Set x e)) s
+      by (Some i) ex e1 = subst (λ (y : Slot). WellSorted (Let a (Set y e)) → SumIs (Let a (Set y e)) s) (sym (holder_is x i ex)) (set_kept_is i a e s e1) so
+      by None ex e1 = none_is e1
   let_is a (Let x y) s eq so = step_is a x y s eq so
   let_is a e s eq so = none_is eq
 
   pub sum_is : (e : Code) (s : Sum) → sum_in e ≡ Some s → WellSorted e → SumIs e s
-  sum_is (Set (Global true i) e) s eq so = do_is i e s eq so
+  sum_is (Set x e) s eq so = by (holder_of x) refl eq
+    where
+      by : (o : Option Holder) → holder_of x ≡ o → set_alone o e ≡ Some s → SumIs (Set x e) s
+      by (Some i) ex e1 = subst (λ (y : Slot). WellSorted (Set y e) → SumIs (Set y e) s) (sym (holder_is x i ex)) (do_is i e s e1) so
+      by None ex e1 = none_is e1
   sum_is (Let a e) s eq so = let_is a e s eq so
   sum_is e s eq so = none_is eq
 
   -- the machine adds
-  summed_ok : (s : Sum) (y : AnyNumber) (K : List Label) (k : Instructions) (l : Locals) (σ : State) → has_kind kinds s.target Unboxed ≡ true → SourceFits (2 ^ 52) s.left → SourceFits (2 ^ 52) s.right → length σ.globals ≡ length p.globals → beside (global_value s.target σ) ≡ empty →
+  summed_ok : (s : Sum) (y : AnyNumber) (K : List Label) (k : Instructions) (u : ℕ) (l : Locals) (σ : State) → SourceFits (2 ^ 52) s.left → SourceFits (2 ^ 52) s.right → length ks ≡ b.parameters → Fit p deepest ks F 0 u 0 l σ → (t : Taken p deepest ks F b M n s.target y u K k l σ) →
       binary_at w64 (sum_op s.op) (word_of s.left σ) (word_of s.right σ) ≡ Ok (number_word y) →
-      Goes (machine p deepest ks F) (source_steps s.left + (source_steps s.right + 2)) (at ks [] K (laid b l) F (summed (layout p deepest ks F b M n) s k) (beside_state p deepest ks F σ)) (at ks [] K (laid b l) F k (beside_state p deepest ks F (with_global s.target (value.Num y.number) σ)))
-  summed_ok s y K k l σ hk f1 f2 sz none e =
-      then_goes (source_ok _ _ _ (2 ^ 52) s.left l σ f1) (then_goes (source_ok _ _ _ (2 ^ 52) s.right l σ f2)
-      (then_goes (by_steps 1 (ap (λ r. with_operands (push_result [] (Some (given_by I64 r))) ks K (laid b l) F (does (GlobalSet (number_global p.ranges s.target)) k) (beside_state p deepest ks F σ)) e))
-      (name_taken p deepest ks F b M n s.target y K k l σ hk sz none)))
+      Goes (machine p deepest ks F) (source_steps s.left + (source_steps s.right + 2)) (at ks [] K (laid b l) F (summed (layout p deepest ks F b M n) s k) (beside_state p deepest ks F σ)) (at ks [] K (laid b t.next) F k (beside_state p deepest ks F (stored_in (holder_slot s.target) (value.Num y.number) σ)))
+  summed_ok s y K k u l σ f1 f2 pk ft t e =
+      then_goes (source_ok _ _ _ (2 ^ 52) s.left u l σ f1 pk ft) (then_goes (source_ok _ _ _ (2 ^ 52) s.right u l σ f2 pk ft)
+      (then_goes (by_steps 1 (ap (λ r. with_operands (push_result [] (Some (given_by I64 r))) ks K (laid b l) F (does (all_put p deepest ks F b M n s.target) k) (beside_state p deepest ks F σ)) e))
+      t.goes))
 
   pub sum_unboxed : (e : Code) (s : Sum) → SumIs e s → AllUnboxed p deepest ks F b M n (sum_names s)
   sum_unboxed e s t = name_unboxed p deepest ks F b M n s.target (and_source s.left (and_source s.right [])) t.kind (source_unboxed (2 ^ 52) s.left (and_source s.right []) t.left (source_unboxed (2 ^ 52) s.right [] t.right tt))
 
   -- the same, one after the other
-  summed_again : (i : ℕ) (o : Arithmetic) (σ : State) (r1 r2 : Result AnyNumber Fault) → two_summed i o σ r1 r2 ≡ go_on (summed_in_turn p deepest ks F b M n i o r1 r2 σ) (λ y. give Normal)
+  summed_again : (i : Holder) (o : Arithmetic) (σ : State) (r1 r2 : Result AnyNumber Fault) → two_summed i o σ r1 r2 ≡ go_on (summed_in_turn p deepest ks F b M n i o r1 r2 σ) (λ y. give Normal)
   summed_again i o σ (Ok x) (Ok z) = refl
   summed_again i o σ (Ok x) (Err f) = refl
   summed_again i o σ (Err f) r2 = refl
 
   pub near_source : (s : Source) → SourceFits (2 ^ 52) s → IsSource p deepest ks F b M n s
-  near_source (Named i) h = h
+  near_source (Standing i) h = h
   near_source (Constant z) h = let le = leb-true (unsigned_abs z) (2 ^ 52) h in le-leb (unsigned_abs z) (2 ^ 53) (omega (arith, le))
 
   -- what is done once its place is noted
@@ -641,13 +677,16 @@ module _ (p : Program) (deepest : Watch) (ks : List Kind) (F : List Frame) (b : 
           let own = among_sure q.target (sum_names q) (pos (2 ^ 52)) (2 ^ 53) σ (name_among q.target is1) w in
           let r = result_of q.op o1.number o2.number t.sum o1.few o2.few in
           let y = r.number in
-          let σ1 = with_global q.target (value.Num y.number) σ in
+          let σ1 = stored_in (holder_slot q.target) (value.Num y.number) σ in
+          let tk = stored_turns p deepest ks F b M n q.target y σ in
+          let to = taken p deepest ks F b M n q.target y u K1 NoMore l σ t.kind s.parameters s.fit (ap beside own.value ∙ beside_number own.number) in
           let f1 = one_few q.left in
           let f2 = one_few q.right in
-          let g = summed_ok q y K1 NoMore l σ t.kind t.left t.right s.fit.sound.names (ap beside own.value ∙ beside_number own.number) (ap₂ (binary_at w64 (sum_op q.op)) o1.words o2.words ∙ r.words) in
+          let g = summed_ok q y K1 NoMore u l σ t.left t.right s.parameters s.fit to (ap₂ (binary_at w64 (sum_op q.op)) o1.words o2.words ∙ r.words) in
           subst (λ o. Reached p deepest ks F b M (work_of e + 10) σ.turns (at ks [] K1 (laid b l) F (fast q) S) (StepDone p deepest ks F b M n lo u bk ct k K l) (Away p deepest ks F b d K) o) (sym (t.means σ o1.number o2.number y o1.num o2.num r.outcome))
+          (subst (λ c. Reached p deepest ks F b M (work_of e + 10) c (at ks [] K1 (laid b l) F (fast q) S) (StepDone p deepest ks F b M n lo u bk ct k K l) (Away p deepest ks F b d K) (Gives Normal σ1)) tk
           (there (machine p deepest ks F) M (work_of e + 10) ((source_steps q.left + (source_steps q.right + 2)) + 1) _ _ Normal σ1 (StepDone p deepest ks F b M n lo u bk ct k K l) (Away p deepest ks F b d K) (then_goes g closes) (omega (arith, f1, f2))
-          (record { next = l; comes = refl; starts = starts_after p deepest ks F b M n u K K l l σ σ1 s refl (omega arith) (λ x. refl) (fit_global p deepest ks F b M n q.target (value.Num y.number) 0 u 0 l σ s.fit); iterators = λ x. refl; flows = flows_on lo }))
+          (record { next = to.next; comes = refl; starts = starts_after p deepest ks F b M n u K K l to.next σ σ1 s refl (let e = tk in omega (arith, e)) to.iterators to.fit; iterators = to.iterators; flows = flows_on lo })))
 
       -- in all cases
       anyway : (a : Sum) → SumIs e a → Reached p deepest ks F b M (work_of e + 90) σ.turns (at ks [] K1 (laid b l) F (slow a) S) (StepDone p deepest ks F b M n lo u bk ct k K l) (Away p deepest ks F b d K) (plain_meant p deepest ks F b M n (Eval e) σ)
@@ -661,7 +700,7 @@ module _ (p : Program) (deepest : Watch) (ks : List Kind) (F : List Frame) (b : 
           (blocked p deepest ks F b M 80 σ.turns d k K _ P1 (StepDone p deepest ks F b M n lo u bk ct k K l) (plain_meant p deepest ks F b M n (Eval e) σ) (λ f τ c h. block_ends p deepest ks F b M n lo u bk ct k K l f τ c h)
           (subst (λ o. Reached p deepest ks F b M 80 σ.turns (at ks [] K1 (laid b l) F (slow a) S) P1 Q1 o) (sym whole)
           (then_on (machine p deepest ks F) M 80 0 80 σ.turns _ P0 P1 Q1 (summed_in_turn p deepest ks F b M n a.target a.op (num_of a.left σ) (num_of a.right σ) σ) _ (omega arith)
-          (anyway_ok p deepest ks F b M n a u (suc d) NoMore K1 l σ t.sum t.kind (near_source a.left t.left) (near_source a.right t.right) (omega (arith, rm, few)) s.fit)
+          (anyway_ok p deepest ks F b M n a u (suc d) NoMore K1 l σ t.sum t.kind s.parameters (near_source a.left t.left) (near_source a.right t.right) (omega (arith, rm, few)) s.fit)
           (λ w τ c le h.
           there (machine p deepest ks F) M 0 0 c c Normal τ P1 Q1 stays (omega arith)
           (record { next = h.next; comes = h.comes; starts = starts_after p deepest ks F b M n u K K1 l h.next σ τ s refl le h.iterators h.fit; iterators = h.iterators; flows = flows_on lo })))))
@@ -678,7 +717,7 @@ module _ (p : Program) (deepest : Watch) (ks : List Kind) (F : List Frame) (b : 
           let fw = sum_few a in
           let un = name_unboxed p deepest ks F b M n a.target (and_source a.left (and_source a.right [])) t.kind (source_unboxed (2 ^ 52) a.left (and_source a.right []) t.left (source_unboxed (2 ^ 52) a.right [] t.right tt)) in
           first (machine p deepest ks F) M (all_steps (sum_names a) + 1) (work_of e + 90) (work_of e + 110) σ.turns _ _ (StepDone p deepest ks F b M n lo u bk ct k K l) (Away p deepest ks F b d K) (plain_meant p deepest ks F b M n (Eval e) σ)
-          (then_goes (all_unsure_ok p deepest ks F b M n _ _ (sum_names a) (pos (2 ^ 52)) (2 ^ 53) l σ un) (chooses (slow a) (fast a) (if all_flag σ (pos (2 ^ 52)) (2 ^ 53) (sum_names a) then 1 else 0))) (omega (arith, fw))
+          (then_goes (all_unsure_ok p deepest ks F b M n _ _ (sum_names a) (pos (2 ^ 52)) (2 ^ 53) 0 u 0 l σ un s.parameters s.fit) (chooses (slow a) (fast a) (if all_flag σ (pos (2 ^ 52)) (2 ^ 53) (sum_names a) then 1 else 0))) (omega (arith, fw))
           (chosen a t (all_flag σ (pos (2 ^ 52)) (2 ^ 53) (sum_names a)) refl)
 
   pub eval_step : (exprs : (x : Code) → ExprOk p deepest ks F b M n x) (e : Code) → StepOk p deepest ks F b M n (Eval e)

@@ -31,7 +31,7 @@ use Rattle.lower_model.proofs.Globals.{Globals, Hand as NameHand, Number as Name
 use Rattle.lower_model.proofs.Steps.{empty, get_moved, get_copied, set_ok}
 use Rattle.lower_model.proofs.GlobalSteps.{storing, while_assigning, comes_back, global_moved, global_copied, global_set_ok}
 use Rattle.lower_model.proofs.Pieces.{chooses, closes, drop_ok}
-use Rattle.lower_model.proofs.State.{bare, beside, bare_number, beside_number, cells_of, host_of, kind_here, arrays_before, name_hand, name_word, word_not_beside, BareOf, IsBeside, IsNone, IsNumber}
+use Rattle.lower_model.proofs.State.{bare, beside, bare_number, beside_number, cells_of, host_of, kind_here, arrays_before, name_hand, name_word, word_not_beside, BareOf, IsBeside, IsNone, IsNumber, stored_in}
 use Rattle.lower_model.proofs.Relation.{HoldsAt, Below, kept_same, Same, same_self, same_hand, same_then, Fit, SameOwn, Away}
 use Rattle.lower_model.proofs.Answers.{machine, beside_state, Reached}
 use Rattle.lower_model.proofs.Conversions.{bare_is}
@@ -213,10 +213,6 @@ module _ (p : Program) (deepest : Watch) (ks : List Kind) (F : List Frame) (b : 
       }
 
   -- Any name.
-
-  abbrev stored_in : Slot → Value → State → State
-  stored_in (Global g i) v = with_global i v
-  stored_in (Parameter g i) v = with_local i v
 
   stored_gives : {A : Type 0} → (x : Slot) (v : Value) (a : A) (σ : State) → Gives a (stored_in x v σ) ≡ (store_slot x v >> give a) σ
   stored_gives (Global g i) v a σ = refl

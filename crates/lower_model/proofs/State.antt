@@ -1,5 +1,5 @@
 -- The machine's store beside a script's state.
-use Rattle.std.proofs.Common.{◌≡◌, ℕ, zero, suc, ◌^◌, false, List, [], ◌∷◌, length, Some, None, Option, sym, ap, ◌∙◌, arith, w64, unsigned_abs}
+use Rattle.std.proofs.Common.{◌≡◌, ℕ, zero, suc, ◌^◌, false, List, [], ◌∷◌, length, Some, None, Option, sym, ap, ◌∙◌, arith, w64, unsigned_abs, true}
 use Rattle.std.specs.Prelude.{get_or, nat_eq, ◌-◌}
 use Rattle.std.specs.Int.{cast_signed}
 use Rattle.std.proofs.lemmas.Bool.{ne_eqb}
@@ -11,8 +11,9 @@ use Rattle.sem_primitives.specs.Constants.{flag_number}
 use Rattle.sem_primitives.specs.Numbers.{Number, number_of, number_word}
 use Rattle.sem_primitives.proofs.Words.{word_no_fault, small, fits, number_again}
 use Rattle.wasm_store.specs.declared.word.Word.TheVariants.{I32, I64}
-use Rattle.mid_program.specs.Mid.{Kind, Boxed, Unboxed, Many}
-use Rattle.sem_scripts.specs.ScriptState.{State, Stop, Faulted, OutOfTurns, TooDeep, Nexted, Exited, Returned, global_value}
+use Rattle.mid_program.specs.Mid.{Slot, Global, Parameter, Kind, Boxed, Unboxed, Many}
+use Rattle.sem_scripts.specs.ScriptState.{State, Stop, Faulted, OutOfTurns, TooDeep, Nexted, Exited, Returned, global_value, local_value, with_global, with_local}
+use Rattle.lower_model.specs.Quick.{Holder, OfName, OfParameter}
 use Rattle.lower_model.specs.Cells.{Cell, Bits, Held, OwnedArray, Gone}
 use Rattle.lower_model.specs.ImportCalls.{Host}
 use Rattle.lower_model.specs.Machine.{Store}
@@ -77,6 +78,22 @@ bare_number n = ap word_or_beside (number_again n)
 
 pub beside_number : (n : Number) → beside (value.Num n.number) ≡ empty
 beside_number n = ap (unless_number (value.Num n.number)) (number_again n)
+
+-- What a slot's state is once it has another value.
+
+abbrev pub stored_in : Slot → Value → State → State
+stored_in (Global boxed i) v = with_global i v
+stored_in (Parameter boxed i) v = with_local i v
+
+-- What a holder has, and where it stands.
+
+abbrev pub holder_slot : Holder → Slot
+holder_slot (OfName i) = Global true i
+holder_slot (OfParameter i) = Parameter true i
+
+abbrev pub holder_value : Holder → State → Value
+holder_value (OfName i) σ = global_value i σ
+holder_value (OfParameter i) σ = local_value i σ
 
 -- Names.
 

@@ -1,4 +1,4 @@
--- Quick ways of statements. An unboxed name's number stands in one word, and the two words that are no number's lie far from all numbers: so one
+-- Quick ways of statements. The number of an unboxed name, or of an unboxed parameter, stands in one word, and the two words that are no number's lie far from all numbers: so one
 -- comparison without sign says that a name has a number, and that it is between two bounds. Where it is, a step on numbers is a few instructions;
 -- elsewhere, the code of all cases.
 use Rattle.std.specs.Prelude.{ℕ, zero, suc, ◌/◌, ◌^◌, Bool, true, false, ◌&&◌, ◌||◌, nat_eq, nat_le, if◌then◌else◌, List, [], ◌∷◌, Option, Some, None, ℤ, pos, ◌+ℤ◌, unsigned_abs}
@@ -20,13 +20,18 @@ use Rattle.wasm_types.specs.declared.instr.IRelOp.TheVariants.{GtU}
 use Rattle.mid_program.specs.declared.mid.Arithmetic.{Arithmetic}
 use Rattle.mid_program.specs.declared.mid.Arithmetic.TheVariants as inline
 use Rattle.mid_program.specs.declared.mid.Operation.TheVariants.{Host, Inline, AsNumber}
-use Rattle.mid_program.specs.Mid.{Global, Code, Do, Compare, Number, Get, Set, Array, Seq, Let, Bound, Codes, End, At, Fixed, Step, Eval, Block, If, Loop, Each, Break, Continue, Next, Exit, ExitWith, Return, Mark, Steps, NoStep, Then}
+use Rattle.mid_program.specs.Mid.{Slot, Global, Parameter, Code, Do, Compare, Number, Get, Set, Array, Seq, Let, Bound, Codes, End, At, Fixed, Step, Eval, Block, If, Loop, Each, Break, Continue, Next, Exit, ExitWith, Return, Mark, Steps, NoStep, Then}
 use Rattle.sem_scripts.specs.Names.{ArrayName}
 use Rattle.lower_model.specs.Small.{does}
 
--- Numbers of a name: those that are from 0 to a width once this is added to them.
+-- What has its number in one word: an unboxed name, or an unboxed parameter.
+pub data Holder : Type 0 where
+  OfName : ℕ → Holder
+  OfParameter : ℕ → Holder
+
+-- Numbers of a holder: those that are from 0 to a width once this is added to them.
 pub record Within : Type 0 where
-  pub name : ℕ
+  pub name : Holder
   pub shift : ℤ
   pub width : ℕ
 
@@ -35,8 +40,14 @@ abbrev pub unsure : Simple → ℤ → ℕ → Instructions → Instructions
 unsure get shift width after =
     does get (does (I64Const (cast_unsigned w64 shift)) (does (Binary I64 Add) (does (I64Const width) (does (Comparing I64 GtU) after))))
 
-abbrev pub name_in : Code → Option ℕ
-name_in (Get (Global true name)) = Some name
+abbrev pub holder_of : Slot → Option Holder
+holder_of (Global true name) = Some (OfName name)
+holder_of (Parameter true place) = Some (OfParameter place)
+holder_of slot = None
+
+-- what code reads
+abbrev pub name_in : Code → Option Holder
+name_in (Get slot) = holder_of slot
 name_in code = None
 
 abbrev pub constant_in : Code → Option ℤ
@@ -46,16 +57,16 @@ constant_in code = None
 -- Tests: where a name is compared with a constant, the numbers of which the comparison is true.
 
 -- so many numbers from -2^53 on
-abbrev pub first_ones : ℕ → ℕ → Option Within
+abbrev pub first_ones : Holder → ℕ → Option Within
 first_ones name zero = None
 first_ones name (suc count) = Some (record { name = name; shift = pos largest; width = count })
 
-abbrev pub compared_within : CompareOp → ℕ → ℤ → Option Within
+abbrev pub compared_within : CompareOp → Holder → ℤ → Option Within
 compared_within compare.Less name number = first_ones name (unsigned_abs (number +ℤ pos largest))
 compared_within compare.LessOrEqual name number = first_ones name (suc (unsigned_abs (number +ℤ pos largest)))
 compared_within op name number = None
 
-abbrev pub both_within : CompareOp → Option ℕ → Option ℤ → Option Within
+abbrev pub both_within : CompareOp → Option Holder → Option ℤ → Option Within
 both_within op (Some name) (Some number) = compared_within op name number
 both_within op name number = None
 
@@ -63,26 +74,35 @@ abbrev pub test_within : Code → Option Within
 test_within (Compare op left right) = both_within op (name_in left) (constant_in right)
 test_within code = None
 
--- What is read without a handle: an unboxed name, or a constant.
+-- What is read without a handle: a holder, or a constant.
 pub data Source : Type 0 where
-  Named : ℕ → Source
+  Held : Holder → Source
   Constant : ℤ → Source
 
+abbrev pub held : Option Holder → Option Source
+held (Some holder) = Some (Held holder)
+held None = None
+
 abbrev pub source_in : Code → Option Source
-source_in (Get (Global true name)) = Some (Named name)
+source_in (Get slot) = held (holder_of slot)
 source_in (Number number) = Some (Constant number)
 source_in code = None
 
--- names, each once
-abbrev pub is_among : ℕ → List ℕ → Bool
-is_among name [] = false
-is_among name (first ∷ rest) = nat_eq name first || is_among name rest
+-- holders, each once
+abbrev pub same_holder : Holder → Holder → Bool
+same_holder (OfName name) (OfName other) = nat_eq name other
+same_holder (OfParameter place) (OfParameter other) = nat_eq place other
+same_holder holder other = false
 
-abbrev pub and_name : ℕ → List ℕ → List ℕ
+abbrev pub is_among : Holder → List Holder → Bool
+is_among name [] = false
+is_among name (first ∷ rest) = same_holder name first || is_among name rest
+
+abbrev pub and_name : Holder → List Holder → List Holder
 and_name name names = if is_among name names then names else name ∷ names
 
-abbrev pub and_source : Source → List ℕ → List ℕ
-and_source (Named name) names = and_name name names
+abbrev pub and_source : Source → List Holder → List Holder
+and_source (Held name) names = and_name name names
 and_source (Constant number) names = names
 
 -- Whether one of several names is not within the bounds: their words, each with the shift, are joined, and what is joined is no less than each.
@@ -90,26 +110,26 @@ and_source (Constant number) names = names
 abbrev pub shifted : Simple → ℤ → Instructions → Instructions
 shifted get shift after = does get (does (I64Const (cast_unsigned w64 shift)) (does (Binary I64 Add) after))
 
-abbrev pub joined : (ℕ → Simple) → List ℕ → ℤ → Instructions → Instructions
+abbrev pub joined : (Holder → Simple) → List Holder → ℤ → Instructions → Instructions
 joined read [] shift after = after
 joined read (name ∷ names) shift after = shifted (read name) shift (does (Binary I64 Or) (joined read names shift after))
 
-abbrev pub all_unsure : (ℕ → Simple) → List ℕ → ℤ → ℕ → Instructions → Instructions
+abbrev pub all_unsure : (Holder → Simple) → List Holder → ℤ → ℕ → Instructions → Instructions
 all_unsure read [] shift width after = does (I32Const 0) after
 all_unsure read (name ∷ names) shift width after = shifted (read name) shift (joined read names shift (does (I64Const width) (does (Comparing I64 GtU) after)))
 
 -- Sums and differences of sources that go to a name. Sources of at most 2^52 have a sum in range.
 pub record Sum : Type 0 where
-  pub target : ℕ
+  pub target : Holder
   pub op : Arithmetic
   pub left : Source
   pub right : Source
 
-abbrev pub sum_names : Sum → List ℕ
+abbrev pub sum_names : Sum → List Holder
 sum_names sum = and_name sum.target (and_source sum.left (and_source sum.right []))
 
 abbrev pub is_near : Source → Bool
-is_near (Named name) = true
+is_near (Held name) = true
 is_near (Constant number) = nat_le (unsigned_abs number) (2 ^ 52)
 
 abbrev pub is_sum : Arithmetic → Bool
@@ -121,26 +141,26 @@ abbrev pub sum_op : Arithmetic → IBinOp
 sum_op inline.Minus = Sub
 sum_op op = Add
 
-abbrev pub sum_of : ℕ → Arithmetic → Option Source → Option Source → Option Sum
+abbrev pub sum_of : Holder → Arithmetic → Option Source → Option Source → Option Sum
 sum_of target op (Some left) (Some right) =
     if is_sum op && (is_near left && is_near right) then Some (record { target = target; op = op; left = left; right = right }) else None
 sum_of target op left right = None
 
 -- `n = a + e`
-abbrev pub two_sum : ℕ → Arithmetic → Codes → Option Sum
+abbrev pub two_sum : Holder → Arithmetic → Codes → Option Sum
 two_sum target op (At left (At right End)) = sum_of target op (source_in left) (source_in right)
 two_sum target op operands = None
 
-abbrev pub set_sum : ℕ → Code → Option Sum
+abbrev pub set_sum : Holder → Code → Option Sum
 set_sum target (Do (Inline operator) operands) = two_sum target operator operands
 set_sum target code = None
 
 -- `n += e`, where what is added is kept first
-abbrev pub kept_sum : ℕ → Arithmetic → Code → Codes → Option Sum
+abbrev pub kept_sum : Holder → Arithmetic → Code → Codes → Option Sum
 kept_sum target op value (At before (At (Bound true zero) End)) = sum_of target op (source_in before) (source_in value)
 kept_sum target op value operands = None
 
-abbrev pub update_sum : ℕ → Code → Code → Option Sum
+abbrev pub update_sum : Holder → Code → Code → Option Sum
 update_sum target value (Do (Inline operator) operands) = kept_sum target operator value operands
 update_sum target value code = None
 
@@ -149,48 +169,60 @@ abbrev pub old_source : Code → Option Source
 old_source (Do AsNumber (At value End)) = source_in value
 old_source code = None
 
-abbrev pub stored_name : Code → Option ℕ
-stored_name (Seq (Set (Global true name) (Bound true zero)) (Bound true (suc zero))) = Some name
+abbrev pub stored_name : Code → Option Holder
+stored_name (Seq (Set slot (Bound true zero)) (Bound true (suc zero))) = holder_of slot
 stored_name code = None
 
-abbrev pub new_sum : Option Source → Option ℕ → Code → Option Sum
+abbrev pub new_sum : Option Source → Option Holder → Code → Option Sum
 new_sum source (Some target) (Do (Inline operator) (At (Bound false zero) (At (Number number) End))) = sum_of target operator source (Some (Constant number))
 new_sum source target code = None
 
 abbrev pub step_sum : Code → Code → Code → Option Sum
 step_sum old new last = new_sum (old_source old) (stored_name last) new
 
+abbrev pub set_after : Option Holder → Code → Code → Option Sum
+set_after (Some target) value code = update_sum target value code
+set_after None value code = None
+
 abbrev pub let_sum : Code → Code → Option Sum
-let_sum value (Set (Global true target) code) = update_sum target value code
+let_sum value (Set slot code) = set_after (holder_of slot) value code
 let_sum value (Let new last) = step_sum value new last
 let_sum value code = None
 
+abbrev pub set_alone : Option Holder → Code → Option Sum
+set_alone (Some target) code = set_sum target code
+set_alone None code = None
+
 abbrev pub sum_in : Code → Option Sum
-sum_in (Set (Global true target) code) = set_sum target code
+sum_in (Set slot code) = set_alone (holder_of slot) code
 sum_in (Let value rest) = let_sum value rest
 sum_in code = None
 
 -- `n += e` and `n -= e`, where `e` is no source: what is added is evaluated first.
 pub record Update : Type 0 where
-  pub target : ℕ
+  pub target : Holder
   pub op : Arithmetic
-  pub name : ℕ
+  pub name : Holder
   pub added : Code
 
-abbrev pub update_of : ℕ → Arithmetic → Option ℕ → Code → Option Update
+abbrev pub update_of : Holder → Arithmetic → Option Holder → Code → Option Update
 update_of target op (Some name) added = if is_sum op then Some (record { target = target; op = op; name = name; added = added }) else None
 update_of target op None added = None
 
-abbrev pub kept_update : ℕ → Arithmetic → Code → Codes → Option Update
+abbrev pub kept_update : Holder → Arithmetic → Code → Codes → Option Update
 kept_update target op added (At before (At (Bound true zero) End)) = update_of target op (name_in before) added
 kept_update target op added operands = None
 
-abbrev pub set_update : ℕ → Code → Code → Option Update
+abbrev pub set_update : Holder → Code → Code → Option Update
 set_update target added (Do (Inline operator) operands) = kept_update target operator added operands
 set_update target added code = None
 
+abbrev pub update_after : Option Holder → Code → Code → Option Update
+update_after (Some target) added value = set_update target added value
+update_after None added value = None
+
 abbrev pub let_update : Code → Code → Option Update
-let_update added (Set (Global true target) value) = set_update target added value
+let_update added (Set slot value) = update_after (holder_of slot) added value
 let_update added code = None
 
 abbrev pub update_in : Code → Option Update
@@ -299,11 +331,11 @@ tally_in code = None
 
 -- a name, and what it is multiplied by, if it is
 pub record Multiple : Type 0 where
-  pub name : ℕ
+  pub name : Holder
   pub factor : Option ℤ
 
 pub record Remainder : Type 0 where
-  pub target : ℕ
+  pub target : Holder
   pub multiple : Multiple
   pub divisor : ℤ
 
@@ -311,7 +343,7 @@ abbrev pub factor_in : Code → Option ℤ
 factor_in (Number number) = if is_zero number then None else Some number
 factor_in code = None
 
-abbrev pub product_of : Option ℕ → Option ℤ → Option Multiple
+abbrev pub product_of : Option Holder → Option ℤ → Option Multiple
 product_of (Some name) (Some factor) = Some (record { name = name; factor = Some factor })
 product_of name factor = None
 
@@ -319,28 +351,36 @@ abbrev pub two_product : Arithmetic → Codes → Option Multiple
 two_product inline.Times (At left (At right End)) = product_of (name_in left) (factor_in right)
 two_product op operands = None
 
+abbrev pub multiple_of : Option Holder → Option Multiple
+multiple_of (Some name) = Some (record { name = name; factor = None })
+multiple_of None = None
+
 abbrev pub multiple_in : Code → Option Multiple
-multiple_in (Get (Global true name)) = Some (record { name = name; factor = None })
+multiple_in (Get slot) = multiple_of (holder_of slot)
 multiple_in (Do (Inline operator) operands) = two_product operator operands
 multiple_in code = None
 
-abbrev pub remainder_of : ℕ → Option Multiple → Option ℤ → Option Remainder
+abbrev pub remainder_of : Holder → Option Multiple → Option ℤ → Option Remainder
 remainder_of target (Some multiple) (Some divisor) = Some (record { target = target; multiple = multiple; divisor = divisor })
 remainder_of target multiple divisor = None
 
-abbrev pub two_remainder : ℕ → Arithmetic → Codes → Option Remainder
+abbrev pub two_remainder : Holder → Arithmetic → Codes → Option Remainder
 two_remainder target inline.Modulo (At left (At right End)) = remainder_of target (multiple_in left) (factor_in right)
 two_remainder target op operands = None
 
-abbrev pub set_remainder : ℕ → Code → Option Remainder
+abbrev pub set_remainder : Holder → Code → Option Remainder
 set_remainder target (Do (Inline operator) operands) = two_remainder target operator operands
 set_remainder target code = None
 
+abbrev pub remainder_alone : Option Holder → Code → Option Remainder
+remainder_alone (Some target) value = set_remainder target value
+remainder_alone None value = None
+
 abbrev pub remainder_in : Code → Option Remainder
-remainder_in (Set (Global true target) value) = set_remainder target value
+remainder_in (Set slot value) = remainder_alone (holder_of slot) value
 remainder_in code = None
 
-abbrev pub remainder_names : Remainder → List ℕ
+abbrev pub remainder_names : Remainder → List Holder
 remainder_names remainder = and_name remainder.target (remainder.multiple.name ∷ [])
 
 -- a number of at most so much has a product in range
@@ -359,7 +399,7 @@ pub record Pair : Type 0 where
   pub left : Source
   pub right : Source
 
-abbrev pub pair_names : Pair → List ℕ
+abbrev pub pair_names : Pair → List Holder
 pair_names pair = and_source pair.left (and_source pair.right [])
 
 abbrev pub pair_of : CompareOp → Option Source → Option Source → Option Pair
@@ -381,7 +421,7 @@ contrary compare.GreaterOrEqual = compare.Less
 -- Comparisons of a name with how many fields there are, which is always a number: no fault comes of them.
 pub record Counted : Type 0 where
   pub op : CompareOp
-  pub name : ℕ
+  pub name : Holder
 
 abbrev pub is_count : Codes → Bool
 is_count (Fixed number End) = nat_eq number (special_number Nf)
@@ -391,7 +431,7 @@ abbrev pub field_count : Code → Bool
 field_count (Do (Host row.GetSpecial) operands) = is_count operands
 field_count code = false
 
-abbrev pub counted_of : CompareOp → Option ℕ → Bool → Option Counted
+abbrev pub counted_of : CompareOp → Option Holder → Bool → Option Counted
 counted_of op (Some name) true = Some (record { op = op; name = name })
 counted_of op name so = None
 

@@ -24,7 +24,7 @@ use Rattle.sem_scripts.specs.Names.{ArrayName}
 use Rattle.mid_program.specs.Mid.{Kind, Boxed, Unboxed, Many, Code, Choose, Form, Answered, Bare, Perhaps, Step, Eval, Block as Steps_, If as Either, Loop, Each, Break, Continue, Next, Exit, ExitWith, Return, Mark, Steps, NoStep, Then as AndThen, Program, a_value, form_of}
 use Rattle.lower_model.specs.Places.{Bases, way_global, status_global, text_global, range_global, handle_global, number_global, answer_local, iterator_local, array_local, handle_local, number_local}
 use Rattle.lower_model.specs.Small.{does, ask, ask_row, when, either, end_code, text_beside, copied, moved_out, emptied, let_go, fail_if, number_is, least, was_left, kept_code, kept_number, kept_done, to_value, number_of_value, to_number}
-use Rattle.lower_model.specs.Quick.{Within, unsure, test_within, Source, Named, Constant, all_unsure, Sum, sum_names, sum_op, sum_in, Update, update_in, Tally, tally_in, Remainder, remainder_in, remainder_names, most_multiplied, multiplied, Counted, counted_in, Pair, pair_names, pair_in, contrary, step_jumps, is_nothing}
+use Rattle.lower_model.specs.Quick.{Within, unsure, test_within, Holder, OfName, OfParameter, Source, Held, Constant, all_unsure, Sum, sum_names, sum_op, sum_in, Update, update_in, Tally, tally_in, Remainder, remainder_in, remainder_names, most_multiplied, multiplied, Counted, counted_in, Pair, pair_names, pair_in, contrary, step_jumps, is_nothing}
 use Rattle.lower_model.specs.Arithmetic.{relation}
 use Rattle.lower_model.specs.Emission.{Layout, array_pushed, text_pushed, pending_assigned, asked, text_dropped, field_at, emitted, dropped, tested}
 use Rattle.host_imports.specs.declared.import.Import.TheVariants.{Drop, IterFree, FreeArray}
@@ -71,15 +71,26 @@ module _ (layout : Layout) where
   abbrev pub name_number : ℕ → ℕ
   name_number name = number_global layout.ranges name
 
-  abbrev pub name_read : ℕ → Simple
-  name_read name = GlobalGet (name_number name)
+  -- a holder's number is read, and written
+  abbrev pub name_read : Holder → Simple
+  name_read (OfName name) = GlobalGet (name_number name)
+  name_read (OfParameter place) = LocalGet place
+
+  abbrev pub name_put : Holder → Simple
+  name_put (OfName name) = GlobalSet (name_number name)
+  name_put (OfParameter place) = LocalSet place
+
+  -- the text beside a name, if there is one, is dropped; none stands beside a parameter
+  abbrev pub holder_cleared : Holder → Instructions → Instructions
+  holder_cleared (OfName name) after = text_dropped layout name after
+  holder_cleared (OfParameter place) after = after
 
   abbrev pub source_pushed : Source → Instructions → Instructions
-  source_pushed (Named name) after = does (name_read name) after
+  source_pushed (Held name) after = does (name_read name) after
   source_pushed (Constant number) after = does (I64Const (cast_unsigned w64 number)) after
 
   abbrev pub summed : Sum → Instructions → Instructions
-  summed sum after = source_pushed sum.left (source_pushed sum.right (does (Binary I64 (sum_op sum.op)) (does (GlobalSet (name_number sum.target)) after)))
+  summed sum after = source_pushed sum.left (source_pushed sum.right (does (Binary I64 (sum_op sum.op)) (does (name_put sum.target) after)))
 
   -- Sums in all cases: where a name has no number it is 0, or that of the text beside.
 
@@ -89,20 +100,21 @@ module _ (layout : Layout) where
       copied (GlobalGet (handle_global layout.ranges name)) (GlobalSet (handle_global layout.ranges name)) (handle_local bases temporary)
       (number_of_value bases temporary exit after)
 
-  -- of what a name has that has no number
-  abbrev pub number_found : ℕ → (temporary exit : ℕ) → Instructions → Instructions
-  number_found name temporary exit after =
+  -- of what a holder has that has no number
+  abbrev pub number_found : Holder → (temporary exit : ℕ) → Instructions → Instructions
+  number_found (OfName name) temporary exit after =
       number_is (number_local bases temporary) text_beside
       (either (number_there name temporary (suc (suc exit)) Done) (does (I64Const 0) (does (LocalSet (number_local bases temporary)) Done)) after)
+  number_found (OfParameter place) temporary exit after = does (I64Const 0) (does (LocalSet (number_local bases temporary)) after)
 
   -- a name's number in a temporary
-  abbrev pub name_numbered : ℕ → (temporary exit : ℕ) → Instructions → Instructions
+  abbrev pub name_numbered : Holder → (temporary exit : ℕ) → Instructions → Instructions
   name_numbered name temporary exit after =
       does (name_read name) (does (LocalTee (number_local bases temporary)) (does (I64Const text_beside) (does (Comparing I64 LeS)
       (when (number_found name temporary exit Done) after))))
 
   abbrev pub source_numbered : Source → (temporary exit : ℕ) → Instructions → Instructions
-  source_numbered (Named name) temporary exit after = name_numbered name temporary exit after
+  source_numbered (Held name) temporary exit after = name_numbered name temporary exit after
   source_numbered source temporary exit after = after
 
   abbrev pub source_taken : Source → ℕ → Instructions → Instructions
@@ -115,9 +127,9 @@ module _ (layout : Layout) where
       (does (I64Const largest) (does (Binary I64 Add) (does (I64Const (2 ^ 54)) (does (Comparing I64 GtU) (fail_if Range exit after))))))
 
   -- the same, and a name takes it
-  abbrev pub sum_taken : IBinOp → ℕ → (temporary exit : ℕ) → Instructions → Instructions
+  abbrev pub sum_taken : IBinOp → Holder → (temporary exit : ℕ) → Instructions → Instructions
   sum_taken op name temporary exit after =
-      sum_kept op temporary exit (text_dropped layout name (does (LocalGet (number_local bases temporary)) (does (GlobalSet (name_number name)) after)))
+      sum_kept op temporary exit (holder_cleared name (does (LocalGet (number_local bases temporary)) (does (name_put name) after)))
 
   abbrev pub summed_anyway : Sum → ℕ → Instructions → Instructions
   summed_anyway sum exit after =
@@ -167,7 +179,7 @@ module _ (layout : Layout) where
   abbrev pub remainder_taken : Remainder → Instructions → Instructions
   remainder_taken remainder after =
       does (name_read remainder.multiple.name) (multiplied remainder.multiple.factor
-      (does (I64Const (cast_unsigned w64 remainder.divisor)) (does (Binary I64 RemS) (does (GlobalSet (name_number remainder.target)) after))))
+      (does (I64Const (cast_unsigned w64 remainder.divisor)) (does (Binary I64 RemS) (does (name_put remainder.target) after))))
 
   abbrev pub remainder_dropped : Option Remainder → Code → ℕ → Instructions → Instructions
   remainder_dropped None code exit after = dropped layout [] [] code zero zero exit after

@@ -20,7 +20,7 @@ use Rattle.mid_program.specs.declared.code.Operand.{Operand}
 use Rattle.mid_program.specs.declared.code.Operand.TheVariants as operand
 use Rattle.mid_program.specs.declared.code.Code.{Code, Do}
 use Rattle.mid_program.specs.declared.step.Step.{Step, Block}
-use Rattle.lower_model.specs.Quick.{array_here, array_where, element_at, element_read, element_set, field_count, is_among, is_bound, is_count, is_nothing, kept_sum, kept_update, multiple_in, name_in, source_in, sum_of, taker_at, two_product, two_remainder, update_of}
+use Rattle.lower_model.specs.Quick.{array_here, array_where, element_at, element_read, element_set, field_count, is_among, is_bound, is_count, is_nothing, kept_sum, kept_update, multiple_in, name_in, source_in, sum_of, taker_at, two_product, two_remainder, update_of, Holder, multiple_of}
 use Rattle.lower_model.proofs.Tallies.{bound_is}
 use Rattle.lower_quick.specs.Operands.{divided_by, is_elem, is_modulo, is_set_elem, is_times, one_code, product_in, reads_special, three_codes, two_codes, two_factors}
 use Rattle.lower_quick.proofs.Views.{view_block, view_do}
@@ -133,10 +133,10 @@ three_are _ x y z h = absurd cc
 pub taker_is : (m : Bool) (i : ℕ) (es : plain.Codes) (x k v : plain.Code) → Some (x, k, v) ≡ three_codes es → is_bound true i k ≡ true → is_bound m zero v ≡ true → array_here x ≡ taker_at m i es
 taker_is m i es x k v h e f = sym (ap (taker_at m i) (three_are es x k v h) ∙ (λ j. array_where (e j && f j) (array_here x)))
 
-pub kept_is : (i : ℕ) (o : Arithmetic) (a : plain.Code) (es : plain.Codes) (x y : plain.Code) → Some (x, y) ≡ two_codes es → is_bound true zero y ≡ true → sum_of i o (source_in x) (source_in a) ≡ kept_sum i o a es
+pub kept_is : (i : Holder) (o : Arithmetic) (a : plain.Code) (es : plain.Codes) (x y : plain.Code) → Some (x, y) ≡ two_codes es → is_bound true zero y ≡ true → sum_of i o (source_in x) (source_in a) ≡ kept_sum i o a es
 kept_is i o a es x y h k = sym (ap (kept_sum i o a) (two_are es x y h ∙ ap (λ (e : plain.Code). plain.At x (plain.At e plain.End)) (bound_is true zero y k)))
 
-pub added_is : (i : ℕ) (o : Arithmetic) (a : plain.Code) (es : plain.Codes) (x y : plain.Code) → Some (x, y) ≡ two_codes es → is_bound true zero y ≡ true → update_of i o (name_in x) a ≡ kept_update i o a es
+pub added_is : (i : Holder) (o : Arithmetic) (a : plain.Code) (es : plain.Codes) (x y : plain.Code) → Some (x, y) ≡ two_codes es → is_bound true zero y ≡ true → update_of i o (name_in x) a ≡ kept_update i o a es
 added_is i o a es x y h k = sym (ap (kept_update i o a) (two_are es x y h ∙ ap (λ (e : plain.Code). plain.At x (plain.At e plain.End)) (bound_is true zero y k)))
 
 -- products and remainders
@@ -150,21 +150,21 @@ pub no_product : (o : Arithmetic) (es : plain.Codes) → is_times o ≡ false �
 no_product inline.Times es h = cc
 no_product o es h = refl
 
-pub remainder_here : (i : ℕ) (o : Arithmetic) (es : plain.Codes) → is_modulo o ≡ true → divided_by i es ≡ two_remainder i o es
+pub remainder_here : (i : Holder) (o : Arithmetic) (es : plain.Codes) → is_modulo o ≡ true → divided_by i es ≡ two_remainder i o es
 remainder_here i inline.Modulo (plain.At a (plain.At e plain.End)) h = refl
 remainder_here i inline.Modulo es h = refl
 remainder_here i o es h = cc
 
-pub no_remainder : (i : ℕ) (o : Arithmetic) (es : plain.Codes) → is_modulo o ≡ false → None ≡ two_remainder i o es
+pub no_remainder : (i : Holder) (o : Arithmetic) (es : plain.Codes) → is_modulo o ≡ false → None ≡ two_remainder i o es
 no_remainder i inline.Modulo es h = cc
 no_remainder i o es h = refl
 
-pub name_multiple : (e : plain.Code) (i : ℕ) → Some i ≡ name_in e → Some (record { name = i; factor = None }) ≡ multiple_in e
-name_multiple (plain.Get (plain.Global true j)) i h = ap (option_map (λ (k : ℕ). record { name = k; factor = None })) h
+pub name_multiple : (e : plain.Code) (i : Holder) → Some i ≡ name_in e → Some (record { name = i; factor = None }) ≡ multiple_in e
+name_multiple (plain.Get x) i h = ap multiple_of h
 name_multiple e i h = cc
 
 pub product_multiple : (e : plain.Code) → None ≡ name_in e → product_in e ≡ multiple_in e
-product_multiple (plain.Get (plain.Global true j)) h = cc
+product_multiple (plain.Get x) h = ap multiple_of h
 product_multiple e h = refl
 
 -- elements of arrays
@@ -181,10 +181,6 @@ set_elem_is _ m i es = refl
 
 same_test : (a b : ℕ) → nat_eq a b ≡ nat_eq b a
 same_test a b = grind (arith, nat_tests)
-
-pub among_any : (i : ℕ) (js : List ℕ) → list_any (λ j. nat_eq j i) js ≡ is_among i js
-among_any i [] = refl
-among_any i (j ∷ js) = λ k. same_test j i k || among_any i js k
 
 -- how many fields there are
 

@@ -6,8 +6,8 @@ use Rattle.sem_primitives.specs.declared.table.Primitive.TheVariants as row
 use Rattle.mid_program.specs.declared.mid.Arithmetic.{Arithmetic}
 use Rattle.mid_program.specs.declared.mid.Arithmetic.TheVariants as inline
 use Rattle.mid_program.specs.declared.mid.Operation.TheVariants.{Inline, AsNumber}
-use Rattle.mid_program.specs.Mid.{Global, Code, Do, Set, Let, Bound, Codes, End, At}
-use Rattle.lower_model.specs.Quick.{Multiple, Remainder, factor_in, multiple_in, name_in, product_of, remainder_of, two_product}
+use Rattle.mid_program.specs.Mid.{Code, Do, Set, Let, Bound, Codes, End, At}
+use Rattle.lower_model.specs.Quick.{Multiple, Remainder, factor_in, multiple_in, name_in, product_of, remainder_of, two_product, Holder, holder_of}
 
 abbrev pub one_code : Codes → Option Code
 one_code (At code End) = Some code
@@ -34,8 +34,8 @@ number_of (Do AsNumber operands) = Some operands
 number_of code = None
 
 -- the unboxed name that takes what was kept last
-abbrev pub set_last : Code → Option ℕ
-set_last (Set (Global true name) (Bound true zero)) = Some name
+abbrev pub set_last : Code → Option Holder
+set_last (Set slot (Bound true zero)) = holder_of slot
 set_last code = None
 
 abbrev pub reads_special : Primitive → Bool
@@ -71,6 +71,6 @@ abbrev pub product_in : Code → Option Multiple
 product_in (Do (Inline operator) operands) = two_product operator operands
 product_in code = None
 
-abbrev pub divided_by : ℕ → Codes → Option Remainder
+abbrev pub divided_by : Holder → Codes → Option Remainder
 divided_by target (At left (At right End)) = remainder_of target (multiple_in left) (factor_in right)
 divided_by target operands = None

@@ -6,7 +6,7 @@ ghost use Rattle.lower_quick.specs.Operands.{reads_special};
 ghost use Rattle.lower_quick.specs.View.{view_counted};
 ghost use Rattle.lower_model.specs.Quick.{counted_in, field_count, is_count};
 
-use crate::source::name_in;
+use crate::source::{Holder, name_in};
 use awk_values::CompareOp;
 use mid_program::{Code, Operand, Operation};
 use sem_primitives::{Primitive, Special};
@@ -15,7 +15,7 @@ use sem_primitives::{Primitive, Special};
 #[derive(Clone, Copy, Debug, PartialEq, Eq, Drop)]
 pub struct Counted {
     pub op: CompareOp,
-    pub name: usize,
+    pub name: Holder,
 }
 
 /// Whether operands are the number of `NF`.

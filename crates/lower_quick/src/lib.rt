@@ -18,7 +18,7 @@ pub use jumps::{is_nothing, step_jumps};
 pub use names::{pair_names, remainder_names, sum_names};
 pub use pair::{Pair, contrary, pair_in};
 pub use remainder::{Multiple, Remainder, remainder_in};
-pub use source::Source;
+pub use source::{Holder, Source};
 pub use sum::{Sum, sum_in};
 pub use tally::{Tally, tally_in};
 pub use update::{Update, update_in};

@@ -3,24 +3,24 @@ ghost use Rattle.std.specs.Option.{option_map};
 ghost use Rattle.std.specs.Prelude.{◌≡◌, cond, None};
 ghost use Rattle.mid_program.specs.ViewCode.{view, views};
 ghost use Rattle.lower_quick.specs.Operands.{divided_by, is_modulo, is_times, product_in, two_factors, unless_zero};
-ghost use Rattle.lower_quick.specs.View.{view_multiple, view_remainder};
+ghost use Rattle.lower_quick.specs.View.{view_holder, view_multiple, view_remainder};
 ghost use Rattle.lower_model.specs.Quick.{factor_in, multiple_in, product_of, remainder_in, remainder_of, set_remainder, two_product, two_remainder};
 
 use crate::operands::{calculated_in, two_codes};
-use crate::source::name_in;
-use mid_program::{Arithmetic, Code, Operand, Slot};
+use crate::source::{Holder, holder_of, name_in};
+use mid_program::{Arithmetic, Code, Operand};
 
 /// A name, and what it is multiplied by, if it is.
 #[derive(Clone, Copy, Debug, PartialEq, Eq, Drop)]
 pub struct Multiple {
-    pub name: usize,
+    pub name: Holder,
     pub factor: Option<i64>,
 }
 
 /// A remainder of a multiple, and the name that it goes to.
 #[derive(Clone, Copy, Debug, PartialEq, Eq, Drop)]
 pub struct Remainder {
-    pub target: usize,
+    pub target: Holder,
     pub multiple: Multiple,
     pub divisor: i64,
 }
@@ -59,8 +59,8 @@ fn factor_in(code: &Code) -> Option<i64>
 }
 
 /// The product of a name and a constant.
-fn product_of(name: Option<usize>, factor: Option<i64>) -> Option<Multiple>
-    ensures { option_map view_multiple result ≡ product_of name factor }
+fn product_of(name: Option<Holder>, factor: Option<i64>) -> Option<Multiple>
+    ensures { option_map view_multiple result ≡ product_of (option_map view_holder name) factor }
 {
     let (name, factor) = (name?, factor?);
     Some(Multiple {
@@ -108,12 +108,12 @@ fn multiple_in(code: &Code) -> Option<Multiple>
 
 /// The remainder of a multiple by a constant.
 fn remainder_of(
-    target: usize,
+    target: Holder,
     multiple: Option<Multiple>,
     divisor: Option<i64>,
 ) -> Option<Remainder>
     ensures { option_map view_remainder result
-        ≡ remainder_of target (option_map view_multiple multiple) divisor }
+        ≡ remainder_of (view_holder target) (option_map view_multiple multiple) divisor }
 {
     let (multiple, divisor) = (multiple?, divisor?);
     Some(Remainder {
@@ -124,16 +124,16 @@ fn remainder_of(
 }
 
 /// The remainder that the operands of `%` have.
-fn divided_by(target: usize, operands: &[Operand]) -> Option<Remainder>
-    ensures { option_map view_remainder result ≡ divided_by target (views operands.now) }
+fn divided_by(target: Holder, operands: &[Operand]) -> Option<Remainder>
+    ensures { option_map view_remainder result ≡ divided_by (view_holder target) (views operands.now) }
 {
     let (left, right) = two_codes(operands)?;
     remainder_of(target, multiple_in(left), factor_in(right))
 }
 
 /// The same, if the operator is `%`.
-fn two_remainder(target: usize, op: Arithmetic, operands: &[Operand]) -> Option<Remainder>
-    ensures { option_map view_remainder result ≡ two_remainder target op (views operands.now) }
+fn two_remainder(target: Holder, op: Arithmetic, operands: &[Operand]) -> Option<Remainder>
+    ensures { option_map view_remainder result ≡ two_remainder (view_holder target) op (views operands.now) }
 {
     if is_modulo(op) {
         divided_by(target, operands)
@@ -143,8 +143,8 @@ fn two_remainder(target: usize, op: Arithmetic, operands: &[Operand]) -> Option<
 }
 
 /// The same, of what the name takes.
-fn set_remainder(target: usize, value: &Code) -> Option<Remainder>
-    ensures { option_map view_remainder result ≡ set_remainder target (view value.now) }
+fn set_remainder(target: Holder, value: &Code) -> Option<Remainder>
+    ensures { option_map view_remainder result ≡ set_remainder (view_holder target) (view value.now) }
 {
     let (op, operands) = calculated_in(value)?;
     two_remainder(target, op, operands)
@@ -155,7 +155,7 @@ pub fn remainder_in(code: &Code) -> Option<Remainder>
     ensures { option_map view_remainder result ≡ remainder_in (view code.now) }
 {
     match code {
-        Code::Set(Slot::Global(true, target), value) => set_remainder(*target, value),
+        Code::Set(slot, value) => set_remainder(holder_of(*slot)?, value),
         _ => None,
     }
 }

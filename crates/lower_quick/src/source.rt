@@ -1,19 +1,26 @@
 //! What is read without a handle.
 ghost use Rattle.std.specs.Option.{option_map};
 ghost use Rattle.std.specs.Prelude.{◌≡◌};
-ghost use Rattle.mid_program.specs.ViewCode.{view};
-ghost use Rattle.lower_quick.specs.View.{view_source};
-ghost use Rattle.lower_model.specs.Quick.{constant_in, is_near, name_in, source_in};
+ghost use Rattle.mid_program.specs.ViewCode.{view, view_slot};
+ghost use Rattle.lower_quick.specs.View.{view_holder, view_source};
+ghost use Rattle.lower_model.specs.Quick.{constant_in, holder_of, is_near, name_in, source_in};
 
 use mid_program::{Code, Slot};
 
 /// The greatest magnitude of a constant in a sum that has a quick way.
 const MOST: u64 = 1 << 52;
 
-/// An unboxed name by its number, or a constant.
+/// What has its number in one word: an unboxed name by its number, or an unboxed parameter by its place.
+#[derive(Clone, Copy, Debug, PartialEq, Eq, Drop)]
+pub enum Holder {
+    Name(usize),
+    Parameter(usize),
+}
+
+/// What has a number in one word, or a constant.
 #[derive(Clone, Copy, Debug, PartialEq, Eq, Drop)]
 pub enum Source {
-    Named(usize),
+    Held(Holder),
     Constant(i64),
 }
 
@@ -22,8 +29,19 @@ pub(crate) fn is_near(source: Source) -> bool
     ensures { result ≡ is_near (view_source source) }
 {
     match source {
-        Source::Named(_) => true,
+        Source::Held(_) => true,
         Source::Constant(number) => number.unsigned_abs() <= MOST,
+    }
+}
+
+/// What a slot is, if it is unboxed.
+pub(crate) fn holder_of(slot: Slot) -> Option<Holder>
+    ensures { option_map view_holder result ≡ holder_of (view_slot slot) }
+{
+    match slot {
+        Slot::Global(true, name) => Some(Holder::Name(name)),
+        Slot::Parameter(true, place) => Some(Holder::Parameter(place)),
+        Slot::Global(false, _) | Slot::Parameter(false, _) => None,
     }
 }
 
@@ -32,18 +50,18 @@ pub(crate) fn source_in(code: &Code) -> Option<Source>
     ensures { option_map view_source result ≡ source_in (view code.now) }
 {
     match code {
-        Code::Get(Slot::Global(true, name)) => Some(Source::Named(*name)),
+        Code::Get(slot) => Some(Source::Held(holder_of(*slot)?)),
         Code::Number(number) => Some(Source::Constant(*number)),
         _ => None,
     }
 }
 
 /// The unboxed name that code reads.
-pub(crate) fn name_in(code: &Code) -> Option<usize>
-    ensures { result ≡ name_in (view code.now) }
+pub(crate) fn name_in(code: &Code) -> Option<Holder>
+    ensures { option_map view_holder result ≡ name_in (view code.now) }
 {
     match code {
-        Code::Get(Slot::Global(true, name)) => Some(*name),
+        Code::Get(slot) => holder_of(*slot),
         _ => None,
     }
 }

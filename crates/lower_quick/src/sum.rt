@@ -3,17 +3,17 @@ ghost use Rattle.std.specs.Option.{option_map};
 ghost use Rattle.std.specs.Prelude.{◌≡◌};
 ghost use Rattle.mid_program.specs.ViewCode.{view, views};
 ghost use Rattle.lower_quick.specs.Operands.{set_last};
-ghost use Rattle.lower_quick.specs.View.{view_source, view_sum};
+ghost use Rattle.lower_quick.specs.View.{view_holder, view_source, view_sum};
 ghost use Rattle.lower_model.specs.Quick.{is_sum, kept_sum, let_sum, new_sum, old_source, set_sum, step_sum, stored_name, sum_in, sum_of, two_sum, update_sum};
 
 use crate::operands::{calculated_in, is_bound, number_of, one_code, two_codes};
-use crate::source::{Source, constant_in, is_near, source_in};
-use mid_program::{Arithmetic, Code, Operand, Slot};
+use crate::source::{Holder, Source, constant_in, is_near, source_in, holder_of};
+use mid_program::{Arithmetic, Code, Operand};
 
 /// A sum or a difference, and the name that it goes to.
 #[derive(Clone, Copy, Debug, PartialEq, Eq, Drop)]
 pub struct Sum {
-    pub target: usize,
+    pub target: Holder,
     pub op: Arithmetic,
     pub left: Source,
     pub right: Source,
@@ -26,9 +26,9 @@ pub(crate) fn is_sum(op: Arithmetic) -> bool
 }
 
 /// The sum of two sources.
-fn sum_of(target: usize, op: Arithmetic, left: Option<Source>, right: Option<Source>) -> Option<Sum>
+fn sum_of(target: Holder, op: Arithmetic, left: Option<Source>, right: Option<Source>) -> Option<Sum>
     ensures { option_map view_sum result
-        ≡ sum_of target op (option_map view_source left) (option_map view_source right) }
+        ≡ sum_of (view_holder target) op (option_map view_source left) (option_map view_source right) }
 {
     let (left, right) = (left?, right?);
     if is_sum(op) && is_near(left) && is_near(right) {
@@ -44,24 +44,24 @@ fn sum_of(target: usize, op: Arithmetic, left: Option<Source>, right: Option<Sou
 }
 
 /// `n = a + e`, of the operands of `+`.
-fn two_sum(target: usize, op: Arithmetic, operands: &[Operand]) -> Option<Sum>
-    ensures { option_map view_sum result ≡ two_sum target op (views operands.now) }
+fn two_sum(target: Holder, op: Arithmetic, operands: &[Operand]) -> Option<Sum>
+    ensures { option_map view_sum result ≡ two_sum (view_holder target) op (views operands.now) }
 {
     let (left, right) = two_codes(operands)?;
     sum_of(target, op, source_in(left), source_in(right))
 }
 
 /// The same, of what `n` takes.
-fn set_sum(target: usize, value: &Code) -> Option<Sum>
-    ensures { option_map view_sum result ≡ set_sum target (view value.now) }
+fn set_sum(target: Holder, value: &Code) -> Option<Sum>
+    ensures { option_map view_sum result ≡ set_sum (view_holder target) (view value.now) }
 {
     let (op, operands) = calculated_in(value)?;
     two_sum(target, op, operands)
 }
 
 /// `n += e`, of what is kept first and the operands of `+`.
-fn kept_sum(target: usize, op: Arithmetic, kept: &Code, operands: &[Operand]) -> Option<Sum>
-    ensures { option_map view_sum result ≡ kept_sum target op (view kept.now) (views operands.now) }
+fn kept_sum(target: Holder, op: Arithmetic, kept: &Code, operands: &[Operand]) -> Option<Sum>
+    ensures { option_map view_sum result ≡ kept_sum (view_holder target) op (view kept.now) (views operands.now) }
 {
     let (left, right) = two_codes(operands)?;
     if is_bound(right, true, 0) {
@@ -72,8 +72,8 @@ fn kept_sum(target: usize, op: Arithmetic, kept: &Code, operands: &[Operand]) ->
 }
 
 /// The same, of what `n` takes.
-fn update_sum(target: usize, kept: &Code, value: &Code) -> Option<Sum>
-    ensures { option_map view_sum result ≡ update_sum target (view kept.now) (view value.now) }
+fn update_sum(target: Holder, kept: &Code, value: &Code) -> Option<Sum>
+    ensures { option_map view_sum result ≡ update_sum (view_holder target) (view kept.now) (view value.now) }
 {
     let (op, operands) = calculated_in(value)?;
     kept_sum(target, op, kept, operands)
@@ -88,18 +88,18 @@ fn old_source(code: &Code) -> Option<Source>
 }
 
 /// The unboxed name that takes what was kept last.
-fn set_last(code: &Code) -> Option<usize>
-    ensures { result ≡ set_last (view code.now) }
+fn set_last(code: &Code) -> Option<Holder>
+    ensures { option_map view_holder result ≡ set_last (view code.now) }
 {
     match code {
-        Code::Set(Slot::Global(true, name), value) if is_bound(value, true, 0) => Some(*name),
+        Code::Set(slot, value) if is_bound(value, true, 0) => holder_of(*slot),
         _ => None,
     }
 }
 
 /// The name that `n++` stores in, where its old number is the answer.
-fn stored_name(code: &Code) -> Option<usize>
-    ensures { result ≡ stored_name (view code.now) }
+fn stored_name(code: &Code) -> Option<Holder>
+    ensures { option_map view_holder result ≡ stored_name (view code.now) }
 {
     match code {
         Code::Seq(store, answer) if is_bound(answer, true, 1) => set_last(store),
@@ -108,9 +108,9 @@ fn stored_name(code: &Code) -> Option<usize>
 }
 
 /// What the number that was kept and a constant are together.
-fn new_sum(old: Option<Source>, target: Option<usize>, code: &Code) -> Option<Sum>
+fn new_sum(old: Option<Source>, target: Option<Holder>, code: &Code) -> Option<Sum>
     ensures { option_map view_sum result
-        ≡ new_sum (option_map view_source old) target (view code.now) }
+        ≡ new_sum (option_map view_source old) (option_map view_holder target) (view code.now) }
 {
     let target = target?;
     let (op, operands) = calculated_in(code)?;
@@ -135,7 +135,7 @@ fn let_sum(kept: &Code, body: &Code) -> Option<Sum>
     ensures { option_map view_sum result ≡ let_sum (view kept.now) (view body.now) }
 {
     match body {
-        Code::Set(Slot::Global(true, target), value) => update_sum(*target, kept, value),
+        Code::Set(slot, value) => update_sum(holder_of(*slot)?, kept, value),
         Code::Let(new, stores) => step_sum(kept, new, stores),
         _ => None,
     }
@@ -146,7 +146,7 @@ pub fn sum_in(code: &Code) -> Option<Sum>
     ensures { option_map view_sum result ≡ sum_in (view code.now) }
 {
     match code {
-        Code::Set(Slot::Global(true, target), value) => set_sum(*target, value),
+        Code::Set(slot, value) => set_sum(holder_of(*slot)?, value),
         Code::Let(kept, body) => let_sum(kept, body),
         _ => None,
     }

@@ -2,31 +2,31 @@
 ghost use Rattle.std.specs.Option.{option_map};
 ghost use Rattle.std.specs.Prelude.{◌≡◌};
 ghost use Rattle.mid_program.specs.ViewCode.{view, views};
-ghost use Rattle.lower_quick.specs.View.{view_update};
+ghost use Rattle.lower_quick.specs.View.{view_holder, view_update};
 ghost use Rattle.lower_model.specs.Quick.{kept_update, let_update, set_update, update_in, update_of};
 
 use crate::operands::{calculated_in, is_bound, two_codes};
-use crate::source::name_in;
+use crate::source::{Holder, holder_of, name_in};
 use crate::sum::is_sum;
-use mid_program::{Arithmetic, Code, Operand, Slot};
+use mid_program::{Arithmetic, Code, Operand};
 
 /// A sum or a difference of a name and what is added, and the name that it goes to.
 #[derive(Clone, Copy)]
 pub struct Update<'a> {
-    pub target: usize,
+    pub target: Holder,
     pub op: Arithmetic,
-    pub name: usize,
+    pub name: Holder,
     pub added: &'a Code,
 }
 
 /// The sum of a name and what is added.
 fn update_of<'a>(
-    target: usize,
+    target: Holder,
     op: Arithmetic,
-    name: Option<usize>,
+    name: Option<Holder>,
     added: &'a Code,
 ) -> Option<Update<'a>>
-    ensures { option_map view_update result ≡ update_of target op name (view added.now) }
+    ensures { option_map view_update result ≡ update_of (view_holder target) op (option_map view_holder name) (view added.now) }
 {
     let name = name?;
     if is_sum(op) {
@@ -43,13 +43,13 @@ fn update_of<'a>(
 
 /// `n += e`, of what is added and the operands of `+`.
 fn kept_update<'a>(
-    target: usize,
+    target: Holder,
     op: Arithmetic,
     added: &'a Code,
     operands: &[Operand],
 ) -> Option<Update<'a>>
     ensures { option_map view_update result
-        ≡ kept_update target op (view added.now) (views operands.now) }
+        ≡ kept_update (view_holder target) op (view added.now) (views operands.now) }
 {
     let (left, right) = two_codes(operands)?;
     if is_bound(right, true, 0) {
@@ -60,8 +60,8 @@ fn kept_update<'a>(
 }
 
 /// The same, of what `n` takes.
-fn set_update<'a>(target: usize, added: &'a Code, value: &Code) -> Option<Update<'a>>
-    ensures { option_map view_update result ≡ set_update target (view added.now) (view value.now) }
+fn set_update<'a>(target: Holder, added: &'a Code, value: &Code) -> Option<Update<'a>>
+    ensures { option_map view_update result ≡ set_update (view_holder target) (view added.now) (view value.now) }
 {
     let (op, operands) = calculated_in(value)?;
     kept_update(target, op, added, operands)
@@ -72,7 +72,7 @@ fn let_update<'a>(added: &'a Code, body: &Code) -> Option<Update<'a>>
     ensures { option_map view_update result ≡ let_update (view added.now) (view body.now) }
 {
     match body {
-        Code::Set(Slot::Global(true, target), value) => set_update(*target, added, value),
+        Code::Set(slot, value) => set_update(holder_of(*slot)?, added, value),
         _ => None,
     }
 }
