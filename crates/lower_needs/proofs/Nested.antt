@@ -14,7 +14,7 @@ use Rattle.wasm_types.specs.declared.instr.Simple.TheVariants.{Br, Call as CallO
 use Rattle.host_imports.specs.Imports.{import_number}
 use Rattle.host_imports.specs.declared.import.Import.TheVariants.{Of}
 use Rattle.mid_program.specs.MidMeaning.{three_values}
-use Rattle.mid_program.specs.Mid.{Kind, Boxed, Unboxed, Many, Global, Code, Do, Over, Compare, Call, Ask, AskLine, FileLine, Replace, Number, Text, Unset, Get, Set, Array, IsOpen, Choose, Seq, Let, Bound, Codes, End, At, Fixed, Fresh, Step, Eval, Block as Steps_, If as Either, Loop, Each, Break, Continue, Next, Exit, ExitWith, Return, Mark, Steps, NoStep, Then as AndThen, Program, Routine, Form, Answered, Bare, Perhaps, a_value, form_of}
+use Rattle.mid_program.specs.Mid.{Kind, Boxed, Unboxed, Many, Code, Do, Over, Compare, Call, Ask, AskLine, FileLine, Replace, Number, Text, Unset, Get, Set, Array, IsOpen, Choose, Seq, Let, Bound, Codes, End, At, Fixed, Fresh, Step, Eval, Block as Steps_, If as Either, Loop, Each, Break, Continue, Next, Exit, ExitWith, Return, Mark, Steps, NoStep, Then as AndThen, Program, Routine, Form, Answered, Bare, Perhaps, a_value, form_of}
 use Rattle.mid_program.specs.declared.mid.Operation.{Operation}
 use Rattle.mid_program.specs.declared.mid.Arithmetic.{Arithmetic}
 use Rattle.mid_program.specs.declared.mid.Operation.TheVariants.{Host, Inline, AsNumber}
@@ -23,9 +23,9 @@ use Rattle.lower_model.specs.Arithmetic.{is_value}
 use Rattle.lower_model.specs.Emission.{Layout, Immediate, all_emitted, constant_field, emitted, field_at, field_in, immediate_field, immediate_in, immediate_or, field_or, one_field, text_kept}
 use Rattle.lower_model.specs.Functions.{layout_of, main_bases, main_callee, routine_bases, routine_callee}
 use Rattle.lower_model.specs.Places.{Bases}
-use Rattle.lower_model.specs.Quick.{Within, test_within, joined, all_unsure, Source, source_in, Sum, sum_names, sum_op, sum_in, sum_of, two_sum, set_sum, kept_sum, update_sum, old_source, stored_name, new_sum, let_sum, Update, update_in, Tally, tally_in, Remainder, remainder_in, remainder_names, Counted, counted_in, Pair, pair_names, pair_in, step_jumps, is_nothing}
+use Rattle.lower_model.specs.Quick.{Within, test_within, joined, all_unsure, Holder, OfName, OfParameter, holder_of, set_after, set_alone, Source, source_in, Sum, sum_names, sum_op, sum_in, sum_of, two_sum, set_sum, kept_sum, update_sum, old_source, stored_name, new_sum, let_sum, Update, update_in, Tally, tally_in, Remainder, remainder_in, remainder_names, Counted, counted_in, Pair, pair_names, pair_in, step_jumps, is_nothing}
 use Rattle.lower_model.specs.Small.{does, either}
-use Rattle.lower_model.specs.Statements.{answer_given, returned, name_read, name_numbered, sum_kept, sum_taken, both_asked, element_numbered, element_given, remainder_dropped, barely_dropped, plainly_dropped, quickly_dropped, left_unless_counted, left_unless_pair, left_unless, again, all_emptied, arrays_emptied, before_parts, block, iterator_left, iterators_emptied, key_stored, left_by, names_declared, names_made, part_done, record_done, records_read, routines_declared, step_emitted, steps_emitted, temporaries_emptied}
+use Rattle.lower_model.specs.Statements.{answer_given, returned, holder_cleared, name_read, name_numbered, sum_kept, sum_taken, both_asked, element_numbered, element_given, remainder_dropped, barely_dropped, plainly_dropped, quickly_dropped, left_unless_counted, left_unless_pair, left_unless, again, all_emptied, arrays_emptied, before_parts, block, iterator_left, iterators_emptied, key_stored, left_by, names_declared, names_made, part_done, record_done, records_read, routines_declared, step_emitted, steps_emitted, temporaries_emptied}
 use Rattle.lower_model.proofs.Tallies.{Shape, Updating, Following, Leading, tally_code, tally_is}
 use Rattle.lower_model.proofs.Updating.{added_code, added_is}
 use Rattle.lower_needs.specs.Labels.{choice_labels, labels_among, labels_in, more_if, step_labels, steps_labels}
@@ -114,7 +114,7 @@ maybe_labels : (e : Code) (o : Option Source) → source_in e ≡ o → is_some 
 maybe_labels e (Some s) h t = source_labels e s h
 maybe_labels e None h t = cc
 
-both_labels : (i : ℕ) (o : Arithmetic) (a e : Code) (s : Sum) → sum_of i o (source_in a) (source_in e) ≡ Some s → (labels_in a ≡ 0) × (labels_in e ≡ 0)
+both_labels : (i : Holder) (o : Arithmetic) (a e : Code) (s : Sum) → sum_of i o (source_in a) (source_in e) ≡ Some s → (labels_in a ≡ 0) × (labels_in e ≡ 0)
 both_labels i o a e s h = by (source_in a) refl (source_in e) refl h
   where
     by : (x : Option Source) → source_in a ≡ x → (z : Option Source) → source_in e ≡ z → sum_of i o x z ≡ Some s → (labels_in a ≡ 0) × (labels_in e ≡ 0)
@@ -122,23 +122,23 @@ both_labels i o a e s h = by (source_in a) refl (source_in e) refl h
     by (Some x) h1 None h2 q = cc
     by None h1 z h2 q = cc
 
-two_labels : (i : ℕ) (o : Arithmetic) (es : Codes) (s : Sum) → two_sum i o es ≡ Some s → labels_among es ≡ 0
+two_labels : (i : Holder) (o : Arithmetic) (es : Codes) (s : Sum) → two_sum i o es ≡ Some s → labels_among es ≡ 0
 two_labels i o (At a (At e End)) s h = let n = both_labels i o a e s h in let x = n.0 in let z = n.1 in omega (arith, x, z)
 two_labels i o es s h = cc
 
-set_labels : (i : ℕ) (e : Code) (s : Sum) → set_sum i e ≡ Some s → labels_in e ≡ 0
+set_labels : (i : Holder) (e : Code) (s : Sum) → set_sum i e ≡ Some s → labels_in e ≡ 0
 set_labels i (Do (Inline o) es) s h = two_labels i o es s h
 set_labels i e s h = cc
 
-kept_labels : (i : ℕ) (o : Arithmetic) (a : Code) (es : Codes) (s : Sum) → kept_sum i o a es ≡ Some s → max (labels_in a) (labels_among es) ≡ 0
+kept_labels : (i : Holder) (o : Arithmetic) (a : Code) (es : Codes) (s : Sum) → kept_sum i o a es ≡ Some s → max (labels_in a) (labels_among es) ≡ 0
 kept_labels i o a (At x (At (Bound true zero) End)) s h = let n = both_labels i o x a s h in let u = n.0 in let v = n.1 in omega (arith, u, v)
 kept_labels i o a es s h = cc
 
-update_labels : (i : ℕ) (a e : Code) (s : Sum) → update_sum i a e ≡ Some s → max (labels_in a) (labels_in e) ≡ 0
+update_labels : (i : Holder) (a e : Code) (s : Sum) → update_sum i a e ≡ Some s → max (labels_in a) (labels_in e) ≡ 0
 update_labels i a (Do (Inline o) es) s h = kept_labels i o a es s h
 update_labels i a e s h = cc
 
-new_labels : (a : Option Source) (i : Option ℕ) (x : Code) (s : Sum) → new_sum a i x ≡ Some s → (is_some a ≡ true) × (is_some i ≡ true) × (labels_in x ≡ 0)
+new_labels : (a : Option Source) (i : Option Holder) (x : Code) (s : Sum) → new_sum a i x ≡ Some s → (is_some a ≡ true) × (is_some i ≡ true) × (labels_in x ≡ 0)
 new_labels (Some a) (Some i) (Do (Inline o) (At (Bound false zero) (At (Number z) End))) s h = (refl, refl, refl)
 new_labels None (Some i) (Do (Inline o) (At (Bound false zero) (At (Number z) End))) s h = cc
 new_labels a i x s h = cc
@@ -148,11 +148,15 @@ old_labels (Do AsNumber (At a End)) h = let n = maybe_labels a (source_in a) ref
 old_labels a h = cc
 
 stored_labels : (c : Code) → is_some (stored_name c) ≡ true → labels_in c ≡ 0
-stored_labels (Seq (Set (Global true i) (Bound true zero)) (Bound true (suc zero))) h = refl
+stored_labels (Seq (Set x (Bound true zero)) (Bound true (suc zero))) h = refl
 stored_labels c h = cc
 
 let_labels : (a e : Code) (s : Sum) → let_sum a e ≡ Some s → max (labels_in a) (labels_in e) ≡ 0
-let_labels a (Set (Global true i) e) s h = update_labels i a e s h
+let_labels a (Set x e) s h = by (holder_of x) h
+  where
+    by : (o : Option Holder) → set_after o a e ≡ Some s → max (labels_in a) (labels_in e) ≡ 0
+    by (Some i) q = update_labels i a e s q
+    by None q = cc
 let_labels a (Let x z) s h =
     let n = new_labels (old_source a) (stored_name z) x s h in
     let u = old_labels a n.0 in
@@ -162,7 +166,11 @@ let_labels a (Let x z) s h =
 let_labels a e s h = cc
 
 sum_labels : (e : Code) (s : Sum) → sum_in e ≡ Some s → labels_in e ≡ 0
-sum_labels (Set (Global true i) e) s h = set_labels i e s h
+sum_labels (Set x e) s h = by (holder_of x) h
+  where
+    by : (o : Option Holder) → set_alone o e ≡ Some s → labels_in e ≡ 0
+    by (Some i) q = set_labels i e s q
+    by None q = cc
 sum_labels (Let a e) s h = let_labels a e s h
 sum_labels e s h = cc
 
@@ -252,19 +260,23 @@ module _ (y : Layout) where
 
   -- Quick ways.
 
-  joined_deep : {k : Instructions} {m : ℕ} (is : List ℕ) (q : ℤ) → Deep k m → Deep (joined (name_read y) is q k) m
+  joined_deep : {k : Instructions} {m : ℕ} (is : List Holder) (q : ℤ) → Deep k m → Deep (joined (name_read y) is q k) m
   joined_deep [] q r = r
   joined_deep (i ∷ is) q r = past _ (past _ (past _ (past _ (joined_deep is q r))))
 
-  all_deep : {k : Instructions} {m : ℕ} (is : List ℕ) (q : ℤ) (w : ℕ) → Deep k m → Deep (all_unsure (name_read y) is q w k) m
+  all_deep : {k : Instructions} {m : ℕ} (is : List Holder) (q : ℤ) (w : ℕ) → Deep k m → Deep (all_unsure (name_read y) is q w k) m
   all_deep [] q w r = past _ r
   all_deep (i ∷ is) q w r = past _ (past _ (past _ (joined_deep is q (past _ (past _ r)))))
 
-  name_deep : {k : Instructions} {m : ℕ} (i t d : ℕ) → Deep k m → Deep (name_numbered y i t d k) m
+  name_deep : {k : Instructions} {m : ℕ} (i : Holder) (t d : ℕ) → Deep k m → Deep (name_numbered y i t d k) m
   name_deep i t d r = past _ (past _ (past _ (past _ (behind_either r))))
 
-  taking_deep : {k : Instructions} {m : ℕ} (op : IBinOp) (i t d : ℕ) → Deep k m → Deep (sum_taken y op i t d k) m
-  taking_deep op i t d r = past _ (past _ (past _ (past _ (past _ (past _ (behind_either (past _ (past _ (past _ (behind_either (past _ (past _ r))))))))))))
+  cleared_deep : {k : Instructions} {m : ℕ} (i : Holder) → Deep k m → Deep (holder_cleared y i k) m
+  cleared_deep (OfName i) r = past _ (past _ (past _ (behind_either r)))
+  cleared_deep (OfParameter i) r = r
+
+  taking_deep : {k : Instructions} {m : ℕ} (op : IBinOp) (i : Holder) (t d : ℕ) → Deep k m → Deep (sum_taken y op i t d k) m
+  taking_deep op i t d r = past _ (past _ (past _ (past _ (past _ (past _ (behind_either (cleared_deep i (past _ (past _ r)))))))))
 
   kept_sum_deep : {k : Instructions} {m : ℕ} (op : IBinOp) (t d : ℕ) → Deep k m → Deep (sum_kept y op t d k) m
   kept_sum_deep op t d r = past _ (past _ (past _ (past _ (past _ (past _ (behind_either r))))))

@@ -1,5 +1,5 @@
--- The names of quick ways are numbers of globals, where the code can be emitted.
-use Rattle.std.proofs.Common.{◌≡◌, ℕ, zero, suc, ◌+◌, ◌^◌, ◌<◌, ◌≤◌, Bool, true, false, nat_eq, List, [], ◌∷◌, length, get_or, take, drop, drop-cons, ◌-◌, Option, Some, None, ℤ, pos, ◌+ℤ◌, unsigned_abs, refl, sym, ap, ◌∙◌, subst, arith, if◌then◌else◌}
+-- The names of quick ways are numbers of globals, and their parameters places of locals, where the code can be emitted.
+use Rattle.std.proofs.Common.{◌≡◌, ℕ, zero, suc, ◌+◌, ◌^◌, ◌<◌, ◌≤◌, Bool, true, false, nat_eq, List, [], ◌∷◌, length, get_or, take, drop, drop-cons, ◌-◌, Option, Some, None, ℤ, pos, ◌+ℤ◌, unsigned_abs, map, refl, sym, ap, ◌∙◌, subst, arith, if◌then◌else◌}
 use Rattle.std.proofs.lemmas.List.{take_all}
 use Rattle.awk_values.specs.declared.comparison.CompareOp.{CompareOp}
 use Rattle.awk_values.specs.declared.comparison.CompareOp.TheVariants as compare
@@ -10,32 +10,35 @@ use Rattle.wasm_types.specs.declared.instr.Simple.{Simple}
 use Rattle.wasm_types.specs.declared.instr.Simple.TheVariants.{Binary}
 use Rattle.mid_program.specs.declared.mid.Arithmetic.{Arithmetic}
 use Rattle.mid_program.specs.declared.mid.Operation.TheVariants.{Inline, AsNumber}
-use Rattle.mid_program.specs.Mid.{Global, Code, Do, Compare, Number, Set, Let, Bound, Codes, End, At}
+use Rattle.mid_program.specs.Mid.{Slot, Code, Do, Compare, Number, Set, Let, Bound, Codes, End, At}
 use Rattle.lower_model.specs.Emission.{Layout}
-use Rattle.lower_model.specs.Quick.{Source, Named, Constant, Sum, Update, update_in, Tally, tally_in, Remainder, remainder_in, remainder_names, Counted, counted_of, counted_in, field_count, Pair, Within, all_unsure, joined, shifted, and_name, and_source, both_within, compared_within, constant_in, first_ones, is_among, kept_sum, let_sum, name_in, new_sum, old_source, pair_in, pair_names, pair_of, set_sum, source_in, stored_name, sum_in, sum_names, sum_of, test_within, two_sum, update_sum}
-use Rattle.lower_model.proofs.Quick.{name_is}
+use Rattle.lower_model.specs.Quick.{Holder, OfName, OfParameter, holder_of, Source, Held, Constant, Sum, Update, update_in, Tally, tally_in, Remainder, remainder_in, remainder_names, Counted, counted_of, counted_in, field_count, Pair, Within, all_unsure, joined, shifted, and_name, and_source, both_within, compared_within, constant_in, first_ones, is_among, kept_sum, let_sum, name_in, new_sum, old_source, pair_in, pair_names, pair_of, set_after, set_alone, set_sum, source_in, stored_name, sum_in, sum_names, sum_of, test_within, two_sum, update_sum}
+use Rattle.lower_model.proofs.Quick.{holder_is, name_is}
+use Rattle.lower_model.proofs.State.{holder_slot}
 use Rattle.lower_model.proofs.Tallies.{Shape, Updating, Following, Leading, tally_code, IsAdded, tally_is}
 use Rattle.lower_model.proofs.Remainders.{IsRemainder, factored_code, remainder_code, remainder_is}
 use Rattle.lower_model.proofs.Updating.{added_is}
-use Rattle.lower_model.proofs.QuickNames.{near_sum, some_is, source_code, source_is, stored_is}
+use Rattle.lower_model.proofs.QuickNames.{near_sum, none_is, some_is, source_code, source_is, stored_is}
 use Rattle.lower_model.specs.Small.{does}
 use Rattle.lower_model.specs.Statements.{source_pushed}
 use Rattle.lower_pieces.specs.Bounds.{most_labels, most_places}
-use Rattle.lower_expressions.specs.Fits.{AllFit, Fits}
+use Rattle.lower_expressions.specs.Fits.{AllFit, Fits, SlotFits}
+use Rattle.lower_quick.specs.View.{view_holder}
+use Rattle.lower_quick.specs.declared.source.Holder as quick
 use Rattle.lowering.specs.Parts.{past, source_read}
-use Rattle.lowering.specs.QuickFits.{FactorFits, NamesFit, PairFits, RemainderFits, SourceFits, SumFits, TallyFits}
+use Rattle.lowering.specs.QuickFits.{FactorFits, HolderFits, NamesFit, PairFits, RemainderFits, SourceFits, SumFits, TallyFits}
 
 -- lists of names
 
-name_list : (i : ℕ) (is : List ℕ) → i ≤ most_places → NamesFit is → NamesFit (and_name i is)
+name_list : (i : Holder) (is : List Holder) → HolderFits i → NamesFit is → NamesFit (and_name i is)
 name_list i is le f = by (is_among i is)
   where
     by : (t : Bool) → NamesFit (if t then is else i ∷ is)
     by true = f
     by false = (le, f)
 
-source_list : (s : Source) (is : List ℕ) → SourceFits s → NamesFit is → NamesFit (and_source s is)
-source_list (Named i) is le f = name_list i is le f
+source_list : (s : Source) (is : List Holder) → SourceFits s → NamesFit is → NamesFit (and_source s is)
+source_list (Held i) is le f = name_list i is le f
 source_list (Constant z) is le f = f
 
 pub sum_list : (s : Sum) → SumFits s → NamesFit (sum_names s)
@@ -49,29 +52,31 @@ pair_list q f = source_list q.left (and_source q.right []) f.0 (source_list q.ri
 
 -- the first of the names that are left
 
-pub names_left : (is : List ℕ) (i : ℕ) → i < length is → NamesFit (drop i is) → (get_or is i 0 ≤ most_places) × NamesFit (drop (i + 1) is)
-names_left is i lt f =
+pub left_at : (is : List quick.Holder) (i : ℕ) (x : quick.Holder) → i < length is → x ≡ get_or is i x → drop i is ≡ x ∷ drop (i + 1) is
+left_at is i x lt e =
     let next : suc i ≡ i + 1 = omega arith in
-    subst (λ (n : ℕ). (get_or is i 0 ≤ most_places) × NamesFit (drop n is)) next (subst NamesFit (drop-cons is i 0 lt) f)
+    drop-cons is i x lt ∙ ap (λ (z : quick.Holder). z ∷ drop (suc i) is) (sym e) ∙ ap (λ (n : ℕ). x ∷ drop n is) next
 
-pub joined_step : (read : ℕ → Simple) (is : List ℕ) (i : ℕ) (q : ℤ) (k : Instructions) → i < length is →
-    shifted (read (get_or is i 0)) q (does (Binary I64 Or) (joined read (drop (i + 1) is) q k)) ≡ joined read (drop i is) q k
-joined_step read is i q k lt =
-    let next : suc i ≡ i + 1 = omega arith in
-    ap (λ (n : ℕ). shifted (read (get_or is i 0)) q (does (Binary I64 Or) (joined read (drop n is) q k))) (sym next)
-    ∙ sym (ap (λ (js : List ℕ). joined read js q k) (drop-cons is i 0 lt))
+pub names_left : (is : List quick.Holder) (i : ℕ) (x : quick.Holder) → i < length is → x ≡ get_or is i x → NamesFit (map view_holder (drop i is)) → HolderFits (view_holder x) × NamesFit (map view_holder (drop (i + 1) is))
+names_left is i x lt e f = subst (λ (js : List quick.Holder). NamesFit (map view_holder js)) (left_at is i x lt e) f
+
+pub joined_step : (read : Holder → Simple) (is : List quick.Holder) (i : ℕ) (x : quick.Holder) (q : ℤ) (k : Instructions) → i < length is → x ≡ get_or is i x →
+    shifted (read (view_holder x)) q (does (Binary I64 Or) (joined read (map view_holder (drop (i + 1) is)) q k)) ≡ joined read (map view_holder (drop i is)) q k
+joined_step read is i x q k lt e = sym (ap (λ (js : List quick.Holder). joined read (map view_holder js) q k) (left_at is i x lt e))
 
 -- the test of names, from that of the first and the others
-pub all_of : (read : ℕ → Simple) (is : List ℕ) (q : ℤ) (w : ℕ) (k : Instructions) → 1 ≤ length is →
-    shifted (read (get_or is 0 0)) q (joined read (take (length is - 1) (drop 1 is)) q (past w k)) ≡ all_unsure read is q w k
-all_of read [] q w k h = absurd (omega arith)
-all_of read (i ∷ is) q w k h = ap (λ (js : List ℕ). shifted (read i) q (joined read js q (past w k))) (take_all (suc (length is) - 1) is (omega arith))
+pub all_of : (read : Holder → Simple) (is : List quick.Holder) (x : quick.Holder) (q : ℤ) (w : ℕ) (k : Instructions) → 1 ≤ length is → x ≡ get_or is 0 x →
+    shifted (read (view_holder x)) q (joined read (map view_holder (take (length is - 1) (drop 1 is))) q (past w k)) ≡ all_unsure read (map view_holder is) q w k
+all_of read [] x q w k h e = absurd (omega arith)
+all_of read (i ∷ is) x q w k h e =
+    ap (λ (z : quick.Holder). shifted (read (view_holder z)) q (joined read (map view_holder (take (suc (length is) - 1) is)) q (past w k))) e
+    ∙ ap (λ (js : List quick.Holder). shifted (read (view_holder i)) q (joined read (map view_holder js) q (past w k))) (take_all (suc (length is) - 1) is (omega arith))
 
 -- two sources on the stack
 pub two_read : (y : Layout) (a b : Source) (k : Instructions) → does (source_read y a) (does (source_read y b) k) ≡ source_pushed y a (source_pushed y b k)
-two_read y (Named i) (Named j) k = refl
-two_read y (Named i) (Constant z) k = refl
-two_read y (Constant z) (Named j) k = refl
+two_read y (Held i) (Held j) k = refl
+two_read y (Held i) (Constant z) k = refl
+two_read y (Constant z) (Held j) k = refl
 two_read y (Constant z) (Constant x) k = refl
 
 -- names in code
@@ -80,7 +85,7 @@ abbrev MaybeFits : Option Source → Type 0
 MaybeFits None = Unit {0}
 MaybeFits (Some s) = SourceFits s
 
-sum_of_fits : (i : ℕ) (o : Arithmetic) (a e : Option Source) (s : Sum) → sum_of i o a e ≡ Some s → i ≤ most_places → MaybeFits a → MaybeFits e → SumFits s
+sum_of_fits : (i : Holder) (o : Arithmetic) (a e : Option Source) (s : Sum) → sum_of i o a e ≡ Some s → HolderFits i → MaybeFits a → MaybeFits e → SumFits s
 sum_of_fits i o (Some a) (Some e) s q le f g = subst SumFits (near_sum i o a e s q).1 (le, (f, g))
 sum_of_fits i o (Some a) None s q le f g = cc
 sum_of_fits i o None e s q le f g = cc
@@ -90,21 +95,30 @@ of_pair c (Some a) (Some e) q h f g = subst PairFits (some_is (record { op = c; 
 of_pair c (Some a) None q h f g = cc
 of_pair c None e q h f g = cc
 
-ones_of : (i n : ℕ) (q : Within) → first_ones i n ≡ Some q → i ≡ q.name
+ones_of : (i : Holder) (n : ℕ) (q : Within) → first_ones i n ≡ Some q → i ≡ q.name
 ones_of i zero q h = cc
 ones_of i (suc k) q h = ap (λ (r : Within). r.name) (some_is (record { name = i; shift = pos (2 ^ 53); width = k }) q h)
 
-name_of : (c : CompareOp) (i : ℕ) (z : ℤ) (q : Within) → compared_within c i z ≡ Some q → i ≡ q.name
+name_of : (c : CompareOp) (i : Holder) (z : ℤ) (q : Within) → compared_within c i z ≡ Some q → i ≡ q.name
 name_of compare.Less i z q h = ones_of i (unsigned_abs (z +ℤ pos (2 ^ 53))) q h
 name_of compare.LessOrEqual i z q h = ones_of i (suc (unsigned_abs (z +ℤ pos (2 ^ 53)))) q h
 name_of c i z q h = cc
+
+-- a slot that holds a number
+
+held_fits : (i : Holder) → SlotFits (holder_slot i) → HolderFits i
+held_fits (OfName i) f = f
+held_fits (OfParameter i) f = f
+
+slot_fits : (x : Slot) (i : Holder) → holder_of x ≡ Some i → SlotFits x → HolderFits i
+slot_fits x i h f = held_fits i (subst SlotFits (holder_is x i h) f)
 
 module _ (y : Layout) where
   source_fits : (e : Code) (s : Source) (t w d : ℕ) → source_in e ≡ Some s → Fits y e t w d → SourceFits s
   source_fits e s t w d q f = by s (subst (λ (x : Code). Fits y x t w d) (source_is e s q) f)
     where
       by : (r : Source) → Fits y (source_code r) t w d → SourceFits r
-      by (Named i) g = g.1
+      by (Held i) g = held_fits i g.1
       by (Constant z) g = tt
 
   maybe_fits : (e : Code) (t w d : ℕ) → Fits y e t w d → MaybeFits (source_in e)
@@ -114,19 +128,19 @@ module _ (y : Layout) where
       by None q = tt
       by (Some s) q = source_fits e s t w d q f
 
-  two_fits : (i : ℕ) (o : Arithmetic) (es : Codes) (s : Sum) (t w d : ℕ) → two_sum i o es ≡ Some s → i ≤ most_places → AllFit y es t w d → SumFits s
+  two_fits : (i : Holder) (o : Arithmetic) (es : Codes) (s : Sum) (t w d : ℕ) → two_sum i o es ≡ Some s → HolderFits i → AllFit y es t w d → SumFits s
   two_fits i o (At a (At e End)) s t w d q le f = sum_of_fits i o (source_in a) (source_in e) s q le (maybe_fits a t w d f.1.0) (maybe_fits e (suc t) w d f.1.1.1.0)
   two_fits i o es s t w d q le f = cc
 
-  set_fits : (i : ℕ) (e : Code) (s : Sum) (t w d : ℕ) → set_sum i e ≡ Some s → i ≤ most_places → Fits y e t w d → SumFits s
+  set_fits : (i : Holder) (e : Code) (s : Sum) (t w d : ℕ) → set_sum i e ≡ Some s → HolderFits i → Fits y e t w d → SumFits s
   set_fits i (Do (Inline o) es) s t w d q le f = two_fits i o es s t w d q le f
   set_fits i e s t w d q le f = cc
 
-  kept_fits : (i : ℕ) (o : Arithmetic) (a : Code) (es : Codes) (s : Sum) (t w d : ℕ) → kept_sum i o a es ≡ Some s → i ≤ most_places → MaybeFits (source_in a) → AllFit y es t w d → SumFits s
+  kept_fits : (i : Holder) (o : Arithmetic) (a : Code) (es : Codes) (s : Sum) (t w d : ℕ) → kept_sum i o a es ≡ Some s → HolderFits i → MaybeFits (source_in a) → AllFit y es t w d → SumFits s
   kept_fits i o a (At x (At (Bound true zero) End)) s t w d q le g f = sum_of_fits i o (source_in x) (source_in a) s q le (maybe_fits x t w d f.1.0) g
   kept_fits i o a es s t w d q le g f = cc
 
-  update_fits : (i : ℕ) (a e : Code) (s : Sum) (t w d : ℕ) → update_sum i a e ≡ Some s → i ≤ most_places → MaybeFits (source_in a) → Fits y e t w d → SumFits s
+  update_fits : (i : Holder) (a e : Code) (s : Sum) (t w d : ℕ) → update_sum i a e ≡ Some s → HolderFits i → MaybeFits (source_in a) → Fits y e t w d → SumFits s
   update_fits i a (Do (Inline o) es) s t w d q le g f = kept_fits i o a es s t w d q le g f
   update_fits i a e s t w d q le g f = cc
 
@@ -134,20 +148,28 @@ module _ (y : Layout) where
   old_fits (Do AsNumber (At a End)) t w d f = maybe_fits a t w d f.1.0
   old_fits e t w d f = tt
 
-  stored_fits : (e : Code) (i t w d : ℕ) → stored_name e ≡ Some i → Fits y e t w d → i ≤ most_places
-  stored_fits e i t w d q f = (subst (λ (x : Code). Fits y x t w d) (stored_is e i q) f).1.0.1.0
+  stored_fits : (e : Code) (i : Holder) (t w d : ℕ) → stored_name e ≡ Some i → Fits y e t w d → HolderFits i
+  stored_fits e i t w d q f = held_fits i (subst (λ (x : Code). Fits y x t w d) (stored_is e i q) f).1.0.1.0
 
-  new_fits : (a : Option Source) (i : Option ℕ) (e : Code) (s : Sum) → new_sum a i e ≡ Some s → MaybeFits a → ((j : ℕ) → i ≡ Some j → j ≤ most_places) → SumFits s
+  new_fits : (a : Option Source) (i : Option Holder) (e : Code) (s : Sum) → new_sum a i e ≡ Some s → MaybeFits a → ((j : Holder) → i ≡ Some j → HolderFits j) → SumFits s
   new_fits a (Some i) (Do (Inline o) (At (Bound false zero) (At (Number z) End))) s q f g = sum_of_fits i o a (Some (Constant z)) s q (g i refl) f tt
   new_fits a i e s q f g = cc
 
+  after_fits : (x : Slot) (o : Option Holder) (a e : Code) (s : Sum) (t w d : ℕ) → holder_of x ≡ o → set_after o a e ≡ Some s → SlotFits x → MaybeFits (source_in a) → Fits y e t w d → SumFits s
+  after_fits x (Some i) a e s t w d h q f g n = update_fits i a e s t w d q (slot_fits x i h f) g n
+  after_fits x None a e s t w d h q f g n = none_is q
+
+  alone_fits : (x : Slot) (o : Option Holder) (e : Code) (s : Sum) (t w d : ℕ) → holder_of x ≡ o → set_alone o e ≡ Some s → SlotFits x → Fits y e t w d → SumFits s
+  alone_fits x (Some i) e s t w d h q f n = set_fits i e s t w d q (slot_fits x i h f) n
+  alone_fits x None e s t w d h q f n = none_is q
+
   let_fits : (a e : Code) (s : Sum) (t w d : ℕ) → let_sum a e ≡ Some s → Fits y a t w d → Fits y e (suc t) w d → SumFits s
-  let_fits a (Set (Global true i) e) s t w d q f g = update_fits i a e s (suc t) w d q g.1.0 (maybe_fits a t w d f) g.1.1
+  let_fits a (Set x e) s t w d q f g = after_fits x (holder_of x) a e s (suc t) w d refl q g.1.0 (maybe_fits a t w d f) g.1.1
   let_fits a (Let x z) s t w d q f g = new_fits (old_source a) (stored_name z) x s q (old_fits a t w d f) (λ j k. stored_fits z j (suc (suc t)) w d k g.1.1)
   let_fits a e s t w d q f g = cc
 
   pub sum_fits : (e : Code) (s : Sum) (t w d : ℕ) → sum_in e ≡ Some s → Fits y e t w d → SumFits s
-  sum_fits (Set (Global true i) e) s t w d q f = set_fits i e s t w d q f.1.0 f.1.1
+  sum_fits (Set x e) s t w d q f = alone_fits x (holder_of x) e s t w d refl q f.1.0 f.1.1
   sum_fits (Let a e) s t w d q f = let_fits a e s t w d q f.1.0 f.1.1
   sum_fits e s t w d q f = cc
 
@@ -155,20 +177,20 @@ module _ (y : Layout) where
   pair_fits (Compare c a b) q t w d h f = of_pair c (source_in a) (source_in b) q h (maybe_fits a t w d f.1.0) (maybe_fits b (suc t) w d f.1.1)
   pair_fits e q t w d h f = cc
 
-  both_fits : (c : CompareOp) (a : Code) (i : Option ℕ) (r : Option ℤ) (q : Within) (t w d : ℕ) → name_in a ≡ i → both_within c i r ≡ Some q → Fits y a t w d → q.name ≤ most_places
-  both_fits c a (Some i) (Some z) q t w d e h f = subst (λ (j : ℕ). j ≤ most_places) (name_of c i z q h) (subst (λ (x : Code). Fits y x t w d) (name_is a i e) f).1
+  both_fits : (c : CompareOp) (a : Code) (i : Option Holder) (r : Option ℤ) (q : Within) (t w d : ℕ) → name_in a ≡ i → both_within c i r ≡ Some q → Fits y a t w d → HolderFits q.name
+  both_fits c a (Some i) (Some z) q t w d e h f = subst HolderFits (name_of c i z q h) (held_fits i (subst (λ (x : Code). Fits y x t w d) (name_is a i e) f).1)
   both_fits c a (Some i) None q t w d e h f = cc
   both_fits c a None r q t w d e h f = cc
 
-  pub within_fits : (e : Code) (q : Within) (t w d : ℕ) → test_within e ≡ Some q → Fits y e t w d → q.name ≤ most_places
+  pub within_fits : (e : Code) (q : Within) (t w d : ℕ) → test_within e ≡ Some q → Fits y e t w d → HolderFits q.name
   within_fits (Compare c a b) q t w d h f = both_fits c a (name_in a) (constant_in b) q t w d refl h f.1.0
   within_fits e q t w d h f = cc
 
   -- a sum with what is evaluated first
-  pub update_fits_all : (e : Code) (q : Update) (t w d : ℕ) → update_in e ≡ Some q → Fits y e t w d → (q.target ≤ most_places) × (q.name ≤ most_places) × Fits y q.added t w d
+  pub update_fits_all : (e : Code) (q : Update) (t w d : ℕ) → update_in e ≡ Some q → Fits y e t w d → HolderFits q.target × HolderFits q.name × Fits y q.added t w d
   update_fits_all e q t w d h f =
       let g = subst (λ (x : Code). Fits y x t w d) (added_is e q h).0 f in
-      (g.1.1.1.0, g.1.1.1.1.1.0.1, g.1.0)
+      (held_fits q.target g.1.1.1.0, held_fits q.name g.1.1.1.1.1.0.1, g.1.0)
 
   -- a counter in an array
   counter_fits : (i : Shape) (q : Tally) (d : ℕ) → IsAdded i q.added → Fits y (tally_code i q) 0 0 d → TallyFits y q d
@@ -181,7 +203,7 @@ module _ (y : Layout) where
 
   -- a remainder
 
-  factor_fits : (e : Code) (i j : ℕ) (f : Option ℤ) (z : ℤ) → IsRemainder e (record { target = i; multiple = record { name = j; factor = f }; divisor = z }) → FactorFits f
+  factor_fits : (e : Code) (i j : Holder) (f : Option ℤ) (z : ℤ) → IsRemainder e (record { target = i; multiple = record { name = j; factor = f }; divisor = z }) → FactorFits f
   factor_fits e i j None z s = tt
   factor_fits e i j (Some c) z s = by (unsigned_abs c) s.factor
     where
@@ -189,17 +211,17 @@ module _ (y : Layout) where
       by zero h = cc
       by (suc k) h = omega arith
 
-  factored_fits : (i : ℕ) (f : Option ℤ) (t w d : ℕ) → Fits y (factored_code i f) t w d → i ≤ most_places
-  factored_fits i None t w d f = f.1
-  factored_fits i (Some c) t w d f = f.1.0.1
+  factored_fits : (i : Holder) (f : Option ℤ) (t w d : ℕ) → Fits y (factored_code i f) t w d → HolderFits i
+  factored_fits i None t w d f = held_fits i f.1
+  factored_fits i (Some c) t w d f = held_fits i f.1.0.1
 
   pub remainder_fits : (e : Code) (q : Remainder) (t w d : ℕ) → remainder_in e ≡ Some q → Fits y e t w d → RemainderFits q
   remainder_fits e q t w d h f =
       let s = remainder_is e q h in
       let g = subst (λ (x : Code). Fits y x t w d) s.code f in
-      (g.1.0, (factored_fits q.multiple.name q.multiple.factor t w d g.1.1.1.0, factor_fits e q.target q.multiple.name q.multiple.factor q.divisor s))
+      (held_fits q.target g.1.0, (factored_fits q.multiple.name q.multiple.factor t w d g.1.1.1.0, factor_fits e q.target q.multiple.name q.multiple.factor q.divisor s))
 
-  factored_deeper : (i : ℕ) (f : Option ℤ) (t w d : ℕ) → suc (suc (suc d)) ≤ most_labels → Fits y (factored_code i f) t w d → Fits y (factored_code i f) t w (suc d)
+  factored_deeper : (i : Holder) (f : Option ℤ) (t w d : ℕ) → suc (suc (suc d)) ≤ most_labels → Fits y (factored_code i f) t w d → Fits y (factored_code i f) t w (suc d)
   factored_deeper i None t w d l f = ((f.0.0, (f.0.1.0, l)), f.1)
   factored_deeper i (Some c) t w d l f =
       let a = f.0 in
@@ -221,11 +243,11 @@ module _ (y : Layout) where
           ((a.0, (a.1.0, l)), (g.1.0, ((x.0.0, (x.0.1.0, l)), (factored_deeper q.multiple.name q.multiple.factor 0 0 d l x.1.0, ((n.0.0, (n.0.1.0, l)), ((n.1.0.0, (n.1.0.1.0, l)), (n.1.1.0, (n.1.1.1.0, l))))))))
 
   -- a comparison with how many fields there are
-  counted_of_fits : (c : CompareOp) (a : Code) (i : Option ℕ) (j : Bool) (q : Counted) (t w d : ℕ) → name_in a ≡ i → counted_of c i j ≡ Some q → Fits y a t w d → q.name ≤ most_places
-  counted_of_fits c a (Some i) true q t w d e h f = subst (λ (j : ℕ). j ≤ most_places) (ap (λ (r : Counted). r.name) (some_is (record { op = c; name = i }) q h)) (subst (λ (x : Code). Fits y x t w d) (name_is a i e) f).1
+  counted_of_fits : (c : CompareOp) (a : Code) (i : Option Holder) (j : Bool) (q : Counted) (t w d : ℕ) → name_in a ≡ i → counted_of c i j ≡ Some q → Fits y a t w d → HolderFits q.name
+  counted_of_fits c a (Some i) true q t w d e h f = subst HolderFits (ap (λ (r : Counted). r.name) (some_is (record { op = c; name = i }) q h)) (held_fits i (subst (λ (x : Code). Fits y x t w d) (name_is a i e) f).1)
   counted_of_fits c a (Some i) false q t w d e h f = cc
   counted_of_fits c a None j q t w d e h f = cc
 
-  pub counted_fits : (e : Code) (q : Counted) (t w d : ℕ) → counted_in e ≡ Some q → Fits y e t w d → q.name ≤ most_places
+  pub counted_fits : (e : Code) (q : Counted) (t w d : ℕ) → counted_in e ≡ Some q → Fits y e t w d → HolderFits q.name
   counted_fits (Compare c a b) q t w d h f = counted_of_fits c a (name_in a) (field_count b) q t w d refl h f.1.0
   counted_fits e q t w d h f = cc

@@ -15,7 +15,7 @@ use Rattle.wasm_types.specs.declared.instr.Simple.TheVariants.{Nop, Br, BrIf, Lo
 use Rattle.sem_scripts.specs.Names.{ArrayName}
 use Rattle.mid_program.specs.Mid.{Kind, Boxed, Unboxed, Many, Code, Form, Step, Steps, Program, form_of}
 use Rattle.lower_model.specs.Emission.{Layout, array_pushed, emitted, pending_assigned, tested}
-use Rattle.lower_model.specs.Quick.{Constant, Counted, Named, Pair, Remainder, Source, Sum, all_unsure, sum_names, sum_op, Tally, Within, is_nothing, pair_in, step_jumps, test_within}
+use Rattle.lower_model.specs.Quick.{Constant, Counted, Held, Holder, Pair, Remainder, Source, Sum, all_unsure, sum_names, sum_op, Tally, Within, is_nothing, pair_in, step_jumps, test_within}
 use Rattle.lower_model.specs.Places.{Bases, answer_local, handle_global, iterator_local, status_global, way_global, handle_local, number_local}
 use Rattle.lower_model.specs.Small.{ask, ask_row, does, either, end_code, fail_if, kept_code, least, number_is, text_beside, to_number, when}
 use Rattle.lower_model.specs.Statements.{again, all_emptied, before_parts, block, constant_given, first_part, goes_on, iterator_left, iterators_swept, operands_swept, key_stored, last_part, left_by, left_unless, left_unless_counted, left_unless_pair, name_numbered, name_read, names_declared, parameters_dropped, part_done, record_done, records_read, routines_declared, step_emitted, steps_emitted, sum_kept, element_given, remainder_dropped, summed, summed_anyway, swept, way_exit, way_next}
@@ -60,11 +60,11 @@ remainder_done layout remainder code exit after = remainder_dropped layout (Some
 
 -- what puts a source on the stack
 abbrev pub source_read : Layout → Source → Simple
-source_read layout (Named name) = name_read layout name
+source_read layout (Held name) = name_read layout name
 source_read layout (Constant number) = I64Const (cast_unsigned w64 number)
 
 -- whether a name has no number
-abbrev pub unnumbered : Layout → ℕ → Instructions → Instructions
+abbrev pub unnumbered : Layout → Holder → Instructions → Instructions
 unnumbered layout name after = does (name_read layout name) (does (I64Const text_beside) (does (Comparing I64 LeS) after))
 
 -- a comparison of a name with how many fields there are
@@ -80,7 +80,7 @@ abbrev pub field_added : Bases → (bits : ℕ) → Instructions → Instruction
 field_added bases bits after = does (LocalGet (number_local bases zero)) (does (I64Const bits) (ask_row row.Field (ask_row row.ToNum after)))
 
 -- the numbers of a name and of the field with this number, on the stack
-abbrev pub field_asked : Layout → ℕ → ℤ → ℕ → Instructions → Instructions
+abbrev pub field_asked : Layout → Holder → ℤ → ℕ → Instructions → Instructions
 field_asked layout name number exit after = name_numbered layout name zero exit (field_added layout.bases (cast_unsigned w64 number) after)
 
 -- a counter's key, and what is added

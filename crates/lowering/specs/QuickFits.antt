@@ -1,20 +1,24 @@
--- Which quick ways can be emitted: the names in them are numbers of globals, and their code fits.
+-- Which quick ways can be emitted: the names in them are numbers of globals, the parameters places of locals, and their code fits.
 use Rattle.std.specs.Prelude.{ℕ, ◌≤◌, ◌<◌, List, [], ◌∷◌, Option, Some, None, ℤ, unsigned_abs}
 use Rattle.lower_model.specs.Emission.{Layout}
-use Rattle.lower_model.specs.Quick.{Source, Named, Constant, Sum, Tally, Remainder, Pair}
+use Rattle.lower_model.specs.Quick.{Holder, OfName, OfParameter, Source, Held, Constant, Sum, Tally, Remainder, Pair}
 use Rattle.lower_pieces.specs.Bounds.{most_places}
 use Rattle.lower_expressions.specs.Fits.{ArrayFits, Fits}
 
-abbrev pub NamesFit : List ℕ → Type 0
+abbrev pub HolderFits : Holder → Type 0
+HolderFits (OfName name) = name ≤ most_places
+HolderFits (OfParameter place) = place ≤ most_places
+
+abbrev pub NamesFit : List Holder → Type 0
 NamesFit [] = Unit {0}
-NamesFit (name ∷ names) = (name ≤ most_places) × NamesFit names
+NamesFit (name ∷ names) = HolderFits name × NamesFit names
 
 abbrev pub SourceFits : Source → Type 0
-SourceFits (Named name) = name ≤ most_places
+SourceFits (Held name) = HolderFits name
 SourceFits (Constant number) = Unit {0}
 
 abbrev pub SumFits : Sum → Type 0
-SumFits sum = (sum.target ≤ most_places) × (SourceFits sum.left × SourceFits sum.right)
+SumFits sum = HolderFits sum.target × (SourceFits sum.left × SourceFits sum.right)
 
 abbrev pub PairFits : Pair → Type 0
 PairFits pair = SourceFits pair.left × SourceFits pair.right
@@ -25,7 +29,7 @@ FactorFits None = Unit {0}
 FactorFits (Some factor) = 0 < unsigned_abs factor
 
 abbrev pub RemainderFits : Remainder → Type 0
-RemainderFits remainder = (remainder.target ≤ most_places) × ((remainder.multiple.name ≤ most_places) × FactorFits remainder.multiple.factor)
+RemainderFits remainder = HolderFits remainder.target × (HolderFits remainder.multiple.name × FactorFits remainder.multiple.factor)
 
 -- a counter's key in temporary 0, and what is added in the next one
 abbrev pub TallyFits : Layout → Tally → ℕ → Type 0

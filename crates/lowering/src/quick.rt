@@ -1,31 +1,45 @@
 //! Quick ways of statements on numbers: names whose numbers are within bounds, and what is done with them on the stack.
-ghost use Rattle.std.specs.Prelude.{[], ◌≡◌, ◌≤◌, ◌^◌, IfOk, OnOk, pos, suc};
+ghost use Rattle.std.specs.Prelude.{[], ◌≡◌, ◌≤◌, ◌^◌, IfOk, OnOk, map, pos, suc};
 ghost use Rattle.awk_text.specs.Number.{largest};
 ghost use Rattle.lower_model.specs.Quick.{all_unsure, joined, most_multiplied, sum_op, unsure};
-ghost use Rattle.lower_model.specs.Statements.{counted_left, name_read, pair_left, remainder_taken, summed};
-ghost use Rattle.lower_pieces.specs.Bounds.{most_labels, most_places};
+ghost use Rattle.lower_model.specs.Statements.{counted_left, name_put, name_read, pair_left, remainder_taken, summed};
+ghost use Rattle.lower_pieces.specs.Bounds.{most_labels};
 ghost use Rattle.lower_pieces.specs.Emits.{Emits};
 ghost use Rattle.lower_expressions.specs.View.{view_layout};
-ghost use Rattle.lower_quick.specs.View.{view_counted, view_pair, view_remainder, view_source, view_sum};
+ghost use Rattle.lower_quick.specs.View.{view_counted, view_holder, view_pair, view_remainder, view_source, view_sum};
 ghost use Rattle.lowering.specs.Parts.{source_read, unnumbered};
-ghost use Rattle.lowering.specs.QuickFits.{FactorFits, NamesFit, PairFits, RemainderFits, SourceFits, SumFits};
+ghost use Rattle.lowering.specs.QuickFits.{FactorFits, HolderFits, NamesFit, PairFits, RemainderFits, SourceFits, SumFits};
 
 use crate::lists::{call_of, listed};
 use awk_text::MAX_NUMBER;
 use lower_expressions::{FunctionLayout, global_number};
 use lower_pieces::{TEXT_BESIDE, does, does_all, relation};
-use lower_quick::{Counted, Pair, Remainder, Source, Sum, Within, contrary};
+use lower_quick::{Counted, Holder, Pair, Remainder, Source, Sum, Within, contrary};
 use mid_program::Arithmetic;
 use sem_primitives::{Primitive, Special};
 use std::alloc::AllocError;
 use wasm_types::{IBinOp, IRelOp, Instr, Simple, ValType};
 
-/// What reads an unboxed name's number.
-fn name_read(layout: &FunctionLayout<'_>, name: usize) -> Simple
-    requires { name ≤ most_places }
-    ensures { result ≡ name_read (view_layout layout.now) name }
+/// What reads the number of an unboxed name or parameter.
+pub(crate) fn name_read(layout: &FunctionLayout<'_>, name: Holder) -> Simple
+    requires { HolderFits (view_holder name) }
+    ensures { result ≡ name_read (view_layout layout.now) (view_holder name) }
 {
-    Simple::GlobalGet(global_number(layout, name))
+    match name {
+        Holder::Name(name) => Simple::GlobalGet(global_number(layout, name)),
+        Holder::Parameter(place) => Simple::LocalGet(place as u32),
+    }
+}
+
+/// What writes it.
+pub(crate) fn name_put(layout: &FunctionLayout<'_>, name: Holder) -> Simple
+    requires { HolderFits (view_holder name) }
+    ensures { result ≡ name_put (view_layout layout.now) (view_holder name) }
+{
+    match name {
+        Holder::Name(name) => Simple::GlobalSet(global_number(layout, name)),
+        Holder::Parameter(place) => Simple::LocalSet(place as u32),
+    }
 }
 
 /// Adds the test whether a name has none of these numbers.
@@ -34,9 +48,9 @@ pub(crate) fn unsure(
     out: &mut Vec<Instr>,
     within: Within,
 ) -> Result<(), AllocError>
-    requires { within.name ≤ most_places }
+    requires { HolderFits (view_holder within.name) }
     ensures { OnOk result (Emits out.old.items out.new.items
-        (unsure (name_read (view_layout layout.now) within.name) (pos largest) within.width)) }
+        (unsure (name_read (view_layout layout.now) (view_holder within.name)) (pos largest) within.width)) }
 {
     let all = [
         name_read(layout, within.name),
@@ -52,12 +66,12 @@ pub(crate) fn unsure(
 fn joined(
     layout: &FunctionLayout<'_>,
     out: &mut Vec<Instr>,
-    names: &[usize],
+    names: &[Holder],
     shift: u64,
 ) -> Result<(), AllocError>
-    requires { NamesFit names.now }
+    requires { NamesFit (map view_holder names.now) }
     ensures { OnOk result (Emits out.old.items out.new.items
-        (joined (name_read (view_layout layout.now)) names.now (pos shift))) }
+        (joined (name_read (view_layout layout.now)) (map view_holder names.now) (pos shift))) }
 {
     for name in names {
         let all = [
@@ -75,13 +89,14 @@ fn joined(
 pub(crate) fn all_unsure(
     layout: &FunctionLayout<'_>,
     out: &mut Vec<Instr>,
-    names: &[usize],
+    names: &[Holder],
     shift: u64,
     width: u64,
 ) -> Result<(), AllocError>
-    requires { NamesFit names.now }
+    requires { NamesFit (map view_holder names.now) }
     ensures { OnOk result (Emits out.old.items out.new.items
-        (all_unsure (name_read (view_layout layout.now)) names.now (pos shift) width)) }
+        (all_unsure (name_read (view_layout layout.now)) (map view_holder names.now)
+        (pos shift) width)) }
 {
     let [first, others @ ..] = names else {
         return does(out, Simple::I32Const(0));
@@ -106,7 +121,7 @@ fn source_read(layout: &FunctionLayout<'_>, source: Source) -> Simple
     ensures { result ≡ source_read (view_layout layout.now) (view_source source) }
 {
     match source {
-        Source::Named(name) => name_read(layout, name),
+        Source::Held(name) => name_read(layout, name),
         Source::Constant(number) => Simple::I64Const(number.cast_unsigned()),
     }
 }
@@ -134,7 +149,7 @@ pub(crate) fn sum_code(layout: &FunctionLayout<'_>, sum: Sum) -> Result<Vec<Inst
         source_read(layout, sum.left),
         source_read(layout, sum.right),
         Simple::Binary(ValType::I64, sum_op(sum.op)),
-        Simple::GlobalSet(global_number(layout, sum.target)),
+        name_put(layout, sum.target),
     ];
     listed(layout.alloc, &all)
 }
@@ -163,7 +178,7 @@ pub(crate) fn remainder_code(
     let read = name_read(layout, remainder.multiple.name);
     let divisor = Simple::I64Const(remainder.divisor.cast_unsigned());
     let taken = Simple::Binary(ValType::I64, IBinOp::RemS);
-    let stored = Simple::GlobalSet(global_number(layout, remainder.target));
+    let stored = name_put(layout, remainder.target);
     match remainder.multiple.factor {
         Some(factor) => {
             let factor = Simple::I64Const(factor.cast_unsigned());
@@ -201,7 +216,7 @@ pub(crate) fn counted_code(
     label: u32,
 ) -> Result<Vec<Instr>, AllocError>
     requires label { label ≤ most_labels }
-    requires name { counted.name ≤ most_places }
+    requires name { HolderFits (view_holder counted.name) }
     ensures { IfOk result (λ code. Emits [] code.items
         (counted_left (view_layout layout.now) (view_counted counted) (suc label))) }
 {
@@ -220,11 +235,11 @@ pub(crate) fn counted_code(
 pub(crate) fn unnumbered(
     layout: &FunctionLayout<'_>,
     out: &mut Vec<Instr>,
-    name: usize,
+    name: Holder,
 ) -> Result<(), AllocError>
-    requires { name ≤ most_places }
-    ensures { OnOk result
-        (Emits out.old.items out.new.items (unnumbered (view_layout layout.now) name)) }
+    requires { HolderFits (view_holder name) }
+    ensures { OnOk result (Emits out.old.items out.new.items
+        (unnumbered (view_layout layout.now) (view_holder name))) }
 {
     let all = [
         name_read(layout, name),

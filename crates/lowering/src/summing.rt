@@ -1,27 +1,27 @@
 //! Sums in all cases: a name's number may not be there yet, or be that of the text beside it.
 ghost use Rattle.std.specs.Prelude.{◌≤◌, None, OnOk, suc};
 ghost use Rattle.mid_program.specs.ViewCode.{view};
-ghost use Rattle.lower_model.specs.Quick.{sum_op};
-ghost use Rattle.lower_model.specs.Statements.{name_numbered, number_found, number_there, source_numbered, source_taken, sum_kept, sum_taken, summed_anyway, both_asked, updated};
+ghost use Rattle.lower_model.specs.Quick.{OfName, sum_op};
+ghost use Rattle.lower_model.specs.Statements.{holder_cleared, name_numbered, number_found, number_there, source_numbered, source_taken, sum_kept, sum_taken, summed_anyway, both_asked, updated};
 ghost use Rattle.lower_model.specs.Emission.{field_at};
 ghost use Rattle.lower_pieces.specs.Bounds.{most_labels, most_places};
 ghost use Rattle.lower_pieces.specs.Emits.{Emits};
 ghost use Rattle.lower_expressions.specs.Fits.{Fits};
 ghost use Rattle.lower_expressions.specs.View.{view_layout};
-ghost use Rattle.lower_quick.specs.View.{view_source, view_sum, view_update};
+ghost use Rattle.lower_quick.specs.View.{view_holder, view_source, view_sum, view_update};
 ghost use Rattle.lowering.specs.Parts.{field_asked};
-ghost use Rattle.lowering.specs.QuickFits.{SourceFits, SumFits};
+ghost use Rattle.lowering.specs.QuickFits.{HolderFits, SourceFits, SumFits};
 
 use crate::evaluating::answered;
 use crate::lists::{call_of, listed};
-use crate::quick::sum_op;
+use crate::quick::{name_put, name_read, sum_op};
 use awk_text::MAX_NUMBER;
 use awk_values::Fault;
-use lower_expressions::{FunctionLayout, field_at, global_handle, global_number, text_dropped};
+use lower_expressions::{FunctionLayout, field_at, global_handle, text_dropped};
 use lower_pieces::{
     Form, TEXT_BESIDE, copied_by, does, does_all, either, fail_if, number_is, to_number, when,
 };
-use lower_quick::{Source, Sum, Update};
+use lower_quick::{Holder, Source, Sum, Update};
 use sem_primitives::{Answer, Primitive, Sort};
 use std::alloc::AllocError;
 use wasm_types::{IBinOp, IRelOp, Instr, Simple, ValType};
@@ -48,7 +48,7 @@ fn number_there(
 }
 
 /// Makes a number of what a name has that has none, from within one label more: what is no number yet is 0.
-fn number_found(
+fn name_found(
     layout: &FunctionLayout<'_>,
     out: &mut Vec<Instr>,
     name: usize,
@@ -59,7 +59,7 @@ fn number_found(
     requires places { temporary ≤ most_places }
     requires labels { suc (suc exit) ≤ most_labels }
     ensures { OnOk result (Emits out.old.items out.new.items
-        (number_found (view_layout layout.now) name temporary exit)) }
+        (number_found (view_layout layout.now) (OfName name) temporary exit)) }
 {
     let local = layout.bases.number(temporary);
     number_is(out, local, TEXT_BESIDE)?;
@@ -70,22 +70,45 @@ fn number_found(
     either(layout.alloc, out, some, none)
 }
 
+/// The same of a parameter too, beside which no text stands.
+fn number_found(
+    layout: &FunctionLayout<'_>,
+    out: &mut Vec<Instr>,
+    name: Holder,
+    temporary: u32,
+    exit: u32,
+) -> Result<(), AllocError>
+    requires name { HolderFits (view_holder name) }
+    requires places { temporary ≤ most_places }
+    requires labels { suc (suc exit) ≤ most_labels }
+    ensures { OnOk result (Emits out.old.items out.new.items
+        (number_found (view_layout layout.now) (view_holder name) temporary exit)) }
+{
+    match name {
+        Holder::Name(name) => name_found(layout, out, name, temporary, exit),
+        Holder::Parameter(_) => {
+            let local = layout.bases.number(temporary);
+            does_all(out, &[Simple::I64Const(0), Simple::LocalSet(local)])
+        }
+    }
+}
+
 /// Puts a name's number into a temporary.
 fn name_numbered(
     layout: &FunctionLayout<'_>,
     out: &mut Vec<Instr>,
-    name: usize,
+    name: Holder,
     temporary: u32,
     exit: u32,
 ) -> Result<(), AllocError>
-    requires name { name ≤ most_places }
+    requires name { HolderFits (view_holder name) }
     requires places { temporary ≤ most_places }
     requires labels { suc (suc exit) ≤ most_labels }
     ensures { OnOk result (Emits out.old.items out.new.items
-        (name_numbered (view_layout layout.now) name temporary exit)) }
+        (name_numbered (view_layout layout.now) (view_holder name) temporary exit)) }
 {
     let all = [
-        Simple::GlobalGet(global_number(layout, name)),
+        name_read(layout, name),
         Simple::LocalTee(layout.bases.number(temporary)),
         Simple::I64Const(TEXT_BESIDE),
         Simple::Compare(ValType::I64, IRelOp::LeS),
@@ -111,7 +134,7 @@ fn source_numbered(
         (source_numbered (view_layout layout.now) (view_source source) temporary exit)) }
 {
     match source {
-        Source::Named(name) => name_numbered(layout, out, name, temporary, exit),
+        Source::Held(name) => name_numbered(layout, out, name, temporary, exit),
         Source::Constant(_) => Ok(()),
     }
 }
@@ -128,7 +151,7 @@ fn source_taken(
         (source_taken (view_layout layout.now) (view_source source) temporary)) }
 {
     match source {
-        Source::Named(_) => does(out, Simple::LocalGet(layout.bases.number(temporary))),
+        Source::Held(_) => does(out, Simple::LocalGet(layout.bases.number(temporary))),
         Source::Constant(number) => does(out, Simple::I64Const(number.cast_unsigned())),
     }
 }
@@ -158,24 +181,40 @@ pub(crate) fn sum_kept(
     fail_if(layout.alloc, out, Fault::Range, exit)
 }
 
+/// Drops the text beside a name, if there is one. None stands beside a parameter.
+fn holder_cleared(
+    layout: &FunctionLayout<'_>,
+    out: &mut Vec<Instr>,
+    name: Holder,
+) -> Result<(), AllocError>
+    requires { HolderFits (view_holder name) }
+    ensures { OnOk result (Emits out.old.items out.new.items
+        (holder_cleared (view_layout layout.now) (view_holder name))) }
+{
+    match name {
+        Holder::Name(name) => text_dropped(layout, out, name),
+        Holder::Parameter(_) => Ok(()),
+    }
+}
+
 /// A name takes what an operator gives of two numbers on the stack.
 fn sum_taken(
     layout: &FunctionLayout<'_>,
     out: &mut Vec<Instr>,
     op: IBinOp,
-    name: usize,
+    name: Holder,
     exit: u32,
 ) -> Result<(), AllocError>
-    requires name { name ≤ most_places }
+    requires name { HolderFits (view_holder name) }
     requires labels { exit ≤ most_labels }
-    ensures { OnOk result
-        (Emits out.old.items out.new.items (sum_taken (view_layout layout.now) op name 0 exit)) }
+    ensures { OnOk result (Emits out.old.items out.new.items
+        (sum_taken (view_layout layout.now) op (view_holder name) 0 exit)) }
 {
     sum_kept(layout, out, op, 0, exit)?;
-    text_dropped(layout, out, name)?;
+    holder_cleared(layout, out, name)?;
     let all = [
         Simple::LocalGet(layout.bases.number(0)),
-        Simple::GlobalSet(global_number(layout, name)),
+        name_put(layout, name),
     ];
     does_all(out, &all)
 }
@@ -203,14 +242,14 @@ pub(crate) fn summed_anyway(
 fn field_asked(
     layout: &FunctionLayout<'_>,
     out: &mut Vec<Instr>,
-    name: usize,
+    name: Holder,
     number: i64,
     exit: u32,
 ) -> Result<(), AllocError>
-    requires name { name ≤ most_places }
+    requires name { HolderFits (view_holder name) }
     requires labels { suc (suc exit) ≤ most_labels }
     ensures { OnOk result (Emits out.old.items out.new.items
-        (field_asked (view_layout layout.now) name number exit)) }
+        (field_asked (view_layout layout.now) (view_holder name) number exit)) }
 {
     name_numbered(layout, out, name, 0, exit)?;
     let all = [
@@ -229,7 +268,7 @@ fn added_asked(
     update: Update<'_>,
     exit: u32,
 ) -> Result<(), AllocError>
-    requires name { update.name ≤ most_places }
+    requires name { HolderFits (view_holder update.name) }
     requires fit { Fits (view_layout layout.now) (view update.added.now) 0 0 exit }
     requires labels { suc (suc exit) ≤ most_labels }
     ensures { OnOk result (Emits out.old.items out.new.items
@@ -252,7 +291,7 @@ fn both_asked(
     update: Update<'_>,
     exit: u32,
 ) -> Result<(), AllocError>
-    requires name { update.name ≤ most_places }
+    requires name { HolderFits (view_holder update.name) }
     requires fit { Fits (view_layout layout.now) (view update.added.now) 0 0 exit }
     requires labels { suc (suc exit) ≤ most_labels }
     ensures { OnOk result (Emits out.old.items out.new.items (both_asked (view_layout layout.now)
@@ -271,8 +310,8 @@ pub(crate) fn updated(
     update: Update<'_>,
     exit: u32,
 ) -> Result<(), AllocError>
-    requires target { update.target ≤ most_places }
-    requires name { update.name ≤ most_places }
+    requires target { HolderFits (view_holder update.target) }
+    requires name { HolderFits (view_holder update.name) }
     requires fit { Fits (view_layout layout.now) (view update.added.now) 0 0 exit }
     requires labels { suc (suc exit) ≤ most_labels }
     ensures { OnOk result (Emits out.old.items out.new.items

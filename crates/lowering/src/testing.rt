@@ -4,13 +4,13 @@ ghost use Rattle.wasm_types.specs.Syntax.{Done};
 ghost use Rattle.mid_program.specs.ViewCode.{view};
 ghost use Rattle.lower_model.specs.Quick.{pair_in, test_within};
 ghost use Rattle.lower_model.specs.Statements.{left_unless, left_unless_pair};
-ghost use Rattle.lower_pieces.specs.Bounds.{most_labels, most_places};
+ghost use Rattle.lower_pieces.specs.Bounds.{most_labels};
 ghost use Rattle.lower_pieces.specs.Emits.{Emits};
 ghost use Rattle.lower_expressions.specs.Fits.{Fits};
 ghost use Rattle.lower_expressions.specs.View.{view_layout};
-ghost use Rattle.lower_quick.specs.View.{view_counted, view_pair, view_within};
+ghost use Rattle.lower_quick.specs.View.{view_counted, view_holder, view_pair, view_within};
 ghost use Rattle.lowering.specs.Parts.{counted_tested, pair_tested, test_left, within_tested};
-ghost use Rattle.lowering.specs.QuickFits.{PairFits};
+ghost use Rattle.lowering.specs.QuickFits.{HolderFits, PairFits};
 ghost use Rattle.lowering.specs.StepFits.{TestFits};
 
 use crate::evaluating::tested;
@@ -100,7 +100,7 @@ fn counted_tested(
 ) -> Result<(), AllocError>
     requires labels { suc exit ≤ most_labels }
     requires label { label ≤ exit }
-    requires name { counted.name ≤ most_places }
+    requires name { HolderFits (view_holder counted.name) }
     requires fit { Fits (view_layout layout.now) (view test.now) 0 0 (suc exit) }
     ensures { OnOk result (Emits out.old.items out.new.items (counted_tested
         (view_layout layout.now) (view_counted counted) (view test.now) exit label)) }
@@ -145,7 +145,7 @@ fn within_tested(
 ) -> Result<(), AllocError>
     requires labels { suc exit ≤ most_labels }
     requires label { label ≤ exit }
-    requires name { within.name ≤ most_places }
+    requires name { HolderFits (view_holder within.name) }
     requires fit { Fits (view_layout layout.now) (view test.now) 0 0 (suc exit) }
     ensures { OnOk result (Emits out.old.items out.new.items
         (within_tested (view_layout layout.now) (view_within within) (view test.now) exit label)) }

@@ -7,11 +7,14 @@ use Rattle.mid_program.specs.declared.mid.Arithmetic.TheVariants.{Minus, Modulo,
 use Rattle.mid_program.specs.declared.mid.Operation.TheVariants.{AsNumber, Host, Inline}
 use Rattle.mid_program.specs.Mid.{Array, At, Block, Bound, Break, Code, Compare, Continue, Do, Each, End, Eval, Fixed, Get, Global, If, Let, Loop, NoStep, Number, Parameter, Seq, Set, Step, Then}
 use Rattle.sem_scripts.specs.Names.{Numbered}
-use Rattle.lower_model.specs.Quick.{Constant, Named, counted_in, is_nothing, most_multiplied, pair_in, remainder_in, remainder_names, step_jumps, sum_in, sum_names, tally_in, test_within, update_in}
+use Rattle.lower_model.specs.Quick.{Constant, Held, OfName, OfParameter, counted_in, is_nothing, most_multiplied, pair_in, remainder_in, remainder_names, step_jumps, sum_in, sum_names, tally_in, test_within, update_in}
 
--- unboxed names
+-- unboxed names and parameters
 abbrev name : ℕ → Code
 name i = Get (Global true i)
+
+abbrev parameter : ℕ → Code
+parameter i = Get (Parameter true i)
 
 abbrev joined : Arithmetic → Code → Code → Code
 joined o a b = Do (Inline o) (At a (At b End))
@@ -26,22 +29,23 @@ updated i o e = Let e (assigned i (joined o (name i) (Bound true 0)))
 abbrev stepped : ℕ → Arithmetic → Code
 stepped i o = Let (Do AsNumber (At (name i) End)) (Let (joined o (Bound false 0) (Number (pos 1))) (Seq (assigned i (Bound true 0)) (Bound true 1)))
 
-pub sums : (sum_in (assigned 7 (joined Plus (name 7) (Number (pos 1)))) ≡ Some (record { target = 7; op = Plus; left = Named 7; right = Constant (pos 1) }))
-    × ((sum_in (assigned 7 (joined Minus (name 5) (name 6))) ≡ Some (record { target = 7; op = Minus; left = Named 5; right = Named 6 }))
-    × ((sum_in (updated 7 Plus (name 5)) ≡ Some (record { target = 7; op = Plus; left = Named 7; right = Named 5 }))
-    × (sum_in (stepped 7 Minus) ≡ Some (record { target = 7; op = Minus; left = Named 7; right = Constant (pos 1) }))))
-sums = (refl, (refl, (refl, refl)))
+pub sums : (sum_in (assigned 7 (joined Plus (name 7) (Number (pos 1)))) ≡ Some (record { target = OfName 7; op = Plus; left = Held (OfName 7); right = Constant (pos 1) }))
+    × ((sum_in (assigned 7 (joined Minus (name 5) (name 6))) ≡ Some (record { target = OfName 7; op = Minus; left = Held (OfName 5); right = Held (OfName 6) }))
+    × ((sum_in (updated 7 Plus (name 5)) ≡ Some (record { target = OfName 7; op = Plus; left = Held (OfName 7); right = Held (OfName 5) }))
+    × (sum_in (stepped 7 Minus) ≡ Some (record { target = OfName 7; op = Minus; left = Held (OfName 7); right = Constant (pos 1) }))
+    × (sum_in (Set (Parameter true 0) (joined Plus (parameter 0) (name 7))) ≡ Some (record { target = OfParameter 0; op = Plus; left = Held (OfParameter 0); right = Held (OfName 7) })))))
+sums = (refl, (refl, (refl, (refl, refl))))
 
--- a product, a boxed name, a parameter, a constant past 2^52, a sum of a sum
+-- a product, a boxed name, a boxed parameter, a constant past 2^52, a sum of a sum
 pub no_sums : (sum_in (assigned 7 (joined Times (name 7) (Number (pos 2)))) ≡ None)
     × ((sum_in (Set (Global false 7) (joined Plus (name 7) (Number (pos 1)))) ≡ None)
-    × ((sum_in (Set (Parameter true 0) (joined Plus (name 7) (Number (pos 1)))) ≡ None)
+    × ((sum_in (Set (Parameter false 0) (joined Plus (name 7) (Number (pos 1)))) ≡ None)
     × ((sum_in (assigned 7 (joined Plus (name 7) (Number (pos (2 ^ 52 + 1))))) ≡ None)
     × (sum_in (assigned 7 (joined Plus (joined Plus (name 5) (name 6)) (Number (pos 1)))) ≡ None))))
 no_sums = (refl, (refl, (refl, (refl, refl))))
 
 -- what is added is no source, and is evaluated first; a product has no such way
-pub updates : (update_in (updated 7 Minus (Get (Global false 5))) ≡ Some (record { target = 7; op = Minus; name = 7; added = Get (Global false 5) }))
+pub updates : (update_in (updated 7 Minus (Get (Global false 5))) ≡ Some (record { target = OfName 7; op = Minus; name = OfName 7; added = Get (Global false 5) }))
     × ((update_in (updated 7 Times (Get (Global false 5))) ≡ None)
     × (update_in (assigned 7 (joined Plus (name 7) (Get (Global false 5)))) ≡ None))
 updates = (refl, (refl, refl))
@@ -81,20 +85,22 @@ no_counters = (refl, (refl, refl))
 
 -- `x = x % 7`, `x = y * 3 % 7`, and constants less than 0
 pub remainders : (remainder_in (assigned 7 (joined Modulo (name 7) (Number (pos 7))))
-    ≡ Some (record { target = 7; multiple = record { name = 7; factor = None }; divisor = pos 7 }))
+    ≡ Some (record { target = OfName 7; multiple = record { name = OfName 7; factor = None }; divisor = pos 7 }))
     × ((remainder_in (assigned 7 (joined Modulo (joined Times (name 5) (Number (pos 3))) (Number (pos 7))))
-    ≡ Some (record { target = 7; multiple = record { name = 5; factor = Some (pos 3) }; divisor = pos 7 }))
+    ≡ Some (record { target = OfName 7; multiple = record { name = OfName 5; factor = Some (pos 3) }; divisor = pos 7 }))
     × (remainder_in (assigned 7 (joined Modulo (joined Times (name 7) (Number (negsuc 2))) (Number (negsuc 6))))
-    ≡ Some (record { target = 7; multiple = record { name = 7; factor = Some (negsuc 2) }; divisor = negsuc 6 })))
-remainders = (refl, (refl, refl))
+    ≡ Some (record { target = OfName 7; multiple = record { name = OfName 7; factor = Some (negsuc 2) }; divisor = negsuc 6 }))
+    × (remainder_in (Set (Parameter true 0) (joined Modulo (parameter 1) (Number (pos 7))))
+    ≡ Some (record { target = OfParameter 0; multiple = record { name = OfParameter 1; factor = None }; divisor = pos 7 }))))
+remainders = (refl, (refl, (refl, refl)))
 
--- 0 as a factor or a divisor, a quotient, a product alone, a boxed name, and a parameter
+-- 0 as a factor or a divisor, a quotient, a product alone, a boxed name, and a boxed parameter
 pub no_remainders : (remainder_in (assigned 7 (joined Modulo (joined Times (name 7) (Number (pos 0))) (Number (pos 7)))) ≡ None)
     × ((remainder_in (assigned 7 (joined Modulo (name 7) (Number (pos 0)))) ≡ None)
     × ((remainder_in (assigned 7 (joined Over (name 7) (Number (pos 7)))) ≡ None)
     × ((remainder_in (assigned 7 (joined Times (name 7) (Number (pos 3)))) ≡ None)
     × ((remainder_in (assigned 7 (joined Modulo (Get (Global false 5)) (Number (pos 7)))) ≡ None)
-    × (remainder_in (Set (Parameter true 0) (joined Modulo (name 7) (Number (pos 7)))) ≡ None)))))
+    × (remainder_in (Set (Parameter false 0) (joined Modulo (name 7) (Number (pos 7)))) ≡ None)))))
 no_remainders = (refl, (refl, (refl, (refl, (refl, refl)))))
 
 -- so far a product with 3 is in range, and with the greatest constant; the target is asked too, and each name once
@@ -102,30 +108,31 @@ pub multiplied_most : (most_multiplied (Some (pos 3)) ≡ 3002399751580330)
     × ((most_multiplied (Some (negsuc (2 ^ 53 - 1))) ≡ 1) × (most_multiplied None ≡ 2 ^ 53))
 multiplied_most = (refl, (refl, refl))
 
-pub remainder_asks : (remainder_names (record { target = 7; multiple = record { name = 7; factor = None }; divisor = pos 7 }) ≡ 7 ∷ [])
-    × (remainder_names (record { target = 7; multiple = record { name = 5; factor = Some (pos 3) }; divisor = pos 7 }) ≡ 7 ∷ (5 ∷ []))
+pub remainder_asks : (remainder_names (record { target = OfName 7; multiple = record { name = OfName 7; factor = None }; divisor = pos 7 }) ≡ OfName 7 ∷ [])
+    × (remainder_names (record { target = OfName 7; multiple = record { name = OfName 5; factor = Some (pos 3) }; divisor = pos 7 }) ≡ OfName 7 ∷ (OfName 5 ∷ []))
 remainder_asks = (refl, refl)
 
 -- NF has the number 5
-pub counts : (counted_in (Compare LessOrEqual (name 7) (Do (Host GetSpecial) (Fixed 5 End))) ≡ Some (record { op = LessOrEqual; name = 7 }))
+pub counts : (counted_in (Compare LessOrEqual (name 7) (Do (Host GetSpecial) (Fixed 5 End))) ≡ Some (record { op = LessOrEqual; name = OfName 7 }))
     × ((counted_in (Compare LessOrEqual (name 7) (Do (Host GetSpecial) (Fixed 6 End))) ≡ None)
     × (counted_in (Compare LessOrEqual (Get (Global false 7)) (Do (Host GetSpecial) (Fixed 5 End))) ≡ None))
 counts = (refl, (refl, refl))
 
--- the target is asked too, and each name once
-pub asked_once : (sum_names (record { target = 7; op = Plus; left = Named 7; right = Named 7 }) ≡ 7 ∷ [])
-    × (sum_names (record { target = 7; op = Plus; left = Named 5; right = Constant (pos 1) }) ≡ 7 ∷ (5 ∷ []))
-asked_once = (refl, refl)
+-- the target is asked too, and each name once; a parameter is no name of the same number
+pub asked_once : (sum_names (record { target = OfName 7; op = Plus; left = Held (OfName 7); right = Held (OfName 7) }) ≡ OfName 7 ∷ [])
+    × ((sum_names (record { target = OfName 7; op = Plus; left = Held (OfName 5); right = Constant (pos 1) }) ≡ OfName 7 ∷ (OfName 5 ∷ []))
+    × (sum_names (record { target = OfName 7; op = Plus; left = Held (OfParameter 7); right = Held (OfParameter 7) }) ≡ OfName 7 ∷ (OfParameter 7 ∷ [])))
+asked_once = (refl, (refl, refl))
 
 -- `n < 5` is sure from -2^53 to 4, `n <= 5` to 5; none is below -2^53; of other comparisons the bounds are not told
-pub within_bounds : (test_within (Compare Less (name 7) (Number (pos 5))) ≡ Some (record { name = 7; shift = pos (2 ^ 53); width = 2 ^ 53 + 4 }))
-    × ((test_within (Compare LessOrEqual (name 7) (Number (pos 5))) ≡ Some (record { name = 7; shift = pos (2 ^ 53); width = 2 ^ 53 + 5 }))
+pub within_bounds : (test_within (Compare Less (name 7) (Number (pos 5))) ≡ Some (record { name = OfName 7; shift = pos (2 ^ 53); width = 2 ^ 53 + 4 }))
+    × ((test_within (Compare LessOrEqual (name 7) (Number (pos 5))) ≡ Some (record { name = OfName 7; shift = pos (2 ^ 53); width = 2 ^ 53 + 5 }))
     × ((test_within (Compare Less (name 7) (Number (negsuc (2 ^ 53 - 1)))) ≡ None)
     × (test_within (Compare Equal (name 7) (Number (pos 5))) ≡ None)))
 within_bounds = (refl, (refl, (refl, refl)))
 
-pub pairs : (pair_in (Compare Equal (name 7) (Number (pos 5))) ≡ Some (record { op = Equal; left = Named 7; right = Constant (pos 5) }))
-    × ((pair_in (Compare Less (name 5) (name 7)) ≡ Some (record { op = Less; left = Named 5; right = Named 7 }))
+pub pairs : (pair_in (Compare Equal (name 7) (Number (pos 5))) ≡ Some (record { op = Equal; left = Held (OfName 7); right = Constant (pos 5) }))
+    × ((pair_in (Compare Less (name 5) (parameter 7)) ≡ Some (record { op = Less; left = Held (OfName 5); right = Held (OfParameter 7) }))
     × (pair_in (Compare Less (Get (Global false 5)) (name 7)) ≡ None))
 pairs = (refl, (refl, refl))
 

@@ -11,5 +11,5 @@ pub returns : goal.returns
 returns c =
     let y = view_layout c.args.layout.now in
     let s = view_sum c.args.sum in
-    let all = rw (c.source_read.ensures, c.source_read-2.ensures, c.sum_op.ensures, c.global_number.ensures) at c.listed.ensures in
+    let all = rw (c.source_read.ensures, c.source_read-2.ensures, c.sum_op.ensures, c.name_put.ensures) at c.listed.ensures in
     IfOk-weaker c.listed.result _ (λ code. Emits [] code.items (summed y s)) (λ code h k. h k ∙ two_read y s.left s.right _) all

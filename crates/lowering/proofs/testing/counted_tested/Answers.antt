@@ -6,7 +6,7 @@ use Rattle.lower_model.specs.Small.{either}
 use Rattle.lower_model.specs.Statements.{counted_left}
 use Rattle.lower_pieces.proofs.Appended.{emits_then}
 use Rattle.lower_expressions.specs.View.{view_layout}
-use Rattle.lower_quick.specs.View.{view_counted}
+use Rattle.lower_quick.specs.View.{view_counted, view_holder}
 use Rattle.lowering.specs.Parts.{test_left, unnumbered}
 use Rattle.lowering.proofs.testing.counted_tested.Goals as goal
 
@@ -16,5 +16,5 @@ returns c =
     let slow : Instructions → Instructions = test_left y (view c.args.test.now) (suc c.args.exit) (suc c.args.label) in
     let quick : Instructions → Instructions = counted_left y (view_counted c.args.counted) (suc c.args.label) in
     on_ok_weaker c.either.result
-    (emits_then (unnumbered y c.args.counted.name) (either (slow Done) (quick Done)) _ _ _ c.in_ok-unnumbered.ensures)
+    (emits_then (unnumbered y (view_holder c.args.counted.name)) (either (slow Done) (quick Done)) _ _ _ c.in_ok-unnumbered.ensures)
     (c.either.ensures slow quick c.in_ok-all_cases.ensures c.in_ok-quick.ensures)

@@ -7,7 +7,7 @@ use Rattle.lower_model.specs.Statements.{number_there}
 use Rattle.lower_pieces.proofs.Appended.{emits_then}
 use Rattle.lower_expressions.specs.View.{view_layout}
 use Rattle.lowering.specs.Parts.{zero_put}
-use Rattle.lowering.proofs.summing.number_found.Goals as goal
+use Rattle.lowering.proofs.summing.name_found.Goals as goal
 
 pub returns : goal.returns
 returns c =
