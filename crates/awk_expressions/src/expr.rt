@@ -10,6 +10,7 @@ ghost use Rattle.awk_expressions.specs.Seen.{seen, seen_tree, seen_part, seen_tr
 
 use crate::contains::{contained, in_array};
 use crate::fault::Refusal;
+use crate::held::push;
 use crate::mode::{Mode, floor, right_of, under};
 use crate::node::{application, call_of, element};
 use crate::parsed::{Parsed, ParsedList, Part, boxed, fitted, within};
@@ -294,7 +295,7 @@ pub fn list<'a>(
 {
     let first = expression(alloc, limit, greater, Mode::Whole, tokens)?;
     let mut trees = Vec::new(alloc);
-    trees.push(first.tree)?;
+    push(&mut trees, first.tree)?;
     let mut depth = first.depth;
     let mut rest = first.rest;
     let turns = rest.len();
@@ -303,7 +304,7 @@ pub fn list<'a>(
             return Ok(ParsedList { trees, depth, rest });
         };
         let next = expression(alloc, limit, greater, Mode::Whole, behind)?;
-        trees.push(next.tree)?;
+        push(&mut trees, next.tree)?;
         depth = depth.max(next.depth);
         rest = next.rest;
     }

@@ -6,7 +6,7 @@ ghost use Rattle.awk_expressions.specs.declared.fault.Refusal.TheVariants.{NoMem
 use std::alloc::{AllocError, AllocFailed};
 
 /// Why reading stopped, with the line of the token at which it did; none: behind the last token.
-#[derive(Clone, Copy, Debug, PartialEq, Eq)]
+#[derive(Clone, Copy)]
 pub enum Refusal {
     /// The tokens do not go on as the grammar wants.
     Syntax(Option<usize>),

@@ -4,6 +4,7 @@
 mod contains;
 mod expr;
 mod fault;
+mod held;
 mod mode;
 mod node;
 mod parsed;

@@ -9,7 +9,7 @@ ghost use Rattle.awk_expressions.specs.Seen.{view_mode};
 use awk_grammar::{BinaryOp, Expr, is_field, level};
 
 /// What an expression must be where it stands: any, or only what binds tighter than what is before it.
-#[derive(Clone, Copy, Debug, PartialEq, Eq)]
+#[derive(Clone, Copy)]
 pub enum Mode {
     Whole,
     AfterOr,

@@ -9,6 +9,7 @@ ghost use Rattle.awk_expressions.specs.Seen.{seen_tree, seen_part, view_mode, Gi
 ghost use Rattle.awk_expressions.specs.declared.fault.Refusal.TheVariants.{NoMemory};
 
 use crate::fault::Refusal;
+use crate::held::on_heap;
 use crate::mode::{Mode, fits, is_normal};
 use crate::peek::{line_of, step, stopped};
 use awk_grammar::Expr;
@@ -45,7 +46,7 @@ pub(crate) fn boxed<'a>(alloc: Global, read: Parsed<'a>) -> Result<Part<'a>, Ref
     ensures depth { IfOk result
         (λ x. (x.tree.value ≡ read.entry.tree) × (x.depth ≡ read.entry.depth)) }
 {
-    let tree = Box::new(alloc, read.tree)?;
+    let tree = on_heap(alloc, read.tree)?;
     Ok(Part {
         tree,
         depth: read.depth,
@@ -80,7 +81,7 @@ fn with_step<'a>(alloc: Global, mode: Mode, bare: Parsed<'a>) -> Result<Parsed<'
     let Some((op, rest)) = step(bare.rest) else {
         return Ok(bare);
     };
-    let inner = Box::new(alloc, bare.tree)?;
+    let inner = on_heap(alloc, bare.tree)?;
     Ok(Parsed {
         tree: Expr::PostStep(op, inner),
         depth: bare.depth + 1,

@@ -5,6 +5,7 @@ ghost use Rattle.awk_kinds.specs.Least.{IsLeast};
 ghost use Rattle.awk_resolve.specs.Marked.{is_marked};
 ghost use Rattle.awk_resolve.specs.Waiting.{Adds, given_for, numbers_at, marked_with, waiting_with};
 
+use crate::held::push;
 use std::alloc::{AllocError, Global};
 
 /// So many lists of no numbers.
@@ -14,7 +15,7 @@ fn no_numbers(alloc: Global, count: usize) -> Result<Vec<Vec<usize>>, AllocError
 {
     let mut lists = Vec::new(alloc);
     for i in 0..count {
-        lists.push(Vec::new(alloc))?;
+        push(&mut lists, Vec::new(alloc))?;
     }
     Ok(lists)
 }

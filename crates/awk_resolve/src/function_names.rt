@@ -8,7 +8,7 @@ use crate::index::place_at;
 use indexmap::IndexMap;
 
 /// A name and its kind.
-#[derive(Clone, Copy, Debug)]
+#[derive(Clone, Copy)]
 pub struct NameKind<'a> {
     pub name: &'a [u8],
     /// Whether it is an array's; a scalar's otherwise.

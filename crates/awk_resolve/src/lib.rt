@@ -10,6 +10,7 @@ mod index;
 mod kinds;
 mod listing;
 mod mark;
+mod mark_list;
 mod refusals;
 mod resolved;
 mod scopes;

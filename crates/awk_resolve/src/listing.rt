@@ -10,6 +10,7 @@ ghost use Rattle.awk_resolve.specs.ViewFunctions.{view_functions};
 ghost use Rattle.awk_resolve.specs.ViewSets.{variables_in, arrays_in};
 
 use crate::function_names::{FunctionNames, NameKind};
+use crate::held::push;
 use crate::index::places_of;
 use crate::scopes::{Head, Variable};
 use crate::sets::Kinds;
@@ -116,7 +117,7 @@ fn function_kinds<'a>(
 {
     let mut found = Vec::new(alloc);
     for head in heads {
-        found.push(function_names(alloc, kinds, *head)?)?;
+        push(&mut found, function_names(alloc, kinds, *head)?)?;
     }
     Ok(found)
 }

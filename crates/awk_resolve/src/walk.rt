@@ -1,22 +1,14 @@
 //! The marks of an expression.
 
-ghost use Rattle.std.specs.Prelude.{◌≡◌, ◌++◌, ◌∷◌, [], OnOk};
+ghost use Rattle.std.specs.Prelude.{◌≡◌, ◌++◌, ◌∷◌, []};
 ghost use Rattle.awk_grammar.specs.Tree.{Index, Call};
 ghost use Rattle.awk_grammar.specs.View.{view, views};
-ghost use Rattle.awk_kinds.specs.Marks.{Array, Used, bare_name, array_name, computed_marks, marks, all_marks, argument_marks, operand_marks};
-ghost use Rattle.awk_resolve.specs.View.{view_mark, view_place, AddsMarks};
+ghost use Rattle.awk_kinds.specs.Marks.{Array, Computed, Given, Used, bare_name, array_name, computed_marks, named_or, unless_named, marks, all_marks, argument_marks, operand_marks};
+ghost use Rattle.awk_resolve.specs.View.{view_place, AddsMarks};
 
 use crate::mark::{Kind, Mark};
+use crate::mark_list::Marks;
 use awk_grammar::{Builtin, Expr};
-use std::alloc::AllocError;
-
-/// Adds a mark.
-pub(crate) fn put<'a>(out: &mut Vec<Mark<'a>>, mark: Mark<'a>) -> Result<(), AllocError>
-    ensures { OnOk result (AddsMarks out.old out.new (view_mark mark.entry ∷ [])) }
-{
-    out.push(mark)?;
-    Ok(())
-}
 
 /// The name that an expression is, if it is a bare name.
 fn bare_name(e: &Expr) -> Option<&[u8]>
@@ -58,36 +50,34 @@ fn array_name(function: Builtin, argument: usize, e: &Expr) -> Option<&[u8]>
     }
 }
 
+/// Adds an argument, if it is no bare name.
+fn put_computed<'a>(out: &mut Marks<'a>, function: &'a [u8], argument: usize, e: &'a Expr)
+    ensures { AddsMarks out.old out.new
+        (unless_named (Computed function.now argument) (bare_name (view e.now))) }
+{
+    match bare_name(e) {
+        Some(_) => {}
+        None => out.put(Mark::Computed(function, argument)),
+    }
+}
+
 /// Adds the arguments that are no bare names.
-fn push_computed<'a>(
-    out: &mut Vec<Mark<'a>>,
-    function: &'a [u8],
-    arguments: &'a [Expr],
-) -> Result<(), AllocError>
-    ensures { OnOk result
-        (AddsMarks out.old out.new (computed_marks function.now 0 (views arguments.now))) }
+fn push_computed<'a>(out: &mut Marks<'a>, function: &'a [u8], arguments: &'a [Expr])
+    ensures { AddsMarks out.old out.new (computed_marks function.now 0 (views arguments.now)) }
 {
     for i in 0..arguments.len() {
-        if bare_name(&arguments[i]).is_none() {
-            put(out, Mark::Computed(function, i))?;
-        }
+        put_computed(out, function, i, &arguments[i]);
     }
-    Ok(())
 }
 
 /// Adds the marks of an expression that stands in a place.
 #[cycle(walk)]
-pub(crate) fn push_expr<'a>(
-    out: &mut Vec<Mark<'a>>,
-    place: Option<&'a [u8]>,
-    e: &'a Expr,
-) -> Result<(), AllocError>
-    ensures { OnOk result
-        (AddsMarks out.old out.new (marks (view_place place.entry) (view e.now))) }
+pub(crate) fn push_expr<'a>(out: &mut Marks<'a>, place: Option<&'a [u8]>, e: &'a Expr)
+    ensures { AddsMarks out.old out.new (marks (view_place place.entry) (view e.now)) }
 {
     match e {
-        Expr::Number(_) | Expr::Str(_) | Expr::Ere(_) | Expr::Length | Expr::Getline => Ok(()),
-        Expr::Var(name) => put(out, Mark::Used(Kind::Scalar, place, name)),
+        Expr::Number(_) | Expr::Str(_) | Expr::Ere(_) | Expr::Length | Expr::Getline => {}
+        Expr::Var(name) => out.put(Mark::Used(Kind::Scalar, place, name)),
         Expr::Element(name, subscripts) => push_element(out, place, name, subscripts),
         Expr::Field(inner)
         | Expr::Group(inner)
@@ -99,21 +89,21 @@ pub(crate) fn push_expr<'a>(
         Expr::Call(name, arguments) => push_call(out, place, name, arguments),
         Expr::Apply(function, arguments) => push_operands(out, place, *function, arguments),
         Expr::Binary(_, a, b) | Expr::Assign(_, a, b) | Expr::GetlineIntoFrom(a, b) => {
-            push_expr(out, place, a)?;
-            push_expr(out, place, b)
+            push_expr(out, place, a);
+            push_expr(out, place, b);
         }
-        Expr::In(a, name) => {
-            push_expr(out, place, a)?;
-            put(out, Mark::Used(Kind::Array, place, name))
+        Expr::In(subscript, array) => {
+            push_expr(out, place, subscript);
+            out.put(Mark::Used(Kind::Array, place, array));
         }
-        Expr::InList(first, others, name) => {
-            push_expr(out, place, first)?;
-            push_others(out, place, others, name)
+        Expr::InList(first, others, array) => {
+            push_expr(out, place, first);
+            push_others(out, place, others, array);
         }
         Expr::Conditional(a, b, c) => {
-            push_expr(out, place, a)?;
-            push_expr(out, place, b)?;
-            push_expr(out, place, c)
+            push_expr(out, place, a);
+            push_expr(out, place, b);
+            push_expr(out, place, c);
         }
     }
 }
@@ -121,100 +111,124 @@ pub(crate) fn push_expr<'a>(
 /// Adds the marks of an array's name and its subscripts.
 #[cycle(walk)]
 pub(crate) fn push_element<'a>(
-    out: &mut Vec<Mark<'a>>,
+    out: &mut Marks<'a>,
     place: Option<&'a [u8]>,
     name: &'a [u8],
     subscripts: &'a [Expr],
-) -> Result<(), AllocError>
-    ensures { OnOk result (AddsMarks out.old out.new
-        (marks (view_place place.entry) (Index name.now (views subscripts.now)))) }
+)
+    ensures { AddsMarks out.old out.new
+        (marks (view_place place.entry) (Index name.now (views subscripts.now))) }
 {
-    put(out, Mark::Used(Kind::Array, place, name))?;
-    push_all(out, place, subscripts)
+    out.put(Mark::Used(Kind::Array, place, name));
+    push_all(out, place, subscripts);
 }
 
 #[cycle(walk)]
 fn push_call<'a>(
-    out: &mut Vec<Mark<'a>>,
+    out: &mut Marks<'a>,
     place: Option<&'a [u8]>,
     name: &'a [u8],
     arguments: &'a [Expr],
-) -> Result<(), AllocError>
-    ensures { OnOk result (AddsMarks out.old out.new
-        (marks (view_place place.entry) (Call name.now (views arguments.now)))) }
+)
+    ensures { AddsMarks out.old out.new
+        (marks (view_place place.entry) (Call name.now (views arguments.now))) }
 {
-    put(out, Mark::Called(name, arguments.len()))?;
-    push_computed(out, name, arguments)?;
-    push_arguments(out, place, name, arguments)
+    out.put(Mark::Called(name, arguments.len()));
+    push_computed(out, name, arguments);
+    push_arguments(out, place, name, arguments);
 }
 
 /// Adds the marks of the further subscripts that are looked for in an array, and of its name.
 #[cycle(walk)]
 fn push_others<'a>(
-    out: &mut Vec<Mark<'a>>,
+    out: &mut Marks<'a>,
     place: Option<&'a [u8]>,
     others: &'a [Expr],
-    name: &'a [u8],
-) -> Result<(), AllocError>
-    ensures { OnOk result (AddsMarks out.old out.new (all_marks (view_place place.entry)
-        (views others.now) ++ Used Array (view_place place.entry) name.now ∷ [])) }
+    array: &'a [u8],
+)
+    ensures { AddsMarks out.old out.new (all_marks (view_place place.entry)
+        (views others.now) ++ Used Array (view_place place.entry) array.now ∷ []) }
 {
-    push_all(out, place, others)?;
-    put(out, Mark::Used(Kind::Array, place, name))
+    push_all(out, place, others);
+    out.put(Mark::Used(Kind::Array, place, array));
 }
 
 /// Adds the marks of expressions.
 #[cycle(walk)]
-pub(crate) fn push_all<'a>(
-    out: &mut Vec<Mark<'a>>,
-    place: Option<&'a [u8]>,
-    es: &'a [Expr],
-) -> Result<(), AllocError>
-    ensures { OnOk result
-        (AddsMarks out.old out.new (all_marks (view_place place.entry) (views es.now))) }
+pub(crate) fn push_all<'a>(out: &mut Marks<'a>, place: Option<&'a [u8]>, es: &'a [Expr])
+    ensures { AddsMarks out.old out.new (all_marks (view_place place.entry) (views es.now)) }
 {
     for e in es {
-        push_expr(out, place, e)?;
+        push_expr(out, place, e);
     }
-    Ok(())
+}
+
+/// Adds the marks of an argument of a call.
+#[cycle(walk)]
+fn push_argument<'a>(
+    out: &mut Marks<'a>,
+    place: Option<&'a [u8]>,
+    function: &'a [u8],
+    argument: usize,
+    e: &'a Expr,
+)
+    ensures { AddsMarks out.old out.new
+        (named_or (Given function.now argument (view_place place.entry)) (bare_name (view e.now))
+        (marks (view_place place.entry) (view e.now))) }
+{
+    match bare_name(e) {
+        Some(name) => out.put(Mark::Given(function, argument, place, name)),
+        None => push_expr(out, place, e),
+    }
 }
 
 /// Adds the marks of a call's arguments.
 #[cycle(walk)]
 fn push_arguments<'a>(
-    out: &mut Vec<Mark<'a>>,
+    out: &mut Marks<'a>,
     place: Option<&'a [u8]>,
     function: &'a [u8],
     arguments: &'a [Expr],
-) -> Result<(), AllocError>
-    ensures { OnOk result (AddsMarks out.old out.new
-        (argument_marks (view_place place.entry) function.now 0 (views arguments.now))) }
+)
+    ensures { AddsMarks out.old out.new
+        (argument_marks (view_place place.entry) function.now 0 (views arguments.now)) }
 {
     for i in 0..arguments.len() {
-        match bare_name(&arguments[i]) {
-            Some(name) => put(out, Mark::Given(function, i, place, name))?,
-            None => push_expr(out, place, &arguments[i])?,
-        }
+        push_argument(out, place, function, i, &arguments[i]);
     }
-    Ok(())
+}
+
+/// Adds the marks of an argument of a built-in function.
+#[cycle(walk)]
+fn push_operand<'a>(
+    out: &mut Marks<'a>,
+    place: Option<&'a [u8]>,
+    function: Builtin,
+    argument: usize,
+    e: &'a Expr,
+)
+    ensures { AddsMarks out.old out.new (named_or (Used Array (view_place place.entry))
+        (array_name function argument (view e.now))
+        (marks (view_place place.entry) (view e.now))) }
+{
+    match array_name(function, argument, e) {
+        Some(name) => out.put(Mark::Used(Kind::Array, place, name)),
+        None => push_expr(out, place, e),
+    }
 }
 
 /// Adds the marks of a built-in function's arguments.
 #[cycle(walk)]
 fn push_operands<'a>(
-    out: &mut Vec<Mark<'a>>,
+    out: &mut Marks<'a>,
     place: Option<&'a [u8]>,
     function: Builtin,
     arguments: &'a [Expr],
-) -> Result<(), AllocError>
-    ensures { OnOk result (AddsMarks out.old out.new
-        (operand_marks (view_place place.entry) function 0 (views arguments.now))) }
+)
+    ensures { AddsMarks out.old out.new
+        (operand_marks (view_place place.entry) function 0 (views arguments.now)) }
 {
     for i in 0..arguments.len() {
-        match array_name(function, i, &arguments[i]) {
-            Some(name) => put(out, Mark::Used(Kind::Array, place, name))?,
-            None => push_expr(out, place, &arguments[i])?,
-        }
+        push_operand(out, place, function, i, &arguments[i]);
     }
-    Ok(())
 }

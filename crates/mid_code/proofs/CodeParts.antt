@@ -7,10 +7,16 @@ use Rattle.std.specs.Int.{from_bool}
 use Rattle.std.specs.Borrow.{Bor}
 use Rattle.std.proofs.Math.ListN.{drop_of_length-le}
 use Rattle.awk_grammar.specs.Tree.{Tree, Leaf, Length, Var, Index, Field, Group, Call, Apply, Unary, Pre, Post, Bin, Op, Has, HasList, Cond, Get, GetInto, GetFrom, GetIntoFrom, Trees, NoTree, Then}
-use Rattle.awk_grammar.specs.View.{view as tree, views as trees, view_binary}
+use Rattle.awk_grammar.specs.View.{view as tree, views as trees, view_assign, view_binary, view_step, view_unary}
+use Rattle.awk_grammar.specs.declared.tree.Expr as expr
 use Rattle.awk_grammar.specs.declared.tree.Expr.{Expr, Binary, Conditional}
+use Rattle.awk_grammar.specs.declared.tree.AssignOp.{AssignOp}
+use Rattle.awk_grammar.specs.declared.tree.StepOp.{StepOp}
+use Rattle.awk_grammar.specs.declared.tree.UnaryOp.{UnaryOp}
+use Rattle.awk_grammar.specs.declared.tree.BinaryOp.TheVariants as binary
 use Rattle.awk_grammar.specs.declared.tree.BinaryOp.{BinaryOp}
 use Rattle.std.specs.declared.boxed.Box.{Box}
+use Rattle.std.specs.Global.{Vec}
 use Rattle.std.specs.declared.alloc.Global.{Global}
 use Rattle.awk_kinds.specs.Marks.{bare_name}
 use Rattle.awk_resolve.specs.ViewKinds.{view_name, view_name_kinds}
@@ -22,10 +28,10 @@ use Rattle.sem_primitives.specs.declared.table.Listed.TheVariants as listed
 use Rattle.sem_primitives.specs.declared.table.Primitive.TheVariants as row
 use Rattle.awk_tokens.specs.declared.words.Builtin.{Builtin}
 use Rattle.awk_tokens.specs.declared.words.Builtin.TheVariants as builtin
-use Rattle.mid_program.specs.Mid.{Code, Codes, End, At, Fixed, Do, Over, Choose, Let, Array, Unset, Call as Called}
+use Rattle.mid_program.specs.Mid.{Code, Codes, End, At, Fixed, Do, Over, Choose, Let, Array, AskLine, FileLine, Unset, Call as Called}
 use Rattle.sem_scripts.specs.Names.{Name, Scope, array_of, function_at, function_number}
 use Rattle.sem_scripts.specs.Steps.{ere_in, is_ere}
-use Rattle.mid_program.specs.Translation.{FieldTarget, applied_code, argument_codes, code_of, codes_of, ere_code, fresh_codes, given_code, host, keeping, kept_code, key_code, one, passed_code, record_code, special_code, substituted_at, target_in, truncated_code, two, zero_code}
+use Rattle.mid_program.specs.Translation.{FieldTarget, applied_code, argument_codes, assigned_at, code_of, codes_of, combined, ere_code, ere_for, fresh_codes, given_code, host, keeping, kept_code, key_code, one, prefixed, received_at, record_code, special_code, step_after_at, stepped_at, substituted_at, target_in, truncated_code, two, zero_code}
 use Rattle.mid_program.specs.ViewCode.{before, followed, view, views}
 use Rattle.mid_code.specs.Applied.{applied_to}
 use Rattle.mid_code.specs.Keys.{each_code, key_of}
@@ -34,7 +40,7 @@ use Rattle.mid_program.specs.declared.code.Code.{Code as Owned}
 use Rattle.mid_program.specs.declared.code.Operand.{Operand}
 use Rattle.mid_program.specs.declared.code.Operand.TheVariants as operand
 use Rattle.mid_program.specs.declared.mid.Arithmetic.TheVariants as inline
-use Rattle.mid_program.specs.declared.mid.Operation.TheVariants.{Inline}
+use Rattle.mid_program.specs.declared.mid.Operation.TheVariants.{AsNumber, Inline}
 use Rattle.mid_code.proofs.NameTables.{drop_any}
 use Rattle.mid_code.proofs.Views.{followed_end, followed_push}
 
@@ -88,10 +94,6 @@ pub flag_is : (b : Bool) → from_bool b ≡ flag_number b
 flag_is true = refl
 flag_is false = refl
 
-some_kind : (ps : List NameKind) → 0 < length ps → NameKind
-some_kind [] lt = absurd (omega arith)
-some_kind (p ∷ ps) lt = p
-
 module _ (texts : List (List ℕ)) (scope : Scope) where
   -- places
 
@@ -111,6 +113,84 @@ module _ (texts : List (List ℕ)) (scope : Scope) where
       Choose sort.Value test first second ≡ code_of texts scope (tree e)
   unfolding code_of
   conditional_code e p q r a b c test first second is ha hb hc ht hf hs = rw (ht, hf, hs, ha, hb, hc, is) refl
+
+  pub field_code : (e : Expr) (p : Box Expr Global) (a : Expr) → e ≡ expr.Field p → a ≡ p.value → host row.Field (one (code_of texts scope (tree a))) ≡ code_of texts scope (tree e)
+  unfolding code_of
+  field_code e p a is ha = rw (ha, is) refl
+
+  pub group_code : (e : Expr) (p : Box Expr Global) (a : Expr) → e ≡ expr.Group p → a ≡ p.value → code_of texts scope (tree a) ≡ code_of texts scope (tree e)
+  unfolding code_of
+  group_code e p a is ha = rw (ha, is) refl
+
+  pub unary_code : (e : Expr) (o : UnaryOp) (p : Box Expr Global) (a : Expr) (operand : Code) → e ≡ expr.Unary o p → a ≡ p.value → operand ≡ code_of texts scope (tree a) →
+      prefixed (view_unary o) operand ≡ code_of texts scope (tree e)
+  unfolding code_of
+  unary_code e o p a operand is ha ho = rw (ho, ha, is) refl
+
+  -- the place is read twice: for what is kept, and for what takes the value
+  pub pre_code : (e : Expr) (o : StepOp) (p : Box Expr Global) (a b : Expr) (kept : Option Code) → e ≡ expr.PreStep o p → a ≡ p.value → b ≡ p.value → kept ≡ kept_code texts scope (tree b) →
+      keeping kept (stepped_at (view_step o) (target_in texts scope (tree a))) ≡ code_of texts scope (tree e)
+  unfolding code_of
+  pre_code e o p a b kept is ha hb hk = rw (hk, ha, hb, is) refl
+
+  pub post_code : (e : Expr) (o : StepOp) (p : Box Expr Global) (a b : Expr) (kept : Option Code) → e ≡ expr.PostStep o p → a ≡ p.value → b ≡ p.value → kept ≡ kept_code texts scope (tree b) →
+      keeping kept (step_after_at (view_step o) (target_in texts scope (tree a))) ≡ code_of texts scope (tree e)
+  unfolding code_of
+  post_code e o p a b kept is ha hb hk = rw (hk, ha, hb, is) refl
+
+  between_code : (o : BinaryOp) (t u : Tree) →
+      combined (view_binary o) (code_of texts scope t) (ere_code texts (ere_for (view_binary o) u) (code_of texts scope u)) ≡ code_of texts scope (Bin (view_binary o) t u)
+  unfolding code_of
+  between_code binary.Or t u = refl
+  between_code binary.And t u = refl
+  between_code binary.Match t u = refl
+  between_code binary.NoMatch t u = refl
+  between_code binary.Less t u = refl
+  between_code binary.LessEqual t u = refl
+  between_code binary.Equal t u = refl
+  between_code binary.NotEqual t u = refl
+  between_code binary.Greater t u = refl
+  between_code binary.GreaterEqual t u = refl
+  between_code binary.Concat t u = refl
+  between_code binary.Add t u = refl
+  between_code binary.Subtract t u = refl
+  between_code binary.Multiply t u = refl
+  between_code binary.Divide t u = refl
+  between_code binary.Modulo t u = refl
+  between_code binary.Power t u = refl
+
+  pub binary_code : (e : Expr) (o : BinaryOp) (p q : Box Expr Global) (a b : Expr) (left right : Code) → e ≡ Binary o p q → a ≡ p.value → b ≡ q.value →
+      left ≡ code_of texts scope (tree a) → right ≡ ere_code texts (ere_for (view_binary o) (tree b)) (code_of texts scope (tree b)) →
+      combined (view_binary o) left right ≡ code_of texts scope (tree e)
+  binary_code e o p q a b left right is ha hb hl hr =
+      rw (hl, hr) (between_code o (tree a) (tree b) ∙ sym (ap (code_of texts scope) (binary_is e o p q a b is ha hb)))
+
+  pub assign_code : (e : Expr) (o : AssignOp) (p q : Box Expr Global) (a b c : Expr) (kept : Option Code) (value : Code) → e ≡ expr.Assign o p q → a ≡ p.value → b ≡ p.value → c ≡ q.value →
+      kept ≡ kept_code texts scope (tree a) → value ≡ code_of texts scope (tree c) →
+      keeping kept (assigned_at (view_assign o) (target_in texts scope (tree b)) value) ≡ code_of texts scope (tree e)
+  unfolding code_of
+  assign_code e o p q a b c kept value is ha hb hc hk hv = rw (hk, hv, ha, hb, hc, is) refl
+
+  pub in_code : (e : Expr) (p : Box Expr Global) (n : Vec ℕ) (a : Expr) (x : List ℕ) (key : Code) → e ≡ expr.In p n → a ≡ p.value → x ≡ n.items → key ≡ code_of texts scope (tree a) →
+      host row.Has (two (Array (array_of scope x)) key) ≡ code_of texts scope (tree e)
+  unfolding code_of
+  in_code e p n a x key is ha hx hk = rw (hk, ha, hx, is) refl
+
+  pub line_code : (e : Expr) (p : Box Expr Global) (a b : Expr) (kept : Option Code) → e ≡ expr.GetlineInto p → a ≡ p.value → b ≡ p.value → kept ≡ kept_code texts scope (tree b) →
+      keeping kept (AskLine (received_at (target_in texts scope (tree a)))) ≡ code_of texts scope (tree e)
+  unfolding code_of
+  line_code e p a b kept is ha hb hk = rw (hk, ha, hb, is) refl
+
+  pub file_code : (e : Expr) (p : Box Expr Global) (a : Expr) (operand : Code) → e ≡ expr.GetlineFrom p → a ≡ p.value → operand ≡ code_of texts scope (tree a) →
+      Do AsNumber (one (host row.GetlineFile (one operand))) ≡ code_of texts scope (tree e)
+  unfolding code_of
+  file_code e p a operand is ha ho = rw (ho, ha, is) refl
+
+  pub file_line_code : (e : Expr) (p q : Box Expr Global) (a b c : Expr) (kept : Option Code) (file : Code) → e ≡ expr.GetlineIntoFrom p q → a ≡ p.value → b ≡ p.value → c ≡ q.value →
+      kept ≡ kept_code texts scope (tree a) → file ≡ code_of texts scope (tree c) →
+      keeping kept (FileLine file (received_at (target_in texts scope (tree b)))) ≡ code_of texts scope (tree e)
+  unfolding code_of
+  file_line_code e p q a b c kept file is ha hb hc hk hf = rw (hk, hf, ha, hb, hc, is) refl
 
   pub element_kept : (e : Tree) (x : List ℕ) (ts : Trees) (key : Code) → Index x ts ≡ e → key ≡ key_code texts scope ts →
       Some key ≡ kept_code texts scope e
@@ -186,92 +266,45 @@ module _ (texts : List (List ℕ)) (scope : Scope) where
   given_other p (GetFrom s) other h = refl
   given_other p (GetIntoFrom v s) other h = refl
 
-  pub arguments_given : (ps : List NameKind) (es : List Expr) (i : ℕ) (p : NameKind) (d : Expr) → i < length ps → i < length es →
-      argument_codes texts scope (view_name_kinds (drop i ps)) (trees (drop i es))
-      ≡ At (given_code texts scope (view_name (get_or ps i p)) (tree (get_or es i d)) (code_of texts scope (tree (get_or es i d))))
-      (argument_codes texts scope (view_name_kinds (drop (i + 1) ps)) (trees (drop (i + 1) es)))
-  unfolding argument_codes
-  arguments_given ps es i p d lt here =
-      ap (λ (xs : List NameKind). argument_codes texts scope (view_name_kinds xs) (trees (drop i es))) (drop_any ps i p lt)
-      ∙ ap (λ (xs : List Expr). argument_codes texts scope (view_name (get_or ps i p) ∷ view_name_kinds (drop (i + 1) ps)) (trees xs))
-      (drop_any es i d here)
-
   none_given : (ps : List Name) → argument_codes texts scope ps NoTree ≡ fresh_codes ps
   unfolding argument_codes
   none_given ps = refl
 
-  arguments_past : (ps : List NameKind) (es : List Expr) (i : ℕ) → length es ≤ i →
-      argument_codes texts scope (view_name_kinds ps) (trees (drop i es)) ≡ fresh_codes (view_name_kinds ps)
-  arguments_past ps es i le = ap (λ (xs : List Expr). argument_codes texts scope (view_name_kinds ps) (trees xs)) (drop_of_length-le es le)
-      ∙ none_given (view_name_kinds ps)
-
   -- where arguments are missing
-  pub arguments_missing : (ps : List NameKind) (es : List Expr) (i : ℕ) (p : NameKind) (e : Codes → Codes) → i < length ps → length es ≤ i →
-      ((rest : List Name) → e (fresh_codes rest) ≡ fresh_codes (view_name (get_or ps i p) ∷ rest)) →
-      argument_codes texts scope (view_name_kinds (drop i ps)) (trees (drop i es)) ≡ e
-      (argument_codes texts scope (view_name_kinds (drop (i + 1) ps)) (trees (drop (i + 1) es)))
-  arguments_missing ps es i p e lt le h =
-      arguments_past (drop i ps) es i le
-      ∙ ap (λ (xs : List NameKind). fresh_codes (view_name_kinds xs)) (drop_any ps i p lt)
-      ∙ sym (h (view_name_kinds (drop (i + 1) ps)))
-      ∙ ap e (sym (arguments_past (drop (i + 1) ps) es (i + 1) (omega arith)))
+  arguments_past : (ps : List Name) (es : List Expr) (i : ℕ) → length es ≤ i → argument_codes texts scope ps (trees (drop i es)) ≡ fresh_codes ps
+  arguments_past ps es i le = ap (λ (xs : List Expr). argument_codes texts scope ps (trees xs)) (drop_of_length-le es le) ∙ none_given ps
 
   pub arguments_end : (ts : Trees) → argument_codes texts scope [] ts ≡ End
   unfolding argument_codes
   arguments_end NoTree = refl
   arguments_end (Then t ts) = refl
 
-  -- a missing argument
-  pub call_missing : (old new : List Operand) (o : Operand) (ps : List NameKind) (es : List Expr) (i : ℕ) (p : NameKind) (total : Codes) →
-      i < length ps → length es ≤ i →
-      new ≡ old ++ o ∷ [] → ((rest : List Name) → before o (fresh_codes rest) ≡ fresh_codes (view_name (get_or ps i p) ∷ rest)) →
+  -- what is given for a parameter
+  pub given_missing : (p : Name) (o : Operand) (es : List Expr) (i : ℕ) → length es ≤ i → ((ps : List Name) → before o (fresh_codes ps) ≡ fresh_codes (p ∷ ps)) →
+      (ps : List Name) → before o (argument_codes texts scope ps (trees (drop (i + 1) es))) ≡ argument_codes texts scope (p ∷ ps) (trees (drop i es))
+  given_missing p o es i le is ps =
+      ap (before o) (arguments_past ps es (i + 1) (omega arith)) ∙ is ps ∙ sym (arguments_past (p ∷ ps) es i le)
+
+  pub given_argument : (p : Name) (code : Owned) (es : List Expr) (i : ℕ) (e : Expr) → i < length es → e ≡ get_or es i e →
+      view code ≡ given_code texts scope p (tree e) (code_of texts scope (tree e)) →
+      (ps : List Name) → At (view code) (argument_codes texts scope ps (trees (drop (i + 1) es))) ≡ argument_codes texts scope (p ∷ ps) (trees (drop i es))
+  unfolding argument_codes
+  given_argument p code es i e lt read is ps =
+      ap (λ (c : Code). At c (argument_codes texts scope ps (trees (drop (i + 1) es)))) is
+      ∙ sym (ap (argument_codes texts scope (p ∷ ps)) (part_of es i e lt read))
+
+  pub call_step : (old new : List Operand) (o : Operand) (ps : List NameKind) (es : List Expr) (i : ℕ) (p : NameKind) (total : Codes) → i < length ps →
+      new ≡ old ++ o ∷ [] →
+      ((rest : List Name) → before o (argument_codes texts scope rest (trees (drop (i + 1) es))) ≡ argument_codes texts scope (view_name (get_or ps i p) ∷ rest) (trees (drop i es))) →
       followed (views old) (argument_codes texts scope (view_name_kinds (drop i ps)) (trees (drop i es))) ≡ total →
       followed (views new) (argument_codes texts scope (view_name_kinds (drop (i + 1) ps)) (trees (drop (i + 1) es))) ≡ total
-  call_missing old new o ps es i p total lt le more is so =
+  call_step old new o ps es i p total lt more is so =
       let rest = argument_codes texts scope (view_name_kinds (drop (i + 1) ps)) (trees (drop (i + 1) es)) in
       ap (λ (os : List Operand). followed (views os) rest) more
       ∙ followed_push old o rest
-      ∙ sym (ap (followed (views old)) (arguments_missing ps es i p (before o) lt le is))
+      ∙ ap (followed (views old)) (is (view_name_kinds (drop (i + 1) ps)))
+      ∙ sym (ap (λ (xs : List NameKind). followed (views old) (argument_codes texts scope (view_name_kinds xs) (trees (drop i es)))) (drop_any ps i p lt))
       ∙ so
-
-  -- an argument
-  pub call_given : (old new : List Operand) (code : Owned) (ps : List NameKind) (es : List Expr) (i : ℕ) (p : NameKind) (e : Expr) (total : Codes) →
-      i < length ps → i < length es → e ≡ get_or es i e → new ≡ old ++ operand.Code code ∷ [] →
-      view code ≡ given_code texts scope (view_name (get_or ps i p)) (tree e) (code_of texts scope (tree e)) →
-      followed (views old) (argument_codes texts scope (view_name_kinds (drop i ps)) (trees (drop i es))) ≡ total →
-      followed (views new) (argument_codes texts scope (view_name_kinds (drop (i + 1) ps)) (trees (drop (i + 1) es))) ≡ total
-  call_given old new code ps es i p e total lt here read more is so =
-      let rest = argument_codes texts scope (view_name_kinds (drop (i + 1) ps)) (trees (drop (i + 1) es)) in
-      ap (λ (os : List Operand). followed (views os) rest) more
-      ∙ followed_push old (operand.Code code) rest
-      ∙ ap (λ (c : Code). followed (views old) (At c rest)) is
-      ∙ ap (λ (a : Expr). followed (views old) (At (given_code texts scope (view_name (get_or ps i p)) (tree a) (code_of texts scope (tree a)))
-      rest)) read
-      ∙ sym (ap (followed (views old)) (arguments_given ps es i p e lt here))
-      ∙ so
-
-  -- a bare name for a parameter
-  pub call_named : (old new : List Operand) (code : Owned) (ps : List NameKind) (es : List Expr) (i : ℕ) (p : NameKind) (e : Expr) (x : List ℕ)
-      (total : Codes) →
-      i < length ps → i < length es → e ≡ get_or es i e → new ≡ old ++ operand.Code code ∷ [] → tree e ≡ Var x →
-      view code ≡ passed_code texts scope (view_name (get_or ps i p)) x →
-      followed (views old) (argument_codes texts scope (view_name_kinds (drop i ps)) (trees (drop i es))) ≡ total →
-      followed (views new) (argument_codes texts scope (view_name_kinds (drop (i + 1) ps)) (trees (drop (i + 1) es))) ≡ total
-  call_named old new code ps es i p e x total lt here read more name is so =
-      let given = view_name (get_or ps i p) in
-      call_given old new code ps es i p e total lt here read more
-      (is ∙ sym (ap (λ (t : Tree). given_code texts scope given t (code_of texts scope (tree e))) name)) so
-
-  -- what is no bare name
-  pub call_computed : (old new : List Operand) (code : Owned) (ps : List NameKind) (es : List Expr) (i : ℕ) (e : Expr) (total : Codes) →
-      i < length ps → i < length es → e ≡ get_or es i e → new ≡ old ++ operand.Code code ∷ [] → bare_name (tree e) ≡ None →
-      view code ≡ code_of texts scope (tree e) →
-      followed (views old) (argument_codes texts scope (view_name_kinds (drop i ps)) (trees (drop i es))) ≡ total →
-      followed (views new) (argument_codes texts scope (view_name_kinds (drop (i + 1) ps)) (trees (drop (i + 1) es))) ≡ total
-  call_computed old new code ps es i e total lt here read more none is so =
-      let p = some_kind ps (omega arith) in
-      call_given old new code ps es i p e total lt here read more
-      (is ∙ sym (given_other (view_name (get_or ps i p)) (tree e) (code_of texts scope (tree e)) none)) so
 
   pub call_end : (all : List Operand) (ps : List NameKind) (es : List Expr) (i : ℕ) (f : ℕ) (x : List ℕ) → length ps ≤ i →
       f ≡ function_number scope.script x →

@@ -1,7 +1,8 @@
 -- Texts, each once.
-use Rattle.std.proofs.Common.{◌≡◌, ℕ, Bool, true, false, ◌||◌, List, [], ◌∷◌, ◌++◌, refl, ap, ◌∙◌, if◌then◌else◌}
+use Rattle.std.proofs.Common.{◌≡◌, ℕ, Bool, true, false, ◌||◌, List, [], ◌∷◌, ◌++◌, Result, Ok, Err, refl, ap, sym, subst, true≢false, ◌∙◌, if◌then◌else◌}
 use Rattle.std.specs.Cmp.Lexicographic.{nat_list_eq_equiv}
 use Rattle.std.specs.Global.{Vec}
+use Rattle.std.specs.Prelude.{IfOk, is_err}
 use Rattle.std.specs.List.{list_any}
 use Rattle.std.specs.declared.alloc.Global.{Global}
 use Rattle.std.specs.declared.boxed.Box.{Box}
@@ -15,6 +16,8 @@ use Rattle.awk_grammar.proofs.Views.{apply_is, block_is, call_is, element_is, in
 use Rattle.sem_scripts.specs.Names.{same_name}
 use Rattle.mid_program.specs.Texts.{all_texts, has_text, once, stmt_texts, stmts_texts, texts_in}
 use Rattle.mid_program.specs.View.{view_texts}
+use Rattle.mid_code.specs.ViewTexts.{AddsTexts}
+use Rattle.mid_code.specs.declared.texts.Texts.{Texts}
 
 pub once_append : (known xs ys : List (List ℕ)) → once known (xs ++ ys) ≡ once (once known xs) ys
 once_append known [] ys = refl
@@ -46,6 +49,40 @@ put_by b false ks t e = ap (λ (x : Bool). view_texts (if x then ks else ks ++ t
 
 pub put_is : (ks : List (Vec ℕ)) (t : Vec ℕ) → view_texts (insert_key same_text ks t) ≡ once (view_texts ks) (t.items ∷ [])
 put_is ks t = put_by (list_any (same_text t) ks) (has_text (view_texts ks) t.items) ks t (any_is ks t)
+
+-- texts that are found, one after the other
+
+pub adds_none : (a : Texts) → AddsTexts a a []
+adds_none a = record { adds = λ h. (h, refl) }
+
+pub adds_as : {a b : Texts} (xs ys : List (List ℕ)) → xs ≡ ys → AddsTexts a b xs → AddsTexts a b ys
+adds_as {a} {b} xs ys e f = subst (AddsTexts a b) e f
+
+pub adds_both : {a b c : Texts} {xs ys : List (List ℕ)} → AddsTexts a b xs → AddsTexts b c ys → AddsTexts a c (xs ++ ys)
+adds_both {a} {b} {c} {xs} {ys} f g = record {
+  adds = λ h. let q = g.adds h in let p = f.adds q.0 in (p.0, q.1 ∙ ap (λ (k : List (List ℕ)). once k ys) p.1 ∙ sym (once_append (view_texts a.found.keys) xs ys));
+}
+
+pub put_adds : {E : Type 0} (a b : Texts) (r : Result Bool E) (t : Vec ℕ) → a.is_refused ≡ false → b.is_refused ≡ is_err r → IfOk r (λ x. b.found.keys ≡ insert_key same_text a.found.keys t) →
+    AddsTexts a b (t.items ∷ [])
+put_adds a b (Ok x) t fine e k = record { adds = λ h. (fine, ap view_texts k ∙ put_is a.found.keys t) }
+put_adds a b (Err x) t fine e k = record { adds = λ h. absurd (true≢false (sym e ∙ h)) }
+
+-- what was found in a loop, and the rest, are all of it
+pub record Leads (old now : Texts) (rest all : List (List ℕ)) : Type 0 where
+  pub leads : now.is_refused ≡ false → (old.is_refused ≡ false) × (once (view_texts now.found.keys) rest ≡ once (view_texts old.found.keys) all)
+
+pub leads_first : (a : Texts) (xs : List (List ℕ)) → Leads a a xs xs
+leads_first a xs = record { leads = λ h. (h, refl) }
+
+pub leads_next : {a b c : Texts} {xs ys all : List (List ℕ)} (rest : List (List ℕ)) → rest ≡ xs ++ ys → Leads a b rest all → AddsTexts b c xs → Leads a c ys all
+leads_next {a} {b} {c} {xs} {ys} {all} rest e f g = record {
+  leads = λ h. let q = g.adds h in let p = f.leads q.0 in
+      (p.0, ap (λ (k : List (List ℕ)). once k ys) q.1 ∙ sym (once_append (view_texts b.found.keys) xs ys) ∙ ap (once (view_texts b.found.keys)) (sym e) ∙ p.1);
+}
+
+pub leads_all : {a b : Texts} {all : List (List ℕ)} (rest : List (List ℕ)) → rest ≡ [] → Leads a b rest all → AddsTexts a b all
+leads_all {a} {b} {all} rest e f = record { adds = λ h. let p = f.leads h in (p.0, ap (once (view_texts b.found.keys)) (sym e) ∙ p.1) }
 
 -- expressions with lists in them
 

@@ -6,3 +6,4 @@ pub mod ViewScope
 pub mod ViewScript
 pub mod ViewSteps
 pub mod ViewTarget
+pub mod ViewTexts

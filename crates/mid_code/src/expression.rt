@@ -1,12 +1,14 @@
 //! The code of expressions.
 
-ghost use Rattle.std.specs.Prelude.{◌≡◌, ◌≤◌, length, map, IfOk, OnOk};
+ghost use Rattle.std.specs.Prelude.{◌≡◌, ◌≤◌, ◌+◌, List, ◌∷◌, drop, length, map, IfOk, OnOk};
 ghost use Rattle.awk_grammar.specs.Tree.{Apply, Call, NoTree, Then};
 ghost use Rattle.awk_grammar.specs.View.{view as tree, views as trees, view_binary};
+ghost use Rattle.awk_resolve.specs.ViewKinds.{view_name};
 ghost use Rattle.sem_primitives.specs.declared.table.Primitive.TheVariants as row;
+ghost use Rattle.sem_scripts.specs.Names.{Name};
 ghost use Rattle.mid_program.specs.Mid as plain;
-ghost use Rattle.mid_program.specs.Translation.{applied_code, code_of, codes_of, ere_code, ere_for, key_code, kept_code, one, truncated_code};
-ghost use Rattle.mid_program.specs.ViewCode.{followed, view, views};
+ghost use Rattle.mid_program.specs.Translation.{applied_code, argument_codes, code_of, codes_of, ere_code, ere_for, given_code, key_code, kept_code, one, truncated_code};
+ghost use Rattle.mid_program.specs.ViewCode.{before, followed, view, views};
 ghost use Rattle.mid_program.specs.declared.mid.Operation.{Operation};
 ghost use Rattle.mid_code.specs.Keys.{each_code};
 ghost use Rattle.mid_code.specs.ViewScope.{scope_of, texts_of};
@@ -24,6 +26,7 @@ use crate::operators::{combined, constant, host, inline, prefixed};
 use crate::peek::{bare_name, ere_in, is_ere, is_match, is_quotient};
 use crate::scope::Scope;
 use awk_grammar::{BinaryOp, Builtin, Expr, StepOp};
+use awk_resolve::NameKind;
 use mid_program::{Arithmetic, Code, Operand};
 use sem_primitives::{Listed, Primitive, Sort};
 use std::alloc::AllocError;
@@ -189,6 +192,38 @@ fn operand(scope: &Scope<'_>, op: BinaryOp, e: &Expr) -> Result<Box<Code>, Alloc
     boxed_code(scope, e)
 }
 
+/// The code of an argument for a parameter; a bare name may be an array's.
+#[cycle(expressions)]
+fn argument(scope: &Scope<'_>, parameter: &NameKind<'_>, e: &Expr) -> Result<Code, AllocError>
+    ensures { IfOk result (λ code. view code ≡ given_code (texts_of scope.now) (scope_of scope.now)
+        (view_name parameter.now) (tree e.now) (code_of (texts_of scope.now) (scope_of scope.now)
+        (tree e.now))) }
+{
+    match bare_name(e) {
+        Some(name) => passed(scope, parameter, name),
+        None => code(scope, e),
+    }
+}
+
+/// What is given for the parameter in a place.
+#[cycle(expressions)]
+fn given(
+    scope: &Scope<'_>,
+    parameter: &NameKind<'_>,
+    es: &[Expr],
+    place: usize,
+) -> Result<Operand, AllocError>
+    ensures { IfOk result (λ given. (ps : List Name) → before given (argument_codes (texts_of
+        scope.now) (scope_of scope.now) ps (trees (drop (place + 1) es.now))) ≡ argument_codes
+        (texts_of scope.now) (scope_of scope.now) (view_name parameter.now ∷ ps) (trees (drop place
+        es.now))) }
+{
+    if place >= es.len() {
+        return Ok(missing(parameter));
+    }
+    Ok(Operand::Code(argument(scope, parameter, &es[place])?))
+}
+
 /// The code of a call.
 #[cycle(expressions)]
 fn call(scope: &Scope<'_>, name: &[u8], es: &[Expr]) -> Result<Code, AllocError>
@@ -199,16 +234,7 @@ fn call(scope: &Scope<'_>, name: &[u8], es: &[Expr]) -> Result<Code, AllocError>
     let parameters = scope.parameters_of(function);
     let mut operands = Vec::new(scope.alloc);
     for i in 0..parameters.len() {
-        if i >= es.len() {
-            push(&mut operands, missing(&parameters[i]))?;
-        } else if let Some(name) = bare_name(&es[i]) {
-            push(
-                &mut operands,
-                Operand::Code(passed(scope, &parameters[i], name)?),
-            )?;
-        } else {
-            push(&mut operands, Operand::Code(code(scope, &es[i])?))?;
-        }
+        push(&mut operands, given(scope, &parameters[i], es, i)?)?;
     }
     Ok(called(function, operands))
 }

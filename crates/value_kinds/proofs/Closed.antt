@@ -1,7 +1,5 @@
 -- Names that are boxed in their places, and what is kept, by its place.
-use Rattle.std.proofs.Common.{◌≡◌, ℕ, zero, suc, ◌-◌, ◌<◌, ◌≤◌, List, [], ◌∷◌, length, map, reverse, get_or, set, refl, sym, ap, ◌∙◌, arith}
-use Rattle.std.proofs.lemmas.List as list
-use Rattle.sem_primitives.specs.declared.sorts.Answer.TheVariants as answer
+use Rattle.std.proofs.Common.{◌≡◌, ℕ, zero, suc, ◌-◌, ◌<◌, ◌≤◌, List, [], ◌∷◌, length, map, get_or, set, refl, ap, arith}
 use Rattle.std.specs.declared.vec.Vec.{Vec}
 use Rattle.std.specs.declared.alloc.Global.{Global}
 use Rattle.mid_program.specs.Mid as plain
@@ -9,8 +7,7 @@ use Rattle.mid_program.specs.Mid.{form_at}
 use Rattle.mid_program.specs.View.{view_kind}
 use Rattle.mid_program.specs.declared.program.Kind.{Kind}
 use Rattle.value_kinds.specs.Lanes.{close_at, close_in, closed}
-use Rattle.value_kinds.specs.View.{view_form, view_kinds}
-use Rattle.value_kinds.specs.declared.form.Form.{Form}
+use Rattle.value_kinds.specs.View.{view_kinds}
 
 pub close_set : (ks : List Kind) (i : ℕ) (x d : Kind) → i < length ks → view_kind x ≡ closed (view_kind (get_or ks i d)) → map view_kind (set ks i x) ≡ close_at (map view_kind ks) i
 close_set [] i x d lt e = absurd (omega arith)
@@ -33,25 +30,7 @@ close_in_past [] f i le = refl
 close_in_past (v ∷ vs) zero i le = absurd (omega arith)
 close_in_past (v ∷ vs) (suc f) i le = ap (λ (kss : List (List plain.Kind)). view_kinds v ∷ kss) (close_in_past vs f i (omega arith))
 
-form_got : (fs : List plain.Form) (i : ℕ) (d : plain.Form) → i < length fs → form_at fs i ≡ get_or fs i d
-form_got [] i d lt = absurd (omega arith)
-form_got (f ∷ fs) zero d lt = refl
-form_got (f ∷ fs) (suc i) d lt = form_got fs i d (omega arith)
-
-form_past : (fs : List plain.Form) (i : ℕ) → length fs ≤ i → form_at fs i ≡ plain.Answered answer.Nothing
-form_past [] i le = refl
-form_past (f ∷ fs) zero le = absurd (omega arith)
-form_past (f ∷ fs) (suc i) le = form_past fs i (omega arith)
-
--- the last one is kept first
-pub kept_at : (fs : List Form) (i : ℕ) (d : Form) → i < length fs → view_form (get_or fs (length fs - 1 - i) d) ≡ form_at (reverse (map view_form fs)) i
-kept_at fs i d lt =
-    let long : length (map view_form fs) ≡ length fs = list.length-map fs view_form in
-    let turned : length (reverse (map view_form fs)) ≡ length fs = list.length-reverse (map view_form fs) ∙ long in
-    sym (form_got (reverse (map view_form fs)) i (view_form d) (omega arith) ∙ list.get_or-reverse (map view_form fs) i (view_form d) (omega arith)
-    ∙ ap (λ (n : ℕ). get_or (map view_form fs) (n - 1 - i) (view_form d)) long ∙ list.get_or-map view_form fs (length fs - 1 - i) d (view_form d) (omega arith))
-
-pub kept_past : (fs : List Form) (i : ℕ) → length fs ≤ i → plain.Answered answer.Nothing ≡ form_at (reverse (map view_form fs)) i
-kept_past fs i le =
-    let turned : length (reverse (map view_form fs)) ≡ length fs = list.length-reverse (map view_form fs) ∙ list.length-map fs view_form in
-    sym (form_past (reverse (map view_form fs)) i (omega arith))
+-- what was kept before the last one
+pub form_before : (f : plain.Form) (fs : List plain.Form) (i : ℕ) → 0 < i → form_at fs (i - 1) ≡ form_at (f ∷ fs) i
+form_before f fs zero lt = absurd (omega arith)
+form_before f fs (suc i) lt = ap (form_at fs) (omega arith)

@@ -1,5 +1,5 @@
 -- What the lanes of the code stand for.
-use Rattle.std.specs.Prelude.{List, map, reverse}
+use Rattle.std.specs.Prelude.{List, [], ◌∷◌, map}
 use Rattle.std.specs.Global.{Vec}
 use Rattle.mid_program.specs.Mid as plain
 use Rattle.mid_program.specs.View.{view_kind}
@@ -9,6 +9,8 @@ use Rattle.value_kinds.specs.Lanes as lanes
 use Rattle.value_kinds.specs.Walks as walks
 use Rattle.value_kinds.specs.declared.form.Form.{Form}
 use Rattle.value_kinds.specs.declared.form.Form.TheVariants as form
+use Rattle.value_kinds.specs.declared.kept.Kept.{Kept}
+use Rattle.value_kinds.specs.declared.kept.Kept.TheVariants.{Nothing, Last'}
 use Rattle.value_kinds.specs.declared.names.Lanes.{Lanes}
 use Rattle.value_kinds.specs.declared.names.Names.{Names}
 use Rattle.value_kinds.specs.declared.walk.Walk.{Walk}
@@ -28,5 +30,9 @@ view_form (form.Answered a) = plain.Answered a
 view_form form.Bare = plain.Bare
 view_form form.Perhaps = plain.Perhaps
 
+abbrev pub view_kept : Kept → List plain.Form
+view_kept Nothing = []
+view_kept (Last' form p before) = view_form form ∷ view_kept before
+
 abbrev pub view_walk : Walk → walks.Walk
-view_walk w = record { lanes = view_lanes w.lanes; function = w.function; kept = reverse (map view_form w.kept.items) }
+view_walk w = record { lanes = view_lanes w.lanes; function = w.function }

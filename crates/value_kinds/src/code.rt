@@ -8,88 +8,60 @@ ghost use Rattle.value_kinds.specs.View.{slots};
 
 use crate::names::Names;
 use mid_program::{Code, Operand};
-use std::mem;
-
-/// The code with lanes at its names.
-#[cycle(lanes)]
-fn laned(names: Names<'_>, code: Code) -> Code
-    ensures { view result ≡ code_in (slots names.entry) Do (view code) }
-{
-    match code {
-        Code::Do(operation, mut operands) => {
-            lane_operands(names, &mut operands);
-            Code::Do(operation, operands)
-        }
-        Code::Joined(mut first, mut others, mut last) => {
-            lane_code(names, &mut first);
-            lane_codes(names, &mut others);
-            lane_code(names, &mut last);
-            Code::Joined(first, others, last)
-        }
-        Code::Over(listed, mut operands) => {
-            lane_operands(names, &mut operands);
-            Code::Over(listed, operands)
-        }
-        Code::Compare(op, mut left, mut right) => {
-            lane_code(names, &mut left);
-            lane_code(names, &mut right);
-            Code::Compare(op, left, right)
-        }
-        Code::Call(function, mut operands) => {
-            lane_operands(names, &mut operands);
-            Code::Call(function, operands)
-        }
-        Code::AskLine(mut store) => {
-            lane_code(names, &mut store);
-            Code::AskLine(store)
-        }
-        Code::FileLine(mut file, mut store) => {
-            lane_code(names, &mut file);
-            lane_code(names, &mut store);
-            Code::FileLine(file, store)
-        }
-        Code::Replace(all, mut operands, mut store) => {
-            lane_operands(names, &mut operands);
-            lane_code(names, &mut store);
-            Code::Replace(all, operands, store)
-        }
-        Code::Set(slot, mut value) => {
-            lane_code(names, &mut value);
-            Code::Set(names.slot(slot), value)
-        }
-        Code::Choose(sort, mut test, mut yes, mut no) => {
-            lane_code(names, &mut test);
-            lane_code(names, &mut yes);
-            lane_code(names, &mut no);
-            Code::Choose(sort, test, yes, no)
-        }
-        Code::Seq(mut first, mut second) => {
-            lane_code(names, &mut first);
-            lane_code(names, &mut second);
-            Code::Seq(first, second)
-        }
-        Code::Let(mut kept, mut body) => {
-            lane_code(names, &mut kept);
-            lane_code(names, &mut body);
-            Code::Let(kept, body)
-        }
-        Code::Get(slot) => Code::Get(names.slot(slot)),
-        Code::Ask
-        | Code::Number(_)
-        | Code::Text(_)
-        | Code::Unset
-        | Code::Array(_)
-        | Code::IsOpen(_)
-        | Code::Bound(_, _) => code,
-    }
-}
 
 /// Gives lanes to the names in code.
 #[cycle(lanes)]
 pub(crate) fn lane_code(names: Names<'_>, code: &mut Code)
     ensures { view code.new ≡ code_in (slots names.entry) Do (view code.old) }
 {
-    *code = laned(names, mem::replace(code, Code::Ask));
+    match code {
+        Code::Do(_operation, operands) => lane_operands(names, operands),
+        Code::Joined(first, others, last) => {
+            lane_code(names, first);
+            lane_codes(names, others);
+            lane_code(names, last);
+        }
+        Code::Over(_listed, operands) => lane_operands(names, operands),
+        Code::Compare(_, left, right) => {
+            lane_code(names, left);
+            lane_code(names, right);
+        }
+        Code::Call(_function, operands) => lane_operands(names, operands),
+        Code::AskLine(store) => lane_code(names, store),
+        Code::FileLine(file, store) => {
+            lane_code(names, file);
+            lane_code(names, store);
+        }
+        Code::Replace(_all, operands, store) => {
+            lane_operands(names, operands);
+            lane_code(names, store);
+        }
+        Code::Set(slot, value) => {
+            *slot = names.slot(*slot);
+            lane_code(names, value);
+        }
+        Code::Choose(_, test, yes, no) => {
+            lane_code(names, test);
+            lane_code(names, yes);
+            lane_code(names, no);
+        }
+        Code::Seq(first, second) => {
+            lane_code(names, first);
+            lane_code(names, second);
+        }
+        Code::Let(kept, body) => {
+            lane_code(names, kept);
+            lane_code(names, body);
+        }
+        Code::Get(slot) => *slot = names.slot(*slot),
+        Code::Ask
+        | Code::Number(_)
+        | Code::Text(_)
+        | Code::Unset
+        | Code::Array(_)
+        | Code::IsOpen(_)
+        | Code::Bound(_, _) => {}
+    }
 }
 
 #[cycle(lanes)]

@@ -11,7 +11,7 @@ use mid_program::{Operation, Slot};
 use sem_primitives::{Answer, Sort};
 
 /// What is there once code is evaluated.
-#[derive(Clone, Copy, Drop)]
+#[derive(Clone, Copy)]
 pub(crate) enum Form {
     /// What a primitive answers.
     Answered(Answer),

@@ -1,6 +1,6 @@
 //! Which names of a program are unboxed.
 
-ghost use Rattle.std.specs.Prelude.{◌≡◌, map, IfOk, OnOk};
+ghost use Rattle.std.specs.Prelude.{◌≡◌, map, IfOk};
 ghost use Rattle.mid_program.specs.View.{view_declared, view_kind, view_mid, view_routine};
 ghost use Rattle.value_kinds.specs.Lanes.{at_first, infer, opened};
 ghost use Rattle.mid_program.specs.Sorted.{kinds_of};
@@ -66,16 +66,15 @@ fn at_first(alloc: Global, mid: &Mid) -> Result<Lanes, AllocError>
 }
 
 /// Marks what functions store. The main parts come next, which stand in none of them.
-fn mark_routines(alloc: Global, walk: &mut Walk, routines: &[Routine]) -> Result<(), AllocError>
-    ensures { OnOk result
-        (view_walk walk.new ≡ after_routines (view_walk walk.old) (map view_routine routines.now)) }
+fn mark_routines(walk: &mut Walk, routines: &[Routine])
+    ensures { view_walk walk.new
+        ≡ after_routines (view_walk walk.old) (map view_routine routines.now) }
 {
     for place in 0..routines.len() {
         walk.function = place;
-        mark_steps(alloc, walk, &routines[place].body)?;
+        mark_steps(walk, &routines[place].body);
     }
     walk.function = routines.len();
-    Ok(())
 }
 
 /// Which names of a script's code are unboxed: each scalar, unless something else than a number is stored into it, or something else than a number or
@@ -90,11 +89,10 @@ pub fn infer(alloc: Global, mid: &Mid) -> Result<Lanes, AllocError>
     let mut walk = Walk {
         lanes: at_first(alloc, mid)?,
         function: 0,
-        kept: Vec::new(alloc),
     };
-    mark_routines(alloc, &mut walk, &mid.routines)?;
-    mark_steps(alloc, &mut walk, &mid.begin)?;
-    mark_steps(alloc, &mut walk, &mid.items)?;
-    mark_steps(alloc, &mut walk, &mid.end)?;
+    mark_routines(&mut walk, &mid.routines);
+    mark_steps(&mut walk, &mid.begin);
+    mark_steps(&mut walk, &mid.items);
+    mark_steps(&mut walk, &mid.end);
     Ok(walk.lanes)
 }

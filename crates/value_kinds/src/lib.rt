@@ -4,6 +4,7 @@
 mod code;
 mod form;
 mod inference;
+mod kept;
 pub mod laws;
 mod marks;
 mod names;

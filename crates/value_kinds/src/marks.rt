@@ -1,171 +1,160 @@
 //! What expressions store.
 
-ghost use Rattle.std.specs.Prelude.{◌≡◌, map, IfOk, OnOk};
-ghost use Rattle.mid_program.specs.Mid.{End};
+ghost use Rattle.std.specs.Prelude.{◌≡◌, ◌∷◌, map};
+ghost use Rattle.mid_program.specs.Mid.{End, form_of};
 ghost use Rattle.mid_program.specs.ViewCode.{before, view, views};
-ghost use Rattle.value_kinds.specs.View.{view_form, view_walk};
-ghost use Rattle.value_kinds.specs.Walks.{form_in, kept_too, walked, walked_each, walked_given, walked_in, walked_under};
+ghost use Rattle.mid_rewriting.specs.Stores.{stores, stores_given, stores_in};
+ghost use Rattle.value_kinds.specs.View.{view_form, view_kept, view_walk};
+ghost use Rattle.value_kinds.specs.Walks.{after, stores_each};
 
 use crate::form::{Form, answer_by};
+use crate::kept::{Kept, form_at};
 use crate::walk::Walk;
 use mid_program::{Code, Operand};
 use sem_primitives::{Answer, Primitive, Sort};
-use std::alloc::AllocError;
 
-/// Marks what code stores, and answers the code's form.
+/// What a text that was read is, for the code that stores it.
+const TEXT: Form = Form::Answered(Answer::Of(Sort::Value));
+
+/// What a number is.
+const NUMBER: Form = Form::Answered(Answer::Of(Sort::Number));
+
+/// Marks what code stores while this is kept, and answers the code's form.
 #[cycle(marks)]
-pub(crate) fn mark_code(walk: &mut Walk, code: &Code) -> Result<Form, AllocError>
-    ensures form { IfOk result
-        (λ form. view_form form ≡ form_in (view_walk walk.old) (view code.now)) }
-    ensures walk { OnOk result (view_walk walk.new ≡ walked (view_walk walk.old) (view code.now)) }
+pub(crate) fn mark_code<'a>(walk: &mut Walk, kept: &'a Kept<'a>, code: &Code) -> Form
+    ensures form { view_form result ≡ form_of (view_kept kept.now) (view code.now) }
+    ensures walk { view_walk walk.new
+        ≡ after (view_walk walk.old) (stores (view_kept kept.now) (view code.now)) }
 {
     match code {
         Code::Do(operation, operands) => {
-            mark_operands(walk, operands)?;
-            Ok(Form::Answered(answer_by(*operation)))
+            mark_operands(walk, kept, operands);
+            Form::Answered(answer_by(*operation))
         }
         Code::Over(listed, operands) => {
-            mark_operands(walk, operands)?;
-            Ok(Form::Answered(listed.answer()))
+            mark_operands(walk, kept, operands);
+            Form::Answered(listed.answer())
         }
         Code::Compare(_, left, right) => {
-            mark_code(walk, left)?;
-            mark_code(walk, right)?;
-            Ok(Form::Answered(Answer::Truth))
+            mark_code(walk, kept, left);
+            mark_code(walk, kept, right);
+            Form::Answered(Answer::Truth)
         }
         Code::Call(function, operands) => {
-            mark_arguments(walk, *function, operands)?;
-            Ok(Form::Bare)
+            mark_arguments(walk, kept, *function, operands);
+            Form::Bare
         }
         Code::AskLine(store) => {
-            mark_under(walk, Form::Answered(Answer::Of(Sort::Value)), store)?;
-            Ok(Form::Answered(Answer::Of(Sort::Number)))
+            mark_code(walk, &Kept::Last(TEXT, kept), store);
+            NUMBER
         }
         Code::FileLine(file, store) => {
-            mark_code(walk, file)?;
-            mark_under(walk, Form::Answered(Answer::Of(Sort::Value)), store)?;
-            Ok(Form::Answered(Answer::Of(Sort::Number)))
+            mark_code(walk, kept, file);
+            mark_code(walk, &Kept::Last(TEXT, kept), store);
+            NUMBER
         }
         Code::Replace(_, operands, store) => {
-            mark_operands(walk, operands)?;
-            mark_under(walk, Form::Answered(Answer::Of(Sort::Value)), store)?;
-            Ok(Form::Answered(Answer::Of(Sort::Number)))
+            mark_operands(walk, kept, operands);
+            mark_code(walk, &Kept::Last(TEXT, kept), store);
+            NUMBER
         }
         Code::Set(slot, value) => {
-            let form = mark_code(walk, value)?;
+            let form = mark_code(walk, kept, value);
             walk.store(*slot, form);
-            Ok(form)
+            form
         }
         Code::Choose(sort, test, yes, no) => {
-            mark_code(walk, test)?;
-            mark_code(walk, yes)?;
-            mark_code(walk, no)?;
-            Ok(Form::Answered(Answer::Of(*sort)))
+            mark_code(walk, kept, test);
+            mark_code(walk, kept, yes);
+            mark_code(walk, kept, no);
+            Form::Answered(Answer::Of(*sort))
         }
         Code::Seq(first, second) => {
-            mark_code(walk, first)?;
-            mark_code(walk, second)
+            mark_code(walk, kept, first);
+            mark_code(walk, kept, second)
         }
-        Code::Let(kept, body) => {
-            let form = mark_code(walk, kept)?;
-            mark_under(walk, form, body)
+        Code::Let(own, body) => {
+            let form = mark_code(walk, kept, own);
+            mark_code(walk, &Kept::Last(form, kept), body)
         }
         Code::Joined(first, others, last) => {
-            mark_code(walk, first)?;
-            mark_codes(walk, others)?;
-            mark_code(walk, last)?;
-            Ok(Form::Answered(Primitive::Join.answer()))
+            mark_code(walk, kept, first);
+            mark_codes(walk, kept, others);
+            mark_code(walk, kept, last);
+            Form::Answered(Primitive::Join.answer())
         }
-        Code::Get(slot) => Ok(Form::of_slot(*slot)),
-        Code::Bound(_, place) => Ok(walk.form_at(*place)),
-        Code::Ask | Code::Number(_) => Ok(Form::Answered(Answer::Of(Sort::Number))),
-        Code::Text(_) => Ok(Form::Answered(Answer::Of(Sort::Value))),
-        Code::Unset => Ok(Form::Perhaps),
-        Code::Array(_) => Ok(Form::Answered(Answer::Of(Sort::Array))),
-        Code::IsOpen(_) => Ok(Form::Answered(Answer::Truth)),
+        Code::Get(slot) => Form::of_slot(*slot),
+        Code::Bound(_, place) => form_at(kept, *place),
+        Code::Ask | Code::Number(_) => NUMBER,
+        Code::Text(_) => TEXT,
+        Code::Unset => Form::Perhaps,
+        Code::Array(_) => Form::Answered(Answer::Of(Sort::Array)),
+        Code::IsOpen(_) => Form::Answered(Answer::Truth),
     }
-}
-
-/// Marks what code stores while something of this form is kept, and answers the code's form.
-#[cycle(marks)]
-pub(crate) fn mark_under(walk: &mut Walk, form: Form, code: &Code) -> Result<Form, AllocError>
-    ensures form { IfOk result (λ found. view_form found
-        ≡ form_in (kept_too (view_form form) (view_walk walk.old)) (view code.now)) }
-    ensures walk { OnOk result
-        (view_walk walk.new ≡ walked_under (view_form form) (view_walk walk.old) (view code.now)) }
-{
-    walk.keep(form)?;
-    let found = mark_code(walk, code)?;
-    walk.let_go();
-    Ok(found)
 }
 
 /// Marks what codes store, one after the other.
 #[cycle(marks)]
-fn mark_codes(walk: &mut Walk, codes: &[Code]) -> Result<(), AllocError>
-    ensures { OnOk result
-        (view_walk walk.new ≡ walked_each (view_walk walk.old) (map view codes.now)) }
+fn mark_codes<'a>(walk: &mut Walk, kept: &'a Kept<'a>, codes: &[Code])
+    ensures { view_walk walk.new
+        ≡ after (view_walk walk.old) (stores_each (view_kept kept.now) (map view codes.now)) }
 {
     for code in codes {
-        mark_code(walk, code)?;
+        mark_code(walk, kept, code);
     }
-    Ok(())
 }
 
 #[cycle(marks)]
-fn mark_operand(walk: &mut Walk, operand: &Operand) -> Result<(), AllocError>
-    ensures { OnOk result
-        (view_walk walk.new ≡ walked_in (view_walk walk.old) (before operand.now End)) }
+fn mark_operand<'a>(walk: &mut Walk, kept: &'a Kept<'a>, operand: &Operand)
+    ensures { view_walk walk.new
+        ≡ after (view_walk walk.old) (stores_in (view_kept kept.now) (before operand.now End)) }
 {
     match operand {
         Operand::Code(code) => {
-            mark_code(walk, code)?;
-            Ok(())
+            mark_code(walk, kept, code);
         }
-        Operand::Constant(_) | Operand::Fresh => Ok(()),
+        Operand::Constant(_) | Operand::Fresh => {}
     }
 }
 
 /// Marks what operands store.
 #[cycle(marks)]
-fn mark_operands(walk: &mut Walk, operands: &[Operand]) -> Result<(), AllocError>
-    ensures { OnOk result
-        (view_walk walk.new ≡ walked_in (view_walk walk.old) (views operands.now)) }
+fn mark_operands<'a>(walk: &mut Walk, kept: &'a Kept<'a>, operands: &[Operand])
+    ensures { view_walk walk.new
+        ≡ after (view_walk walk.old) (stores_in (view_kept kept.now) (views operands.now)) }
 {
     for operand in operands {
-        mark_operand(walk, operand)?;
+        mark_operand(walk, kept, operand);
     }
-    Ok(())
 }
 
 #[cycle(marks)]
-fn mark_argument(
+fn mark_argument<'a>(
     walk: &mut Walk,
+    kept: &'a Kept<'a>,
     function: usize,
     place: usize,
     operand: &Operand,
-) -> Result<(), AllocError>
-    ensures { OnOk result (view_walk walk.new
-        ≡ walked_given function place (view_walk walk.old) (before operand.now End)) }
+)
+    ensures { view_walk walk.new ≡ after (view_walk walk.old) (stores_given function place
+        (view_kept kept.now) (before operand.now End)) }
 {
     match operand {
         Operand::Code(code) => {
-            let form = mark_code(walk, code)?;
+            let form = mark_code(walk, kept, code);
             walk.give(function, place, form);
-            Ok(())
         }
-        Operand::Constant(_) | Operand::Fresh => Ok(()),
+        Operand::Constant(_) | Operand::Fresh => {}
     }
 }
 
 /// Marks what the arguments of a call store, and the arguments themselves.
 #[cycle(marks)]
-fn mark_arguments(walk: &mut Walk, function: usize, operands: &[Operand]) -> Result<(), AllocError>
-    ensures { OnOk result
-        (view_walk walk.new ≡ walked_given function 0 (view_walk walk.old) (views operands.now)) }
+fn mark_arguments<'a>(walk: &mut Walk, kept: &'a Kept<'a>, function: usize, operands: &[Operand])
+    ensures { view_walk walk.new ≡ after (view_walk walk.old) (stores_given function 0
+        (view_kept kept.now) (views operands.now)) }
 {
     for place in 0..operands.len() {
-        mark_argument(walk, function, place, &operands[place])?;
+        mark_argument(walk, kept, function, place, &operands[place]);
     }
-    Ok(())
 }

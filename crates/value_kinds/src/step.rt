@@ -9,57 +9,33 @@ ghost use Rattle.value_kinds.specs.View.{slots};
 use crate::code::lane_code;
 use crate::names::Names;
 use mid_program::Step;
-use std::mem;
-
-/// The step with lanes at its names.
-#[cycle(step_lanes)]
-fn laned(names: Names<'_>, step: Step) -> Step
-    ensures { view_step result ≡ step_in (slots names.entry) Do (view_step step) }
-{
-    match step {
-        Step::Eval(mut code) => {
-            lane_code(names, &mut code);
-            Step::Eval(code)
-        }
-        Step::Block(mut steps) => {
-            lane_steps(names, &mut steps);
-            Step::Block(steps)
-        }
-        Step::If(mut test, mut yes, mut no) => {
-            lane_code(names, &mut test);
-            lane_step(names, &mut yes);
-            lane_step(names, &mut no);
-            Step::If(test, yes, no)
-        }
-        Step::Loop(first, mut test, mut body, mut between) => {
-            lane_code(names, &mut test);
-            lane_step(names, &mut body);
-            lane_step(names, &mut between);
-            Step::Loop(first, test, body, between)
-        }
-        Step::Each(array, mut store, mut body) => {
-            lane_code(names, &mut store);
-            lane_step(names, &mut body);
-            Step::Each(array, store, body)
-        }
-        Step::ExitWith(mut code) => {
-            lane_code(names, &mut code);
-            Step::ExitWith(code)
-        }
-        Step::Return(mut code) => {
-            lane_code(names, &mut code);
-            Step::Return(code)
-        }
-        Step::Break | Step::Continue | Step::Next | Step::Exit | Step::Mark(_, _) => step,
-    }
-}
 
 /// Gives lanes to the names in a step.
 #[cycle(step_lanes)]
 fn lane_step(names: Names<'_>, step: &mut Step)
     ensures { view_step step.new ≡ step_in (slots names.entry) Do (view_step step.old) }
 {
-    *step = laned(names, mem::replace(step, Step::Break));
+    match step {
+        Step::Eval(code) => lane_code(names, code),
+        Step::Block(steps) => lane_steps(names, steps),
+        Step::If(test, yes, no) => {
+            lane_code(names, test);
+            lane_step(names, yes);
+            lane_step(names, no);
+        }
+        Step::Loop(_, test, body, between) => {
+            lane_code(names, test);
+            lane_step(names, body);
+            lane_step(names, between);
+        }
+        Step::Each(_, store, body) => {
+            lane_code(names, store);
+            lane_step(names, body);
+        }
+        Step::ExitWith(code) => lane_code(names, code),
+        Step::Return(code) => lane_code(names, code),
+        Step::Break | Step::Continue | Step::Next | Step::Exit | Step::Mark(_, _) => {}
+    }
 }
 
 /// Gives lanes to the names in steps.

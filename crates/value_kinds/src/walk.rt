@@ -1,19 +1,16 @@
 //! The walk over code, which marks what is stored.
 
-ghost use Rattle.std.specs.Prelude.{◌≡◌, ◌∷◌, [], map, OnOk};
-ghost use Rattle.mid_program.specs.Mid.{form_at};
+ghost use Rattle.std.specs.Prelude.{◌≡◌, ◌∷◌, [], map};
 ghost use Rattle.mid_program.specs.View.{view_kind};
 ghost use Rattle.mid_program.specs.ViewCode.{view_slot};
 ghost use Rattle.value_kinds.specs.Lanes.{close_at, close_in, closed};
 ghost use Rattle.mid_rewriting.specs.Stores.{Given, Into};
 ghost use Rattle.value_kinds.specs.View.{view_form, view_kinds, view_walk};
-ghost use Rattle.value_kinds.specs.Walks.{after, kept_too, last_let_go};
+ghost use Rattle.value_kinds.specs.Walks.{after};
 
 use crate::form::Form;
 use crate::names::Lanes;
 use mid_program::{Kind, Slot};
-use sem_primitives::Answer;
-use std::alloc::AllocError;
 
 /// The walk over the code of a function.
 #[derive(Drop)]
@@ -22,8 +19,6 @@ pub(crate) struct Walk {
     pub(crate) lanes: Lanes,
     /// The function's number; the main parts have one that no function has.
     pub(crate) function: usize,
-    /// The forms of what is kept, the last one last.
-    pub(crate) kept: Vec<Form>,
 }
 
 fn closed(kind: Kind) -> Kind
@@ -55,33 +50,6 @@ fn close_in(functions: &mut Vec<Vec<Kind>>, function: usize, place: usize)
 }
 
 impl Walk {
-    /// The form of what was kept with so many others after it.
-    pub(crate) fn form_at(&self, place: usize) -> Form
-        ensures { view_form result ≡ form_at (view_walk self.now).kept place }
-    {
-        if place < self.kept.len() {
-            self.kept[self.kept.len() - 1 - place]
-        } else {
-            Form::Answered(Answer::Nothing)
-        }
-    }
-
-    /// Keeps what has this form.
-    pub(crate) fn keep(&mut self, form: Form) -> Result<(), AllocError>
-        ensures { OnOk result
-            (view_walk self.new ≡ kept_too (view_form form) (view_walk self.old)) }
-    {
-        self.kept.push(form)?;
-        Ok(())
-    }
-
-    /// Keeps the last one no longer.
-    pub(crate) fn let_go(&mut self)
-        ensures { view_walk self.new ≡ last_let_go (view_walk self.old) }
-    {
-        let _last = self.kept.pop();
-    }
-
     /// Marks what is stored into a name.
     pub(crate) fn store(&mut self, slot: Slot, form: Form)
         ensures { view_walk self.new

@@ -39,7 +39,7 @@ chain-loop-preserved t c =
 pub list-loop-init : goal.list-loop-init
 list-loop-init t c =
     let first : expr_at c.args.limit c.args.greater Whole (seen c.args.tokens.now) ≡ Ok (view c.in_ok-first.first.tree, seen c.in_ok-first.first.rest.now) = c.in_ok-first.ensures.tree in
-    let items : views c.push.new.self.items ≡ Then (view c.in_ok-first.first.tree) NoTree = ap views (c.in_ok-push.ensures.items ∙ ap (λ (es : List Expr). es ++ (c.in_ok-first.first.tree ∷ [])) c.new-trees.ensures.items) in
+    let items : views c.push.new.items.items ≡ Then (view c.in_ok-first.first.tree) NoTree = ap views (c.in_ok-push.ensures.items ∙ ap (λ (es : List Expr). es ++ (c.in_ok-first.first.tree ∷ [])) c.new-trees.ensures.items) in
     let turns : length c.in_ok-first.first.rest.now - 0 ≡ length (seen c.in_ok-first.first.rest.now) = omega (arith, seen_length c.in_ok-first.first.rest.now) in
     record {
       same = rw (items, turns, first) refl;
@@ -61,7 +61,7 @@ list-returns-in_err-next-clause-trees t c =
 pub list-loop-preserved : goal.list-loop-preserved
 list-loop-preserved t c =
     let next = c.in_ok-next.next in
-    let items : views c.push-in-loop.new.self.items ≡ followed_by (views c.loop.trees.items) (Then (view next.tree) NoTree) = ap views c.in_ok-push-2.ensures.items ∙ views_push c.loop.trees.items next.tree in
+    let items : views c.push-in-loop.new.items.items ≡ followed_by (views c.loop.trees.items) (Then (view next.tree) NoTree) = ap views c.in_ok-push-2.ensures.items ∙ views_push c.loop.trees.items next.tree in
     record {
       same = rw items (front_next (expr_at c.args.limit) c.args.greater c.loop.counter (length c.in_ok-first.first.rest.now) (views c.loop.trees.items) (seen c.loop.rest.now) (seen c.in-Some.behind.now) (seen next.rest.now) (view next.tree) c.loop-test.true c.in-Some.ensures c.in_ok-next.ensures.tree ∙ c.loop.invariant.same);
       depth = rw items (omega (arith, c.max-depth.ensures, depths_push (views c.loop.trees.items) (view next.tree), c.in_ok-next.ensures.depth, c.loop.invariant.depth));

@@ -1,8 +1,9 @@
-use Rattle.std.proofs.Common.{◌≡◌, ◌++◌, drop}
+use Rattle.std.proofs.Common.{drop}
 use Rattle.awk_grammar.specs.ViewStmt.{view_stmts}
 use Rattle.awk_kinds.specs.Marks.{stmts_marks}
-use Rattle.awk_resolve.specs.View.{view_marks, view_place}
+use Rattle.awk_resolve.specs.View.{view_place}
+use Rattle.awk_resolve.proofs.Keeping.{Leads}
 use Rattle.awk_resolve.proofs.walk_stmt.+walk_stmt.Given as goal
 
 abbrev pub invariant-push_stmts-loop-s : goal.invariant-push_stmts-loop-s
-invariant-push_stmts-loop-s l = view_marks l.out.items ++ stmts_marks (view_place l.place) (view_stmts (drop l.s-index l.body)) ≡ view_marks l.fn.out.items ++ stmts_marks (view_place l.place) (view_stmts l.body)
+invariant-push_stmts-loop-s l = Leads l.fn.out l.out (stmts_marks (view_place l.place) (view_stmts (drop l.s-index l.body))) (stmts_marks (view_place l.place) (view_stmts l.body))

@@ -1,15 +1,14 @@
 use Rattle.std.proofs.Common.{ap, sym, ◌∙◌, refl, arith}
-use Rattle.std.proofs.lemmas.List.{get_or_default}
 use Rattle.std.proofs.lemmas.Result.{IfOk-weaker}
 use Rattle.awk_grammar.specs.View.{view as tree, views as trees, view_binary}
-use Rattle.awk_grammar.specs.declared.tree.Expr.{Expr}
+use Rattle.awk_grammar.specs.Tree.{Tree}
 use Rattle.awk_grammar.proofs.Views.{element_is, call_is, apply_is, in_list_is}
+use Rattle.awk_resolve.specs.ViewKinds.{view_name}
 use Rattle.mid_program.specs.Mid as plain
-use Rattle.mid_program.specs.Translation.{applied_code, code_of}
+use Rattle.mid_program.specs.Translation.{applied_code, code_of, given_code}
 use Rattle.mid_code.specs.Keys.{key_of}
 use Rattle.mid_code.specs.ViewScope.{scope_of, texts_of}
-use Rattle.mid_code.proofs.CodeParts.{applied_one, binary_is, call_computed, call_end, call_missing, call_named, conditional_code, element_code, element_kept, in_list_code, index_code, each_end, each_step, key_each, length_more, list_code, match_code, no_trees, one_tree, only_first, operands_end, operands_step, other_code, other_operator, place_replaced, quotient_code, record_replaced, split_by_code, split_code, split_none, substr_code, substr_from}
-use Rattle.mid_code.proofs.expression.+expressions.Goals.{call-then-i-es+in_ok-push, call-else-i-es+in-Some+in_ok-passed+in_ok-push-2, call-else-i-es+in_default+in_ok-code+in_ok-push-3}
+use Rattle.mid_code.proofs.CodeParts.{applied_one, assign_code, binary_code, binary_is, field_code, file_code, file_line_code, group_code, in_code, line_code, post_code, pre_code, unary_code, call_end, call_step, conditional_code, element_code, element_kept, in_list_code, index_code, each_end, each_step, given_argument, given_missing, given_other, key_each, length_more, list_code, match_code, no_trees, one_tree, only_first, operands_end, operands_step, other_code, other_operator, place_replaced, quotient_code, record_replaced, split_by_code, split_code, split_none, substr_code, substr_from}
 use Rattle.mid_code.proofs.expression.+expressions.Goals as goal
 
 -- code
@@ -51,6 +50,50 @@ kept-returns-in_ok-key-in-Element t c =
     (element_is c.args.place.now c.in-Element.field-0 c.in-Element.subscripts _ _ c.in-Element.is refl c.deref.ensures.value)
     c.in_ok-key-in-Element.ensures
 
+pub code-returns-in-Field : goal.code-returns-in-Field
+code-returns-in-Field t c =
+    IfOk-weaker c.host_of.result _ _ (λ r h. h ∙ field_code (texts_of c.args.scope.now) (scope_of c.args.scope.now) c.args.e.now _ _ c.in-Field.is c.deref-in-Field.ensures) c.host_of.ensures
+
+pub code-returns-in-Group : goal.code-returns-in-Group
+code-returns-in-Group t c =
+    IfOk-weaker c.code.result _ _ (λ r h. h ∙ group_code (texts_of c.args.scope.now) (scope_of c.args.scope.now) c.args.e.now _ _ c.in-Group.is c.deref-in-Group.ensures) c.code.ensures
+
+pub code-returns-in_ok-code-in-Unary : goal.code-returns-in_ok-code-in-Unary
+code-returns-in_ok-code-in-Unary t c =
+    IfOk-weaker c.prefixed.result _ _ (λ r h. h ∙ unary_code (texts_of c.args.scope.now) (scope_of c.args.scope.now) c.args.e.now _ _ _ _ c.in-Unary.is c.deref-in-Unary.ensures c.in_ok-code-in-Unary.ensures) c.prefixed.ensures
+
+pub code-returns-in_ok-kept-in-PreStep : goal.code-returns-in_ok-kept-in-PreStep
+code-returns-in_ok-kept-in-PreStep t c =
+    IfOk-weaker c.step_place.result _ _ (λ r h. h ∙ pre_code (texts_of c.args.scope.now) (scope_of c.args.scope.now) c.args.e.now _ _ _ _ _ c.in-PreStep.is c.deref-in-PreStep.ensures c.deref-in-PreStep-2.ensures c.in_ok-kept-in-PreStep.ensures) c.step_place.ensures
+
+pub code-returns-in_ok-kept-in-PostStep : goal.code-returns-in_ok-kept-in-PostStep
+code-returns-in_ok-kept-in-PostStep t c =
+    IfOk-weaker c.step_place_after.result _ _ (λ r h. h ∙ post_code (texts_of c.args.scope.now) (scope_of c.args.scope.now) c.args.e.now _ _ _ _ _ c.in-PostStep.is c.deref-in-PostStep.ensures c.deref-in-PostStep-2.ensures c.in_ok-kept-in-PostStep.ensures) c.step_place_after.ensures
+
+pub code-returns-in_ok-operand-in-Binary : goal.code-returns-in_ok-operand-in-Binary
+code-returns-in_ok-operand-in-Binary t c =
+    IfOk-weaker c.combined.result _ _ (λ r h. h ∙ binary_code (texts_of c.args.scope.now) (scope_of c.args.scope.now) c.args.e.now _ _ _ _ _ _ _ c.in-Binary.is c.deref-in-Binary.ensures c.deref-in-Binary-2.ensures c.in_ok-left-in-Binary.ensures c.in_ok-operand-in-Binary.ensures) c.combined.ensures
+
+pub code-returns-in_ok-code-in-Assign : goal.code-returns-in_ok-code-in-Assign
+code-returns-in_ok-code-in-Assign t c =
+    IfOk-weaker c.assign_place.result _ _ (λ r h. h ∙ assign_code (texts_of c.args.scope.now) (scope_of c.args.scope.now) c.args.e.now _ _ _ _ _ _ _ _ c.in-Assign.is c.deref-in-Assign.ensures c.deref-in-Assign-2.ensures c.deref-in-Assign-3.ensures c.in_ok-kept-in-Assign.ensures c.in_ok-code-in-Assign.ensures) c.assign_place.ensures
+
+pub code-returns-in_ok-boxed_code-in-In : goal.code-returns-in_ok-boxed_code-in-In
+code-returns-in_ok-boxed_code-in-In t c =
+    IfOk-weaker c.host_array-in-In.result _ _ (λ r h. h ∙ in_code (texts_of c.args.scope.now) (scope_of c.args.scope.now) c.args.e.now _ _ _ _ _ c.in-In.is c.deref-in-In-2.ensures c.deref-in-In.ensures.value c.in_ok-boxed_code-in-In.ensures) c.host_array-in-In.ensures
+
+pub code-returns-in_ok-kept-in-GetlineInto : goal.code-returns-in_ok-kept-in-GetlineInto
+code-returns-in_ok-kept-in-GetlineInto t c =
+    IfOk-weaker c.line_into.result _ _ (λ r h. h ∙ line_code (texts_of c.args.scope.now) (scope_of c.args.scope.now) c.args.e.now _ _ _ _ c.in-GetlineInto.is c.deref-in-GetlineInto.ensures c.deref-in-GetlineInto-2.ensures c.in_ok-kept-in-GetlineInto.ensures) c.line_into.ensures
+
+pub code-returns-in_ok-code-in-GetlineFrom : goal.code-returns-in_ok-code-in-GetlineFrom
+code-returns-in_ok-code-in-GetlineFrom t c =
+    IfOk-weaker c.host_number.result _ _ (λ r h. h ∙ file_code (texts_of c.args.scope.now) (scope_of c.args.scope.now) c.args.e.now _ _ _ c.in-GetlineFrom.is c.deref-in-GetlineFrom.ensures c.in_ok-code-in-GetlineFrom.ensures) c.host_number.ensures
+
+pub code-returns-in_ok-boxed_code-in-GetlineIntoFrom : goal.code-returns-in_ok-boxed_code-in-GetlineIntoFrom
+code-returns-in_ok-boxed_code-in-GetlineIntoFrom t c =
+    IfOk-weaker c.file_line_into.result _ _ (λ r h. h ∙ file_line_code (texts_of c.args.scope.now) (scope_of c.args.scope.now) c.args.e.now _ _ _ _ _ _ _ c.in-GetlineIntoFrom.is c.deref-in-GetlineIntoFrom.ensures c.deref-in-GetlineIntoFrom-2.ensures c.deref-in-GetlineIntoFrom-3.ensures c.in_ok-kept-in-GetlineIntoFrom.ensures c.in_ok-boxed_code-in-GetlineIntoFrom.ensures) c.file_line_into.ensures
+
 -- lists
 
 pub push_operands-loop-e-preserved : goal.push_operands-loop-e-preserved
@@ -75,23 +118,27 @@ key-returns t c =
     IfOk-weaker c.key_of.result _ _ (λ r h. h ∙ ap key_of c.in_ok-codes.ensures ∙ key_each (texts_of c.args.scope.now) (scope_of c.args.scope.now)
     (trees c.args.subscripts.now)) c.key_of.ensures
 
+pub argument-returns-in-Some : goal.argument-returns-in-Some
+argument-returns-in-Some t c =
+    let other = code_of (texts_of c.args.scope.now) (scope_of c.args.scope.now) (tree c.args.e.now) in
+    IfOk-weaker c.passed.result _ _ (λ r h. h ∙ sym (ap (λ (u : Tree). given_code (texts_of c.args.scope.now) (scope_of c.args.scope.now) (view_name c.args.parameter.now) u other) c.in-Some.ensures))
+    c.passed.ensures
+
+pub argument-returns-in-None : goal.argument-returns-in-None
+argument-returns-in-None t c =
+    IfOk-weaker c.code.result _ _ (λ r h. h ∙ sym (given_other (texts_of c.args.scope.now) (scope_of c.args.scope.now) (view_name c.args.parameter.now) (tree c.args.e.now) _ c.in-None.ensures)) c.code.ensures
+
+pub given-returns-then-place-es : goal.given-returns-then-place-es
+given-returns-then-place-es t c =
+    given_missing (texts_of c.args.scope.now) (scope_of c.args.scope.now) (view_name c.args.parameter.now) c.missing.result c.args.es.now c.args.place (omega arith) c.missing.ensures
+
+pub given-returns : goal.given-returns
+given-returns t c =
+    given_argument (texts_of c.args.scope.now) (scope_of c.args.scope.now) (view_name c.args.parameter.now) _ c.args.es.now c.args.place c.index-es-place.result (omega arith) c.index-es-place.is c.in_ok-argument.ensures
+
 pub call-loop-i-preserved : goal.call-loop-i-preserved
 call-loop-i-preserved t c =
-    let ps = c.parameters_of-parameters.result.now in
-    let es = c.args.es.now in
-    elim c.if-i-es.branch [
-      | call-then-i-es+in_ok-push w ↦ rw w.operands-is (call_missing (texts_of c.args.scope.now)
-          (scope_of c.args.scope.now) _ _ w.missing.result ps es c.loop-i.i _ _ (omega arith)
-          (omega arith) w.in_ok-push.ensures.items w.missing.ensures c.loop-i.invariant)
-      | call-else-i-es+in-Some+in_ok-passed+in_ok-push-2 w ↦ rw w.operands-is
-          (call_named (texts_of c.args.scope.now) (scope_of c.args.scope.now) _ _ _ ps es c.loop-i.i _ w.index-es-i.result _ _ (omega arith)
-          (omega arith) w.index-es-i.is w.in_ok-push-2.ensures.items w.in-Some.ensures w.in_ok-passed.ensures c.loop-i.invariant)
-      | call-else-i-es+in_default+in_ok-code+in_ok-push-3 w ↦ rw w.operands-is
-          (call_computed (texts_of c.args.scope.now) (scope_of c.args.scope.now) _ _ _ ps es c.loop-i.i w.index-es-i.result _ (omega arith)
-          (omega arith) w.index-es-i.is w.in_ok-push-3.ensures.items w.in_default.ensures
-          (w.in_ok-code.ensures ∙ ap (λ (e : Expr). code_of (texts_of c.args.scope.now) (scope_of c.args.scope.now) (tree e))
-          (w.index-es-i-in_default.is ∙ get_or_default es c.loop-i.i _ _ (omega arith) ∙ sym w.index-es-i.is)) c.loop-i.invariant)
-    ]
+    call_step (texts_of c.args.scope.now) (scope_of c.args.scope.now) _ _ _ c.parameters_of-parameters.result.now c.args.es.now c.loop-i.i _ _ (omega arith) c.in_ok-push.ensures.items c.in_ok-given.ensures c.loop-i.invariant
 
 pub call-returns : goal.call-returns
 call-returns t c =

@@ -1,11 +1,9 @@
 use Rattle.std.proofs.Common.{◌≡◌, map, drop}
 use Rattle.mid_program.specs.View.{view_routine}
 use Rattle.value_kinds.specs.Lanes.{routines_marked}
-use Rattle.value_kinds.specs.View.{view_lanes, view_walk}
+use Rattle.value_kinds.specs.View.{view_lanes}
 use Rattle.value_kinds.proofs.inference.mark_routines.Given as goal
 
 abbrev pub invariant-loop-place : goal.invariant-loop-place
-invariant-loop-place l = record {
-  lanes : routines_marked l.place (view_lanes l.walk.lanes) (map view_routine (drop l.place l.routines)) ≡ routines_marked 0 (view_lanes l.fn.walk.lanes) (map view_routine l.routines);
-  kept : (view_walk l.walk).kept ≡ (view_walk l.fn.walk).kept;
-}
+invariant-loop-place l =
+    routines_marked l.place (view_lanes l.walk.lanes) (map view_routine (drop l.place l.routines)) ≡ routines_marked 0 (view_lanes l.fn.walk.lanes) (map view_routine l.routines)

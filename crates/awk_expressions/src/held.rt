@@ -1,0 +1,20 @@
+//! Boxes and lists of what owns much: what finds no room is let go here, for every type at once.
+
+ghost use Rattle.std.specs.Prelude.{◌≡◌, [], ◌∷◌, ◌++◌, IfOk, OnOk};
+
+use std::alloc::{AllocError, Global};
+
+/// A value on the heap.
+pub(crate) fn on_heap<T: Drop>(alloc: Global, value: T) -> Result<Box<T>, AllocError>
+    ensures value { IfOk result (λ held. held.value ≡ value) }
+{
+    Ok(Box::new(alloc, value)?)
+}
+
+/// Adds an item to others.
+pub(crate) fn push<T: Drop>(items: &mut Vec<T>, item: T) -> Result<(), AllocError>
+    ensures items { OnOk result (items.new.items ≡ items.old.items ++ item ∷ []) }
+{
+    items.push(item)?;
+    Ok(())
+}
