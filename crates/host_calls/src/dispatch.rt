@@ -11,7 +11,7 @@ use host_values::ValuePrimitive;
 use sem_primitives::Primitive;
 
 /// A call, by the family that answers it.
-#[derive(Clone, Copy, Debug, PartialEq, Eq, Drop)]
+#[derive(Clone, Copy, Drop)]
 pub(crate) enum Call {
     /// On the tables alone.
     Table(TableCall),

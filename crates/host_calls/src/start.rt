@@ -16,6 +16,14 @@ use std::alloc::Global;
 use std::hash::RandomState;
 use world_core::World;
 
+/// The second of two values; the first is let go.
+fn kept<A: Drop, B>(gone: A, kept: B) -> B
+    ensures { result ≡ kept }
+{
+    drop(gone);
+    kept
+}
+
 impl<W: World> Host<W> {
     /// The host at the start of a job: no value has a handle, ARGV and ENVIRON are filled, nothing is read, and no fault is kept but
     /// [`Fault::TextLimit`], where a text of the job is past 67,108,864 bytes. The keys of arrays are hashed by the state; no answer depends on it.
@@ -78,6 +86,14 @@ impl<W: World> Host<W> {
     pub fn into_world(self) -> W
         ensures { result ≡ self.world }
     {
-        self.world
+        let Host {
+            links,
+            tables,
+            input,
+            line,
+            world,
+            ..
+        } = self;
+        kept((links, tables, input, line), world)
     }
 }

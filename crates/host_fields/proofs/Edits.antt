@@ -31,3 +31,9 @@ undone old vs count k v w is held =
     ap (take (length old)) (set-set vs k v w ∙ ap (λ x. slice_set vs k x) held ∙ set-get_or vs k w ∙ is)
     ∙ take-append-le (length old) old (replicate (count - length old) Uninit) (le_refl (length old))
     ∙ take_all (length old) old (le_refl (length old))
+
+-- fields that are taken away again
+pub taken_back : (old vs : List Value) (count former : ℕ) → vs ≡ at_least count old → former ≡ length old → take former vs ≡ old
+taken_back old vs count former is len =
+    ap (λ n. take n vs) len ∙ ap (take (length old)) is
+    ∙ take-append-le (length old) old (replicate (count - length old) Uninit) (le_refl (length old)) ∙ take_all (length old) old (le_refl (length old))

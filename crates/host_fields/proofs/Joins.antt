@@ -1,6 +1,6 @@
 -- The text of a record that is made of its fields, field by field.
-use Rattle.std.proofs.Common.{◌≡◌, ℕ, ◌≤◌, List, [], ◌∷◌, ◌++◌, length, take, drop, get_or, ◌-◌, ap, ◌∙◌, append-nil, arith}
-use Rattle.std.proofs.lemmas.List.{length-append, take_rest}
+use Rattle.std.proofs.Common.{◌≡◌, ℕ, ◌+◌, ◌<◌, ◌≤◌, List, [], ◌∷◌, ◌++◌, length, take, drop, get_or, ◌-◌, add-one, drop-cons, ap, sym, subst, ◌∙◌, append-nil, drop_of_length-le, refl, suc, arith}
+use Rattle.std.proofs.lemmas.List.{append_assoc, length-append, take_rest}
 use Rattle.awk_values.specs.Values.{text_of_value}
 use Rattle.awk_values.specs.declared.fault.Stop.{Stop}
 use Rattle.awk_values.specs.declared.fault.Stop.TheVariants as stops
@@ -29,3 +29,41 @@ started between (v ∷ vs) first some is =
     ap (λ w. text_of_value w ++ followed between (take (length (v ∷ vs) - 1) (drop 1 (v ∷ vs)))) is
     ∙ ap (λ rest. text_of_value v ++ followed between rest) (take_rest (v ∷ vs) 1)
     ∙ joined_first between v vs
+
+module _ (between : List ℕ) (rest : List Value) (at : ℕ) (value : Value) (out total : List ℕ) (inside : at < length rest) (is : value ≡ get_or rest at value)
+    (told : out ++ followed between (drop at rest) ≡ total) where
+  begins : drop at rest ≡ value ∷ drop (at + 1) rest
+  begins = rw (add-one, drop-cons rest at value) (ap (λ v. v ∷ drop (suc at) rest) (sym is))
+
+  -- a field more is there, with the text before it
+  pub one_more : (put new : List ℕ) → put ≡ out ++ between → new ≡ put ++ text_of_value value → new ++ followed between (drop (at + 1) rest) ≡ total
+  one_more put new p q =
+      let tail = followed between (drop (at + 1) rest) in
+      ap (λ xs. xs ++ tail) (q ∙ ap (λ xs. xs ++ text_of_value value) p)
+      ∙ append_assoc (out ++ between) (text_of_value value) tail ∙ append_assoc out between (text_of_value value ++ tail)
+      ∙ ap (λ vs. out ++ followed between vs) (sym begins) ∙ told
+
+  -- it is too long with the text before it, or with the field
+  pub past_between : (stop : Stop) → IsPast (out ++ between) stop → IsPast total stop
+  past_between stop p =
+      let tail = followed between (drop (at + 1) rest) in
+      subst (λ xs. IsPast xs stop) (append_assoc out between (text_of_value value ++ tail) ∙ ap (λ vs. out ++ followed between vs) (sym begins) ∙ told)
+      (past_more (out ++ between) (text_of_value value ++ tail) stop p)
+
+  pub past_field : (put : List ℕ) (stop : Stop) → put ≡ out ++ between → IsPast (put ++ text_of_value value) stop → IsPast total stop
+  past_field put stop e p =
+      let tail = followed between (drop (at + 1) rest) in
+      subst (λ xs. IsPast xs stop) (one_more put (put ++ text_of_value value) e refl) (past_more (put ++ text_of_value value) tail stop p)
+
+-- the first field is too long
+pub past_first : (between : List ℕ) (values : List Value) (first : Value) (out : List ℕ) (stop : Stop) → 1 ≤ length values → first ≡ get_or values 0 first → out ≡ []
+    → IsPast (out ++ text_of_value first) stop → IsPast (joined between values) stop
+past_first between values first out stop some is none p =
+    let tail = followed between (take (length values - 1) (drop 1 values)) in
+    subst (λ xs. IsPast xs stop) (ap (λ xs. (xs ++ text_of_value first) ++ tail) none ∙ started between values first some is)
+    (past_more (out ++ text_of_value first) tail stop p)
+
+-- no field is left
+pub all_there : (between : List ℕ) (rest : List Value) (at : ℕ) (out total : List ℕ) → length rest ≤ at → out ++ followed between (drop at rest) ≡ total → out ≡ total
+all_there between rest at out total past told =
+    sym (append-nil out) ∙ ap (λ vs. out ++ followed between vs) (sym (drop_of_length-le rest past)) ∙ told

@@ -2,4 +2,5 @@ mod Joins
 mod Counting
 mod Splitting
 mod Edits
+mod Made
 mod Later

@@ -14,7 +14,7 @@ use host_format::{Plain, Span, split_plain};
 use std::alloc::AllocError;
 
 /// Where fields stand.
-#[derive(Clone, Copy, Debug, Drop)]
+#[derive(Clone, Copy, Drop)]
 pub(crate) enum Form {
     /// `$0` is not split yet. It is to be split by this, and by newlines where the flag says so, whatever FS and RS are by then.
     Later(Plain, bool),

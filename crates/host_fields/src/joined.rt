@@ -1,5 +1,5 @@
 //! The text of a record that is made of its fields.
-ghost use Rattle.std.specs.Prelude.{◌≡◌, ◌++◌, ◌≤◌, IfErr, IfOk, OnOk, length};
+ghost use Rattle.std.specs.Prelude.{◌≡◌, ◌++◌, ◌≤◌, [], IfErr, IfOk, OnOk, length};
 ghost use Rattle.awk_values.specs.Values.{text_of_value};
 ghost use Rattle.sem_primitives.specs.FieldMeaning.{joined};
 ghost use Rattle.sem_primitives.specs.Limits.{most_text};
@@ -59,6 +59,23 @@ fn room_for(values: &[Value], between: usize) -> usize {
     room.min(MAX_TEXT)
 }
 
+/// Adds the texts of values with another text between them to no text.
+fn put_all(out: &mut Vec<u8>, values: &[Value], between: &[u8]) -> Result<(), Stop>
+    requires { out.old.items ≡ [] }
+    ensures ok { OnOk result (out.new.items ≡ joined between.now values.now) }
+    ensures within { OnOk result (length out.new.items ≤ most_text) }
+    ensures err { IfErr result (IsPast (joined between.now values.now)) }
+{
+    if let [first, rest @ ..] = values {
+        put_value(out, first)?;
+        for value in rest {
+            put(out, between)?;
+            put_value(out, value)?;
+        }
+    }
+    Ok(())
+}
+
 /// The texts of values with another text between them.
 ///
 /// # Errors
@@ -70,12 +87,6 @@ pub(crate) fn joined(alloc: Global, values: &[Value], between: &[u8]) -> Result<
     ensures err { IfErr result (IsPast (joined between.now values.now)) }
 {
     let mut out = Vec::with_capacity(alloc, room_for(values, between.len()))?;
-    if let [first, rest @ ..] = values {
-        put_value(&mut out, first)?;
-        for value in rest {
-            put(&mut out, between)?;
-            put_value(&mut out, value)?;
-        }
-    }
+    put_all(&mut out, values, between)?;
     Ok(Bytes::from_vec(out)?)
 }

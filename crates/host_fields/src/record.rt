@@ -1,9 +1,11 @@
 //! The record.
-ghost use Rattle.std.specs.Prelude.{◌≡◌, ◌≢◌, ◌&&◌, not, [], IfErr, IfOk, OnErr, OnOk, get_or, length, pos};
-ghost use Rattle.awk_values.specs.declared.value.Value.TheVariants.{Uninit};
+ghost use Rattle.std.specs.Prelude.{◌≡◌, ◌≢◌, ◌&&◌, not, [], IfErr, IfOk, Ok, OnErr, OnOk, get_or, length, pos};
+ghost use Rattle.awk_values.specs.declared.value.Value.TheVariants.{StrNum, Uninit};
 ghost use Rattle.sem_primitives.specs.Texts.{is_empty};
 ghost use Rattle.sem_primitives.specs.FieldMeaning.{at_least, field_number};
 ghost use Rattle.host_format.specs.Outcomes.{IsStopOf};
+ghost use Rattle.host_fields.specs.Held.{AreHeld, fields_in};
+ghost use Rattle.host_fields.specs.declared.fields.Form.TheVariants.{Own};
 ghost use Rattle.host_fields.specs.Calls.{IsRecordOf, IsStopOfChange, IsStopOfRecord, Makes, Reads, count_set, field_set};
 
 use crate::fields::{Form, count_fields, part_of, to_own, to_split};
@@ -28,6 +30,33 @@ fn extend(fields: &mut Vec<Value>, count: usize) -> Result<(), AllocError>
     Ok(())
 }
 
+/// The fields become values of their own, at least as many as a number that a script gives. Gives that number, and how many fields there were.
+fn own_up_to(
+    form: &mut Form,
+    own: &mut Vec<Value>,
+    whole: &Value,
+    spans: &mut Vec<Span>,
+    n: i64,
+) -> Result<(usize, usize), Stop>
+    requires { AreHeld form.old whole.now spans.old.items }
+    ensures held { AreHeld form.new whole.now spans.new.items }
+    ensures number { IfOk result (λ x. Ok x.0 ≡ field_number n) }
+    ensures former { IfOk result
+        (λ x. x.1 ≡ length (fields_in form.old whole.now spans.old.items own.old.items)) }
+    ensures form { OnOk result (form.new ≡ Own) }
+    ensures fields { IfOk result (λ x. own.new.items
+        ≡ at_least x.0 (fields_in form.old whole.now spans.old.items own.old.items)) }
+    ensures err { IfErr result (IsStopOf (field_number n)) }
+    ensures refused { OnErr result (fields_in form.new whole.now spans.new.items own.new.items
+        ≡ fields_in form.old whole.now spans.old.items own.old.items) }
+{
+    let number = field_number(n)?;
+    to_own(form, own, whole, spans)?;
+    let former = own.len();
+    extend(own, number)?;
+    Ok((number, former))
+}
+
 /// The record and its fields (POSIX.1-2017 awk, "Variables and Special Variables"). Contracts see `$0`, and the fields from `$1` on.
 ///
 /// Fields that are split off are parts of the record's text, until a field or NF is set. Mostly they are split off when one of them, or NF, is first
@@ -43,6 +72,13 @@ pub struct Record {
     /// The fields that are values of their own.
     own: Vec<Value>,
     last: Option<LastSep>,
+}
+
+/// `$0` gets another text.
+fn put_text(whole: &mut Value, text: Bytes)
+    ensures { whole.new ≡ StrNum text }
+{
+    *whole = Value::StrNum(text);
 }
 
 /// Whether newlines separate fields too: where empty lines end records, unless each byte is a field.
@@ -96,7 +132,7 @@ impl Record {
             if text.len() < MAX_FIELDS {
                 self.own.clear();
                 self.form = Form::Later(by, newlines);
-                self.whole = Value::StrNum(text);
+                put_text(&mut self.whole, text);
                 return Ok(());
             }
         }
@@ -113,7 +149,7 @@ impl Record {
         swap(&mut self.spans, &mut self.spare);
         self.own.clear();
         self.form = Form::Parts;
-        self.whole = Value::StrNum(text);
+        put_text(&mut self.whole, text);
         Ok(())
     }
 
@@ -128,15 +164,19 @@ impl Record {
         ensures err { IfErr result (IsStopOfChange ofs.now (field_set n value) self.old) }
         ensures refused { OnErr result (self.new ≡ self.old) }
     {
+        let (number, former) = own_up_to(
+            &mut self.form,
+            &mut self.own,
+            &self.whole,
+            &mut self.spans,
+            n,
+        )?;
         let alloc = *self.own.allocator();
-        let number = field_number(n)?;
-        to_own(&mut self.form, &mut self.own, &self.whole, &mut self.spans)?;
-        let former = self.own.len();
-        extend(&mut self.own, number)?;
         let old = replace(&mut self.own[number - 1], value);
         match joined(alloc, self.own.as_slice(), ofs) {
             Ok(whole) => {
-                self.whole = Value::StrNum(whole);
+                put_text(&mut self.whole, whole);
+                drop(old);
                 Ok(())
             }
             Err(stop) => {
@@ -157,15 +197,18 @@ impl Record {
         ensures err { IfErr result (IsStopOfChange ofs.now (count_set n) self.old) }
         ensures refused { OnErr result (self.new ≡ self.old) }
     {
+        let (count, former) = own_up_to(
+            &mut self.form,
+            &mut self.own,
+            &self.whole,
+            &mut self.spans,
+            n,
+        )?;
         let alloc = *self.own.allocator();
-        let count = field_number(n)?;
-        to_own(&mut self.form, &mut self.own, &self.whole, &mut self.spans)?;
-        let former = self.own.len();
-        extend(&mut self.own, count)?;
         match joined(alloc, &self.own[..count], ofs) {
             Ok(whole) => {
                 self.own.truncate(count);
-                self.whole = Value::StrNum(whole);
+                put_text(&mut self.whole, whole);
                 Ok(())
             }
             Err(stop) => {

@@ -3,6 +3,7 @@ mod SpecialNumbers
 mod Starts
 mod Reading
 mod Spare
+mod Taken
 mod Steps
 mod Rows
 mod Outcomes

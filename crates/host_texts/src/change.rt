@@ -14,7 +14,7 @@ use crate::expressions::{first, matcher};
 use crate::reply::{Evaluated, Reply, counted};
 use crate::spent::Spent;
 use crate::texts::Texts;
-use crate::words::{flag_front, value_third};
+use crate::words::{flag_front, two_values, value_third};
 use awk_values::{Fault, Stop, Value};
 use host_expressions::Expressions;
 use host_handles::Handles;
@@ -117,9 +117,7 @@ pub(crate) fn match_at(
     ensures { (s : HostState) → Evaluates handles.now (holding texts.old s) result (holding
         texts.new s) (evaluation TextPrimitive.Match handles.now (holding texts.old s) words.now) }
 {
-    let (first, value, behind) = value_front(handles, words)?;
-    let (second, ere, rest) = value_after(handles, first, behind)?;
-    ends(rest)?;
+    let (first, value, second, ere) = two_values(handles, words)?;
     Ok(Evaluated {
         spent: Spent::Two(first, second),
         outcome: match_outcome(alloc, texts, value, ere)?,

@@ -15,10 +15,11 @@ use crate::record::{field, get_special, set_field, set_special};
 use crate::reply::{Evaluated, Reply, counted};
 use crate::spent::Spent;
 use crate::texts::Texts;
+use crate::words::{one_value, two_values};
 use awk_values::{Bytes, Value};
 use host_format::{index_of, lower, substr, upper};
 use host_handles::Handles;
-use host_values::{Refusal, ends, number_front, text_len, value_after, value_front, value_text};
+use host_values::{Refusal, ends, number_front, text_len, value_front, value_text};
 use std::alloc::{AllocError, Global};
 use wasm_store::Word;
 
@@ -27,8 +28,7 @@ fn length(handles: &Handles, words: &[Word]) -> Result<Evaluated, Refusal>
     ensures { (s : HostState) → Evaluates handles.now s result s
         (evaluation TextPrimitive.Length handles.now s words.now) }
 {
-    let (handle, value, rest) = value_front(handles, words)?;
-    ends(rest)?;
+    let (handle, value) = one_value(handles, words)?;
     Ok(Evaluated {
         spent: Spent::One(handle),
         outcome: Ok(Reply::Number(counted(text_len(value)))),
@@ -39,9 +39,7 @@ fn index(alloc: Global, handles: &Handles, words: &[Word]) -> Result<Evaluated, 
     ensures { (s : HostState) → Evaluates handles.now s result s
         (evaluation TextPrimitive.Index handles.now s words.now) }
 {
-    let (first, value, behind) = value_front(handles, words)?;
-    let (second, wanted, rest) = value_after(handles, first, behind)?;
-    ends(rest)?;
+    let (first, value, second, wanted) = two_values(handles, words)?;
     let text = value_text(alloc, value)?;
     let wanted = value_text(alloc, wanted)?;
     Ok(Evaluated {
@@ -54,8 +52,7 @@ fn lower_case(alloc: Global, handles: &Handles, words: &[Word]) -> Result<Evalua
     ensures { (s : HostState) → Evaluates handles.now s result s
         (evaluation TextPrimitive.Lower handles.now s words.now) }
 {
-    let (handle, value, rest) = value_front(handles, words)?;
-    ends(rest)?;
+    let (handle, value) = one_value(handles, words)?;
     let text = value_text(alloc, value)?;
     match lower(alloc, text.as_slice()) {
         Ok(text) => Ok(Evaluated {
@@ -70,8 +67,7 @@ fn upper_case(alloc: Global, handles: &Handles, words: &[Word]) -> Result<Evalua
     ensures { (s : HostState) → Evaluates handles.now s result s
         (evaluation TextPrimitive.Upper handles.now s words.now) }
 {
-    let (handle, value, rest) = value_front(handles, words)?;
-    ends(rest)?;
+    let (handle, value) = one_value(handles, words)?;
     let text = value_text(alloc, value)?;
     match upper(alloc, text.as_slice()) {
         Ok(text) => Ok(Evaluated {

@@ -12,10 +12,11 @@ ghost use Rattle.host_texts.specs.declared.primitive.TextPrimitive.{TextPrimitiv
 
 use crate::reply::{Evaluated, Reply};
 use crate::spent::Spent;
+use crate::words::two_values;
 use awk_values::{Fault, Stop, Value};
 use host_expressions::{Expressions, Matcher};
 use host_handles::Handles;
-use host_values::{Refusal, ends, value_after, value_front, value_text};
+use host_values::{Refusal, value_text};
 use std::alloc::{AllocError, Global};
 use wasm_store::Word;
 
@@ -90,9 +91,7 @@ pub(crate) fn matches(
     ensures { (s : HostState) → Evaluates handles.now s result s
         (evaluation TextPrimitive.Matches handles.now s words.now) }
 {
-    let (first, value, behind) = value_front(handles, words)?;
-    let (second, ere, rest) = value_after(handles, first, behind)?;
-    ends(rest)?;
+    let (first, value, second, ere) = two_values(handles, words)?;
     Ok(Evaluated {
         spent: Spent::Two(first, second),
         outcome: truth_outcome(alloc, expressions, value, ere)?,

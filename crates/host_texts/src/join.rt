@@ -12,9 +12,10 @@ ghost use Rattle.host_texts.specs.declared.primitive.TextPrimitive.{TextPrimitiv
 use crate::reply::{Evaluated, Reply};
 use crate::spent::Spent;
 use crate::texts::Texts;
+use crate::words::two_values;
 use awk_values::{Bytes, Fault, Value};
 use host_handles::Handles;
-use host_values::{Refusal, ends, push_text, text_len, value_after, value_front};
+use host_values::{Refusal, push_text, text_len};
 use sem_primitives::{MAX_TEXT, Special};
 use std::alloc::{AllocError, Global};
 use wasm_store::Word;
@@ -68,9 +69,7 @@ pub(crate) fn join(
     ensures { (s : HostState) → Evaluates handles.now (holding texts.now s) result (holding
         texts.now s) (evaluation TextPrimitive.Join handles.now (holding texts.now s) words.now) }
 {
-    let (first, left, behind) = value_front(handles, words)?;
-    let (second, right, rest) = value_after(handles, first, behind)?;
-    ends(rest)?;
+    let (first, left, second, right) = two_values(handles, words)?;
     Ok(Evaluated {
         spent: Spent::Two(first, second),
         outcome: join_outcome(alloc, texts, left, right)?,

@@ -4,14 +4,48 @@ ghost use Rattle.std.specs.FinMap as map;
 ghost use Rattle.sem_primitives.specs.Constants.{flag_at};
 ghost use Rattle.sem_primitives.specs.declared.sorts.Constant.{Constant};
 ghost use Rattle.host_step.specs.Arguments.{constant_front};
+ghost use Rattle.host_values.specs.Evaluations.{Values};
 ghost use Rattle.host_values.specs.Fronts.{handle_front, lent_handle, owned};
+ghost use Rattle.host_texts.specs.Evaluations.{Evaluation};
+ghost use Rattle.host_texts.specs.Shapes.{one_given, one_then, two_given, two_then};
+ghost use Rattle.awk_values.specs.declared.value.Value.{Value as AnyValue};
 
 use awk_values::Value;
 use host_handles::Handles;
+use host_values::{ends, value_after, value_front};
 use sem_primitives::Special;
 use wasm_store::{TrapKind, Word};
 
 const UNFIT: TrapKind = TrapKind::BadArgument;
+
+/// The one value that the words name, with its handle.
+#[inline(always)]
+pub(crate) fn one_value<'a>(
+    handles: &'a Handles,
+    words: &[Word],
+) -> Result<(i32, &'a Value), TrapKind>
+    ensures { (f : AnyValue → Values → Evaluation) → one_then handles.now words.now f
+        ≡ one_given handles.now f result }
+{
+    let (handle, value, rest) = value_front(handles, words)?;
+    ends(rest)?;
+    Ok((handle, value))
+}
+
+/// The two values that the words name, each with its handle.
+#[inline(always)]
+pub(crate) fn two_values<'a>(
+    handles: &'a Handles,
+    words: &[Word],
+) -> Result<(i32, &'a Value, i32, &'a Value), TrapKind>
+    ensures { (f : AnyValue → AnyValue → Values → Evaluation) → two_then handles.now words.now f
+        ≡ two_given handles.now f result }
+{
+    let (first, value, behind) = value_front(handles, words)?;
+    let (second, other, rest) = value_after(handles, first, behind)?;
+    ends(rest)?;
+    Ok((first, value, second, other))
+}
 
 /// A handle, with its value, where two handles before it are spent.
 #[tactic(auto, using(host_values::proofs::Tables::get_removed, host_values::proofs::Tables::get_others))]

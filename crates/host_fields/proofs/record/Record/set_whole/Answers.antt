@@ -1,6 +1,8 @@
 use Rattle.std.proofs.Common.{◌^◌, ◌<◌, ◌≤◌, ◌∙◌, Global, List, Vec, ℕ, map, sym, subst, ap, Ok}
+use Rattle.awk_values.specs.declared.value.Value.{Value}
 use Rattle.awk_values.specs.declared.value.Value.TheVariants.{StrNum}
-use Rattle.host_fields.specs.Held.{field_at, with_held}
+use Rattle.host_fields.specs.Held.{field_at, fields_in, with_held}
+use Rattle.host_fields.specs.declared.fields.Form.TheVariants.{Later, Parts}
 use Rattle.host_format.specs.declared.span.Span.{Span}
 use Rattle.host_fields.specs.Splits.{AreFields}
 use Rattle.host_fields.proofs.Splitting.{later_is, split_is, split_past}
@@ -17,6 +19,7 @@ pub returns-then-len-lt-MAX_FIELDS-clause-ok : goal.returns-then-len-lt-MAX_FIEL
 returns-then-len-lt-MAX_FIELDS-clause-ok c = λ inner p q.
     let short = subst (λ n. n < 2 ^ 20) c.len.ensures c.if-len-lt-MAX_FIELDS.true in
     later_is inner c.args.fs.now c.args.rs.now c.args.text c.do_newlines_separate-newlines.result c.in-Some.by c.do_newlines_separate-newlines.ensures p q c.in-Some.ensures short
+    ∙ ap (λ (w : Value). Ok (with_held (record { whole = w; fields = fields_in (Later c.in-Some.by c.do_newlines_separate-newlines.result) w c.self.inside.spans.items c.clear.new.self.items }) inner)) (sym c.put_text.ensures)
 
 pub returns-clause-ok : goal.returns-clause-ok
 returns-clause-ok c = λ inner p q.
@@ -25,3 +28,4 @@ returns-clause-ok c = λ inner p q.
     let few = subst (λ n. n ≤ 2 ^ 20) (c.len-2.ensures ∙ spans.ok.0) c.if-len-gt-MAX_FIELDS.false in
     split_is inner c.args.fs.now c.args.rs.now c.args.text c.do_newlines_separate-newlines.result spans.items c.do_newlines_separate-newlines.ensures p q are few
     ∙ ap (λ (vs : Vec Span Global). Ok (with_held (record { whole = StrNum c.args.text; fields = map (field_at c.args.text) vs.items }) inner)) (sym c.swap.ensures.x_after)
+    ∙ ap (λ (w : Value). Ok (with_held (record { whole = w; fields = fields_in Parts w c.swap.new.x.items c.clear-2.new.self.items }) inner)) (sym c.put_text-2.ensures)

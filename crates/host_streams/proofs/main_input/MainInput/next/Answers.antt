@@ -74,3 +74,49 @@ returns-in-Ok-Some-clause-passes g c =
     let some = c.in-Ok-Some.field-0-is in
     let passes = some_passes (g.O.Operands.text c.args.operands.now) c.steps.self.next c.step.new.self.next c.steps.self.found c.step.new.self.found c.in-Ok-Some.answer some c.in-Ok-Some.ensures.passes in
     passes_since _ (g.O.Operands.text c.args.operands.now) c.args.self.now c.steps.self c.step.new.self (Ok c.in-Ok-Some.answer) c.steps.invariant.so c.steps.invariant.skips c.steps.invariant.found (some_hands _ c.steps.self c.step.new.self c.in-Ok-Some.answer some c.in-Ok-Some.ensures.handed) passes
+
+pub returns-in-Ok-Some-clause-held : goal.returns-in-Ok-Some-clause-held
+returns-in-Ok-Some-clause-held g c = c.step.ensures.held
+
+pub returns-in-Ok-Some-clause-spares : goal.returns-in-Ok-Some-clause-spares
+returns-in-Ok-Some-clause-spares g c = λ k apart was.
+    let s = c.steps.invariant.spares k apart was in let t = c.step.ensures.spares k s.1 (λ e. was (sym s.0 ∙ e)) in (t.0 ∙ s.0, t.1)
+
+pub returns-in-Ok-Some-clause-no_others : goal.returns-in-Ok-Some-clause-no_others
+returns-in-Ok-Some-clause-no_others g c = λ k apart is.
+    let t = c.step.ensures.no_others k apart is in let s = c.steps.invariant.no_others k t.1 (λ e. is (sym t.0 ∙ e)) in (s.0 ∙ t.0, s.1)
+
+pub returns-in-Ok-Some-clause-outside : goal.returns-in-Ok-Some-clause-outside
+returns-in-Ok-Some-clause-outside g c = λ tells. c.step.ensures.outside tells ∙ c.steps.invariant.outside tells
+
+pub returns-in-Ok-Some-clause-places : goal.returns-in-Ok-Some-clause-places
+returns-in-Ok-Some-clause-places g c = λ tells k own apart was.
+    let s = c.steps.invariant.spares k apart was in
+    let now = c.step.ensures.places tells k own s.1 (λ e. was (sym s.0 ∙ e)) in
+    let first = c.steps.invariant.places tells k own apart was in (now.0 ∙ first.0, now.1 ∙ first.1)
+
+pub returns-in-Err-clause-held : goal.returns-in-Err-clause-held
+returns-in-Err-clause-held g c = c.step.ensures.held
+
+pub returns-in-Err-clause-spares : goal.returns-in-Err-clause-spares
+returns-in-Err-clause-spares g c = λ k apart was.
+    let s = c.steps.invariant.spares k apart was in let t = c.step.ensures.spares k s.1 (λ e. was (sym s.0 ∙ e)) in (t.0 ∙ s.0, t.1)
+
+pub returns-in-Err-clause-no_others : goal.returns-in-Err-clause-no_others
+returns-in-Err-clause-no_others g c = λ k apart is.
+    let t = c.step.ensures.no_others k apart is in let s = c.steps.invariant.no_others k t.1 (λ e. is (sym t.0 ∙ e)) in (s.0 ∙ t.0, s.1)
+
+pub returns-in-Err-clause-outside : goal.returns-in-Err-clause-outside
+returns-in-Err-clause-outside g c = λ tells. c.step.ensures.outside tells ∙ c.steps.invariant.outside tells
+
+pub returns-in-Err-clause-places : goal.returns-in-Err-clause-places
+returns-in-Err-clause-places g c = λ tells k own apart was.
+    let s = c.steps.invariant.spares k apart was in
+    let now = c.step.ensures.places tells k own s.1 (λ e. was (sym s.0 ∙ e)) in
+    let first = c.steps.invariant.places tells k own apart was in (now.0 ∙ first.0, now.1 ∙ first.1)
+
+pub returns-in-Ok-Some-clause-standard : goal.returns-in-Ok-Some-clause-standard
+returns-in-Ok-Some-clause-standard g c = standard_since _ c.args.self.now c.steps.self c.step.new.self c.steps.invariant.so c.steps.invariant.standard c.step.ensures.standard
+
+pub returns-in-Ok-Some-clause-there : goal.returns-in-Ok-Some-clause-there
+returns-in-Ok-Some-clause-there g c = there_since (number_of_value c.args.argc.now) c.args.self.now.next c.steps.self.next c.step.new.self.next c.steps.invariant.there c.step.ensures.there

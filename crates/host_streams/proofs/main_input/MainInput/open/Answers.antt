@@ -43,3 +43,21 @@ pub returns-clause-finds : goal.returns-clause-finds
 returns-clause-finds g c =
     open_finds c.args.self.now (record c.args.self.now { next = c.args.self.now.next + 1; found = SomeFile; reading = c.in_ok-opened.opened }) c.args.name c.requires.live c.requires.plain c.requires.file
     (subst (λ (n : List ℕ). reader_of (λ target. entry_of_reading c.in_ok-opened.opened) n ≡ reading_found c.in_ok-opened.opened) c.as_slice.ensures.value c.in_ok-opened.ensures.finds) refl refl refl c.in_default.not-Nothing
+
+pub returns-clause-standard : goal.returns-clause-standard
+returns-clause-standard g c = refl
+
+pub returns-clause-outside : goal.returns-clause-outside
+returns-clause-outside g c = λ tells. c.open_operand.ensures.outside tells
+
+pub returns-in-Nothing-clause-standard : goal.returns-in-Nothing-clause-standard
+returns-in-Nothing-clause-standard g c = refl
+
+pub returns-in-Nothing-clause-outside : goal.returns-in-Nothing-clause-outside
+returns-in-Nothing-clause-outside g c = λ tells. c.open_operand.ensures.outside tells
+
+pub returns-in_err-opened-clause-standard : goal.returns-in_err-opened-clause-standard
+returns-in_err-opened-clause-standard g c = refl
+
+pub returns-in_err-opened-clause-outside : goal.returns-in_err-opened-clause-outside
+returns-in_err-opened-clause-outside g c = λ tells. c.open_operand.ensures.outside tells

@@ -78,3 +78,108 @@ returns-in-Ok-Failed-clause-handed g c = record {
 pub returns-in-Err-clause-handed : goal.returns-in-Err-clause-handed
 returns-in-Err-clause-handed g c =
     refused_hands c.args.rs c.args.self.now c.read.new.self c.in-Err.stop c.in-Err.ensures.limit (record { live = c.requires.live; busy = c.requires.busy; handed = c.in-Err.ensures.handed })
+
+pub returns-in-Ok-Record-clause-held : goal.returns-in-Ok-Record-clause-held
+returns-in-Ok-Record-clause-held g c = c.read.ensures.held
+
+pub returns-in-Ok-Record-clause-spares : goal.returns-in-Ok-Record-clause-spares
+returns-in-Ok-Record-clause-spares g c = c.read.ensures.spares
+
+pub returns-in-Ok-Record-clause-no_others : goal.returns-in-Ok-Record-clause-no_others
+returns-in-Ok-Record-clause-no_others g c = c.read.ensures.no_others
+
+pub returns-in-Ok-Record-clause-places : goal.returns-in-Ok-Record-clause-places
+returns-in-Ok-Record-clause-places g c = c.read.ensures.places
+
+pub returns-in-Ok-Record-clause-outside : goal.returns-in-Ok-Record-clause-outside
+returns-in-Ok-Record-clause-outside g c = c.read.ensures.outside
+
+pub returns-in-Ok-Record-clause-next : goal.returns-in-Ok-Record-clause-next
+returns-in-Ok-Record-clause-next g c = c.read.ensures.next
+
+pub returns-in-Ok-Record-clause-found : goal.returns-in-Ok-Record-clause-found
+returns-in-Ok-Record-clause-found g c = c.read.ensures.found
+
+pub returns-in-Ok-Record-clause-standard : goal.returns-in-Ok-Record-clause-standard
+returns-in-Ok-Record-clause-standard g c = c.read.ensures.standard
+
+pub returns-in-Ok-Record-clause-goes_on : goal.returns-in-Ok-Record-clause-goes_on
+returns-in-Ok-Record-clause-goes_on g c = tt
+
+pub returns-in-Ok-Record-clause-rests : goal.returns-in-Ok-Record-clause-rests
+returns-in-Ok-Record-clause-rests g c = tt
+
+pub returns-in-Ok-Record-clause-answers : goal.returns-in-Ok-Record-clause-answers
+returns-in-Ok-Record-clause-answers g c = tt
+
+pub returns-in-Ok-Failed-clause-held : goal.returns-in-Ok-Failed-clause-held
+returns-in-Ok-Failed-clause-held g c = c.read.ensures.held
+
+pub returns-in-Ok-Failed-clause-spares : goal.returns-in-Ok-Failed-clause-spares
+returns-in-Ok-Failed-clause-spares g c = c.read.ensures.spares
+
+pub returns-in-Ok-Failed-clause-no_others : goal.returns-in-Ok-Failed-clause-no_others
+returns-in-Ok-Failed-clause-no_others g c = c.read.ensures.no_others
+
+pub returns-in-Ok-Failed-clause-places : goal.returns-in-Ok-Failed-clause-places
+returns-in-Ok-Failed-clause-places g c = c.read.ensures.places
+
+pub returns-in-Ok-Failed-clause-outside : goal.returns-in-Ok-Failed-clause-outside
+returns-in-Ok-Failed-clause-outside g c = c.read.ensures.outside
+
+pub returns-in-Ok-Failed-clause-next : goal.returns-in-Ok-Failed-clause-next
+returns-in-Ok-Failed-clause-next g c = c.read.ensures.next
+
+pub returns-in-Ok-Failed-clause-found : goal.returns-in-Ok-Failed-clause-found
+returns-in-Ok-Failed-clause-found g c = c.read.ensures.found
+
+pub returns-in-Ok-Failed-clause-standard : goal.returns-in-Ok-Failed-clause-standard
+returns-in-Ok-Failed-clause-standard g c = c.read.ensures.standard
+
+pub returns-in-Ok-Failed-clause-goes_on : goal.returns-in-Ok-Failed-clause-goes_on
+returns-in-Ok-Failed-clause-goes_on g c = tt
+
+pub returns-in-Ok-Failed-clause-rests : goal.returns-in-Ok-Failed-clause-rests
+returns-in-Ok-Failed-clause-rests g c = tt
+
+pub returns-in-Err-clause-held : goal.returns-in-Err-clause-held
+returns-in-Err-clause-held g c = c.read.ensures.held
+
+pub returns-in-Err-clause-spares : goal.returns-in-Err-clause-spares
+returns-in-Err-clause-spares g c = c.read.ensures.spares
+
+pub returns-in-Err-clause-no_others : goal.returns-in-Err-clause-no_others
+returns-in-Err-clause-no_others g c = c.read.ensures.no_others
+
+pub returns-in-Err-clause-places : goal.returns-in-Err-clause-places
+returns-in-Err-clause-places g c = c.read.ensures.places
+
+pub returns-in-Err-clause-outside : goal.returns-in-Err-clause-outside
+returns-in-Err-clause-outside g c = c.read.ensures.outside
+
+pub returns-in-Err-clause-next : goal.returns-in-Err-clause-next
+returns-in-Err-clause-next g c = c.read.ensures.next
+
+pub returns-in-Err-clause-found : goal.returns-in-Err-clause-found
+returns-in-Err-clause-found g c = c.read.ensures.found
+
+pub returns-in-Err-clause-standard : goal.returns-in-Err-clause-standard
+returns-in-Err-clause-standard g c = c.read.ensures.standard
+
+pub returns-in-Err-clause-goes_on : goal.returns-in-Err-clause-goes_on
+returns-in-Err-clause-goes_on g c = tt
+
+pub returns-in-Err-clause-rests : goal.returns-in-Err-clause-rests
+returns-in-Err-clause-rests g c = tt
+
+pub returns-in-Ok-End-clause-held : goal.returns-in-Ok-End-clause-held
+returns-in-Ok-End-clause-held g c = c.stop_reading.ensures.held
+
+pub returns-in-Ok-End-clause-next : goal.returns-in-Ok-End-clause-next
+returns-in-Ok-End-clause-next g c = c.stop_reading.ensures.next ∙ c.read.ensures.next
+
+pub returns-in-Ok-End-clause-found : goal.returns-in-Ok-End-clause-found
+returns-in-Ok-End-clause-found g c = c.stop_reading.ensures.found ∙ c.read.ensures.found
+
+pub returns-in-Ok-End-clause-outside : goal.returns-in-Ok-End-clause-outside
+returns-in-Ok-End-clause-outside g c = λ tells. c.stop_reading.ensures.outside tells ∙ c.read.ensures.outside tells

@@ -1,4 +1,6 @@
-use Rattle.std.proofs.Common.{◌+◌, refl}
+use Rattle.std.proofs.Common.{◌+◌, List, ℕ, refl, subst, sym}
+use Rattle.host_streams.specs.Mains.{GivesOperand}
+use Rattle.host_streams.specs.MainFinds.{FindsOperand}
 use Rattle.host_streams.proofs.MainFound.{skip_finds}
 use Rattle.host_streams.proofs.MainSteps.{no_bytes, skip_given}
 use Rattle.host_streams.proofs.Passed.{one_skipped}
@@ -22,3 +24,100 @@ returns-then-is_empty-clause-passes g c =
       one_skipped texts c.args.self.now.next (no_bytes c.as_slice.result.now c.in_ok-text.text (texts c.args.self.now.next) c.is_empty.result c.as_slice.ensures.value c.in_ok-text.ensures c.is_empty.ensures c.if-is_empty.true),
       refl,
     )
+
+pub returns-in-None : goal.returns-in-None
+returns-in-None g c =
+    let w = g.W.World in
+    let opened = c.open.ensures in
+    let same = c.in_ok-text.ensures in
+    record {
+      held = opened.held;
+      goes_on = opened.goes_on;
+      count = opened.count;
+      phase = opened.phase;
+      ends = opened.ends;
+      spares = opened.spares;
+      no_others = opened.no_others;
+      places = opened.places;
+      outside = opened.outside;
+      standard = opened.standard;
+      one = opened.one;
+      answers = opened.answers;
+      idle = opened.idle;
+      rests = opened.rests;
+      named = opened.named;
+      more = opened.more;
+      told = λ tells inner.
+          subst (λ (text : List ℕ). GivesOperand text inner c.args.self.now (w.state c.args.world.now) c.open.result c.open.new.self (w.state c.open.new.world)) same (opened.told tells inner);
+      passes = opened.passes (g.O.Operands.text c.args.operands.now) (sym same);
+      finds = subst (λ (text : List ℕ). FindsOperand text c.args.self.now c.open.result c.open.new.self) same opened.finds;
+    }
+
+pub returns-in-Some-clause-goes_on : goal.returns-in-Some-clause-goes_on
+returns-in-Some-clause-goes_on g c = c.assign.ensures.goes_on
+
+pub returns-in-Some-clause-phase : goal.returns-in-Some-clause-phase
+returns-in-Some-clause-phase g c = c.assign.ensures.phase
+
+pub returns-in-Some-clause-ends : goal.returns-in-Some-clause-ends
+returns-in-Some-clause-ends g c = c.assign.ensures.ends
+
+pub returns-in-Some-clause-standard : goal.returns-in-Some-clause-standard
+returns-in-Some-clause-standard g c = c.assign.ensures.standard
+
+pub returns-in-Some-clause-one : goal.returns-in-Some-clause-one
+returns-in-Some-clause-one g c = c.assign.ensures.one
+
+pub returns-in-Some-clause-answers : goal.returns-in-Some-clause-answers
+returns-in-Some-clause-answers g c = c.assign.ensures.answers
+
+pub returns-in-Some-clause-idle : goal.returns-in-Some-clause-idle
+returns-in-Some-clause-idle g c = c.assign.ensures.idle
+
+pub returns-in-Some-clause-rests : goal.returns-in-Some-clause-rests
+returns-in-Some-clause-rests g c = c.assign.ensures.rests
+
+pub returns-in-Some-clause-named : goal.returns-in-Some-clause-named
+returns-in-Some-clause-named g c = c.assign.ensures.named
+
+pub returns-in-Some-clause-more : goal.returns-in-Some-clause-more
+returns-in-Some-clause-more g c = c.assign.ensures.more
+
+pub returns-then-is_empty-clause-standard : goal.returns-then-is_empty-clause-standard
+returns-then-is_empty-clause-standard g c = refl
+
+pub returns-then-is_empty-clause-held : goal.returns-then-is_empty-clause-held
+returns-then-is_empty-clause-held g c = c.requires.held
+
+pub returns-then-is_empty-clause-outside : goal.returns-then-is_empty-clause-outside
+returns-then-is_empty-clause-outside g c = λ tells. refl
+
+pub returns-then-is_empty-clause-named : goal.returns-then-is_empty-clause-named
+returns-then-is_empty-clause-named g c = c.requires.left
+
+pub returns-then-is_empty-clause-answers : goal.returns-then-is_empty-clause-answers
+returns-then-is_empty-clause-answers g c = tt
+
+pub returns-then-is_empty-clause-rests : goal.returns-then-is_empty-clause-rests
+returns-then-is_empty-clause-rests g c = tt
+
+pub returns-then-is_empty-clause-places : goal.returns-then-is_empty-clause-places
+returns-then-is_empty-clause-places g c = λ tells k own apart was. (refl, refl)
+
+pub returns-in_err-text-clause-standard : goal.returns-in_err-text-clause-standard
+returns-in_err-text-clause-standard g c = refl
+
+pub returns-in_err-text-clause-held : goal.returns-in_err-text-clause-held
+returns-in_err-text-clause-held g c = c.requires.held
+
+pub returns-in_err-text-clause-outside : goal.returns-in_err-text-clause-outside
+returns-in_err-text-clause-outside g c = λ tells. refl
+
+pub returns-in_err-text-clause-named : goal.returns-in_err-text-clause-named
+returns-in_err-text-clause-named g c = c.requires.left
+
+pub returns-in-Some-clause-outside : goal.returns-in-Some-clause-outside
+returns-in-Some-clause-outside g c = λ tells. refl
+
+pub returns-in-Some-clause-places : goal.returns-in-Some-clause-places
+returns-in-Some-clause-places g c = λ tells k own apart was. (refl, refl)

@@ -113,3 +113,60 @@ returns-in_err-reserve-clause-told g c = λ tells. nothing_told c.from_residual-
 
 pub returns-in-Err-Failed-clause-readers : goal.returns-in-Err-Failed-clause-readers
 returns-in-Err-Failed-clause-readers g c = (may_by c.args.self.now (few_streams c.args.self.now (length c.as_slice.result.now) (length c.as_slice-2.result.now) (ap length c.as_slice.ensures.value) (ap length c.as_slice-2.ensures.value) c.if-as_slice-ge-MAX_STREAMS.false), c.reserve.ensures.items)
+
+pub returns-then-as_slice-ge-MAX_STREAMS-clause-writers : goal.returns-then-as_slice-ge-MAX_STREAMS-clause-writers
+returns-then-as_slice-ge-MAX_STREAMS-clause-writers g c = refl
+
+pub returns-then-as_slice-ge-MAX_STREAMS-clause-kept : goal.returns-then-as_slice-ge-MAX_STREAMS-clause-kept
+returns-then-as_slice-ge-MAX_STREAMS-clause-kept g c = refl
+
+pub returns-then-as_slice-ge-MAX_STREAMS-clause-held : goal.returns-then-as_slice-ge-MAX_STREAMS-clause-held
+returns-then-as_slice-ge-MAX_STREAMS-clause-held g c = c.requires.held
+
+pub returns-then-as_slice-ge-MAX_STREAMS-clause-goes : goal.returns-then-as_slice-ge-MAX_STREAMS-clause-goes
+returns-then-as_slice-ge-MAX_STREAMS-clause-goes g c = c.requires.goes
+
+pub returns-then-as_slice-ge-MAX_STREAMS-clause-outside : goal.returns-then-as_slice-ge-MAX_STREAMS-clause-outside
+returns-then-as_slice-ge-MAX_STREAMS-clause-outside g c = λ tells. refl
+
+pub returns-then-as_slice-ge-MAX_STREAMS-clause-others : goal.returns-then-as_slice-ge-MAX_STREAMS-clause-others
+returns-then-as_slice-ge-MAX_STREAMS-clause-others g c = λ k none was. (refl, none)
+
+pub returns-then-as_slice-ge-MAX_STREAMS-clause-no_others : goal.returns-then-as_slice-ge-MAX_STREAMS-clause-no_others
+returns-then-as_slice-ge-MAX_STREAMS-clause-no_others g c = λ k none was. (refl, none)
+
+pub returns-then-as_slice-ge-MAX_STREAMS-clause-places : goal.returns-then-as_slice-ge-MAX_STREAMS-clause-places
+returns-then-as_slice-ge-MAX_STREAMS-clause-places g c = λ tells k none was. (refl, refl)
+
+pub returns-in_err-own-clause-writers : goal.returns-in_err-own-clause-writers
+returns-in_err-own-clause-writers g c = refl
+
+pub returns-in_err-own-clause-kept : goal.returns-in_err-own-clause-kept
+returns-in_err-own-clause-kept g c = refl
+
+pub returns-in_err-own-clause-held : goal.returns-in_err-own-clause-held
+returns-in_err-own-clause-held g c = c.requires.held
+
+pub returns-in_err-own-clause-goes : goal.returns-in_err-own-clause-goes
+returns-in_err-own-clause-goes g c = c.requires.goes
+
+pub returns-in_err-own-clause-outside : goal.returns-in_err-own-clause-outside
+returns-in_err-own-clause-outside g c = λ tells. refl
+
+pub returns-in_err-own-clause-others : goal.returns-in_err-own-clause-others
+returns-in_err-own-clause-others g c = λ k none was. (refl, none)
+
+pub returns-in_err-own-clause-no_others : goal.returns-in_err-own-clause-no_others
+returns-in_err-own-clause-no_others g c = λ k none was. (refl, none)
+
+pub returns-in_err-own-clause-places : goal.returns-in_err-own-clause-places
+returns-in_err-own-clause-places g c = λ tells k none was. (refl, refl)
+
+pub returns-in_err-reserve-clause-writers : goal.returns-in_err-reserve-clause-writers
+returns-in_err-reserve-clause-writers g c = refl
+
+pub returns-in-Ok-clause-writers : goal.returns-in-Ok-clause-writers
+returns-in-Ok-clause-writers g c = refl
+
+pub returns-in-Err-Failed-clause-writers : goal.returns-in-Err-Failed-clause-writers
+returns-in-Err-Failed-clause-writers g c = refl

@@ -1,7 +1,7 @@
 use Rattle.std.proofs.Common.{◌≡◌, ◌++◌, ◌^◌, ◌≤◌, drop, length}
 use Rattle.sem_primitives.specs.FieldMeaning.{joined}
 use Rattle.host_fields.proofs.Joins.{followed}
-use Rattle.host_fields.proofs.joined.joined.Given as goal
+use Rattle.host_fields.proofs.joined.put_all.Given as goal
 
 abbrev pub invariant-loop-value : goal.invariant-loop-value
 invariant-loop-value l = record {
