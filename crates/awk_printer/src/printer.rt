@@ -1,8 +1,8 @@
 //! From an expression to its tokens.
 
 ghost use Rattle.std.specs.Prelude.{◌≡◌, [], ◌∷◌, ◌++◌, ◌<◌, length, drop, OnOk};
-ghost use Rattle.awk_grammar.specs.Token.{Infix, Assign, StepMark, Name, InWord, Open, Close, Comma};
-ghost use Rattle.awk_grammar.specs.Tree.{Index, Call, Apply, op_tokens, prefix_token, print, print_list, print_more};
+ghost use Rattle.awk_grammar.specs.Token.{Infix, Assign, Compare, Less, StepMark, Name, GetlineWord, InWord, Open, Close};
+ghost use Rattle.awk_grammar.specs.Tree.{op_tokens, prefix_token, print, print_list, print_more};
 ghost use Rattle.awk_grammar.specs.Lexeme.{lexeme, lexemes, keyword_lexeme, mark_lexeme};
 ghost use Rattle.awk_grammar.specs.View.{view, views, view_step, view_unary, view_binary, view_assign};
 
@@ -104,71 +104,143 @@ pub fn push_expr<'a>(out: &mut Vec<Printed<'a>>, e: &'a Expr) -> Result<(), Allo
         Expr::Ere(text) => put(out, Printed::Ere(text)),
         Expr::Length => put(out, Printed::Builtin(Builtin::Length)),
         Expr::Var(name) => put(out, Printed::Name(name)),
-        Expr::Element(name, subscripts) => push_element(out, name, subscripts),
-        Expr::Field(inner) => push_after(out, Punctuator::Dollar, inner),
-        Expr::Group(inner) => {
-            push_after(out, Punctuator::OpenParen, inner)?;
-            mark(out, Punctuator::CloseParen)
+        Expr::Element(name, subscripts) => {
+            let name = Printed::Name(name);
+            push_listed(
+                out,
+                name,
+                Punctuator::OpenBracket,
+                subscripts,
+                Punctuator::CloseBracket,
+            )
         }
-        Expr::Call(name, arguments) => push_call(out, name, arguments),
-        Expr::Apply(function, arguments) => push_apply(out, *function, arguments),
-        Expr::Unary(op, inner) => push_after(out, prefix_mark(*op), inner),
-        Expr::PreStep(step, inner) => push_after(out, step_mark(*step), inner),
-        Expr::PostStep(step, inner) => {
-            push_expr(out, inner)?;
-            mark(out, step_mark(*step))
+        Expr::Field(inner) => push_after(out, Printed::Punctuator(Punctuator::Dollar), inner),
+        Expr::Group(inner) => push_within(out, inner, Punctuator::CloseParen),
+        Expr::Call(name, arguments) => {
+            let name = Printed::FuncName(name);
+            push_listed(
+                out,
+                name,
+                Punctuator::OpenParen,
+                arguments,
+                Punctuator::CloseParen,
+            )
         }
+        Expr::Apply(function, arguments) => {
+            let name = Printed::Builtin(*function);
+            push_listed(
+                out,
+                name,
+                Punctuator::OpenParen,
+                arguments,
+                Punctuator::CloseParen,
+            )
+        }
+        Expr::Unary(op, inner) => push_after(out, Printed::Punctuator(prefix_mark(*op)), inner),
+        Expr::PreStep(step, inner) => push_after(out, Printed::Punctuator(step_mark(*step)), inner),
+        Expr::PostStep(step, inner) => push_before(out, inner, step_mark(*step)),
         Expr::Binary(op, a, b) => {
             push_expr(out, a)?;
-            push_operator(out, *op)?;
-            push_expr(out, b)
+            push_operand(out, *op, b)
         }
         Expr::Assign(op, a, b) => {
             push_expr(out, a)?;
-            push_after(out, assignment_mark(*op), b)
+            push_after(out, Printed::Punctuator(assignment_mark(*op)), b)
         }
-        Expr::In(a, name) => {
-            push_expr(out, a)?;
-            push_in(out, name)
-        }
+        Expr::In(a, name) => push_member(out, a, name),
         Expr::InList(first, others, name) => {
-            push_first(out, first)?;
+            push_within(out, first, Punctuator::Comma)?;
             push_others(out, others, name)
         }
         Expr::Conditional(a, b, c) => {
             push_expr(out, a)?;
-            push_after(out, Punctuator::Question, b)?;
-            push_after(out, Punctuator::Colon, c)
+            push_after(out, Printed::Punctuator(Punctuator::Question), b)?;
+            push_after(out, Printed::Punctuator(Punctuator::Colon), c)
         }
         Expr::Getline => word(out, Keyword::Getline),
-        Expr::GetlineInto(place) => {
-            word(out, Keyword::Getline)?;
-            push_expr(out, place)
-        }
-        Expr::GetlineFrom(file) => {
-            word(out, Keyword::Getline)?;
-            push_after(out, Punctuator::Less, file)
-        }
+        Expr::GetlineInto(place) => push_after(out, Printed::Keyword(Keyword::Getline), place),
+        Expr::GetlineFrom(file) => push_getline_from(out, file),
         Expr::GetlineIntoFrom(place, file) => {
-            word(out, Keyword::Getline)?;
-            push_expr(out, place)?;
-            push_after(out, Punctuator::Less, file)
+            push_after(out, Printed::Keyword(Keyword::Getline), place)?;
+            push_after(out, Printed::Punctuator(Punctuator::Less), file)
         }
     }
 }
 
-/// Adds a punctuator and the expression that comes after it.
+/// Adds a token and the expression that comes after it.
 #[cycle(printer)]
-fn push_after<'a>(
+pub(crate) fn push_after<'a>(
     out: &mut Vec<Printed<'a>>,
-    punctuator: Punctuator,
+    token: Printed<'a>,
     e: &'a Expr,
 ) -> Result<(), AllocError>
     ensures { OnOk result (lexemes out.new.items
-        ≡ lexemes out.old.items ++ (mark_lexeme punctuator ∷ print (view e.now))) }
+        ≡ lexemes out.old.items ++ (lexeme token.entry ∷ print (view e.now))) }
 {
-    mark(out, punctuator)?;
+    put(out, token)?;
     push_expr(out, e)
+}
+
+/// Adds an expression and the punctuator that comes after it.
+#[cycle(printer)]
+fn push_before<'a>(
+    out: &mut Vec<Printed<'a>>,
+    e: &'a Expr,
+    after: Punctuator,
+) -> Result<(), AllocError>
+    ensures { OnOk result (lexemes out.new.items
+        ≡ lexemes out.old.items ++ (print (view e.now) ++ mark_lexeme after ∷ [])) }
+{
+    push_expr(out, e)?;
+    mark(out, after)
+}
+
+/// Adds an operator and the operand that comes after it.
+#[cycle(printer)]
+fn push_operand<'a>(out: &mut Vec<Printed<'a>>, op: BinaryOp, e: &'a Expr) -> Result<(), AllocError>
+    ensures { OnOk result (lexemes out.new.items
+        ≡ lexemes out.old.items ++ (op_tokens (view_binary op) ++ print (view e.now))) }
+{
+    push_operator(out, op)?;
+    push_expr(out, e)
+}
+
+/// Adds a subscript, `in` and the array.
+#[cycle(printer)]
+fn push_member<'a>(
+    out: &mut Vec<Printed<'a>>,
+    e: &'a Expr,
+    name: &'a [u8],
+) -> Result<(), AllocError>
+    ensures { OnOk result (lexemes out.new.items
+        ≡ lexemes out.old.items ++ (print (view e.now) ++ (InWord ∷ (Name name.now ∷ [])))) }
+{
+    push_expr(out, e)?;
+    push_in(out, name)
+}
+
+/// Adds `getline` and the file that is read.
+#[cycle(printer)]
+fn push_getline_from<'a>(out: &mut Vec<Printed<'a>>, file: &'a Expr) -> Result<(), AllocError>
+    ensures { OnOk result (lexemes out.new.items ≡ lexemes out.old.items
+        ++ (GetlineWord ∷ (Infix (Compare Less) ∷ print (view file.now)))) }
+{
+    word(out, Keyword::Getline)?;
+    push_after(out, Printed::Punctuator(Punctuator::Less), file)
+}
+
+/// Adds `(`, an expression, and the punctuator that comes after it.
+#[cycle(printer)]
+pub(crate) fn push_within<'a>(
+    out: &mut Vec<Printed<'a>>,
+    e: &'a Expr,
+    after: Punctuator,
+) -> Result<(), AllocError>
+    ensures { OnOk result (lexemes out.new.items ≡ lexemes out.old.items
+        ++ (Open ∷ (print (view e.now) ++ mark_lexeme after ∷ []))) }
+{
+    push_after(out, Printed::Punctuator(Punctuator::OpenParen), e)?;
+    mark(out, after)
 }
 
 /// Adds `in` and the array.
@@ -180,61 +252,22 @@ pub(crate) fn push_in<'a>(out: &mut Vec<Printed<'a>>, name: &'a [u8]) -> Result<
     put(out, Printed::Name(name))
 }
 
-/// Adds a name and its subscripts in brackets.
+/// Adds a token, and a list in brackets.
 #[cycle(printer)]
-pub(crate) fn push_element<'a>(
+pub(crate) fn push_listed<'a>(
     out: &mut Vec<Printed<'a>>,
-    name: &'a [u8],
-    subscripts: &'a [Expr],
+    token: Printed<'a>,
+    before: Punctuator,
+    list: &'a [Expr],
+    after: Punctuator,
 ) -> Result<(), AllocError>
-    ensures { OnOk result (lexemes out.new.items
-        ≡ lexemes out.old.items ++ print (Index name.now (views subscripts.now))) }
+    ensures { OnOk result (lexemes out.new.items ≡ lexemes out.old.items ++ (lexeme token.entry
+        ∷ (mark_lexeme before ∷ (print_list (views list.now) ++ mark_lexeme after ∷ [])))) }
 {
-    put(out, Printed::Name(name))?;
-    mark(out, Punctuator::OpenBracket)?;
-    push_list(out, subscripts)?;
-    mark(out, Punctuator::CloseBracket)
-}
-
-#[cycle(printer)]
-fn push_call<'a>(
-    out: &mut Vec<Printed<'a>>,
-    name: &'a [u8],
-    arguments: &'a [Expr],
-) -> Result<(), AllocError>
-    ensures { OnOk result (lexemes out.new.items
-        ≡ lexemes out.old.items ++ print (Call name.now (views arguments.now))) }
-{
-    put(out, Printed::FuncName(name))?;
-    mark(out, Punctuator::OpenParen)?;
-    push_list(out, arguments)?;
-    mark(out, Punctuator::CloseParen)
-}
-
-#[cycle(printer)]
-fn push_apply<'a>(
-    out: &mut Vec<Printed<'a>>,
-    function: Builtin,
-    arguments: &'a [Expr],
-) -> Result<(), AllocError>
-    ensures { OnOk result (lexemes out.new.items
-        ≡ lexemes out.old.items ++ print (Apply function (views arguments.now))) }
-{
-    put(out, Printed::Builtin(function))?;
-    mark(out, Punctuator::OpenParen)?;
-    push_list(out, arguments)?;
-    mark(out, Punctuator::CloseParen)
-}
-
-/// Adds the front of a list in parentheses.
-#[cycle(printer)]
-pub(crate) fn push_first<'a>(out: &mut Vec<Printed<'a>>, first: &'a Expr) -> Result<(), AllocError>
-    ensures { OnOk result (lexemes out.new.items
-        ≡ lexemes out.old.items ++ (Open ∷ (print (view first.now) ++ Comma ∷ []))) }
-{
-    mark(out, Punctuator::OpenParen)?;
-    push_expr(out, first)?;
-    mark(out, Punctuator::Comma)
+    put(out, token)?;
+    mark(out, before)?;
+    push_list(out, list)?;
+    mark(out, after)
 }
 
 /// Adds the rest of a list of subscripts in parentheses, and the array.
@@ -272,8 +305,7 @@ fn push_more<'a>(out: &mut Vec<Printed<'a>>, es: &'a [Expr]) -> Result<(), Alloc
         (lexemes out.new.items ≡ lexemes out.old.items ++ print_more (views (drop 1 es.now))) }
 {
     for i in 1..es.len() {
-        mark(out, Punctuator::Comma)?;
-        push_expr(out, &es[i])?;
+        push_after(out, Printed::Punctuator(Punctuator::Comma), &es[i])?;
     }
     Ok(())
 }

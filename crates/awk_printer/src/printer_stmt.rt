@@ -1,7 +1,7 @@
 //! From a statement to its tokens.
 
 ghost use Rattle.std.specs.Prelude.{◌≡◌, [], ◌∷◌, ◌++◌, OnOk};
-ghost use Rattle.awk_grammar.specs.Token.{Close, ForWord, InWord, Key, Name, Open, Semicolon};
+ghost use Rattle.awk_grammar.specs.Token.{Close, DoWord, ElseWord, ForWord, InWord, Key, Name, Open, Semicolon, WhileWord};
 ghost use Rattle.awk_grammar.specs.Tree.{print};
 ghost use Rattle.awk_grammar.specs.Stmt.{print_args, print_target, print_plain, print_maybe, print_maybe_plain, printing_token, jump_token, leaving_token, print_stmt, print_stmts};
 ghost use Rattle.awk_grammar.specs.Item.{print_body};
@@ -9,7 +9,9 @@ ghost use Rattle.awk_grammar.specs.Lexeme.{keyword_lexeme, lexemes};
 ghost use Rattle.awk_grammar.specs.View.{view};
 ghost use Rattle.awk_grammar.specs.ViewStmt.{view_word, view_args, view_target, view_simple, view_maybe, view_maybe_simple, view_jump, view_leaving, view_stmt, view_stmts};
 
-use crate::printer::{mark, push_element, push_expr, push_first, push_in, push_list, put, word};
+use crate::printer::{
+    mark, push_after, push_expr, push_in, push_list, push_listed, push_within, put, word,
+};
 use awk_grammar::{
     Expr, Jump, Leaving, PrintArgs, PrintTarget, PrintWord, Printed, SimpleStmt, Stmt,
 };
@@ -24,7 +26,7 @@ fn push_args<'a>(out: &mut Vec<Printed<'a>>, args: &'a PrintArgs) -> Result<(), 
         PrintArgs::Bare => Ok(()),
         PrintArgs::Listed(es) => push_list(out, es),
         PrintArgs::Enclosed(first, others) => {
-            push_first(out, first)?;
+            push_within(out, first, Punctuator::Comma)?;
             push_list(out, others)?;
             mark(out, Punctuator::CloseParen)
         }
@@ -37,14 +39,8 @@ fn push_target<'a>(out: &mut Vec<Printed<'a>>, target: &'a PrintTarget) -> Resul
 {
     match target {
         PrintTarget::Output => Ok(()),
-        PrintTarget::File(e) => {
-            mark(out, Punctuator::Greater)?;
-            push_expr(out, e)
-        }
-        PrintTarget::FileEnd(e) => {
-            mark(out, Punctuator::Append)?;
-            push_expr(out, e)
-        }
+        PrintTarget::File(e) => push_after(out, Printed::Punctuator(Punctuator::Greater), e),
+        PrintTarget::FileEnd(e) => push_after(out, Printed::Punctuator(Punctuator::Append), e),
     }
 }
 
@@ -71,7 +67,14 @@ fn push_simple<'a>(out: &mut Vec<Printed<'a>>, simple: &'a SimpleStmt) -> Result
         }
         SimpleStmt::Delete(name, subscripts) => {
             word(out, Keyword::Delete)?;
-            push_element(out, name, subscripts)
+            let name = Printed::Name(name);
+            push_listed(
+                out,
+                name,
+                Punctuator::OpenBracket,
+                subscripts,
+                Punctuator::CloseBracket,
+            )
         }
         SimpleStmt::Clear(name) => {
             word(out, Keyword::Delete)?;
@@ -113,9 +116,7 @@ fn push_condition<'a>(
         ++ (keyword_lexeme keyword ∷ (Open ∷ (print (view e.now) ++ Close ∷ [])))) }
 {
     word(out, keyword)?;
-    mark(out, Punctuator::OpenParen)?;
-    push_expr(out, e)?;
-    mark(out, Punctuator::CloseParen)
+    push_within(out, e, Punctuator::CloseParen)
 }
 
 /// Adds `for`, the parentheses after it, and what stands in them.
@@ -156,26 +157,93 @@ fn push_walk_head<'a>(
     mark(out, Punctuator::CloseParen)
 }
 
-fn push_jump(out: &mut Vec<Printed>, jump: Jump) -> Result<(), AllocError>
-    ensures { OnOk result
-        (lexemes out.new.items ≡ lexemes out.old.items ++ jump_token (view_jump jump) ∷ []) }
+fn jump_word(jump: Jump) -> Keyword
+    ensures { keyword_lexeme result ≡ jump_token (view_jump jump) }
 {
     match jump {
-        Jump::Break => word(out, Keyword::Break),
-        Jump::Continue => word(out, Keyword::Continue),
-        Jump::Next => word(out, Keyword::Next),
-        Jump::NextFile => word(out, Keyword::NextFile),
+        Jump::Break => Keyword::Break,
+        Jump::Continue => Keyword::Continue,
+        Jump::Next => Keyword::Next,
+        Jump::NextFile => Keyword::NextFile,
     }
 }
 
-fn push_leaving(out: &mut Vec<Printed>, leaving: Leaving) -> Result<(), AllocError>
-    ensures { OnOk result (lexemes out.new.items
-        ≡ lexemes out.old.items ++ leaving_token (view_leaving leaving) ∷ []) }
+fn leaving_word(leaving: Leaving) -> Keyword
+    ensures { keyword_lexeme result ≡ leaving_token (view_leaving leaving) }
 {
     match leaving {
-        Leaving::Exit => word(out, Keyword::Exit),
-        Leaving::Return => word(out, Keyword::Return),
+        Leaving::Exit => Keyword::Exit,
+        Leaving::Return => Keyword::Return,
     }
+}
+
+fn push_jump(out: &mut Vec<Printed>, jump: Jump) -> Result<(), AllocError>
+    ensures { OnOk result (lexemes out.new.items
+        ≡ lexemes out.old.items ++ (jump_token (view_jump jump) ∷ (Semicolon ∷ []))) }
+{
+    word(out, jump_word(jump))?;
+    mark(out, Punctuator::Semicolon)
+}
+
+fn push_leave<'a>(
+    out: &mut Vec<Printed<'a>>,
+    leaving: Leaving,
+    e: &'a Option<Expr>,
+) -> Result<(), AllocError>
+    ensures { OnOk result (lexemes out.new.items ≡ lexemes out.old.items
+        ++ (leaving_token (view_leaving leaving) ∷ (print_maybe (view_maybe e.now)
+        ++ (Semicolon ∷ [])))) }
+{
+    word(out, leaving_word(leaving))?;
+    push_optional(out, e)?;
+    mark(out, Punctuator::Semicolon)
+}
+
+/// Adds a simple statement and its end.
+fn push_ended<'a>(out: &mut Vec<Printed<'a>>, simple: &'a SimpleStmt) -> Result<(), AllocError>
+    ensures { OnOk result (lexemes out.new.items ≡ lexemes out.old.items
+        ++ (print_plain (view_simple simple.now) ++ (Semicolon ∷ []))) }
+{
+    push_simple(out, simple)?;
+    mark(out, Punctuator::Semicolon)
+}
+
+/// Adds a word, a condition in parentheses, and the statement that the condition decides on.
+#[cycle(printer_stmt)]
+fn push_guarded<'a>(
+    out: &mut Vec<Printed<'a>>,
+    keyword: Keyword,
+    s: &'a Stmt,
+    c: &'a Expr,
+) -> Result<(), AllocError>
+    ensures { OnOk result (lexemes out.new.items ≡ lexemes out.old.items
+        ++ (keyword_lexeme keyword ∷ (Open ∷ (print (view c.now)
+        ++ (Close ∷ print_stmt (view_stmt s.now)))))) }
+{
+    push_condition(out, keyword, c)?;
+    push_stmt(out, s)
+}
+
+/// Adds `else` and its statement.
+#[cycle(printer_stmt)]
+fn push_else<'a>(out: &mut Vec<Printed<'a>>, s: &'a Stmt) -> Result<(), AllocError>
+    ensures { OnOk result (lexemes out.new.items
+        ≡ lexemes out.old.items ++ (Key ElseWord ∷ print_stmt (view_stmt s.now))) }
+{
+    word(out, Keyword::Else)?;
+    push_stmt(out, s)
+}
+
+/// Adds `do`, its statement, and the condition.
+#[cycle(printer_stmt)]
+fn push_do<'a>(out: &mut Vec<Printed<'a>>, s: &'a Stmt, c: &'a Expr) -> Result<(), AllocError>
+    ensures { OnOk result (lexemes out.new.items ≡ lexemes out.old.items
+        ++ (Key DoWord ∷ (print_stmt (view_stmt s.now) ++ (Key WhileWord ∷ (Open
+        ∷ (print (view c.now) ++ (Close ∷ []))))))) }
+{
+    word(out, Keyword::Do)?;
+    push_stmt(out, s)?;
+    push_condition(out, Keyword::While, c)
 }
 
 /// Adds the tokens of a statement.
@@ -187,29 +255,14 @@ fn push_stmt<'a>(out: &mut Vec<Printed<'a>>, s: &'a Stmt) -> Result<(), AllocErr
     match s {
         Stmt::Block(body) => push_block(out, body),
         Stmt::Empty => mark(out, Punctuator::Semicolon),
-        Stmt::Simple(simple) => {
-            push_simple(out, simple)?;
-            mark(out, Punctuator::Semicolon)
-        }
-        Stmt::If(c, s) => {
-            push_condition(out, Keyword::If, c)?;
-            push_stmt(out, s)
-        }
+        Stmt::Simple(simple) => push_ended(out, simple),
+        Stmt::If(c, s) => push_guarded(out, Keyword::If, s, c),
         Stmt::IfElse(c, s, t) => {
-            push_condition(out, Keyword::If, c)?;
-            push_stmt(out, s)?;
-            word(out, Keyword::Else)?;
-            push_stmt(out, t)
+            push_guarded(out, Keyword::If, s, c)?;
+            push_else(out, t)
         }
-        Stmt::While(c, s) => {
-            push_condition(out, Keyword::While, c)?;
-            push_stmt(out, s)
-        }
-        Stmt::Do(s, c) => {
-            word(out, Keyword::Do)?;
-            push_stmt(out, s)?;
-            push_condition(out, Keyword::While, c)
-        }
+        Stmt::While(c, s) => push_guarded(out, Keyword::While, s, c),
+        Stmt::Do(s, c) => push_do(out, s, c),
         Stmt::For(first, c, next, s) => {
             push_for_head(out, first, c, next)?;
             push_stmt(out, s)
@@ -218,15 +271,8 @@ fn push_stmt<'a>(out: &mut Vec<Printed<'a>>, s: &'a Stmt) -> Result<(), AllocErr
             push_walk_head(out, key, array)?;
             push_stmt(out, s)
         }
-        Stmt::Jump(jump) => {
-            push_jump(out, *jump)?;
-            mark(out, Punctuator::Semicolon)
-        }
-        Stmt::Leave(leaving, e) => {
-            push_leaving(out, *leaving)?;
-            push_optional(out, e)?;
-            mark(out, Punctuator::Semicolon)
-        }
+        Stmt::Jump(jump) => push_jump(out, *jump),
+        Stmt::Leave(leaving, e) => push_leave(out, *leaving, e),
     }
 }
 

@@ -61,7 +61,7 @@ pub enum LeftOut {
 }
 
 /// A word that is no name.
-#[derive(Clone, Copy, Debug, PartialEq, Eq)]
+#[derive(Clone, Copy)]
 pub enum ReservedWord {
     Keyword(Keyword),
     Builtin(Builtin),

@@ -1,19 +1,18 @@
--- The line is simple, so its matches follow from its words; and what it is with one more subcommand.
-use Rattle.std.proofs.Common.{◌≡◌, ◌∙◌, false, true, ap, ap₂, refl, Result, Ok, Err, IfOk}
-use Rattle.std.specs.Prelude.{IsOkAnd}
-use Rattle.std.specs.declared.alloc.AllocError.{AllocError}
-use Rattle.clap.specs.Words.{App, app_of, is_simple, shape_of, with_subcommand}
+-- The line is simple, so its matches follow from its words; and what a command is with one more argument, or a line with one more subcommand.
+use Rattle.std.proofs.Common.{◌≡◌, ◌∙◌, ◌||◌, false, true, ap, ap₂, refl}
+use Rattle.clap.specs.Words.{App, Rule, app_of, is_simple, rule_of, with_rule, with_subcommand}
+use Rattle.clap.specs.Built.{AddsArg, AddsSubcommand}
+use Rattle.clap.specs.declared.builder.arg.Arg.{Arg}
 use Rattle.clap.specs.declared.builder.command.Command.{Command}
-use Rattle.clap.specs.declared.builder.command.Command.TheViews.{out-Command as fields_of}
 use Rattle.clap.proofs.OnLiterals.{clap_on_literals}
-use Rattle.command_line.specs.Line.{line_app}
+use Rattle.command_line.specs.Line.{Builds, line_app}
 
 pub line_is_simple : is_simple line_app ≡ true
 unfolding clap_on_literals
 line_is_simple = refl
 
-pub one_more : (added : Result Command AllocError) (before after : Command) (a b : App)
-    → IsOkAnd added (λ sub. (fields_of sub).has_globals ≡ false → app_of after ≡ with_subcommand (app_of before) (shape_of sub))
-    → IfOk added (λ sub. (fields_of sub).has_globals ≡ false) → IfOk added (λ sub. app_of sub ≡ b) → app_of before ≡ a → app_of after ≡ with_subcommand a b.top
-one_more (Ok sub) before after a b joined local app same = joined local ∙ ap₂ with_subcommand same (ap (λ (x : App). x.top) app)
-one_more (Err e) before after a b joined local app same = absurd joined
+pub one_arg : (before after : Command) (arg : Arg) (a : App) (r : Rule) → arg.global ≡ false → rule_of arg ≡ r → Builds a before → AddsArg before arg after → Builds (with_rule a r) after
+one_arg before after arg a r local rule built adds = record { is = adds.shape local ∙ ap₂ with_rule built.is rule; local = adds.globals ∙ ap₂ ◌||◌ built.local local }
+
+pub one_more : (before sub after : Command) (a b : App) → app_of before ≡ a → Builds b sub → AddsSubcommand before sub after → app_of after ≡ with_subcommand a b.top
+one_more before sub after a b same built adds = adds.shape built.local ∙ ap₂ with_subcommand same (ap (λ (x : App). x.top) built.is)

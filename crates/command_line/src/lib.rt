@@ -2,11 +2,10 @@
 #![tactic(auto)]
 
 ghost use Rattle.std.specs.Prelude.{◌≡◌, ◌↔◌, IfOk, IfSome, IsTrue, false};
-ghost use Rattle.std.specs.Prelude.{IsOkAnd, Some, map, option_map, true, IfErr, codes};
-ghost use Rattle.clap.specs.Words.{app_of, rule_of, takes, kind_of, rows_of, found_of, matches_of, one_of, first_of, new_rule, shape_of, subcommand_rows_of, subcommand_of, with_subcommand};
-ghost use Rattle.clap.specs.declared.builder.command.Command.TheViews.{out-Command as fields_of};
+ghost use Rattle.std.specs.Prelude.{Ok, Some, map, option_map, true, IfErr, codes};
+ghost use Rattle.clap.specs.Words.{App, Rule, app_of, rule_of, takes, kind_of, rows_of, found_of, matches_of, one_of, first_of, new_app, new_rule, subcommand_rows_of, subcommand_of, with_rule, with_subcommand};
 ghost use Rattle.command_line.specs.Request.{Asks, IsFences, IsFlag, IsSteps, IsTask, texts, word_at, words_at};
-ghost use Rattle.command_line.specs.Line.{single, steps_rule, flag_rule, options_app, fences_app, compile_app, task_app, explain_app, imports_app, top_app, line_app, is_file_option, has_file_option, status_of_kind};
+ghost use Rattle.command_line.specs.Line.{Builds, single, steps_rule, flag_rule, options_app, fences_app, compile_app, task_app, explain_app, imports_app, top_app, line_app, is_file_option, has_file_option, status_of_kind};
 
 use clap::builder::ValueParser;
 use clap::error::ErrorKind;
@@ -29,7 +28,7 @@ Examples:
   awkwasm compile prog.awk prog.wasm && awkwasm exec prog.wasm access.log";
 
 /// What a line keeps out: each option that is given takes names of files away.
-#[derive(Clone, Copy, Debug, PartialEq, Eq, Drop)]
+#[derive(Clone, Copy, Drop)]
 pub struct FenceOptions {
     /// `--no-files`: no file is opened.
     pub no_files: bool,
@@ -130,31 +129,40 @@ fn free_arg<'a>(alloc: Global, id: &'a str, help: &'a str, action: ArgAction) ->
     Arg::new(alloc, id).help(help).action(action)
 }
 
+/// A command without arguments.
+fn named_command<'a>(alloc: Global, name: &'a str, about: &'a str) -> Command<'a>
+    ensures { Builds (new_app name.now) result }
+{
+    Command::new(alloc, name).about(about)
+}
+
+/// A command, where it was built, with one more argument.
+fn with_arg<'a>(
+    command: Result<Command<'a>, AllocError>,
+    arg: Arg<'a>,
+) -> Result<Command<'a>, AllocError>
+    requires { arg.global ≡ false }
+    ensures { (app : App) (rule : Rule) → rule_of arg.entry ≡ rule
+        → IfOk command.entry (Builds app) → IfOk result (Builds (with_rule app rule)) }
+{
+    let command = command?;
+    command.arg(arg)
+}
+
 fn options_command<'a>(
     alloc: Global,
     name: &'a str,
     about: &'a str,
 ) -> Result<Command<'a>, AllocError>
-    ensures app { IfOk result (λ c. app_of c ≡ options_app name.now) }
-    ensures local { IfOk result (λ c. (fields_of c).has_globals ≡ false) }
+    ensures { IfOk result (Builds (options_app name.now)) }
 {
-    Command::new(alloc, name)
-        .about(about)
-        .arg(letter_arg(
-            alloc,
-            "separator",
-            'F',
-            "Separate fields by this text: a last -v FS=TEXT",
-            "TEXT",
-        ))?
-        .arg(letter_arg(
-            alloc,
-            "assign",
-            'v',
-            "Assign to a variable before the script begins",
-            "NAME=TEXT",
-        ))?
-        .arg(steps_arg(alloc))
+    let help = "Separate fields by this text: a last -v FS=TEXT";
+    let separator = letter_arg(alloc, "separator", 'F', help, "TEXT");
+    let help = "Assign to a variable before the script begins";
+    let assign = letter_arg(alloc, "assign", 'v', help, "NAME=TEXT");
+    let command = with_arg(Ok(named_command(alloc, name, about)), separator);
+    let command = with_arg(command, assign);
+    with_arg(command, steps_arg(alloc))
 }
 
 fn fences_command<'a>(
@@ -162,17 +170,16 @@ fn fences_command<'a>(
     name: &'a str,
     about: &'a str,
 ) -> Result<Command<'a>, AllocError>
-    ensures app { IfOk result (λ c. app_of c ≡ fences_app name.now) }
-    ensures local { IfOk result (λ c. (fields_of c).has_globals ≡ false) }
+    ensures { IfOk result (Builds (fences_app name.now)) }
 {
-    options_command(alloc, name, about)?
-        .arg(flag_arg(alloc, "no-files", "Open no file"))?
-        .arg(flag_arg(alloc, "read-only", "Open no file for writing"))?
-        .arg(flag_arg(
-            alloc,
-            "only-operands",
-            "Open no file but those among WORDS, and no file for writing",
-        ))
+    let help = "Open no file but those among WORDS, and no file for writing";
+    let command = options_command(alloc, name, about);
+    let command = with_arg(command, flag_arg(alloc, "no-files", "Open no file"));
+    let command = with_arg(
+        command,
+        flag_arg(alloc, "read-only", "Open no file for writing"),
+    );
+    with_arg(command, flag_arg(alloc, "only-operands", help))
 }
 
 /// `run` or `exec`: the options, what is run, and the operands.
@@ -183,30 +190,23 @@ fn task_command<'a>(
     subject: &'a str,
     help: &'a str,
 ) -> Result<Command<'a>, AllocError>
-    ensures app { IfOk result (λ c. app_of c ≡ task_app name.now subject.now) }
-    ensures local { IfOk result (λ c. (fields_of c).has_globals ≡ false) }
+    ensures { IfOk result (Builds (task_app name.now subject.now)) }
 {
-    fences_command(alloc, name, about)?
-        .arg(single_arg(alloc, subject, help))?
-        .arg(free_arg(
-            alloc,
-            "words",
-            "Files to read, - for standard input, and assignments NAME=TEXT",
-            ArgAction::Append,
-        ))
+    let command = fences_command(alloc, name, about);
+    let command = with_arg(command, single_arg(alloc, subject, help));
+    let help = "Files to read, - for standard input, and assignments NAME=TEXT";
+    with_arg(command, free_arg(alloc, "words", help, ArgAction::Append))
 }
 
 fn run_command<'a>(alloc: Global) -> Result<Command<'a>, AllocError>
-    ensures app { IfOk result (λ c. app_of c ≡ task_app (codes "run") (codes "script")) }
-    ensures local { IfOk result (λ c. (fields_of c).has_globals ≡ false) }
+    ensures { IfOk result (Builds (task_app (codes "run") (codes "script"))) }
 {
     let help = "The script's text; of a file: \"$(cat prog.awk)\"";
     task_command(alloc, "run", "Run a script", "script", help)
 }
 
 fn exec_command<'a>(alloc: Global) -> Result<Command<'a>, AllocError>
-    ensures app { IfOk result (λ c. app_of c ≡ task_app (codes "exec") (codes "module")) }
-    ensures local { IfOk result (λ c. (fields_of c).has_globals ≡ false) }
+    ensures { IfOk result (Builds (task_app (codes "exec") (codes "module"))) }
 {
     task_command(
         alloc,
@@ -218,68 +218,78 @@ fn exec_command<'a>(alloc: Global) -> Result<Command<'a>, AllocError>
 }
 
 fn compile_command<'a>(alloc: Global) -> Result<Command<'a>, AllocError>
-    ensures app { IfOk result (λ c. app_of c ≡ compile_app) }
-    ensures local { IfOk result (λ c. (fields_of c).has_globals ≡ false) }
+    ensures { IfOk result (Builds compile_app) }
 {
-    Command::new(alloc, "compile")
-        .about("Compile a script to a WebAssembly module")
-        .arg(single_arg(alloc, "scriptfile", "The script's file"))?
-        .arg(single_arg(alloc, "out", "The file to write the module to"))
+    let about = "Compile a script to a WebAssembly module";
+    let script = single_arg(alloc, "scriptfile", "The script's file");
+    let out = single_arg(alloc, "out", "The file to write the module to");
+    let command = with_arg(Ok(named_command(alloc, "compile", about)), script);
+    with_arg(command, out)
 }
 
 fn imports_command<'a>(alloc: Global) -> Result<Command<'a>, AllocError>
-    ensures app { IfOk result (λ c. app_of c ≡ imports_app) }
-    ensures local { IfOk result (λ c. (fields_of c).has_globals ≡ false) }
+    ensures { IfOk result (Builds imports_app) }
 {
-    Command::new(alloc, "imports")
-        .about("List what a module imports, and say what it can read and write")
-        .arg(single_arg(alloc, "module", "The module's file"))
+    let about = "List what a module imports, and say what it can read and write";
+    let module = single_arg(alloc, "module", "The module's file");
+    with_arg(Ok(named_command(alloc, "imports", about)), module)
 }
 
 fn explain_command<'a>(alloc: Global) -> Result<Command<'a>, AllocError>
-    ensures app { IfOk result (λ c. app_of c ≡ explain_app) }
-    ensures local { IfOk result (λ c. (fields_of c).has_globals ≡ false) }
+    ensures { IfOk result (Builds explain_app) }
 {
-    Command::new(alloc, "explain")
-        .about("Say what the name of a fault, a refusal or an end means, and what to do")
-        .arg(free_arg(
-            alloc,
-            "name",
-            "The name after 'awkwasm: ', or an exit status; without it all names are listed",
-            ArgAction::Set,
-        ))
+    let about = "Say what the name of a fault, a refusal or an end means, and what to do";
+    let help = "The name after 'awkwasm: ', or an exit status; without it all names are listed";
+    let name = free_arg(alloc, "name", help, ArgAction::Set);
+    with_arg(Ok(named_command(alloc, "explain", about)), name)
 }
 
 /// The line's own settings.
 fn top_command<'a>(alloc: Global) -> Command<'a>
     ensures { app_of result ≡ top_app }
 {
-    Command::new(alloc, "awkwasm")
-        .about("Compiles AWK scripts to WebAssembly modules, and runs them")
-        .after_help(AFTER_HELP)
-        .version("0.1.0")
-        .subcommand_required(true)
+    named_command(
+        alloc,
+        "awkwasm",
+        "Compiles AWK scripts to WebAssembly modules, and runs them",
+    )
+    .after_help(AFTER_HELP)
+    .version("0.1.0")
+    .subcommand_required(true)
 }
 
-/// The line with one more subcommand, where that one was built.
+/// Two values, where both were made; else the one that was made is let go, for every type at once.
+fn both<T: Drop, U: Drop>(
+    one: Result<T, AllocError>,
+    other: Result<U, AllocError>,
+) -> Result<(T, U), AllocError>
+    ensures { IfOk result (λ x. (one ≡ Ok x.0) × (other ≡ Ok x.1)) }
+{
+    let one = one?;
+    let other = other?;
+    Ok((one, other))
+}
+
+/// The line with one more subcommand, where both were built.
 fn with_subcommand<'a>(
-    line: Command<'a>,
+    line: Result<Command<'a>, AllocError>,
     added: Result<Command<'a>, AllocError>,
 ) -> Result<Command<'a>, AllocError>
-    ensures { IfOk result (λ c. IsOkAnd added.entry (λ sub.
-        (fields_of sub).has_globals ≡ false
-        → app_of c ≡ with_subcommand (app_of line.entry) (shape_of sub))) }
+    ensures { (app sub : App) → IfOk line.entry (λ c. app_of c ≡ app)
+        → IfOk added.entry (Builds sub)
+        → IfOk result (λ c. app_of c ≡ with_subcommand app sub.top) }
 {
-    line.subcommand(added?)
+    let (line, added) = both(line, added)?;
+    line.subcommand(added)
 }
 
 fn command<'a>(alloc: Global) -> Result<Command<'a>, AllocError>
     ensures { IfOk result (λ c. app_of c ≡ line_app) }
 {
-    let line = with_subcommand(top_command(alloc), compile_command(alloc))?;
-    let line = with_subcommand(line, run_command(alloc))?;
-    let line = with_subcommand(line, exec_command(alloc))?;
-    let line = with_subcommand(line, imports_command(alloc))?;
+    let line = with_subcommand(Ok(top_command(alloc)), compile_command(alloc));
+    let line = with_subcommand(line, run_command(alloc));
+    let line = with_subcommand(line, exec_command(alloc));
+    let line = with_subcommand(line, imports_command(alloc));
     with_subcommand(line, explain_command(alloc))
 }
 

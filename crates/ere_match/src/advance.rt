@@ -128,11 +128,9 @@ fn move_by(
     ensures starts { IsSame table.old.starts.items table.new.starts.items }
 {
     match table.moves[state].at(found, classes[usize::from(byte)]) {
-        Some(to) => return Ok(to),
-        None => {}
+        Some(to) => Ok(to),
+        None => compute(nodes, entry, classes, table, state, byte, found),
     }
-    let to = compute(nodes, entry, classes, table, state, byte, found)?;
-    Ok(to)
 }
 
 /// Leads the starts along a move.

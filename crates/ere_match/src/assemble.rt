@@ -111,8 +111,7 @@ fn repeat(
             if times.low == 0 {
                 Ok(none)
             } else {
-                let entry = copies(alloc, nodes, inner, times.low - 1, one)?;
-                Ok(entry)
+                copies(alloc, nodes, inner, times.low - 1, one)
             }
         }
         Some(high) => {
@@ -121,8 +120,7 @@ fn repeat(
                 Ok(entry)
             } else {
                 let rest = up_to(alloc, nodes, inner, high - times.low, next)?;
-                let entry = copies(alloc, nodes, inner, times.low, rest)?;
-                Ok(entry)
+                copies(alloc, nodes, inner, times.low, rest)
             }
         }
     }

@@ -13,7 +13,7 @@ use std::alloc::{AllocError, Global};
 
 /// A table whose threads all have the number 0. Its own moves stay unknown: where a byte leads, with one more thread at the
 /// entry, its leaps say.
-#[derive(Debug, Drop)]
+#[derive(Drop)]
 pub(crate) struct Crowd {
     pub(crate) table: Table,
     pub(crate) leaps: Vec<Moves>,
@@ -107,6 +107,38 @@ fn leap(
     Ok(Some(to))
 }
 
+/// Whether there may be a match from a place on, by the rows of a crowd.
+fn may_cross(
+    nodes: &[Node],
+    entry: usize,
+    classes: &[u8; 256],
+    crowd: &mut Crowd,
+    text: &[u8],
+    from: usize,
+) -> Result<bool, AllocError>
+    requires inside { from ≤ length text.now }
+    requires classes { AreClasses nodes.now classes.now }
+    requires rows { length crowd.old.table.rows.items < 2 ^ 31 }
+    requires sources { length crowd.old.table.sources.items < 2 ^ 31 }
+    requires crowd { IsCrowd nodes.now entry classes.now crowd.old }
+    ensures { IfOk result
+        (λ may. may ≡ false → IsBest nodes.now text.now entry from (length text.now + 1) None) }
+{
+    let mut at = from;
+    let mut state = gather(nodes, entry, classes, crowd, from == 0)?;
+    while at < text.len() {
+        if crowd.table.rows[state].inside.is_some() {
+            return Ok(true);
+        }
+        match leap(nodes, entry, classes, crowd, state, text[at])? {
+            Some(to) => state = to,
+            None => return Ok(true),
+        }
+        at += 1;
+    }
+    Ok(crowd.table.rows[state].at_end.is_some())
+}
+
 /// Whether there may be a match from a place on. There may be one, too, where there is no room for the rows.
 pub(crate) fn may_match(
     alloc: Global,
@@ -122,17 +154,5 @@ pub(crate) fn may_match(
         (λ may. may ≡ false → IsBest nodes.now text.now entry from (length text.now + 1) None) }
 {
     let mut crowd = no_crowd(alloc, nodes)?;
-    let mut at = from;
-    let mut state = gather(nodes, entry, classes, &mut crowd, from == 0)?;
-    while at < text.len() {
-        if crowd.table.rows[state].inside.is_some() {
-            return Ok(true);
-        }
-        match leap(nodes, entry, classes, &mut crowd, state, text[at])? {
-            Some(to) => state = to,
-            None => return Ok(true),
-        }
-        at += 1;
-    }
-    Ok(crowd.table.rows[state].at_end.is_some())
+    may_cross(nodes, entry, classes, &mut crowd, text, from)
 }

@@ -120,8 +120,7 @@ pub(crate) fn hasten(
     ensures table { ∥ IsTable nodes.now entry classes.now table.new ∥₁ }
 {
     if lead.are_told() && is_idle(table, state, at) {
-        let to = jump(nodes, entry, classes, lead, table, text, at, state)?;
-        return Ok(to);
+        return jump(nodes, entry, classes, lead, table, text, at, state);
     }
     let byte = text[at];
     match loop_of(table, classes, state, byte) {

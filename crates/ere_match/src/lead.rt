@@ -10,7 +10,7 @@ use crate::threads::{clear, close, mark};
 use memchr::{memchr, memchr2, memchr3};
 
 /// The bytes of which one stands where a match begins.
-#[derive(Clone, Copy, Debug)]
+#[derive(Clone, Copy)]
 pub(crate) enum Lead {
     /// There is no match.
     Nothing,

@@ -59,7 +59,7 @@ pub fn first_match(
         → IfOk result (λ found. IsFirstMatch t text.now from found) }
     ensures kept { (t : Tree) → IsAutoOf auto.old t → IsAutoOf auto.new t }
 {
-    let found = search(
+    search(
         &auto.nodes,
         auto.entry,
         &auto.classes,
@@ -67,8 +67,7 @@ pub fn first_match(
         &mut auto.table,
         text,
         from,
-    )?;
-    Ok(found)
+    )
 }
 
 /// The same match by leading sets of threads from place to place, without a table: the plain program beside which tests run

@@ -5,7 +5,7 @@ ghost use Rattle.ere_match.specs.Runs.{filter_set};
 use ere_syntax::ByteSet;
 
 /// Which bytes pass.
-#[derive(Debug, Drop)]
+#[derive(Drop)]
 pub(crate) enum Filter {
     Byte(u8),
     Any,
@@ -13,7 +13,7 @@ pub(crate) enum Filter {
 }
 
 /// A state: what it does, and where it leads.
-#[derive(Debug, Drop)]
+#[derive(Drop)]
 pub(crate) enum Node {
     Take(Filter, usize),
     Split(usize, usize),

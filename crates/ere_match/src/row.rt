@@ -15,7 +15,7 @@ const MOST_RANKS: usize = 6_291_456;
 const MOST_SOURCES: usize = 1_048_576;
 
 /// The threads of a place: at each node none, or the number of its start, where starts are numbered by age.
-#[derive(Debug, Drop)]
+#[derive(Drop)]
 pub(crate) struct Row {
     /// For each node 0 where it has no thread, else one more than the number of its start.
     pub(crate) ranks: Vec<u32>,
@@ -33,7 +33,7 @@ pub(crate) struct Row {
 
 /// Where a byte leads from a row: to the row `to`, whose start number k is that of the number at `start + k` of the sources;
 /// the first `kept` of them stay what they are.
-#[derive(Clone, Copy, Debug)]
+#[derive(Clone, Copy)]
 pub(crate) struct Move {
     pub(crate) to: u32,
     pub(crate) kept: u32,
@@ -41,14 +41,14 @@ pub(crate) struct Move {
 }
 
 /// Where each class of bytes leads from a row: while no match has been found, so that a thread begins at each place, and after.
-#[derive(Clone, Copy, Debug)]
+#[derive(Clone, Copy)]
 pub(crate) struct Moves {
     pub(crate) seeking: [Option<Move>; 256],
     pub(crate) found: [Option<Move>; 256],
 }
 
 /// The rows that were needed so far, and room to work in.
-#[derive(Debug, Drop)]
+#[derive(Drop)]
 pub(crate) struct Table {
     pub(crate) rows: Vec<Row>,
     pub(crate) moves: Vec<Moves>,

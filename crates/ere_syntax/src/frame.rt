@@ -6,6 +6,7 @@ ghost use Rattle.ere_syntax.specs.Frames.{IsSized, atom_view, frame_view, some_c
 ghost use Rattle.ere_syntax.specs.Sizes.{IsSize};
 ghost use Rattle.ere_syntax.specs.View.{view, views};
 
+use crate::held::{boxed, push};
 use crate::size::Size;
 use crate::token::Atom;
 use crate::tree::{Ere, Times};
@@ -60,7 +61,7 @@ fn joined(pieces: Vec<Ere>, last: Ere) -> Result<Ere, AllocError>
         return Ok(last);
     }
     let mut pieces = pieces;
-    pieces.push(last)?;
+    push(&mut pieces, last)?;
     Ok(Ere::Concat(pieces))
 }
 
@@ -72,7 +73,7 @@ fn either(branches: Vec<Ere>, last: Ere) -> Result<Ere, AllocError>
         return Ok(last);
     }
     let mut branches = branches;
-    branches.push(last)?;
+    push(&mut branches, last)?;
     Ok(Ere::Or(branches))
 }
 
@@ -98,7 +99,7 @@ pub(crate) fn put(frame: Frame, part: Part) -> Result<Frame, AllocError>
         }),
         Some(before) => {
             let mut pieces = pieces;
-            pieces.push(before.ere)?;
+            push(&mut pieces, before.ere)?;
             Ok(Frame {
                 branches,
                 pieces,
@@ -125,7 +126,7 @@ pub(crate) fn bar(alloc: Global, frame: Frame) -> Result<Option<Frame>, AllocErr
         Some(last) => {
             let branch = joined(pieces, last.ere)?;
             let mut branches = branches;
-            branches.push(branch)?;
+            push(&mut branches, branch)?;
             Ok(Some(Frame {
                 branches,
                 pieces: Vec::new(alloc),
@@ -170,7 +171,7 @@ pub(crate) fn grouped(alloc: Global, part: Part) -> Result<Option<Part>, AllocEr
     match part.size.deeper() {
         None => Ok(None),
         Some(size) => Ok(Some(Part {
-            ere: Ere::Group(Box::new(alloc, part.ere)?),
+            ere: Ere::Group(boxed(alloc, part.ere)?),
             size,
         })),
     }
@@ -187,7 +188,7 @@ pub(crate) fn repeated(alloc: Global, part: Part, times: Times) -> Result<Option
     match part.size.repeated(times).deeper() {
         None => Ok(None),
         Some(size) => Ok(Some(Part {
-            ere: Ere::Repeat(Box::new(alloc, part.ere)?, times),
+            ere: Ere::Repeat(boxed(alloc, part.ere)?, times),
             size,
         })),
     }

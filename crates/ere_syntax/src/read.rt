@@ -1,5 +1,5 @@
 //! From the text of a regular expression to its tree.
-ghost use Rattle.std.specs.Prelude.{◌≡◌, ◌<◌, ◌≤◌, IfErr, IfOk, length, true};
+ghost use Rattle.std.specs.Prelude.{◌≡◌, ◌<◌, ◌≤◌, [], IfErr, IfOk, length, true};
 ghost use Rattle.ere_syntax.specs.Answers.{BuildAnswer, IsRefused, IsTreeOf};
 ghost use Rattle.ere_syntax.specs.Reading.{is_some};
 ghost use Rattle.ere_syntax.specs.Scan.{ere_of};
@@ -7,7 +7,7 @@ ghost use Rattle.ere_syntax.specs.View.{view};
 
 use crate::check::check;
 use crate::fault::EreFault;
-use crate::frame::{finish, fresh};
+use crate::frame::{Frame, finish, fresh};
 use crate::step::step;
 use crate::token::next_token;
 use crate::tree::Ere;
@@ -20,19 +20,19 @@ fn place(text: &[u8], stop: &[u8]) -> usize
     text.len().saturating_sub(stop.len())
 }
 
-/// The tree of a text that has one, with what is open kept on a stack of its own.
-fn build(alloc: Global, text: &[u8]) -> Result<Ere, EreFault>
+/// The tree of a text that has one, with what is open kept on a stack.
+fn build_on(alloc: Global, stack: &mut Vec<Frame>, text: &[u8]) -> Result<Ere, EreFault>
     requires some { is_some (ere_of text.now) ≡ true }
     requires any { 0 < length text.now }
+    requires empty { stack.old.items ≡ [] }
     ensures { BuildAnswer text.now result }
 {
-    let mut stack = Vec::new(alloc);
     let mut frame = fresh(alloc);
     let mut rest = text;
     while !rest.is_empty() {
         match next_token(rest, stack.len()) {
             Err(stop) => return Err(EreFault::BadEre(place(text, stop))),
-            Ok((token, after)) => match step(alloc, &mut stack, frame, token) {
+            Ok((token, after)) => match step(alloc, stack, frame, token) {
                 Err(fault) => return Err(fault),
                 Ok(None) => return Err(EreFault::BadEre(place(text, rest))),
                 Ok(Some(next)) => {
@@ -55,6 +55,16 @@ fn build(alloc: Global, text: &[u8]) -> Result<Ere, EreFault>
             }
         }
     }
+}
+
+/// The tree of a text that has one.
+fn build(alloc: Global, text: &[u8]) -> Result<Ere, EreFault>
+    requires some { is_some (ere_of text.now) ≡ true }
+    requires any { 0 < length text.now }
+    ensures { BuildAnswer text.now result }
+{
+    let mut stack = Vec::new(alloc);
+    build_on(alloc, &mut stack, text)
 }
 
 /// Reads an extended regular expression, as POSIX XBD 9.4 has them: ordinary bytes, `.`, bracket expressions, groups,

@@ -10,6 +10,7 @@ ghost use Rattle.ere_syntax.specs.View.{view};
 
 use crate::fault::EreFault;
 use crate::frame::{Frame, Part, atom, bar, finish, fresh, grouped, put, repeated};
+use crate::held::push;
 use crate::size::{MAX_ERE_NESTING, Size};
 use crate::token::Token;
 use crate::tree::{Ere, Times};
@@ -65,7 +66,7 @@ fn open_group(
     if stack.len() >= MAX_ERE_NESTING as usize {
         return Err(EreFault::EreTooLarge);
     }
-    stack.push(frame)?;
+    push(stack, frame)?;
     Ok(Some(fresh(alloc)))
 }
 

@@ -11,8 +11,8 @@ ghost use Rattle.module_decoder.specs.Reading.{step_by, step_at, mem_arg_at, res
 use crate::basics::{Span, bits32, bits64, block_type, index, mem_arg, reserved};
 use crate::entries::entries;
 use crate::fault::DecodeFault;
+use crate::held::{push, shared};
 use std::alloc::Global;
-use std::rc::Rc;
 use wasm_types::{BlockType, IndexOp, Instr, Lead, LoadOp, MAX_NESTING, Simple, StoreOp, lead_of};
 
 /// What ends instructions.
@@ -161,10 +161,7 @@ fn blocked<'a>(
         (made_body (views inner.entry.instrs.items) inner.entry.ending inner.entry.rest.now)) }
 {
     match inner.ending {
-        Ending::End => Ok((
-            Instr::Block(kind, Rc::new(alloc, inner.instrs)?),
-            inner.rest,
-        )),
+        Ending::End => Ok((Instr::Block(kind, shared(alloc, inner.instrs)?), inner.rest)),
         Ending::Else => Err(DecodeFault::BadOpcode(behind(c, inner.rest))),
     }
 }
@@ -180,7 +177,7 @@ fn looped<'a>(
         (made_body (views inner.entry.instrs.items) inner.entry.ending inner.entry.rest.now)) }
 {
     match inner.ending {
-        Ending::End => Ok((Instr::Loop(kind, Rc::new(alloc, inner.instrs)?), inner.rest)),
+        Ending::End => Ok((Instr::Loop(kind, shared(alloc, inner.instrs)?), inner.rest)),
         Ending::Else => Err(DecodeFault::BadOpcode(behind(c, inner.rest))),
     }
 }
@@ -189,8 +186,8 @@ fn looped<'a>(
 fn one_sided(alloc: Global, kind: BlockType, yes: Vec<Instr>) -> Result<Instr, DecodeFault>
     ensures { Gives view result (Ok (If kind (views yes.items) Done)) }
 {
-    let yes = Rc::new(alloc, yes)?;
-    let no = Rc::new(alloc, Vec::new(alloc))?;
+    let yes = shared(alloc, yes)?;
+    let no = shared(alloc, Vec::new(alloc))?;
     Ok(Instr::If(kind, yes, no))
 }
 
@@ -207,8 +204,8 @@ fn two_sided<'a>(
 {
     match no.ending {
         Ending::End => {
-            let yes = Rc::new(alloc, yes)?;
-            Ok((Instr::If(kind, yes, Rc::new(alloc, no.instrs)?), no.rest))
+            let yes = shared(alloc, yes)?;
+            Ok((Instr::If(kind, yes, shared(alloc, no.instrs)?), no.rest))
         }
         Ending::Else => Err(DecodeFault::BadOpcode(behind(c, no.rest))),
     }
@@ -300,7 +297,7 @@ pub(crate) fn body_of(
             }
             Some((Step::Opens(lead), after)) => {
                 let (next, after_next) = instr(alloc, c, limit - 1, lead, after)?;
-                instrs.push(next)?;
+                push(&mut instrs, next)?;
                 rest = after_next;
             }
         }

@@ -6,6 +6,7 @@ mod body;
 mod entries;
 mod entry_kinds;
 mod fault;
+mod held;
 pub mod laws;
 mod sections;
 

@@ -16,8 +16,8 @@ use crate::basics::{Span, ended, index, name, unfinished};
 use crate::entries::fill;
 use crate::entry_kinds::{Code, Limited, fill_limited};
 use crate::fault::DecodeFault;
+use crate::held::{push, shared};
 use std::alloc::{AllocError, Global};
-use std::rc::Rc;
 use wasm_types::{
     Data, Elem, Export, Func, FuncType, Import, Limits, MAX_MODULE_BYTES, Module, SectionId,
     take_u32,
@@ -297,11 +297,12 @@ fn joined(alloc: Global, type_indices: Vec<u32>, codes: Vec<Code>) -> Result<Vec
         match first_index(rest) {
             None => return Ok(funcs),
             Some((ty, after)) => {
-                funcs.push(Func {
+                let func = Func {
                     ty,
                     locals: code.locals,
-                    body: Rc::new(alloc, code.body)?,
-                })?;
+                    body: shared(alloc, code.body)?,
+                };
+                push(&mut funcs, func)?;
                 rest = after;
             }
         }

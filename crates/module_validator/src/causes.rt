@@ -13,7 +13,7 @@ use crate::valid::InvalidFault;
 use wasm_types::{Instr, Simple};
 
 /// What is looked for in code.
-#[derive(Clone, Copy, Debug, PartialEq, Eq)]
+#[derive(Clone, Copy)]
 pub enum Cause {
     /// An index that is not there.
     Index,

@@ -9,7 +9,7 @@ use std::marker::Model;
 use wasm_types::ValType;
 
 /// Why code is refused.
-#[derive(Clone, Copy, PartialEq, Eq, Debug)]
+#[derive(Clone, Copy)]
 pub enum Refusal {
     /// The rules do not allow it.
     Untyped,

@@ -1,6 +1,7 @@
 //! The machine that runs modules (Core 1.0, section 4), one reduction a step.
 #![tactic(auto)]
 
+mod held;
 pub mod laws;
 mod link;
 mod machine;

@@ -11,6 +11,7 @@ ghost use Rattle.wasm_machine.specs.ViewConf.{Begins, Lays};
 ghost use Rattle.wasm_types.specs.Typing.{callee_in, typed_in};
 ghost use Rattle.wasm_types.specs.View.{signature_of, view, view_data, view_elem, view_export, view_import, view_module, views};
 
+use crate::held::push;
 use crate::program::{callee, typed};
 use std::alloc::{AllocError, Global};
 use wasm_frames::Frames;
@@ -246,9 +247,9 @@ fn entry(alloc: Global, start: Option<u32>, main: u32) -> Result<Vec<Instr>, All
 {
     let mut code = Vec::new(alloc);
     if let Some(start) = start {
-        code.push(Instr::Plain(Simple::Call(start)))?;
+        push(&mut code, Instr::Plain(Simple::Call(start)))?;
     }
-    code.push(Instr::Plain(Simple::Call(main)))?;
+    push(&mut code, Instr::Plain(Simple::Call(main)))?;
     Ok(code)
 }
 
@@ -289,10 +290,10 @@ pub(crate) fn codes_of(alloc: Global, whole: &Module, main: u32) -> Result<Vec<C
     let mut codes = Vec::new(alloc);
     for func in &whole.funcs {
         let code = code_of(alloc, whole, func)?;
-        codes.push(code)?;
+        push(&mut codes, code)?;
     }
     let first = first_code(alloc, whole, main)?;
-    codes.push(first)?;
+    push(&mut codes, first)?;
     Ok(codes)
 }
 
@@ -323,6 +324,11 @@ pub(crate) fn first_state(
         (λ s. (main : ℕ) → Lays whole.now.funcs.items (entry_code whole.now.start main) codes.now
         → Stand codes.now s.frames) }
 {
+    let first = whole.funcs.len();
+    let Some(code) = codes.get(first) else {
+        return Err(AllocError);
+    };
+    let frames = Frames::new(alloc, code.layout(), first, Some(ValType::I32))?;
     let limits = limits_of(&whole.memories);
     let mut memory = Memory::new(alloc, limits)?;
     pour(&mut memory, limits.min as usize * 65536, &whole.data);
@@ -330,11 +336,6 @@ pub(crate) fn first_state(
     let mut table = Table::new(alloc, elements)?;
     fill(&mut table, elements as usize, &whole.elems);
     let globals = Globals::new(values_of(alloc, &whole.globals)?);
-    let first = whole.funcs.len();
-    let Some(code) = codes.get(first) else {
-        return Err(AllocError);
-    };
-    let frames = Frames::new(alloc, code.layout(), first, Some(ValType::I32))?;
     Ok(State {
         frames,
         memory,

@@ -13,17 +13,17 @@ in_list_tokens o p q t ts n e f = f ∙ ap (λ (u : List Token). u ++ (print_lis
 
 pub push_expr-returns-in-Element : goal.push_expr-returns-in-Element
 push_expr-returns-in-Element t c =
-    on_ok_weaker c.push_element.result (λ h. h ∙ ap (λ u. lexemes c.args.out.now.items ++ print u) (element_is c.args.e.now c.in-Element.name c.in-Element.subscripts _ _ c.in-Element.is c.deref-in-Element.ensures.value c.deref-in-Element-2.ensures.value)) c.push_element.ensures
+    on_ok_weaker c.push_listed.result (λ h. h ∙ ap (λ u. lexemes c.args.out.now.items ++ print u) (element_is c.args.e.now c.in-Element.name c.in-Element.subscripts _ _ c.in-Element.is c.deref-in-Element.ensures.value c.deref-in-Element-2.ensures.value)) c.push_listed.ensures
 
 pub push_expr-returns-in-Call : goal.push_expr-returns-in-Call
 push_expr-returns-in-Call t c =
-    on_ok_weaker c.push_call.result (λ h. h ∙ ap (λ u. lexemes c.args.out.now.items ++ print u) (call_is c.args.e.now c.in-Call.name c.in-Call.arguments _ _ c.in-Call.is c.deref-in-Call.ensures.value c.deref-in-Call-2.ensures.value)) c.push_call.ensures
+    on_ok_weaker c.push_listed-in-Call.result (λ h. h ∙ ap (λ u. lexemes c.args.out.now.items ++ print u) (call_is c.args.e.now c.in-Call.name c.in-Call.arguments _ _ c.in-Call.is c.deref-in-Call.ensures.value c.deref-in-Call-2.ensures.value)) c.push_listed-in-Call.ensures
 
 pub push_expr-returns-in-Apply : goal.push_expr-returns-in-Apply
 push_expr-returns-in-Apply t c =
-    on_ok_weaker c.push_apply.result (λ h. h ∙ ap (λ u. lexemes c.args.out.now.items ++ print u) (apply_is c.args.e.now c.in-Apply.function c.in-Apply.arguments _ c.in-Apply.is c.deref-in-Apply.ensures.value)) c.push_apply.ensures
+    on_ok_weaker c.push_listed-in-Apply.result (λ h. h ∙ ap (λ u. lexemes c.args.out.now.items ++ print u) (apply_is c.args.e.now c.in-Apply.function c.in-Apply.arguments _ c.in-Apply.is c.deref-in-Apply.ensures.value)) c.push_listed-in-Apply.ensures
 
-pub push_expr-returns-in_ok-push_first-in-InList : goal.push_expr-returns-in_ok-push_first-in-InList
-push_expr-returns-in_ok-push_first-in-InList t c =
-    on_ok_weaker c.push_others.result (λ h. in_list_tokens _ _ _ (view c.deref-in-InList.result.now) (views c.deref-in-InList-2.result.now) c.deref-in-InList-3.result.now c.in_ok-push_first-in-InList.ensures h
+pub push_expr-returns-in_ok-push_within-in-InList : goal.push_expr-returns-in_ok-push_within-in-InList
+push_expr-returns-in_ok-push_within-in-InList t c =
+    on_ok_weaker c.push_others.result (λ h. in_list_tokens _ _ _ (view c.deref-in-InList.result.now) (views c.deref-in-InList-2.result.now) c.deref-in-InList-3.result.now c.in_ok-push_within-in-InList.ensures h
     ∙ ap (λ u. lexemes c.args.out.now.items ++ print u) (in_list_is c.args.e.now c.in-InList.first c.in-InList.others c.in-InList.name _ _ _ c.in-InList.is c.deref-in-InList.ensures c.deref-in-InList-2.ensures.value c.deref-in-InList-3.ensures.value)) c.push_others.ensures

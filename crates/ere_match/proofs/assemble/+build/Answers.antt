@@ -1,4 +1,5 @@
 use Rattle.std.proofs.Common.{rules, arith, sym, ap, ◌∙◌, ◌≡◌, ◌+◌, ◌-◌, subst, ℕ, length, drop, take, Some, None, Vec, Global}
+use Rattle.std.proofs.lemmas.Result.{IfOk-weaker}
 use Rattle.ere_syntax.specs.Tree.{Set, Group, Repeat}
 use Rattle.ere_syntax.specs.View.{view, views, concat_all, or_all}
 use Rattle.ere_syntax.proofs.Viewed.{view_concat, view_or}
@@ -117,15 +118,17 @@ repeat-returns-then-times-eq0 t c =
     repeat_high c.args.nodes.now.items c.endless.new.nodes.items (view c.args.inner.now) c.args.times.low c.args.times.high None c.in_ok-none-in-None.none c.args.next c.in-None.is
     (repeat_any c.args.nodes.now.items c.endless.new.nodes.items (view c.args.inner.now) c.args.times.low c.in_ok-none-in-None.none c.args.next c.if-times-eq0.true c.in_ok-none-in-None.ensures.any)
 
-pub repeat-returns-in_ok-entry-in-None : goal.repeat-returns-in_ok-entry-in-None
-repeat-returns-in_ok-entry-in-None t c =
-    repeat_high c.args.nodes.now.items c.copies.new.nodes.items (view c.args.inner.now) c.args.times.low c.args.times.high None c.in_ok-entry-in-None.entry c.args.next c.in-None.is
-    (repeat_least c.args.nodes.now.items c.endless.new.nodes.items c.copies.new.nodes.items (view c.args.inner.now) c.args.times.low c.in_ok-entry-in-None.entry c.in_ok-none-in-None.one c.args.next (omega (arith, c.if-times-eq0.false)) c.in_ok-none-in-None.ensures.some c.in_ok-entry-in-None.ensures)
+pub repeat-returns-else-times-eq0 : goal.repeat-returns-else-times-eq0
+repeat-returns-else-times-eq0 t c =
+    IfOk-weaker c.copies.result _ _ (λ entry built.
+    repeat_high c.args.nodes.now.items c.copies.new.nodes.items (view c.args.inner.now) c.args.times.low c.args.times.high None entry c.args.next c.in-None.is
+    (repeat_least c.args.nodes.now.items c.endless.new.nodes.items c.copies.new.nodes.items (view c.args.inner.now) c.args.times.low entry c.in_ok-none-in-None.one c.args.next (omega (arith, c.if-times-eq0.false)) c.in_ok-none-in-None.ensures.some built)) c.copies.ensures
 
-pub repeat-returns-in_ok-entry-in-Some-2 : goal.repeat-returns-in_ok-entry-in-Some-2
-repeat-returns-in_ok-entry-in-Some-2 t c =
-    repeat_high c.args.nodes.now.items c.copies-else-high-times.new.nodes.items (view c.args.inner.now) c.args.times.low c.args.times.high (Some c.in-Some.high) c.in_ok-entry-in-Some-2.entry c.args.next c.in-Some.is
-    (repeat_most c.args.nodes.now.items c.up_to.new.nodes.items c.copies-else-high-times.new.nodes.items (view c.args.inner.now) c.args.times.low c.in-Some.high c.in_ok-entry-in-Some-2.entry c.in_ok-rest-in-Some.rest c.args.next (omega (arith, c.if-high-times.false)) c.in_ok-rest-in-Some.ensures c.in_ok-entry-in-Some-2.ensures)
+pub repeat-returns-in_ok-rest-in-Some : goal.repeat-returns-in_ok-rest-in-Some
+repeat-returns-in_ok-rest-in-Some t c =
+    IfOk-weaker c.copies-else-high-times.result _ _ (λ entry built.
+    repeat_high c.args.nodes.now.items c.copies-else-high-times.new.nodes.items (view c.args.inner.now) c.args.times.low c.args.times.high (Some c.in-Some.high) entry c.args.next c.in-Some.is
+    (repeat_most c.args.nodes.now.items c.up_to.new.nodes.items c.copies-else-high-times.new.nodes.items (view c.args.inner.now) c.args.times.low c.in-Some.high entry c.in_ok-rest-in-Some.rest c.args.next (omega (arith, c.if-high-times.false)) c.in_ok-rest-in-Some.ensures built)) c.copies-else-high-times.ensures
 
 pub up_to-returns-then-len-before : goal.up_to-returns-then-len-before
 up_to-returns-then-len-before t c =

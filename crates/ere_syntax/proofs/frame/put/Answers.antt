@@ -7,7 +7,7 @@ pub returns-in-None-clause-same : goal.returns-in-None-clause-same
 returns-in-None-clause-same c = λ neat. put_first c.args.frame (view c.args.part.ere) c.in-None.is neat
 
 pub returns-in_ok-push-in-Some-clause-same : goal.returns-in_ok-push-in-Some-clause-same
-returns-in_ok-push-in-Some-clause-same c = λ neat. put_more c.args.frame c.in-Some.before c.push.new.self.items (view c.args.part.ere) c.in-Some.is c.in_ok-push-in-Some.ensures.items
+returns-in_ok-push-in-Some-clause-same c = λ neat. put_more c.args.frame c.in-Some.before c.push.new.items.items (view c.args.part.ere) c.in-Some.is c.in_ok-push-in-Some.ensures.items
 
 pub returns-in_ok-push-in-Some-clause-sized : goal.returns-in_ok-push-in-Some-clause-sized
 returns-in_ok-push-in-Some-clause-sized c =

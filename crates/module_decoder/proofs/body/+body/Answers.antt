@@ -35,5 +35,5 @@ pub body_of-loop-preserved : goal.body_of-loop-preserved
 body_of-loop-preserved t c =
     let next = c.in_ok-next-in-Some-Opens-default.next in
     let at : step_at c.loop.rest.now ≡ Some (Opens c.in-Some-Opens-default.lead, c.in-Some-Opens-default.after.now) = rw c.in-Some-Opens-default.field-0-0-is at c.in-Some-Opens-default.ensures in
-    let items : views c.push.new.self.items ≡ followed_by (views c.loop.instrs.items) (Then (view next) Done) = ap views c.in_ok-push-in-Some-Opens-default.ensures.items ∙ views_push c.loop.instrs.items next in
+    let items : views c.push.new.items.items ≡ followed_by (views c.loop.instrs.items) (Then (view next) Done) = ap views c.in_ok-push-in-Some-Opens-default.ensures.items ∙ views_push c.loop.instrs.items next in
     rw items (body_next c.args.c (body_at c.args.c (c.args.limit - 1)) (views c.loop.instrs.items) (length c.args.bytes.now) c.loop.counter c.loop.rest.now c.in-Some-Opens-default.lead c.in-Some-Opens-default.after.now (view next) c.in_ok-next-in-Some-Opens-default.after_next.now (body_at c.args.c c.args.limit c.args.bytes.now) c.loop-test.true at c.in_ok-next-in-Some-Opens-default.ensures c.loop.invariant)

@@ -5,4 +5,4 @@ use Rattle.module_decoder.proofs.body.blocked.Goals as goal
 
 pub returns-in-End : goal.returns-in-End
 returns-in-End c =
-    rw c.in-End.is (ap (λ (i : Instruction). Ok (i, c.args.inner.rest.now)) (block_is c.args.kind c.args.inner.instrs.items c.in_ok-new-in-End.field-0 (ap (λ v. v.items) c.in_ok-new-in-End.ensures.ok)))
+    rw c.in-End.is (ap (λ (i : Instruction). Ok (i, c.args.inner.rest.now)) (block_is c.args.kind c.args.inner.instrs.items c.in_ok-shared-in-End.field-0 (ap (λ v. v.items) c.in_ok-shared-in-End.ensures.ok)))

@@ -53,7 +53,7 @@ returns c =
         begin = subst (All Begins) (sym items) (All-push Begins old code inv.0 c.in_ok-first.ensures.begins);
         bodies = ap (map first) items ∙ (map_push first old code ∙ (ap (λ (is : List Instructions). is ++ first code ∷ []) all ∙ ap (λ (b : Instructions). map body whole.funcs.items ++ b ∷ []) c.in_ok-first.ensures.body));
         first = λ f e.
-            let there : slice_get c.push-2.new.self.items (length whole.funcs.items) ≡ Some code = ap (λ (xs : List Laid). slice_get xs (length whole.funcs.items)) items ∙ (ap (slice_get (old ++ code ∷ [])) (sym size) ∙ slice_get_last old code) in
+            let there : slice_get c.push-2.new.items.items (length whole.funcs.items) ≡ Some code = ap (λ (xs : List Laid). slice_get xs (length whole.funcs.items)) items ∙ (ap (slice_get (old ++ code ∷ [])) (sym size) ∙ slice_get_last old code) in
             let same : Some f ≡ Some code = sym e ∙ there in
             let is : f ≡ code = cc in
             ap (λ (x : Laid). x.locals) is ∙ c.in_ok-first.ensures.locals;

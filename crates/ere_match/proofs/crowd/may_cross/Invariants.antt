@@ -1,7 +1,7 @@
 use Rattle.std.proofs.Common.{length, ◌-◌, ◌≤◌, None}
 use Rattle.ere_match.specs.Crowds.{IsCrowd, IsCrowded}
 use Rattle.ere_match.specs.Threads.{IsBest}
-use Rattle.ere_match.proofs.crowd.may_match.Given as goal
+use Rattle.ere_match.proofs.crowd.may_cross.Given as goal
 
 abbrev pub invariant-loop-at : goal.invariant-loop-at
 invariant-loop-at l = record {

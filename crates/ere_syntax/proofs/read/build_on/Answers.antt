@@ -2,10 +2,10 @@ use Rattle.std.proofs.Common.{rules}
 use Rattle.ere_syntax.specs.Lexing.{token_view}
 use Rattle.ere_syntax.proofs.Texts.{code_less}
 use Rattle.ere_syntax.proofs.Wholes.{reading_start, reading_no_token, reading_step, reading_next, reading_fault, reading_open}
-use Rattle.ere_syntax.proofs.read.build.Goals as goal
+use Rattle.ere_syntax.proofs.read.build_on.Goals as goal
 
 pub loop-rest-init : goal.loop-rest-init
-loop-rest-init c = reading_start c.args.text.now c.new-stack.result.items c.fresh-frame.result c.requires.any c.new-stack.ensures.items c.fresh-frame.ensures.same c.fresh-frame.ensures.sized
+loop-rest-init c = reading_start c.args.text.now c.args.stack.now.items c.fresh-frame.result c.requires.any c.requires.empty c.fresh-frame.ensures.same c.fresh-frame.ensures.sized
 
 pub returns-in-Err : goal.returns-in-Err
 returns-in-Err c = let s = c.loop-rest in reading_no_token c.args.text.now s.rest.now s.stack.items s.frame c.len.result (search rules) (search rules) s.invariant c.requires.some c.in-Err.ensures
