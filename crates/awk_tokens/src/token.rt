@@ -47,7 +47,7 @@ pub enum Punctuator {
 }
 
 /// What a token is. A name directly before `(` is a `FuncName`.
-#[derive(Clone, Copy)]
+#[derive(Clone, Copy, Debug, PartialEq, Eq)]
 pub enum TokenKind {
     Name,
     FuncName,
@@ -64,7 +64,7 @@ pub enum TokenKind {
 ///
 /// A `;` that the script does not have, put before `}` or at the end, has the line of the token before it, or 1
 /// if there is none, and no bytes. A `;` that a newline stands for has the newline as its text.
-#[derive(Clone, Copy)]
+#[derive(Clone, Copy, Debug)]
 pub struct Token<'a> {
     pub kind: TokenKind,
     pub line: usize,
@@ -72,7 +72,7 @@ pub struct Token<'a> {
 }
 
 /// Why a script has no tokens. Each but the last carries the line of the first byte of what stopped the reading.
-#[derive(Clone, Copy, Debug)]
+#[derive(Clone, Copy, Debug, PartialEq, Eq)]
 pub enum TokenFault {
     /// No token, blank, comment or newline begins with this byte.
     BadByte(usize),

@@ -7,7 +7,7 @@ use std::error::Error;
 use std::fmt;
 
 /// Why a regular expression is refused.
-#[derive(Clone, Copy, Debug)]
+#[derive(Clone, Copy, Debug, PartialEq, Eq)]
 pub enum EreFault {
     /// The text has no tree. Reading stopped at this offset.
     BadEre(usize),

@@ -6,7 +6,7 @@ ghost use Rattle.module_decoder.specs.declared.fault.DecodeFault.TheVariants.{No
 use std::alloc::{AllocError, AllocFailed};
 
 /// Why bytes are refused. A place is that of a byte, counted from 0.
-#[derive(Debug, Drop)]
+#[derive(Debug, Drop, PartialEq, Eq)]
 pub enum DecodeFault {
     /// One of the first 8 bytes is not that of a module of version 1.
     BadHeader,

@@ -16,7 +16,7 @@ use thiserror::Error;
 use wasm_types::{Func, FuncType, Module, ValType};
 
 /// Why a module is refused. A function is named by its index, imported functions counted first.
-#[derive(Clone, Copy, Debug, Drop, Error)]
+#[derive(Clone, Copy, Debug, PartialEq, Eq, Drop, Error)]
 pub enum InvalidFault {
     /// The function is not typed, and names a type, function, local, global, label, table or memory that is not there.
     #[error("BadIndex {0}")]
