@@ -34,7 +34,7 @@ pub sums : (sum_in (assigned 7 (joined Plus (name 7) (Number (pos 1)))) ≡ Some
     × ((sum_in (updated 7 Plus (name 5)) ≡ Some (record { target = OfName 7; op = Plus; left = Held (OfName 7); right = Held (OfName 5) }))
     × (sum_in (stepped 7 Minus) ≡ Some (record { target = OfName 7; op = Minus; left = Held (OfName 7); right = Constant (pos 1) }))
     × (sum_in (Set (Parameter true 0) (joined Plus (parameter 0) (name 7))) ≡ Some (record { target = OfParameter 0; op = Plus; left = Held (OfParameter 0); right = Held (OfName 7) }))))
-sums = (refl, (refl, (refl, (refl, refl))))
+sums = (refl, (refl, (refl, refl, refl)))
 
 -- a product, a boxed name, a boxed parameter, a constant past 2^52, a sum of a sum
 pub no_sums : (sum_in (assigned 7 (joined Times (name 7) (Number (pos 2)))) ≡ None)
@@ -92,7 +92,7 @@ pub remainders : (remainder_in (assigned 7 (joined Modulo (name 7) (Number (pos 
     ≡ Some (record { target = OfName 7; multiple = record { name = OfName 7; factor = Some (negsuc 2) }; divisor = negsuc 6 }))
     × (remainder_in (Set (Parameter true 0) (joined Modulo (parameter 1) (Number (pos 7))))
     ≡ Some (record { target = OfParameter 0; multiple = record { name = OfParameter 1; factor = None }; divisor = pos 7 })))
-remainders = (refl, (refl, (refl, refl)))
+remainders = (refl, (refl, refl, refl))
 
 -- 0 as a factor or a divisor, a quotient, a product alone, a boxed name, and a boxed parameter
 pub no_remainders : (remainder_in (assigned 7 (joined Modulo (joined Times (name 7) (Number (pos 0))) (Number (pos 7)))) ≡ None)
