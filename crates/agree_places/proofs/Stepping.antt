@@ -209,7 +209,9 @@ module _ (y : Layout) (asks : Bool) (most : ℕ) where
 
   returned_nops : {k : Instructions} {m : List Instructions} (e : Code) (d : ℕ) → (asks ≡ true → Few most zero e) → Nops l k m → Nops l (returned y e d k) m
   returned_nops (Choose sort.Value e a c) d lo r =
-      tested_nops y asks most [] [] e zero zero d (λ z. (lo z).0) (choice (returned_nops a (suc d) (λ z. (lo z).1.0) none) (returned_nops c (suc d) (λ z. (lo z).1.1) none) r)
+      whichever (is_some (pair_in e))
+      (within (pair_nops (pair_in e) e (suc d) zero (λ z. (lo z).0) (returned_nops a (suc d) (λ z. (lo z).1.0) none)) (returned_nops c d (λ z. (lo z).1.1) r))
+      (tested_nops y asks most [] [] e zero zero d (λ z. (lo z).0) (choice (returned_nops a (suc d) (λ z. (lo z).1.0) none) (returned_nops c (suc d) (λ z. (lo z).1.1) none) r))
   returned_nops e d lo r = emitted_nops y asks most false [] [] e zero zero d lo (answer_nops (form_of [] e) d r)
 
   mutual
