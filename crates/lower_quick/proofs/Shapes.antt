@@ -1,11 +1,8 @@
 -- The parts of code and of steps as they stand in memory.
-use Rattle.std.proofs.Common.{◌≡◌, ℕ, zero, ◌≢◌, Bool, true, false, List, [], ◌∷◌, length, get_or, Option, Some, None, refl, sym, ap, ◌∙◌, arith}
-use Rattle.std.specs.Prelude.{cond, nat_eq, ◌||◌, ◌&&◌}
+use Rattle.std.proofs.Common.{◌≡◌, ℕ, zero, ◌≢◌, Bool, true, false, List, [], ◌∷◌, length, get_or, Option, Some, None, true≢false, refl, sym, ap, ◌∙◌, arith}
+use Rattle.std.specs.Prelude.{cond, nat_eq, ◌&&◌}
 use Rattle.std.specs.Bool.{◌==◌}
-use Rattle.std.proofs.lemmas.Bool.{eqb-true}
 use Rattle.std.proofs.lemmas.Bool.Decides.{nat_tests}
-use Rattle.std.specs.List.{list_any}
-use Rattle.std.specs.Option.{option_map}
 use Rattle.std.specs.declared.vec.Vec.{Vec}
 use Rattle.std.specs.declared.alloc.Global.{Global}
 use Rattle.mid_program.specs.Mid as plain
@@ -15,14 +12,14 @@ use Rattle.mid_program.specs.declared.mid.Arithmetic.TheVariants as inline
 use Rattle.sem_primitives.specs.declared.table.Primitive.{Primitive}
 use Rattle.sem_primitives.specs.declared.table.Primitive.TheVariants as row
 use Rattle.mid_program.specs.declared.mid.Operation.{Operation}
-use Rattle.mid_program.specs.declared.mid.Operation.TheVariants.{Host}
+use Rattle.mid_program.specs.declared.mid.Operation.TheVariants.{Host, Inline}
 use Rattle.mid_program.specs.declared.code.Operand.{Operand}
 use Rattle.mid_program.specs.declared.code.Operand.TheVariants as operand
 use Rattle.mid_program.specs.declared.code.Code.{Code, Do}
 use Rattle.mid_program.specs.declared.step.Step.{Step, Block}
-use Rattle.lower_model.specs.Quick.{array_here, array_where, element_at, element_read, element_set, field_count, is_among, is_bound, is_count, is_nothing, kept_sum, kept_update, multiple_in, name_in, source_in, sum_of, taker_at, two_product, two_remainder, update_of, Holder, multiple_of}
+use Rattle.lower_model.specs.Quick.{array_here, array_where, element_at, element_read, element_set, field_count, is_bound, is_count, is_nothing, kept_sum, kept_update, multiple_in, name_in, source_in, new_sum, sum_of, taker_at, two_product, two_remainder, update_of, Holder, Source, multiple_of}
 use Rattle.lower_model.proofs.Tallies.{bound_is}
-use Rattle.lower_quick.specs.Operands.{divided_by, is_elem, is_modulo, is_set_elem, is_times, one_code, product_in, reads_special, three_codes, two_codes, two_factors}
+use Rattle.lower_quick.specs.Operands.{calculated_in, divided_by, is_elem, is_modulo, is_set_elem, is_times, one_code, product_in, reads_special, three_codes, two_codes, two_factors}
 use Rattle.lower_quick.proofs.Views.{view_block, view_do}
 
 pub do_view : (c : Code) (o : Operation) (v : Vec Operand Global) (es : List Operand) → c ≡ Do o v → es ≡ v.items → plain.Do o (views es) ≡ view c
@@ -121,6 +118,30 @@ two_are (plain.At a (plain.At b plain.End)) x y h = λ i. plain.At (first (sym h
     second (Some p) = p.1
     second None = b
 two_are _ x y h = absurd cc
+
+-- a sum of two operands
+
+calculated_are : (e : plain.Code) (o : Arithmetic) (es : plain.Codes) → Some (o, es) ≡ calculated_in e → plain.Do (Inline o) es ≡ e
+calculated_are (plain.Do (Inline p) fs) o es h = λ i. plain.Do (Inline (operator (h i))) (operands (h i))
+  where
+    operator : Option (Arithmetic × plain.Codes) → Arithmetic
+    operator (Some q) = q.0
+    operator None = p
+
+    operands : Option (Arithmetic × plain.Codes) → plain.Codes
+    operands (Some q) = q.1
+    operands None = fs
+calculated_are _ o es h = absurd cc
+
+-- of what was not kept just before
+
+unkept : (s : Option Source) (i : Option Holder) (o : Arithmetic) (x y : plain.Code) → is_bound false zero x ≡ false → None ≡ new_sum s i (plain.Do (Inline o) (plain.At x (plain.At y plain.End)))
+unkept s (Some i) o (plain.Bound false zero) (plain.Number z) h = absurd (true≢false h)
+unkept s i o x y h = refl
+
+pub unkept_is : (s : Option Source) (i : Option Holder) (o : Arithmetic) (es : plain.Codes) (e x y : plain.Code) → Some (o, es) ≡ calculated_in e → Some (x, y) ≡ two_codes es → is_bound false zero x ≡ false → None ≡ new_sum s i e
+unkept_is s i o es e x y h g k =
+    unkept s i o x y k ∙ ap (λ (fs : plain.Codes). new_sum s i (plain.Do (Inline o) fs)) (sym (two_are es x y g)) ∙ ap (new_sum s i) (calculated_are e o es h)
 
 three_are : (es : plain.Codes) (x y z : plain.Code) → Some (x, y, z) ≡ three_codes es → es ≡ plain.At x (plain.At y (plain.At z plain.End))
 three_are (plain.At a (plain.At b (plain.At c plain.End))) x y z h = λ i. plain.At (part (λ p. p.0) a (sym h i)) (plain.At (part (λ p. p.1) b (sym h i)) (plain.At (part (λ p. p.2) c (sym h i)) plain.End))

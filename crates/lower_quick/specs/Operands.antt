@@ -1,5 +1,5 @@
 -- Parts of code.
-use Rattle.std.specs.Prelude.{ℕ, zero, Bool, true, false, if◌then◌else◌, Option, None, Some, ℤ}
+use Rattle.std.specs.Prelude.{zero, Bool, true, false, if◌then◌else◌, Option, None, Some, ℤ}
 use Rattle.awk_values.specs.Operators.{is_zero}
 use Rattle.sem_primitives.specs.declared.table.Primitive.{Primitive}
 use Rattle.sem_primitives.specs.declared.table.Primitive.TheVariants as row

@@ -1,5 +1,5 @@
 -- The shapes that are found, as the definitions see them.
-use Rattle.std.specs.Prelude.{pos, ◌^◌}
+use Rattle.std.specs.Prelude.{pos}
 use Rattle.awk_text.specs.Number.{largest}
 use Rattle.lower_model.specs.Quick as plain
 use Rattle.mid_program.specs.ViewCode.{view, view_array}

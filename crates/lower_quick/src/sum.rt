@@ -7,7 +7,7 @@ ghost use Rattle.lower_quick.specs.View.{view_holder, view_source, view_sum};
 ghost use Rattle.lower_model.specs.Quick.{is_sum, kept_sum, let_sum, new_sum, old_source, set_sum, step_sum, stored_name, sum_in, sum_of, two_sum, update_sum};
 
 use crate::operands::{calculated_in, is_bound, number_of, one_code, two_codes};
-use crate::source::{Holder, Source, constant_in, is_near, source_in, holder_of};
+use crate::source::{Holder, Source, constant_in, holder_of, is_near, source_in};
 use mid_program::{Arithmetic, Code, Operand};
 
 /// A sum or a difference, and the name that it goes to.
@@ -26,7 +26,12 @@ pub(crate) fn is_sum(op: Arithmetic) -> bool
 }
 
 /// The sum of two sources.
-fn sum_of(target: Holder, op: Arithmetic, left: Option<Source>, right: Option<Source>) -> Option<Sum>
+fn sum_of(
+    target: Holder,
+    op: Arithmetic,
+    left: Option<Source>,
+    right: Option<Source>,
+) -> Option<Sum>
     ensures { option_map view_sum result
         ≡ sum_of (view_holder target) op (option_map view_source left) (option_map view_source right) }
 {

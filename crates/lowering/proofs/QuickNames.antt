@@ -21,7 +21,7 @@ use Rattle.lower_model.proofs.Updating.{added_is}
 use Rattle.lower_model.proofs.QuickNames.{near_sum, none_is, some_is, source_code, source_is, stored_is}
 use Rattle.lower_model.specs.Small.{does}
 use Rattle.lower_model.specs.Statements.{source_pushed}
-use Rattle.lower_pieces.specs.Bounds.{most_labels, most_places}
+use Rattle.lower_pieces.specs.Bounds.{most_labels}
 use Rattle.lower_expressions.specs.Fits.{AllFit, Fits, SlotFits}
 use Rattle.lower_quick.specs.View.{view_holder}
 use Rattle.lower_quick.specs.declared.source.Holder as quick
@@ -52,25 +52,23 @@ pair_list q f = source_list q.left (and_source q.right []) f.0 (source_list q.ri
 
 -- the first of the names that are left
 
-pub left_at : (is : List quick.Holder) (i : ℕ) (x : quick.Holder) → i < length is → x ≡ get_or is i x → drop i is ≡ x ∷ drop (i + 1) is
-left_at is i x lt e =
+left_at : (is : List quick.Holder) (i : ℕ) (d : quick.Holder) → i < length is → drop i is ≡ get_or is i d ∷ drop (i + 1) is
+left_at is i d lt =
     let next : suc i ≡ i + 1 = omega arith in
-    drop-cons is i x lt ∙ ap (λ (z : quick.Holder). z ∷ drop (suc i) is) (sym e) ∙ ap (λ (n : ℕ). x ∷ drop n is) next
+    drop-cons is i d lt ∙ ap (λ (n : ℕ). get_or is i d ∷ drop n is) next
 
-pub names_left : (is : List quick.Holder) (i : ℕ) (x : quick.Holder) → i < length is → x ≡ get_or is i x → NamesFit (map view_holder (drop i is)) → HolderFits (view_holder x) × NamesFit (map view_holder (drop (i + 1) is))
-names_left is i x lt e f = subst (λ (js : List quick.Holder). NamesFit (map view_holder js)) (left_at is i x lt e) f
+pub names_left : (is : List quick.Holder) (i : ℕ) (d : quick.Holder) → i < length is → NamesFit (map view_holder (drop i is)) → HolderFits (view_holder (get_or is i d)) × NamesFit (map view_holder (drop (i + 1) is))
+names_left is i d lt f = subst (λ (js : List quick.Holder). NamesFit (map view_holder js)) (left_at is i d lt) f
 
-pub joined_step : (read : Holder → Simple) (is : List quick.Holder) (i : ℕ) (x : quick.Holder) (q : ℤ) (k : Instructions) → i < length is → x ≡ get_or is i x →
-    shifted (read (view_holder x)) q (does (Binary I64 Or) (joined read (map view_holder (drop (i + 1) is)) q k)) ≡ joined read (map view_holder (drop i is)) q k
-joined_step read is i x q k lt e = sym (ap (λ (js : List quick.Holder). joined read (map view_holder js) q k) (left_at is i x lt e))
+pub joined_step : (read : Holder → Simple) (is : List quick.Holder) (i : ℕ) (d : quick.Holder) (q : ℤ) (k : Instructions) → i < length is →
+    shifted (read (view_holder (get_or is i d))) q (does (Binary I64 Or) (joined read (map view_holder (drop (i + 1) is)) q k)) ≡ joined read (map view_holder (drop i is)) q k
+joined_step read is i d q k lt = sym (ap (λ (js : List quick.Holder). joined read (map view_holder js) q k) (left_at is i d lt))
 
 -- the test of names, from that of the first and the others
-pub all_of : (read : Holder → Simple) (is : List quick.Holder) (x : quick.Holder) (q : ℤ) (w : ℕ) (k : Instructions) → 1 ≤ length is → x ≡ get_or is 0 x →
-    shifted (read (view_holder x)) q (joined read (map view_holder (take (length is - 1) (drop 1 is))) q (past w k)) ≡ all_unsure read (map view_holder is) q w k
-all_of read [] x q w k h e = absurd (omega arith)
-all_of read (i ∷ is) x q w k h e =
-    ap (λ (z : quick.Holder). shifted (read (view_holder z)) q (joined read (map view_holder (take (suc (length is) - 1) is)) q (past w k))) e
-    ∙ ap (λ (js : List quick.Holder). shifted (read (view_holder i)) q (joined read (map view_holder js) q (past w k))) (take_all (suc (length is) - 1) is (omega arith))
+pub all_of : (read : Holder → Simple) (is : List quick.Holder) (d : quick.Holder) (q : ℤ) (w : ℕ) (k : Instructions) → 1 ≤ length is →
+    shifted (read (view_holder (get_or is 0 d))) q (joined read (map view_holder (take (length is - 1) (drop 1 is))) q (past w k)) ≡ all_unsure read (map view_holder is) q w k
+all_of read [] d q w k h = absurd (omega arith)
+all_of read (i ∷ is) d q w k h = ap (λ (js : List quick.Holder). shifted (read (view_holder i)) q (joined read (map view_holder js) q (past w k))) (take_all (suc (length is) - 1) is (omega arith))
 
 -- two sources on the stack
 pub two_read : (y : Layout) (a b : Source) (k : Instructions) → does (source_read y a) (does (source_read y b) k) ≡ source_pushed y a (source_pushed y b k)

@@ -50,7 +50,8 @@ pub(crate) fn unsure(
 ) -> Result<(), AllocError>
     requires { HolderFits (view_holder within.name) }
     ensures { OnOk result (Emits out.old.items out.new.items
-        (unsure (name_read (view_layout layout.now) (view_holder within.name)) (pos largest) within.width)) }
+        (unsure (name_read (view_layout layout.now) (view_holder within.name)) (pos largest)
+        within.width)) }
 {
     let all = [
         name_read(layout, within.name),

@@ -10,5 +10,5 @@ pub returns : goal.returns
 returns c =
     on_ok_weaker c.does_all-2.result
     (λ h k. h k ∙ c.in_ok-joined.ensures _ ∙ (rw c.name_read.ensures at c.in_ok-does_all.ensures) _
-    ∙ ap (followed c.args.out.now.items) (all_of (name_read (view_layout c.args.layout.now)) c.args.names.now (pos c.args.shift) c.args.width k (omega arith)))
+    ∙ ap (followed c.args.out.now.items) (all_of (name_read (view_layout c.args.layout.now)) c.args.names.now _ (pos c.args.shift) c.args.width k (omega arith)))
     c.does_all-2.ensures

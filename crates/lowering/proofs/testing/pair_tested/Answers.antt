@@ -1,4 +1,4 @@
-use Rattle.std.proofs.Common.{suc, pos, ◌^◌, ◌∙◌, sym, subst}
+use Rattle.std.proofs.Common.{suc, pos, ◌^◌, ◌∙◌, sym, subst, ap, map}
 use Rattle.std.proofs.lemmas.Result.{on_ok_weaker}
 use Rattle.wasm_types.specs.Syntax.{Instructions, Done}
 use Rattle.mid_program.specs.ViewCode.{view}
@@ -7,14 +7,14 @@ use Rattle.lower_model.specs.Small.{either}
 use Rattle.lower_model.specs.Statements.{name_read, pair_left}
 use Rattle.lower_pieces.proofs.Appended.{emits_then}
 use Rattle.lower_expressions.specs.View.{view_layout}
-use Rattle.lower_quick.specs.View.{view_pair}
+use Rattle.lower_quick.specs.View.{view_holder, view_pair}
 use Rattle.lowering.specs.Parts.{test_left}
 use Rattle.lowering.specs.QuickFits.{NamesFit}
 use Rattle.lowering.proofs.QuickNames.{pair_list}
 use Rattle.lowering.proofs.testing.pair_tested.Goals as goal
 
 pub all_unsure-requires : goal.all_unsure-requires
-all_unsure-requires c = subst NamesFit (sym (c.deref.ensures.value ∙ c.in_ok-pair_names.ensures)) (pair_list (view_pair c.args.pair) c.requires.pair)
+all_unsure-requires c = subst NamesFit (sym (ap (map view_holder) c.deref.ensures.value ∙ c.in_ok-pair_names.ensures)) (pair_list (view_pair c.args.pair) c.requires.pair)
 
 pub returns : goal.returns
 returns c =
@@ -23,5 +23,5 @@ returns c =
     let quick : Instructions → Instructions = pair_left y (view_pair c.args.pair) (suc c.args.label) in
     on_ok_weaker c.either.result
     (emits_then (all_unsure (name_read y) (pair_names (view_pair c.args.pair)) (pos (2 ^ 53)) (2 ^ 54)) (either (slow Done) (quick Done)) _ _ _
-    (rw (c.deref.ensures.value ∙ c.in_ok-pair_names.ensures) at c.in_ok-all_unsure.ensures))
+    (rw (ap (map view_holder) c.deref.ensures.value ∙ c.in_ok-pair_names.ensures) at c.in_ok-all_unsure.ensures))
     (c.either.ensures slow quick c.in_ok-all_cases.ensures c.in_ok-quick.ensures)
