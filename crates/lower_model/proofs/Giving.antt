@@ -260,16 +260,16 @@ module _ (p : Program) (deepest : Watch) (ks : List Kind) (F : List Frame) (b : 
           let h1 = starts_among p deepest ks F b M n u K K1 h.next τ refl h.starts in
           first (machine p deepest ks F) M 1 w (1 + w) τ.turns c1 _ P (Away p deepest ks F b d K) _ (goes_from h.comes (chooses A B (flag_number t))) (omega arith)
           (one_way p deepest ks F b M n t w τ.turns K1 (laid b h.next) A B τ P (Away p deepest ks F b d K) (returning a1) (returning a2)
-          (within (machine p deepest ks F) M (work_of a1 + 20) w τ.turns _ P (Away p deepest ks F b d K) (returning a1 τ) (omega arith) (within_label a1 ok1 u d k K h.next τ P parts.1.0 parts.1.1.1.0 (omega (arith, rm)) (omega (arith, ar)) h1))
-          (within (machine p deepest ks F) M (work_of a2 + 20) w τ.turns _ P (Away p deepest ks F b d K) (returning a2 τ) (omega arith) (within_label a2 ok2 u d k K h.next τ P parts.1.1.0 parts.1.1.1.1 (omega (arith, rm)) (omega (arith, ar)) h1))))
+          (within (machine p deepest ks F) M (work_of a1 + 20) w τ.turns _ P (Away p deepest ks F b d K) (returning a1 τ) (omega arith) (within_label a1 ok1 u d k K h.next τ P parts.1 parts.3 (omega (arith, rm)) (omega (arith, ar)) h1))
+          (within (machine p deepest ks F) M (work_of a2 + 20) w τ.turns _ P (Away p deepest ks F b d K) (returning a2 τ) (omega arith) (within_label a2 ok2 u d k K h.next τ P parts.2 parts.4 (omega (arith, rm)) (omega (arith, ar)) h1))))
 
       way : (t : Bool) (τ : State) (c1 : Conf) → Left p deepest ks F b M n 0 A K2 u l t τ c1 → Reached p deepest ks F b M w τ.turns c1 P (Away p deepest ks F b d K) (either_returning a1 a2 t τ)
       way true τ c1 h =
           first (machine p deepest ks F) M 0 (work_of a1 + 20) w τ.turns c1 _ P (Away p deepest ks F b d K) (returning a1 τ) (record { it = h.comes }) (omega arith)
-          (within_label a1 ok1 u d after K h.next τ P parts.1.0 parts.1.1.1.0 (omega (arith, rm)) (omega (arith, ar)) h.starts)
+          (within_label a1 ok1 u d after K h.next τ P parts.1 parts.3 (omega (arith, rm)) (omega (arith, ar)) h.starts)
       way false τ c1 h =
           first (machine p deepest ks F) M 0 (work_of a2 + 20) w τ.turns c1 _ P (Away p deepest ks F b d K) (returning a2 τ) (record { it = h.comes }) (omega arith)
-          (ok2 u d k K h.next τ P parts.1.1.0 parts.1.1.1.1 (omega (arith, rm)) (omega (arith, ar)) (starts_among p deepest ks F b M n u K2 K h.next τ refl h.starts))
+          (ok2 u d k K h.next τ P parts.2 parts.4 (omega (arith, rm)) (omega (arith, ar)) (starts_among p deepest ks F b M n u K2 K h.next τ refl h.starts))
 
       quick : Reached p deepest ks F b M W σ.turns (at ks [] K (laid b l) F (block (left_unless_pair (layout p deepest ks F b M n) (pair_in c) c (suc d) 0 A) after) (beside_state p deepest ks F σ)) P (Away p deepest ks F b d K) (go_on (test_meant p deepest ks F b M n c σ) (either_returning a1 a2))
       quick =

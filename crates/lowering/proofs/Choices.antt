@@ -11,7 +11,7 @@ use Rattle.lower_model.proofs.QuickNames.{none_is, some_is}
 use Rattle.lowering.specs.StepFits.{ReturnFits, choice_in}
 
 pub choice_is : (e a b c : Code) → Some (a, b, c) ≡ choice_in e → Choose Value a b c ≡ e
-choice_is (Choose Value x y z) a b c h = ap (λ (t : Code × Code × Code). Choose Value t.0 t.1.0 t.1.1) (some_is (a, b, c) (x, y, z) h)
+choice_is (Choose Value x y z) a b c h = ap (λ (t : Code × Code × Code). Choose Value t.0 t.1 t.2) (some_is (a, b, c) (x, y, z) h)
 choice_is e a b c h = absurd cc
 
 pub plain_fits : (y : Layout) (e : Code) (d : ℕ) → None ≡ choice_in e → ReturnFits y e d → (d ≤ most_labels) × Fits y e 0 0 d
