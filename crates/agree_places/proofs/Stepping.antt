@@ -22,7 +22,7 @@ use Rattle.lower_model.specs.Statements.{name_read, source_pushed, name_numbered
 use Rattle.lower_model.proofs.Tallies.{Shape, Updating, Following, Leading, tally_code, IsAdded, tally_is}
 use Rattle.lower_model.proofs.Updating.{added_is}
 use Rattle.agree_places.specs.Statements.{main_places, main_starts, routine_starts, starts_in, starts_of, step_starts, steps_starts}
-use Rattle.agree_places.proofs.Nops.{Nops, array_nops, asked_nops, choice, dropped_nops, emitted_nops, kept_code_nops, kept_number_nops, none, pending_nops, plain, rounds, tested_nops, to_number_nops, to_value_nops}
+use Rattle.agree_places.proofs.Nops.{Nops, array_nops, asked_nops, choice, dropped_nops, emitted_nops, kept_code_nops, kept_number_nops, none, pending_nops, plain, rounds, tested_nops, to_number_nops, to_value_nops, whichever}
 use Rattle.agree_places.proofs.Pending.{Few, Limit, PartsFew, StepFew, StepsFew, calls_fit, limit_of}
 
 begun : {l : Limit} {k : Instructions} {m : List Instructions} → Nops l k m → Nops l (does Nop k) (does Nop k ∷ m)
