@@ -282,7 +282,9 @@ module _ (tells : Bool) (y : Layout) (sizes : ℕ → Option ℕ) (whole : Progr
       let s4 = and_parts g h s3.1 in
       let p = or_none (names_argv a) (names_argv z || names_argv w) q in
       let p1 = or_none (names_argv z) (names_argv w) p.1 in
-      tested_spares tells y sizes c sized same (either_spares (returned_spares done z (suc d) s4.0 p1.0) (returned_spares done w (suc d) s4.1 p1.1) r) [] [] a zero zero d none_kept s3.0 p.0
+      chosen_code (is_some (pair_in a))
+      (block_spares (pair_spares (returned_spares done z (suc d) s4.0 p1.0) (pair_in a) a (suc d) zero s3.0 p.0) (returned_spares r w d s4.1 p1.1))
+      (tested_spares tells y sizes c sized same (either_spares (returned_spares done z (suc d) s4.0 p1.0) (returned_spares done w (suc d) s4.1 p1.1) r) [] [] a zero zero d none_kept s3.0 p.0)
   returned_spares {k = k} r x d s q = emitted_spares tells y sizes c sized same (answer_spares k (form_of [] x) d) false [] [] x zero zero d none_kept s q
 
   -- Steps.

@@ -22,7 +22,7 @@ use Rattle.lower_model.specs.Statements.{name_read, source_pushed, name_numbered
 use Rattle.lower_model.proofs.Tallies.{Shape, Updating, Following, Leading, tally_code, IsAdded, tally_is}
 use Rattle.lower_model.proofs.Updating.{added_is}
 use Rattle.agree_places.specs.Statements.{main_places, main_starts, routine_starts, starts_in, starts_of, step_starts, steps_starts}
-use Rattle.agree_places.proofs.Nops.{Nops, array_nops, asked_nops, choice, dropped_nops, emitted_nops, kept_code_nops, kept_number_nops, none, pending_nops, plain, rounds, tested_nops, to_number_nops, to_value_nops}
+use Rattle.agree_places.proofs.Nops.{Nops, array_nops, asked_nops, choice, dropped_nops, emitted_nops, kept_code_nops, kept_number_nops, none, pending_nops, plain, rounds, tested_nops, to_number_nops, to_value_nops, whichever}
 use Rattle.agree_places.proofs.Pending.{Few, Limit, PartsFew, StepFew, StepsFew, calls_fit, limit_of}
 
 begun : {l : Limit} {k : Instructions} {m : List Instructions} → Nops l k m → Nops l (does Nop k) (does Nop k ∷ m)
@@ -209,7 +209,9 @@ module _ (y : Layout) (asks : Bool) (most : ℕ) where
 
   returned_nops : {k : Instructions} {m : List Instructions} (e : Code) (d : ℕ) → (asks ≡ true → Few most zero e) → Nops l k m → Nops l (returned y e d k) m
   returned_nops (Choose sort.Value e a c) d lo r =
-      tested_nops y asks most [] [] e zero zero d (λ z. (lo z).0) (choice (returned_nops a (suc d) (λ z. (lo z).1.0) none) (returned_nops c (suc d) (λ z. (lo z).1.1) none) r)
+      whichever (is_some (pair_in e))
+      (within (pair_nops (pair_in e) e (suc d) zero (λ z. (lo z).0) (returned_nops a (suc d) (λ z. (lo z).1.0) none)) (returned_nops c d (λ z. (lo z).1.1) r))
+      (tested_nops y asks most [] [] e zero zero d (λ z. (lo z).0) (choice (returned_nops a (suc d) (λ z. (lo z).1.0) none) (returned_nops c (suc d) (λ z. (lo z).1.1) none) r))
   returned_nops e d lo r = emitted_nops y asks most false [] [] e zero zero d lo (answer_nops (form_of [] e) d r)
 
   mutual

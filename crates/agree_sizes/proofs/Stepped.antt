@@ -306,7 +306,9 @@ module _ (y : Layout) (names : length y.names ≤ 2 ^ 24) (memory : length (memo
 
   returned_fits : {k : Instructions} (e : Code) (d : ℕ) → Small e → Fits k → Fits (returned y e d k)
   returned_fits (Choose sort.Value e a c) d s r =
-      tested_fits y names memory [] [] e zero zero d s.0 (choice (returned_fits a (suc d) s.1.0 none) (returned_fits c (suc d) s.1.1 none) r)
+      whichever (is_some (pair_in e))
+      (in_block (pair_fits (pair_in e) e (suc d) zero refl s.0 (returned_fits a (suc d) s.1.0 none)) (returned_fits c d s.1.1 r))
+      (tested_fits y names memory [] [] e zero zero d s.0 (choice (returned_fits a (suc d) s.1.0 none) (returned_fits c (suc d) s.1.1 none) r))
   returned_fits e d s r = emitted_fits y names memory false [] [] e zero zero d s (answer_fits (form_of [] e) d r)
 
   mutual

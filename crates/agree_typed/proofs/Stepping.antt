@@ -299,10 +299,14 @@ module _ {p : Program} {ks : List Kind} {b : Bases} {C : Context} (at : Stands p
       let s3 = and_parts (fits (form_of [] c) sort.Value) (sorted ctx [] e && (sorted ctx [] a && sorted ctx [] c)) s2.1 in
       let s4 = and_parts (sorted ctx [] e) (sorted ctx [] a && sorted ctx [] c) s3.1 in
       let s5 = and_parts (sorted ctx [] a) (sorted ctx [] c) s4.1 in
-      tested_ok e (ap₂ (λ t q. t && q) s1.0 s4.0) (omega (arith, h)) (omega (arith, g)) x (branched
-      (returned_ok a (suc d) s2.0 s5.0 (omega (arith, h)) (omega (arith, g)) (inner x) (inner y) done)
+      let t = ap₂ (λ t q. t && q) s1.0 s4.0 in
+      let so = returned_ok a (suc d) s2.0 s5.0 (omega (arith, h)) (omega (arith, g)) (inner x) (inner y) done in
+      chosen_ok (is_some (pair_in e)) _ _
+      (blocked (left_unless_pair_ok (pair_in e) e (suc d) 0 refl t (omega (arith, h)) (omega (arith, g)) (inner x) nearest so)
+      (returned_ok c d s3.0 s5.1 (omega (arith, h)) (omega (arith, g)) x y r))
+      (tested_ok e t (omega (arith, h)) (omega (arith, g)) x (branched so
       (returned_ok c (suc d) s3.0 s5.1 (omega (arith, h)) (omega (arith, g)) (inner x) (inner y) done)
-      r)
+      r))
   returned_ok e d f s h g x y r =
       let he = room_there e in
       let lt : 0 < b.temporaries = omega (arith, h, he) in

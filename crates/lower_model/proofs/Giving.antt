@@ -1,6 +1,6 @@
 -- `return`: what a function's answer is, in all forms; what is chosen is returned where it is chosen.
-use Rattle.std.proofs.Common.{◌≡◌, inl, ℕ, suc, ◌+◌, ◌<◌, ◌≤◌, Bool, true, false, List, [], ◌∷◌, Some, None, length, refl, sym, ap, ◌∙◌, subst, arith}
-use Rattle.std.specs.Prelude.{◌&&◌, cond, nat_eq, if◌then◌else◌}
+use Rattle.std.proofs.Common.{◌≡◌, inl, ℕ, suc, ◌+◌, ◌<◌, ◌≤◌, Bool, true, false, List, [], ◌∷◌, Some, None, length, refl, sym, ap, ap₂, ◌∙◌, subst, arith}
+use Rattle.std.specs.Prelude.{◌&&◌, is_some, nat_eq, if◌then◌else◌}
 use Rattle.std.proofs.lemmas.Bool.{and_parts}
 use Rattle.awk_values.specs.declared.value.Value.{Value}
 use Rattle.sem_primitives.specs.Constants.{flag_number}
@@ -12,16 +12,17 @@ use Rattle.wasm_store.specs.declared.word.Word.TheVariants.{I64}
 use Rattle.wasm_store.specs.Words.{flag}
 use Rattle.mid_program.specs.Mid.{Kind, Program, Form, Answered, Bare, Perhaps, Code, Choose, form_of}
 use Rattle.mid_program.specs.MidMeaning.{Holds, evaluated, all_evaluated, boxed, converted, truth_in}
-use Rattle.sem_scripts.specs.ScriptState.{State, Returned, Outcome, Gives, Stops, Doing, go_on, settled, stop}
+use Rattle.sem_scripts.specs.ScriptState.{State, Returned, Outcome, Gives, Stops, Doing, give, go_on, settled, stop}
 use Rattle.sem_scripts.specs.Statements.{Flow}
 use Rattle.sem_scripts.specs.Steps.{truth_number}
-use Rattle.mid_program.specs.Sorted.{There, fits, is_tested, kinds_of, sorted, all_sorted}
+use Rattle.mid_program.specs.Sorted.{There, fits, is_tested, kinds_of, sorted, all_sorted, test_sorted}
 use Rattle.lower_model.specs.Cells.{Cell, Bits, Held, Gone, is_owned}
-use Rattle.lower_model.specs.Emission.{emitted}
-use Rattle.lower_model.specs.Machine.{Conf, Label, Frame, at, br, label, loops_walked}
+use Rattle.lower_model.specs.Emission.{emitted, tested}
+use Rattle.lower_model.specs.Machine.{Conf, Label, Frame, at, br, label}
 use Rattle.lower_model.specs.Places.{Bases, room, arrays_in}
-use Rattle.lower_model.specs.Small.{either, when, text_beside, truth}
-use Rattle.lower_model.specs.Statements.{answer_given, returned, text_given, word_given}
+use Rattle.lower_model.specs.Quick.{pair_in}
+use Rattle.lower_model.specs.Small.{either, when, text_beside}
+use Rattle.lower_model.specs.Statements.{answer_given, block, left_unless_pair, returned, text_given, word_given}
 use Rattle.lower_model.proofs.Watch.{Watch}
 use Rattle.lower_model.proofs.Runs.{Goes, goes_to, goes_from, then_goes, by_steps, first, then_on, weaker, within, Reaches}
 use Rattle.lower_model.proofs.Regions.{upd_same}
@@ -34,13 +35,19 @@ use Rattle.lower_model.proofs.Relation.{HoldsAt, Fit, fit_hand, fit_less, fit_lo
 use Rattle.lower_model.proofs.Pieces.{chooses, closes, number_is_ok}
 use Rattle.lower_model.proofs.Answers.{machine, beside_state, Reached}
 use Rattle.lower_model.proofs.Converting.{flag_word}
-use Rattle.lower_model.proofs.Choosing.{truth_ok}
-use Rattle.lower_model.proofs.Simulation.{work_of, layout, context, meant, room_one, Ready, Done, ExprOk, still_stands, walking_same}
+use Rattle.lower_model.proofs.Simulation.{work_of, layout, context, meant, room_one, Done, ExprOk, still_stands}
+use Rattle.lower_model.proofs.StatementForms.{Starts, ready, starts_among}
+use Rattle.lower_model.proofs.Branches.{TestDone, test_meant, test_ok, one_way}
+use Rattle.lower_model.proofs.QuickSteps.{Left, left_unless_pair_ok}
 
 -- one thing after another, and then a third
 onward_twice : {A B C : Type 0} → (r : Outcome A) (f : A → Doing B) (g : B → Doing C) → go_on (go_on r f) g ≡ go_on r (λ a σ. go_on (f a σ) g)
 onward_twice (Gives a σ) f g = refl
 onward_twice (Stops why σ) f g = refl
+
+onward_same : {A B : Type 0} → (r : Outcome A) (f g : A → Doing B) → ((a : A) (σ : State) → f a σ ≡ g a σ) → go_on r f ≡ go_on r g
+onward_same (Gives a σ) f g h = h a σ
+onward_same (Stops why σ) f g h = refl
 
 module _ (p : Program) (deepest : Watch) (ks : List Kind) (F : List Frame) (b : Bases) (M n : ℕ) where
   abbrev names : ℕ
@@ -156,74 +163,127 @@ module _ (p : Program) (deepest : Watch) (ks : List Kind) (F : List Frame) (b : 
   abbrev returning : Code → Doing Flow
   returning e σ = go_on (meant p deepest ks F b M n [] tt e σ) (λ x. stop {A = Flow} (Returned (boxed (form_of [] e) x)))
 
-  abbrev AloneOk : Code → Type 1
-  AloneOk e = (u d : ℕ) (k : Instructions) (K : List Label) (l : Locals) (σ : State) (P : Flow → State → Conf → Type 0) → fits (form_of [] e) sort.Value ≡ true → sorted (context p deepest ks F b M n) [] e ≡ true → room e ≤ b.temporaries → arrays_in e ≤ b.arrays →
-      Ready p deepest ks F b M n [] tt [] (λ i. There) 0 u 0 (loops_walked K) l σ →
-      Reached p deepest ks F b M (work_of e + 20) σ.turns (at ks [] K (laid b l) F (emitted (layout p deepest ks F b M n) false [] [] e 0 0 d (answer_given (layout p deepest ks F b M n) (form_of [] e) d k)) (beside_state p deepest ks F σ)) P (Away p deepest ks F b d K) (returning e σ)
+  -- `return` of code, from where a statement begins
+  abbrev ReturnsBy : Code → ((d : ℕ) → Instructions → Instructions) → Type 1
+  ReturnsBy e code = (u d : ℕ) (k : Instructions) (K : List Label) (l : Locals) (σ : State) (P : Flow → State → Conf → Type 0) → fits (form_of [] e) sort.Value ≡ true → sorted (context p deepest ks F b M n) [] e ≡ true → room e ≤ b.temporaries → arrays_in e ≤ b.arrays →
+      Starts p deepest ks F b M n u K l σ →
+      Reached p deepest ks F b M (work_of e + 20) σ.turns (at ks [] K (laid b l) F (code d k) (beside_state p deepest ks F σ)) P (Away p deepest ks F b d K) (returning e σ)
 
-  alone_ok : (e : Code) → ExprOk p deepest ks F b M n e → AloneOk e
-  alone_ok e ok u d k K l σ P fit so rm ar rd =
+  alone_ok : (e : Code) → ExprOk p deepest ks F b M n e → ReturnsBy e (λ d k. emitted (layout p deepest ks F b M n) false [] [] e 0 0 d (answer_given (layout p deepest ks F b M n) (form_of [] e) d k))
+  alone_ok e ok u d k K l σ P fit so rm ar s =
       let mach = machine p deepest ks F in
       let f = form_of [] e in
       let Q = Away p deepest ks F b d K in
       let k1 = answer_given (layout p deepest ks F b M n) f d k in
       let r1 = room_one e in
       then_on mach M (work_of e) 20 (work_of e + 20) σ.turns _ (Done p deepest ks F b M n false e [] tt [] (λ i. There) 0 u 0 k1 K l σ) P Q (meant p deepest ks F b M n [] tt e σ) _ (omega arith)
-      (ok false [] tt [] (λ i. There) 0 u 0 d k1 K l σ so (λ i lt. absurd (omega (arith, lt))) (omega (arith, rm)) (omega (arith, ar)) rd)
+      (ok false [] tt [] (λ i. There) 0 u 0 d k1 K l σ so (λ i lt. absurd (omega (arith, lt))) (omega (arith, rm)) (omega (arith, ar)) (ready p deepest ks F b M n u K l σ s))
       (λ x τ c1 le h.
       let g = given_ok f x u d k K h.next τ fit (omega (arith, rm, r1)) h.fit (still_stands e f 0 h.next x h.stands) in
       let q = g.few in
       left_in 20 g.steps τ.turns c1 g.conf (Returns p deepest ks F b d K (boxed f x) τ) (goes_from h.comes g.goes) (omega (arith, q)) g.holds)
 
-  -- `return` of any code
-  pub returned_ok : ((e : Code) → ExprOk p deepest ks F b M n e) → (e : Code) (u d : ℕ) (k : Instructions) (K : List Label) (l : Locals) (σ : State) (P : Flow → State → Conf → Type 0) → fits (form_of [] e) sort.Value ≡ true → sorted (context p deepest ks F b M n) [] e ≡ true → room e ≤ b.temporaries → arrays_in e ≤ b.arrays →
-      Ready p deepest ks F b M n [] tt [] (λ i. There) 0 u 0 (loops_walked K) l σ →
-      Reached p deepest ks F b M (work_of e + 20) σ.turns (at ks [] K (laid b l) F (returned (layout p deepest ks F b M n) e d k) (beside_state p deepest ks F σ)) P (Away p deepest ks F b d K) (returning e σ)
-  unfolding evaluated all_evaluated sorted all_sorted
-  returned_ok oks (Choose sort.Value c a1 a2) u d k K l σ P fit so rm ar rd =
-      let mach = machine p deepest ks F in
-      let ctx = context p deepest ks F b M n in
-      let y = layout p deepest ks F b M n in
-      let Q = Away p deepest ks F b d K in
-      let Kl = label [] None k ∷ K in
-      let Q1 = Away p deepest ks F b (suc d) Kl in
+  abbrev pub ReturnOk : Code → Type 1
+  ReturnOk e = ReturnsBy e (returned (layout p deepest ks F b M n) e)
+
+  -- what is chosen is returned where it is chosen
+
+  abbrev either_returning : Code → Code → Bool → Doing Flow
+  either_returning a1 a2 t = if t then returning a1 else returning a2
+
+  give_value : Value → Doing Flow
+  give_value v = stop (Returned v)
+
+  chosen_means : (c a1 a2 : Code) (σ : State) → go_on (test_meant p deepest ks F b M n c σ) (either_returning a1 a2) ≡ returning (Choose sort.Value c a1 a2) σ
+  unfolding evaluated all_evaluated give_value
+  chosen_means c a1 a2 σ =
       let g = form_of [] c in
-      let rest = fits (form_of [] a1) sort.Value && (fits (form_of [] a2) sort.Value && (sorted ctx [] c && (sorted ctx [] a1 && sorted ctx [] a2))) in
-      let s2 = and_parts (is_tested g) rest so in
-      let s3 = and_parts (fits (form_of [] a1) sort.Value) (fits (form_of [] a2) sort.Value && (sorted ctx [] c && (sorted ctx [] a1 && sorted ctx [] a2))) s2.1 in
-      let s4 = and_parts (fits (form_of [] a2) sort.Value) (sorted ctx [] c && (sorted ctx [] a1 && sorted ctx [] a2)) s3.1 in
-      let s5 = and_parts (sorted ctx [] c) (sorted ctx [] a1 && sorted ctx [] a2) s4.1 in
-      let s6 = and_parts (sorted ctx [] a1) (sorted ctx [] a2) s5.1 in
-      let A = returned y a1 (suc d) NoMore in
-      let B = returned y a2 (suc d) NoMore in
-      let k1 = truth b g 0 (either A B k) in
-      let r1 = room_one c in
-      let give : Value → Doing Flow = λ v. stop (Returned v) in
       let way : Code → Doing Value = λ a τ. go_on (meant p deepest ks F b M n [] tt a τ) (λ x. settled (converted (form_of [] a) sort.Value x)) in
-      let chosen : Holds g → Doing Value = λ x. if truth_in g x then way a1 else way a2 in
-      let w2 = work_of a1 + work_of a2 + 20 in
-      let out : (a : Code) (τ : State) (c1 : Conf) → Reached p deepest ks F b M (work_of a + 20) τ.turns c1 P Q1 (returning a τ) → Reached p deepest ks F b M (work_of a + 20) τ.turns c1 P Q (go_on (way a τ) give) = λ a τ c1 r.
-      subst (λ o. Reached p deepest ks F b M (work_of a + 20) τ.turns c1 P Q o) (sym (onward_twice (meant p deepest ks F b M n [] tt a τ) (λ x. settled (converted (form_of [] a) sort.Value x)) give))
-      (weaker mach M (work_of a + 20) τ.turns c1 P P Q1 Q (returning a τ) (λ x τ1 c2 q. q) (λ why τ1 c2 q. away_out p deepest ks F b d (label [] None k) K why τ1 c2 q) r) in
-      subst (λ o. Reached p deepest ks F b M (work_of (Choose sort.Value c a1 a2) + 20) σ.turns (at ks [] K (laid b l) F (emitted y false [] [] c 0 0 d k1) (beside_state p deepest ks F σ)) P Q o) (sym (onward_twice (meant p deepest ks F b M n [] tt c σ) chosen give))
-      (then_on mach M (work_of c) (60 + (work_of a1 + work_of a2)) (work_of (Choose sort.Value c a1 a2) + 20) σ.turns _ (Done p deepest ks F b M n false c [] tt [] (λ i. There) 0 u 0 k1 K l σ) P Q (meant p deepest ks F b M n [] tt c σ) _ (omega arith)
-      (oks c false [] tt [] (λ i. There) 0 u 0 d k1 K l σ s5.0 (λ i lt. absurd (omega (arith, lt))) (omega (arith, rm)) (omega (arith, ar)) rd)
-      (λ x τ c1 le h.
-      let z = truth_ok p deepest ks F b M n g x 0 u 0 (either A B k) K h.next τ s2.0 (omega (arith, rm, r1)) h.fit (still_stands c g 0 h.next x h.stands) in
-      let zf = z.few in
-      let rd1 : Ready p deepest ks F b M n [] tt [] (λ i. There) 0 u 0 (loops_walked Kl) z.next τ = record {
-        below = tt;
-        kept = tt;
-        fit = z.fit;
-        turns = omega (arith, le, rd.turns);
-        parameters = rd.parameters;
-        plain = rd.plain;
-        walking = walking_same p deepest ks F b M n (loops_walked K) u l z.next (λ x. z.keeps.iterators x ∙ h.same.iterators x) rd.walking;
-        none = refl;
-      } in
-      let both : (t : Bool) → Reached p deepest ks F b M w2 τ.turns (at ks [] Kl (laid b z.next) F (cond (nat_eq (flag_number t) 0) B A) (beside_state p deepest ks F τ)) P Q (go_on ((if t then way a1 else way a2) τ) give) = λ t. elim t as (λ t1. Reached p deepest ks F b M w2 τ.turns (at ks [] Kl (laid b z.next) F (cond (nat_eq (flag_number t1) 0) B A) (beside_state p deepest ks F τ)) P Q (go_on ((if t1 then way a1 else way a2) τ) give)) [
-        | true ↦ within mach M (work_of a1 + 20) w2 τ.turns _ P Q (go_on (way a1 τ) give) (omega arith) (out a1 τ _ (returned_ok oks a1 u (suc d) NoMore Kl z.next τ P s3.0 s6.0 (omega (arith, rm)) (omega (arith, ar)) rd1))
-        | false ↦ within mach M (work_of a2 + 20) w2 τ.turns _ P Q (go_on (way a2 τ) give) (omega arith) (out a2 τ _ (returned_ok oks a2 u (suc d) NoMore Kl z.next τ P s4.0 s6.1 (omega (arith, rm)) (omega (arith, ar)) rd1))
+      let each : (t : Bool) (τ : State) → either_returning a1 a2 t τ ≡ go_on ((if t then way a1 else way a2) τ) give_value = λ t τ. elim t as (λ t1. either_returning a1 a2 t1 τ ≡ go_on ((if t1 then way a1 else way a2) τ) give_value) [
+        | true ↦ sym (onward_twice (meant p deepest ks F b M n [] tt a1 τ) (λ x. settled (converted (form_of [] a1) sort.Value x)) give_value)
+        | false ↦ sym (onward_twice (meant p deepest ks F b M n [] tt a2 τ) (λ x. settled (converted (form_of [] a2) sort.Value x)) give_value)
       ] in
-      first mach M (z.steps + 1) w2 (60 + (work_of a1 + work_of a2)) τ.turns c1 _ P Q _ (goes_from h.comes (then_goes z.goes (chooses A B (flag_number (truth_in g x))))) (omega (arith, zf)) (both (truth_in g x))))
-  returned_ok oks e u d k K l σ P fit so rm ar rd = alone_ok e (oks e) u d k K l σ P fit so rm ar rd
+      onward_twice (meant p deepest ks F b M n [] tt c σ) (λ x. give (truth_in g x)) (either_returning a1 a2)
+      ∙ onward_same (meant p deepest ks F b M n [] tt c σ) (λ x τ. either_returning a1 a2 (truth_in g x) τ) (λ x τ. go_on ((if truth_in g x then way a1 else way a2) τ) give_value) (λ x τ. each (truth_in g x) τ)
+      ∙ sym (onward_twice (meant p deepest ks F b M n [] tt c σ) (λ x. if truth_in g x then way a1 else way a2) give_value)
+
+  -- one way, in a block or an `if`
+  within_label : (a : Code) → ReturnOk a → (u d : ℕ) (k : Instructions) (K : List Label) (l : Locals) (σ : State) (P : Flow → State → Conf → Type 0) → fits (form_of [] a) sort.Value ≡ true → sorted (context p deepest ks F b M n) [] a ≡ true → room a ≤ b.temporaries → arrays_in a ≤ b.arrays →
+      Starts p deepest ks F b M n u (label [] None k ∷ K) l σ →
+      Reached p deepest ks F b M (work_of a + 20) σ.turns (at ks [] (label [] None k ∷ K) (laid b l) F (returned (layout p deepest ks F b M n) a (suc d) NoMore) (beside_state p deepest ks F σ)) P (Away p deepest ks F b d K) (returning a σ)
+  within_label a ok u d k K l σ P fit so rm ar s =
+      let K1 = label [] None k ∷ K in
+      weaker (machine p deepest ks F) M (work_of a + 20) σ.turns _ P P (Away p deepest ks F b (suc d) K1) (Away p deepest ks F b d K) (returning a σ) (λ x τ c q. q) (λ why τ c q. away_out p deepest ks F b d (label [] None k) K why τ c q)
+      (ok u (suc d) NoMore K1 l σ P fit so rm ar s)
+
+  chosen_ok : (c a1 a2 : Code) → ExprOk p deepest ks F b M n c → ReturnOk a1 → ReturnOk a2 → ReturnOk (Choose sort.Value c a1 a2)
+  unfolding sorted all_sorted
+  chosen_ok c a1 a2 okc ok1 ok2 u d k K l σ P fit so rm ar s =
+      subst (λ o. Reached p deepest ks F b M (work_of (Choose sort.Value c a1 a2) + 20) σ.turns (at ks [] K (laid b l) F (returned (layout p deepest ks F b M n) (Choose sort.Value c a1 a2) d k) (beside_state p deepest ks F σ)) P (Away p deepest ks F b d K) o) (chosen_means c a1 a2 σ) (by (is_some (pair_in c)))
+    where
+      A : Instructions
+      A = returned (layout p deepest ks F b M n) a1 (suc d) NoMore
+
+      B : Instructions
+      B = returned (layout p deepest ks F b M n) a2 (suc d) NoMore
+
+      after : Instructions
+      after = returned (layout p deepest ks F b M n) a2 d k
+
+      K1 : List Label
+      K1 = label [] None k ∷ K
+
+      K2 : List Label
+      K2 = label [] None after ∷ K
+
+      w : ℕ
+      w = (work_of a1 + work_of a2) + 20
+
+      W : ℕ
+      W = work_of (Choose sort.Value c a1 a2) + 20
+
+      parts : (test_sorted (context p deepest ks F b M n) c ≡ true) × (fits (form_of [] a1) sort.Value ≡ true) × (fits (form_of [] a2) sort.Value ≡ true) × (sorted (context p deepest ks F b M n) [] a1 ≡ true) × (sorted (context p deepest ks F b M n) [] a2 ≡ true)
+      parts =
+          let ctx = context p deepest ks F b M n in
+          let s2 = and_parts (is_tested (form_of [] c)) (fits (form_of [] a1) sort.Value && (fits (form_of [] a2) sort.Value && (sorted ctx [] c && (sorted ctx [] a1 && sorted ctx [] a2)))) so in
+          let s3 = and_parts (fits (form_of [] a1) sort.Value) (fits (form_of [] a2) sort.Value && (sorted ctx [] c && (sorted ctx [] a1 && sorted ctx [] a2))) s2.1 in
+          let s4 = and_parts (fits (form_of [] a2) sort.Value) (sorted ctx [] c && (sorted ctx [] a1 && sorted ctx [] a2)) s3.1 in
+          let s5 = and_parts (sorted ctx [] c) (sorted ctx [] a1 && sorted ctx [] a2) s4.1 in
+          let s6 = and_parts (sorted ctx [] a1) (sorted ctx [] a2) s5.1 in
+          (ap₂ (λ t q. t && q) s2.0 s5.0, s3.0, s4.0, s6.0, s6.1)
+
+      plain : Reached p deepest ks F b M W σ.turns (at ks [] K (laid b l) F (tested (layout p deepest ks F b M n) [] [] c 0 0 d (either A B k)) (beside_state p deepest ks F σ)) P (Away p deepest ks F b d K) (go_on (test_meant p deepest ks F b M n c σ) (either_returning a1 a2))
+      plain =
+          then_on (machine p deepest ks F) M (work_of c + 14) (1 + w) W σ.turns _ (TestDone p deepest ks F b M n (either A B k) K u l) P (Away p deepest ks F b d K) (test_meant p deepest ks F b M n c σ) _ (omega arith)
+          (test_ok p deepest ks F b M n c okc u d (either A B k) K l σ parts.0 (omega (arith, rm)) (omega (arith, ar)) s)
+          (λ t τ c1 le h.
+          let h1 = starts_among p deepest ks F b M n u K K1 h.next τ refl h.starts in
+          first (machine p deepest ks F) M 1 w (1 + w) τ.turns c1 _ P (Away p deepest ks F b d K) _ (goes_from h.comes (chooses A B (flag_number t))) (omega arith)
+          (one_way p deepest ks F b M n t w τ.turns K1 (laid b h.next) A B τ P (Away p deepest ks F b d K) (returning a1) (returning a2)
+          (within (machine p deepest ks F) M (work_of a1 + 20) w τ.turns _ P (Away p deepest ks F b d K) (returning a1 τ) (omega arith) (within_label a1 ok1 u d k K h.next τ P parts.1 parts.3 (omega (arith, rm)) (omega (arith, ar)) h1))
+          (within (machine p deepest ks F) M (work_of a2 + 20) w τ.turns _ P (Away p deepest ks F b d K) (returning a2 τ) (omega arith) (within_label a2 ok2 u d k K h.next τ P parts.2 parts.4 (omega (arith, rm)) (omega (arith, ar)) h1))))
+
+      way : (t : Bool) (τ : State) (c1 : Conf) → Left p deepest ks F b M n 0 A K2 u l t τ c1 → Reached p deepest ks F b M w τ.turns c1 P (Away p deepest ks F b d K) (either_returning a1 a2 t τ)
+      way true τ c1 h =
+          first (machine p deepest ks F) M 0 (work_of a1 + 20) w τ.turns c1 _ P (Away p deepest ks F b d K) (returning a1 τ) (record { it = h.comes }) (omega arith)
+          (within_label a1 ok1 u d after K h.next τ P parts.1 parts.3 (omega (arith, rm)) (omega (arith, ar)) h.starts)
+      way false τ c1 h =
+          first (machine p deepest ks F) M 0 (work_of a2 + 20) w τ.turns c1 _ P (Away p deepest ks F b d K) (returning a2 τ) (record { it = h.comes }) (omega arith)
+          (ok2 u d k K h.next τ P parts.2 parts.4 (omega (arith, rm)) (omega (arith, ar)) (starts_among p deepest ks F b M n u K2 K h.next τ refl h.starts))
+
+      quick : Reached p deepest ks F b M W σ.turns (at ks [] K (laid b l) F (block (left_unless_pair (layout p deepest ks F b M n) (pair_in c) c (suc d) 0 A) after) (beside_state p deepest ks F σ)) P (Away p deepest ks F b d K) (go_on (test_meant p deepest ks F b M n c σ) (either_returning a1 a2))
+      quick =
+          first (machine p deepest ks F) M 1 ((work_of c + 24) + w) W σ.turns _ (at ks [] K2 (laid b l) F (left_unless_pair (layout p deepest ks F b M n) (pair_in c) c (suc d) 0 A) (beside_state p deepest ks F σ)) P (Away p deepest ks F b d K) _ (by_steps 1 refl) (omega arith)
+          (then_on (machine p deepest ks F) M (work_of c + 24) w ((work_of c + 24) + w) σ.turns _ (Left p deepest ks F b M n 0 A K2 u l) P (Away p deepest ks F b d K) (test_meant p deepest ks F b M n c σ) _ (omega arith)
+          (weaker (machine p deepest ks F) M (work_of c + 24) σ.turns _ (Left p deepest ks F b M n 0 A K2 u l) (Left p deepest ks F b M n 0 A K2 u l) (Away p deepest ks F b (suc d) K2) (Away p deepest ks F b d K) (test_meant p deepest ks F b M n c σ) (λ t τ c1 q. q) (λ why τ c1 q. away_out p deepest ks F b d (label [] None after) K why τ c1 q)
+          (left_unless_pair_ok p deepest ks F b M n c okc u (suc d) 0 A K2 l σ parts.0 (omega (arith, rm)) (omega (arith, ar)) (starts_among p deepest ks F b M n u K K2 l σ refl s)))
+          (λ t τ c1 le h. way t τ c1 h))
+
+      by : (j : Bool) → Reached p deepest ks F b M W σ.turns (at ks [] K (laid b l) F (if j then block (left_unless_pair (layout p deepest ks F b M n) (pair_in c) c (suc d) 0 A) after else tested (layout p deepest ks F b M n) [] [] c 0 0 d (either A B k)) (beside_state p deepest ks F σ)) P (Away p deepest ks F b d K) (go_on (test_meant p deepest ks F b M n c σ) (either_returning a1 a2))
+      by true = quick
+      by false = plain
+
+  -- `return` of any code
+  pub returned_ok : ((e : Code) → ExprOk p deepest ks F b M n e) → (e : Code) → ReturnOk e
+  returned_ok oks (Choose sort.Value c a1 a2) = chosen_ok c a1 a2 (oks c) (returned_ok oks a1) (returned_ok oks a2)
+  returned_ok oks e = alone_ok e (oks e)

@@ -133,7 +133,7 @@ module _ (p : Program) (deepest : Watch) (ks : List Kind) (F : List Frame) (b : 
       let s0 = and_parts r (fits f sort.Value && sorted (context p deepest ks F b M n) [] e) so in
       let s1 = and_parts (fits f sort.Value) (sorted (context p deepest ks F b M n) [] e) s0.1 in
       begun_step p deepest ks F b M n _ (work_of e + 20) (30 + work_of e) u K l σ0 P (Away p deepest ks F b d K) (plain_meant p deepest ks F b M n (Return e)) (omega arith) st
-      (λ σ s. returned_ok p deepest ks F b M n oks e u d k K l σ P s1.0 s1.1 (omega (arith, rm)) (omega (arith, ar)) (ready p deepest ks F b M n u K l σ s))
+      (λ σ s. returned_ok p deepest ks F b M n oks e u d k K l σ P s1.0 s1.1 (omega (arith, rm)) (omega (arith, ar)) s)
 
   fit_range : (i : ℕ) (c : Bool) (t u w : ℕ) (l : Locals) (σ : State) → Fit p deepest ks F t u w l σ → Fit p deepest ks F t u w l (with_range i c σ)
   fit_range i c t u w l σ f = record { params = f.params; size = f.size; answer = f.answer; hands = f.hands; numbers = f.numbers; free = f.free; walks = f.walks; still = f.still; yards = f.yards; spare = f.spare; sound = record { room = f.sound.room; names = f.sound.names; calm = f.sound.calm } }

@@ -250,10 +250,12 @@ module _ (layout : Layout) where
   answer_given Perhaps exit after = word_given exit after
   answer_given form exit after = constant_given least (suc exit) after
 
-  -- what is chosen is returned where it is chosen
+  -- what is chosen is returned where it is chosen: in a block that a quick test leaves, or in an `if`
   abbrev pub returned : Code → (exit : ℕ) → Instructions → Instructions
   returned (Choose sort.Value test so otherwise) exit after =
-      tested layout [] [] test zero zero exit (either (returned so (suc exit) Done) (returned otherwise (suc exit) Done) after)
+      if is_some (pair_in test)
+      then block (left_unless_pair (pair_in test) test (suc exit) zero (returned so (suc exit) Done)) (returned otherwise exit after)
+      else tested layout [] [] test zero zero exit (either (returned so (suc exit) Done) (returned otherwise (suc exit) Done) after)
   returned code exit after = emitted layout false [] [] code zero zero exit (answer_given (form_of [] code) exit after)
 
   -- Steps: so many iterators are in use; so many labels are between the code and the function's exit, the place where `break` goes, and the one where

@@ -28,7 +28,7 @@ use Rattle.lower_model.specs.Small.{does, either}
 use Rattle.lower_model.specs.Statements.{answer_given, returned, holder_cleared, name_read, name_numbered, sum_kept, sum_taken, both_asked, element_numbered, element_given, remainder_dropped, barely_dropped, plainly_dropped, quickly_dropped, left_unless_counted, left_unless_pair, left_unless, again, all_emptied, arrays_emptied, before_parts, block, iterator_left, iterators_emptied, key_stored, left_by, names_declared, names_made, part_done, record_done, records_read, routines_declared, step_emitted, steps_emitted, temporaries_emptied}
 use Rattle.lower_model.proofs.Tallies.{Shape, Updating, Following, Leading, tally_code, tally_is}
 use Rattle.lower_model.proofs.Updating.{added_code, added_is}
-use Rattle.lower_needs.specs.Labels.{choice_labels, labels_among, labels_in, more_if, step_labels, steps_labels}
+use Rattle.lower_needs.specs.Labels.{choice_labels, chosen_labels, return_labels, labels_among, labels_in, more_if, step_labels, steps_labels}
 use Rattle.lower_needs.proofs.Depths.{Deep, array_deep, asked_deep, converts_deep, dropped_deep, emitted_deep, emits_deep, kept_code_deep, kept_deep, kept_number_deep, left_deep, pushes_deep, tested_deep, to_number_deep, to_value_deep, truth_deep}
 
 any : {k : Instructions} → Deep k 0
@@ -393,12 +393,19 @@ module _ (y : Layout) where
   answer_deep f d r = record { count = let h = r.count in omega (arith, h) }
 
   returned_deep : {k : Instructions} {m : ℕ} (e : Code) (d : ℕ) → Deep k m → Deep (returned y e d k) m
-  returned_deep (Choose sort.Value e a c) d r = tested_deep y [] [] e zero zero d (behind_either r)
+  returned_deep (Choose sort.Value e a c) d r = one_of (is_some (pair_in e)) (behind_block (returned_deep c d r)) (tested_deep y [] [] e zero zero d (behind_either r))
   returned_deep e d r = emitted_deep y false [] [] e zero zero d (answer_deep (form_of [] e) d r)
 
-  returned_labelled : (k : Instructions) (e : Code) (d : ℕ) → Deep (returned y e d k) (labels_in e)
+  -- what is chosen for `return`, whose ways are so deep
+  chosen_labelled : {A B plain : Instructions} {a c : ℕ} (o : Option Pair) (e : Code) (d : ℕ) → Deep A a → Deep B c → Deep plain (chosen_labels false (labels_in e) a c) →
+      Deep (if is_some o then block (left_unless_pair y o e d zero A) B else plain) (chosen_labels (is_some o) (labels_in e) a c)
+  chosen_labelled None e d r q z = z
+  chosen_labelled {A = A} (Some p) e d r q z = at_least (both (inside_block (both (pair_labelled A (Some p) e d zero) (pair_deep (Some p) e d zero r))) (behind_block q)) (omega arith)
+
+  returned_labelled : (k : Instructions) (e : Code) (d : ℕ) → Deep (returned y e d k) (return_labels e)
   returned_labelled k (Choose sort.Value e a c) d =
-      both (labelled _ false [] [] e zero zero d) (tested_deep y [] [] e zero zero d (inside_either (returned_labelled Done a (suc d)) (returned_labelled Done c (suc d))))
+      chosen_labelled (pair_in e) e (suc d) (returned_labelled Done a (suc d)) (returned_labelled k c d)
+      (both (labelled _ false [] [] e zero zero d) (tested_deep y [] [] e zero zero d (inside_either (returned_labelled Done a (suc d)) (returned_labelled Done c (suc d)))))
   returned_labelled k e d = labelled _ false [] [] e zero zero d
 
   mutual

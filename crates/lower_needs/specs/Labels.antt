@@ -1,5 +1,6 @@
 -- How many labels more than around its beginning stand around a part of emitted code, from which the function may be left.
 use Rattle.std.specs.Prelude.{ℕ, suc, max, Bool, true, false, is_some}
+use Rattle.sem_primitives.specs.declared.sorts.Sort.TheVariants as sort
 use Rattle.mid_program.specs.Mid.{Code, Do, Over, Compare, Call, Ask, AskLine, FileLine, Replace, Number, Text, Unset, Get, Set, Array, IsOpen, Choose, Seq, Let, Bound, Codes, End, At, Fixed, Fresh, Step, Eval, Block, If, Loop, Each, Break, Continue, Next, Exit, ExitWith, Return, Mark, Steps, NoStep, Then}
 use Rattle.lower_model.specs.Quick.{pair_in, step_jumps, sum_in}
 
@@ -43,6 +44,16 @@ abbrev pub choice_labels : (quick : Bool) → (test whole other : ℕ) → ℕ
 choice_labels true test whole other = max (suc (suc (suc test))) (suc (max (suc whole) other))
 choice_labels false test whole other = max test (suc (max whole other))
 
+-- What is chosen for `return` is returned where it is chosen: in a block with its test, or after that, where the test has a quick way, else in an `if`.
+abbrev pub chosen_labels : (quick : Bool) → (test whole other : ℕ) → ℕ
+chosen_labels true test whole other = max (suc (suc test)) (max (suc whole) other)
+chosen_labels false test whole other = max test (suc (max whole other))
+
+abbrev pub return_labels : Code → ℕ
+return_labels (Choose sort.Value test so otherwise) =
+    chosen_labels (is_some (pair_in test)) (labels_in test) (return_labels so) (return_labels otherwise)
+return_labels code = labels_in code
+
 -- a loop is a `block` with a `loop` in it
 abbrev pub loop_labels : (test body last : ℕ) → ℕ
 loop_labels test body last = max (suc (suc test)) (max (suc (suc body)) (suc (suc last)))
@@ -63,7 +74,7 @@ abbrev mutual
   step_labels Next = 0
   step_labels Exit = 0
   step_labels (ExitWith code) = labels_in code
-  step_labels (Return code) = labels_in code
+  step_labels (Return code) = return_labels code
   step_labels (Mark item opens) = 0
 
   pub steps_labels : Steps → ℕ

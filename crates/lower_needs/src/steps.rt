@@ -1,7 +1,7 @@
 //! What the code of statements needs.
 ghost use Rattle.std.specs.Prelude.{◌≡◌, is_some, ℕ, max};
 ghost use Rattle.lower_needs.specs.Counted.{counted};
-ghost use Rattle.lower_needs.specs.Labels.{choice_labels, labels_in, loop_labels, more_if, step_labels, steps_labels};
+ghost use Rattle.lower_needs.specs.Labels.{choice_labels, chosen_labels, labels_in, loop_labels, more_if, return_labels, step_labels, steps_labels};
 ghost use Rattle.mid_program.specs.ViewCode.{view, view_step, view_steps};
 ghost use Rattle.lower_model.specs.Quick.{pair_in};
 ghost use Rattle.lower_model.specs.Places.{arrays_in, room, step_arrays, step_iterators, step_room, steps_arrays, steps_iterators, steps_room};
@@ -10,6 +10,7 @@ use crate::code::counts_in;
 use crate::counts::{Counts, both, inside, later, only, walking};
 use lower_quick::{pair_in, step_jumps, sum_in};
 use mid_program::{Code, Step};
+use sem_primitives::Sort;
 
 /// One label more where this is so.
 fn more_if(more: bool, counts: Counts) -> Counts
@@ -47,6 +48,42 @@ fn choice_counts(quick: bool, test: Counts, yes: Counts, no: Counts) -> Counts
         both(inside(test, 3), inside(both(inside(yes, 1), no), 1))
     } else {
         both(test, inside(both(yes, no), 1))
+    }
+}
+
+/// What is chosen for `return` needs, by whether its test has a quick way.
+fn chosen_counts(quick: bool, test: Counts, yes: Counts, no: Counts) -> Counts
+    ensures temporaries { result.temporaries
+        ≡ max test.temporaries (max yes.temporaries no.temporaries) }
+    ensures arrays { result.arrays ≡ max test.arrays (max yes.arrays no.arrays) }
+    ensures iterators { result.iterators ≡ max test.iterators (max yes.iterators no.iterators) }
+    ensures labels { (tested taken other : ℕ) → test.labels ≡ counted tested
+        → yes.labels ≡ counted taken → no.labels ≡ counted other
+        → result.labels ≡ counted (chosen_labels quick tested taken other) }
+{
+    if quick {
+        both(inside(test, 2), both(inside(yes, 1), no))
+    } else {
+        both(test, inside(both(yes, no), 1))
+    }
+}
+
+/// What `return` needs.
+fn return_counts(code: &Code) -> Counts
+    ensures temporaries { result.temporaries ≡ counted (room (view code.now)) }
+    ensures arrays { result.arrays ≡ counted (arrays_in (view code.now)) }
+    ensures iterators { result.iterators ≡ 0 }
+    ensures labels { result.labels ≡ counted (return_labels (view code.now)) }
+{
+    match code {
+        Code::Choose(sort, test, yes, no) => match *sort {
+            Sort::Value => {
+                let quick = pair_in(test).is_some();
+                chosen_counts(quick, counts_in(test), return_counts(yes), return_counts(no))
+            }
+            Sort::Number | Sort::Array | Sort::Iterator => counts_in(code),
+        },
+        _ => counts_in(code),
     }
 }
 
@@ -92,7 +129,7 @@ fn step_counts(step: &Step) -> Counts
         ),
         Step::Break | Step::Continue | Step::Next | Step::Exit | Step::Mark(_, _) => only(0),
         Step::ExitWith(code) => counts_in(code),
-        Step::Return(code) => counts_in(code),
+        Step::Return(code) => return_counts(code),
     }
 }
 

@@ -1,6 +1,6 @@
 -- Well-sorted code can be emitted where there are few places and labels.
 use Rattle.std.proofs.Common.{◌≡◌, ℕ, suc, ◌+◌, ◌≤◌, Bool, true, false, List, [], ◌∷◌, length, subst, arith, rules}
-use Rattle.std.specs.Prelude.{◌&&◌, is_some, nat_lt}
+use Rattle.std.specs.Prelude.{◌&&◌, is_some, nat_lt, not}
 use Rattle.std.proofs.lemmas.Bool.{and_parts, ltb-true}
 use Rattle.sem_primitives.specs.declared.sorts.Sort.TheVariants as sort
 use Rattle.mid_program.specs.declared.mid.Operation.{Operation}
@@ -15,9 +15,9 @@ use Rattle.lower_model.specs.Emission.{Layout}
 use Rattle.lower_model.specs.Places.{arrays_among, arrays_in, made_in, room, rooms, step_arrays, step_iterators, step_room, steps_arrays, steps_iterators, steps_room}
 use Rattle.lower_model.specs.Quick.{pair_in, step_jumps, sum_in}
 use Rattle.lower_pieces.specs.Bounds.{most_labels, most_places}
-use Rattle.lower_needs.specs.Labels.{choice_labels, labels_among, labels_in, more_if, step_labels, steps_labels}
+use Rattle.lower_needs.specs.Labels.{choice_labels, chosen_labels, return_labels, labels_among, labels_in, more_if, step_labels, steps_labels}
 use Rattle.lower_expressions.specs.Fits.{AllCode, AllFit, ArrayFits, Fits, IsGiven, SlotFits, Within}
-use Rattle.lowering.specs.StepFits.{StepFits, StepsFit, TestFits}
+use Rattle.lowering.specs.StepFits.{ReturnFits, StepFits, StepsFit, TestFits}
 
 -- what sorted code names is there, and its numbers are within their fields
 pub record Named (c : Context) (y : Layout) : Type 0 where
@@ -261,12 +261,50 @@ record TestRoom (e : Code) (d : ℕ) : Type 0 where
   pub arrays : arrays_in e ≤ most_places
   pub labels : 3 + (d + labels_in e) ≤ most_labels
 
+-- what is chosen for `return` is within its labels
+chosen_least : (q : Bool) (t a b : ℕ) → (t ≤ chosen_labels q t a b) × ((suc a ≤ chosen_labels q t a b) × (more_if (not q) b ≤ chosen_labels q t a b))
+chosen_least true t a b = (omega arith, (omega arith, omega arith))
+chosen_least false t a b = (omega arith, (omega arith, omega arith))
+
+-- room for what is returned
+record ReturnRoom (e : Code) (d : ℕ) : Type 0 where
+  pub places : suc (suc (room e)) ≤ most_places
+  pub arrays : arrays_in e ≤ most_places
+  pub labels : 5 + (d + return_labels e) ≤ most_labels
+
 module _ {c : Context} {y : Layout} (n : Named c y) where
   test_fits : (e : Code) (d : ℕ) → sorted c [] e ≡ true → TestRoom e d → TestFits y e d
   test_fits e d s r = (
     code_fits n [] e 0 0 d s (record { places = omega (arith, r.places); arrays = omega (arith, r.arrays); labels = omega (arith, r.labels) }),
     code_fits n [] e 0 0 (suc d) s (record { places = omega (arith, r.places); arrays = omega (arith, r.arrays); labels = omega (arith, r.labels) }),
   )
+
+  return_fits : (e : Code) (d : ℕ) → sorted c [] e ≡ true → ReturnRoom e d → ReturnFits y e d
+  unfolding sorted
+  return_fits (Choose sort.Value e a b) d s r =
+      let x = sorted c [] a in
+      let z = sorted c [] b in
+      let s1 = and_parts (is_tested (form_of [] e)) (fits (form_of [] a) sort.Value && (fits (form_of [] b) sort.Value && (sorted c [] e && (x && z)))) s in
+      let s2 = and_parts (fits (form_of [] a) sort.Value) (fits (form_of [] b) sort.Value && (sorted c [] e && (x && z))) s1.1 in
+      let s3 = and_parts (fits (form_of [] b) sort.Value) (sorted c [] e && (x && z)) s2.1 in
+      let s4 = and_parts (sorted c [] e) (x && z) s3.1 in
+      let s5 = and_parts x z s4.1 in
+      let q = is_some (pair_in e) in
+      let least = chosen_least q (labels_in e) (return_labels a) (return_labels b) in
+      let deep = deeper (not q) d (return_labels b) in (
+        omega (arith, r.labels),
+        (
+          (
+            code_fits n [] e 0 0 d s4.0 (record { places = omega (arith, r.places); arrays = omega (arith, r.arrays); labels = omega (arith, r.labels, least) }),
+            test_fits e (suc d) s4.0 (record { places = omega (arith, r.places); arrays = omega (arith, r.arrays); labels = omega (arith, r.labels, least) }),
+          ),
+          (
+            return_fits a (suc d) s5.0 (record { places = omega (arith, r.places); arrays = omega (arith, r.arrays); labels = omega (arith, r.labels, least) }),
+            return_fits b (more_if (not q) d) s5.1 (record { places = omega (arith, r.places); arrays = omega (arith, r.arrays); labels = omega (arith, r.labels, least, deep) }),
+          ),
+        ),
+      )
+  return_fits e d s r = (omega (arith, r.labels), code_fits n [] e 0 0 d s (record { places = r.places; arrays = r.arrays; labels = omega (arith, r.labels) }))
 
   mutual
     unfolding step_sorted steps_sorted
@@ -358,10 +396,8 @@ module _ {c : Context} {y : Layout} (n : Named c y) where
       code_fits n [] e 0 0 d (and_parts (fits (form_of [] e) sort.Number) (sorted c [] e) s).1 (record { places = omega (arith, r.places); arrays = omega (arith, r.arrays); labels = omega (arith, r.labels) }),
     )
     step_fits o l (Return e) u d s r =
-        let s1 = and_parts o (fits (form_of [] e) sort.Value && sorted c [] e) s in (
-          omega (arith, r.labels),
-          code_fits n [] e 0 0 d (and_parts (fits (form_of [] e) sort.Value) (sorted c [] e) s1.1).1 (record { places = omega (arith, r.places); arrays = omega (arith, r.arrays); labels = omega (arith, r.labels) }),
-        )
+        let s1 = and_parts o (fits (form_of [] e) sort.Value && sorted c [] e) s in
+        return_fits e d (and_parts (fits (form_of [] e) sort.Value) (sorted c [] e) s1.1).1 (record { places = r.places; arrays = r.arrays; labels = r.labels })
     step_fits o l (Mark i b) u d s r = let lt = ltb-true i c.ranges s in let few = n.ranges in omega (arith, lt, few)
 
     pub steps_fit : (o l : Bool) (ss : Steps) (u d : ℕ) → steps_sorted c o l ss ≡ true → StepsRoom ss u d → StepsFit y ss u d

@@ -6,3 +6,4 @@ pub mod Smallness
 pub mod Stepping
 pub mod QuickNames
 pub mod Ways
+pub mod Choices

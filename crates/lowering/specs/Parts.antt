@@ -18,7 +18,7 @@ use Rattle.lower_model.specs.Emission.{Layout, array_pushed, emitted, pending_as
 use Rattle.lower_model.specs.Quick.{Constant, Counted, Held, Holder, Pair, Remainder, Source, Sum, all_unsure, sum_names, sum_op, Tally, Within, is_nothing, pair_in, step_jumps, test_within}
 use Rattle.lower_model.specs.Places.{Bases, answer_local, handle_global, iterator_local, status_global, way_global, handle_local, number_local}
 use Rattle.lower_model.specs.Small.{ask, ask_row, does, either, end_code, fail_if, kept_code, least, number_is, text_beside, to_number, when}
-use Rattle.lower_model.specs.Statements.{again, all_emptied, before_parts, block, constant_given, first_part, goes_on, iterator_left, iterators_swept, operands_swept, key_stored, last_part, left_by, left_unless, left_unless_counted, left_unless_pair, name_numbered, name_read, names_declared, parameters_dropped, part_done, record_done, records_read, routines_declared, step_emitted, steps_emitted, sum_kept, element_given, remainder_dropped, summed, summed_anyway, swept, way_exit, way_next}
+use Rattle.lower_model.specs.Statements.{again, all_emptied, before_parts, block, constant_given, first_part, goes_on, iterator_left, iterators_swept, operands_swept, key_stored, last_part, left_by, left_unless, left_unless_counted, left_unless_pair, name_numbered, name_read, names_declared, parameters_dropped, part_done, record_done, records_read, returned, routines_declared, step_emitted, steps_emitted, sum_kept, element_given, remainder_dropped, summed, summed_anyway, swept, way_exit, way_next}
 use Rattle.host_imports.specs.declared.import.Import.TheVariants.{Drop}
 use Rattle.lowering.specs.declared.around.Around.{Around}
 
@@ -177,6 +177,18 @@ abbrev pub parameter_dropped : Kind → ℕ → Instructions → Instructions
 parameter_dropped Boxed place after = does (LocalGet place) (ask Drop after)
 parameter_dropped Unboxed place after = after
 parameter_dropped Many place after = after
+
+-- one of two is returned: in a block that a quick test leaves, or after it; or both in an `if`
+
+abbrev pub quick_returned : Layout → Code → Code → (exit : ℕ) → Instructions → Instructions
+quick_returned layout test so exit after = left_unless_pair layout (pair_in test) test (suc exit) zero (returned layout so (suc exit) after)
+
+abbrev pub quickly_returned : Layout → Code → Code → Code → (exit : ℕ) → Instructions → Instructions
+quickly_returned layout test so otherwise exit after = block (quick_returned layout test so exit Done) (returned layout otherwise exit after)
+
+abbrev pub either_returned : Layout → Code → Code → Code → (exit : ℕ) → Instructions → Instructions
+either_returned layout test so otherwise exit after =
+    tested layout [] [] test zero zero exit (either (returned layout so (suc exit) Done) (returned layout otherwise (suc exit) Done) after)
 
 -- what a function has where it returns is let go, and its answer given
 abbrev pub answer_given : Layout → List Kind → Instructions → Instructions

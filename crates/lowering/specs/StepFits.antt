@@ -1,6 +1,7 @@
 -- Which statements can be emitted: no place and no label is past its field.
-use Rattle.std.specs.Prelude.{ℕ, zero, suc, ◌≤◌, Bool, true, false, is_some}
-use Rattle.mid_program.specs.Mid.{Code, Step, Eval, Block, If, Loop, Each, Break, Continue, Next, Exit, ExitWith, Return, Mark, Steps, NoStep, Then, Program}
+use Rattle.std.specs.Prelude.{ℕ, zero, suc, ◌≤◌, Bool, true, false, not, is_some, Option, Some, None}
+use Rattle.sem_primitives.specs.declared.sorts.Sort.TheVariants as sort
+use Rattle.mid_program.specs.Mid.{Code, Choose, Step, Eval, Block, If, Loop, Each, Break, Continue, Next, Exit, ExitWith, Return, Mark, Steps, NoStep, Then, Program}
 use Rattle.lower_pieces.specs.Bounds.{most_places, most_labels}
 use Rattle.lower_model.specs.Emission.{Layout}
 use Rattle.lower_model.specs.Quick.{pair_in, step_jumps}
@@ -18,6 +19,18 @@ TestFits layout test exit = Fits layout test zero zero exit × Fits layout test 
 -- the test of a choice, in an `if` or in two blocks
 abbrev pub ChoiceFits : Layout → Code → (exit : ℕ) → Type 0
 ChoiceFits layout test exit = (suc (suc (suc exit)) ≤ most_labels) × (Fits layout test zero zero exit × TestFits layout test (suc (suc exit)))
+
+-- what is chosen for `return`: one way in a block with its test, and the other way after that; or both in an `if`
+abbrev pub ReturnFits : Layout → Code → (exit : ℕ) → Type 0
+ReturnFits layout (Choose sort.Value test so otherwise) exit =
+    (suc (suc exit) ≤ most_labels) × ((Fits layout test zero zero exit × TestFits layout test (suc exit))
+    × (ReturnFits layout so (suc exit) × ReturnFits layout otherwise (more_if (not (is_some (pair_in test))) exit)))
+ReturnFits layout code exit = (exit ≤ most_labels) × Fits layout code zero zero exit
+
+-- the test and both ways of such a choice
+abbrev pub choice_in : Code → Option (Code × Code × Code)
+choice_in (Choose sort.Value test so otherwise) = Some (test, so, otherwise)
+choice_in code = None
 
 -- whether the body of a loop stands in a block of its own: where a test comes first, only one that `break` or `continue` leaves
 abbrev pub has_block : (first : Bool) → Step → Bool
@@ -43,7 +56,7 @@ abbrev mutual
   StepFits layout Next iterators exit = Unit {0}
   StepFits layout Exit iterators exit = Unit {0}
   StepFits layout (ExitWith code) iterators exit = (exit ≤ most_labels) × Fits layout code zero zero exit
-  StepFits layout (Return code) iterators exit = (exit ≤ most_labels) × Fits layout code zero zero exit
+  StepFits layout (Return code) iterators exit = ReturnFits layout code exit
   StepFits layout (Mark item opens) iterators exit = item ≤ most_places
 
   pub StepsFit : Layout → Steps → (iterators exit : ℕ) → Type 0

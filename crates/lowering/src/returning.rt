@@ -1,5 +1,6 @@
 //! `return`: what a function answers.
-ghost use Rattle.std.specs.Prelude.{[], ◌≡◌, ◌≤◌, false, OnOk};
+ghost use Rattle.std.specs.Option.{option_map};
+ghost use Rattle.std.specs.Prelude.{[], ◌≡◌, ◌≤◌, false, OnOk, suc};
 ghost use Rattle.sem_primitives.specs.declared.sorts.Sort.TheVariants.{Value};
 ghost use Rattle.mid_program.specs.Mid as plain;
 ghost use Rattle.mid_program.specs.Mid.{Bare, form_of};
@@ -11,12 +12,16 @@ ghost use Rattle.lower_pieces.specs.Emits.{Emits};
 ghost use Rattle.lower_pieces.specs.Forms.{view_form};
 ghost use Rattle.lower_expressions.specs.Fits.{Fits};
 ghost use Rattle.lower_expressions.specs.View.{view_layout};
+ghost use Rattle.lowering.specs.Parts.{either_returned, quickly_returned};
+ghost use Rattle.lowering.specs.StepFits.{ReturnFits, TestFits, choice_in};
 
 use crate::evaluating::{answered, tested};
+use crate::testing::left_unless_pair;
 use lower_expressions::FunctionLayout;
 use lower_pieces::{
-    Form, LEAST, TEXT_BESIDE, TEXT_GLOBAL, does, does_all, either, moved_out, number_is, when,
+    Form, LEAST, TEXT_BESIDE, TEXT_GLOBAL, block, does, does_all, either, moved_out, number_is, when,
 };
+use lower_quick::pair_in;
 use mid_program::Code;
 use sem_primitives::{Answer, Sort};
 use std::alloc::AllocError;
@@ -108,6 +113,69 @@ fn answer_given(
     }
 }
 
+/// The test and both ways of a choice of values.
+fn choice_in(code: &Code) -> Option<(&Code, &Code, &Code)>
+    ensures { option_map (λ all. (view all.0.now, view all.1.now, view all.2.now)) result
+        ≡ choice_in (view code.now) }
+{
+    match code {
+        Code::Choose(sort, test, yes, no) => match *sort {
+            Sort::Value => Some((test, yes, no)),
+            Sort::Number | Sort::Array | Sort::Iterator => None,
+        },
+        _ => None,
+    }
+}
+
+/// Returns one of two: from within a block that a quick test leaves, or after it.
+#[cycle(returned)]
+fn quickly_returned(
+    layout: &FunctionLayout<'_>,
+    out: &mut Vec<Instr>,
+    test: &Code,
+    yes: &Code,
+    no: &Code,
+    exit: u32,
+) -> Result<(), AllocError>
+    requires labels { suc (suc exit) ≤ most_labels }
+    requires test { TestFits (view_layout layout.now) (view test.now) (suc exit) }
+    requires yes { ReturnFits (view_layout layout.now) (view yes.now) (suc exit) }
+    requires no { ReturnFits (view_layout layout.now) (view no.now) exit }
+    ensures { OnOk result (Emits out.old.items out.new.items (quickly_returned
+        (view_layout layout.now) (view test.now) (view yes.now) (view no.now) exit)) }
+{
+    let mut so = Vec::new(layout.alloc);
+    left_unless_pair(layout, &mut so, test, exit + 1, 0)?;
+    returned(layout, &mut so, yes, exit + 1)?;
+    block(layout.alloc, out, so)?;
+    returned(layout, out, no, exit)
+}
+
+/// Returns one of two, by an `if`.
+#[cycle(returned)]
+fn either_returned(
+    layout: &FunctionLayout<'_>,
+    out: &mut Vec<Instr>,
+    test: &Code,
+    yes: &Code,
+    no: &Code,
+    exit: u32,
+) -> Result<(), AllocError>
+    requires labels { suc exit ≤ most_labels }
+    requires test { Fits (view_layout layout.now) (view test.now) 0 0 exit }
+    requires yes { ReturnFits (view_layout layout.now) (view yes.now) (suc exit) }
+    requires no { ReturnFits (view_layout layout.now) (view no.now) (suc exit) }
+    ensures { OnOk result (Emits out.old.items out.new.items (either_returned
+        (view_layout layout.now) (view test.now) (view yes.now) (view no.now) exit)) }
+{
+    tested(layout, out, test, exit)?;
+    let mut so = Vec::new(layout.alloc);
+    returned(layout, &mut so, yes, exit + 1)?;
+    let mut otherwise = Vec::new(layout.alloc);
+    returned(layout, &mut otherwise, no, exit + 1)?;
+    either(layout.alloc, out, so, otherwise)
+}
+
 /// Returns one of two.
 #[cycle(returned)]
 fn chosen_returned(
@@ -118,17 +186,16 @@ fn chosen_returned(
     no: &Code,
     exit: u32,
 ) -> Result<(), AllocError>
-    requires { Fits (view_layout layout.now)
-        (plain.Choose Value (view test.now) (view yes.now) (view no.now)) 0 0 exit }
+    requires { ReturnFits (view_layout layout.now)
+        (plain.Choose Value (view test.now) (view yes.now) (view no.now)) exit }
     ensures { OnOk result (Emits out.old.items out.new.items (returned (view_layout layout.now)
         (plain.Choose Value (view test.now) (view yes.now) (view no.now)) exit)) }
 {
-    tested(layout, out, test, exit)?;
-    let mut so = Vec::new(layout.alloc);
-    returned(layout, &mut so, yes, exit + 1)?;
-    let mut otherwise = Vec::new(layout.alloc);
-    returned(layout, &mut otherwise, no, exit + 1)?;
-    either(layout.alloc, out, so, otherwise)
+    if pair_in(test).is_some() {
+        quickly_returned(layout, out, test, yes, no, exit)
+    } else {
+        either_returned(layout, out, test, yes, no, exit)
+    }
 }
 
 /// Returns what is no choice of values.
@@ -156,18 +223,12 @@ pub(crate) fn returned(
     code: &Code,
     exit: u32,
 ) -> Result<(), AllocError>
-    requires fit { Fits (view_layout layout.now) (view code.now) 0 0 exit }
-    requires labels { exit ≤ most_labels }
+    requires { ReturnFits (view_layout layout.now) (view code.now) exit }
     ensures { OnOk result (Emits out.old.items out.new.items
         (returned (view_layout layout.now) (view code.now) exit)) }
 {
-    match code {
-        Code::Choose(sort, test, yes, no) => match *sort {
-            Sort::Value => chosen_returned(layout, out, test, yes, no, exit),
-            Sort::Number | Sort::Array | Sort::Iterator => {
-                plainly_returned(layout, out, code, exit)
-            }
-        },
-        _ => plainly_returned(layout, out, code, exit),
+    match choice_in(code) {
+        Some((test, yes, no)) => chosen_returned(layout, out, test, yes, no, exit),
+        None => plainly_returned(layout, out, code, exit),
     }
 }
