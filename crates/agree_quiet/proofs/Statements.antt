@@ -8,12 +8,12 @@ use Rattle.wasm_model.specs.Frames.{LabelForm}
 use Rattle.wasm_model.specs.Machines.{Conf, ProgramForm}
 use Rattle.mid_program.specs.declared.mid.Arithmetic.TheVariants as inline
 use Rattle.mid_program.specs.Mid.{Code, Eval, Global, Parameter, Set, Slot, Step, Steps, Then, form_of}
-use Rattle.lower_model.specs.Emission.{Layout, dropped, emitted, all_emitted}
+use Rattle.lower_model.specs.Emission.{Layout, dropped, emitted, all_emitted, name_read, source_pushed}
 use Rattle.lower_model.specs.Places.{number_local}
 use Rattle.lower_model.specs.Quick.{Constant, Holder, OfName, OfParameter, Held, Remainder, Source, Sum, all_unsure, joined, remainder_in, set_sum, source_in, sum_in, sum_names, sum_of, sum_op}
 use Rattle.lower_model.specs.Small.{text_beside, does}
 use Rattle.lower_model.proofs.State.{holder_slot}
-use Rattle.lower_model.specs.Statements.{name_numbered, name_read, quickly_dropped, remainder_dropped, source_numbered, source_pushed, source_taken, step_emitted, steps_emitted, sum_taken, summed, summed_anyway, name_put}
+use Rattle.lower_model.specs.Statements.{name_numbered, quickly_dropped, remainder_dropped, source_numbered, source_taken, step_emitted, steps_emitted, sum_taken, summed, summed_anyway, name_put}
 use Rattle.lower_model.proofs.QuickNames.{near_sum, some_is}
 use Rattle.agree_quiet.specs.Sums.{HasNoText, IsSum, constant, itself, joined as sum_of_two, name}
 use Rattle.agree_quiet.proofs.Flowing.{Flows, arrived, at, binary, branch, compare, const32, const64, ended, get, get_global, nop, set, set_global, tee}

@@ -17,10 +17,10 @@ use Rattle.mid_program.specs.declared.mid.Arithmetic.{Arithmetic}
 use Rattle.mid_program.specs.declared.mid.Operation.TheVariants.{Inline}
 use Rattle.mid_program.specs.Mid.{Kind, Boxed, Unboxed, Many, Global, Code, Do, Compare, Number, Set, Let, Bound, Codes, End, At, Choose, Step, Eval, Block as Steps_, If as Either, Loop, Each, Break, Continue, Next, Exit, ExitWith, Return, Mark, Steps, NoStep, Then as AndThen, Program, Form, Answered, Bare, Perhaps, a_value, form_of}
 use Rattle.sem_scripts.specs.Names.{ArrayName}
-use Rattle.lower_model.specs.Emission.{Layout, field_at}
+use Rattle.lower_model.specs.Emission.{Layout, field_at, name_read, source_pushed}
 use Rattle.lower_model.specs.Places.{Bases, memory_of}
 use Rattle.lower_model.specs.Quick.{Within, test_within, both_within, compared_within, constant_in, first_ones, name_in, joined, all_unsure, Holder, OfName, OfParameter, holder_of, set_after, set_alone, Source, Held, Constant, source_in, Sum, sum_names, sum_op, sum_in, Update, update_in, Tally, tally_in, Remainder, remainder_in, remainder_names, most_multiplied, multiplied, Counted, counted_in, sum_of, two_sum, set_sum, kept_sum, update_sum, old_source, stored_name, new_sum, let_sum, is_near, Pair, pair_names, pair_in, pair_of, step_jumps, is_nothing}
-use Rattle.lower_model.specs.Statements.{answer_given, returned, name_put, name_read, source_pushed, summed, name_numbered, source_numbered, source_taken, sum_kept, sum_taken, summed_anyway, both_asked, element_numbered, element_given, remainder_taken, remainder_dropped, barely_dropped, plainly_dropped, quickly_dropped, left_unless_counted, pair_left, left_unless_pair, left_unless, all_emptied, arrays_emptied, arrays_swept, before_parts, declared, goes_on, iterator_left, iterators_emptied, iterators_swept, key_stored, left_by, main_body, names_declared, names_made, parameters_dropped, part_done, record_done, records_read, routine_body, routines_declared, step_emitted, steps_emitted, swept, temporaries_emptied, temporaries_swept, has_functions, left_swept}
+use Rattle.lower_model.specs.Statements.{answer_given, returned, name_put, summed, name_numbered, source_numbered, source_taken, sum_kept, sum_taken, summed_anyway, both_asked, element_numbered, element_given, remainder_taken, remainder_dropped, barely_dropped, plainly_dropped, quickly_dropped, left_unless_counted, pair_left, left_unless_pair, left_unless, all_emptied, arrays_emptied, arrays_swept, before_parts, declared, goes_on, iterator_left, iterators_emptied, iterators_swept, key_stored, left_by, main_body, names_declared, names_made, parameters_dropped, part_done, record_done, records_read, routine_body, routines_declared, step_emitted, steps_emitted, swept, temporaries_emptied, temporaries_swept, has_functions, left_swept}
 use Rattle.std.proofs.lemmas.Bool.{leb-true}
 use Rattle.lower_model.specs.Small.{does}
 use Rattle.lower_model.proofs.Quick.{constant_is, shift_pos}

@@ -1,10 +1,11 @@
 -- Which code can be emitted: no place and no label is past its field.
-use Rattle.std.specs.Prelude.{ℕ, suc, ◌+◌, ◌≤◌, ◌<◌, List, [], ◌∷◌, length}
+use Rattle.std.specs.Prelude.{ℕ, suc, ◌+◌, ◌≤◌, ◌<◌, if◌then◌else◌, is_some, List, [], ◌∷◌, length}
 use Rattle.sem_scripts.specs.Names.{ArrayName, Numbered, Given}
 use Rattle.mid_program.specs.Mid.{Kind, Many, Slot, Global, Parameter, Code, Do, Over, Compare, Call, Ask, AskLine, FileLine, Replace, Number, Text, Unset, Get, Set, Array, IsOpen, Choose, Seq, Let, Bound, Codes, End, At, Fixed, Fresh, parameters_at}
 use Rattle.lower_pieces.specs.Bounds.{most_places, most_labels}
 use Rattle.lower_model.specs.Emission.{Layout, Immediate, FieldOf, TextOf, NumberOf, array_meant}
 use Rattle.lower_model.specs.Places.{made_in}
+use Rattle.lower_model.specs.Quick.{addition_in}
 
 -- two more temporaries and two more labels are there
 abbrev pub Within : (temporary arrays exit : ℕ) → Type 0
@@ -48,7 +49,8 @@ IsGiven _ _ = ⊥
 -- code that is emitted for a temporary, with so many arrays of calls in use and so many labels around it
 abbrev mutual
   pub Fits : (layout : Layout) → Code → (temporary arrays exit : ℕ) → Type 0
-  Fits layout (Do operation operands) temporary arrays exit = AllFit layout operands temporary arrays exit
+  Fits layout (Do operation operands) temporary arrays exit =
+      AllFit layout operands temporary arrays (if is_some (addition_in operation operands) then suc exit else exit)
   Fits layout (Over what operands) temporary arrays exit = AllCode operands × AllFit layout operands temporary arrays exit
   Fits layout (Compare op left right) temporary arrays exit =
       Within temporary arrays exit × (Fits layout left temporary arrays exit × Fits layout right (suc temporary) arrays exit)

@@ -11,13 +11,13 @@ use Rattle.sem_scripts.specs.ScriptRun.{GoesOn}
 use Rattle.sem_scripts.specs.ScriptState.{State, Stop, Outcome, Doing, ◌>>=◌, ◌>>◌, nothing, give, go_on}
 use Rattle.mid_program.specs.Sorted.{test_sorted, step_sorted, steps_sorted}
 use Rattle.sem_scripts.specs.Statements.{Flow, Normal, Broke, Continued, after_round, loop}
-use Rattle.lower_model.specs.Emission.{tested}
+use Rattle.lower_model.specs.Emission.{tested, name_read}
 use Rattle.lower_model.specs.Noted.{noted, noting, step_noted, steps_noted}
 use Rattle.lower_model.specs.Quick.{Within, test_within, Counted, counted_in, Pair, pair_in, pair_names, all_unsure, step_jumps, is_nothing, Holder, OfName, OfParameter}
 use Rattle.lower_model.specs.Machine.{Conf, Label, Frame, at, label, ending_at, is_walk, loops_walked}
 use Rattle.lower_model.specs.Places.{Bases, step_room, step_iterators, step_arrays}
 use Rattle.lower_model.specs.Small.{does}
-use Rattle.lower_model.specs.Statements.{block, again, left_unless, left_unless_counted, left_unless_pair, name_read, step_emitted, steps_emitted}
+use Rattle.lower_model.specs.Statements.{block, again, left_unless, left_unless_counted, left_unless_pair, step_emitted, steps_emitted}
 use Rattle.lower_model.proofs.Watch.{Watch}
 use Rattle.lower_model.proofs.Runs.{Goes, goes_from, by_steps, stays, first, then_on, then_step, there, turned, weaker, Onward}
 use Rattle.lower_model.proofs.Locals.{Locals, laid}

@@ -39,13 +39,13 @@ use Rattle.sem_scripts.specs.ScriptState.{State, Gives, Outcome, go_on, settled,
 use Rattle.mid_program.specs.Sorted.{sorted, all_sorted, has_kind, kinds_of, fits as fits_sort, is_tested, is_dropped, is_kept, keeps_well, test_sorted, step_sorted, steps_sorted, is_slot, takes}
 use Rattle.sem_scripts.specs.Statements.{Flow, Normal}
 use Rattle.lower_model.specs.Cells.{Cell, Bits, Held}
-use Rattle.lower_model.specs.Emission.{tested}
+use Rattle.lower_model.specs.Emission.{tested, source_pushed}
 use Rattle.lower_model.specs.Machine.{Conf, Label, Frame, Store, at, br, label, with_operands, push_result}
 use Rattle.lower_model.specs.Noted.{step_noted, steps_noted}
 use Rattle.lower_model.specs.Places.{Bases, number_global, room, arrays_in, step_room, step_arrays}
 use Rattle.lower_model.specs.Quick.{Within, unsure, name_in, constant_in, first_ones, compared_within, both_within, test_within, Holder, OfName, OfParameter, holder_of, set_after, set_alone, Source, Held as Standing, Constant, source_in, and_source, Sum, sum_names, update_in, is_near, is_sum, sum_op, sum_of, two_sum, set_sum, kept_sum, update_sum, old_source, stored_name, new_sum, let_sum, sum_in, Counted, field_count, counted_of, counted_in, Pair, pair_names, pair_of, pair_in, contrary}
 use Rattle.lower_model.specs.Small.{does, ask_row, text_beside}
-use Rattle.lower_model.specs.Statements.{counted_left, left_unless_counted, source_pushed, summed, summed_anyway, quickly_dropped, pair_left, left_unless_pair, left_unless, step_emitted, steps_emitted}
+use Rattle.lower_model.specs.Statements.{counted_left, left_unless_counted, summed, summed_anyway, quickly_dropped, pair_left, left_unless_pair, left_unless, step_emitted, steps_emitted}
 use Rattle.lower_model.proofs.Runs.{Goes, goes_from, goes_to, then_goes, by_steps, stays, first, within, there, then_on, then_step, Onward}
 use Rattle.lower_model.proofs.Locals.{Locals, laid}
 use Rattle.lower_model.proofs.Globals.{Number as NameNumber}

@@ -1,6 +1,6 @@
 -- The code of mid code, each part with the code after it (`after`). The value of code goes to `temporary`, where those from it on are free; so many
 -- `arrays` of calls are in use, and the function's exit is `exit` labels further out. Between two parts of code nothing is on the stack.
-use Rattle.std.specs.Prelude.{ℕ, zero, suc, ◌+◌, ◌-◌, Bool, true, false, if◌then◌else◌, List, [], ◌∷◌, length, get_or, Option, Some, None, ℤ}
+use Rattle.std.specs.Prelude.{ℕ, zero, suc, ◌+◌, ◌-◌, ◌^◌, Bool, true, false, if◌then◌else◌, List, [], ◌∷◌, length, get_or, Option, Some, None, ℤ, pos}
 use Rattle.std.specs.Int.{w64, cast_unsigned}
 use Rattle.awk_values.specs.declared.comparison.CompareOp.{CompareOp}
 use Rattle.sem_primitives.specs.Constants.{comparison_number, destination_number, flag_number}
@@ -18,7 +18,7 @@ use Rattle.sem_primitives.specs.declared.table.Listed.TheVariants as listed
 use Rattle.wasm_types.specs.Syntax.{Loop as Again, Instructions, Done, Then}
 use Rattle.wasm_types.specs.declared.types.ValType.TheVariants.{I64}
 use Rattle.wasm_types.specs.declared.instr.Simple.{Simple}
-use Rattle.wasm_types.specs.declared.instr.Simple.TheVariants.{Br, Call as CallOf, LocalGet, LocalSet, LocalTee, GlobalGet, GlobalSet, I32Const, I64Const, Test, Compare as Comparing, Convert}
+use Rattle.wasm_types.specs.declared.instr.Simple.TheVariants.{Br, Call as CallOf, LocalGet, LocalSet, LocalTee, GlobalGet, GlobalSet, I32Const, I64Const, Test, Compare as Comparing, Binary, Convert}
 use Rattle.wasm_types.specs.declared.instr.IRelOp.TheVariants.{Eq}
 use Rattle.wasm_types.specs.declared.instr.ITestOp.TheVariants.{Eqz}
 use Rattle.wasm_types.specs.declared.instr.CvtOp.TheVariants.{I64ExtendI32U}
@@ -33,6 +33,7 @@ use Rattle.host_imports.specs.Imports.{import_count}
 use Rattle.lower_model.specs.Places.{Bases, place_of, array_local, array_name, range_global, handle_global, number_global, made_in, handle_local, number_local}
 use Rattle.lower_model.specs.Small.{does, ask, ask_row, when, either, minus_one, least, text_beside, moved_out, let_go, copied, number_is, kept, kept_code, kept_value, answer_kept, boxed_number, boxed_perhaps, to_value, converted, code_number, truth, unused, released, moved_from, bound_from}
 use Rattle.lower_model.specs.Arithmetic.{calculated, field_checked, compared, is_value}
+use Rattle.lower_model.specs.Quick.{Holder, OfName, OfParameter, Source, Held, Constant, Addition, addition_names, addition_in, all_unsure, sum_op}
 use Rattle.host_imports.specs.declared.import.Listing.TheVariants as listing
 use Rattle.host_imports.specs.declared.import.Import.TheVariants.{Over as OverLast, Arg, Drop, FreeArray}
 
@@ -257,6 +258,27 @@ module _ (layout : Layout) where
   abbrev pub text_kept : Primitive → ℕ → Instructions → Instructions
   text_kept primitive temporary store = ask_row primitive (does (LocalSet (handle_local bases (suc temporary))) store)
 
+  -- Sums of two sources whose names have numbers near 0, which are in range: neither is kept, nor is anything tested after it.
+
+  -- a holder's number is read
+  abbrev pub name_read : Holder → Simple
+  name_read (OfName name) = GlobalGet (global_number name)
+  name_read (OfParameter place) = LocalGet place
+
+  abbrev pub source_pushed : Source → Instructions → Instructions
+  source_pushed (Held name) after = does (name_read name) after
+  source_pushed (Constant number) after = does (I64Const (cast_unsigned w64 number)) after
+
+  abbrev pub added : Addition → ℕ → Instructions → Instructions
+  added addition temporary after = source_pushed addition.left (source_pushed addition.right
+      (does (Binary I64 (sum_op addition.op)) (does (LocalSet (number_local bases temporary)) after)))
+
+  -- `anyway` is the code of all cases beside it, and `other` that of what is no such sum
+  abbrev pub added_or : Option Addition → ℕ → (anyway after other : Instructions) → Instructions
+  added_or (Some addition) temporary anyway after other =
+      all_unsure name_read (addition_names addition) (pos (2 ^ 52)) (2 ^ 53) (either anyway (added addition temporary Done) after)
+  added_or None temporary anyway after other = other
+
   -- such a field is read without a test for a fault
   abbrev pub field_read : ℤ → ℕ → Instructions → Instructions
   field_read number temporary after = does (I64Const (cast_unsigned w64 number)) (ask_row row.Field (does (LocalSet (handle_local bases temporary)) after))
@@ -316,8 +338,11 @@ module _ (layout : Layout) where
   unfoldable mutual
     pub emitted : (only : Bool) → List Form → List ℕ → Code → (temporary arrays exit : ℕ) → Instructions → Instructions
     emitted only forms temporaries (Do operation operands) temporary arrays exit after =
-        field_or (field_in operation operands) temporary after (all_emitted forms temporaries operands temporary arrays exit
-        (all_converted forms (arguments operation) operands temporary exit (performed operation operands temporary exit after)))
+        field_or (field_in operation operands) temporary after (added_or (addition_in operation operands) temporary
+        (all_emitted forms temporaries operands temporary arrays (suc exit)
+        (all_converted forms (arguments operation) operands temporary (suc exit) (performed operation operands temporary (suc exit) Done))) after
+        (all_emitted forms temporaries operands temporary arrays exit
+        (all_converted forms (arguments operation) operands temporary exit (performed operation operands temporary exit after))))
     emitted only forms temporaries (Over what operands) temporary arrays exit after =
         all_emitted forms temporaries operands temporary arrays exit
         (all_boxed forms operands temporary (all_appended operands temporary (listed_asked what (count_of operands) temporary exit after)))

@@ -3,6 +3,8 @@
 use Rattle.std.specs.Prelude.{ℕ, zero, suc, ◌+◌, max, List, [], ◌∷◌, ◌++◌, length}
 use Rattle.wasm_types.specs.declared.types.ValType.{ValType}
 use Rattle.wasm_types.specs.declared.types.ValType.TheVariants.{I32, I64}
+use Rattle.mid_program.specs.declared.mid.Arithmetic.{Arithmetic}
+use Rattle.mid_program.specs.declared.mid.Arithmetic.TheVariants.{Times}
 use Rattle.mid_program.specs.declared.mid.Operation.TheVariants.{Inline}
 use Rattle.mid_program.specs.Mid.{Kind, Boxed, Unboxed, Many, Code, Do, Over, Compare, Call, Ask, AskLine, FileLine, Replace, Number, Text, Unset, Get, Set, Array, IsOpen, Choose, Seq, Let, Bound, Codes, End, At, Fixed, Fresh, Step, Eval, Block, If, Loop, Each, Break, Continue, Next, Exit, ExitWith, Return, Mark, Steps, NoStep, Then}
 
@@ -87,9 +89,14 @@ local_types bases = I64 ∷ (temporary_types bases.temporaries ++ (handle_types 
 
 -- Temporaries: of code whose value goes into the first of them.
 
+-- a product is kept beside its factors
+abbrev pub calculated_room : Arithmetic → ℕ
+calculated_room Times = 3
+calculated_room operator = 2
+
 abbrev mutual
   pub room : Code → ℕ
-  room (Do (Inline operator) operands) = max 3 (rooms operands)
+  room (Do (Inline operator) operands) = max (calculated_room operator) (rooms operands)
   room (Do operation operands) = max 1 (rooms operands)
   room (Over what operands) = max 1 (rooms operands)
   room (Compare op left right) = max (room left) (suc (room right))

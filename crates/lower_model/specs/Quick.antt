@@ -19,6 +19,7 @@ use Rattle.wasm_types.specs.declared.instr.IBinOp.TheVariants.{Add, Sub, Mul, Or
 use Rattle.wasm_types.specs.declared.instr.IRelOp.TheVariants.{GtU}
 use Rattle.mid_program.specs.declared.mid.Arithmetic.{Arithmetic}
 use Rattle.mid_program.specs.declared.mid.Arithmetic.TheVariants as inline
+use Rattle.mid_program.specs.declared.mid.Operation.{Operation}
 use Rattle.mid_program.specs.declared.mid.Operation.TheVariants.{Host, Inline, AsNumber}
 use Rattle.mid_program.specs.Mid.{Slot, Global, Parameter, Code, Do, Compare, Number, Get, Set, Array, Seq, Let, Bound, Codes, End, At, Fixed, Step, Eval, Block, If, Loop, Each, Break, Continue, Next, Exit, ExitWith, Return, Mark, Steps, NoStep, Then}
 use Rattle.sem_scripts.specs.Names.{ArrayName}
@@ -197,6 +198,27 @@ abbrev pub sum_in : Code → Option Sum
 sum_in (Set slot code) = set_alone (holder_of slot) code
 sum_in (Let value rest) = let_sum value rest
 sum_in code = None
+
+-- Sums and differences of sources, wherever they stand: their number goes to a temporary.
+pub record Addition : Type 0 where
+  pub op : Arithmetic
+  pub left : Source
+  pub right : Source
+
+abbrev pub addition_names : Addition → List Holder
+addition_names addition = and_source addition.left (and_source addition.right [])
+
+abbrev pub addition_of : Arithmetic → Option Source → Option Source → Option Addition
+addition_of op (Some left) (Some right) = if is_sum op && (is_near left && is_near right) then Some (record { op = op; left = left; right = right }) else None
+addition_of op left right = None
+
+abbrev pub two_added : Arithmetic → Codes → Option Addition
+two_added op (At left (At right End)) = addition_of op (source_in left) (source_in right)
+two_added op operands = None
+
+abbrev pub addition_in : Operation → Codes → Option Addition
+addition_in (Inline operator) operands = two_added operator operands
+addition_in operation operands = None
 
 -- `n += e` and `n -= e`, where `e` is no source: what is added is evaluated first.
 pub record Update : Type 0 where

@@ -21,12 +21,12 @@ use Rattle.wasm_types.specs.declared.instr.IRelOp.TheVariants.{Eq, GtU, LeS, Ne}
 use Rattle.wasm_types.specs.declared.instr.ITestOp.TheVariants.{Eqz}
 use Rattle.wasm_types.specs.declared.instr.CvtOp.TheVariants.{I32WrapI64}
 use Rattle.sem_scripts.specs.Names.{ArrayName}
-use Rattle.mid_program.specs.Mid.{Kind, Boxed, Unboxed, Many, Code, Choose, Form, Answered, Bare, Perhaps, Step, Eval, Block as Steps_, If as Either, Loop, Each, Break, Continue, Next, Exit, ExitWith, Return, Mark, Steps, NoStep, Then as AndThen, Program, a_value, form_of}
+use Rattle.mid_program.specs.Mid.{Kind, Boxed, Unboxed, Many, Parameter, Code, Get, Choose, Form, Answered, Bare, Perhaps, Step, Eval, Block as Steps_, If as Either, Loop, Each, Break, Continue, Next, Exit, ExitWith, Return, Mark, Steps, NoStep, Then as AndThen, Program, a_value, form_of}
 use Rattle.lower_model.specs.Places.{Bases, way_global, status_global, text_global, range_global, handle_global, number_global, answer_local, iterator_local, array_local, handle_local, number_local}
 use Rattle.lower_model.specs.Small.{does, ask, ask_row, when, either, end_code, text_beside, copied, moved_out, emptied, let_go, fail_if, number_is, least, was_left, kept_code, kept_number, kept_done, to_value, number_of_value, to_number}
 use Rattle.lower_model.specs.Quick.{Within, unsure, test_within, Holder, OfName, OfParameter, Source, Held, Constant, all_unsure, Sum, sum_names, sum_op, sum_in, Update, update_in, Tally, tally_in, Remainder, remainder_in, remainder_names, most_multiplied, multiplied, Counted, counted_in, Pair, pair_names, pair_in, contrary, step_jumps, is_nothing}
 use Rattle.lower_model.specs.Arithmetic.{relation}
-use Rattle.lower_model.specs.Emission.{Layout, array_pushed, text_pushed, pending_assigned, asked, text_dropped, field_at, emitted, dropped, tested}
+use Rattle.lower_model.specs.Emission.{Layout, array_pushed, text_pushed, global_number, name_read, source_pushed, pending_assigned, asked, text_dropped, field_at, emitted, dropped, tested}
 use Rattle.host_imports.specs.declared.import.Import.TheVariants.{Drop, IterFree, FreeArray}
 
 abbrev pub block : Instructions → Instructions → Instructions
@@ -68,16 +68,9 @@ module _ (layout : Layout) where
 
   -- Quick ways: sums that go to a name, and tests.
 
-  abbrev pub name_number : ℕ → ℕ
-  name_number name = number_global layout.ranges name
-
-  -- a holder's number is read, and written
-  abbrev pub name_read : Holder → Simple
-  name_read (OfName name) = GlobalGet (name_number name)
-  name_read (OfParameter place) = LocalGet place
-
+  -- a holder's number is written
   abbrev pub name_put : Holder → Simple
-  name_put (OfName name) = GlobalSet (name_number name)
+  name_put (OfName name) = GlobalSet (global_number layout name)
   name_put (OfParameter place) = LocalSet place
 
   -- the text beside a name, if there is one, is dropped; none stands beside a parameter
@@ -85,12 +78,8 @@ module _ (layout : Layout) where
   holder_cleared (OfName name) after = text_dropped layout name after
   holder_cleared (OfParameter place) after = after
 
-  abbrev pub source_pushed : Source → Instructions → Instructions
-  source_pushed (Held name) after = does (name_read name) after
-  source_pushed (Constant number) after = does (I64Const (cast_unsigned w64 number)) after
-
   abbrev pub summed : Sum → Instructions → Instructions
-  summed sum after = source_pushed sum.left (source_pushed sum.right (does (Binary I64 (sum_op sum.op)) (does (name_put sum.target) after)))
+  summed sum after = source_pushed layout sum.left (source_pushed layout sum.right (does (Binary I64 (sum_op sum.op)) (does (name_put sum.target) after)))
 
   -- Sums in all cases: where a name has no number it is 0, or that of the text beside.
 
@@ -110,7 +99,7 @@ module _ (layout : Layout) where
   -- a name's number in a temporary
   abbrev pub name_numbered : Holder → (temporary exit : ℕ) → Instructions → Instructions
   name_numbered name temporary exit after =
-      does (name_read name) (does (LocalTee (number_local bases temporary)) (does (I64Const text_beside) (does (Comparing I64 LeS)
+      does (name_read layout name) (does (LocalTee (number_local bases temporary)) (does (I64Const text_beside) (does (Comparing I64 LeS)
       (when (number_found name temporary exit Done) after))))
 
   abbrev pub source_numbered : Source → (temporary exit : ℕ) → Instructions → Instructions
@@ -178,14 +167,14 @@ module _ (layout : Layout) where
 
   abbrev pub remainder_taken : Remainder → Instructions → Instructions
   remainder_taken remainder after =
-      does (name_read remainder.multiple.name) (multiplied remainder.multiple.factor
+      does (name_read layout remainder.multiple.name) (multiplied remainder.multiple.factor
       (does (I64Const (cast_unsigned w64 remainder.divisor)) (does (Binary I64 RemS) (does (name_put remainder.target) after))))
 
   abbrev pub remainder_dropped : Option Remainder → Code → ℕ → Instructions → Instructions
   remainder_dropped None code exit after = dropped layout [] [] code zero zero exit after
   remainder_dropped (Some remainder) code exit after =
       let most = most_multiplied remainder.multiple.factor in
-      all_unsure name_read (remainder_names remainder) (pos most) (most + most)
+      all_unsure (name_read layout) (remainder_names remainder) (pos most) (most + most)
       (either (dropped layout [] [] code zero zero (suc exit) Done) (remainder_taken remainder Done) after)
 
   abbrev pub barely_dropped : Option Tally → Code → ℕ → Instructions → Instructions
@@ -199,35 +188,35 @@ module _ (layout : Layout) where
   abbrev pub quickly_dropped : Option Sum → Code → ℕ → Instructions → Instructions
   quickly_dropped None code exit after = plainly_dropped (update_in code) code exit after
   quickly_dropped (Some sum) code exit after =
-      all_unsure name_read (sum_names sum) (pos (2 ^ 52)) (2 ^ 53) (either (summed_anyway sum (suc exit) Done) (summed sum Done) after)
+      all_unsure (name_read layout) (sum_names sum) (pos (2 ^ 52)) (2 ^ 53) (either (summed_anyway sum (suc exit) Done) (summed sum Done) after)
 
   -- both ways of a comparison are quick
   abbrev pub pair_left : Pair → ℕ → Instructions → Instructions
-  pair_left pair out after = source_pushed pair.left (source_pushed pair.right (does (Comparing I64 (relation (contrary pair.op))) (does (BrIf out) after)))
+  pair_left pair out after = source_pushed layout pair.left (source_pushed layout pair.right (does (Comparing I64 (relation (contrary pair.op))) (does (BrIf out) after)))
 
   -- a name's number is compared with that of the fields, which is in range: no fault comes of asking for it
   abbrev pub counted_left : Counted → ℕ → Instructions → Instructions
   counted_left counted out after =
-      does (name_read counted.name) (does (I32Const (special_number Nf)) (ask_row row.GetSpecial (ask_row row.ToNum
+      does (name_read layout counted.name) (does (I32Const (special_number Nf)) (ask_row row.GetSpecial (ask_row row.ToNum
       (does (Comparing I64 (relation (contrary counted.op))) (does (BrIf out) after)))))
 
   abbrev pub left_unless_counted : Option Counted → Code → (exit out : ℕ) → Instructions → Instructions
   left_unless_counted None test exit out after = tested layout [] [] test zero zero exit (does (Test I32 Eqz) (does (BrIf out) after))
   left_unless_counted (Some counted) test exit out after =
-      does (name_read counted.name) (does (I64Const text_beside) (does (Comparing I64 LeS)
+      does (name_read layout counted.name) (does (I64Const text_beside) (does (Comparing I64 LeS)
       (either (tested layout [] [] test zero zero (suc exit) (does (Test I32 Eqz) (does (BrIf (suc out)) Done))) (counted_left counted (suc out) Done) after)))
 
   abbrev pub left_unless_pair : Option Pair → Code → (exit out : ℕ) → Instructions → Instructions
   left_unless_pair None test exit out after = left_unless_counted (counted_in test) test exit out after
   left_unless_pair (Some pair) test exit out after =
-      all_unsure name_read (pair_names pair) (pos largest) (2 ^ 54)
+      all_unsure (name_read layout) (pair_names pair) (pos largest) (2 ^ 54)
       (either (tested layout [] [] test zero zero (suc exit) (does (Test I32 Eqz) (does (BrIf (suc out)) Done))) (pair_left pair (suc out) Done) after)
 
   -- where a test fails `out` labels further out are left
   abbrev pub left_unless : Option Within → Code → (exit out : ℕ) → Instructions → Instructions
   left_unless None test exit out after = left_unless_pair (pair_in test) test exit out after
   left_unless (Some within) test exit out after =
-      unsure (name_read within.name) within.shift within.width
+      unsure (name_read layout within.name) within.shift within.width
       (when (tested layout [] [] test zero zero (suc exit) (does (Test I32 Eqz) (does (BrIf (suc out)) Done))) after)
 
   -- `return`: what temporary 0 has is the answer. A text waits in a global. Nothing but iterators is held then, so the exit is one label further out
@@ -250,12 +239,13 @@ module _ (layout : Layout) where
   answer_given Perhaps exit after = word_given exit after
   answer_given form exit after = constant_given least (suc exit) after
 
-  -- what is chosen is returned where it is chosen: in a block that a quick test leaves, or in an `if`
+  -- What is chosen is returned where it is chosen. The number of an unboxed parameter, or the mark that it has none, is the answer's word.: in a block that a quick test leaves, or in an `if`
   abbrev pub returned : Code → (exit : ℕ) → Instructions → Instructions
   returned (Choose sort.Value test so otherwise) exit after =
       if is_some (pair_in test)
       then block (left_unless_pair (pair_in test) test (suc exit) zero (returned so (suc exit) Done)) (returned otherwise exit after)
       else tested layout [] [] test zero zero exit (either (returned so (suc exit) Done) (returned otherwise (suc exit) Done) after)
+  returned (Get (Parameter true place)) exit after = does (LocalGet place) (does (LocalSet (answer_local bases)) (does (Br (suc exit)) after))
   returned code exit after = emitted layout false [] [] code zero zero exit (answer_given (form_of [] code) exit after)
 
   -- Steps: so many iterators are in use; so many labels are between the code and the function's exit, the place where `break` goes, and the one where

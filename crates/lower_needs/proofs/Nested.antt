@@ -20,12 +20,12 @@ use Rattle.mid_program.specs.declared.mid.Arithmetic.{Arithmetic}
 use Rattle.mid_program.specs.declared.mid.Operation.TheVariants.{Host, Inline, AsNumber}
 use Rattle.sem_scripts.specs.Names.{ArrayName}
 use Rattle.lower_model.specs.Arithmetic.{is_value}
-use Rattle.lower_model.specs.Emission.{Layout, Immediate, all_emitted, constant_field, emitted, field_at, field_in, immediate_field, immediate_in, immediate_or, field_or, one_field, text_kept}
+use Rattle.lower_model.specs.Emission.{Layout, Immediate, all_emitted, constant_field, emitted, field_at, field_in, immediate_field, immediate_in, immediate_or, field_or, one_field, text_kept, name_read}
 use Rattle.lower_model.specs.Functions.{layout_of, main_bases, main_callee, routine_bases, routine_callee}
 use Rattle.lower_model.specs.Places.{Bases}
 use Rattle.lower_model.specs.Quick.{Within, test_within, joined, all_unsure, Holder, OfName, OfParameter, holder_of, set_after, set_alone, Source, source_in, Sum, sum_names, sum_op, sum_in, sum_of, two_sum, set_sum, kept_sum, update_sum, old_source, stored_name, new_sum, let_sum, Update, update_in, Tally, tally_in, Remainder, remainder_in, remainder_names, Counted, counted_in, Pair, pair_names, pair_in, step_jumps, is_nothing}
 use Rattle.lower_model.specs.Small.{does, either}
-use Rattle.lower_model.specs.Statements.{answer_given, returned, holder_cleared, name_read, name_numbered, sum_kept, sum_taken, both_asked, element_numbered, element_given, remainder_dropped, barely_dropped, plainly_dropped, quickly_dropped, left_unless_counted, left_unless_pair, left_unless, again, all_emptied, arrays_emptied, before_parts, block, iterator_left, iterators_emptied, key_stored, left_by, names_declared, names_made, part_done, record_done, records_read, routines_declared, step_emitted, steps_emitted, temporaries_emptied}
+use Rattle.lower_model.specs.Statements.{answer_given, returned, holder_cleared, name_numbered, sum_kept, sum_taken, both_asked, element_numbered, element_given, remainder_dropped, barely_dropped, plainly_dropped, quickly_dropped, left_unless_counted, left_unless_pair, left_unless, again, all_emptied, arrays_emptied, before_parts, block, iterator_left, iterators_emptied, key_stored, left_by, names_declared, names_made, part_done, record_done, records_read, routines_declared, step_emitted, steps_emitted, temporaries_emptied}
 use Rattle.lower_model.proofs.Tallies.{Shape, Updating, Following, Leading, tally_code, tally_is}
 use Rattle.lower_model.proofs.Updating.{added_code, added_is}
 use Rattle.lower_needs.specs.Labels.{choice_labels, chosen_labels, return_labels, labels_among, labels_in, more_if, step_labels, steps_labels}

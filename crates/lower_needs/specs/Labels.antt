@@ -2,12 +2,17 @@
 use Rattle.std.specs.Prelude.{ℕ, suc, max, Bool, true, false, is_some}
 use Rattle.sem_primitives.specs.declared.sorts.Sort.TheVariants as sort
 use Rattle.mid_program.specs.Mid.{Code, Do, Over, Compare, Call, Ask, AskLine, FileLine, Replace, Number, Text, Unset, Get, Set, Array, IsOpen, Choose, Seq, Let, Bound, Codes, End, At, Fixed, Fresh, Step, Eval, Block, If, Loop, Each, Break, Continue, Next, Exit, ExitWith, Return, Mark, Steps, NoStep, Then}
-use Rattle.lower_model.specs.Quick.{pair_in, step_jumps, sum_in}
+use Rattle.lower_model.specs.Quick.{addition_in, pair_in, step_jumps, sum_in}
 
--- what is stored of a read, and what is chosen, is done within an `if`
+-- one more where this is so
+abbrev pub more_if : Bool → ℕ → ℕ
+more_if true count = suc count
+more_if false count = count
+
+-- what is stored of a read, what is chosen, and the code of all cases beside a sum's quick way are done within an `if`
 abbrev mutual
   pub labels_in : Code → ℕ
-  labels_in (Do operation operands) = labels_among operands
+  labels_in (Do operation operands) = more_if (is_some (addition_in operation operands)) (labels_among operands)
   labels_in (Over what operands) = labels_among operands
   labels_in (Compare op left right) = max (labels_in left) (labels_in right)
   labels_in (Call function operands) = labels_among operands
@@ -32,11 +37,6 @@ abbrev mutual
   labels_among (At code operands) = max (labels_in code) (labels_among operands)
   labels_among (Fixed number operands) = labels_among operands
   labels_among (Fresh operands) = labels_among operands
-
--- one more where this is so
-abbrev pub more_if : Bool → ℕ → ℕ
-more_if true count = suc count
-more_if false count = count
 
 -- Where a choice's test has a quick way, what is done where it holds stands in two blocks, and the test with it; what is done elsewhere in the outer
 -- one. Else the two ways are those of an `if`.

@@ -11,7 +11,7 @@ use Rattle.wasm_types.specs.declared.instr.Simple.TheVariants.{Binary}
 use Rattle.mid_program.specs.declared.mid.Arithmetic.{Arithmetic}
 use Rattle.mid_program.specs.declared.mid.Operation.TheVariants.{Inline, AsNumber}
 use Rattle.mid_program.specs.Mid.{Slot, Code, Do, Compare, Number, Set, Let, Bound, Codes, End, At}
-use Rattle.lower_model.specs.Emission.{Layout}
+use Rattle.lower_model.specs.Emission.{Layout, source_pushed}
 use Rattle.lower_model.specs.Quick.{Holder, OfName, OfParameter, holder_of, Source, Held, Constant, Sum, Update, update_in, Tally, tally_in, Remainder, remainder_in, remainder_names, Counted, counted_of, counted_in, field_count, Pair, Within, all_unsure, joined, shifted, and_name, and_source, both_within, compared_within, constant_in, first_ones, is_among, kept_sum, let_sum, name_in, new_sum, old_source, pair_in, pair_names, pair_of, set_after, set_alone, set_sum, source_in, stored_name, sum_in, sum_names, sum_of, test_within, two_sum, update_sum}
 use Rattle.lower_model.proofs.Quick.{holder_is, name_is}
 use Rattle.lower_model.proofs.State.{holder_slot}
@@ -20,7 +20,7 @@ use Rattle.lower_model.proofs.Remainders.{IsRemainder, factored_code, remainder_
 use Rattle.lower_model.proofs.Updating.{added_is}
 use Rattle.lower_model.proofs.QuickNames.{near_sum, none_is, some_is, source_code, source_is, stored_is}
 use Rattle.lower_model.specs.Small.{does}
-use Rattle.lower_model.specs.Statements.{source_pushed}
+
 use Rattle.lower_pieces.specs.Bounds.{most_labels}
 use Rattle.lower_expressions.specs.Fits.{AllFit, Fits, SlotFits}
 use Rattle.lower_quick.specs.View.{view_holder}

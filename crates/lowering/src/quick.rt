@@ -2,7 +2,8 @@
 ghost use Rattle.std.specs.Prelude.{[], ◌≡◌, ◌≤◌, ◌^◌, IfOk, OnOk, map, pos, suc};
 ghost use Rattle.awk_text.specs.Number.{largest};
 ghost use Rattle.lower_model.specs.Quick.{all_unsure, joined, most_multiplied, sum_op, unsure};
-ghost use Rattle.lower_model.specs.Statements.{counted_left, name_put, name_read, pair_left, remainder_taken, summed};
+ghost use Rattle.lower_model.specs.Statements.{counted_left, name_put, pair_left, remainder_taken, summed};
+ghost use Rattle.lower_model.specs.Emission.{name_read};
 ghost use Rattle.lower_pieces.specs.Bounds.{most_labels};
 ghost use Rattle.lower_pieces.specs.Emits.{Emits};
 ghost use Rattle.lower_expressions.specs.View.{view_layout};

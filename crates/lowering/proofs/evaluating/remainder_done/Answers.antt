@@ -2,10 +2,10 @@ use Rattle.std.proofs.Common.{◌≡◌, [], ◌+◌, suc, pos, arith, ◌∙◌
 use Rattle.std.proofs.lemmas.Result.{on_ok_weaker}
 use Rattle.wasm_types.specs.Syntax.{Instructions, Done}
 use Rattle.mid_program.specs.ViewCode.{view}
-use Rattle.lower_model.specs.Emission.{dropped}
+use Rattle.lower_model.specs.Emission.{dropped, name_read}
 use Rattle.lower_model.specs.Quick.{all_unsure, most_multiplied, remainder_names}
 use Rattle.lower_model.specs.Small.{either}
-use Rattle.lower_model.specs.Statements.{name_read, remainder_taken}
+use Rattle.lower_model.specs.Statements.{remainder_taken}
 use Rattle.lower_pieces.proofs.Appended.{emits_then}
 use Rattle.lower_expressions.specs.View.{view_layout}
 use Rattle.lower_quick.specs.View.{view_holder, view_remainder}

@@ -3,7 +3,8 @@ use Rattle.std.proofs.lemmas.Result.{on_ok_weaker}
 use Rattle.wasm_types.specs.Syntax.{Instructions, Done}
 use Rattle.lower_model.specs.Quick.{all_unsure, sum_names}
 use Rattle.lower_model.specs.Small.{either}
-use Rattle.lower_model.specs.Statements.{name_read, summed, summed_anyway}
+use Rattle.lower_model.specs.Statements.{summed, summed_anyway}
+use Rattle.lower_model.specs.Emission.{name_read}
 use Rattle.lower_pieces.proofs.Appended.{emits_then}
 use Rattle.lower_expressions.specs.View.{view_layout}
 use Rattle.lower_quick.specs.View.{view_holder, view_sum}

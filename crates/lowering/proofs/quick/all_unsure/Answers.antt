@@ -1,6 +1,6 @@
 use Rattle.std.proofs.Common.{pos, ap, ◌∙◌, arith}
 use Rattle.std.proofs.lemmas.Result.{on_ok_weaker}
-use Rattle.lower_model.specs.Statements.{name_read}
+use Rattle.lower_model.specs.Emission.{name_read}
 use Rattle.lower_pieces.specs.Emits.{followed}
 use Rattle.lower_expressions.specs.View.{view_layout}
 use Rattle.lowering.proofs.QuickNames.{all_of}

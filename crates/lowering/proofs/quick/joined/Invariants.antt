@@ -1,7 +1,7 @@
 use Rattle.std.proofs.Common.{◌≡◌, drop, map, pos}
 use Rattle.wasm_types.specs.Syntax.{Instructions}
 use Rattle.lower_model.specs.Quick.{joined}
-use Rattle.lower_model.specs.Statements.{name_read}
+use Rattle.lower_model.specs.Emission.{name_read}
 use Rattle.lower_pieces.specs.Emits.{followed}
 use Rattle.lower_expressions.specs.View.{view_layout}
 use Rattle.lower_quick.specs.View.{view_holder}

@@ -6,7 +6,8 @@ use Rattle.wasm_types.specs.declared.instr.IRelOp.TheVariants.{LeS}
 use Rattle.wasm_types.specs.declared.instr.Simple.TheVariants.{Compare, I64Const, LocalTee}
 use Rattle.lower_model.specs.Places.{number_local}
 use Rattle.lower_model.specs.Small.{text_beside, when}
-use Rattle.lower_model.specs.Statements.{name_read, number_found}
+use Rattle.lower_model.specs.Statements.{number_found}
+use Rattle.lower_model.specs.Emission.{name_read}
 use Rattle.lower_pieces.specs.Emits.{does_all}
 use Rattle.lower_pieces.proofs.Appended.{emits_then}
 use Rattle.lower_expressions.specs.View.{view_layout}

@@ -4,7 +4,8 @@ use Rattle.wasm_types.specs.Syntax.{Instructions, Done}
 use Rattle.mid_program.specs.ViewCode.{view}
 use Rattle.lower_model.specs.Quick.{all_unsure, pair_names}
 use Rattle.lower_model.specs.Small.{either}
-use Rattle.lower_model.specs.Statements.{name_read, pair_left}
+use Rattle.lower_model.specs.Statements.{pair_left}
+use Rattle.lower_model.specs.Emission.{name_read}
 use Rattle.lower_pieces.proofs.Appended.{emits_then}
 use Rattle.lower_expressions.specs.View.{view_layout}
 use Rattle.lower_quick.specs.View.{view_holder, view_pair}

@@ -4,7 +4,7 @@ use Rattle.wasm_types.specs.Syntax.{Instructions, Done}
 use Rattle.mid_program.specs.ViewCode.{view}
 use Rattle.lower_model.specs.Quick.{unsure}
 use Rattle.lower_model.specs.Small.{when}
-use Rattle.lower_model.specs.Statements.{name_read}
+use Rattle.lower_model.specs.Emission.{name_read}
 use Rattle.lower_pieces.proofs.Appended.{emits_then}
 use Rattle.lower_expressions.specs.View.{view_layout}
 use Rattle.lower_quick.specs.View.{view_holder}
