@@ -9,6 +9,8 @@ use Rattle.sem_primitives.specs.Constants.{constant_at}
 use Rattle.sem_primitives.specs.Sorts.{Row}
 use Rattle.std.specs.Prelude.{Some}
 use Rattle.wasm_types.specs.Syntax.{Instructions}
+use Rattle.mid_program.specs.declared.mid.Arithmetic.{Arithmetic}
+use Rattle.mid_program.specs.declared.mid.Arithmetic.TheVariants.{Times}
 use Rattle.mid_program.specs.declared.mid.Operation.TheVariants.{Host, Inline, AsNumber, FieldNumber}
 use Rattle.mid_program.specs.Mid.{Kind, Program, Form, Answered, Code, Do, Over, Compare, Call, Ask, AskLine, FileLine, Replace, Number, Text, Unset, Get, Set, Array, IsOpen, Choose, Seq, Let, Bound, Codes, End, At, Fixed, Fresh, form_of, form_at}
 use Rattle.mid_program.specs.MidMeaning.{Holds, Env, Values, evaluated, all_evaluated}
@@ -20,7 +22,7 @@ use Rattle.lower_model.specs.Emission.{Layout, array_meant, emitted, all_emitted
 use Rattle.lower_model.specs.Functions.{layout_of}
 use Rattle.lower_model.specs.Machine.{Conf, Label, Frame, at, loops_walked}
 use Rattle.lower_model.specs.Noted.{noted_called}
-use Rattle.lower_model.specs.Places.{Bases, room, rooms, arrays_in, arrays_among}
+use Rattle.lower_model.specs.Places.{Bases, calculated_room, room, rooms, arrays_in, arrays_among}
 use Rattle.lower_model.proofs.Watch.{Watch}
 use Rattle.lower_model.proofs.Locals.{Locals, laid}
 use Rattle.lower_model.proofs.Steps.{empty}
@@ -94,9 +96,14 @@ past_room t (At e es) = let r = past_room (suc t) es in omega (arith, r)
 past_room t (Fixed m es) = past_room t es
 past_room t (Fresh es) = past_room t es
 
+-- an operator has two temporaries
+pub operator_room : (o : Arithmetic) → 2 ≤ calculated_room o
+operator_room Times = omega arith
+operator_room o = omega arith
+
 -- each expression has a temporary of its own
 pub room_one : (e : Code) → 1 ≤ room e
-room_one (Do (Inline a) es) = omega arith
+room_one (Do (Inline a) es) = let q = operator_room a in omega (arith, q)
 room_one (Do (Host q) es) = omega arith
 room_one (Do AsNumber es) = omega arith
 room_one (Do FieldNumber es) = omega arith
