@@ -10,9 +10,9 @@ use Rattle.sem_primitives.specs.declared.sorts.Sort.TheVariants as sort
 use Rattle.wasm_types.specs.Syntax.{Instructions, Done as NoMore}
 use Rattle.wasm_store.specs.declared.word.Word.TheVariants.{I64}
 use Rattle.wasm_store.specs.Words.{flag}
-use Rattle.mid_program.specs.Mid.{Kind, Program, Form, Answered, Bare, Perhaps, Code, Choose, form_of}
+use Rattle.mid_program.specs.Mid.{Kind, Unboxed, Program, Form, Answered, Bare, Perhaps, Code, Get, Parameter, Choose, form_of}
 use Rattle.mid_program.specs.MidMeaning.{Holds, evaluated, all_evaluated, boxed, converted, truth_in}
-use Rattle.sem_scripts.specs.ScriptState.{State, Returned, Outcome, Gives, Stops, Doing, give, go_on, settled, stop}
+use Rattle.sem_scripts.specs.ScriptState.{State, Returned, Outcome, Gives, Stops, Doing, give, go_on, local_value, settled, stop}
 use Rattle.sem_scripts.specs.Statements.{Flow}
 use Rattle.sem_scripts.specs.Steps.{truth_number}
 use Rattle.mid_program.specs.Sorted.{There, fits, is_tested, kinds_of, sorted, all_sorted, test_sorted}
@@ -28,10 +28,12 @@ use Rattle.lower_model.proofs.Runs.{Goes, goes_to, goes_from, then_goes, by_step
 use Rattle.lower_model.proofs.Regions.{upd_same}
 use Rattle.lower_model.proofs.Globals.{Text}
 use Rattle.lower_model.proofs.GlobalSteps.{global_set_ok}
-use Rattle.lower_model.proofs.Locals.{Locals, Hand, Number as NumberAt, Answer, with_at, laid}
+use Rattle.lower_model.proofs.Locals.{Locals, Param, Hand, Number as NumberAt, Answer, with_at, laid}
 use Rattle.lower_model.proofs.Steps.{empty, get_copied, set_ok, moved_out_ok}
-use Rattle.lower_model.proofs.State.{AnswerIs, TextWaits, Nothing, ANumber, BareIs, IsBeside, IsNone, IsNumber, cells_of, perhaps, answering, word_not_beside}
+use Rattle.lower_model.proofs.State.{AnswerIs, TextWaits, Nothing, ANumber, bare, beside, BareOf, BareIs, IsBeside, IsNone, IsNumber, cells_of, perhaps, answering, word_not_beside}
 use Rattle.lower_model.proofs.Relation.{HoldsAt, Fit, fit_hand, fit_less, fit_loose, Returns, Away, away_out}
+use Rattle.lower_model.proofs.Reading.{kind_below}
+use Rattle.lower_model.proofs.Conversions.{bare_is}
 use Rattle.lower_model.proofs.Pieces.{chooses, closes, number_is_ok}
 use Rattle.lower_model.proofs.Answers.{machine, beside_state, Reached}
 use Rattle.lower_model.proofs.Converting.{flag_word}
@@ -39,6 +41,9 @@ use Rattle.lower_model.proofs.Simulation.{work_of, layout, context, meant, room_
 use Rattle.lower_model.proofs.StatementForms.{Starts, ready, starts_among}
 use Rattle.lower_model.proofs.Branches.{TestDone, test_meant, test_ok, one_way}
 use Rattle.lower_model.proofs.QuickSteps.{Left, left_unless_pair_ok}
+
+no_handle : (v : Value) → empty ≡ Held v → ⊥
+no_handle v e = cc
 
 -- one thing after another, and then a third
 onward_twice : {A B C : Type 0} → (r : Outcome A) (f : A → Doing B) (g : B → Doing C) → go_on (go_on r f) g ≡ go_on r (λ a σ. go_on (f a σ) g)
@@ -186,6 +191,25 @@ module _ (p : Program) (deepest : Watch) (ks : List Kind) (F : List Frame) (b : 
   abbrev pub ReturnOk : Code → Type 1
   ReturnOk e = ReturnsBy e (returned (layout p deepest ks F b M n) e)
 
+  -- the word of an unboxed parameter is the answer's: no text stands beside it
+
+  parameter_given : (v : Value) → beside v ≡ empty → BareOf v → AnswerIs v (bare v) Gone
+  parameter_given v none (IsBeside e e1) = absurd (no_handle v (sym none ∙ e1))
+  parameter_given v none (IsNone ev e e1) = Nothing ev e refl
+  parameter_given v none (IsNumber x ev e e1) = ANumber x ev e refl
+
+  parameter_ok : (i : ℕ) → ReturnOk (Get (Parameter true i))
+  unfolding evaluated all_evaluated sorted all_sorted
+  parameter_ok i u d k K l σ P fit so rm ar s =
+      let v = local_value i σ in
+      let c = Bits (I64 (bare v)) in
+      let q = s.fit.params i Unboxed so in
+      let lt = kind_below ks i Unboxed so in
+      let pk = s.parameters in
+      left_in (work_of (Get (Parameter true i)) + 20) 3 σ.turns _ (br (suc d) ks K (laid b (with_at l Answer c)) F (answering p.ranges (kinds_of p.globals) Gone σ)) (Returns p deepest ks F b d K v σ)
+      (then_goes (get_copied b l (Param i) c (omega (arith, lt, pk)) q.0 refl) (then_goes (set_ok b l Answer c tt (ap is_owned s.fit.answer)) (by_steps 1 refl))) (omega arith)
+      (returns_word v (bare v) Gone u d K l σ s.fit (parameter_given v q.1 (bare_is v)))
+
   -- what is chosen is returned where it is chosen
 
   abbrev either_returning : Code → Code → Bool → Doing Flow
@@ -286,4 +310,5 @@ module _ (p : Program) (deepest : Watch) (ks : List Kind) (F : List Frame) (b : 
   -- `return` of any code
   pub returned_ok : ((e : Code) → ExprOk p deepest ks F b M n e) → (e : Code) → ReturnOk e
   returned_ok oks (Choose sort.Value c a1 a2) = chosen_ok c a1 a2 (oks c) (returned_ok oks a1) (returned_ok oks a2)
+  returned_ok oks (Get (Parameter true i)) = parameter_ok i
   returned_ok oks e = alone_ok e (oks e)

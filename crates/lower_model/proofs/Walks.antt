@@ -1,5 +1,5 @@
 -- A loop with a test does not begin as one over keys does: the code of no expression does.
-use Rattle.std.proofs.Common.{◌≡◌, ℕ, zero, suc, Bool, true, false, List, [], ◌∷◌, Option, Some, None, ℤ, refl}
+use Rattle.std.proofs.Common.{◌≡◌, ℕ, zero, suc, Bool, true, false, List, [], ◌∷◌, Option, Some, None, ℤ, pos, ◌^◌, refl}
 use Rattle.std.specs.Prelude.{if◌then◌else◌, ◌||◌}
 use Rattle.awk_values.specs.declared.comparison.CompareOp.{CompareOp}
 use Rattle.sem_primitives.specs.Table.{arguments_of}
@@ -21,9 +21,10 @@ use Rattle.mid_program.specs.MidMeaning.{three_values}
 use Rattle.sem_scripts.specs.Names.{ArrayName, Numbered, Given}
 use Rattle.mid_program.specs.Sorted.{count_of}
 use Rattle.lower_model.specs.Arithmetic.{calculated, compared, values_compared, numbers_compared, bare_compared, texts_beside, zeroed_if, is_value, may_be_text}
-use Rattle.lower_model.specs.Emission.{Layout, emitted, all_emitted, all_converted, all_pushed, array_pushed, performed, all_boxed, all_appended, listed_asked, all_given, all_given_pushed, slot_read, slot_set, field_in, field_or, Immediate, immediate_in, immediate_or, left_over, sequence_closed, keeping_closed, bound_read, tested}
+use Rattle.lower_model.specs.Emission.{Layout, name_read, added_or, emitted, all_emitted, all_converted, all_pushed, array_pushed, performed, all_boxed, all_appended, listed_asked, all_given, all_given_pushed, slot_read, slot_set, field_in, field_or, Immediate, immediate_in, immediate_or, left_over, sequence_closed, keeping_closed, bound_read, tested}
 use Rattle.lower_model.specs.Machine.{is_walk}
 use Rattle.lower_model.specs.Places.{Bases, number_local}
+use Rattle.lower_model.specs.Quick.{Holder, OfName, OfParameter, Addition, addition_names, addition_in, all_unsure}
 use Rattle.lower_model.specs.Small.{does, converted, to_value, to_number, truth, unused, released, moved_from, bound_from, copied_from}
 
 abbrev begins_tee : Instructions → Bool
@@ -198,6 +199,15 @@ module _ (y : Layout) where
   field_stern (Some z) t k other h = (refl, refl)
   field_stern None t k other h = h
 
+  unsure_stern : (is : List Holder) (q : ℤ) (n : ℕ) (k : Instructions) → Stern (all_unsure (name_read y) is q n k)
+  unsure_stern [] q n k = (refl, refl)
+  unsure_stern (OfName i ∷ is) q n k = (refl, refl)
+  unsure_stern (OfParameter i ∷ is) q n k = (refl, refl)
+
+  added_stern : (o : Option Addition) (t : ℕ) (slow k other : Instructions) → Stern other → Stern (added_or y o t slow k other)
+  added_stern (Some a) t slow k other h = unsure_stern (addition_names a) (pos (2 ^ 52)) (2 ^ 53) _
+  added_stern None t slow k other h = h
+
   immediate_stern : (c : CompareOp) (f : Form) (o : Option Immediate) (t d : ℕ) (k other : Instructions) → Stern other → Stern (immediate_or y c f o t d k other)
   immediate_stern c f (Some i) t d k other h = value_stern y.bases f t _ (refl, refl)
   immediate_stern c f None t d k other h = h
@@ -218,7 +228,9 @@ module _ (y : Layout) where
     unfolding emitted all_emitted
 
     code_stern : (v : Bool) (fs : List Form) (ts : List ℕ) (e : Code) (t w d : ℕ) (k : Instructions) → Stern k → Stern (emitted y v fs ts e t w d k)
-    code_stern v fs ts (Do o es) t w d k h = field_stern (field_in o es) t k _ (codes_stern fs ts es t w d _ (λ m. all_converted_stern fs (arguments o) es t d _ (performed_stern o es t d k h)))
+    code_stern v fs ts (Do o es) t w d k h =
+        field_stern (field_in o es) t k _ (added_stern (addition_in o es) t _ k _
+        (codes_stern fs ts es t w d _ (λ m. all_converted_stern fs (arguments o) es t d _ (performed_stern o es t d k h))))
     code_stern v fs ts (Over l es) t w d k h = codes_stern fs ts es t w d _ (λ m. boxed_stern fs es t _ (appended_stern es t _ (listed_stern l (count_of es) t d k)))
     code_stern v fs ts (Compare c e f) t w d k h =
         let g = form_of fs e in
