@@ -14,6 +14,7 @@ pub mod Sizes
 pub mod SizeExamples
 pub mod Counting
 pub mod CountExamples
+pub mod CallExamples
 pub mod QuickExamples
 pub mod HandExamples
 pub mod NotedExamples

@@ -7,7 +7,7 @@ use Rattle.mid_program.specs.declared.mid.Arithmetic.TheVariants.{Minus, Modulo,
 use Rattle.mid_program.specs.declared.mid.Operation.TheVariants.{AsNumber, Host, Inline}
 use Rattle.mid_program.specs.Mid.{Array, At, Block, Bound, Break, Code, Compare, Continue, Do, Each, End, Eval, Fixed, Get, Global, If, Let, Loop, NoStep, Number, Parameter, Seq, Set, Step, Then}
 use Rattle.sem_scripts.specs.Names.{Numbered}
-use Rattle.lower_model.specs.Quick.{Constant, Held, OfName, OfParameter, counted_in, is_nothing, most_multiplied, pair_in, remainder_in, remainder_names, step_jumps, sum_in, sum_names, tally_in, test_within, update_in}
+use Rattle.lower_model.specs.Quick.{Constant, Held, OfName, OfParameter, addition_in, addition_names, counted_in, is_nothing, most_multiplied, pair_in, remainder_in, remainder_names, step_jumps, sum_in, sum_names, tally_in, test_within, update_in}
 
 -- unboxed names and parameters
 abbrev name : ℕ → Code
@@ -43,6 +43,21 @@ pub no_sums : (sum_in (assigned 7 (joined Times (name 7) (Number (pos 2)))) ≡ 
     × ((sum_in (assigned 7 (joined Plus (name 7) (Number (pos (2 ^ 52 + 1))))) ≡ None)
     × (sum_in (assigned 7 (joined Plus (joined Plus (name 5) (name 6)) (Number (pos 1)))) ≡ None))))
 no_sums = (refl, (refl, (refl, (refl, refl))))
+
+-- `n - 1` and `n + m` as parts of expressions, and which names are asked, each once
+pub additions : (addition_in (Inline Minus) (At (parameter 0) (At (Number (pos 1)) End)) ≡ Some (record { op = Minus; left = Held (OfParameter 0); right = Constant (pos 1) }))
+    × ((addition_in (Inline Plus) (At (name 5) (At (parameter 5) End)) ≡ Some (record { op = Plus; left = Held (OfName 5); right = Held (OfParameter 5) }))
+    × ((addition_names (record { op = Plus; left = Held (OfName 5); right = Held (OfParameter 5) }) ≡ OfName 5 ∷ (OfParameter 5 ∷ []))
+    × (addition_names (record { op = Plus; left = Held (OfName 5); right = Held (OfName 5) }) ≡ OfName 5 ∷ [])))
+additions = (refl, (refl, (refl, refl)))
+
+-- a product, a boxed parameter, a constant past 2^52, a sum of a sum, what is asked of the host
+pub no_additions : (addition_in (Inline Times) (At (parameter 0) (At (Number (pos 2)) End)) ≡ None)
+    × ((addition_in (Inline Plus) (At (Get (Parameter false 0)) (At (Number (pos 1)) End)) ≡ None)
+    × ((addition_in (Inline Minus) (At (parameter 0) (At (Number (negsuc (2 ^ 52))) End)) ≡ None)
+    × ((addition_in (Inline Plus) (At (joined Plus (name 5) (name 6)) (At (Number (pos 1)) End)) ≡ None)
+    × (addition_in (Host Field) (At (name 5) End) ≡ None))))
+no_additions = (refl, (refl, (refl, (refl, refl))))
 
 -- what is added is no source, and is evaluated first; a product has no such way
 pub updates : (update_in (updated 7 Minus (Get (Global false 5))) ≡ Some (record { target = OfName 7; op = Minus; name = OfName 7; added = Get (Global false 5) }))
