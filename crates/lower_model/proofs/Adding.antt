@@ -1,5 +1,5 @@
 -- Arithmetic in expressions: sums and differences of sources near 0 are added without a test of their range; all else is calculated with its tests.
-use Rattle.std.proofs.Common.{◌≡◌, ℕ, suc, ◌+◌, ◌^◌, ◌≤◌, Bool, true, false, nat_eq, List, [], ◌∷◌, Some, None, Option, Ok, pos, w64, refl, sym, ap, ap₂, ◌∙◌, subst, arith, if◌then◌else◌}
+use Rattle.std.proofs.Common.{◌≡◌, ℕ, suc, ◌+◌, ◌^◌, Bool, true, false, nat_eq, List, [], ◌∷◌, Some, None, Option, Ok, pos, w64, refl, sym, ap, ap₂, ◌∙◌, subst, arith, if◌then◌else◌}
 use Rattle.std.specs.Prelude.{◌&&◌, cond}
 use Rattle.std.proofs.lemmas.Bool.{and_parts}
 use Rattle.sem_primitives.specs.Numbers.{Number as AnyNumber, number_word, outcome_of}
@@ -19,7 +19,7 @@ use Rattle.lower_model.specs.Emission.{emitted, all_emitted, all_converted, adde
 use Rattle.lower_model.specs.Arithmetic.{calculated}
 use Rattle.lower_model.specs.Machine.{Conf, Label, Frame, Store, at, label}
 use Rattle.lower_model.specs.Places.{Bases, number_local}
-use Rattle.lower_model.specs.Quick.{Source, Held, Constant, source_in, and_source, is_near, is_sum, sum_op, Addition, addition_names, addition_of, addition_in}
+use Rattle.lower_model.specs.Quick.{Source, Held, Constant, source_in, and_source, is_sum, sum_op, Addition, addition_names, addition_of, addition_in}
 use Rattle.lower_model.specs.Small.{does}
 use Rattle.lower_model.proofs.Watch.{Watch}
 use Rattle.lower_model.proofs.Runs.{then_goes, goes_from, first, within, there, Onward}
@@ -32,8 +32,8 @@ use Rattle.lower_model.proofs.Converting.{blocked}
 use Rattle.lower_model.proofs.Simulation.{work_of, works_of, extra_of, operator_room, context, layout, meant, Done, ExprOk, CodesOk}
 use Rattle.lower_model.proofs.Expressions.{put_done}
 use Rattle.lower_model.proofs.Inlining.{two_wanted, plainly_calculated}
-use Rattle.lower_model.proofs.QuickNames.{num_of, source_steps, all_flag, all_steps, AllSure, source_code, none_is, all_sure, source_among, source_beside, source_is, two_few, one_few, near_sum, result_of}
-use Rattle.lower_model.proofs.QuickParts.{two_calculated, all_unsure_ok, calculated_means}
+use Rattle.lower_model.proofs.QuickNames.{num_of, source_steps, all_flag, all_steps, AllSure, source_code, none_is, all_sure, source_among, source_beside, source_is, two_few, one_few, both_near, result_of}
+use Rattle.lower_model.proofs.QuickParts.{two_calculated, AllUnboxed, all_unsure_ok, calculated_means}
 use Rattle.lower_model.proofs.QuickSteps.{SourceFits, source_unboxed, operand, near_fits, both_added}
 
 module _ (p : Program) (deepest : Watch) (ks : List Kind) (F : List Frame) (b : Bases) (M n : ℕ) where
@@ -50,12 +50,12 @@ module _ (p : Program) (deepest : Watch) (ks : List Kind) (F : List Frame) (b : 
 
   -- Which operands are sources near 0, and what becomes of them.
 
-  record AdditionIs (fs : List Form) (o : Arithmetic) (es : Codes) (q : Addition) : Type 0 where
-    left : SourceFits p deepest ks F b M n (2 ^ 52) q.left
-    right : SourceFits p deepest ks F b M n (2 ^ 52) q.right
-    sum : is_sum q.op ≡ true
-    means : (env : Env fs) (σ : State) (m1 m2 y : AnyNumber) → num_of q.left σ ≡ Ok m1 → num_of q.right σ ≡ Ok m2 → outcome_of (arithmetic_of q.op m1.number m2.number) ≡ Ok y → meant p deepest ks F b M n fs env (Do (Inline o) es) σ ≡ Gives y σ
-    keeps : (ts : List ℕ) (st : ℕ → Standing) (l : Locals) (env : Env fs) → Kept fs ts st l env → Kept fs ts (λ i. held_after_all i es (st i)) l env
+  pub record AdditionIs (fs : List Form) (o : Arithmetic) (es : Codes) (q : Addition) : Type 0 where
+    pub left : SourceFits p deepest ks F b M n (2 ^ 52) q.left
+    pub right : SourceFits p deepest ks F b M n (2 ^ 52) q.right
+    pub sum : is_sum q.op ≡ true
+    pub means : (env : Env fs) (σ : State) (m1 m2 y : AnyNumber) → num_of q.left σ ≡ Ok m1 → num_of q.right σ ≡ Ok m2 → outcome_of (arithmetic_of q.op m1.number m2.number) ≡ Ok y → meant p deepest ks F b M n fs env (Do (Inline o) es) σ ≡ Gives y σ
+    pub keeps : (ts : List ℕ) (st : ℕ → Standing) (l : Locals) (env : Env fs) → Kept fs ts st l env → Kept fs ts (λ i. held_after_all i es (st i)) l env
 
   abbrev two : Code → Code → Codes
   two x y = At x (At y End)
@@ -74,14 +74,14 @@ module _ (p : Program) (deepest : Watch) (ks : List Kind) (F : List Frame) (b : 
       let s1 = and_parts (sorted ctx fs x) (sorted ctx fs y && true) s.1 in
       (s1.0, (and_parts (sorted ctx fs y) true s1.1).0)
 
-  addition_is : (fs : List Form) (o : Arithmetic) (es : Codes) (q : Addition) → addition_in (Inline o) es ≡ Some q → sorted (context p deepest ks F b M n) fs (Do (Inline o) es) ≡ true → AdditionIs fs o es q
+  pub addition_is : (fs : List Form) (o : Arithmetic) (es : Codes) (q : Addition) → addition_in (Inline o) es ≡ Some q → sorted (context p deepest ks F b M n) fs (Do (Inline o) es) ≡ true → AdditionIs fs o es q
   addition_is fs o (At x (At y End)) q eq so = by (source_in x) refl (source_in y) refl eq
     where
       by : (r : Option Source) → source_in x ≡ r → (s : Option Source) → source_in y ≡ s → addition_of o r s ≡ Some q → AdditionIs fs o (two x y) q
       by (Some a) e1 (Some e) e2 eq =
           subst (λ cs. sorted (context p deepest ks F b M n) fs (Do (Inline o) cs) ≡ true → AdditionIs fs o cs q) (sym (ap₂ two (source_is x a e1) (source_is y e e2)))
           (λ so1.
-          let g = near_sum _ q o a e eq in
+          let g = both_near (record { op = o; left = a; right = e }) q o a e eq in
           let h = two_sorted fs o (source_code a) (source_code e) so1 in
           subst (AdditionIs fs o (two (source_code a) (source_code e))) g.1
           (record {
@@ -94,6 +94,9 @@ module _ (p : Program) (deepest : Watch) (ks : List Kind) (F : List Frame) (b : 
       by (Some a) e1 None e2 eq = none_is eq
       by None e1 s e2 eq = none_is eq
   addition_is fs o es q eq so = none_is eq
+
+  pub addition_unboxed : (fs : List Form) (o : Arithmetic) (es : Codes) (q : Addition) → AdditionIs fs o es q → AllUnboxed p deepest ks F b M n (addition_names q)
+  addition_unboxed fs o es q a = source_unboxed p deepest ks F b M n (2 ^ 52) q.left (and_source q.right []) a.left (source_unboxed p deepest ks F b M n (2 ^ 52) q.right [] a.right tt)
 
   pub inline_expr : (o : Arithmetic) (es : Codes) → CodesOk p deepest ks F b M n es → ExprOk p deepest ks F b M n (Do (Inline o) es)
   unfolding emitted all_emitted
@@ -158,7 +161,7 @@ module _ (p : Program) (deepest : Watch) (ks : List Kind) (F : List Frame) (b : 
       by (Some q) eq =
           let a = addition_is fs o es q eq so in
           let few = two_few q.left q.right in
-          let unboxed = source_unboxed p deepest ks F b M n (2 ^ 52) q.left (and_source q.right []) a.left (source_unboxed p deepest ks F b M n (2 ^ 52) q.right [] a.right tt) in
+          let unboxed = addition_unboxed fs o es q a in
           let f = all_flag σ (pos (2 ^ 52)) (2 ^ 53) (addition_names q) in
           first (machine p deepest ks F) M (all_steps (addition_names q) + 1) (31 + (works_of es + extra_of es)) (work_of (Do (Inline o) es)) σ.turns _ _ P Q outcome
           (then_goes (all_unsure_ok p deepest ks F b M n _ _ (addition_names q) (pos (2 ^ 52)) (2 ^ 53) t u w l σ unboxed rd.parameters rd.fit) (chooses slow (fast q) (if f then 1 else 0))) (omega (arith, few))

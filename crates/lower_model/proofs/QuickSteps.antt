@@ -451,7 +451,7 @@ module _ (p : Program) (deepest : Watch) (ks : List Kind) (F : List Frame) (b : 
       by (Some a) e1 (Some e) e2 eq =
           subst (λ t. sorted (context p deepest ks F b M n) [] t ≡ true → SumIs t s) (sym (ap₂ (set_code i o) (source_is x a e1) (source_is y e e2)))
           (λ so1.
-          let g = near_sum _ s o a e eq in
+          let g = near_sum i o a e s eq in
           let h = set_sorted p deepest ks F b M n [] i o (source_code a) (source_code e) so1 in
           subst (SumIs (set_code i o (source_code a) (source_code e))) g.1
           (record { kind = h.kind; left = near_fits [] a h.first_one g.0.1; right = near_fits [] e h.second g.0.2; sum = g.0.0; means = λ σ m1 m2 y z1 z2 z. set_means p deepest ks F b M n i o a e σ ∙ summed_means p deepest ks F b M n i o σ (num_of a σ) (num_of e σ) m1 m2 y z1 z2 z; room = omega arith; whole = λ σ. set_means p deepest ks F b M n i o a e σ })) so
@@ -494,7 +494,7 @@ module _ (p : Program) (deepest : Watch) (ks : List Kind) (F : List Frame) (b : 
       by (Some l) e1 (Some e) e2 eq =
           subst (λ t. sorted (context p deepest ks F b M n) [] t ≡ true → SumIs t s) (sym (ap₂ (λ u v. update_code i o v u) (source_is x l e1) (source_is a e e2)))
           (λ so1.
-          let g = near_sum _ s o l e eq in
+          let g = near_sum i o l e s eq in
           let h = update_sorted i o (source_code e) (source_code l) so1 in
           subst (SumIs (update_code i o (source_code e) (source_code l))) g.1
           (record { kind = h.kind; left = near_fits (form_of [] (source_code e) ∷ []) l h.first_one g.0.1; right = near_fits [] e h.second g.0.2; sum = g.0.0; means = λ σ m1 m2 y z1 z2 z. update_means i o l e σ ∙ summed_means p deepest ks F b M n i o σ (num_of l σ) (num_of e σ) m1 m2 y z1 z2 z; room = omega arith; whole = λ σ. update_means i o l e σ })) so
@@ -565,7 +565,7 @@ module _ (p : Program) (deepest : Watch) (ks : List Kind) (F : List Frame) (b : 
       by (Some l) e1 eq =
           subst (λ t. sorted (context p deepest ks F b M n) [] t ≡ true → SumIs t s) (sym (ap (λ x. old_code i o x (Number z)) (source_is a l e1)))
           (λ so1.
-          let g = near_sum _ s o l (Constant z) eq in
+          let g = near_sum i o l (Constant z) s eq in
           let h = old_sorted i o (source_code l) (Number z) so1 in
           subst (SumIs (old_code i o (source_code l) (Number z))) g.1
           (record { kind = h.kind; left = near_fits [] l h.first_one g.0.1; right = near_fits (a_number ∷ []) (Constant z) h.second g.0.2; sum = g.0.0; means = λ σ m1 m2 y z1 z2 z0. old_means i o l z σ ∙ (ap₂ (old_summed i o σ) z1 z2 ∙ (ap (old_stored i m1 σ) z0 ∙ old_normal i m1 y σ)); room = omega arith; whole = λ σ. old_means i o l z σ ∙ old_same i o σ (num_of l σ) (num_of (Constant z) σ) })) so
