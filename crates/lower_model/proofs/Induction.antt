@@ -19,7 +19,7 @@ use Rattle.lower_model.proofs.Choosing.{choose_expr}
 use Rattle.lower_model.proofs.Lists.{over_expr}
 use Rattle.lower_model.proofs.SettingNames.{set_expr}
 use Rattle.lower_model.proofs.Immediates.{compare_expr}
-use Rattle.lower_model.proofs.Inlining.{inline_expr}
+use Rattle.lower_model.proofs.Adding.{inline_expr}
 use Rattle.lower_model.proofs.FileLines.{file_line_expr}
 use Rattle.lower_model.proofs.Calling.{CallsDo, call_expr}
 use Rattle.lower_model.proofs.Asking.{assign_work}

@@ -26,15 +26,15 @@ use Rattle.wasm_store.specs.declared.word.Word.TheVariants.{I32, I64}
 use Rattle.mid_program.specs.declared.mid.Arithmetic.{Arithmetic}
 use Rattle.mid_program.specs.declared.mid.Arithmetic.TheVariants as inline
 use Rattle.mid_program.specs.declared.mid.Operation.TheVariants.{Inline}
-use Rattle.mid_program.specs.Mid.{Kind, Program, a_number, Do, Codes, End, At, Fixed, Fresh}
-use Rattle.mid_program.specs.MidMeaning.{evaluated, all_evaluated, arithmetic_of}
+use Rattle.mid_program.specs.Mid.{Kind, Program, Form, a_number, Do, Codes, End, At, Fixed, Fresh}
+use Rattle.mid_program.specs.MidMeaning.{Env, evaluated, all_evaluated, arithmetic_of}
 use Rattle.sem_scripts.specs.ScriptState.{State, Faulted, settled}
-use Rattle.mid_program.specs.Sorted.{sorted, all_sorted, fit_row}
+use Rattle.mid_program.specs.Sorted.{Held as Standing, sorted, all_sorted, held_after, fit_row}
 use Rattle.lower_model.specs.Arithmetic.{out_of_range, two_numbers, ranged, times, unless_zero, unless_broken, divided, calculated}
 use Rattle.lower_model.specs.Cells.{Cell, Bits}
-use Rattle.lower_model.specs.Emission.{emitted, all_emitted}
-use Rattle.lower_model.specs.Machine.{Conf, Label, Frame, at, br, with_operands, push_result}
-use Rattle.lower_model.specs.Places.{Bases, number_local}
+use Rattle.lower_model.specs.Emission.{all_emitted, all_converted}
+use Rattle.lower_model.specs.Machine.{Conf, Label, Frame, at, br, loops_walked, with_operands, push_result}
+use Rattle.lower_model.specs.Places.{Bases, calculated_room, room, arrays_in, number_local}
 use Rattle.lower_model.specs.Small.{does, fail_if}
 use Rattle.lower_model.proofs.Watch.{Watch}
 use Rattle.lower_model.proofs.Runs.{Goes, then_goes, goes_to, by_steps, stays, there, faulted, first, within, weaker_settled}
@@ -49,7 +49,7 @@ use Rattle.lower_model.proofs.Comparing.{flags_or}
 use Rattle.lower_model.proofs.HostCalls.{row_then, extra_enough}
 use Rattle.lower_model.proofs.Numbers.{fails_ok, passes_ok}
 use Rattle.lower_model.proofs.Expressions.{put_done}
-use Rattle.lower_model.proofs.Simulation.{work_of, past, context, Done, ExprOk, CodesOk, RowAt}
+use Rattle.lower_model.proofs.Simulation.{works_of, extra_of, past, context, layout, meant, Ready, WellUsed, Done, CodesOk, RowAt}
 
 -- The outcome of an operator.
 
@@ -105,10 +105,10 @@ module _ (m n : Number) (nz : is_zero n.number ≡ false) where
       ap₂ (λ x y. if nat_eq (number_word n) 0 then Err DivideByZero else Ok (word (int_rem x y))) (to_z-of_z w64 m.number (fits m.number (small m))) (to_z-of_z w64 n.number (fits n.number (small n)))
       ∙ ap (λ t. if t then Err DivideByZero else Ok (word (int_rem m.number n.number))) no_zero
 
-module _ (p : Program) (deepest : Watch) (ks : List Kind) (F : List Frame) (b : Bases) (M n : ℕ) where
-  abbrev two_wanted : List Argument
-  two_wanted = argument.Of sort.Number ∷ (argument.Of sort.Number ∷ [])
+abbrev pub two_wanted : List Argument
+two_wanted = argument.Of sort.Number ∷ (argument.Of sort.Number ∷ [])
 
+module _ (p : Program) (deepest : Watch) (ks : List Kind) (F : List Frame) (b : Bases) (M n : ℕ) where
   -- two numbers stand in temporaries, and no handle
   record Pair (x y : Number) (t u w : ℕ) (l : Locals) (σ : State) : Type 0 where
     left : l.number t ≡ Bits (I64 (number_word x))
@@ -286,11 +286,11 @@ module _ (p : Program) (deepest : Watch) (ks : List Kind) (F : List Frame) (b : 
   pub difference_fits : (x y : Number) → FitsSigned w64 (x.number +ℤ neg_ℤ y.number)
   difference_fits x y = fits_signed_from_abs w64 (x.number +ℤ neg_ℤ y.number) (let s = triangle x.number y.number in let i = small x in let j = small y in omega (arith, s, i, j))
 
-  calculated_ok : (o : Arithmetic) (x y : Number) (t u w d : ℕ) (k : Instructions) (K : List Label) (l0 l : Locals) (σ : State) → suc (suc t) < b.temporaries → Same [] t w l0 l → Pair x y t u w l σ →
+  calculated_ok : (o : Arithmetic) (x y : Number) (t u w d : ℕ) (k : Instructions) (K : List Label) (l0 l : Locals) (σ : State) → t + calculated_room o ≤ b.temporaries → Same [] t w l0 l → Pair x y t u w l σ →
       Reached p deepest ks F b M 30 σ.turns (at ks [] K (laid b l) F (calculated b o t d k) (beside_state p deepest ks F σ)) (Put p deepest ks F b t u w a_number k K l0) (Away p deepest ks F b d K) (settled (outcome_of (arithmetic_of o x.number y.number)) σ)
   calculated_ok inline.Plus x y t u w d k K l0 l σ lt sm a = ranged_ok bin.Add x y (x.number +ℤ y.number) t u w d k K l0 l σ (sum_fits x y) (ap Ok (sum_word x.number y.number (fits x.number (small x)) (fits y.number (small y)) (sum_fits x y))) (omega (arith, lt)) sm a
   calculated_ok inline.Minus x y t u w d k K l0 l σ lt sm a = ranged_ok bin.Sub x y (x.number +ℤ neg_ℤ y.number) t u w d k K l0 l σ (difference_fits x y) (ap Ok (difference_word x.number y.number (fits x.number (small x)) (fits y.number (small y)) (difference_fits x y))) (omega (arith, lt)) sm a
-  calculated_ok inline.Times x y t u w d k K l0 l σ lt sm a = times_ok x y t u w d k K l0 l σ lt sm a
+  calculated_ok inline.Times x y t u w d k K l0 l σ lt sm a = times_ok x y t u w d k K l0 l σ (omega (arith, lt)) sm a
   calculated_ok inline.Over x y t u w d k K l0 l σ lt sm a =
       within (machine p deepest ks F) M 16 30 σ.turns _ (Put p deepest ks F b t u w a_number k K l0) (Away p deepest ks F b d K) (settled (outcome_of (arithmetic_of inline.Over x.number y.number)) σ) (omega arith)
       (divisor_ok y (if is_zero (int_rem x.number y.number) then Ok (int_div x.number y.number) else Err Inexact) (suc t) u w d 11 (suc t) _ K l σ (omega (arith, lt)) a.right a.fit (Put p deepest ks F b t u w a_number k K l0)
@@ -304,13 +304,17 @@ module _ (p : Program) (deepest : Watch) (ks : List Kind) (F : List Frame) (b : 
       (divisor_ok y (Ok (int_div x.number y.number)) (suc t) u w d 4 (suc t) _ K l σ (omega (arith, lt)) a.right a.fit (Put p deepest ks F b t u w a_number k K l0)
       (λ nz. whole_ok bin.DivS x y (int_div x.number y.number) t u w d k K l0 l σ (quotient_small x y nz) (quotient_word x y nz) (omega (arith, lt)) sm a))
 
-  pub inline_expr : (o : Arithmetic) (es : Codes) → CodesOk p deepest ks F b M n es → ExprOk p deepest ks F b M n (Do (Inline o) es)
-  unfolding emitted all_emitted evaluated all_evaluated sorted all_sorted
-  inline_expr o es ok v fs env ts st t u w d k K l σ so us rm ar rd =
+  -- the code of all cases
+  pub plainly_calculated : (o : Arithmetic) (es : Codes) → CodesOk p deepest ks F b M n es → (v : Bool) (fs : List Form) (env : Env fs) (ts : List ℕ) (st : ℕ → Standing) (t u w d : ℕ) (k : Instructions) (K : List Label) (l : Locals) (σ : State) →
+      sorted (context p deepest ks F b M n) fs (Do (Inline o) es) ≡ true → WellUsed p deepest ks F b M n fs (λ i. held_after i (Do (Inline o) es) (st i)) → t + room (Do (Inline o) es) ≤ b.temporaries → w + arrays_in (Do (Inline o) es) ≤ b.arrays → Ready p deepest ks F b M n fs env ts st t u w (loops_walked K) l σ →
+      Reached p deepest ks F b M (30 + (works_of es + extra_of es)) σ.turns (at ks [] K (laid b l) F (all_emitted (layout p deepest ks F b M n) fs ts es t w d (all_converted (layout p deepest ks F b M n) fs two_wanted es t d (calculated b o t d k))) (beside_state p deepest ks F σ))
+      (Done p deepest ks F b M n v (Do (Inline o) es) fs env ts st t u w k K l σ) (Away p deepest ks F b d K) (meant p deepest ks F b M n fs env (Do (Inline o) es) σ)
+  unfolding evaluated all_evaluated sorted all_sorted
+  plainly_calculated o es ok v fs env ts st t u w d k K l σ so us rm ar rd =
       let s2 = and_parts (fit_row fs two_wanted es) (all_sorted (context p deepest ks F b M n) fs es) so in
       let ee = extra_enough es in
       let P = Done p deepest ks F b M n v (Do (Inline o) es) fs env ts st t u w k K l σ in
-      row_then p deepest ks F b M n two_wanted es ok fs env ts st t u w d (calculated b o t d k) K l σ 30 (work_of (Do (Inline o) es)) P (λ r. settled (outcome_of (arithmetic_of o r.0.number r.1.0.number)))
+      row_then p deepest ks F b M n two_wanted es ok fs env ts st t u w d (calculated b o t d k) K l σ 30 (30 + (works_of es + extra_of es)) P (λ r. settled (outcome_of (arithmetic_of o r.0.number r.1.0.number)))
       s2.0 s2.1 us (omega (arith, rm)) ar rd (omega (arith, ee))
       (λ r τ c le a.
       first (machine p deepest ks F) M 0 30 30 τ.turns c _ P (Away p deepest ks F b d K) _ (record { it = a.comes }) (omega arith)

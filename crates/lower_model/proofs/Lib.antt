@@ -46,6 +46,7 @@ pub mod QuickParts
 pub mod Remainders
 pub mod Evaluating
 pub mod QuickSteps
+pub mod Adding
 pub mod QuickIfs
 pub mod Jumping
 pub mod Loops

@@ -21,7 +21,7 @@ use Rattle.mid_program.specs.declared.mid.Operation.TheVariants.{Inline}
 use Rattle.mid_program.specs.Mid.{Code, Do, Number, Get, Set, Seq, Bound, End, At}
 use Rattle.mid_program.specs.MidMeaning.{or_zero, arithmetic_of}
 use Rattle.sem_scripts.specs.ScriptState.{State}
-use Rattle.lower_model.specs.Quick.{Holder, OfName, OfParameter, holder_of, held, Source, Held, Constant, source_in, same_holder, is_among, and_name, and_source, Sum, sum_names, is_near, is_sum, sum_op, sum_of, stored_name, new_sum, Pair, pair_names, contrary}
+use Rattle.lower_model.specs.Quick.{Holder, OfName, OfParameter, holder_of, held, Source, Held, Constant, source_in, same_holder, is_among, and_name, and_source, Sum, sum_names, is_near, is_sum, sum_op, sum_of, stored_name, new_sum, contrary}
 use Rattle.lower_model.proofs.State.{bare, holder_slot, holder_value}
 use Rattle.lower_model.proofs.Products.{word, sum_word, difference_word, triangle}
 use Rattle.lower_model.proofs.Inlining.{checked_in, added_abs}
@@ -203,11 +203,11 @@ contrary_holds op.GreaterOrEqual Less = refl
 contrary_holds op.GreaterOrEqual Equal = refl
 contrary_holds op.GreaterOrEqual Greater = refl
 
-pub pair_few : (q : Pair) → all_steps (pair_names q) ≤ 6
-pair_few q =
-    let x = source_longer q.right [] in
-    let y = source_longer q.left (and_source q.right []) in
-    let z = all_few (pair_names q) in
+pub two_few : (a e : Source) → all_steps (and_source a (and_source e [])) ≤ 6
+two_few a e =
+    let x = source_longer e [] in
+    let y = source_longer a (and_source e []) in
+    let z = all_few (and_source a (and_source e [])) in
     omega (arith, x, y, z)
 
 pub one_few : (s : Source) → source_steps s ≤ 1
@@ -215,15 +215,18 @@ one_few (Held i) = omega arith
 one_few (Constant z) = omega arith
 
 -- sources, if they are such, and near
-pub near_sum : (i : Holder) (o : Arithmetic) (a e : Source) (s : Sum) → sum_of i o (Some a) (Some e) ≡ Some s → ((is_sum o ≡ true) × (is_near a ≡ true) × (is_near e ≡ true)) × (record { target = i; op = o; left = a; right = e } ≡ s)
-near_sum i o a e s eq = by (is_sum o && (is_near a && is_near e)) refl eq
+pub both_near : {A : Type 0} → (x s : A) (o : Arithmetic) (a e : Source) → (if is_sum o && (is_near a && is_near e) then Some x else None) ≡ Some s → ((is_sum o ≡ true) × (is_near a ≡ true) × (is_near e ≡ true)) × (x ≡ s)
+both_near x s o a e eq = by (is_sum o && (is_near a && is_near e)) refl eq
   where
-    by : (t : Bool) → is_sum o && (is_near a && is_near e) ≡ t → (if t then Some (record { target = i; op = o; left = a; right = e }) else None) ≡ Some s → ((is_sum o ≡ true) × (is_near a ≡ true) × (is_near e ≡ true)) × (record { target = i; op = o; left = a; right = e } ≡ s)
-    by false e1 e2 = cc
+    by : (t : Bool) → is_sum o && (is_near a && is_near e) ≡ t → (if t then Some x else None) ≡ Some s → ((is_sum o ≡ true) × (is_near a ≡ true) × (is_near e ≡ true)) × (x ≡ s)
+    by false e1 e2 = none_is e2
     by true e1 e2 =
         let h = and_parts (is_sum o) (is_near a && is_near e) e1 in
         let g = and_parts (is_near a) (is_near e) h.1 in
-        ((h.0, g.0, g.1), some_is _ s e2)
+        ((h.0, g.0, g.1), some_is x s e2)
+
+pub near_sum : (i : Holder) (o : Arithmetic) (a e : Source) (s : Sum) → sum_of i o (Some a) (Some e) ≡ Some s → ((is_sum o ≡ true) × (is_near a ≡ true) × (is_near e ≡ true)) × (record { target = i; op = o; left = a; right = e } ≡ s)
+near_sum i o a e s eq = both_near (record { target = i; op = o; left = a; right = e }) s o a e eq
 
 pub stored_is : (y : Code) (i : Holder) → stored_name y ≡ Some i → y ≡ Seq (Set (holder_slot i) (Bound true zero)) (Bound true (suc zero))
 stored_is (Seq (Set x (Bound true zero)) (Bound true (suc zero))) i e = ap (λ k. Seq (Set k (Bound true zero)) (Bound true (suc zero))) (holder_is x i e)

@@ -15,7 +15,7 @@ use Rattle.wasm_store.specs.Words.{flag}
 use Rattle.mid_program.specs.declared.mid.Arithmetic.{Arithmetic}
 use Rattle.mid_program.specs.declared.mid.Operation.TheVariants.{Inline}
 use Rattle.mid_program.specs.Mid.{Kind, Unboxed, Program, Global, Code, Do, Set, End, At, Eval, Form, form_of}
-use Rattle.mid_program.specs.MidMeaning.{evaluated, all_evaluated, stepped, then_row, store_slot, arithmetic_of}
+use Rattle.mid_program.specs.MidMeaning.{Env, evaluated, all_evaluated, stepped, then_row, store_slot, arithmetic_of}
 use Rattle.sem_scripts.specs.ScriptState.{State, Gives, Outcome, go_on, settled, give, ◌>>◌, global_value, local_value, with_global}
 use Rattle.mid_program.specs.Sorted.{is_slot, takes, sorted, all_sorted, has_kind, kinds_of, fits as fits_sort}
 use Rattle.sem_scripts.specs.Statements.{Flow, Normal}
@@ -35,7 +35,7 @@ use Rattle.lower_model.proofs.Answers.{machine, beside_state}
 use Rattle.lower_model.proofs.Setting.{fit_param}
 use Rattle.lower_model.proofs.Written.{fit_global, global_written}
 use Rattle.lower_model.proofs.Reading.{kind_below, kind_found}
-use Rattle.lower_model.proofs.Simulation.{context}
+use Rattle.lower_model.proofs.Simulation.{context, meant}
 use Rattle.lower_model.proofs.StatementForms.{plain_meant}
 use Rattle.lower_model.proofs.QuickNames.{num_of, shift_word, joined_word, all_flag, joined_steps, all_steps, source_code}
 
@@ -48,10 +48,13 @@ Two = AnyNumber × (AnyNumber × Unit {0})
 abbrev pub sum_stored : Holder → State → Result AnyNumber Fault → Outcome Flow
 sum_stored i σ r = go_on (go_on (settled r σ) (λ y. store_slot (holder_slot i) (value.Num y.number) >> give y)) (λ y. give Normal)
 
+abbrev pub two_calculated : Arithmetic → State → Result AnyNumber Fault → Result AnyNumber Fault → Outcome AnyNumber
+two_calculated o σ r1 r2 =
+    go_on {A = Two} {B = AnyNumber} (settled (then_row {A = AnyNumber} {B = Two} r1 (λ x. then_row {A = AnyNumber × Unit {0}} {B = Two} (then_row {A = AnyNumber} {B = AnyNumber × Unit {0}} r2 (λ z. Ok (z, tt))) (λ zs. Ok (x, zs)))) σ)
+    (λ given. settled (outcome_of (arithmetic_of o given.0.number given.1.0.number)))
+
 abbrev pub two_summed : Holder → Arithmetic → State → Result AnyNumber Fault → Result AnyNumber Fault → Outcome Flow
-two_summed i o σ r1 r2 =
-    go_on (go_on (go_on {A = Two} {B = AnyNumber} (settled (then_row {A = AnyNumber} {B = Two} r1 (λ x. then_row {A = AnyNumber × Unit {0}} {B = Two} (then_row {A = AnyNumber} {B = AnyNumber × Unit {0}} r2 (λ z. Ok (z, tt))) (λ zs. Ok (x, zs)))) σ)
-    (λ given. settled (outcome_of (arithmetic_of o given.0.number given.1.0.number)))) (λ y. store_slot (holder_slot i) (value.Num y.number) >> give y)) (λ y. give Normal)
+two_summed i o σ r1 r2 = go_on (go_on (two_calculated o σ r1 r2) (λ y. store_slot (holder_slot i) (value.Num y.number) >> give y)) (λ y. give Normal)
 
 -- `n = a + e`
 abbrev pub set_code : Holder → Arithmetic → Code → Code → Code
@@ -167,17 +170,21 @@ module _ (p : Program) (deepest : Watch) (ks : List Kind) (F : List Frame) (b : 
 
   -- Two operands.
 
+  pub calculated_means : (fs : List Form) (env : Env fs) (o : Arithmetic) (a e : Source) (σ : State) → meant p deepest ks F b M n fs env (Do (Inline o) (At (source_code a) (At (source_code e) End))) σ ≡ two_calculated o σ (num_of a σ) (num_of e σ)
+  unfolding evaluated all_evaluated
+  calculated_means fs env o (Held (OfName j)) (Held (OfName k)) σ = refl
+  calculated_means fs env o (Held (OfName j)) (Held (OfParameter k)) σ = refl
+  calculated_means fs env o (Held (OfName j)) (Constant z) σ = refl
+  calculated_means fs env o (Held (OfParameter j)) (Held (OfName k)) σ = refl
+  calculated_means fs env o (Held (OfParameter j)) (Held (OfParameter k)) σ = refl
+  calculated_means fs env o (Held (OfParameter j)) (Constant z) σ = refl
+  calculated_means fs env o (Constant y) (Held (OfName k)) σ = refl
+  calculated_means fs env o (Constant y) (Held (OfParameter k)) σ = refl
+  calculated_means fs env o (Constant y) (Constant z) σ = refl
+
   pub set_means : (i : Holder) (o : Arithmetic) (a e : Source) (σ : State) → plain_meant p deepest ks F b M n (Eval (set_code i o (source_code a) (source_code e))) σ ≡ two_summed i o σ (num_of a σ) (num_of e σ)
   unfolding evaluated all_evaluated stepped
-  set_means i o (Held (OfName j)) (Held (OfName k)) σ = refl
-  set_means i o (Held (OfName j)) (Held (OfParameter k)) σ = refl
-  set_means i o (Held (OfName j)) (Constant z) σ = refl
-  set_means i o (Held (OfParameter j)) (Held (OfName k)) σ = refl
-  set_means i o (Held (OfParameter j)) (Held (OfParameter k)) σ = refl
-  set_means i o (Held (OfParameter j)) (Constant z) σ = refl
-  set_means i o (Constant y) (Held (OfName k)) σ = refl
-  set_means i o (Constant y) (Held (OfParameter k)) σ = refl
-  set_means i o (Constant y) (Constant z) σ = refl
+  set_means i o a e σ = ap (λ (r : Outcome AnyNumber). go_on (go_on r (λ y. store_slot (holder_slot i) (value.Num y.number) >> give y)) (λ y. give Normal)) (calculated_means [] tt o a e σ)
 
   pub record Parts (i : Holder) (fs : List Form) (x : Code) (gs : List Form) (y : Code) : Type 0 where
     pub kind : HolderFits i

@@ -25,7 +25,7 @@ use Rattle.sem_primitives.proofs.Words.{small}
 use Rattle.wasm_types.specs.Syntax.{Instructions, Done as NoMore}
 use Rattle.wasm_types.specs.declared.types.ValType.TheVariants.{I32}
 use Rattle.wasm_types.specs.declared.types.ValType.TheVariants as wide
-use Rattle.wasm_types.specs.declared.instr.Simple.TheVariants.{GlobalGet, GlobalSet, I32Const, BrIf, Compare as Comparing, Test}
+use Rattle.wasm_types.specs.declared.instr.Simple.TheVariants.{GlobalGet, GlobalSet, I32Const, BrIf, Compare as Comparing, Binary, Test}
 use Rattle.wasm_types.specs.declared.instr.IRelOp.TheVariants.{LeS}
 use Rattle.wasm_types.specs.declared.instr.ITestOp.TheVariants.{Eqz}
 use Rattle.wasm_store.specs.declared.word.Word.TheVariants.{I64}
@@ -65,7 +65,7 @@ use Rattle.lower_model.proofs.StatementForms.{flows_on, plain_meant, Starts, sta
 use Rattle.lower_model.proofs.Tidy.{begun_step}
 use Rattle.lower_model.proofs.Branches.{TestDone, test_meant, test_ok, block_ends}
 use Rattle.lower_model.proofs.Quick.{Sure, sure, shown_by, holder_is, name_is, constant_is, shift_pos, shifted_less, shifted_most, less_holds, most_holds}
-use Rattle.lower_model.proofs.QuickNames.{num_of, word_of, val_of, source_steps, all_flag, all_steps, AllSure, StandsAmong, source_code, none_is, some_is, nought_number, all_sure, among_sure, name_among, source_among, source_still, source_beside, source_is, contrary_holds, pair_few, one_few, near_sum, stored_is, none_new, result_of, sum_few}
+use Rattle.lower_model.proofs.QuickNames.{num_of, word_of, val_of, source_steps, all_flag, all_steps, AllSure, StandsAmong, source_code, none_is, some_is, nought_number, all_sure, among_sure, name_among, source_among, source_still, source_beside, source_is, contrary_holds, two_few, one_few, near_sum, stored_is, none_new, result_of, sum_few}
 use Rattle.lower_model.proofs.Summing.{Summed, summed_in_turn, IsSource, anyway_ok}
 use Rattle.lower_model.proofs.QuickParts.{HolderFits, slot_fits, all_read, all_put, Taken, taken, stored_normal, stored_turns, Two, sum_stored, two_summed, set_code, AllUnboxed, name_got, all_unsure_ok, name_unboxed, summed_means, set_means, Parts, set_sorted}
 use Rattle.lower_model.proofs.Evaluating.{plainly_ok}
@@ -177,24 +177,24 @@ module _ (p : Program) (deepest : Watch) (ks : List Kind) (F : List Frame) (b : 
   SourceFits most (Standing i) = HolderFits p deepest ks F b M n i
   SourceFits most (Constant z) = nat_le (unsigned_abs z) most ≡ true
 
-  source_ok : (vs : List Cell) (K : List Label) (k : Instructions) → (m : ℕ) (s : Source) (u : ℕ) (l : Locals) (σ : State) → SourceFits m s → length ks ≡ b.parameters → Fit p deepest ks F 0 u 0 l σ →
+  source_ok : (vs : List Cell) (K : List Label) (k : Instructions) → (m : ℕ) (s : Source) (t u w : ℕ) (l : Locals) (σ : State) → SourceFits m s → length ks ≡ b.parameters → Fit p deepest ks F t u w l σ →
       Goes (machine p deepest ks F) (source_steps s) (at ks vs K (laid b l) F (source_pushed (layout p deepest ks F b M n) s k) (beside_state p deepest ks F σ)) (at ks (Bits (I64 (word_of s σ)) ∷ vs) K (laid b l) F k (beside_state p deepest ks F σ))
-  source_ok vs K k m (Standing i) u l σ h pk ft = name_got p deepest ks F b M n vs K k i 0 u 0 l σ h pk ft
-  source_ok vs K k m (Constant z) u l σ h pk ft = stays
+  source_ok vs K k m (Standing i) t u w l σ h pk ft = name_got p deepest ks F b M n vs K k i t u w l σ h pk ft
+  source_ok vs K k m (Constant z) t u w l σ h pk ft = stays
 
-  source_unboxed : (m : ℕ) (s : Source) (is : List Holder) → SourceFits m s → AllUnboxed p deepest ks F b M n is → AllUnboxed p deepest ks F b M n (and_source s is)
+  pub source_unboxed : (m : ℕ) (s : Source) (is : List Holder) → SourceFits m s → AllUnboxed p deepest ks F b M n is → AllUnboxed p deepest ks F b M n (and_source s is)
   source_unboxed m (Standing i) is hs h = name_unboxed p deepest ks F b M n i is hs h
   source_unboxed m (Constant z) is hs h = h
 
   -- a source as an operand
-  record Operand (s : Source) (σ : State) (most : ℕ) : Type 0 where
-    number : AnyNumber
-    num : num_of s σ ≡ Ok number
-    few : unsigned_abs number.number ≤ most
-    words : word_of s σ ≡ number_word number
-    side : numeric_side (val_of s σ) ≡ Some (Ok number.number)
+  pub record Operand (s : Source) (σ : State) (most : ℕ) : Type 0 where
+    pub number : AnyNumber
+    pub num : num_of s σ ≡ Ok number
+    pub few : unsigned_abs number.number ≤ most
+    pub words : word_of s σ ≡ number_word number
+    pub side : numeric_side (val_of s σ) ≡ Some (Ok number.number)
 
-  operand : (s : Source) (is : List Holder) (c w : ℕ) (σ : State) → w ≤ c + c → SourceFits c s → c ≤ 2 ^ 53 → StandsAmong s is → AllSure σ (pos c) w is → Operand s σ c
+  pub operand : (s : Source) (is : List Holder) (c w : ℕ) (σ : State) → w ≤ c + c → SourceFits c s → c ≤ 2 ^ 53 → StandsAmong s is → AllSure σ (pos c) w is → Operand s σ c
   operand (Standing i) is c w σ hw hf hc h a =
       let s = among_sure i is (pos c) w σ h a in
       record {
@@ -326,7 +326,7 @@ module _ (p : Program) (deepest : Watch) (ks : List Kind) (F : List Frame) (b : 
         let f2 = one_few q.right in
         subst (λ o. Reached p deepest ks F b M (work_of e + 17) σ.turns (at ks [] PK (laid b l) F (pair_left (layout p deepest ks F b M n) q (suc out) NoMore) PS) (Left out k K u l) (Away p deepest ks F b d K) o) (sym (t.means σ z c))
         (there (machine p deepest ks F) M (work_of e + 17) (source_steps q.left + (source_steps q.right + (1 + w.0))) _ _ z σ (Left out k K u l) (Away p deepest ks F b d K)
-        (then_goes (source_ok _ _ _ (2 ^ 53) q.left u l σ t.left s.parameters s.fit) (then_goes (source_ok _ _ _ (2 ^ 53) q.right u l σ t.right s.parameters s.fit)
+        (then_goes (source_ok _ _ _ (2 ^ 53) q.left 0 u 0 l σ t.left s.parameters s.fit) (then_goes (source_ok _ _ _ (2 ^ 53) q.right 0 u 0 l σ t.right s.parameters s.fit)
         (then_goes (goes_to (by_steps 1 refl) (ap (λ x. at ks (Bits (flag x) ∷ []) PK (laid b l) F (does (BrIf (suc out)) NoMore) PS) f)) w.2))) (omega (arith, w1, f1, f2))
         (record { next = l; comes = refl; starts = s; iterators = λ y. refl }))
 
@@ -388,7 +388,7 @@ module _ (p : Program) (deepest : Watch) (ks : List Kind) (F : List Frame) (b : 
         by (Some q) eq =
             let t = pair_is e q eq (and_parts (is_tested (form_of [] e)) (sorted (context p deepest ks F b M n) [] e) so).1 in
             let un = source_unboxed (2 ^ 53) q.left (and_source q.right []) t.left (source_unboxed (2 ^ 53) q.right [] t.right tt) in
-            let fw = pair_few q in
+            let fw = two_few q.left q.right in
             first (machine p deepest ks F) M (all_steps (pair_names q) + 1) (work_of e + 17) (work_of e + 24) σ.turns _ _ (Left out k K u l) (Away p deepest ks F b d K) (test_meant p deepest ks F b M n e σ)
             (then_goes (all_unsure_ok p deepest ks F b M n _ _ (pair_names q) (pos (2 ^ 53)) (2 ^ 54) 0 u 0 l σ un s.parameters s.fit) (chooses pair_slow (pair_left (layout p deepest ks F b M n) q (suc out) NoMore) (if all_flag σ (pos (2 ^ 53)) (2 ^ 54) (pair_names q) then 1 else 0))) (omega (arith, fw))
             (chosen q t (all_flag σ (pos (2 ^ 53)) (2 ^ 54) (pair_names q)) refl)
@@ -437,7 +437,7 @@ module _ (p : Program) (deepest : Watch) (ks : List Kind) (F : List Frame) (b : 
     pub room : 2 ≤ room e
     pub whole : (σ : State) → plain_meant p deepest ks F b M n (Eval e) σ ≡ two_summed s.target s.op σ (num_of s.left σ) (num_of s.right σ)
 
-  near_fits : (fs : List Form) (s : Source) → sorted (context p deepest ks F b M n) fs (source_code s) ≡ true → is_near s ≡ true → SourceFits (2 ^ 52) s
+  pub near_fits : (fs : List Form) (s : Source) → sorted (context p deepest ks F b M n) fs (source_code s) ≡ true → is_near s ≡ true → SourceFits (2 ^ 52) s
   unfolding sorted all_sorted
   near_fits fs (Standing i) so h = slot_fits p deepest ks F b M n i so
   near_fits fs (Constant z) so h = h
@@ -624,13 +624,17 @@ module _ (p : Program) (deepest : Watch) (ks : List Kind) (F : List Frame) (b : 
   sum_is e s eq so = none_is eq
 
   -- the machine adds
+  pub both_added : (K : List Label) (k : Instructions) (o : Arithmetic) (a e : Source) (y : AnyNumber) (t u w : ℕ) (l : Locals) (σ : State) → SourceFits (2 ^ 52) a → SourceFits (2 ^ 52) e → length ks ≡ b.parameters → Fit p deepest ks F t u w l σ → binary_at w64 (sum_op o) (word_of a σ) (word_of e σ) ≡ Ok (number_word y) →
+      Goes (machine p deepest ks F) (source_steps a + (source_steps e + 1)) (at ks [] K (laid b l) F (source_pushed (layout p deepest ks F b M n) a (source_pushed (layout p deepest ks F b M n) e (does (Binary wide.I64 (sum_op o)) k))) (beside_state p deepest ks F σ)) (at ks (Bits (I64 (number_word y)) ∷ []) K (laid b l) F k (beside_state p deepest ks F σ))
+  both_added K k o a e y t u w l σ f1 f2 pk ft q =
+      then_goes (source_ok _ _ _ (2 ^ 52) a t u w l σ f1 pk ft) (then_goes (source_ok _ _ _ (2 ^ 52) e t u w l σ f2 pk ft)
+      (by_steps 1 (ap (λ r. with_operands (push_result [] (Some (given_by I64 r))) ks K (laid b l) F k (beside_state p deepest ks F σ)) q)))
+
   summed_ok : (s : Sum) (y : AnyNumber) (K : List Label) (k : Instructions) (u : ℕ) (l : Locals) (σ : State) → SourceFits (2 ^ 52) s.left → SourceFits (2 ^ 52) s.right → length ks ≡ b.parameters → Fit p deepest ks F 0 u 0 l σ → (t : Taken p deepest ks F b M n s.target y u K k l σ) →
       binary_at w64 (sum_op s.op) (word_of s.left σ) (word_of s.right σ) ≡ Ok (number_word y) →
-      Goes (machine p deepest ks F) (source_steps s.left + (source_steps s.right + 2)) (at ks [] K (laid b l) F (summed (layout p deepest ks F b M n) s k) (beside_state p deepest ks F σ)) (at ks [] K (laid b t.next) F k (beside_state p deepest ks F (stored_in (holder_slot s.target) (value.Num y.number) σ)))
+      Goes (machine p deepest ks F) ((source_steps s.left + (source_steps s.right + 1)) + 1) (at ks [] K (laid b l) F (summed (layout p deepest ks F b M n) s k) (beside_state p deepest ks F σ)) (at ks [] K (laid b t.next) F k (beside_state p deepest ks F (stored_in (holder_slot s.target) (value.Num y.number) σ)))
   summed_ok s y K k u l σ f1 f2 pk ft t e =
-      then_goes (source_ok _ _ _ (2 ^ 52) s.left u l σ f1 pk ft) (then_goes (source_ok _ _ _ (2 ^ 52) s.right u l σ f2 pk ft)
-      (then_goes (by_steps 1 (ap (λ r. with_operands (push_result [] (Some (given_by I64 r))) ks K (laid b l) F (does (all_put p deepest ks F b M n s.target) k) (beside_state p deepest ks F σ)) e))
-      t.goes))
+      then_goes (both_added K (does (all_put p deepest ks F b M n s.target) k) s.op s.left s.right y 0 u 0 l σ f1 f2 pk ft e) t.goes
 
   pub sum_unboxed : (e : Code) (s : Sum) → SumIs e s → AllUnboxed p deepest ks F b M n (sum_names s)
   sum_unboxed e s t = name_unboxed p deepest ks F b M n s.target (and_source s.left (and_source s.right [])) t.kind (source_unboxed (2 ^ 52) s.left (and_source s.right []) t.left (source_unboxed (2 ^ 52) s.right [] t.right tt))
@@ -685,7 +689,7 @@ module _ (p : Program) (deepest : Watch) (ks : List Kind) (F : List Frame) (b : 
           let g = summed_ok q y K1 NoMore u l σ t.left t.right s.parameters s.fit to (ap₂ (binary_at w64 (sum_op q.op)) o1.words o2.words ∙ r.words) in
           subst (λ o. Reached p deepest ks F b M (work_of e + 10) σ.turns (at ks [] K1 (laid b l) F (fast q) S) (StepDone p deepest ks F b M n lo u bk ct k K l) (Away p deepest ks F b d K) o) (sym (t.means σ o1.number o2.number y o1.num o2.num r.outcome))
           (subst (λ c. Reached p deepest ks F b M (work_of e + 10) c (at ks [] K1 (laid b l) F (fast q) S) (StepDone p deepest ks F b M n lo u bk ct k K l) (Away p deepest ks F b d K) (Gives Normal σ1)) tk
-          (there (machine p deepest ks F) M (work_of e + 10) ((source_steps q.left + (source_steps q.right + 2)) + 1) _ _ Normal σ1 (StepDone p deepest ks F b M n lo u bk ct k K l) (Away p deepest ks F b d K) (then_goes g closes) (omega (arith, f1, f2))
+          (there (machine p deepest ks F) M (work_of e + 10) (((source_steps q.left + (source_steps q.right + 1)) + 1) + 1) _ _ Normal σ1 (StepDone p deepest ks F b M n lo u bk ct k K l) (Away p deepest ks F b d K) (then_goes g closes) (omega (arith, f1, f2))
           (record { next = to.next; comes = refl; starts = starts_after p deepest ks F b M n u K K l to.next σ σ1 s refl (let e = tk in omega (arith, e)) to.iterators to.fit; iterators = to.iterators; flows = flows_on lo })))
 
       -- in all cases
