@@ -1,6 +1,6 @@
--- Quick ways of statements. The number of an unboxed name, or of an unboxed parameter, stands in one word, and the two words that are no number's lie far from all numbers: so one
--- comparison without sign says that a name has a number, and that it is between two bounds. Where it is, a step on numbers is a few instructions;
--- elsewhere, the code of all cases.
+-- Quick ways of statements, and of sums in expressions. The number of an unboxed name, or of an unboxed parameter, stands in one word, and the two words that
+-- are no number's lie far from all numbers: so one comparison without sign says that a name has a number, and that it is between two bounds. Where it is, a
+-- step on numbers is a few instructions; elsewhere, the code of all cases.
 use Rattle.std.specs.Prelude.{ℕ, zero, suc, ◌/◌, ◌^◌, Bool, true, false, ◌&&◌, ◌||◌, nat_eq, nat_le, if◌then◌else◌, List, [], ◌∷◌, Option, Some, None, ℤ, pos, ◌+ℤ◌, unsigned_abs}
 use Rattle.awk_text.specs.Number.{largest}
 use Rattle.std.specs.Int.{w64, cast_unsigned}

@@ -239,7 +239,8 @@ module _ (layout : Layout) where
   answer_given Perhaps exit after = word_given exit after
   answer_given form exit after = constant_given least (suc exit) after
 
-  -- What is chosen is returned where it is chosen. The number of an unboxed parameter, or the mark that it has none, is the answer's word.: in a block that a quick test leaves, or in an `if`
+  -- What is chosen is returned where it is chosen: in a block that a quick test leaves, or in an `if`. The number of an unboxed parameter, or the mark that
+  -- it has none, is the answer's word.
   abbrev pub returned : Code → (exit : ℕ) → Instructions → Instructions
   returned (Choose sort.Value test so otherwise) exit after =
       if is_some (pair_in test)
