@@ -48,7 +48,7 @@ pub called_to_six : is_sorted (calling 6) ≡ true × value_run (calling 6) plai
 unfolding sorted all_sorted step_sorted steps_sorted emitted all_emitted step_emitted steps_emitted digits
 called_to_six = (refl, refl)
 
--- fib(4) makes 9 calls and fib(3) 5: 44 steps a call, and no import
-pub calling_rounds : (steps_of (calling 4) ≡ steps_of (calling 3) + 176) × (imports_of (calling 4) ≡ imports_of (calling 3))
+-- fib(4) makes 9 calls and fib(3) 5: 43 steps a call, and no import
+pub calling_rounds : (steps_of (calling 4) ≡ steps_of (calling 3) + 172) × (imports_of (calling 4) ≡ imports_of (calling 3))
 unfolding emitted all_emitted step_emitted steps_emitted digits
 calling_rounds = (refl, refl)
