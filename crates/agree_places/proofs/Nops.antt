@@ -82,7 +82,7 @@ choice {l = l} {a = a} {c = c} {k = k} a0 c0 r = record {
 pub rounds : {l : Limit} {a k : Instructions} {p m : List Instructions} → Nops l a p → Nops l k m → Nops l (again a k) (p ++ m)
 rounds {l = l} {a = a} {k = k} a0 r = record { are = ap₂ (λ x y. x ++ y) a0.are r.are; calls = λ z. and_from (calls_fit l a) (calls_fit l k) (a0.calls z) (r.calls z) }
 
-whichever : {l : Limit} {a c : Instructions} {m : List Instructions} (z : Bool) → Nops l a m → Nops l c m → Nops l (if z then a else c) m
+pub whichever : {l : Limit} {a c : Instructions} {m : List Instructions} (z : Bool) → Nops l a m → Nops l c m → Nops l (if z then a else c) m
 whichever true a c = a
 whichever false a c = c
 

@@ -148,32 +148,36 @@ module _ (m : ProgramForm) (P : Conf → Type 0) (bs : List Bool) (base : Conf) 
 
   -- Expressions.
 
-  mutual
-    unfolding emitted all_emitted
+  -- code whose number comes to a temporary
+  abbrev Comes : Code → (t d : ℕ) → List Word → Type 0
+  Comes e t d L = (K : List LabelForm) (k : Instructions) → ((M : List Word) → Below b t L M → Ready b (form_of [] e) t M → To K base.globals M k) →
+      To K base.globals L (emitted y false [] [] e t zero d k)
 
-    pub sum_flows : {K : List LabelForm} (e : Code) (t d : ℕ) (L : List Word) {k : Instructions} → IsSum (HasNoText y.ranges b base) e →
-        Below b zero base.frame.locals L →
-        ((M : List Word) → Below b t L M → Ready b (form_of [] e) t M → To K base.globals M k) → To K base.globals L (emitted y false [] [] e t zero d k)
-    sum_flows _ t d L (constant z) bl next = const64 (set (λ f. next _ (below_set b t (number_local b t) L _ (omega arith)) tt))
-    sum_flows _ t d L (name (Global true i) h) bl next = read_flows (Global true i) t L h bl next
-    sum_flows _ t d L (name (Parameter true i) h) bl next = read_flows (Parameter true i) t L h bl next
-    sum_flows _ t d L (name (Global false i) h) bl next = absurd h
-    sum_flows _ t d L (name (Parameter false i) h) bl next = absurd h
-    sum_flows _ t d L (joined o e f s p q) bl next =
-        added_or_flows (addition_of o (source_in e) (source_in f)) t (λ M h. next M h tt)
-        (two_flows o e f t (suc d) L s p q bl (λ M h. ended (next M h tt)))
-        (two_flows o e f t d L s p q bl (λ M h. next M h tt))
-    sum_flows _ t d L (itself e p) bl next =
-        sum_flows e t d L p bl (λ M1 b1 r1. to_number_flows (form_of [] e) t d M1 r1 (λ M2 o2. next M2 (below_then b t b1 (below_others b t o2)) tt))
+  -- two numbers come to theirs, and are added or multiplied there
+  two_flows : {K : List LabelForm} {k : Instructions} (o : Arithmetic) (e f : Code) (t d : ℕ) (L : List Word) → IsSumOperator o → Below b zero base.frame.locals L →
+      Comes e t d L → ((M : List Word) → Below b zero base.frame.locals M → Comes f (suc t) d M) → ((M : List Word) → Below b t L M → To K base.globals M k) →
+      To K base.globals L (emitted y false [] [] e t zero d (emitted y false [] [] f (suc t) zero d (to_number b (form_of [] e) t d (to_number b (form_of [] f) (suc t) d (calculated b o t d k)))))
+  two_flows o e f t d L s bl first second next =
+      first _ _ (λ M1 b1 r1. second M1 (below_then b zero bl (below_first b t b1)) _ _ (λ M2 b2 r2.
+      to_number_flows (form_of [] e) t d M2 (ready_same b (form_of [] e) t M1 M2 (b2.it (number_local b t) (omega arith)) r1) (λ M3 o3.
+      to_number_flows (form_of [] f) (suc t) d M3
+      (ready_same b (form_of [] f) (suc t) M2 M3 (o3.it (number_local b (suc t)) (λ z. omega (arith, z))) r2) (λ M4 o4.
+      calculated_flows o t d M4 s (λ M5 b5. next M5
+      (below_then b t b1 (below_then b t (below_less b t b2) (below_then b t (below_others b t o3)
+      (below_then b t (below_less b t (below_others b (suc t) o4)) b5)))))))))
 
-    two_flows : {K : List LabelForm} (o : Arithmetic) (e f : Code) (t d : ℕ) (L : List Word) {k : Instructions} → IsSumOperator o → IsSum (HasNoText y.ranges b base) e → IsSum (HasNoText y.ranges b base) f →
-        Below b zero base.frame.locals L → ((M : List Word) → Below b t L M → To K base.globals M k) →
-        To K base.globals L (emitted y false [] [] e t zero d (emitted y false [] [] f (suc t) zero d (to_number b (form_of [] e) t d (to_number b (form_of [] f) (suc t) d (calculated b o t d k)))))
-    two_flows o e f t d L s p q bl next =
-        sum_flows e t d L p bl (λ M1 b1 r1. sum_flows f (suc t) d M1 q (below_then b zero bl (below_first b t b1)) (λ M2 b2 r2.
-        to_number_flows (form_of [] e) t d M2 (ready_same b (form_of [] e) t M1 M2 (b2.it (number_local b t) (omega arith)) r1) (λ M3 o3.
-        to_number_flows (form_of [] f) (suc t) d M3
-        (ready_same b (form_of [] f) (suc t) M2 M3 (o3.it (number_local b (suc t)) (λ z. omega (arith, z))) r2) (λ M4 o4.
-        calculated_flows o t d M4 s (λ M5 b5. next M5
-        (below_then b t b1 (below_then b t (below_less b t b2) (below_then b t (below_others b t o3)
-        (below_then b t (below_less b t (below_others b (suc t) o4)) b5)))))))))
+  pub sum_flows : (e : Code) (t d : ℕ) (L : List Word) {K : List LabelForm} {k : Instructions} → IsSum (HasNoText y.ranges b base) e →
+      Below b zero base.frame.locals L →
+      ((M : List Word) → Below b t L M → Ready b (form_of [] e) t M → To K base.globals M k) → To K base.globals L (emitted y false [] [] e t zero d k)
+  unfolding emitted all_emitted
+  sum_flows _ t d L (constant z) bl next = const64 (set (λ f. next _ (below_set b t (number_local b t) L _ (omega arith)) tt))
+  sum_flows _ t d L (name (Global true i) h) bl next = read_flows (Global true i) t L h bl next
+  sum_flows _ t d L (name (Parameter true i) h) bl next = read_flows (Parameter true i) t L h bl next
+  sum_flows _ t d L (name (Global false i) h) bl next = absurd h
+  sum_flows _ t d L (name (Parameter false i) h) bl next = absurd h
+  sum_flows _ t d L (joined o e f s p q) bl next =
+      added_or_flows (addition_of o (source_in e) (source_in f)) t (λ M h. next M h tt)
+      (two_flows o e f t (suc d) L s bl (λ K k. sum_flows e t (suc d) L p bl) (λ M z K k. sum_flows f (suc t) (suc d) M q z) (λ M h. ended (next M h tt)))
+      (two_flows o e f t d L s bl (λ K k. sum_flows e t d L p bl) (λ M z K k. sum_flows f (suc t) d M q z) (λ M h. next M h tt))
+  sum_flows _ t d L (itself e p) bl next =
+      sum_flows e t d L p bl (λ M1 b1 r1. to_number_flows (form_of [] e) t d M1 r1 (λ M2 o2. next M2 (below_then b t b1 (below_others b t o2)) tt))
