@@ -9,9 +9,9 @@ use Rattle.sem_primitives.specs.declared.table.Primitive.TheVariants as row
 use Rattle.wasm_types.specs.Syntax.{Instructions, Done}
 use Rattle.wasm_types.specs.declared.instr.IBinOp.{IBinOp}
 use Rattle.wasm_types.specs.declared.instr.CvtOp.TheVariants.{I32WrapI64}
-use Rattle.wasm_types.specs.declared.instr.IRelOp.TheVariants.{GtU, Ne}
+use Rattle.wasm_types.specs.declared.instr.IRelOp.TheVariants.{Ne}
 use Rattle.wasm_types.specs.declared.instr.ITestOp.TheVariants.{Eqz}
-use Rattle.wasm_types.specs.declared.instr.Simple.TheVariants.{Br, BrIf, Compare, Convert, GlobalGet, GlobalSet, I32Const, I64Const, LocalGet, LocalSet, Nop, Test}
+use Rattle.wasm_types.specs.declared.instr.Simple.TheVariants.{Br, BrIf, Compare, Convert, GlobalGet, GlobalSet, I32Const, LocalGet, LocalSet, Nop, Test}
 use Rattle.wasm_types.specs.declared.types.ValType.TheVariants as ty
 use Rattle.sem_scripts.specs.Names.{ArrayName}
 use Rattle.mid_program.specs.Mid.{Kind, Boxed, Unboxed, Many, Parameter, Code, Get, Choose, Let, Form, Answered, Bare, Perhaps, Step, Eval, Block as Steps_, If as Either, Loop, Each, Break, Continue, Next, Exit, ExitWith, Return, Mark, Steps, NoStep, Then as AndThen, Program, a_value, form_of, parameters_at}
@@ -22,7 +22,7 @@ use Rattle.lower_model.specs.Machine.{zeros}
 use Rattle.wasm_types.specs.declared.types.ValType.{ValType}
 use Rattle.lower_model.specs.Places.{Bases, answer_local, array_local, handle_local, handle_types, iterator_local, local_types, number_global, number_local, status_global, temporary_types, text_global, way_global}
 use Rattle.lower_model.specs.Quick.{Within, test_within, Source, Holder, OfName, OfParameter, Held, Constant, Sum, sum_names, sum_op, sum_in, Update, update_in, Tally, tally_in, Remainder, remainder_in, remainder_names, multiplied, Counted, counted_in, Pair, pair_names, pair_in, step_jumps, is_nothing}
-use Rattle.lower_model.specs.Small.{ask_row, does, either, moved_out}
+use Rattle.lower_model.specs.Small.{ask_row, does, either}
 use Rattle.lower_model.specs.Statements.{again, answer_given, returned, routine_ended, left_by, pair_left, summed, way_exit, way_next, name_numbered, source_numbered, source_taken, sum_kept, sum_taken, summed_anyway, field_numbered, both_asked, element_numbered, element_given, remainder_taken, remainder_dropped, barely_dropped, plainly_dropped, quickly_dropped, left_unless_counted, left_unless_pair, left_unless, all_emptied, arrays_emptied, arrays_swept, block, first_part, goes_on, has_functions, iterator_left, iterators_emptied, iterators_swept, key_stored, last_part, left_swept, main_body, names_declared, names_made, parameters_dropped, part_done, record_done, records_read, routine_body, routines_declared, step_emitted, steps_emitted, swept, temporaries_emptied, temporaries_swept, name_put}
 use Rattle.lower_model.proofs.Tallies.{Shape, Updating, Following, Leading, tally_code, tally_is, tally_sorted}
 use Rattle.lower_model.proofs.Updating.{added_code, added_is}

@@ -8,7 +8,7 @@ use Rattle.sem_primitives.specs.declared.table.Primitive.TheVariants as row
 use Rattle.wasm_types.specs.Syntax.{Instruction, Plain, BrTable, Block, Loop as Again, If, Instructions, Done, Then}
 use Rattle.wasm_types.specs.declared.instr.IBinOp.{IBinOp}
 use Rattle.wasm_types.specs.declared.instr.Simple.{Simple}
-use Rattle.wasm_types.specs.declared.instr.Simple.TheVariants.{Br, BrIf, LocalSet, Nop}
+use Rattle.wasm_types.specs.declared.instr.Simple.TheVariants.{Br, BrIf, Nop}
 use Rattle.mid_program.specs.Mid.{Kind, Boxed, Unboxed, Many, Parameter, Code, Get, Step, Eval, Block as Steps_, If as Either, Loop, Each, Break, Continue, Next, Exit, ExitWith, Return, Mark, Steps, NoStep, Then as AndThen, Program, Routine, Choose, Form, Answered, Bare, Perhaps, a_value, form_of}
 use Rattle.sem_scripts.specs.Names.{ArrayName}
 use Rattle.lower_model.specs.Boundaries.{is_nop, nops_in, nops_of, step_places, steps_places}
@@ -17,7 +17,7 @@ use Rattle.lower_model.specs.Functions.{layout_of, main_bases, main_callee, rout
 use Rattle.lower_model.specs.Noted.{routine_rest}
 use Rattle.lower_model.specs.Places.{Bases}
 use Rattle.lower_model.specs.Quick.{Within, test_within, Source, Holder, OfName, OfParameter, Held, Constant, Sum, sum_names, sum_op, sum_in, Update, update_in, Tally, tally_in, Remainder, remainder_in, remainder_names, multiplied, Counted, counted_in, Pair, pair_names, pair_in, step_jumps, is_nothing}
-use Rattle.lower_model.specs.Small.{ask_row, does, either}
+use Rattle.lower_model.specs.Small.{does, either}
 use Rattle.lower_model.specs.Statements.{name_numbered, source_numbered, source_taken, sum_kept, sum_taken, summed_anyway, both_asked, element_numbered, element_given, remainder_taken, remainder_dropped, barely_dropped, plainly_dropped, quickly_dropped, left_unless_counted, left_unless_pair, left_unless, all_emptied, arrays_emptied, arrays_swept, before_parts, block, first_part, goes_on, has_functions, iterator_left, iterators_emptied, iterators_swept, key_stored, left_by, left_swept, main_body, names_declared, names_made, parameters_dropped, part_done, record_done, records_read, routine_body, routines_declared, started, step_emitted, steps_emitted, swept, temporaries_emptied, temporaries_swept, answer_given, returned, name_put, counted_left}
 use Rattle.lower_model.proofs.Tallies.{Shape, Updating, Following, Leading, tally_code, IsAdded, tally_is}
 use Rattle.lower_model.proofs.Updating.{added_is}

@@ -1,6 +1,6 @@
 -- The whole statement, with its place before it and the next statement after it. Where it has a quick way, this calls nothing either: whatever the words of its names are, they are joined and compared, and one of two ways is
 -- taken.
-use Rattle.std.proofs.Common.{◌≡◌, ℕ, zero, suc, Bool, true, false, List, [], ◌∷◌, Option, Some, None, ℤ, refl, sym, ap, ◌∙◌, subst}
+use Rattle.std.proofs.Common.{◌≡◌, ℕ, zero, suc, Bool, true, false, List, [], ◌∷◌, Option, Some, None, refl, sym, ap, ◌∙◌, subst}
 use Rattle.wasm_types.specs.Syntax.{Instructions}
 use Rattle.wasm_types.specs.declared.instr.IBinOp.{IBinOp}
 use Rattle.wasm_store.specs.declared.word.Word.{Word}
@@ -16,7 +16,7 @@ use Rattle.lower_model.proofs.State.{holder_slot}
 use Rattle.lower_model.specs.Statements.{name_numbered, quickly_dropped, remainder_dropped, source_numbered, source_taken, step_emitted, steps_emitted, sum_taken, summed, summed_anyway, name_put}
 use Rattle.lower_model.proofs.QuickNames.{near_sum, some_is}
 use Rattle.agree_quiet.specs.Sums.{HasNoText, IsSum, constant, itself, joined as sum_of_two, name}
-use Rattle.agree_quiet.proofs.Flowing.{Flows, arrived, at, binary, branch, compare, const32, const64, ended, get, get_global, nop, set, set_global, tee}
+use Rattle.agree_quiet.proofs.Flowing.{Flows, arrived, at, binary, branch, compare, const64, ended, get, get_global, nop, set, set_global, tee}
 use Rattle.agree_quiet.proofs.Parts.{Faults, equal_word, failing, no_mark_flows, number_is_flows}
 use Rattle.agree_quiet.proofs.Sources.{all_flows, source_flows}
 use Rattle.agree_quiet.proofs.Sums.{below_same, put_ready, set_flows, sum_flows}
