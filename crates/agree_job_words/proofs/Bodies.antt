@@ -9,25 +9,25 @@ use Rattle.sem_primitives.specs.declared.table.Primitive.TheVariants as row
 use Rattle.wasm_types.specs.Syntax.{Instructions, Done}
 use Rattle.wasm_types.specs.declared.instr.IBinOp.{IBinOp}
 use Rattle.wasm_types.specs.declared.instr.CvtOp.TheVariants.{I32WrapI64}
-use Rattle.wasm_types.specs.declared.instr.IRelOp.TheVariants.{GtU, Ne}
+use Rattle.wasm_types.specs.declared.instr.IRelOp.TheVariants.{Ne}
 use Rattle.wasm_types.specs.declared.instr.ITestOp.TheVariants.{Eqz}
-use Rattle.wasm_types.specs.declared.instr.Simple.TheVariants.{Br, BrIf, Compare, Convert, GlobalGet, GlobalSet, I32Const, I64Const, LocalGet, LocalSet, Nop, Test}
+use Rattle.wasm_types.specs.declared.instr.Simple.TheVariants.{Br, BrIf, Compare, Convert, GlobalGet, GlobalSet, I32Const, LocalGet, LocalSet, Nop, Test}
 use Rattle.wasm_types.specs.declared.types.ValType.TheVariants as ty
 use Rattle.sem_scripts.specs.Names.{ArrayName}
-use Rattle.mid_program.specs.Mid.{Kind, Boxed, Unboxed, Many, Code, Choose, Let, Form, Answered, Bare, Perhaps, Step, Eval, Block as Steps_, If as Either, Loop, Each, Break, Continue, Next, Exit, ExitWith, Return, Mark, Steps, NoStep, Then as AndThen, Program, a_value, form_of, parameters_at}
+use Rattle.mid_program.specs.Mid.{Kind, Boxed, Unboxed, Many, Parameter, Code, Get, Choose, Let, Form, Answered, Bare, Perhaps, Step, Eval, Block as Steps_, If as Either, Loop, Each, Break, Continue, Next, Exit, ExitWith, Return, Mark, Steps, NoStep, Then as AndThen, Program, a_value, form_of, parameters_at}
 use Rattle.mid_program.specs.Sorted.{Context, all_sorted, calls_of, context_of, fits, is_array_place, is_dropped, is_kept, is_tested, keeps_well, sorted, step_sorted, steps_sorted, stores_well, test_sorted}
 use Rattle.lower_model.specs.Cells.{cell_at}
-use Rattle.lower_model.specs.Emission.{Layout, asked, dropped, field_at, tested, name_read, source_pushed}
+use Rattle.lower_model.specs.Emission.{Layout, asked, dropped, field_at, tested}
 use Rattle.lower_model.specs.Machine.{zeros}
 use Rattle.wasm_types.specs.declared.types.ValType.{ValType}
 use Rattle.lower_model.specs.Places.{Bases, answer_local, array_local, handle_local, handle_types, iterator_local, local_types, number_global, number_local, status_global, temporary_types, text_global, way_global}
-use Rattle.lower_model.specs.Quick.{Within, test_within, Source, Holder, OfName, OfParameter, Held, Constant, joined, all_unsure, Sum, sum_names, sum_op, sum_in, Update, update_in, Tally, tally_in, Remainder, remainder_in, remainder_names, multiplied, Counted, counted_in, Pair, pair_names, pair_in, step_jumps, is_nothing}
-use Rattle.lower_model.specs.Small.{ask_row, does, either, moved_out}
+use Rattle.lower_model.specs.Quick.{Within, test_within, Source, Holder, OfName, OfParameter, Held, Constant, Sum, sum_names, sum_op, sum_in, Update, update_in, Tally, tally_in, Remainder, remainder_in, remainder_names, multiplied, Counted, counted_in, Pair, pair_names, pair_in, step_jumps, is_nothing}
+use Rattle.lower_model.specs.Small.{ask_row, does, either}
 use Rattle.lower_model.specs.Statements.{again, answer_given, returned, routine_ended, left_by, pair_left, summed, way_exit, way_next, name_numbered, source_numbered, source_taken, sum_kept, sum_taken, summed_anyway, field_numbered, both_asked, element_numbered, element_given, remainder_taken, remainder_dropped, barely_dropped, plainly_dropped, quickly_dropped, left_unless_counted, left_unless_pair, left_unless, all_emptied, arrays_emptied, arrays_swept, block, first_part, goes_on, has_functions, iterator_left, iterators_emptied, iterators_swept, key_stored, last_part, left_swept, main_body, names_declared, names_made, parameters_dropped, part_done, record_done, records_read, routine_body, routines_declared, step_emitted, steps_emitted, swept, temporaries_emptied, temporaries_swept, name_put}
 use Rattle.lower_model.proofs.Tallies.{Shape, Updating, Following, Leading, tally_code, tally_is, tally_sorted}
 use Rattle.lower_model.proofs.Updating.{added_code, added_is}
 use Rattle.agree_job_words.specs.Naming.{is_argv, names_argv, step_names, steps_name}
-use Rattle.agree_job_words.proofs.Emitting.{Always, S, tested_no_array, array_spares, dropped_spares, dropped_text, emitted_spares, named, none, none_kept, numbered, one_kept, or_none, pending_spares, start_asked, tested_spares, to_number_spares, to_value_spares}
+use Rattle.agree_job_words.proofs.Emitting.{Always, S, holder_spares, all_spares, source_spares, tested_no_array, array_spares, dropped_spares, dropped_text, emitted_spares, named, none, none_kept, numbered, one_kept, or_none, pending_spares, start_asked, tested_spares, to_number_spares, to_value_spares}
 use Rattle.agree_job_words.proofs.Tags.{Tags, is_name, is_other, is_set, popped}
 
 -- what is kept first is sorted
@@ -101,30 +101,10 @@ module _ (tells : Bool) (y : Layout) (sizes : ℕ → Option ℕ) (whole : Progr
 
   -- Quick ways.
 
-  -- a holder's number is read, and written
-  read_spares : (h : Holder) (e : Bool) (k : Instructions) (A : Tags) → At e k (true ∷ A) → At e (does (name_read y h) k) A
-  read_spares (OfName i) e k A r = (true, (λ q. numbered tells y sizes i), r)
-  read_spares (OfParameter i) e k A r = r
-
+  -- a holder's number is written
   put_spares : (h : Holder) (e : Bool) (k : Instructions) (A : Tags) → At e k A → At e (does (name_put y h) k) (true ∷ A)
   put_spares (OfName i) e k A r = (refl, r)
   put_spares (OfParameter i) e k A r = r
-
-  joined_spares : {e : Bool} {k : Instructions} → So e k → (is : List Holder) (q : ℤ) (A : Tags) → At e (joined (name_read y) is q k) (true ∷ A)
-  joined_spares r [] q A = r.so (true ∷ A)
-  joined_spares r (i ∷ is) q A = read_spares i _ _ (true ∷ A) (joined_spares r is q A)
-
-  module _ {e : Bool} {k : Instructions} (r : So e k) where
-    all_spares : (is : List Holder) (q : ℤ) (w : ℕ) → So e (all_unsure (name_read y) is q w k)
-    all_spares [] q w = record { so = λ A. r.so (false ∷ A) }
-    all_spares (i ∷ is) q w = record { so = λ A. read_spares i _ _ A (joined_spares compared is q A) }
-      where
-        compared : So e (does (I64Const w) (does (Compare ty.I64 GtU) k))
-        compared = record { so = λ A. r.so (false ∷ popped A) }
-
-  source_spares : (e : Bool) (k : Instructions) (x : Source) (A : Tags) → At e k (true ∷ A) → At e (source_pushed y x k) A
-  source_spares e k (Held i) A r = read_spares i e k A r
-  source_spares e k (Constant z) A r = r
 
   module _ {e : Bool} {k : Instructions} (r : So e k) where
     name_spares : (i : Holder) (t d : ℕ) → So e (name_numbered y i t d k)
@@ -171,13 +151,13 @@ module _ (tells : Bool) (y : Layout) (sizes : ℕ → Option ℕ) (whole : Progr
 
     remainder_spares : (o : Option Remainder) (s : Code) (d : ℕ) → sorted c [] s ≡ true → names_argv s ≡ false → So e (remainder_dropped y o s d k)
     remainder_spares None s d o q = dropped_spares tells y sizes c sized same r [] [] s zero zero d none_kept o q
-    remainder_spares (Some x) s d o q = all_spares both (remainder_names x) _ _
+    remainder_spares (Some x) s d o q = all_spares tells y sizes both (remainder_names x) _ _
       where
         slow : So false (dropped y [] [] s zero zero (suc d) Done)
         slow = dropped_spares tells y sizes c sized same done [] [] s zero zero (suc d) none_kept o q
 
         both : So e (either (dropped y [] [] s zero zero (suc d) Done) (remainder_taken y x Done) k)
-        both = record { so = λ A. (slow.so [], (read_spares x.multiple.name _ _ [] (multiplied_spares _ _ x.multiple.factor _ (put_spares x.target _ _ [] tt)), r.so [])) }
+        both = record { so = λ A. (slow.so [], (holder_spares tells y sizes x.multiple.name _ _ [] (multiplied_spares _ _ x.multiple.factor _ (put_spares x.target _ _ [] tt)), r.so [])) }
 
     barely_spares : (o : Option Tally) (s : Code) (d : ℕ) → tally_in s ≡ o → sorted c [] s ≡ true → names_argv s ≡ false → So e (barely_dropped y o s d k)
     barely_spares None s d h o q = remainder_spares (remainder_in s) s d o q
@@ -218,10 +198,10 @@ module _ (tells : Bool) (y : Layout) (sizes : ℕ → Option ℕ) (whole : Progr
   module _ {e : Bool} {k : Instructions} (r : So e k) where
     quick_spares : (o : Option Sum) (s : Code) (d : ℕ) → sorted c [] s ≡ true → names_argv s ≡ false → So e (quickly_dropped y o s d k)
     quick_spares None s d o q = plainly_spares r (update_in s) s d refl o q
-    quick_spares (Some x) s d o q = all_spares both (sum_names x) _ _
+    quick_spares (Some x) s d o q = all_spares tells y sizes both (sum_names x) _ _
       where
         both : So e (either (summed_anyway y x (suc d) Done) (summed y x Done) k)
-        both = record { so = λ A. ((anyway_spares done x (suc d)).so [], (source_spares _ _ x.left [] (source_spares _ _ x.right (true ∷ []) (put_spares x.target _ _ [] tt)), r.so [])) }
+        both = record { so = λ A. ((anyway_spares done x (suc d)).so [], (source_spares tells y sizes _ _ x.left [] (source_spares tells y sizes _ _ x.right (true ∷ []) (put_spares x.target _ _ [] tt)), r.so [])) }
 
     -- where it is not so this code goes on
     tested_out : (s : Code) (d out : ℕ) → sorted c [] s ≡ true → names_argv s ≡ false → So false (tested y [] [] s zero zero (suc d) (does (Test ty.I32 Eqz) (does (BrIf (suc out)) Done)))
@@ -229,18 +209,18 @@ module _ (tells : Bool) (y : Layout) (sizes : ℕ → Option ℕ) (whole : Progr
 
     counted_spares : (o : Option Counted) (s : Code) (d out : ℕ) → sorted c [] s ≡ true → names_argv s ≡ false → So e (left_unless_counted y o s d out k)
     counted_spares None s d out o q = tested_spares tells y sizes c sized same (out_if r out) [] [] s zero zero d none_kept o q
-    counted_spares (Some x) s d out o q = record { so = λ A. read_spares x.name _ _ A ((tested_out s d out o q).so [], (read_spares x.name _ _ [] (refl, (refl, tt)), r.so [])) }
+    counted_spares (Some x) s d out o q = record { so = λ A. holder_spares tells y sizes x.name _ _ A ((tested_out s d out o q).so [], (holder_spares tells y sizes x.name _ _ [] (refl, (refl, tt)), r.so [])) }
 
     pair_spares : (o : Option Pair) (s : Code) (d out : ℕ) → sorted c [] s ≡ true → names_argv s ≡ false → So e (left_unless_pair y o s d out k)
     pair_spares None s d out o q = counted_spares (counted_in s) s d out o q
-    pair_spares (Some x) s d out o q = all_spares both (pair_names x) _ _
+    pair_spares (Some x) s d out o q = all_spares tells y sizes both (pair_names x) _ _
       where
         both : So e (either (tested y [] [] s zero zero (suc d) (does (Test ty.I32 Eqz) (does (BrIf (suc out)) Done))) (pair_left y x (suc out) Done) k)
-        both = record { so = λ A. ((tested_out s d out o q).so [], (source_spares _ _ x.left [] (source_spares _ _ x.right (true ∷ []) tt), r.so [])) }
+        both = record { so = λ A. ((tested_out s d out o q).so [], (source_spares tells y sizes _ _ x.left [] (source_spares tells y sizes _ _ x.right (true ∷ []) tt), r.so [])) }
 
     left_spares : (o : Option Within) (s : Code) (d out : ℕ) → sorted c [] s ≡ true → names_argv s ≡ false → So e (left_unless y o s d out k)
     left_spares None s d out o q = pair_spares (pair_in s) s d out o q
-    left_spares (Some x) s d out o q = record { so = λ A. read_spares x.name _ _ A ((tested_out s d out o q).so [], (tt, r.so [])) }
+    left_spares (Some x) s d out o q = record { so = λ A. holder_spares tells y sizes x.name _ _ A ((tested_out s d out o q).so [], (tt, r.so [])) }
 
   chosen_code : {e : Bool} {a d : Instructions} (z : Bool) → So e a → So e d → So e (if z then a else d)
   chosen_code true p q = p
@@ -285,6 +265,7 @@ module _ (tells : Bool) (y : Layout) (sizes : ℕ → Option ℕ) (whole : Progr
       chosen_code (is_some (pair_in a))
       (block_spares (pair_spares (returned_spares done z (suc d) s4.0 p1.0) (pair_in a) a (suc d) zero s3.0 p.0) (returned_spares r w d s4.1 p1.1))
       (tested_spares tells y sizes c sized same (either_spares (returned_spares done z (suc d) s4.0 p1.0) (returned_spares done w (suc d) s4.1 p1.1) r) [] [] a zero zero d none_kept s3.0 p.0)
+  returned_spares r (Get (Parameter true i)) d s q = record { so = λ A. tt }
   returned_spares {k = k} r x d s q = emitted_spares tells y sizes c sized same (answer_spares k (form_of [] x) d) false [] [] x zero zero d none_kept s q
 
   -- Steps.

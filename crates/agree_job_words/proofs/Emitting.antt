@@ -17,7 +17,9 @@ use Rattle.sem_primitives.specs.declared.table.Primitive.{Primitive}
 use Rattle.sem_primitives.specs.declared.table.Primitive.TheVariants as row
 use Rattle.wasm_types.specs.Syntax.{Instructions, Done}
 use Rattle.wasm_types.specs.declared.instr.Simple.{Simple}
-use Rattle.wasm_types.specs.declared.instr.Simple.TheVariants.{Br, Call as CallOf, GlobalSet, LocalSet}
+use Rattle.wasm_types.specs.declared.instr.Simple.TheVariants.{Br, Call as CallOf, Compare as Comparing, GlobalSet, I64Const, LocalSet}
+use Rattle.wasm_types.specs.declared.instr.IRelOp.TheVariants.{GtU}
+use Rattle.wasm_types.specs.declared.types.ValType.TheVariants as ty
 use Rattle.mid_program.specs.declared.mid.Arithmetic.{Arithmetic}
 use Rattle.mid_program.specs.declared.mid.Arithmetic.TheVariants as inline
 use Rattle.mid_program.specs.declared.mid.Operation.{Operation}
@@ -27,10 +29,11 @@ use Rattle.sem_scripts.specs.Names.{ArrayName, Numbered, Given}
 use Rattle.mid_program.specs.Mid.{Kind, Boxed, Unboxed, Many, Slot, Global, Parameter, Code, Do, Over, Compare, Call, Ask, AskLine, FileLine, Replace, Number, Text, Unset, Get, Set, Array, IsOpen, Choose, Seq, Let, Bound, Codes, End, At, Fixed, Fresh, Form, Answered, Bare, Perhaps, a_value, arguments, form_at, form_of, parameters_at}
 use Rattle.mid_program.specs.Sorted.{Context, all_sorted, all_values, are_enough, are_missing, count_of, fit_call, fit_row, fits, is_chosen, is_constant, is_done_here, is_dropped, is_given, is_kept, is_number, is_operation, is_slot, is_tested, keeps_well, sorted, stores_well, takes}
 use Rattle.lower_model.specs.Arithmetic.{calculated, compared, field_checked, is_value, may_be_text, numbers_compared, texts_beside, values_compared, zeroed_if}
-use Rattle.lower_model.specs.Emission.{Layout, Immediate, FieldOf, TextOf, NumberOf, immediate_in, immediate_or, all_appended, all_boxed, all_converted, all_emitted, all_freed, all_given, all_given_pushed, all_pushed, array_meant, array_pushed, asked as asked_until, assigned, assigned_by_number, bound_read, dropped, emitted, field_in, field_or, function_number, handle_stored, keeping_closed, left_over, listed_asked, pending_assigned, performed, sequence_closed, slot_read, slot_set, tested, text_dropped, text_let_go, value_stored}
+use Rattle.lower_model.specs.Emission.{Layout, Immediate, FieldOf, TextOf, NumberOf, name_read, source_pushed, added, added_or, immediate_in, immediate_or, all_appended, all_boxed, all_converted, all_emitted, all_freed, all_given, all_given_pushed, all_pushed, array_meant, array_pushed, asked as asked_until, assigned, assigned_by_number, bound_read, dropped, emitted, field_in, field_or, function_number, handle_stored, keeping_closed, left_over, listed_asked, pending_assigned, performed, sequence_closed, slot_read, slot_set, tested, text_dropped, text_let_go, value_stored}
 use Rattle.host_imports.specs.Imports.{import_answer, import_at, import_count, import_number, imports}
 use Rattle.lower_model.specs.Machine.{width}
 use Rattle.lower_model.specs.Places.{Bases, array_name, handle_global, made_in, number_global, text_global}
+use Rattle.lower_model.specs.Quick.{Holder, OfName, OfParameter, Source, Held, Constant, joined, all_unsure, Addition, addition_names, addition_in}
 use Rattle.lower_model.specs.Small.{answer_kept, ask, ask_row, bound_from, boxed_perhaps, code_number, converted, does, either, kept, kept_code, kept_done, kept_number, kept_value, moved_from, released, to_number, to_value, truth, unused}
 use Rattle.host_imports.specs.declared.import.Import.{Import}
 use Rattle.host_imports.specs.declared.import.Import.TheVariants.{Of}
@@ -597,6 +600,36 @@ module _ (tells : Bool) (y : Layout) (sizes : ℕ → Option ℕ) where
       size : sizes (function_number f - import_count) ≡ Some (length ks)
       size = let q : function_number f - import_count ≡ f = omega arith in ap sizes q ∙ n
 
+  -- What is read without a handle, and sums of such.
+
+  -- a holder's number is read
+  pub holder_spares : (h : Holder) (e : Bool) (k : Instructions) (A : Tags) → S e k (true ∷ A) → S e (does (name_read y h) k) A
+  holder_spares (OfName i) e k A r = (true, (λ q. numbered i), r)
+  holder_spares (OfParameter i) e k A r = r
+
+  joined_spares : {e : Bool} {k : Instructions} → Always e k → (is : List Holder) (q : ℤ) (A : Tags) → S e (joined (name_read y) is q k) (true ∷ A)
+  joined_spares r [] q A = r.so (true ∷ A)
+  joined_spares r (i ∷ is) q A = holder_spares i _ _ (true ∷ A) (joined_spares r is q A)
+
+  module _ {e : Bool} {k : Instructions} (r : Always e k) where
+    pub all_spares : (is : List Holder) (q : ℤ) (w : ℕ) → Always e (all_unsure (name_read y) is q w k)
+    all_spares [] q w = record { so = λ A. r.so (false ∷ A) }
+    all_spares (i ∷ is) q w = record { so = λ A. holder_spares i _ _ A (joined_spares compared is q A) }
+      where
+        compared : Always e (does (I64Const w) (does (Comparing ty.I64 GtU) k))
+        compared = record { so = λ A. r.so (false ∷ popped A) }
+
+  pub source_spares : (e : Bool) (k : Instructions) (x : Source) (A : Tags) → S e k (true ∷ A) → S e (source_pushed y x k) A
+  source_spares e k (Held i) A r = holder_spares i e k A r
+  source_spares e k (Constant z) A r = r
+
+  added_spares_or : {e : Bool} {anyway k other : Instructions} → Always e k → (o : Option Addition) (t : ℕ) → Always false anyway → Always e other → Always e (added_or y o t anyway k other)
+  added_spares_or {e = e} {anyway = anyway} {k = k} r (Some x) t a q = all_spares both (addition_names x) _ _
+    where
+      both : Always e (either anyway (added y x t Done) k)
+      both = record { so = λ A. (a.so [], (source_spares _ _ x.left [] (source_spares _ _ x.right (true ∷ []) tt), r.so [])) }
+  added_spares_or r None t a q = q
+
   module _ (c : Context) (sized : (f : ℕ) → nat_lt f (length c.calls) ≡ true → sizes f ≡ Some (length (parameters_at y.calls f))) (same : c.calls ≡ y.calls) where
     mutual
       unfolding emitted all_emitted sorted all_sorted
@@ -605,7 +638,9 @@ module _ (tells : Bool) (y : Layout) (sizes : ℕ → Option ℕ) where
       emitted_spares r v fs ts (Do o es) t w d n s q =
           let s1 = and_parts (is_done_here o) (fit_row fs (arguments o) es && all_sorted c fs es) s in
           let s2 = and_parts (fit_row fs (arguments o) es) (all_sorted c fs es) s1.1 in
-          field_spares_or r (field_in o es) t (emits_spares (converts_spares (performed_spares r c o fs es t d n s1.0 s2.0 s2.1 q) fs (arguments o) es t d) fs ts es t w d n s2.1 q)
+          field_spares_or r (field_in o es) t (added_spares_or r (addition_in o es) t
+          (emits_spares (converts_spares (performed_spares none c o fs es t (suc d) n s1.0 s2.0 s2.1 q) fs (arguments o) es t (suc d)) fs ts es t w (suc d) n s2.1 q)
+          (emits_spares (converts_spares (performed_spares r c o fs es t d n s1.0 s2.0 s2.1 q) fs (arguments o) es t d) fs ts es t w d n s2.1 q))
       emitted_spares r v fs ts (Over x es) t w d n s q =
           let s2 = and_parts (all_values fs es) (all_sorted c fs es) (and_parts (are_enough x es) (all_values fs es && all_sorted c fs es) s).1 in
           emits_spares (boxes_spares (appends_spares (listed_spares r x (count_of es) t d) es t) fs es t) fs ts es t w d n s2.1 q

@@ -28,10 +28,11 @@ use Rattle.mid_program.specs.Mid.{Kind, Boxed, Unboxed, Many, Slot, Global, Para
 use Rattle.mid_program.specs.Sorted.{count_of}
 use Rattle.lower_model.specs.Arithmetic.{calculated, compared, field_checked, is_value, may_be_text, numbers_compared, texts_beside, values_compared, zeroed_if}
 use Rattle.lower_model.specs.Boundaries.{is_nop}
-use Rattle.lower_model.specs.Emission.{Layout, Immediate, FieldOf, TextOf, NumberOf, immediate_in, immediate_or, immediate_pushed, all_appended, all_boxed, all_converted, all_emitted, all_freed, all_given, all_given_pushed, all_pushed, array_meant, array_pushed, asked, assigned, assigned_by_number, bound_read, dropped, emitted, field_in, field_or, function_number, handle_stored, keeping_closed, left_over, listed_asked, one_given, one_pushed, pending_assigned, performed, sequence_closed, slot_read, slot_set, tested, text_kept, text_let_go, value_stored}
+use Rattle.lower_model.specs.Emission.{Layout, Immediate, FieldOf, TextOf, NumberOf, name_read, source_pushed, added_or, immediate_in, immediate_or, immediate_pushed, all_appended, all_boxed, all_converted, all_emitted, all_freed, all_given, all_given_pushed, all_pushed, array_meant, array_pushed, asked, assigned, assigned_by_number, bound_read, dropped, emitted, field_in, field_or, function_number, handle_stored, keeping_closed, left_over, listed_asked, one_given, one_pushed, pending_assigned, performed, sequence_closed, slot_read, slot_set, tested, text_kept, text_let_go, value_stored}
 use Rattle.host_imports.specs.Imports.{import_count, import_number, imports}
 use Rattle.lower_model.specs.Machine.{answers_to}
 use Rattle.lower_model.specs.Places.{Bases, made_in, handle_local, number_local}
+use Rattle.lower_model.specs.Quick.{Holder, OfName, OfParameter, Source, Held, Constant, joined, all_unsure, Addition, addition_names, addition_in}
 use Rattle.lower_model.specs.Small.{answer_kept, ask_row, bound_from, boxed_perhaps, code_number, converted, does, either, kept, kept_code, kept_done, kept_number, kept_value, moved_from, number_is, released, to_number, to_value, truth, unused, when}
 use Rattle.lower_model.specs.Statements.{again}
 use Rattle.host_imports.specs.declared.import.Import.{Import}
@@ -81,7 +82,7 @@ choice {l = l} {a = a} {c = c} {k = k} a0 c0 r = record {
 pub rounds : {l : Limit} {a k : Instructions} {p m : List Instructions} → Nops l a p → Nops l k m → Nops l (again a k) (p ++ m)
 rounds {l = l} {a = a} {k = k} a0 r = record { are = ap₂ (λ x y. x ++ y) a0.are r.are; calls = λ z. and_from (calls_fit l a) (calls_fit l k) (a0.calls z) (r.calls z) }
 
-whichever : {l : Limit} {a c : Instructions} {m : List Instructions} (z : Bool) → Nops l a m → Nops l c m → Nops l (if z then a else c) m
+pub whichever : {l : Limit} {a c : Instructions} {m : List Instructions} (z : Bool) → Nops l a m → Nops l c m → Nops l (if z then a else c) m
 whichever true a c = a
 whichever false a c = c
 
@@ -354,13 +355,39 @@ module _ (y : Layout) (asks : Bool) (most : ℕ) where
         (r.calls z);
   }
 
+  -- What is read without a handle, and sums of such.
+
+  -- a holder's number is read
+  pub holder_nops : {k : Instructions} {m : List Instructions} (h : Holder) → Nops l k m → Nops l (does (name_read y h) k) m
+  holder_nops (OfName i) r = plain _ refl r
+  holder_nops (OfParameter i) r = plain _ refl r
+
+  joined_nops : {k : Instructions} {m : List Instructions} (is : List Holder) (q : ℤ) → Nops l k m → Nops l (joined (name_read y) is q k) m
+  joined_nops [] q r = r
+  joined_nops (i ∷ is) q r = holder_nops i (plain _ refl (plain _ refl (plain _ refl (joined_nops is q r))))
+
+  pub all_nops : {k : Instructions} {m : List Instructions} (is : List Holder) (q : ℤ) (w : ℕ) → Nops l k m → Nops l (all_unsure (name_read y) is q w k) m
+  all_nops [] q w r = plain _ refl r
+  all_nops (i ∷ is) q w r = holder_nops i (plain _ refl (plain _ refl (joined_nops is q (plain _ refl (plain _ refl r)))))
+
+  pub source_nops : {k : Instructions} {m : List Instructions} (x : Source) → Nops l k m → Nops l (source_pushed y x k) m
+  source_nops (Held i) r = holder_nops i r
+  source_nops (Constant z) r = plain _ refl r
+
+  added_or_nops : {anyway k other : Instructions} {m : List Instructions} (o : Option Addition) (t : ℕ) → Nops l anyway [] → Nops l k m → Nops l other m → Nops l (added_or y o t anyway k other) m
+  added_or_nops (Some q) t a r x = all_nops (addition_names q) _ _ (choice a (source_nops q.left (source_nops q.right (plain _ refl (plain _ refl none)))) r)
+  added_or_nops None t a r x = x
+
   -- Code.
 
   mutual
     unfolding emitted all_emitted
 
     pub emitted_nops : {k : Instructions} {m : List Instructions} (v : Bool) (fs : List Form) (ts : List ℕ) (e : Code) (t w d : ℕ) → (asks ≡ true → Few most t e) → Nops l k m → Nops l (emitted y v fs ts e t w d k) m
-    emitted_nops v fs ts (Do o es) t w d lo r = field_or_nops (field_in o es) t r (emits_nops fs ts es t w d lo (converts_nops fs (arguments o) es t d (performed_nops o es t d r)))
+    emitted_nops v fs ts (Do o es) t w d lo r =
+        field_or_nops (field_in o es) t r (added_or_nops (addition_in o es) t
+        (emits_nops fs ts es t w (suc d) lo (converts_nops fs (arguments o) es t (suc d) (performed_nops o es t (suc d) none))) r
+        (emits_nops fs ts es t w d lo (converts_nops fs (arguments o) es t d (performed_nops o es t d r))))
     emitted_nops v fs ts (Over x es) t w d lo r = emits_nops fs ts es t w d lo (boxes_nops fs es t (appends_nops es t (listed_nops x (count_of es) t d r)))
     emitted_nops v fs ts (Compare c e f) t w d lo r =
         emitted_nops false fs ts e t w d (λ z. (lo z).0) (immediate_nops c (form_of fs e) (immediate_in (is_value (form_of fs e)) f) t d r

@@ -8,21 +8,21 @@ use Rattle.sem_primitives.specs.declared.table.Primitive.TheVariants as row
 use Rattle.wasm_types.specs.Syntax.{Instruction, Plain, BrTable, Block, Loop as Again, If, Instructions, Done, Then}
 use Rattle.wasm_types.specs.declared.instr.IBinOp.{IBinOp}
 use Rattle.wasm_types.specs.declared.instr.Simple.{Simple}
-use Rattle.wasm_types.specs.declared.instr.Simple.TheVariants.{Br, BrIf, LocalSet, Nop}
-use Rattle.mid_program.specs.Mid.{Kind, Boxed, Unboxed, Many, Code, Step, Eval, Block as Steps_, If as Either, Loop, Each, Break, Continue, Next, Exit, ExitWith, Return, Mark, Steps, NoStep, Then as AndThen, Program, Routine, Choose, Form, Answered, Bare, Perhaps, a_value, form_of}
+use Rattle.wasm_types.specs.declared.instr.Simple.TheVariants.{Br, BrIf, Nop}
+use Rattle.mid_program.specs.Mid.{Kind, Boxed, Unboxed, Many, Parameter, Code, Get, Step, Eval, Block as Steps_, If as Either, Loop, Each, Break, Continue, Next, Exit, ExitWith, Return, Mark, Steps, NoStep, Then as AndThen, Program, Routine, Choose, Form, Answered, Bare, Perhaps, a_value, form_of}
 use Rattle.sem_scripts.specs.Names.{ArrayName}
 use Rattle.lower_model.specs.Boundaries.{is_nop, nops_in, nops_of, step_places, steps_places}
-use Rattle.lower_model.specs.Emission.{Layout, field_at, tested, name_read, source_pushed}
+use Rattle.lower_model.specs.Emission.{Layout, field_at, tested}
 use Rattle.lower_model.specs.Functions.{layout_of, main_bases, main_callee, routine_bases, routine_callee}
 use Rattle.lower_model.specs.Noted.{routine_rest}
 use Rattle.lower_model.specs.Places.{Bases}
-use Rattle.lower_model.specs.Quick.{Within, test_within, Source, Holder, OfName, OfParameter, Held, Constant, joined, all_unsure, Sum, sum_names, sum_op, sum_in, Update, update_in, Tally, tally_in, Remainder, remainder_in, remainder_names, multiplied, Counted, counted_in, Pair, pair_names, pair_in, step_jumps, is_nothing}
-use Rattle.lower_model.specs.Small.{ask_row, does, either}
+use Rattle.lower_model.specs.Quick.{Within, test_within, Source, Holder, OfName, OfParameter, Held, Constant, Sum, sum_names, sum_op, sum_in, Update, update_in, Tally, tally_in, Remainder, remainder_in, remainder_names, multiplied, Counted, counted_in, Pair, pair_names, pair_in, step_jumps, is_nothing}
+use Rattle.lower_model.specs.Small.{does, either}
 use Rattle.lower_model.specs.Statements.{name_numbered, source_numbered, source_taken, sum_kept, sum_taken, summed_anyway, both_asked, element_numbered, element_given, remainder_taken, remainder_dropped, barely_dropped, plainly_dropped, quickly_dropped, left_unless_counted, left_unless_pair, left_unless, all_emptied, arrays_emptied, arrays_swept, before_parts, block, first_part, goes_on, has_functions, iterator_left, iterators_emptied, iterators_swept, key_stored, left_by, left_swept, main_body, names_declared, names_made, parameters_dropped, part_done, record_done, records_read, routine_body, routines_declared, started, step_emitted, steps_emitted, swept, temporaries_emptied, temporaries_swept, answer_given, returned, name_put, counted_left}
 use Rattle.lower_model.proofs.Tallies.{Shape, Updating, Following, Leading, tally_code, IsAdded, tally_is}
 use Rattle.lower_model.proofs.Updating.{added_is}
 use Rattle.agree_places.specs.Statements.{main_places, main_starts, routine_starts, starts_in, starts_of, step_starts, steps_starts}
-use Rattle.agree_places.proofs.Nops.{Nops, array_nops, asked_nops, choice, dropped_nops, emitted_nops, kept_code_nops, kept_number_nops, none, pending_nops, plain, rounds, tested_nops, to_number_nops, to_value_nops, whichever}
+use Rattle.agree_places.proofs.Nops.{Nops, holder_nops, all_nops, source_nops, array_nops, asked_nops, choice, dropped_nops, emitted_nops, kept_code_nops, kept_number_nops, none, pending_nops, plain, rounds, tested_nops, to_number_nops, to_value_nops, whichever}
 use Rattle.agree_places.proofs.Pending.{Few, Limit, PartsFew, StepFew, StepsFew, calls_fit, limit_of}
 
 begun : {l : Limit} {k : Instructions} {m : List Instructions} → Nops l k m → Nops l (does Nop k) (does Nop k ∷ m)
@@ -88,26 +88,10 @@ module _ (y : Layout) (asks : Bool) (most : ℕ) where
 
   -- Quick ways.
 
-  -- a holder's number is read, and written
-  read_nops : {k : Instructions} {m : List Instructions} (h : Holder) → Nops l k m → Nops l (does (name_read y h) k) m
-  read_nops (OfName i) r = plain _ refl r
-  read_nops (OfParameter i) r = plain _ refl r
-
+  -- a holder's number is written
   put_nops : {k : Instructions} {m : List Instructions} (h : Holder) → Nops l k m → Nops l (does (name_put y h) k) m
   put_nops (OfName i) r = plain _ refl r
   put_nops (OfParameter i) r = plain _ refl r
-
-  joined_nops : {k : Instructions} {m : List Instructions} (is : List Holder) (q : ℤ) → Nops l k m → Nops l (joined (name_read y) is q k) m
-  joined_nops [] q r = r
-  joined_nops (i ∷ is) q r = read_nops i (plain _ refl (plain _ refl (plain _ refl (joined_nops is q r))))
-
-  all_nops : {k : Instructions} {m : List Instructions} (is : List Holder) (q : ℤ) (w : ℕ) → Nops l k m → Nops l (all_unsure (name_read y) is q w k) m
-  all_nops [] q w r = plain _ refl r
-  all_nops (i ∷ is) q w r = read_nops i (plain _ refl (plain _ refl (joined_nops is q (plain _ refl (plain _ refl r)))))
-
-  source_nops : {k : Instructions} {m : List Instructions} (x : Source) → Nops l k m → Nops l (source_pushed y x k) m
-  source_nops (Held i) r = read_nops i r
-  source_nops (Constant z) r = plain _ refl r
 
   -- sums in all cases
 
@@ -148,11 +132,11 @@ module _ (y : Layout) (asks : Bool) (most : ℕ) where
   multiplied_nops (Some c) r = plain _ refl (plain _ refl r)
 
   taken_remainder_nops : {k : Instructions} {m : List Instructions} (q : Remainder) → Nops l k m → Nops l (remainder_taken y q k) m
-  taken_remainder_nops q r = read_nops q.multiple.name (multiplied_nops q.multiple.factor (plain _ refl (plain _ refl (put_nops q.target r))))
+  taken_remainder_nops q r = holder_nops y asks most q.multiple.name (multiplied_nops q.multiple.factor (plain _ refl (plain _ refl (put_nops q.target r))))
 
   remainder_nops : {k : Instructions} {m : List Instructions} (o : Option Remainder) (e : Code) (d : ℕ) → (asks ≡ true → Few most zero e) → Nops l k m → Nops l (remainder_dropped y o e d k) m
   remainder_nops None e d lo r = dropped_nops y asks most [] [] e zero zero d lo r
-  remainder_nops (Some q) e d lo r = all_nops (remainder_names q) _ _ (choice (dropped_nops y asks most [] [] e zero zero (suc d) lo none) (taken_remainder_nops q none) r)
+  remainder_nops (Some q) e d lo r = all_nops y asks most (remainder_names q) _ _ (choice (dropped_nops y asks most [] [] e zero zero (suc d) lo none) (taken_remainder_nops q none) r)
 
   module _ {k : Instructions} {m : List Instructions} where
     barely_nops : (o : Option Tally) (e : Code) (d : ℕ) → tally_in e ≡ o → (asks ≡ true → Few most zero e) → Nops l k m → Nops l (barely_dropped y o e d k) m
@@ -177,12 +161,12 @@ module _ (y : Layout) (asks : Bool) (most : ℕ) where
     quick_nops : (o : Option Sum) (e : Code) (d : ℕ) → (asks ≡ true → Few most zero e) → Nops l k m → Nops l (quickly_dropped y o e d k) m
     quick_nops None e d lo r = plainly_nops (update_in e) e d refl lo r
     quick_nops (Some x) e d lo r =
-        all_nops (sum_names x) _ _ (choice (anyway_nops x (suc d) none) (source_nops x.left (source_nops x.right (plain _ refl (put_nops x.target none)))) r)
+        all_nops y asks most (sum_names x) _ _ (choice (anyway_nops x (suc d) none) (source_nops y asks most x.left (source_nops y asks most x.right (plain _ refl (put_nops x.target none)))) r)
 
     counted_nops : (o : Option Counted) (e : Code) (d out : ℕ) → (asks ≡ true → Few most zero e) → Nops l k m → Nops l (left_unless_counted y o e d out k) m
     counted_nops None e d out lo r = tested_nops y asks most [] [] e zero zero d lo (plain _ refl (plain _ refl r))
     counted_nops (Some q) e d out lo r =
-        read_nops q.name (plain _ refl (plain _ refl (choice (tested_nops y asks most [] [] e zero zero (suc d) lo (plain _ refl (plain _ refl none))) (by q.name) r)))
+        holder_nops y asks most q.name (plain _ refl (plain _ refl (choice (tested_nops y asks most [] [] e zero zero (suc d) lo (plain _ refl (plain _ refl none))) (by q.name) r)))
       where
         by : (h : Holder) → Nops l (counted_left y (record { op = q.op; name = h }) (suc out) Done) []
         by (OfName i) = record { are = refl; calls = λ z. refl }
@@ -191,11 +175,11 @@ module _ (y : Layout) (asks : Bool) (most : ℕ) where
     pair_nops : (o : Option Pair) (e : Code) (d out : ℕ) → (asks ≡ true → Few most zero e) → Nops l k m → Nops l (left_unless_pair y o e d out k) m
     pair_nops None e d out lo r = counted_nops (counted_in e) e d out lo r
     pair_nops (Some q) e d out lo r =
-        all_nops (pair_names q) _ _ (choice (tested_nops y asks most [] [] e zero zero (suc d) lo (plain _ refl (plain _ refl none))) (source_nops q.left (source_nops q.right (plain _ refl (plain _ refl none)))) r)
+        all_nops y asks most (pair_names q) _ _ (choice (tested_nops y asks most [] [] e zero zero (suc d) lo (plain _ refl (plain _ refl none))) (source_nops y asks most q.left (source_nops y asks most q.right (plain _ refl (plain _ refl none)))) r)
 
     left_nops : (o : Option Within) (e : Code) (d out : ℕ) → (asks ≡ true → Few most zero e) → Nops l k m → Nops l (left_unless y o e d out k) m
     left_nops None e d out lo r = pair_nops (pair_in e) e d out lo r
-    left_nops (Some q) e d out lo r = read_nops q.name (plain _ refl (plain _ refl (plain _ refl (plain _ refl (choice (tested_nops y asks most [] [] e zero zero (suc d) lo (plain _ refl (plain _ refl none))) none r)))))
+    left_nops (Some q) e d out lo r = holder_nops y asks most q.name (plain _ refl (plain _ refl (plain _ refl (plain _ refl (choice (tested_nops y asks most [] [] e zero zero (suc d) lo (plain _ refl (plain _ refl none))) none r)))))
 
   -- `return`
 
@@ -212,6 +196,7 @@ module _ (y : Layout) (asks : Bool) (most : ℕ) where
       whichever (is_some (pair_in e))
       (within (pair_nops (pair_in e) e (suc d) zero (λ z. (lo z).0) (returned_nops a (suc d) (λ z. (lo z).1.0) none)) (returned_nops c d (λ z. (lo z).1.1) r))
       (tested_nops y asks most [] [] e zero zero d (λ z. (lo z).0) (choice (returned_nops a (suc d) (λ z. (lo z).1.0) none) (returned_nops c (suc d) (λ z. (lo z).1.1) none) r))
+  returned_nops (Get (Parameter true i)) d lo r = plain _ refl (plain _ refl (plain _ refl r))
   returned_nops e d lo r = emitted_nops y asks most false [] [] e zero zero d lo (answer_nops (form_of [] e) d r)
 
   mutual

@@ -1,5 +1,6 @@
 pub mod Flowing
 pub mod Parts
+pub mod Sources
 pub mod Sums
 pub mod Statements
 pub mod Written

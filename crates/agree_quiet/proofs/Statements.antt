@@ -1,6 +1,6 @@
 -- The whole statement, with its place before it and the next statement after it. Where it has a quick way, this calls nothing either: whatever the words of its names are, they are joined and compared, and one of two ways is
 -- taken.
-use Rattle.std.proofs.Common.{◌≡◌, ℕ, zero, suc, Bool, true, false, List, [], ◌∷◌, Option, Some, None, ℤ, refl, sym, ap, ◌∙◌, subst}
+use Rattle.std.proofs.Common.{◌≡◌, ℕ, zero, suc, Bool, true, false, List, [], ◌∷◌, Option, Some, None, refl, sym, ap, ◌∙◌, subst}
 use Rattle.wasm_types.specs.Syntax.{Instructions}
 use Rattle.wasm_types.specs.declared.instr.IBinOp.{IBinOp}
 use Rattle.wasm_store.specs.declared.word.Word.{Word}
@@ -8,46 +8,29 @@ use Rattle.wasm_model.specs.Frames.{LabelForm}
 use Rattle.wasm_model.specs.Machines.{Conf, ProgramForm}
 use Rattle.mid_program.specs.declared.mid.Arithmetic.TheVariants as inline
 use Rattle.mid_program.specs.Mid.{Code, Eval, Global, Parameter, Set, Slot, Step, Steps, Then, form_of}
-use Rattle.lower_model.specs.Emission.{Layout, dropped, emitted, all_emitted, name_read, source_pushed}
+use Rattle.lower_model.specs.Emission.{Layout, dropped, emitted, all_emitted}
 use Rattle.lower_model.specs.Places.{number_local}
-use Rattle.lower_model.specs.Quick.{Constant, Holder, OfName, OfParameter, Held, Remainder, Source, Sum, all_unsure, joined, remainder_in, set_sum, source_in, sum_in, sum_names, sum_of, sum_op}
+use Rattle.lower_model.specs.Quick.{Constant, Holder, OfName, OfParameter, Held, Remainder, Source, Sum, remainder_in, set_sum, source_in, sum_in, sum_names, sum_of, sum_op}
 use Rattle.lower_model.specs.Small.{text_beside, does}
 use Rattle.lower_model.proofs.State.{holder_slot}
 use Rattle.lower_model.specs.Statements.{name_numbered, quickly_dropped, remainder_dropped, source_numbered, source_taken, step_emitted, steps_emitted, sum_taken, summed, summed_anyway, name_put}
 use Rattle.lower_model.proofs.QuickNames.{near_sum, some_is}
 use Rattle.agree_quiet.specs.Sums.{HasNoText, IsSum, constant, itself, joined as sum_of_two, name}
-use Rattle.agree_quiet.proofs.Flowing.{Flows, arrived, at, binary, branch, compare, const32, const64, ended, get, get_global, nop, set, set_global, tee}
+use Rattle.agree_quiet.proofs.Flowing.{Flows, arrived, at, binary, branch, compare, const64, ended, get, get_global, nop, set, set_global, tee}
 use Rattle.agree_quiet.proofs.Parts.{Faults, equal_word, failing, no_mark_flows, number_is_flows}
+use Rattle.agree_quiet.proofs.Sources.{all_flows, source_flows}
 use Rattle.agree_quiet.proofs.Sums.{below_same, put_ready, set_flows, sum_flows}
 
 module _ (m : ProgramForm) (P : Conf → Type 0) (bs : List Bool) (base : Conf) (fault : Faults m P bs base) (y : Layout) where
   -- Quick ways.
 
-  -- a holder's number is read, and written
-  read_flows : {K : List LabelForm} {gs L vs : List Word} {k : Instructions} (x : Holder) → ((v : Word) → Flows m P bs base K gs L (v ∷ vs) k) → Flows m P bs base K gs L vs (does (name_read y x) k)
-  read_flows (OfName i) h = get_global (λ v e. h v)
-  read_flows (OfParameter i) h = get (λ v e. h v)
-
+  -- a holder's number is written
   put_flows : {K : List LabelForm} {gs L : List Word} {v : Word} {k : Instructions} (x : Holder) → ((hs M : List Word) → Flows m P bs base K hs M [] k) → Flows m P bs base K gs L (v ∷ []) (does (name_put y x) k)
   put_flows (OfName i) h = set_global (h _ _)
   put_flows (OfParameter i) h = set (λ f. h _ _)
 
-  joined_flows : {K : List LabelForm} {gs L : List Word} {k : Instructions} (is : List Holder) (q : ℤ) (w : Word) → ((v : Word) → Flows m P bs base K gs L (v ∷ []) k) →
-      Flows m P bs base K gs L (w ∷ []) (joined (name_read y) is q k)
-  joined_flows [] q w h = h w
-  joined_flows (i ∷ is) q w h = read_flows i (λ v. const64 (binary (λ u. binary (λ x. joined_flows is q x h))))
-
-  all_flows : {K : List LabelForm} {gs L : List Word} {k : Instructions} (is : List Holder) (q : ℤ) (n : ℕ) → ((v : Word) → Flows m P bs base K gs L (v ∷ []) k) →
-      Flows m P bs base K gs L [] (all_unsure (name_read y) is q n k)
-  all_flows [] q n h = const32 (h _)
-  all_flows (i ∷ is) q n h = read_flows i (λ v. const64 (binary (λ u. joined_flows is q u (λ x. const64 (compare (λ z r. h z))))))
-
-  source_flows : {K : List LabelForm} {gs L vs : List Word} {k : Instructions} (x : Source) → ((v : Word) → Flows m P bs base K gs L (v ∷ vs) k) → Flows m P bs base K gs L vs (source_pushed y x k)
-  source_flows (Held i) h = read_flows i h
-  source_flows (Constant z) h = const64 (h _)
-
   summed_flows : {K : List LabelForm} {gs L : List Word} {k : Instructions} (s : Sum) → ((hs M : List Word) → Flows m P bs base K hs M [] k) → Flows m P bs base K gs L [] (summed y s k)
-  summed_flows s h = source_flows s.left (λ v. source_flows s.right (λ u. binary (λ w. put_flows s.target h)))
+  summed_flows s h = source_flows y s.left (λ v. source_flows y s.right (λ u. binary (λ w. put_flows s.target h)))
 
   -- Sums in all cases: no text stands beside a name, so none is asked for its number.
 
@@ -157,7 +140,7 @@ module _ (m : ProgramForm) (P : Conf → Type 0) (bs : List Bool) (base : Conf) 
         Flows m P bs base K base.globals base.frame.locals [] (quickly_dropped y o (Set x e) d k)
     quick_flows {K = K0} None d k h next = subst (λ (r : Option Remainder). Flows m P bs base K0 base.globals base.frame.locals [] (remainder_dropped y r (Set x e) d k)) (sym (no_remainder x e sum)) (dropped_flows d k next)
     quick_flows (Some s) d k h next =
-        all_flows (sum_names s) _ _ (λ v. branch (λ n q z. anyway_flows s (suc d) (sum_clear x e s h target sum) (λ gs L. ended (next gs L))) (λ n q z. summed_flows s (λ gs M. ended (next gs M))))
+        all_flows y (sum_names s) _ _ (λ v. branch (λ n q z. anyway_flows s (suc d) (sum_clear x e s h target sum) (λ gs L. ended (next gs L))) (λ n q z. summed_flows s (λ gs M. ended (next gs M))))
 
   pub statement_flows : {K : List LabelForm} (x : Slot) (e : Code) (s : Step) (ss : Steps) (u d bk ct : ℕ) (k : Instructions) →
       HasNoText y.ranges y.bases base x → IsSum (HasNoText y.ranges y.bases base) e →

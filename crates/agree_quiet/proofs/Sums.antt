@@ -1,6 +1,6 @@
 -- A number statement, from its beginning: its expression comes to its temporary, each name's number converted,
 -- and the target takes it. No call is reached but the one that keeps a fault.
-use Rattle.std.proofs.Common.{◌≡◌, ◌≢◌, ℕ, zero, suc, ◌<◌, ◌≤◌, Bool, true, false, List, [], ◌∷◌, length, Some, refl, sym, ap, ◌∙◌, arith}
+use Rattle.std.proofs.Common.{◌≡◌, ◌≢◌, ℕ, zero, suc, ◌<◌, ◌≤◌, Bool, true, false, List, [], ◌∷◌, length, Option, Some, None, refl, sym, ap, ◌∙◌, arith}
 use Rattle.std.specs.Prelude.{nat_lt, slice_get, slice_set}
 use Rattle.std.proofs.lemmas.Bool.{ltb-true}
 use Rattle.sem_primitives.specs.declared.sorts.Sort.TheVariants as sort
@@ -15,12 +15,14 @@ use Rattle.mid_program.specs.declared.mid.Arithmetic.{Arithmetic}
 use Rattle.mid_program.specs.declared.mid.Arithmetic.TheVariants as inline
 use Rattle.mid_program.specs.Mid.{Answered, Bare, Code, Form, Global, Parameter, Slot, form_of}
 use Rattle.lower_model.specs.Arithmetic.{calculated}
-use Rattle.lower_model.specs.Emission.{Layout, emitted, all_emitted, slot_read, slot_set}
+use Rattle.lower_model.specs.Emission.{Layout, emitted, all_emitted, added, added_or, slot_read, slot_set}
 use Rattle.lower_model.specs.Places.{Bases, handle_local, number_global, number_local}
+use Rattle.lower_model.specs.Quick.{Addition, addition_names, addition_of, source_in}
 use Rattle.lower_model.specs.Small.{text_beside, to_number}
 use Rattle.agree_refined.proofs.StoredCells.{set_there}
 use Rattle.agree_quiet.specs.Sums.{HasNoText, IsSum, IsSumOperator, constant, itself, joined, name}
-use Rattle.agree_quiet.proofs.Flowing.{Flows, branch, compare, const64, ended, get, get_global, set, set_global, tee}
+use Rattle.agree_quiet.proofs.Sources.{all_flows, source_flows}
+use Rattle.agree_quiet.proofs.Flowing.{Flows, binary, block, branch, compare, const64, ended, get, get_global, set, set_global, tee}
 use Rattle.agree_quiet.proofs.Parts.{Faults, equal_word, no_mark_flows, number_is_flows, ranged_flows, times_flows}
 
 -- Locals that stay.
@@ -133,8 +135,38 @@ module _ (m : ProgramForm) (P : Conf → Type 0) (bs : List Bool) (base : Conf) 
   set_flows (Global false i) f h e next = absurd h
   set_flows (Parameter false i) f h e next = absurd h
 
+  -- Sums of sources: where their words are near 0 both are added, and elsewhere all cases are asked for.
+
+  added_flows : {K : List LabelForm} {L : List Word} {k : Instructions} (q : Addition) (t : ℕ) → ((M : List Word) → Below b t L M → To K base.globals M k) →
+      To K base.globals L (added y q t k)
+  added_flows {L = L} q t next = source_flows y q.left (λ v. source_flows y q.right (λ u. binary (λ w. set (λ e. next _ (below_set b t (number_local b t) L w (omega arith))))))
+
+  added_or_flows : {K : List LabelForm} {L : List Word} {anyway k other : Instructions} (o : Option Addition) (t : ℕ) → ((M : List Word) → Below b t L M → To K base.globals M k) →
+      To (block bs [] k ∷ K) base.globals L anyway → To K base.globals L other → To K base.globals L (added_or y o t anyway k other)
+  added_or_flows (Some q) t next a x = all_flows y (addition_names q) _ _ (λ v. branch (λ n e z. a) (λ n e z. added_flows q t (λ M f. ended (next M f))))
+  added_or_flows None t next a x = x
+
   -- Expressions.
-  pub sum_flows : {K : List LabelForm} (e : Code) (t d : ℕ) (L : List Word) {k : Instructions} → IsSum (HasNoText y.ranges b base) e →
+
+  -- code whose number comes to a temporary
+  abbrev Comes : Code → (t d : ℕ) → List Word → Type 0
+  Comes e t d L = (K : List LabelForm) (k : Instructions) → ((M : List Word) → Below b t L M → Ready b (form_of [] e) t M → To K base.globals M k) →
+      To K base.globals L (emitted y false [] [] e t zero d k)
+
+  -- two numbers come to theirs, and are added or multiplied there
+  two_flows : {K : List LabelForm} {k : Instructions} (o : Arithmetic) (e f : Code) (t d : ℕ) (L : List Word) → IsSumOperator o → Below b zero base.frame.locals L →
+      Comes e t d L → ((M : List Word) → Below b zero base.frame.locals M → Comes f (suc t) d M) → ((M : List Word) → Below b t L M → To K base.globals M k) →
+      To K base.globals L (emitted y false [] [] e t zero d (emitted y false [] [] f (suc t) zero d (to_number b (form_of [] e) t d (to_number b (form_of [] f) (suc t) d (calculated b o t d k)))))
+  two_flows o e f t d L s bl first second next =
+      first _ _ (λ M1 b1 r1. second M1 (below_then b zero bl (below_first b t b1)) _ _ (λ M2 b2 r2.
+      to_number_flows (form_of [] e) t d M2 (ready_same b (form_of [] e) t M1 M2 (b2.it (number_local b t) (omega arith)) r1) (λ M3 o3.
+      to_number_flows (form_of [] f) (suc t) d M3
+      (ready_same b (form_of [] f) (suc t) M2 M3 (o3.it (number_local b (suc t)) (λ z. omega (arith, z))) r2) (λ M4 o4.
+      calculated_flows o t d M4 s (λ M5 b5. next M5
+      (below_then b t b1 (below_then b t (below_less b t b2) (below_then b t (below_others b t o3)
+      (below_then b t (below_less b t (below_others b (suc t) o4)) b5)))))))))
+
+  pub sum_flows : (e : Code) (t d : ℕ) (L : List Word) {K : List LabelForm} {k : Instructions} → IsSum (HasNoText y.ranges b base) e →
       Below b zero base.frame.locals L →
       ((M : List Word) → Below b t L M → Ready b (form_of [] e) t M → To K base.globals M k) → To K base.globals L (emitted y false [] [] e t zero d k)
   unfolding emitted all_emitted
@@ -144,12 +176,8 @@ module _ (m : ProgramForm) (P : Conf → Type 0) (bs : List Bool) (base : Conf) 
   sum_flows _ t d L (name (Global false i) h) bl next = absurd h
   sum_flows _ t d L (name (Parameter false i) h) bl next = absurd h
   sum_flows _ t d L (joined o e f s p q) bl next =
-      sum_flows e t d L p bl (λ M1 b1 r1. sum_flows f (suc t) d M1 q (below_then b zero bl (below_first b t b1)) (λ M2 b2 r2.
-      to_number_flows (form_of [] e) t d M2 (ready_same b (form_of [] e) t M1 M2 (b2.it (number_local b t) (omega arith)) r1) (λ M3 o3.
-      to_number_flows (form_of [] f) (suc t) d M3
-      (ready_same b (form_of [] f) (suc t) M2 M3 (o3.it (number_local b (suc t)) (λ z. omega (arith, z))) r2) (λ M4 o4.
-      calculated_flows o t d M4 s (λ M5 b5. next M5
-      (below_then b t b1 (below_then b t (below_less b t b2) (below_then b t (below_others b t o3)
-      (below_then b t (below_less b t (below_others b (suc t) o4)) b5)))) tt)))))
+      added_or_flows (addition_of o (source_in e) (source_in f)) t (λ M h. next M h tt)
+      (two_flows o e f t (suc d) L s bl (λ K k. sum_flows e t (suc d) L p bl) (λ M z K k. sum_flows f (suc t) (suc d) M q z) (λ M h. ended (next M h tt)))
+      (two_flows o e f t d L s bl (λ K k. sum_flows e t d L p bl) (λ M z K k. sum_flows f (suc t) d M q z) (λ M h. next M h tt))
   sum_flows _ t d L (itself e p) bl next =
       sum_flows e t d L p bl (λ M1 b1 r1. to_number_flows (form_of [] e) t d M1 r1 (λ M2 o2. next M2 (below_then b t b1 (below_others b t o2)) tt))

@@ -1,7 +1,7 @@
 -- The constants of emitted code have their widths, if those of what comes after it have.
 use Rattle.std.proofs.Common.{◌≡◌, ◌≤◌, ◌<◌, ◌+◌, ◌^◌, ℕ, zero, suc, Bool, true, false, ◌||◌, List, [], ◌∷◌, length, Option, Some, None, refl, arith}
 use Rattle.std.specs.Int.{w64, cast_unsigned}
-use Rattle.std.specs.Prelude.{if◌then◌else◌, get_or, ℤ, pos, negsuc, unsigned_abs}
+use Rattle.std.specs.Prelude.{if◌then◌else◌, get_or, ℤ, unsigned_abs}
 use Rattle.awk_values.specs.declared.comparison.CompareOp.{CompareOp}
 use Rattle.awk_values.specs.declared.comparison.CompareOp.TheVariants as op
 use Rattle.sem_primitives.specs.Constants.{comparison_number, destination_number, flag_number}
@@ -30,11 +30,13 @@ use Rattle.sem_scripts.specs.Names.{ArrayName, Numbered, Given}
 use Rattle.mid_program.specs.Mid.{Kind, Boxed, Unboxed, Many, Slot, Global, Parameter, Code, Do, Over, Compare, Call, Ask, AskLine, FileLine, Replace, Number, Text, Unset, Get, Set, Array, IsOpen, Choose, Seq, Let, Bound, Codes, End, At, Fixed, Fresh, Form, Answered, Bare, Perhaps, a_value, form_of, form_at, arguments, parameters_at}
 use Rattle.mid_program.specs.Sorted.{count_of}
 use Rattle.sem_scripts.specs.Steps.{is_field_number}
+use Rattle.lower_model.specs.Quick.{addition_in}
 use Rattle.lower_model.specs.Arithmetic.{calculated, compared, field_checked, is_value, may_be_text, numbers_compared, texts_beside, values_compared, zeroed_if}
 use Rattle.lower_model.specs.Emission.{Layout, Immediate, FieldOf, TextOf, NumberOf, field_at, immediate_field, immediate_in, immediate_or, immediate_pushed, all_appended, all_boxed, all_converted, all_emitted, all_freed, all_given, all_given_pushed, all_pushed, array_meant, array_pushed, asked, assigned, assigned_by_number, bound_read, constant_field, dropped, emitted, field_in, field_or, handle_stored, keeping_closed, left_over, listed_asked, one_field, one_given, one_pushed, pending_assigned, performed, sequence_closed, slot_read, slot_set, tested, text_kept, text_let_go, text_pushed, value_stored, values_counted}
 use Rattle.lower_model.specs.Places.{Bases, made_in, memory_of, place_of}
 use Rattle.lower_model.specs.Small.{answer_kept, boxed_perhaps, bound_from, code_number, converted, kept, kept_code, kept_done, kept_number, kept_value, moved_from, released, to_number, to_value, truth, unused}
 use Rattle.agree_sizes.proofs.Fits.{Fits, choice, fits_simple, in_loop, long_fits, none, place_within, plain, text_within, word_fits}
+use Rattle.agree_sizes.proofs.Sources.{number_small, addition_small, added_or_fits}
 use Rattle.agree_sizes.proofs.Small.{AllSmall, Small}
 
 -- ---- constants
@@ -60,11 +62,6 @@ counted_few : (to : Destination) (count : ℕ) → values_counted to count ≤ c
 counted_few Standard count = omega arith
 counted_few Emptied count = omega arith
 counted_few Appended count = omega arith
-
--- the word of a number
-pub number_small : (z : ℤ) → unsigned_abs z ≤ 2 ^ 53 → cast_unsigned w64 z < 2 ^ 64
-number_small (pos n) h = omega (arith, h)
-number_small (negsuc n) h = omega arith
 
 -- a field whose number is a constant
 
@@ -408,8 +405,9 @@ module _ (y : Layout) (names : length y.names ≤ 2 ^ 24) (memory : length (memo
     pub emitted_fits : {k : Instructions} (v : Bool) (fs : List Form) (ts : List ℕ) (e : Code) (t w d : ℕ) → Small e → Fits k →
         Fits (emitted y v fs ts e t w d k)
     emitted_fits v fs ts (Do o es) t w d s r =
-        read_or_fits (field_in o es) t (field_small o es s) r
-        (emits_fits fs ts es t w d s (converts_fits fs (arguments o) es t d (performed_fits o es t d s r)))
+        read_or_fits (field_in o es) t (field_small o es s) r (added_or_fits y (addition_in o es) t (addition_small o es s)
+        (emits_fits fs ts es t w (suc d) s (converts_fits fs (arguments o) es t (suc d) (performed_fits o es t (suc d) s none))) r
+        (emits_fits fs ts es t w d s (converts_fits fs (arguments o) es t d (performed_fits o es t d s r))))
     emitted_fits v fs ts (Over l es) t w d s r = emits_fits fs ts es t w d s.1 (boxes_fits fs es t (appends_fits es t (listed_fits l (count_of es) t d s.0 r)))
     emitted_fits v fs ts (Compare c e f) t w d s r =
         emitted_fits false fs ts e t w d s.0 (immediate_fits c (form_of fs e) (immediate_in (is_value (form_of fs e)) f) t d (immediate_small (is_value (form_of fs e)) f s.1) r

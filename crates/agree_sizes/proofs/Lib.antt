@@ -1,5 +1,6 @@
 pub mod Fits
 pub mod Small
+pub mod Sources
 pub mod Emitted
 pub mod Stepped
 pub mod Sorted

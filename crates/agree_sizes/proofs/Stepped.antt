@@ -15,32 +15,25 @@ use Rattle.wasm_types.specs.declared.instr.IBinOp.{IBinOp}
 use Rattle.wasm_types.specs.declared.instr.Simple.TheVariants.{Br, I32Const, I64Const}
 use Rattle.mid_program.specs.declared.mid.Arithmetic.{Arithmetic}
 use Rattle.mid_program.specs.declared.mid.Operation.TheVariants.{Inline}
-use Rattle.mid_program.specs.Mid.{Kind, Boxed, Unboxed, Many, Global, Code, Do, Compare, Number, Set, Let, Bound, Codes, End, At, Choose, Step, Eval, Block as Steps_, If as Either, Loop, Each, Break, Continue, Next, Exit, ExitWith, Return, Mark, Steps, NoStep, Then as AndThen, Program, Form, Answered, Bare, Perhaps, a_value, form_of}
+use Rattle.mid_program.specs.Mid.{Kind, Boxed, Unboxed, Many, Parameter, Code, Get, Do, Compare, Number, Set, Let, Bound, Codes, End, At, Choose, Step, Eval, Block as Steps_, If as Either, Loop, Each, Break, Continue, Next, Exit, ExitWith, Return, Mark, Steps, NoStep, Then as AndThen, Program, Form, Answered, Bare, Perhaps, a_value, form_of}
 use Rattle.sem_scripts.specs.Names.{ArrayName}
-use Rattle.lower_model.specs.Emission.{Layout, field_at, name_read, source_pushed}
+use Rattle.lower_model.specs.Emission.{Layout, field_at}
 use Rattle.lower_model.specs.Places.{Bases, memory_of}
-use Rattle.lower_model.specs.Quick.{Within, test_within, both_within, compared_within, constant_in, first_ones, name_in, joined, all_unsure, Holder, OfName, OfParameter, holder_of, set_after, set_alone, Source, Held, Constant, source_in, Sum, sum_names, sum_op, sum_in, Update, update_in, Tally, tally_in, Remainder, remainder_in, remainder_names, most_multiplied, multiplied, Counted, counted_in, sum_of, two_sum, set_sum, kept_sum, update_sum, old_source, stored_name, new_sum, let_sum, is_near, Pair, pair_names, pair_in, pair_of, step_jumps, is_nothing}
+use Rattle.lower_model.specs.Quick.{Within, test_within, both_within, compared_within, constant_in, first_ones, name_in, Holder, OfName, OfParameter, holder_of, set_after, set_alone, Source, Held, Constant, source_in, Sum, sum_names, sum_op, sum_in, Update, update_in, Tally, tally_in, Remainder, remainder_in, remainder_names, most_multiplied, multiplied, Counted, counted_in, sum_of, two_sum, set_sum, kept_sum, update_sum, old_source, stored_name, new_sum, let_sum, is_near, Pair, pair_names, pair_in, pair_of, step_jumps, is_nothing}
 use Rattle.lower_model.specs.Statements.{answer_given, returned, name_put, summed, name_numbered, source_numbered, source_taken, sum_kept, sum_taken, summed_anyway, both_asked, element_numbered, element_given, remainder_taken, remainder_dropped, barely_dropped, plainly_dropped, quickly_dropped, left_unless_counted, pair_left, left_unless_pair, left_unless, all_emptied, arrays_emptied, arrays_swept, before_parts, declared, goes_on, iterator_left, iterators_emptied, iterators_swept, key_stored, left_by, main_body, names_declared, names_made, parameters_dropped, part_done, record_done, records_read, routine_body, routines_declared, step_emitted, steps_emitted, swept, temporaries_emptied, temporaries_swept, has_functions, left_swept}
 use Rattle.std.proofs.lemmas.Bool.{leb-true}
 use Rattle.lower_model.specs.Small.{does}
 use Rattle.lower_model.proofs.Quick.{constant_is, shift_pos}
-use Rattle.lower_model.proofs.QuickNames.{near_sum, some_is, source_code, source_is}
+use Rattle.lower_model.proofs.QuickNames.{near_sum, some_is}
 use Rattle.lower_model.proofs.Tallies.{Shape, Updating, Following, Leading, tally_code, tally_is}
 use Rattle.lower_model.proofs.Remainders.{factored_code, most_few, remainder_code, remainder_is}
 use Rattle.lower_model.proofs.Updating.{added_is}
-use Rattle.agree_sizes.proofs.Emitted.{FieldSmall, field_at_small, array_fits, asked_fits, dropped_fits, emitted_fits, flag_fits, kept_code_fits, kept_number_fits, number_small, pending_fits, tested_fits, text_fits_there, to_number_fits, to_value_fits, whichever}
+use Rattle.agree_sizes.proofs.Emitted.{FieldSmall, field_at_small, array_fits, asked_fits, dropped_fits, emitted_fits, flag_fits, kept_code_fits, kept_number_fits, pending_fits, tested_fits, text_fits_there, to_number_fits, to_value_fits, whichever}
 use Rattle.agree_sizes.proofs.Fits.{Fits, choice, fits_simple, in_block, in_loop, long_fits, none, plain}
+use Rattle.agree_sizes.proofs.Sources.{SourceSmall, MaybeSmall, number_small, maybe_small, read_fits, source_fits, unsure_fits}
 use Rattle.agree_sizes.proofs.Small.{Small, SmallStep, SmallSteps}
 
 -- ---- quick ways
-
-abbrev SourceSmall : Source → Type 0
-SourceSmall (Held i) = Unit {0}
-SourceSmall (Constant z) = unsigned_abs z ≤ 2 ^ 53
-
-abbrev MaybeSmall : Option Source → Type 0
-MaybeSmall None = Unit {0}
-MaybeSmall (Some s) = SourceSmall s
 
 abbrev SumSmall : Sum → Type 0
 SumSmall s = SourceSmall s.left × SourceSmall s.right
@@ -95,20 +88,6 @@ sum_small (Set x e) s q = by (holder_of x) q
 sum_small (Let a e) s q = let_small a e s q
 sum_small e s q = cc
 
-source_small : (e : Code) (s : Source) → source_in e ≡ Some s → Small e → SourceSmall s
-source_small e s q f = by s (subst Small (source_is e s q) f)
-  where
-    by : (r : Source) → Small (source_code r) → SourceSmall r
-    by (Held i) g = tt
-    by (Constant z) g = g
-
-maybe_small : (e : Code) → Small e → MaybeSmall (source_in e)
-maybe_small e f = by (source_in e) refl
-  where
-    by : (o : Option Source) → source_in e ≡ o → MaybeSmall o
-    by None q = tt
-    by (Some s) q = source_small e s q f
-
 of_pair : (c : CompareOp) (a e : Option Source) (q : Pair) → pair_of c a e ≡ Some q → MaybeSmall a → MaybeSmall e → PairSmall q
 of_pair c (Some a) (Some e) q h f g = subst PairSmall (some_is (record { op = c; left = a; right = e }) q h) (f, g)
 of_pair c (Some a) None q h f g = cc
@@ -151,33 +130,13 @@ module _ (y : Layout) (names : length y.names ≤ 2 ^ 24) (memory : length (memo
   abbrev b : Bases
   b = y.bases
 
-  -- a holder's number is read, and written
-  read_fits : {k : Instructions} (h : Holder) → Fits k → Fits (does (name_read y h) k)
-  read_fits (OfName i) r = plain _ refl r
-  read_fits (OfParameter i) r = plain _ refl r
-
+  -- a holder's number is written
   put_fits : {k : Instructions} (h : Holder) → Fits k → Fits (does (name_put y h) k)
   put_fits (OfName i) r = plain _ refl r
   put_fits (OfParameter i) r = plain _ refl r
 
-  source_fits : {k : Instructions} (s : Source) → SourceSmall s → Fits k → Fits (source_pushed y s k)
-  source_fits (Held i) s r = read_fits i r
-  source_fits (Constant z) s r = plain (I64Const (cast_unsigned w64 z)) (long_fits (cast_unsigned w64 z) (number_small z s)) r
-
   sum_fits : {k : Instructions} (s : Sum) → SumSmall s → Fits k → Fits (summed y s k)
-  sum_fits s h r = source_fits s.left h.0 (source_fits s.right h.1 (plain _ refl (put_fits s.target r)))
-
-  joined_fits : {k : Instructions} (is : List Holder) (z : ℤ) → cast_unsigned w64 z < 2 ^ 64 → Fits k → Fits (joined (name_read y) is z k)
-  joined_fits [] z h r = r
-  joined_fits (i ∷ is) z h r =
-      read_fits i (plain (I64Const (cast_unsigned w64 z)) (long_fits (cast_unsigned w64 z) h) (plain _ refl (plain _ refl (joined_fits is z h r))))
-
-  unsure_fits : {k : Instructions} (is : List Holder) (z : ℤ) (width : ℕ) → cast_unsigned w64 z < 2 ^ 64 → width < 2 ^ 64 → Fits k →
-      Fits (all_unsure (name_read y) is z width k)
-  unsure_fits [] z width h w r = plain _ refl r
-  unsure_fits (i ∷ is) z width h w r =
-      read_fits i (plain (I64Const (cast_unsigned w64 z)) (long_fits (cast_unsigned w64 z) h) (plain _ refl
-      (joined_fits is z h (plain (I64Const width) (long_fits width w) (plain _ refl r)))))
+  sum_fits s h r = source_fits y s.left h.0 (source_fits y s.right h.1 (plain _ refl (put_fits s.target r)))
 
   -- sums in all cases
 
@@ -219,14 +178,14 @@ module _ (y : Layout) (names : length y.names ≤ 2 ^ 24) (memory : length (memo
 
   taken_remainder_fits : {k : Instructions} (q : Remainder) → Small (remainder_code q) → Fits k → Fits (remainder_taken y q k)
   taken_remainder_fits q h r =
-      read_fits q.multiple.name (multiplied_fits q.multiple.name q.multiple.factor h.0 (plain (I64Const (cast_unsigned w64 q.divisor)) (long_fits (cast_unsigned w64 q.divisor) (number_small q.divisor h.1.0)) (plain _ refl (put_fits q.target r))))
+      read_fits y q.multiple.name (multiplied_fits q.multiple.name q.multiple.factor h.0 (plain (I64Const (cast_unsigned w64 q.divisor)) (long_fits (cast_unsigned w64 q.divisor) (number_small q.divisor h.1.0)) (plain _ refl (put_fits q.target r))))
 
   remainder_fits : {k : Instructions} (o : Option Remainder) (e : Code) (d : ℕ) → remainder_in e ≡ o → Small e → Fits k → Fits (remainder_dropped y o e d k)
   remainder_fits None e d h s r = dropped_fits y names memory [] [] e zero zero d s r
   remainder_fits (Some q) e d h s r =
       let t = remainder_is e q h in
       let few = most_few q.multiple.factor t.factor in
-      unsure_fits (remainder_names q) (pos (most_multiplied q.multiple.factor)) (most_multiplied q.multiple.factor + most_multiplied q.multiple.factor) (omega (arith, few)) (omega (arith, few))
+      unsure_fits y (remainder_names q) (pos (most_multiplied q.multiple.factor)) (most_multiplied q.multiple.factor + most_multiplied q.multiple.factor) (omega (arith, few)) (omega (arith, few))
       (choice (dropped_fits y names memory [] [] e zero zero (suc d) s none) (taken_remainder_fits q (subst Small t.code s) none) r)
 
   module _ {k : Instructions} where
@@ -257,22 +216,22 @@ module _ (y : Layout) (names : length y.names ≤ 2 ^ 24) (memory : length (memo
     quick_fits : (o : Option Sum) (e : Code) (d : ℕ) → sum_in e ≡ o → Small e → Fits k → Fits (quickly_dropped y o e d k)
     quick_fits None e d q s r = plainly_fits (update_in e) e d refl s r
     quick_fits (Some x) e d q s r =
-        unsure_fits (sum_names x) (pos (2 ^ 52)) (2 ^ 53) (omega arith) (omega arith)
+        unsure_fits y (sum_names x) (pos (2 ^ 52)) (2 ^ 53) (omega arith) (omega arith)
         (choice (anyway_fits x (suc d) (sum_small e x q) none) (sum_fits x (sum_small e x q) none) r)
 
     pair_left_fits : (q : Pair) (out : ℕ) → PairSmall q → Fits k → Fits (pair_left y q out k)
-    pair_left_fits q out s r = source_fits q.left s.0 (source_fits q.right s.1 (plain _ refl (plain _ refl r)))
+    pair_left_fits q out s r = source_fits y q.left s.0 (source_fits y q.right s.1 (plain _ refl (plain _ refl r)))
 
   module _ {k : Instructions} where
     counted_fits : (o : Option Counted) (e : Code) (d out : ℕ) → Small e → Fits k → Fits (left_unless_counted y o e d out k)
     counted_fits None e d out s r = tested_fits y names memory [] [] e zero zero d s (plain _ refl (plain _ refl r))
     counted_fits (Some q) e d out s r =
-        read_fits q.name (plain _ refl (plain _ refl (choice (tested_fits y names memory [] [] e zero zero (suc d) s (plain _ refl (plain _ refl none))) (read_fits q.name (plain _ refl (plain _ refl (plain _ refl (plain _ refl (plain _ refl none)))))) r)))
+        read_fits y q.name (plain _ refl (plain _ refl (choice (tested_fits y names memory [] [] e zero zero (suc d) s (plain _ refl (plain _ refl none))) (read_fits y q.name (plain _ refl (plain _ refl (plain _ refl (plain _ refl (plain _ refl none)))))) r)))
 
     pair_fits : (o : Option Pair) (e : Code) (d out : ℕ) → pair_in e ≡ o → Small e → Fits k → Fits (left_unless_pair y o e d out k)
     pair_fits None e d out h s r = counted_fits (counted_in e) e d out s r
     pair_fits (Some q) e d out h s r =
-        unsure_fits (pair_names q) (pos (2 ^ 53)) (2 ^ 54) (omega arith) (omega arith)
+        unsure_fits y (pair_names q) (pos (2 ^ 53)) (2 ^ 54) (omega arith) (omega arith)
         (choice (tested_fits y names memory [] [] e zero zero (suc d) s (plain _ refl (plain _ refl none)))
         (pair_left_fits q (suc out) (pair_small e q h s) none) r)
 
@@ -281,7 +240,7 @@ module _ (y : Layout) (names : length y.names ≤ 2 ^ 24) (memory : length (memo
     unless_fits None e d out h s r = pair_fits (pair_in e) e d out refl s r
     unless_fits (Some q) e d out h s r =
         let w = within_small e q h s in
-        read_fits q.name (plain (I64Const (cast_unsigned w64 q.shift)) (long_fits (cast_unsigned w64 q.shift) w.0) (plain _ refl
+        read_fits y q.name (plain (I64Const (cast_unsigned w64 q.shift)) (long_fits (cast_unsigned w64 q.shift) w.0) (plain _ refl
         (plain (I64Const q.width) (long_fits q.width w.1) (plain _ refl
         (choice (tested_fits y names memory [] [] e zero zero (suc d) s (plain _ refl (plain _ refl none))) none r)))))
 
@@ -309,6 +268,7 @@ module _ (y : Layout) (names : length y.names ≤ 2 ^ 24) (memory : length (memo
       whichever (is_some (pair_in e))
       (in_block (pair_fits (pair_in e) e (suc d) zero refl s.0 (returned_fits a (suc d) s.1.0 none)) (returned_fits c d s.1.1 r))
       (tested_fits y names memory [] [] e zero zero d s.0 (choice (returned_fits a (suc d) s.1.0 none) (returned_fits c (suc d) s.1.1 none) r))
+  returned_fits (Get (Parameter true i)) d s r = plain _ refl (plain _ refl (plain _ refl r))
   returned_fits e d s r = emitted_fits y names memory false [] [] e zero zero d s (answer_fits (form_of [] e) d r)
 
   mutual

@@ -23,6 +23,7 @@ use Rattle.lower_model.proofs.HostCalls.{operation_plain}
 use Rattle.agree_typed.proofs.Singles.{Stack, Labels, Exit, inner, called, get, put, read, word, long, test, convert, branched}
 use Rattle.agree_typed.proofs.Standing.{Stands}
 use Rattle.agree_typed.proofs.Pieces.{moved_out_ok, let_go_ok, number_is_ok, kept_code_ok, answer_kept_ok, kept_number_ok, kept_ok, to_value_ok, code_number_ok, converted_ok, truth_ok, unused_ok, released_ok, moved_from_ok, bound_from_ok, calculated_ok, field_checked_ok, compared_ok}
+use Rattle.agree_typed.proofs.Sources.{added_or_ok}
 use Rattle.agree_typed.proofs.Slots.{slot_read_ok, slot_set_ok, asked_ok}
 use Rattle.agree_typed.proofs.Operands.{room_there, made_among, all_converted_ok, all_pushed_ok, all_boxed_ok, all_appended_ok, listed_asked_ok, all_given_ok, all_given_pushed_ok, all_freed_ok}
 
@@ -49,7 +50,7 @@ module _ {p : Program} {ks : List Kind} {b : Bases} {C : Context} (at : Stands p
     performed_ok (Host q) fs es t i f s h x r =
         all_pushed_ok at fs (arguments_of q) es t ps f s (operands_room (Host q) es t b.temporaries h)
         (called ps (at.imported (Of q)) (kept_ok at (can_fault q) (answer_of q) ps (operation_plain q i) (omega (arith, h)) x r))
-    performed_ok (Inline a) fs es t i f s h x r = calculated_ok at x a (omega (arith, h)) r
+    performed_ok (Inline a) fs es t i f s h x r = calculated_ok at x a t (omega (arith, h)) r
     performed_ok AsNumber fs es t i f s h x r = r
     performed_ok FieldNumber fs es t i f s h x r = field_checked_ok at x (omega (arith, h)) r
 
@@ -107,8 +108,9 @@ module _ {p : Program} {ks : List Kind} {b : Bases} {C : Context} (at : Stands p
         let s2 = and_parts (fit_row fs (arguments o) es) (all_sorted (context_of p ks) fs es) s1.1 in
         let hs = operands_room o es t b.temporaries h in
         let one = room_there (Do o es) in
-        field_or_ok (field_in o es) (omega (arith, h, one)) r
-        (codes_ok fs ts es t w d q s2.1 hs g x (all_converted_ok at fs (arguments o) es t hs x (performed_ok o fs es t s1.0 s2.0 s2.1 h x r)))
+        field_or_ok (field_in o es) (omega (arith, h, one)) r (added_or_ok at fs o es s2.1 (omega (arith, h, one))
+        (codes_ok fs ts es t w (suc d) q s2.1 hs g (inner x) (all_converted_ok at fs (arguments o) es t hs (inner x) (performed_ok o fs es t s1.0 s2.0 s2.1 h (inner x) done))) r
+        (codes_ok fs ts es t w d q s2.1 hs g x (all_converted_ok at fs (arguments o) es t hs x (performed_ok o fs es t s1.0 s2.0 s2.1 h x r))))
     code_ok v fs ts (Over l es) t w d q s h g x r =
         let s1 = and_parts (are_enough l es) (all_values fs es && all_sorted (context_of p ks) fs es) s in
         let s2 = and_parts (all_values fs es) (all_sorted (context_of p ks) fs es) s1.1 in

@@ -3,6 +3,7 @@ pub mod Standing
 pub mod Pieces
 pub mod Slots
 pub mod Operands
+pub mod Sources
 pub mod Emitting
 pub mod Stepping
 pub mod Bodies

@@ -22,6 +22,7 @@ use Rattle.host_imports.specs.Imports.{params_of, words_of}
 use Rattle.lower_model.specs.Places.{Bases, room, rooms, kind_type, arrays_among, made_in}
 use Rattle.host_imports.specs.declared.import.Listing.TheVariants as listing
 use Rattle.host_imports.specs.declared.import.Import.TheVariants.{Over as OverLast, Arg, FreeArray}
+use Rattle.lower_model.proofs.Simulation.{operator_room}
 use Rattle.agree_typed.proofs.Singles.{Stack, Labels, Exit, called, get, tee, word}
 use Rattle.agree_typed.proofs.Standing.{Stands}
 use Rattle.agree_typed.proofs.Pieces.{moved_out_ok, kept_value_ok, kept_done_ok, to_value_ok, converted_ok}
@@ -29,7 +30,7 @@ use Rattle.agree_typed.proofs.Slots.{array_pushed_ok}
 
 -- all code needs a temporary
 pub room_there : (e : Code) → 1 ≤ room e
-room_there (Do (Inline a) es) = omega arith
+room_there (Do (Inline a) es) = let h = operator_room a in omega (arith, h)
 room_there (Do o es) = omega arith
 room_there (Over l es) = omega arith
 room_there (Compare c a b) = let h = room_there a in omega (arith, h)

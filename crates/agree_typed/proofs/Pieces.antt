@@ -1,5 +1,5 @@
 -- Small pieces of code: handles and answers, conversions, arithmetic and comparison.
-use Rattle.std.proofs.Common.{◌≡◌, ℕ, suc, ◌<◌, Bool, true, false, List, [], ◌∷◌, ◌++◌, Some, arith}
+use Rattle.std.proofs.Common.{◌≡◌, ℕ, suc, ◌+◌, ◌<◌, ◌≤◌, Bool, true, false, List, [], ◌∷◌, ◌++◌, Some, arith}
 use Rattle.std.specs.Prelude.{slice_get, ◌||◌, if◌then◌else◌}
 use Rattle.awk_values.specs.declared.fault.Fault.{Fault}
 use Rattle.awk_values.specs.declared.fault.Fault.TheVariants.{Range, DivisionByZero, Inexact, FieldNumber}
@@ -20,11 +20,12 @@ use Rattle.mid_program.specs.declared.mid.Arithmetic.TheVariants as inline
 use Rattle.mid_program.specs.Mid.{Kind, Program, Form, Answered, Bare, Perhaps}
 use Rattle.lower_model.specs.Arithmetic.{out_of_range, ranged, factors_differ, times, unless_zero, divided, unless_broken, is_value, may_be_text, calculated, field_checked, values_compared, zeroed_if, numbers_compared, texts_beside, bare_compared, compared}
 use Rattle.host_imports.specs.Imports.{import_type, import_number, result_of}
-use Rattle.lower_model.specs.Places.{Bases, number_local}
+use Rattle.lower_model.specs.Places.{Bases, number_local, calculated_room}
 use Rattle.lower_model.specs.Small.{moved_out, moved, emptied, let_go, copied, copied_if_any, fail_if, number_is, kept_code, kept_value, kept_number, kept_done, text_taken, answer_kept, kept, boxed_number, boxed_perhaps, to_value, zeroed, code_number, number_of_value, to_number, converted, not_zero, truth, unused, released, number_copied, moved_from, copied_from, bound_from}
 use Rattle.host_imports.specs.declared.import.Import.{Import}
 use Rattle.host_imports.specs.declared.import.Import.TheVariants.{Of, Drop}
 use Rattle.lower_model.proofs.Answers.{IsPlain}
+use Rattle.lower_model.proofs.Simulation.{operator_room}
 use Rattle.agree_typed.proofs.Singles.{Stack, Labels, Exit, Reads, Writes, reads_local, writes_local, called, gives, takes, get, put, tee, read, word, long, test, compare, binary, convert, discard, inner, leave, leave_if, branched}
 use Rattle.agree_typed.proofs.Standing.{Stands}
 
@@ -241,23 +242,25 @@ module _ {p : Program} {ks : List Kind} {b : Bases} {C : Context} (at : Stands p
     divided_ok ex ey r = get ex (get ey (binary (put ex r)))
 
   module _ {L : Labels} {k : Instructions} {ps rs : Stack} {d : ℕ} (e : Exit L d) where
-    -- three temporaries are there
-    pub calculated_ok : (a : Arithmetic) {t : ℕ} → suc (suc t) < b.temporaries → CodeOk C L k ps rs → CodeOk C L (calculated b a t d k) ps rs
-    calculated_ok a {t = t} lt r = by a
+    pub calculated_ok : (a : Arithmetic) (t : ℕ) → t + calculated_room a ≤ b.temporaries → CodeOk C L k ps rs → CodeOk C L (calculated b a t d k) ps rs
+    calculated_ok a t h r = by a h
       where
+        two : suc t < b.temporaries
+        two = let q = operator_room a in omega (arith, h, q)
+
         left : slice_get C.locals (number_local b t) ≡ Some I64
-        left = at.number t (omega (arith, lt))
+        left = let q = two in at.number t (omega (arith, q))
 
         right : slice_get C.locals (number_local b (suc t)) ≡ Some I64
-        right = at.number (suc t) (omega (arith, lt))
+        right = at.number (suc t) two
 
-        by : (a : Arithmetic) → CodeOk C L (calculated b a t d k) ps rs
-        by inline.Plus = ranged_ok e left right r
-        by inline.Minus = ranged_ok e left right r
-        by inline.Times = times_ok e left right (at.number (suc (suc t)) lt) r
-        by inline.Over = unless_zero_ok e right (unless_broken_ok e left right (divided_ok left right r))
-        by inline.Modulo = unless_zero_ok e right (divided_ok left right r)
-        by inline.Truncated = unless_zero_ok e right (divided_ok left right r)
+        by : (a : Arithmetic) → t + calculated_room a ≤ b.temporaries → CodeOk C L (calculated b a t d k) ps rs
+        by inline.Plus g = ranged_ok e left right r
+        by inline.Minus g = ranged_ok e left right r
+        by inline.Times g = times_ok e left right (at.number (suc (suc t)) (omega (arith, g))) r
+        by inline.Over g = unless_zero_ok e right (unless_broken_ok e left right (divided_ok left right r))
+        by inline.Modulo g = unless_zero_ok e right (divided_ok left right r)
+        by inline.Truncated g = unless_zero_ok e right (divided_ok left right r)
 
   module _ {L : Labels} {k : Instructions} {ps rs : Stack} {d : ℕ} (e : Exit L d) where
     values_compared_ok : (c : CompareOp) (f g : Form) {t : ℕ} → suc t < b.temporaries → CodeOk C L k ps rs →

@@ -1,6 +1,6 @@
 -- The code of steps is typed: between two steps nothing is on the stack, and each way out is a label that wants nothing.
-use Rattle.std.proofs.Common.{◌≡◌, ℕ, zero, suc, ◌+◌, ◌<◌, ◌≤◌, ◌^◌, Bool, true, false, List, [], ◌∷◌, Some, None, Option, ℤ, length, pos, refl, sym, ap₂, subst, arith, if◌then◌else◌}
-use Rattle.std.specs.Prelude.{◌&&◌, slice_get, is_some}
+use Rattle.std.proofs.Common.{◌≡◌, ℕ, zero, suc, ◌+◌, ◌<◌, ◌≤◌, ◌^◌, Bool, true, false, List, [], ◌∷◌, Some, None, Option, ℤ, pos, refl, sym, ap₂, subst, arith, if◌then◌else◌}
+use Rattle.std.specs.Prelude.{◌&&◌, is_some}
 use Rattle.std.proofs.lemmas.Bool.{and_parts, ltb-true}
 use Rattle.awk_values.specs.declared.fault.Fault.TheVariants.{Range}
 use Rattle.sem_primitives.specs.declared.sorts.Answer.TheVariants as answer
@@ -11,34 +11,29 @@ use Rattle.wasm_types.specs.Typing.{Context, CodeOk, done}
 use Rattle.wasm_types.specs.declared.types.ValType.{ValType}
 use Rattle.wasm_types.specs.declared.types.ValType.TheVariants.{I32, I64}
 use Rattle.wasm_types.specs.declared.instr.IBinOp.{IBinOp}
-use Rattle.mid_program.specs.Mid.{Kind, Unboxed, Program, Code, Step, Eval, Block, If, Loop, Each, Break, Continue, Next, Exit as ExitStep, ExitWith, Return, Mark, Steps, NoStep, Then, Choose, Form, Answered, Bare, Perhaps, a_value, form_of}
+use Rattle.mid_program.specs.Mid.{Kind, Unboxed, Program, Code, Get, Parameter, Step, Eval, Block, If, Loop, Each, Break, Continue, Next, Exit as ExitStep, ExitWith, Return, Mark, Steps, NoStep, Then, Choose, Form, Answered, Bare, Perhaps, a_value, form_of}
 use Rattle.sem_scripts.specs.Names.{ArrayName}
 use Rattle.mid_program.specs.Sorted.{context_of, kinds_of, is_array_place, fits, is_tested, is_dropped, stores_well, sorted, test_sorted, step_sorted, steps_sorted}
-use Rattle.lower_model.specs.Emission.{dropped, field_at, tested, name_read, source_pushed}
+use Rattle.lower_model.specs.Emission.{dropped, field_at, tested}
 use Rattle.lower_model.specs.Functions.{layout_of}
 use Rattle.lower_model.specs.Places.{Bases, room, arrays_in, step_room, steps_room, step_arrays, steps_arrays, step_iterators, steps_iterators}
-use Rattle.lower_model.specs.Quick.{Within, unsure, test_within, Holder, OfName, OfParameter, Source, Held, Constant, joined, all_unsure, Sum, sum_names, sum_op, sum_in, Update, update_in, Tally, tally_in, Remainder, remainder_in, remainder_names, most_multiplied, multiplied, Counted, counted_in, Pair, pair_names, pair_in, step_jumps, is_nothing}
-use Rattle.lower_model.specs.Machine.{no_notes}
+use Rattle.lower_model.specs.Quick.{Within, test_within, Holder, OfName, OfParameter, Source, Held, Constant, Sum, sum_names, sum_op, sum_in, Update, update_in, Tally, tally_in, Remainder, remainder_in, remainder_names, most_multiplied, multiplied, Counted, counted_in, Pair, pair_names, pair_in, step_jumps, is_nothing}
 use Rattle.lower_model.specs.Small.{does}
-use Rattle.lower_model.proofs.QuickParts.{HolderFits, AllUnboxed}
+use Rattle.lower_model.proofs.QuickParts.{HolderFits}
 use Rattle.lower_model.proofs.Remainders.{remainder_is, remainder_sorted, remainder_unboxed}
-use Rattle.lower_model.proofs.QuickSteps.{SourceFits, near_source, test_is, sum_is, sum_unboxed, pair_is, pair_unboxed, counted_is}
+use Rattle.lower_model.proofs.QuickSteps.{near_source, test_is, sum_is, sum_unboxed, pair_is, pair_unboxed, counted_is}
 use Rattle.lower_model.proofs.Summing.{IsSource}
 use Rattle.lower_model.proofs.Tallies.{Shape, tally_code, IsAdded, tally_is, tally_room, tally_sorted}
 use Rattle.lower_model.proofs.Updating.{UpdateParts, added_code, added_is, added_sorted}
-use Rattle.lower_model.proofs.Watch.{Watch}
 use Rattle.lower_model.specs.Statements.{holder_cleared, name_put, name_numbered, source_numbered, source_taken, sum_kept, sum_taken, summed_anyway, both_asked, updated, element_numbered, element_given, tallied, remainder_taken, remainder_dropped, barely_dropped, plainly_dropped, quickly_dropped, left_unless_counted, left_unless_pair, left_unless, left_by, key_stored, iterator_left, step_emitted, steps_emitted, answer_given, returned}
 use Rattle.host_imports.specs.declared.import.Import.TheVariants.{Of, Drop, IterFree}
-use Rattle.agree_typed.proofs.Singles.{Stack, Labels, Exit, inner, nearest, reads_global, writes_global, nothing, called, get, put, tee, read, write, word, long, binary, variable, compare, test, discard, leave, leave_if, blocked, looped, branched}
+use Rattle.agree_typed.proofs.Singles.{Stack, Labels, Exit, inner, nearest, reads_global, writes_global, nothing, called, get, put, tee, read, write, word, long, binary, compare, test, discard, leave, leave_if, blocked, looped, branched}
 use Rattle.agree_typed.proofs.Standing.{Stands, kind_below}
 use Rattle.agree_typed.proofs.Pieces.{moved_out_ok, emptied_ok, copied_ok, let_go_ok, fail_if_ok, number_is_ok, kept_number_ok, number_of_value_ok, to_value_ok, to_number_ok, truth_ok}
 use Rattle.agree_typed.proofs.Slots.{array_pushed_ok, text_dropped_ok}
 use Rattle.agree_typed.proofs.Operands.{room_there}
+use Rattle.agree_typed.proofs.Sources.{unwatched, holder_read, source_ok, all_unsure_ok}
 use Rattle.agree_typed.proofs.Emitting.{AreBelow, one_more_below, none_below, left_over_ok, code_ok}
-
--- it does not matter here how the machine is watched
-abbrev unwatched : Watch
-unwatched = record { callers = 0; notes = no_notes }
 
 -- where code of a function leaves it: where it is left, and one label further out where it returns, if it may
 pub record Ways (o : Bool) (L : Labels) (d : ℕ) : Type 0 where
@@ -68,11 +63,7 @@ module _ {p : Program} {ks : List Kind} {b : Bases} {C : Context} (at : Stands p
         (omega (arith, h)) (omega (arith, g)) x
         (truth_ok at (form_of [] e) lt r)
 
-    -- a holder's number is read, and written
-    holder_read : {ps : Stack} (h : Holder) → HolderFits p unwatched ks [] b 0 0 h → CodeOk C L k (I64 ∷ ps) rs → CodeOk C L (does (name_read (layout_of p b) h) k) ps rs
-    holder_read (OfName i) hf r = read (at.name_number i (kind_below (kinds_of p.globals) i Unboxed hf)) r
-    holder_read (OfParameter i) hf r = get (at.parameter i Unboxed hf) r
-
+    -- a holder's number is written
     holder_put : {ps : Stack} (h : Holder) → HolderFits p unwatched ks [] b 0 0 h → CodeOk C L k ps rs → CodeOk C L (does (name_put (layout_of p b) h) k) (I64 ∷ ps) rs
     holder_put (OfName i) hf r = write (at.name_number i (kind_below (kinds_of p.globals) i Unboxed hf)) r
     holder_put (OfParameter i) hf r = put (at.parameter i Unboxed hf) r
@@ -81,25 +72,11 @@ module _ {p : Program} {ks : List Kind} {b : Bases} {C : Context} (at : Stands p
     holder_cleared_ok (OfName i) hf r = text_dropped_ok at (kind_below (kinds_of p.globals) i Unboxed hf) r
     holder_cleared_ok (OfParameter i) hf r = r
 
-    source_ok : {ps : Stack} (m : ℕ) (q : Source) → SourceFits p unwatched ks [] b 0 0 m q → CodeOk C L k (I64 ∷ ps) rs → CodeOk C L (source_pushed (layout_of p b) q k) ps rs
-    source_ok m (Held i) h r = holder_read i h r
-    source_ok m (Constant z) h r = long r
-
     left_by_ok : {d : ℕ} (n : ℕ) → Exit L d → CodeOk C L k [] rs → CodeOk C L (left_by n d k) [] rs
     left_by_ok n x r = word (write at.way (leave x r))
 
     iterator_left_ok : (u : ℕ) → 0 < b.temporaries → u < b.iterators → CodeOk C L k [] rs → CodeOk C L (iterator_left (layout_of p b) u k) [] rs
     iterator_left_ok u lt lu r = emptied_ok at (at.handle 0 lt) (moved_out_ok at (at.iterator u lu) (called [] (at.imported IterFree) r))
-
-  -- quick ways: the names that are read are there
-  module _ {L : Labels} {rs : Stack} where
-    joined_ok : {k : Instructions} {ps : Stack} (is : List Holder) (q : ℤ) → AllUnboxed p unwatched ks [] b 0 0 is → CodeOk C L k (I64 ∷ ps) rs → CodeOk C L (joined (name_read (layout_of p b)) is q k) (I64 ∷ ps) rs
-    joined_ok [] q h r = r
-    joined_ok (i ∷ is) q h r = holder_read i h.0 (long (binary (binary (joined_ok is q h.1 r))))
-
-    all_unsure_ok : {k : Instructions} {ps : Stack} (is : List Holder) (q : ℤ) (w : ℕ) → AllUnboxed p unwatched ks [] b 0 0 is → CodeOk C L k (I32 ∷ ps) rs → CodeOk C L (all_unsure (name_read (layout_of p b)) is q w k) ps rs
-    all_unsure_ok [] q w h r = word r
-    all_unsure_ok (i ∷ is) q w h r = holder_read i h.0 (long (binary (joined_ok is q h.1 (long (compare r)))))
 
   -- sums in all cases
   module _ {L : Labels} {k : Instructions} {rs : Stack} where
@@ -195,7 +172,7 @@ module _ {p : Program} {ks : List Kind} {b : Bases} {C : Context} (at : Stands p
     multiplied_ok (Some c) r = long (binary r)
 
     remainder_taken_ok : {k : Instructions} (q : Remainder) → HolderFits p unwatched ks [] b 0 0 q.multiple.name → HolderFits p unwatched ks [] b 0 0 q.target → CodeOk C L k [] rs → CodeOk C L (remainder_taken (layout_of p b) q k) [] rs
-    remainder_taken_ok q hn ht r = holder_read q.multiple.name hn (multiplied_ok q.multiple.factor (long (binary (holder_put q.target ht r))))
+    remainder_taken_ok q hn ht r = holder_read at q.multiple.name hn (multiplied_ok q.multiple.factor (long (binary (holder_put q.target ht r))))
 
   module _ {L : Labels} {k : Instructions} {rs : Stack} where
     remainder_dropped_ok : (o : Option Remainder) (e : Code) (d : ℕ) → remainder_in e ≡ o → sorted (context_of p ks) [] e ≡ true → room e ≤ b.temporaries → arrays_in e ≤ b.arrays → Exit L d →
@@ -204,7 +181,7 @@ module _ {p : Program} {ks : List Kind} {b : Bases} {C : Context} (at : Stands p
     remainder_dropped_ok (Some q) e d eq s h g x r =
         let he = room_there e in
         let t = remainder_sorted p unwatched ks [] b 0 0 q (subst (λ (c : Code). sorted (context_of p ks) [] c ≡ true) (remainder_is e q eq).code s) in
-        all_unsure_ok (remainder_names q) (pos (most_multiplied q.multiple.factor)) (most_multiplied q.multiple.factor + most_multiplied q.multiple.factor) (remainder_unboxed p unwatched ks [] b 0 0 q t)
+        all_unsure_ok at (remainder_names q) (pos (most_multiplied q.multiple.factor)) (most_multiplied q.multiple.factor + most_multiplied q.multiple.factor) (remainder_unboxed p unwatched ks [] b 0 0 q t)
         (branched (dropped_ok [] [] e 0 0 (suc d) (none_below b.temporaries (omega (arith, h, he))) s (omega (arith, h)) (omega (arith, g)) (inner x) done)
         (remainder_taken_ok q t.name t.target done) r)
 
@@ -231,33 +208,33 @@ module _ {p : Program} {ks : List Kind} {b : Bases} {C : Context} (at : Stands p
     quickly_dropped_ok (Some a) e d eq s h g x r =
         let t = sum_is p unwatched ks [] b 0 0 e a eq s in
         let few = t.room in
-        all_unsure_ok (sum_names a) (pos (2 ^ 52)) (2 ^ 53) (sum_unboxed p unwatched ks [] b 0 0 e a t)
+        all_unsure_ok at (sum_names a) (pos (2 ^ 52)) (2 ^ 53) (sum_unboxed p unwatched ks [] b 0 0 e a t)
         (branched (anyway_ok a (near_source p unwatched ks [] b 0 0 a.left t.left) (near_source p unwatched ks [] b 0 0 a.right t.right) t.kind (omega (arith, h, few)) (inner x) done)
-        (source_ok (2 ^ 52) a.left t.left (source_ok (2 ^ 52) a.right t.right (binary (holder_put a.target t.kind done)))) r)
+        (source_ok at (2 ^ 52) a.left t.left (source_ok at (2 ^ 52) a.right t.right (binary (holder_put a.target t.kind done)))) r)
 
     left_unless_counted_ok : (o : Option Counted) (e : Code) (d out : ℕ) → counted_in e ≡ o → test_sorted (context_of p ks) e ≡ true → room e ≤ b.temporaries → arrays_in e ≤ b.arrays → Exit L d → Exit L out →
         CodeOk C L k [] rs → CodeOk C L (left_unless_counted (layout_of p b) o e d out k) [] rs
     left_unless_counted_ok None e d out eq s h g x z r = tested_ok e s h g x (test (leave_if z r))
     left_unless_counted_ok (Some q) e d out eq s h g x z r =
         let hf = (counted_is p unwatched ks [] b 0 0 e q eq (and_parts (is_tested (form_of [] e)) (sorted (context_of p ks) [] e) s).1).kind in
-        holder_read q.name hf (long (compare (branched (tested_ok e s h g (inner x) (test (leave_if (inner z) done)))
-        (holder_read q.name hf (word (called (I64 ∷ []) (at.imported (Of row.GetSpecial)) (called (I64 ∷ []) (at.imported (Of row.ToNum)) (compare (leave_if (inner z) done)))))) r)))
+        holder_read at q.name hf (long (compare (branched (tested_ok e s h g (inner x) (test (leave_if (inner z) done)))
+        (holder_read at q.name hf (word (called (I64 ∷ []) (at.imported (Of row.GetSpecial)) (called (I64 ∷ []) (at.imported (Of row.ToNum)) (compare (leave_if (inner z) done)))))) r)))
 
     left_unless_pair_ok : (o : Option Pair) (e : Code) (d out : ℕ) → pair_in e ≡ o → test_sorted (context_of p ks) e ≡ true → room e ≤ b.temporaries → arrays_in e ≤ b.arrays → Exit L d → Exit L out →
         CodeOk C L k [] rs → CodeOk C L (left_unless_pair (layout_of p b) o e d out k) [] rs
     left_unless_pair_ok None e d out eq s h g x z r = left_unless_counted_ok (counted_in e) e d out refl s h g x z r
     left_unless_pair_ok (Some q) e d out eq s h g x z r =
         let t = pair_is p unwatched ks [] b 0 0 e q eq (and_parts (is_tested (form_of [] e)) (sorted (context_of p ks) [] e) s).1 in
-        all_unsure_ok (pair_names q) (pos (2 ^ 53)) (2 ^ 54) (pair_unboxed p unwatched ks [] b 0 0 e q t)
+        all_unsure_ok at (pair_names q) (pos (2 ^ 53)) (2 ^ 54) (pair_unboxed p unwatched ks [] b 0 0 e q t)
         (branched (tested_ok e s h g (inner x) (test (leave_if (inner z) done)))
-        (source_ok (2 ^ 53) q.left t.left (source_ok (2 ^ 53) q.right t.right (compare (leave_if (inner z) done)))) r)
+        (source_ok at (2 ^ 53) q.left t.left (source_ok at (2 ^ 53) q.right t.right (compare (leave_if (inner z) done)))) r)
 
     left_unless_ok : (o : Option Within) (e : Code) (d out : ℕ) → test_within e ≡ o → test_sorted (context_of p ks) e ≡ true → room e ≤ b.temporaries → arrays_in e ≤ b.arrays → Exit L d → Exit L out →
         CodeOk C L k [] rs → CodeOk C L (left_unless (layout_of p b) o e d out k) [] rs
     left_unless_ok None e d out eq s h g x z r = left_unless_pair_ok (pair_in e) e d out refl s h g x z r
     left_unless_ok (Some q) e d out eq s h g x z r =
         let hf = (test_is p unwatched ks [] b 0 0 e q eq (and_parts (is_tested (form_of [] e)) (sorted (context_of p ks) [] e) s).1).kind in
-        holder_read q.name hf (long (binary (long (compare (branched (tested_ok e s h g (inner x) (test (leave_if (inner z) done))) done r)))))
+        holder_read at q.name hf (long (binary (long (compare (branched (tested_ok e s h g (inner x) (test (leave_if (inner z) done))) done r)))))
 
   -- one of two codes
   chosen_ok : {L : Labels} {rs : Stack} (j : Bool) (A B : Instructions) → CodeOk C L A [] rs → CodeOk C L B [] rs → CodeOk C L (if j then A else B) [] rs
@@ -307,6 +284,7 @@ module _ {p : Program} {ks : List Kind} {b : Bases} {C : Context} (at : Stands p
       (tested_ok e t (omega (arith, h)) (omega (arith, g)) x (branched so
       (returned_ok c (suc d) s3.0 s5.1 (omega (arith, h)) (omega (arith, g)) (inner x) (inner y) done)
       r))
+  returned_ok (Get (Parameter true i)) d f s h g x y r = get (at.parameter i Unboxed s) (put at.answer (leave y r))
   returned_ok e d f s h g x y r =
       let he = room_there e in
       let lt : 0 < b.temporaries = omega (arith, h, he) in
