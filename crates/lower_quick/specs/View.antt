@@ -3,6 +3,7 @@ use Rattle.std.specs.Prelude.{pos}
 use Rattle.awk_text.specs.Number.{largest}
 use Rattle.lower_model.specs.Quick as plain
 use Rattle.mid_program.specs.ViewCode.{view, view_array}
+use Rattle.lower_quick.specs.declared.addition.Addition.{Addition}
 use Rattle.lower_quick.specs.declared.counted.Counted.{Counted}
 use Rattle.lower_quick.specs.declared.source.Holder.{Holder}
 use Rattle.lower_quick.specs.declared.source.Holder.TheVariants as holder
@@ -23,6 +24,9 @@ view_holder (holder.Parameter place) = plain.OfParameter place
 abbrev pub view_source : Source → plain.Source
 view_source (Held name) = plain.Held (view_holder name)
 view_source (Constant number) = plain.Constant number
+
+abbrev pub view_addition : Addition → plain.Addition
+view_addition addition = record { op = addition.op; left = view_source addition.left; right = view_source addition.right }
 
 abbrev pub view_sum : Sum → plain.Sum
 view_sum sum = record { target = view_holder sum.target; op = sum.op; left = view_source sum.left; right = view_source sum.right }

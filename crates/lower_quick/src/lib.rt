@@ -1,6 +1,7 @@
 //! Which statements and tests have a quick way, found in their code as `lower_model` defines it.
 #![tactic(auto)]
 
+mod addition;
 mod counted;
 mod jumps;
 mod names;
@@ -13,9 +14,10 @@ mod tally;
 mod update;
 mod within;
 
+pub use addition::{Addition, addition_in};
 pub use counted::{Counted, counted_in};
 pub use jumps::{is_nothing, step_jumps};
-pub use names::{pair_names, remainder_names, sum_names};
+pub use names::{addition_names, pair_names, remainder_names, sum_names};
 pub use pair::{Pair, contrary, pair_in};
 pub use remainder::{Multiple, Remainder, remainder_in};
 pub use source::{Holder, Source};

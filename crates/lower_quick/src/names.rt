@@ -1,8 +1,9 @@
 //! The names of sums, of remainders and of comparisons, each once.
-ghost use Rattle.std.specs.Prelude.{◌≡◌, IfOk, map, OnOk};
-ghost use Rattle.lower_quick.specs.View.{view_holder, view_pair, view_remainder, view_source, view_sum};
-ghost use Rattle.lower_model.specs.Quick.{and_name, and_source, is_among, same_holder, pair_names, remainder_names, sum_names};
+ghost use Rattle.std.specs.Prelude.{[], ◌≡◌, IfOk, map, OnOk};
+ghost use Rattle.lower_quick.specs.View.{view_addition, view_holder, view_pair, view_remainder, view_source, view_sum};
+ghost use Rattle.lower_model.specs.Quick.{addition_names, and_name, and_source, is_among, same_holder, pair_names, remainder_names, sum_names};
 
+use crate::addition::Addition;
 use crate::pair::Pair;
 use crate::remainder::Remainder;
 use crate::source::{Holder, Source};
@@ -52,13 +53,30 @@ fn and_source(names: &mut Vec<Holder>, source: Source) -> Result<(), AllocError>
     }
 }
 
+/// The names of two sources.
+fn source_names(alloc: Global, left: Source, right: Source) -> Result<Vec<Holder>, AllocError>
+    ensures { IfOk result (λ names. map view_holder names.items
+        ≡ and_source (view_source left) (and_source (view_source right) [])) }
+{
+    let mut names = Vec::new(alloc);
+    and_source(&mut names, right)?;
+    and_source(&mut names, left)?;
+    Ok(names)
+}
+
+/// The names of a sum of two sources.
+pub fn addition_names(alloc: Global, addition: Addition) -> Result<Vec<Holder>, AllocError>
+    ensures { IfOk result
+        (λ names. map view_holder names.items ≡ addition_names (view_addition addition)) }
+{
+    source_names(alloc, addition.left, addition.right)
+}
+
 /// The names of a sum, the one that it goes to among them.
 pub fn sum_names(alloc: Global, sum: Sum) -> Result<Vec<Holder>, AllocError>
     ensures { IfOk result (λ names. map view_holder names.items ≡ sum_names (view_sum sum)) }
 {
-    let mut names = Vec::new(alloc);
-    and_source(&mut names, sum.right)?;
-    and_source(&mut names, sum.left)?;
+    let mut names = source_names(alloc, sum.left, sum.right)?;
     and_name(&mut names, sum.target)?;
     Ok(names)
 }
@@ -67,10 +85,7 @@ pub fn sum_names(alloc: Global, sum: Sum) -> Result<Vec<Holder>, AllocError>
 pub fn pair_names(alloc: Global, pair: Pair) -> Result<Vec<Holder>, AllocError>
     ensures { IfOk result (λ names. map view_holder names.items ≡ pair_names (view_pair pair)) }
 {
-    let mut names = Vec::new(alloc);
-    and_source(&mut names, pair.right)?;
-    and_source(&mut names, pair.left)?;
-    Ok(names)
+    source_names(alloc, pair.left, pair.right)
 }
 
 /// The names of a remainder, the one that it goes to among them.

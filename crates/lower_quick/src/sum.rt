@@ -4,10 +4,11 @@ ghost use Rattle.std.specs.Prelude.{◌≡◌};
 ghost use Rattle.mid_program.specs.ViewCode.{view, views};
 ghost use Rattle.lower_quick.specs.Operands.{set_last};
 ghost use Rattle.lower_quick.specs.View.{view_holder, view_source, view_sum};
-ghost use Rattle.lower_model.specs.Quick.{is_sum, kept_sum, let_sum, new_sum, old_source, set_sum, step_sum, stored_name, sum_in, sum_of, two_sum, update_sum};
+ghost use Rattle.lower_model.specs.Quick.{kept_sum, let_sum, new_sum, old_source, set_sum, step_sum, stored_name, sum_in, sum_of, two_sum, update_sum};
 
+use crate::addition::addition_of;
 use crate::operands::{calculated_in, is_bound, number_of, one_code, two_codes};
-use crate::source::{Holder, Source, constant_in, holder_of, is_near, source_in};
+use crate::source::{Holder, Source, constant_in, holder_of, source_in};
 use mid_program::{Arithmetic, Code, Operand};
 
 /// A sum or a difference, and the name that it goes to.
@@ -17,12 +18,6 @@ pub struct Sum {
     pub op: Arithmetic,
     pub left: Source,
     pub right: Source,
-}
-
-pub(crate) fn is_sum(op: Arithmetic) -> bool
-    ensures { result ≡ is_sum op }
-{
-    matches!(op, Arithmetic::Plus | Arithmetic::Minus)
 }
 
 /// The sum of two sources.
@@ -35,17 +30,13 @@ fn sum_of(
     ensures { option_map view_sum result
         ≡ sum_of (view_holder target) op (option_map view_source left) (option_map view_source right) }
 {
-    let (left, right) = (left?, right?);
-    if is_sum(op) && is_near(left) && is_near(right) {
-        Some(Sum {
-            target,
-            op,
-            left,
-            right,
-        })
-    } else {
-        None
-    }
+    let sum = addition_of(op, left, right)?;
+    Some(Sum {
+        target,
+        op: sum.op,
+        left: sum.left,
+        right: sum.right,
+    })
 }
 
 /// `n = a + e`, of the operands of `+`.

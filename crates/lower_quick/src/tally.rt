@@ -6,10 +6,10 @@ ghost use Rattle.lower_quick.specs.Operands.{is_elem, is_set_elem};
 ghost use Rattle.lower_quick.specs.View.{view_tally};
 ghost use Rattle.lower_model.specs.Quick.{array_here, array_where, element_at, element_last, element_read, element_set, first_sum, first_two, is_bound, number_read, taker_at, tally_after, tally_by, tally_first, tally_in, tally_kept, tally_of, tally_sum, tally_two};
 
+use crate::addition::is_sum;
 use crate::operands::{
     calculated_in, is_bound, let_in, number_of, one_code, three_codes, two_codes,
 };
-use crate::sum::is_sum;
 use mid_program::{Arithmetic, ArrayName, Code, Operand, Operation};
 use sem_primitives::Primitive;
 

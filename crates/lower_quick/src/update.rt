@@ -5,9 +5,9 @@ ghost use Rattle.mid_program.specs.ViewCode.{view, views};
 ghost use Rattle.lower_quick.specs.View.{view_holder, view_update};
 ghost use Rattle.lower_model.specs.Quick.{kept_update, let_update, set_update, update_in, update_of};
 
+use crate::addition::is_sum;
 use crate::operands::{calculated_in, is_bound, two_codes};
 use crate::source::{Holder, holder_of, name_in};
-use crate::sum::is_sum;
 use mid_program::{Arithmetic, Code, Operand};
 
 /// A sum or a difference of a name and what is added, and the name that it goes to.
