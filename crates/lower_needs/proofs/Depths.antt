@@ -1,5 +1,5 @@
 -- Code is nested as deep as what comes after it.
-use Rattle.std.proofs.Common.{◌≡◌, ◌≤◌, ℕ, zero, suc, Bool, true, false, ◌||◌, List, [], ◌∷◌, refl, arith}
+use Rattle.std.proofs.Common.{◌≤◌, ℕ, zero, suc, Bool, true, false, ◌||◌, List, [], ◌∷◌, arith}
 use Rattle.std.specs.Prelude.{if◌then◌else◌, get_or, Option, Some, None, ℤ}
 use Rattle.awk_values.specs.declared.comparison.CompareOp.{CompareOp}
 use Rattle.sem_primitives.specs.Table.{arguments_of, answer_of, can_fault}
@@ -25,10 +25,10 @@ use Rattle.sem_scripts.specs.Names.{ArrayName, Numbered, Given}
 use Rattle.mid_program.specs.Mid.{Kind, Boxed, Unboxed, Many, Slot, Global, Parameter, Code, Do, Over, Compare, Call, Ask, AskLine, FileLine, Replace, Number, Text, Unset, Get, Set, Array, IsOpen, Choose, Seq, Let, Bound, Codes, End, At, Fixed, Fresh, Form, Answered, Bare, a_value, form_of, form_at, arguments, parameters_at}
 use Rattle.mid_program.specs.Sorted.{count_of}
 use Rattle.lower_model.specs.Arithmetic.{calculated, compared, field_checked, is_value, may_be_text, numbers_compared, texts_beside, values_compared, zeroed_if}
-use Rattle.lower_model.specs.Boundaries.{is_nop}
 use Rattle.wasm_types.specs.Instructions.{depths}
-use Rattle.lower_model.specs.Emission.{Layout, Immediate, FieldOf, TextOf, NumberOf, immediate_in, immediate_or, immediate_pushed, all_appended, all_boxed, all_converted, all_emitted, all_freed, all_given, all_given_pushed, all_pushed, array_meant, array_pushed, asked, assigned, assigned_by_number, dropped, emitted, bound_read, field_in, field_or, handle_stored, keeping_closed, left_over, listed_asked, one_given, one_pushed, pending_assigned, performed, sequence_closed, slot_read, slot_set, tested, text_kept, text_let_go, value_stored}
+use Rattle.lower_model.specs.Emission.{Layout, Immediate, FieldOf, TextOf, NumberOf, immediate_in, immediate_or, immediate_pushed, added_or, all_appended, all_boxed, all_converted, all_emitted, all_freed, all_given, all_given_pushed, all_pushed, array_meant, array_pushed, asked, assigned, assigned_by_number, dropped, emitted, bound_read, field_in, field_or, handle_stored, keeping_closed, left_over, listed_asked, name_read, one_given, one_pushed, pending_assigned, performed, sequence_closed, slot_read, slot_set, tested, text_kept, text_let_go, value_stored}
 use Rattle.lower_model.specs.Places.{Bases, made_in}
+use Rattle.lower_model.specs.Quick.{Addition, Holder, addition_in, addition_names, all_unsure, joined}
 use Rattle.lower_model.specs.Small.{answer_kept, bound_from, code_number, converted, does, either, kept, kept_code, kept_done, kept_number, kept_value, moved_from, released, to_number, to_value, truth, unused}
 
 -- blocks are so deep at least
@@ -38,8 +38,8 @@ pub record Deep (k : Instructions) (m : ℕ) : Type 0 where
 pub none : Deep Done 0
 none = record { count = omega arith }
 
-pub plain : {k : Instructions} {m : ℕ} (i : Simple) → is_nop i ≡ 0 → Deep k m → Deep (does i k) m
-plain i e r = record { count = let h = r.count in omega (arith, e, h) }
+pub past : {k : Instructions} {m : ℕ} (i : Simple) → Deep k m → Deep (does i k) m
+past i r = record { count = let h = r.count in omega (arith, h) }
 
 pub choice : {a c k : Instructions} {m : ℕ} → Deep a 0 → Deep c 0 → Deep k m → Deep (either a c k) m
 choice a c r = record { count = let x = a.count in let y = c.count in let h = r.count in omega (arith, x, y, h) }
@@ -163,21 +163,21 @@ module _ (y : Layout) where
     read_deep (Parameter false i) t r = record { count = let h = r.count in omega (arith, h) }
     read_deep (Parameter true i) t r = record { count = let h = r.count in omega (arith, h) }
 
-    handle_deep : (o : Bool) (t : ℕ) (put : Simple) → is_nop put ≡ 0 → Deep k m → Deep (handle_stored y o t put k) m
-    handle_deep true t put e r = record { count = let h = r.count in omega (arith, e, h) }
-    handle_deep false t put e r = record { count = let h = r.count in omega (arith, e, h) }
+    handle_deep : (o : Bool) (t : ℕ) (put : Simple) → Deep k m → Deep (handle_stored y o t put k) m
+    handle_deep true t put r = record { count = let h = r.count in omega (arith, h) }
+    handle_deep false t put r = record { count = let h = r.count in omega (arith, h) }
 
   module _ {k : Instructions} {m : ℕ} where
-    stored_deep : (o : Bool) (f : Form) (t : ℕ) (put : Simple) → is_nop put ≡ 0 → Deep k m → Deep (value_stored y o f t put k) m
-    stored_deep o (Answered (answer.Of sort.Value)) t put e r = handle_deep o t put e r
-    stored_deep o Bare t put e r = record { count = let x = (handle_deep {k = Done} o t put e none).count in let h = r.count in omega (arith, e, x, h) }
-    stored_deep o f t put e r = record { count = let h = r.count in omega (arith, e, h) }
+    stored_deep : (o : Bool) (f : Form) (t : ℕ) (put : Simple) → Deep k m → Deep (value_stored y o f t put k) m
+    stored_deep o (Answered (answer.Of sort.Value)) t put r = handle_deep o t put r
+    stored_deep o Bare t put r = record { count = let x = (handle_deep {k = Done} o t put none).count in let h = r.count in omega (arith, x, h) }
+    stored_deep o f t put r = record { count = let h = r.count in omega (arith, h) }
 
   module _ {k : Instructions} {m : ℕ} where
     set_deep : (o : Bool) (x : Slot) (f : Form) (t : ℕ) → Deep k m → Deep (slot_set y o x f t k) m
-    set_deep o (Global false i) f t r = plain _ refl (plain _ refl (stored_deep o f t _ refl r))
+    set_deep o (Global false i) f t r = past _ (past _ (stored_deep o f t _ r))
     set_deep o (Global true i) f t r = record { count = let h = r.count in omega (arith, h) }
-    set_deep o (Parameter false i) f t r = plain _ refl (plain _ refl (stored_deep o f t _ refl r))
+    set_deep o (Parameter false i) f t r = past _ (past _ (stored_deep o f t _ r))
     set_deep o (Parameter true i) f t r = record { count = let h = r.count in omega (arith, h) }
 
     assigned_deep : (kind : Kind) (i t : ℕ) → Deep k m → Deep (assigned y kind i t k) m
@@ -188,16 +188,16 @@ module _ (y : Layout) where
   by_number_deep : {k : Instructions} {m : ℕ} (ks : List Kind) (i t : ℕ) → Deep k m → Deep (assigned_by_number y ks i t k) m
   by_number_deep [] i t r = r
   by_number_deep (Many ∷ ks) i t r = by_number_deep ks (suc i) t r
-  by_number_deep (Boxed ∷ ks) i t r = plain _ refl (plain _ refl (plain _ refl (choice (assigned_deep Boxed i t none) none (by_number_deep ks (suc i) t r))))
-  by_number_deep (Unboxed ∷ ks) i t r = plain _ refl (plain _ refl (plain _ refl (choice (assigned_deep Unboxed i t none) none (by_number_deep ks (suc i) t r))))
+  by_number_deep (Boxed ∷ ks) i t r = past _ (past _ (past _ (choice (assigned_deep Boxed i t none) none (by_number_deep ks (suc i) t r))))
+  by_number_deep (Unboxed ∷ ks) i t r = past _ (past _ (past _ (choice (assigned_deep Unboxed i t none) none (by_number_deep ks (suc i) t r))))
 
   module _ {k : Instructions} {m : ℕ} where
     pub pending_deep : (t : ℕ) → Deep k m → Deep (pending_assigned y t k) m
-    pending_deep t r = plain _ refl (plain _ refl (plain _ refl (plain _ refl (plain _ refl (by_number_deep y.names zero t r)))))
+    pending_deep t r = past _ (past _ (past _ (past _ (past _ (by_number_deep y.names zero t r)))))
 
   module _ {k : Instructions} {m : ℕ} where
     pub asked_deep : (p : Primitive) (t d : ℕ) → Deep k m → Deep (asked y p t d k) m
-    asked_deep p t d r = record { count = let x = (pending_deep {k = does (Br 1) Done} t (plain (Br 1) refl none)).count in let h = r.count in omega (arith, x, h) }
+    asked_deep p t d r = record { count = let x = (pending_deep {k = does (Br 1) Done} t (past (Br 1) none)).count in let h = r.count in omega (arith, x, h) }
 
   pub converts_deep : {k : Instructions} {m : ℕ} (fs : List Form) (given : List Argument) (es : Codes) (t d : ℕ) → Deep k m → Deep (all_converted y fs given es t d k) m
   converts_deep fs (argument.Of s ∷ rest) (At e es) t d r = converted_deep b (form_of fs e) s t d (converts_deep fs rest es (suc t) d r)
@@ -213,12 +213,12 @@ module _ (y : Layout) where
 
   pub pushes_deep : {k : Instructions} {m : ℕ} (given : List Argument) (es : Codes) (t : ℕ) → Deep k m → Deep (all_pushed y given es t k) m
   pushes_deep (a ∷ rest) (At e es) t r = push_deep a e t (pushes_deep rest es (suc t) r)
-  pushes_deep (a ∷ rest) (Fixed n es) t r = plain _ refl (pushes_deep rest es t r)
+  pushes_deep (a ∷ rest) (Fixed n es) t r = past _ (pushes_deep rest es t r)
   pushes_deep given es t r = r
 
   module _ {k : Instructions} {m : ℕ} where
     performed_deep : (o : Operation) (es : Codes) (t d : ℕ) → Deep k m → Deep (performed y o es t d k) m
-    performed_deep (Host p) es t d r = pushes_deep (arguments_of p) es t (plain _ refl (kept_deep b (can_fault p) (answer_of p) t d r))
+    performed_deep (Host p) es t d r = pushes_deep (arguments_of p) es t (past _ (kept_deep b (can_fault p) (answer_of p) t d r))
     performed_deep (Inline a) es t d r = calculated_deep b a t d r
     performed_deep AsNumber es t d r = r
     performed_deep FieldNumber es t d r = field_deep b t d r
@@ -228,7 +228,7 @@ module _ (y : Layout) where
   boxes_deep fs es t r = r
 
   appends_deep : {k : Instructions} {m : ℕ} (es : Codes) (t : ℕ) → Deep k m → Deep (all_appended y es t k) m
-  appends_deep (At e es) t r = plain _ refl (plain _ refl (plain _ refl (plain _ refl (appends_deep es (suc t) r))))
+  appends_deep (At e es) t r = past _ (past _ (past _ (past _ (appends_deep es (suc t) r))))
   appends_deep es t r = r
 
   module _ {k : Instructions} {m : ℕ} where
@@ -251,12 +251,20 @@ module _ (y : Layout) where
 
   given_pushed_deep : {k : Instructions} {m : ℕ} (ks : List Kind) (es : Codes) (t w : ℕ) → Deep k m → Deep (all_given_pushed y ks es t w k) m
   given_pushed_deep (kind ∷ ks) (At e es) t w r = one_deep kind e t (given_pushed_deep ks es (suc t) w r)
-  given_pushed_deep (kind ∷ ks) (Fresh es) t w r = plain _ refl (plain _ refl (given_pushed_deep ks es t (suc w) r))
+  given_pushed_deep (kind ∷ ks) (Fresh es) t w r = past _ (past _ (given_pushed_deep ks es t (suc w) r))
   given_pushed_deep ks es t w r = r
 
   freed_deep : {k : Instructions} {m : ℕ} (w n : ℕ) → Deep k m → Deep (all_freed y w n k) m
   freed_deep w zero r = r
-  freed_deep w (suc n) r = plain _ refl (plain _ refl (plain _ refl (plain _ refl (freed_deep w n r))))
+  freed_deep w (suc n) r = past _ (past _ (past _ (past _ (freed_deep w n r))))
+
+  joined_deep : {k : Instructions} {m : ℕ} (is : List Holder) (q : ℤ) → Deep k m → Deep (joined (name_read y) is q k) m
+  joined_deep [] q r = r
+  joined_deep (i ∷ is) q r = past _ (past _ (past _ (past _ (joined_deep is q r))))
+
+  pub all_deep : {k : Instructions} {m : ℕ} (is : List Holder) (q : ℤ) (w : ℕ) → Deep k m → Deep (all_unsure (name_read y) is q w k) m
+  all_deep [] q w r = past _ r
+  all_deep (i ∷ is) q w r = past _ (past _ (past _ (joined_deep is q (past _ (past _ r)))))
 
   module _ {k : Instructions} {m : ℕ} where
     pub left_deep : (e : Code) (f : Form) (t : ℕ) → Deep k m → Deep (left_over y e f t k) m
@@ -270,6 +278,10 @@ module _ (y : Layout) where
     field_or_deep (Some z) t r q = record { count = let h = r.count in omega (arith, h) }
     field_or_deep None t r q = q
 
+    added_or_deep : {other : Instructions} (o : Option Addition) (t : ℕ) (anyway : Instructions) → Deep k m → Deep other m → Deep (added_or y o t anyway k other) m
+    added_or_deep (Some q) t anyway r z = all_deep (addition_names q) _ _ (record { count = let h = r.count in omega (arith, h) })
+    added_or_deep None t anyway r z = z
+
     pushed_value_deep : (i : Immediate) → Deep k m → Deep (immediate_pushed y i k) m
     pushed_value_deep (FieldOf z) r = record { count = let h = r.count in omega (arith, h) }
     pushed_value_deep (TextOf i) r = record { count = let h = r.count in omega (arith, h) }
@@ -281,7 +293,7 @@ module _ (y : Layout) where
 
   module _ {k : Instructions} {m : ℕ} where
     pub immediate_deep : {other : Instructions} (c : CompareOp) (f : Form) (o : Option Immediate) (t d : ℕ) → Deep k m → Deep other m → Deep (immediate_or y c f o t d k other) m
-    immediate_deep c f (Some i) t d r q = to_value_deep b f t (plain _ refl (plain _ refl (plain _ refl (plain _ refl (pushed_value_deep i (record { count = let h = r.count in omega (arith, h) }))))))
+    immediate_deep c f (Some i) t d r q = to_value_deep b f t (past _ (past _ (past _ (past _ (pushed_value_deep i (record { count = let h = r.count in omega (arith, h) }))))))
     immediate_deep c f None t d r q = q
 
     sequence_deep : (v : Bool) (e : Code) (f : Form) (t : ℕ) → Deep k m → Deep (sequence_closed y v e f t k) m
@@ -297,7 +309,7 @@ module _ (y : Layout) where
     text_deep fs s t r = left_deep s (form_of (a_value ∷ fs) s) (suc (suc t)) (record { count = let h = r.count in omega (arith, h) })
 
   line_deep : {k : Instructions} (p : Primitive) (t : ℕ) → Deep k 0 → Deep (text_kept y p t k) 0
-  line_deep p t r = plain _ refl (plain _ refl r)
+  line_deep p t r = past _ (past _ r)
 
   -- Code.
 
@@ -305,23 +317,23 @@ module _ (y : Layout) where
     unfolding emitted all_emitted
 
     pub emitted_deep : {k : Instructions} {m : ℕ} (v : Bool) (fs : List Form) (ts : List ℕ) (e : Code) (t w d : ℕ) → Deep k m → Deep (emitted y v fs ts e t w d k) m
-    emitted_deep v fs ts (Do o es) t w d r = field_or_deep (field_in o es) t r (emits_deep fs ts es t w d (converts_deep fs (arguments o) es t d (performed_deep o es t d r)))
+    emitted_deep v fs ts (Do o es) t w d r = field_or_deep (field_in o es) t r (added_or_deep (addition_in o es) t _ r (emits_deep fs ts es t w d (converts_deep fs (arguments o) es t d (performed_deep o es t d r))))
     emitted_deep v fs ts (Over l es) t w d r = emits_deep fs ts es t w d (boxes_deep fs es t (appends_deep es t (listed_deep l (count_of es) t d r)))
     emitted_deep v fs ts (Compare c e f) t w d r =
         emitted_deep false fs ts e t w d (immediate_deep c (form_of fs e) (immediate_in (is_value (form_of fs e)) f) t d r
         (emitted_deep false fs ts f (suc t) w d (compared_deep b c (form_of fs e) (form_of fs f) t d r)))
     emitted_deep v fs ts (Call f es) t w d r =
         emits_deep fs ts es t w d (given_deep fs (parameters_at y.calls f) es t (given_pushed_deep (parameters_at y.calls f) es t w
-        (plain _ refl (answer_kept_deep b t d (freed_deep w (made_in es) r)))))
+        (past _ (answer_kept_deep b t d (freed_deep w (made_in es) r)))))
     emitted_deep v fs ts Ask t w d r = asked_deep row.Getline t d (code_number_deep b t r)
     emitted_deep v fs ts (AskLine s) t w d r =
-        asked_deep row.GetlineVar t d (plain _ refl (plain _ refl (plain _ refl (choice (line_deep row.Line t (emitted_deep true (a_value ∷ fs) (suc t ∷ ts) s (suc (suc t)) w (suc d) (text_deep fs s t none))) none (code_number_deep b t r)))))
+        asked_deep row.GetlineVar t d (past _ (past _ (past _ (choice (line_deep row.Line t (emitted_deep true (a_value ∷ fs) (suc t ∷ ts) s (suc (suc t)) w (suc d) (text_deep fs s t none))) none (code_number_deep b t r)))))
     emitted_deep v fs ts (FileLine e s) t w d r =
-        emitted_deep false fs ts e t w d (to_value_deep b (form_of fs e) t (plain _ refl (plain _ refl (plain _ refl (plain _ refl (kept_code_deep b true t d
-        (plain _ refl (plain _ refl (plain _ refl (choice (line_deep row.Line t (emitted_deep true (a_value ∷ fs) (suc t ∷ ts) s (suc (suc t)) w (suc d) (text_deep fs s t none))) none (code_number_deep b t r)))))))))))
+        emitted_deep false fs ts e t w d (to_value_deep b (form_of fs e) t (past _ (past _ (past _ (past _ (kept_code_deep b true t d
+        (past _ (past _ (past _ (choice (line_deep row.Line t (emitted_deep true (a_value ∷ fs) (suc t ∷ ts) s (suc (suc t)) w (suc d) (text_deep fs s t none))) none (code_number_deep b t r)))))))))))
     emitted_deep v fs ts (Replace all es s) t w d r =
         emits_deep fs ts es t w d (converts_deep fs three_values es t d (pushes_deep three_values es t
-        (plain _ refl (plain _ refl (kept_deep b true (answer.Of sort.Number) t d (plain _ refl (plain _ refl (choice none (line_deep row.SubResult t (emitted_deep true (a_value ∷ fs) (suc t ∷ ts) s (suc (suc t)) w (suc d) (text_deep fs s t none))) r))))))))
+        (past _ (past _ (kept_deep b true (answer.Of sort.Number) t d (past _ (past _ (choice none (line_deep row.SubResult t (emitted_deep true (a_value ∷ fs) (suc t ∷ ts) s (suc (suc t)) w (suc d) (text_deep fs s t none))) r))))))))
     emitted_deep v fs ts (Number z) t w d r = record { count = let h = r.count in omega (arith, h) }
     emitted_deep v fs ts (Text i) t w d r = record { count = let h = r.count in omega (arith, h) }
     emitted_deep v fs ts Unset t w d r = record { count = let h = r.count in omega (arith, h) }
@@ -342,7 +354,7 @@ module _ (y : Layout) where
     emits_deep fs ts End t w d r = r
     emits_deep fs ts (At e es) t w d r = emitted_deep false fs ts e t w d (emits_deep fs ts es (suc t) w d r)
     emits_deep fs ts (Fixed n es) t w d r = emits_deep fs ts es t w d r
-    emits_deep fs ts (Fresh es) t w d r = plain _ refl (plain _ refl (emits_deep fs ts es t (suc w) d r))
+    emits_deep fs ts (Fresh es) t w d r = past _ (past _ (emits_deep fs ts es t (suc w) d r))
 
   module _ {k : Instructions} {m : ℕ} where
     pub dropped_deep : (fs : List Form) (ts : List ℕ) (e : Code) (t w d : ℕ) → Deep k m → Deep (dropped y fs ts e t w d k) m

@@ -1,18 +1,24 @@
 -- What the key of subscripts needs, from what each of them needs.
 use Rattle.std.proofs.Common.{◌≡◌, ℕ, suc, ◌≤◌, List, ◌∷◌, max, map, drop, get_or, length, sym, ap, ◌∙◌, arith}
 use Rattle.std.proofs.Math.Seq.{drop-cons}
+use Rattle.mid_program.specs.declared.mid.Arithmetic.{Arithmetic}
+use Rattle.mid_program.specs.declared.mid.Arithmetic.TheVariants.{Times}
 use Rattle.mid_program.specs.declared.mid.Operation.TheVariants.{Host, Inline, AsNumber, FieldNumber}
 use Rattle.mid_program.specs.Mid.{Code, Do, Over, Compare, Call, Ask, AskLine, FileLine, Replace, Number, Text, Unset, Get, Set, Array, IsOpen, Choose, Seq, Let, Bound}
 use Rattle.mid_program.specs.ViewCode.{joined, view}
 use Rattle.mid_program.specs.declared.code.Code.{Code as Owned}
-use Rattle.lower_model.specs.Places.{arrays_in, room}
+use Rattle.lower_model.specs.Places.{arrays_in, calculated_room, room}
 use Rattle.lower_needs.specs.Counted.{counted}
 use Rattle.lower_needs.specs.Labels.{labels_in}
+
+calculated_some : (a : Arithmetic) → 1 ≤ calculated_room a
+calculated_some Times = omega arith
+calculated_some a = omega arith
 
 -- the value of code goes somewhere
 some_room : (e : Code) → 1 ≤ room e
 some_room (Do (Host p) es) = omega arith
-some_room (Do (Inline a) es) = omega arith
+some_room (Do (Inline a) es) = let h = calculated_some a in omega (arith, h)
 some_room (Do AsNumber es) = omega arith
 some_room (Do FieldNumber es) = omega arith
 some_room (Over l es) = omega arith

@@ -1,5 +1,5 @@
 -- Code is nested as deep as its labels are counted.
-use Rattle.std.proofs.Common.{◌≡◌, ◌≤◌, ◌+◌, ℕ, zero, suc, Bool, true, false, List, [], ◌∷◌, length, max, refl, ap, arith}
+use Rattle.std.proofs.Common.{◌≡◌, ◌≤◌, ◌+◌, ℕ, zero, suc, Bool, true, false, List, [], ◌∷◌, length, max, refl, ap, ◌∙◌, arith}
 use Rattle.std.specs.Prelude.{if◌then◌else◌, Option, Some, None, is_some, ℤ}
 use Rattle.awk_values.specs.declared.comparison.CompareOp.{CompareOp}
 use Rattle.sem_primitives.specs.declared.sorts.Answer.TheVariants as answer
@@ -9,33 +9,30 @@ use Rattle.sem_primitives.specs.declared.table.Primitive.TheVariants as row
 use Rattle.wasm_types.specs.Instructions.{depths}
 use Rattle.wasm_types.specs.Syntax.{Instructions, Done}
 use Rattle.wasm_types.specs.declared.instr.IBinOp.{IBinOp}
-use Rattle.wasm_types.specs.declared.instr.Simple.{Simple}
 use Rattle.wasm_types.specs.declared.instr.Simple.TheVariants.{Br, Call as CallOf}
 use Rattle.host_imports.specs.Imports.{import_number}
 use Rattle.host_imports.specs.declared.import.Import.TheVariants.{Of}
 use Rattle.mid_program.specs.MidMeaning.{three_values}
-use Rattle.mid_program.specs.Mid.{Kind, Boxed, Unboxed, Many, Code, Do, Over, Compare, Call, Ask, AskLine, FileLine, Replace, Number, Text, Unset, Get, Set, Array, IsOpen, Choose, Seq, Let, Bound, Codes, End, At, Fixed, Fresh, Step, Eval, Block as Steps_, If as Either, Loop, Each, Break, Continue, Next, Exit, ExitWith, Return, Mark, Steps, NoStep, Then as AndThen, Program, Routine, Form, Answered, Bare, Perhaps, a_value, form_of}
+use Rattle.mid_program.specs.Mid.{Kind, Boxed, Unboxed, Many, Parameter, Code, Do, Over, Compare, Call, Ask, AskLine, FileLine, Replace, Number, Text, Unset, Get, Set, Array, IsOpen, Choose, Seq, Let, Bound, Codes, End, At, Fixed, Fresh, Step, Eval, Block as Steps_, If as Either, Loop, Each, Break, Continue, Next, Exit, ExitWith, Return, Mark, Steps, NoStep, Then as AndThen, Program, Routine, Form, Answered, Bare, Perhaps, a_value, form_of}
 use Rattle.mid_program.specs.declared.mid.Operation.{Operation}
 use Rattle.mid_program.specs.declared.mid.Arithmetic.{Arithmetic}
 use Rattle.mid_program.specs.declared.mid.Operation.TheVariants.{Host, Inline, AsNumber}
 use Rattle.sem_scripts.specs.Names.{ArrayName}
 use Rattle.lower_model.specs.Arithmetic.{is_value}
-use Rattle.lower_model.specs.Emission.{Layout, Immediate, all_emitted, constant_field, emitted, field_at, field_in, immediate_field, immediate_in, immediate_or, field_or, one_field, text_kept, name_read}
+use Rattle.lower_model.specs.Emission.{Layout, Immediate, added_or, all_emitted, constant_field, emitted, field_at, field_in, immediate_field, immediate_in, immediate_or, field_or, one_field, text_kept}
 use Rattle.lower_model.specs.Functions.{layout_of, main_bases, main_callee, routine_bases, routine_callee}
 use Rattle.lower_model.specs.Places.{Bases}
-use Rattle.lower_model.specs.Quick.{Within, test_within, joined, all_unsure, Holder, OfName, OfParameter, holder_of, set_after, set_alone, Source, source_in, Sum, sum_names, sum_op, sum_in, sum_of, two_sum, set_sum, kept_sum, update_sum, old_source, stored_name, new_sum, let_sum, Update, update_in, Tally, tally_in, Remainder, remainder_in, remainder_names, Counted, counted_in, Pair, pair_names, pair_in, step_jumps, is_nothing}
+use Rattle.lower_model.specs.Quick.{Addition, Within, addition_in, addition_names, addition_of, test_within, Holder, OfName, OfParameter, holder_of, set_after, set_alone, Source, source_in, Sum, sum_names, sum_op, sum_in, sum_of, two_sum, set_sum, kept_sum, update_sum, old_source, stored_name, new_sum, let_sum, Update, update_in, Tally, tally_in, Remainder, remainder_in, remainder_names, Counted, counted_in, Pair, pair_names, pair_in, step_jumps, is_nothing}
 use Rattle.lower_model.specs.Small.{does, either}
 use Rattle.lower_model.specs.Statements.{answer_given, returned, holder_cleared, name_numbered, sum_kept, sum_taken, both_asked, element_numbered, element_given, remainder_dropped, barely_dropped, plainly_dropped, quickly_dropped, left_unless_counted, left_unless_pair, left_unless, again, all_emptied, arrays_emptied, before_parts, block, iterator_left, iterators_emptied, key_stored, left_by, names_declared, names_made, part_done, record_done, records_read, routines_declared, step_emitted, steps_emitted, temporaries_emptied}
+use Rattle.lower_model.proofs.State.{holder_slot}
 use Rattle.lower_model.proofs.Tallies.{Shape, Updating, Following, Leading, tally_code, tally_is}
 use Rattle.lower_model.proofs.Updating.{added_code, added_is}
-use Rattle.lower_needs.specs.Labels.{choice_labels, chosen_labels, return_labels, labels_among, labels_in, more_if, step_labels, steps_labels}
-use Rattle.lower_needs.proofs.Depths.{Deep, array_deep, asked_deep, converts_deep, dropped_deep, emitted_deep, emits_deep, kept_code_deep, kept_deep, kept_number_deep, left_deep, pushes_deep, tested_deep, to_number_deep, to_value_deep, truth_deep}
+use Rattle.lower_needs.specs.Labels.{choice_labels, chosen_labels, return_labels, labels_among, labels_in, more_if, one_if, step_labels, steps_labels}
+use Rattle.lower_needs.proofs.Depths.{Deep, all_deep, array_deep, asked_deep, converts_deep, dropped_deep, emitted_deep, emits_deep, kept_code_deep, kept_deep, kept_number_deep, left_deep, past, pushes_deep, tested_deep, to_number_deep, to_value_deep, truth_deep}
 
 any : {k : Instructions} → Deep k 0
 any = record { count = omega arith }
-
-past : {k : Instructions} {m : ℕ} (i : Simple) → Deep k m → Deep (does i k) m
-past i r = record { count = let h = r.count in omega (arith, h) }
 
 both : {k : Instructions} {m n : ℕ} → Deep k m → Deep k n → Deep k (max m n)
 both a b = record { count = let x = a.count in let y = b.count in omega (arith, x, y) }
@@ -79,17 +76,17 @@ one_labels : (es : Codes) (z : ℤ) → one_field es ≡ Some z → labels_among
 one_labels (At e End) z h = let n = constant_labels e z h in omega (arith, n)
 one_labels _ z h = cc
 
-host_labels : (p : Primitive) (es : Codes) (z : ℤ) → field_in (Host p) es ≡ Some z → labels_among es ≡ 0
+host_labels : (p : Primitive) (es : Codes) (z : ℤ) → field_in (Host p) es ≡ Some z → labels_in (Do (Host p) es) ≡ 0
 host_labels row.Field es z h = one_labels es z h
 host_labels _ es z h = cc
 
-field_labels : (o : Operation) (es : Codes) (z : ℤ) → field_in o es ≡ Some z → labels_among es ≡ 0
+field_labels : (o : Operation) (es : Codes) (z : ℤ) → field_in o es ≡ Some z → labels_in (Do o es) ≡ 0
 field_labels (Host p) es z h = host_labels p es z h
 field_labels _ es z h = cc
 
 -- nor has an immediate operand
 
-as_immediate_labels : (o : Operation) (es : Codes) (i : Immediate) (q : Option ℤ) → field_in o es ≡ q → immediate_field q ≡ Some i → labels_among es ≡ 0
+as_immediate_labels : (o : Operation) (es : Codes) (i : Immediate) (q : Option ℤ) → field_in o es ≡ q → immediate_field q ≡ Some i → labels_in (Do o es) ≡ 0
 as_immediate_labels o es i (Some z) e h = field_labels o es z e
 as_immediate_labels o es i None e h = cc
 
@@ -103,7 +100,7 @@ field_at_labels : (e : Code) (z : ℤ) → field_at e ≡ Some z → labels_in e
 field_at_labels (Do o es) z h = field_labels o es z h
 field_at_labels _ z h = cc
 
--- a sum of sources has none
+-- a sum of sources that goes to a name has one at most
 
 source_labels : (e : Code) (s : Source) → source_in e ≡ Some s → labels_in e ≡ 0
 source_labels (Get x) s h = refl
@@ -126,16 +123,21 @@ two_labels : (i : Holder) (o : Arithmetic) (es : Codes) (s : Sum) → two_sum i 
 two_labels i o (At a (At e End)) s h = let n = both_labels i o a e s h in let x = n.0 in let z = n.1 in omega (arith, x, z)
 two_labels i o es s h = cc
 
-set_labels : (i : Holder) (e : Code) (s : Sum) → set_sum i e ≡ Some s → labels_in e ≡ 0
-set_labels i (Do (Inline o) es) s h = two_labels i o es s h
+set_labels : (i : Holder) (e : Code) (s : Sum) → set_sum i e ≡ Some s → labels_in e ≤ 1
+set_labels i (Do (Inline o) es) s h = let n = two_labels i o es s h in let m = more_most (is_some (addition_in (Inline o) es)) (labels_among es) in omega (arith, n, m)
 set_labels i e s h = cc
 
-kept_labels : (i : Holder) (o : Arithmetic) (a : Code) (es : Codes) (s : Sum) → kept_sum i o a es ≡ Some s → max (labels_in a) (labels_among es) ≡ 0
-kept_labels i o a (At x (At (Bound true zero) End)) s h = let n = both_labels i o x a s h in let u = n.0 in let v = n.1 in omega (arith, u, v)
+kept_labels : (i : Holder) (o : Arithmetic) (a : Code) (es : Codes) (s : Sum) → kept_sum i o a es ≡ Some s → (labels_in a ≡ 0) × (labels_among es ≡ 0)
+kept_labels i o a (At x (At (Bound true zero) End)) s h = let n = both_labels i o x a s h in let u = n.0 in let v = n.1 in (v, omega (arith, u))
 kept_labels i o a es s h = cc
 
-update_labels : (i : Holder) (a e : Code) (s : Sum) → update_sum i a e ≡ Some s → max (labels_in a) (labels_in e) ≡ 0
-update_labels i a (Do (Inline o) es) s h = kept_labels i o a es s h
+update_labels : (i : Holder) (a e : Code) (s : Sum) → update_sum i a e ≡ Some s → max (labels_in a) (labels_in e) ≤ 1
+update_labels i a (Do (Inline o) es) s h =
+    let n = kept_labels i o a es s h in
+    let u = n.0 in
+    let v = n.1 in
+    let m = more_most (is_some (addition_in (Inline o) es)) (labels_among es) in
+    omega (arith, u, v, m)
 update_labels i a e s h = cc
 
 new_labels : (a : Option Source) (i : Option Holder) (x : Code) (s : Sum) → new_sum a i x ≡ Some s → (is_some a ≡ true) × (is_some i ≡ true) × (labels_in x ≡ 0)
@@ -151,10 +153,10 @@ stored_labels : (c : Code) → is_some (stored_name c) ≡ true → labels_in c 
 stored_labels (Seq (Set x (Bound true zero)) (Bound true (suc zero))) h = refl
 stored_labels c h = cc
 
-let_labels : (a e : Code) (s : Sum) → let_sum a e ≡ Some s → max (labels_in a) (labels_in e) ≡ 0
+let_labels : (a e : Code) (s : Sum) → let_sum a e ≡ Some s → max (labels_in a) (labels_in e) ≤ 1
 let_labels a (Set x e) s h = by (holder_of x) h
   where
-    by : (o : Option Holder) → set_after o a e ≡ Some s → max (labels_in a) (labels_in e) ≡ 0
+    by : (o : Option Holder) → set_after o a e ≡ Some s → max (labels_in a) (labels_in e) ≤ 1
     by (Some i) q = update_labels i a e s q
     by None q = cc
 let_labels a (Let x z) s h =
@@ -165,14 +167,25 @@ let_labels a (Let x z) s h =
     omega (arith, u, v, w)
 let_labels a e s h = cc
 
-sum_labels : (e : Code) (s : Sum) → sum_in e ≡ Some s → labels_in e ≡ 0
+sum_labels : (e : Code) (s : Sum) → sum_in e ≡ Some s → labels_in e ≤ 1
 sum_labels (Set x e) s h = by (holder_of x) h
   where
-    by : (o : Option Holder) → set_alone o e ≡ Some s → labels_in e ≡ 0
+    by : (o : Option Holder) → set_alone o e ≡ Some s → labels_in e ≤ 1
     by (Some i) q = set_labels i e s q
     by None q = cc
 sum_labels (Let a e) s h = let_labels a e s h
 sum_labels e s h = cc
+
+-- what takes something that was kept is no sum of sources, so an update has the labels of what is added
+
+no_addition : (o : Arithmetic) (s : Option Source) → is_some (addition_of o s None) ≡ false
+no_addition o (Some s) = refl
+no_addition o None = refl
+
+added_labels : (q : Update) → labels_in (added_code q) ≡ labels_in q.added
+added_labels q =
+    let n = ap (λ (z : Bool). more_if z 0) (no_addition q.op (source_in (Get (holder_slot q.name)))) in
+    omega (arith, n)
 
 -- a counter has those of its key, and of what is added
 tally_labels : (i : Shape) (q : Tally) → labels_in (tally_code i q) ≤ max (labels_in q.key) (labels_in q.added)
@@ -184,12 +197,17 @@ module _ (y : Layout) where
   abbrev b : Bases
   b = y.bases
 
-  field_labelled : {other : Instructions} (o : Operation) (es : Codes) (t : ℕ) (k : Instructions) → Deep other (labels_among es) → Deep (field_or y (field_in o es) t k other) (labels_among es)
+  field_labelled : {other : Instructions} (o : Operation) (es : Codes) (t : ℕ) (k : Instructions) → Deep other (labels_in (Do o es)) → Deep (field_or y (field_in o es) t k other) (labels_in (Do o es))
   field_labelled {other = other} o es t k r = by (field_in o es) refl
     where
-      by : (x : Option ℤ) → field_in o es ≡ x → Deep (field_or y x t k other) (labels_among es)
+      by : (x : Option ℤ) → field_in o es ≡ x → Deep (field_or y x t k other) (labels_in (Do o es))
       by (Some z) e = at_least any (let n = field_labels o es z e in omega (arith, n))
       by None e = r
+
+  -- the code of all cases stands in an `if`
+  added_labelled : {anyway other : Instructions} {m : ℕ} (o : Option Addition) (t : ℕ) (k : Instructions) → Deep anyway m → Deep other m → Deep (added_or y o t anyway k other) (more_if (is_some o) m)
+  added_labelled (Some q) t k r z = all_deep y (addition_names q) _ _ (at_least (inside_either r any) (omega arith))
+  added_labelled None t k r z = z
 
   immediate_labelled : {other : Instructions} (c : CompareOp) (g : Form) (v : Bool) (f : Code) (t d : ℕ) (k : Instructions) → Deep other (labels_in f) → Deep (immediate_or y c g (immediate_in v f) t d k other) (labels_in f)
   immediate_labelled {other = other} c g v f t d k r = by (immediate_in v f) refl
@@ -207,7 +225,7 @@ module _ (y : Layout) where
     unfolding emitted all_emitted
 
     pub labelled : (k : Instructions) (v : Bool) (fs : List Form) (ts : List ℕ) (e : Code) (t w d : ℕ) → Deep (emitted y v fs ts e t w d k) (labels_in e)
-    labelled k v fs ts (Do o es) t w d = field_labelled o es t k (all_labelled _ fs ts es t w d)
+    labelled k v fs ts (Do o es) t w d = field_labelled o es t k (added_labelled (addition_in o es) t k (all_labelled _ fs ts es t w (suc d)) (all_labelled _ fs ts es t w d))
     labelled k v fs ts (Over l es) t w d = all_labelled _ fs ts es t w d
     labelled k v fs ts (Compare c e f) t w d =
         both (labelled _ false fs ts e t w d) (emitted_deep y false fs ts e t w d
@@ -260,14 +278,6 @@ module _ (y : Layout) where
 
   -- Quick ways.
 
-  joined_deep : {k : Instructions} {m : ℕ} (is : List Holder) (q : ℤ) → Deep k m → Deep (joined (name_read y) is q k) m
-  joined_deep [] q r = r
-  joined_deep (i ∷ is) q r = past _ (past _ (past _ (past _ (joined_deep is q r))))
-
-  all_deep : {k : Instructions} {m : ℕ} (is : List Holder) (q : ℤ) (w : ℕ) → Deep k m → Deep (all_unsure (name_read y) is q w k) m
-  all_deep [] q w r = past _ r
-  all_deep (i ∷ is) q w r = past _ (past _ (past _ (joined_deep is q (past _ (past _ r)))))
-
   name_deep : {k : Instructions} {m : ℕ} (i : Holder) (t d : ℕ) → Deep k m → Deep (name_numbered y i t d k) m
   name_deep i t d r = past _ (past _ (past _ (past _ (behind_either r))))
 
@@ -289,7 +299,7 @@ module _ (y : Layout) where
 
   remainder_deep : {k : Instructions} {m : ℕ} (o : Option Remainder) (e : Code) (d : ℕ) → Deep k m → Deep (remainder_dropped y o e d k) m
   remainder_deep None e d r = dropped_deep y [] [] e zero zero d r
-  remainder_deep (Some q) e d r = all_deep (remainder_names q) _ _ (behind_either r)
+  remainder_deep (Some q) e d r = all_deep y (remainder_names q) _ _ (behind_either r)
 
   module _ {k : Instructions} {m : ℕ} where
     barely_deep : (o : Option Tally) (e : Code) (d : ℕ) → Deep k m → Deep (barely_dropped y o e d k) m
@@ -315,11 +325,11 @@ module _ (y : Layout) where
   module _ {k : Instructions} {m : ℕ} where
     quick_deep : (o : Option Sum) (e : Code) (d : ℕ) → Deep k m → Deep (quickly_dropped y o e d k) m
     quick_deep None e d r = plainly_deep (update_in e) e d r
-    quick_deep (Some x) e d r = all_deep (sum_names x) _ _ (behind_either r)
+    quick_deep (Some x) e d r = all_deep y (sum_names x) _ _ (behind_either r)
 
     pair_deep : (o : Option Pair) (e : Code) (d out : ℕ) → Deep k m → Deep (left_unless_pair y o e d out k) m
     pair_deep None e d out r = counted_deep (counted_in e) e d out r
-    pair_deep (Some q) e d out r = all_deep (pair_names q) _ _ (behind_either r)
+    pair_deep (Some q) e d out r = all_deep y (pair_names q) _ _ (behind_either r)
 
     unless_deep : (o : Option Within) (e : Code) (d out : ℕ) → Deep k m → Deep (left_unless y o e d out k) m
     unless_deep None e d out r = pair_deep (pair_in e) e d out r
@@ -327,7 +337,7 @@ module _ (y : Layout) where
 
   remainder_labelled : (k : Instructions) (o : Option Remainder) (e : Code) (d : ℕ) → Deep (remainder_dropped y o e d k) (labels_in e)
   remainder_labelled k None e d = labelled _ true [] [] e zero zero d
-  remainder_labelled k (Some q) e d = all_deep (remainder_names q) _ _ (at_least (inside_either (labelled _ true [] [] e zero zero (suc d)) any) (omega arith))
+  remainder_labelled k (Some q) e d = all_deep y (remainder_names q) _ _ (at_least (inside_either (labelled _ true [] [] e zero zero (suc d)) any) (omega arith))
 
   barely_labelled : (k : Instructions) (o : Option Tally) (e : Code) (d : ℕ) → tally_in e ≡ o → Deep (barely_dropped y o e d k) (labels_in e)
   barely_labelled k None e d h = remainder_labelled k (remainder_in e) e d
@@ -340,16 +350,16 @@ module _ (y : Layout) where
   plainly_labelled k None e d h = barely_labelled k (tally_in e) e d refl
   plainly_labelled k (Some q) e d h = by (field_at q.added) refl
     where
-      same : labels_in e ≡ labels_in (added_code q)
-      same = ap labels_in (added_is e q h).0
+      same : labels_in e ≡ labels_in q.added
+      same = ap labels_in (added_is e q h).0 ∙ added_labels q
 
       by : (o : Option ℤ) → field_at q.added ≡ o → Deep (both_asked y o q d (sum_taken y (sum_op q.op) q.target zero d k)) (labels_in e)
       by (Some z) f = at_least any (let n = same in let m = field_at_labels q.added z f in omega (arith, n, m))
       by None f = at_least (labelled _ false [] [] q.added zero zero d) (let n = same in omega (arith, n))
 
-  quick_labelled : (k : Instructions) (o : Option Sum) (e : Code) (d : ℕ) → sum_in e ≡ o → Deep (quickly_dropped y o e d k) (more_if (is_some o) (labels_in e))
+  quick_labelled : (k : Instructions) (o : Option Sum) (e : Code) (d : ℕ) → sum_in e ≡ o → Deep (quickly_dropped y o e d k) (one_if (is_some o) (labels_in e))
   quick_labelled k None e d h = plainly_labelled k (update_in e) e d refl
-  quick_labelled k (Some x) e d h = all_deep (sum_names x) _ _ (at_least (inside_either any any) (let n = sum_labels e x h in omega (arith, n)))
+  quick_labelled k (Some x) e d h = all_deep y (sum_names x) _ _ (at_least (inside_either any any) (let n = sum_labels e x h in omega (arith, n)))
 
   counted_labelled : (k : Instructions) (o : Option Counted) (e : Code) (d out : ℕ) → Deep (left_unless_counted y o e d out k) (labels_in e)
   counted_labelled k None e d out = labelled _ false [] [] e zero zero d
@@ -357,7 +367,7 @@ module _ (y : Layout) where
 
   pair_labelled : (k : Instructions) (o : Option Pair) (e : Code) (d out : ℕ) → Deep (left_unless_pair y o e d out k) (more_if (is_some o) (labels_in e))
   pair_labelled k None e d out = counted_labelled k (counted_in e) e d out
-  pair_labelled k (Some q) e d out = all_deep (pair_names q) _ _ (at_least (inside_either (labelled _ false [] [] e zero zero (suc d)) any) (omega arith))
+  pair_labelled k (Some q) e d out = all_deep y (pair_names q) _ _ (at_least (inside_either (labelled _ false [] [] e zero zero (suc d)) any) (omega arith))
 
   unless_labelled : (k : Instructions) (o : Option Within) (e : Code) (d out : ℕ) → Deep (left_unless y o e d out k) (more_if (is_some (pair_in e)) (labels_in e))
   unless_labelled k None e d out = pair_labelled k (pair_in e) e d out
@@ -394,6 +404,7 @@ module _ (y : Layout) where
 
   returned_deep : {k : Instructions} {m : ℕ} (e : Code) (d : ℕ) → Deep k m → Deep (returned y e d k) m
   returned_deep (Choose sort.Value e a c) d r = one_of (is_some (pair_in e)) (behind_block (returned_deep c d r)) (tested_deep y [] [] e zero zero d (behind_either r))
+  returned_deep (Get (Parameter true i)) d r = past _ (past _ (past _ r))
   returned_deep e d r = emitted_deep y false [] [] e zero zero d (answer_deep (form_of [] e) d r)
 
   -- what is chosen for `return`, whose ways are so deep
@@ -406,6 +417,7 @@ module _ (y : Layout) where
   returned_labelled k (Choose sort.Value e a c) d =
       chosen_labelled (pair_in e) e (suc d) (returned_labelled Done a (suc d)) (returned_labelled k c d)
       (both (labelled _ false [] [] e zero zero d) (tested_deep y [] [] e zero zero d (inside_either (returned_labelled Done a (suc d)) (returned_labelled Done c (suc d)))))
+  returned_labelled k (Get (Parameter true i)) d = any
   returned_labelled k e d = labelled _ false [] [] e zero zero d
 
   mutual

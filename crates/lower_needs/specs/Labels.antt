@@ -9,6 +9,11 @@ abbrev pub more_if : Bool → ℕ → ℕ
 more_if true count = suc count
 more_if false count = count
 
+-- one at least where this is so
+abbrev pub one_if : Bool → ℕ → ℕ
+one_if true count = max 1 count
+one_if false count = count
+
 -- what is stored of a read, what is chosen, and the code of all cases beside a sum's quick way are done within an `if`
 abbrev mutual
   pub labels_in : Code → ℕ
@@ -58,11 +63,11 @@ return_labels code = labels_in code
 abbrev pub loop_labels : (test body last : ℕ) → ℕ
 loop_labels test body last = max (suc (suc test)) (max (suc (suc body)) (suc (suc last)))
 
--- Where a sum or a test has a quick way, the code of all cases stands in an `if` beside it. A loop's body is a `block`; where a test comes first,
--- only one that `break` or `continue` leaves is.
+-- Where a test has a quick way, the code of all cases stands in an `if` beside it. So does that of a sum which goes to a name, and it has no other label.
+-- A loop's body is a `block`; where a test comes first, only one that `break` or `continue` leaves is.
 abbrev mutual
   pub step_labels : Step → ℕ
-  step_labels (Eval code) = more_if (is_some (sum_in code)) (labels_in code)
+  step_labels (Eval code) = one_if (is_some (sum_in code)) (labels_in code)
   step_labels (Block steps) = steps_labels steps
   step_labels (If test so otherwise) = choice_labels (is_some (pair_in test)) (labels_in test) (step_labels so) (step_labels otherwise)
   step_labels (Loop true test body last) =

@@ -4,17 +4,32 @@ ghost use Rattle.lower_needs.specs.Counted.{counted};
 ghost use Rattle.lower_needs.specs.Labels.{labels_among, labels_in};
 ghost use Rattle.mid_program.specs.Mid.{Code as Plain, Codes, Do};
 ghost use Rattle.mid_program.specs.ViewCode.{before, joined, view, views};
-ghost use Rattle.lower_model.specs.Places.{arrays_among, arrays_in, room, rooms};
+ghost use Rattle.lower_model.specs.Places.{arrays_among, arrays_in, calculated_room, room, rooms};
 
-use crate::counts::{Counts, at_least, both, inside, later, made, only};
-use mid_program::{Code, Operand, Operation};
+use crate::counts::{Counts, at_least, both, inside, later, made, more_if, only};
+use lower_quick::addition_in;
+use mid_program::{Arithmetic, Code, Operand, Operation};
+
+/// How many temporaries an operator needs: a product is kept beside its factors.
+fn calculated_room(operator: Arithmetic) -> u32
+    ensures { result ≡ calculated_room operator }
+{
+    match operator {
+        Arithmetic::Times => 3,
+        Arithmetic::Plus
+        | Arithmetic::Minus
+        | Arithmetic::Over
+        | Arithmetic::Modulo
+        | Arithmetic::Truncated => 2,
+    }
+}
 
 /// How many temporaries an operation needs at least.
 fn least_room(operation: Operation) -> u32
     ensures { (operands : Codes) → max result (rooms operands) ≡ room (Do operation operands) }
 {
     match operation {
-        Operation::Inline(_) => 3,
+        Operation::Inline(operator) => calculated_room(operator),
         Operation::Host(_) | Operation::AsNumber | Operation::FieldNumber => 1,
     }
 }
@@ -38,7 +53,13 @@ pub(crate) fn counts_in(code: &Code) -> Counts
     ensures labels { result.labels ≡ counted (labels_in (view code.now)) }
 {
     match code {
-        Code::Do(operation, operands) => at_least(least_room(*operation), counts_among(operands)),
+        Code::Do(operation, operands) => {
+            let quick = addition_in(*operation, operands).is_some();
+            more_if(
+                quick,
+                at_least(least_room(*operation), counts_among(operands)),
+            )
+        }
         Code::Joined(first, others, last) => {
             let after = joined_counts(others, counts_in(last));
             both(counts_in(first), later(after))

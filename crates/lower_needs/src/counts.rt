@@ -1,6 +1,7 @@
 //! Counts of what may have no bound.
-ghost use Rattle.std.specs.Prelude.{◌≡◌, ◌+◌, max, suc};
+ghost use Rattle.std.specs.Prelude.{◌≡◌, ◌+◌, max, suc, ℕ};
 ghost use Rattle.lower_needs.specs.Counted.{counted};
+ghost use Rattle.lower_needs.specs.Labels.{more_if, one_if};
 
 /// The larger of two.
 pub(crate) fn larger(one: u32, other: u32) -> u32
@@ -124,5 +125,31 @@ pub(crate) fn inside(counts: Counts, labels: u32) -> Counts
         arrays: counts.arrays,
         iterators: counts.iterators,
         labels: counts.labels.saturating_add(labels),
+    }
+}
+
+/// One label more where this is so.
+pub(crate) fn more_if(more: bool, counts: Counts) -> Counts
+    ensures temporaries { result.temporaries ≡ counts.temporaries }
+    ensures arrays { result.arrays ≡ counts.arrays }
+    ensures iterators { result.iterators ≡ counts.iterators }
+    ensures labels { (labels : ℕ) → counts.labels ≡ counted labels → result.labels
+        ≡ counted (more_if more labels) }
+{
+    if more { inside(counts, 1) } else { counts }
+}
+
+/// One label at least where this is so.
+pub(crate) fn one_if(some: bool, counts: Counts) -> Counts
+    ensures temporaries { result.temporaries ≡ counts.temporaries }
+    ensures arrays { result.arrays ≡ counts.arrays }
+    ensures iterators { result.iterators ≡ counts.iterators }
+    ensures labels { (labels : ℕ) → counts.labels ≡ counted labels → result.labels
+        ≡ counted (one_if some labels) }
+{
+    if some {
+        both(counts, inside(only(0), 1))
+    } else {
+        counts
     }
 }

@@ -7,21 +7,10 @@ ghost use Rattle.lower_model.specs.Quick.{pair_in};
 ghost use Rattle.lower_model.specs.Places.{arrays_in, room, step_arrays, step_iterators, step_room, steps_arrays, steps_iterators, steps_room};
 
 use crate::code::counts_in;
-use crate::counts::{Counts, both, inside, later, only, walking};
+use crate::counts::{Counts, both, inside, later, more_if, one_if, only, walking};
 use lower_quick::{pair_in, step_jumps, sum_in};
 use mid_program::{Code, Step};
 use sem_primitives::Sort;
-
-/// One label more where this is so.
-fn more_if(more: bool, counts: Counts) -> Counts
-    ensures temporaries { result.temporaries ≡ counts.temporaries }
-    ensures arrays { result.arrays ≡ counts.arrays }
-    ensures iterators { result.iterators ≡ counts.iterators }
-    ensures labels { (labels : ℕ) → counts.labels ≡ counted labels → result.labels
-        ≡ counted (more_if more labels) }
-{
-    if more { inside(counts, 1) } else { counts }
-}
 
 /// What a test needs: where it has a quick way, the code of all cases stands beside that.
 fn test_counts(test: &Code) -> Counts
@@ -79,7 +68,12 @@ fn return_counts(code: &Code) -> Counts
         Code::Choose(sort, test, yes, no) => match *sort {
             Sort::Value => {
                 let quick = pair_in(test).is_some();
-                chosen_counts(quick, counts_in(test), return_counts(yes), return_counts(no))
+                chosen_counts(
+                    quick,
+                    counts_in(test),
+                    return_counts(yes),
+                    return_counts(no),
+                )
             }
             Sort::Number | Sort::Array | Sort::Iterator => counts_in(code),
         },
@@ -109,7 +103,7 @@ fn step_counts(step: &Step) -> Counts
     ensures labels { result.labels ≡ counted (step_labels (view_step step.now)) }
 {
     match step {
-        Step::Eval(code) => more_if(sum_in(code).is_some(), counts_in(code)),
+        Step::Eval(code) => one_if(sum_in(code).is_some(), counts_in(code)),
         Step::Block(steps) => steps_counts(steps),
         Step::If(test, yes, no) => {
             let quick = pair_in(test).is_some();

@@ -1,11 +1,13 @@
-use Rattle.std.proofs.Common.{◌≡◌, ◌-◌, ℕ, suc, max, List, map, drop, ap, sym, ◌∙◌, arith}
+use Rattle.std.proofs.Common.{◌≡◌, ◌-◌, ℕ, suc, Bool, max, List, map, drop, ap, sym, ◌∙◌, arith, rules}
+use Rattle.std.specs.Prelude.{is_some}
+use Rattle.lower_model.specs.Quick.{addition_in}
 use Rattle.mid_program.specs.Mid as plain
 use Rattle.mid_program.specs.ViewCode.{joined, view, views}
 use Rattle.mid_program.specs.declared.code.Code.{Code}
 use Rattle.mid_program.specs.declared.code.Operand.{Operand}
 use Rattle.lower_model.specs.Places.{arrays_among, arrays_in, room, rooms}
 use Rattle.lower_needs.specs.Counted.{counted}
-use Rattle.lower_needs.specs.Labels.{labels_among, labels_in}
+use Rattle.lower_needs.specs.Labels.{labels_among, labels_in, more_if}
 use Rattle.mid_program.proofs.Views.{view_joined}
 use Rattle.lower_needs.proofs.Keys.{arrays_joined, labels_joined, one_more, room_joined}
 use Rattle.lower_quick.proofs.Views.{view_call, view_do, view_over, view_replace}
@@ -13,21 +15,26 @@ use Rattle.lower_needs.proofs.code.+counts.Goals as goal
 
 pub counts_in-returns-in-Do-clause-temporaries : goal.counts_in-returns-in-Do-clause-temporaries
 counts_in-returns-in-Do-clause-temporaries t c =
-    let r = c.counts_among.ensures.temporaries ∙ ap (λ (es : List Operand). counted (rooms (views es))) c.deref.ensures.value in
+    let r = c.counts_among.ensures.temporaries ∙ ap (λ (es : List Operand). counted (rooms (views es))) c.deref-in-Do.ensures.value in
     let k = c.least_room.ensures (views c.in-Do.operands.items) in
     let few = c.least_room.type_inv in
     let whole = ap room (ap view c.in-Do.is ∙ view_do c.in-Do.operation c.in-Do.operands) in
     let l = c.at_least.ensures.temporaries in
-    omega (arith, r, k, few, whole, l)
+    let m = c.more_if.ensures.temporaries in
+    omega (arith, r, k, few, whole, l, m)
 
 pub counts_in-returns-in-Do-clause-arrays : goal.counts_in-returns-in-Do-clause-arrays
 counts_in-returns-in-Do-clause-arrays t c =
-    c.at_least.ensures.arrays ∙ c.counts_among.ensures.arrays ∙ ap (λ (es : List Operand). counted (arrays_among (views es))) c.deref.ensures.value
+    c.more_if.ensures.arrays ∙ c.at_least.ensures.arrays ∙ c.counts_among.ensures.arrays ∙ ap (λ (es : List Operand). counted (arrays_among (views es))) c.deref-in-Do.ensures.value
     ∙ sym (ap (λ (e : plain.Code). counted (arrays_in e)) (ap view c.in-Do.is ∙ view_do c.in-Do.operation c.in-Do.operands))
 
 pub counts_in-returns-in-Do-clause-labels : goal.counts_in-returns-in-Do-clause-labels
 counts_in-returns-in-Do-clause-labels t c =
-    c.at_least.ensures.labels ∙ c.counts_among.ensures.labels ∙ ap (λ (es : List Operand). counted (labels_among (views es))) c.deref.ensures.value
+    let es = views c.in-Do.operands.items in
+    let few = c.at_least.ensures.labels ∙ c.counts_among.ensures.labels ∙ ap (λ (os : List Operand). counted (labels_among (views os))) c.deref-in-Do.ensures.value in
+    let is = c.addition_in.ensures ∙ ap (λ (os : List Operand). addition_in c.in-Do.operation (views os)) c.deref.ensures.value in
+    let quick : c.is_some-quick.result ≡ is_some (addition_in c.in-Do.operation es) = let a = ap is_some is in search rules in
+    c.more_if.ensures.labels (labels_among es) few ∙ ap (λ (q : Bool). counted (more_if q (labels_among es))) quick
     ∙ sym (ap (λ (e : plain.Code). counted (labels_in e)) (ap view c.in-Do.is ∙ view_do c.in-Do.operation c.in-Do.operands))
 
 pub counts_in-returns-in-Joined-clause-temporaries : goal.counts_in-returns-in-Joined-clause-temporaries
