@@ -56,7 +56,7 @@ counting_loop = (refl, refl)
 quick_choice : step_labels (If (below_three true) (one_more true) (Block NoStep)) ≡ 3 × step_labels (If (below_three false) (one_more false) (Block NoStep)) ≡ 1
 quick_choice = (refl, refl)
 
--- `return n < 3 ? n : n - 1`: the test stands in a block with what it chooses, and in an `if` there; the difference stands behind that block
+-- `return n < 3 ? n : n - 1`: the test stands in a block with what it chooses, and in an `if` there; the difference stands after that block
 quick_return : step_labels (Return (Choose Value (below_three true) (Get (Global true 0)) (with_one Minus true))) ≡ 2
     × step_labels (Return (Choose Value (below_three false) (Get (Global false 0)) (with_one Minus false))) ≡ 1
 quick_return = (refl, refl)
