@@ -108,7 +108,7 @@ module _ {p : Program} {ks : List Kind} {b : Bases} {C : Context} (at : Stands p
         let s2 = and_parts (fit_row fs (arguments o) es) (all_sorted (context_of p ks) fs es) s1.1 in
         let hs = operands_room o es t b.temporaries h in
         let one = room_there (Do o es) in
-        field_or_ok (field_in o es) (omega (arith, h, one)) r (added_or_ok at fs o es s2.1 (omega (arith, h, one))
+        field_or_ok (field_in o es) (omega (arith, h, one)) r (added_or_ok at fs o es s (omega (arith, h, one))
         (codes_ok fs ts es t w (suc d) q s2.1 hs g (inner x) (all_converted_ok at fs (arguments o) es t hs (inner x) (performed_ok o fs es t s1.0 s2.0 s2.1 h (inner x) done))) r
         (codes_ok fs ts es t w d q s2.1 hs g x (all_converted_ok at fs (arguments o) es t hs x (performed_ok o fs es t s1.0 s2.0 s2.1 h x r))))
     code_ok v fs ts (Over l es) t w d q s h g x r =
