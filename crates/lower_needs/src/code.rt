@@ -55,10 +55,8 @@ pub(crate) fn counts_in(code: &Code) -> Counts
     match code {
         Code::Do(operation, operands) => {
             let quick = addition_in(*operation, operands).is_some();
-            more_if(
-                quick,
-                at_least(least_room(*operation), counts_among(operands)),
-            )
+            let plain = at_least(least_room(*operation), counts_among(operands));
+            more_if(quick, plain)
         }
         Code::Joined(first, others, last) => {
             let after = joined_counts(others, counts_in(last));

@@ -19,19 +19,19 @@ counts_in-returns-in-Do-clause-temporaries t c =
     let k = c.least_room.ensures (views c.in-Do.operands.items) in
     let few = c.least_room.type_inv in
     let whole = ap room (ap view c.in-Do.is ∙ view_do c.in-Do.operation c.in-Do.operands) in
-    let l = c.at_least.ensures.temporaries in
+    let l = c.at_least-plain.ensures.temporaries in
     let m = c.more_if.ensures.temporaries in
     omega (arith, r, k, few, whole, l, m)
 
 pub counts_in-returns-in-Do-clause-arrays : goal.counts_in-returns-in-Do-clause-arrays
 counts_in-returns-in-Do-clause-arrays t c =
-    c.more_if.ensures.arrays ∙ c.at_least.ensures.arrays ∙ c.counts_among.ensures.arrays ∙ ap (λ (es : List Operand). counted (arrays_among (views es))) c.deref-in-Do.ensures.value
+    c.more_if.ensures.arrays ∙ c.at_least-plain.ensures.arrays ∙ c.counts_among.ensures.arrays ∙ ap (λ (es : List Operand). counted (arrays_among (views es))) c.deref-in-Do.ensures.value
     ∙ sym (ap (λ (e : plain.Code). counted (arrays_in e)) (ap view c.in-Do.is ∙ view_do c.in-Do.operation c.in-Do.operands))
 
 pub counts_in-returns-in-Do-clause-labels : goal.counts_in-returns-in-Do-clause-labels
 counts_in-returns-in-Do-clause-labels t c =
     let es = views c.in-Do.operands.items in
-    let few = c.at_least.ensures.labels ∙ c.counts_among.ensures.labels ∙ ap (λ (os : List Operand). counted (labels_among (views os))) c.deref-in-Do.ensures.value in
+    let few = c.at_least-plain.ensures.labels ∙ c.counts_among.ensures.labels ∙ ap (λ (os : List Operand). counted (labels_among (views os))) c.deref-in-Do.ensures.value in
     let is = c.addition_in.ensures ∙ ap (λ (os : List Operand). addition_in c.in-Do.operation (views os)) c.deref.ensures.value in
     let quick : c.is_some-quick.result ≡ is_some (addition_in c.in-Do.operation es) = let a = ap is_some is in search rules in
     c.more_if.ensures.labels (labels_among es) few ∙ ap (λ (q : Bool). counted (more_if q (labels_among es))) quick
@@ -107,17 +107,17 @@ pub counts_in-returns-in-Over-clause-temporaries : goal.counts_in-returns-in-Ove
 counts_in-returns-in-Over-clause-temporaries t c =
     let r = c.counts_among-in-Over.ensures.temporaries ∙ ap (λ (es : List Operand). counted (rooms (views es))) c.deref-in-Over.ensures.value in
     let whole = ap room (ap view c.in-Over.is ∙ view_over c.in-Over.field-0 c.in-Over.operands) in
-    let l = c.at_least-in-Over.ensures.temporaries in
+    let l = c.at_least.ensures.temporaries in
     omega (arith, r, whole, l)
 
 pub counts_in-returns-in-Over-clause-arrays : goal.counts_in-returns-in-Over-clause-arrays
 counts_in-returns-in-Over-clause-arrays t c =
-    c.at_least-in-Over.ensures.arrays ∙ c.counts_among-in-Over.ensures.arrays ∙ ap (λ (es : List Operand). counted (arrays_among (views es))) c.deref-in-Over.ensures.value
+    c.at_least.ensures.arrays ∙ c.counts_among-in-Over.ensures.arrays ∙ ap (λ (es : List Operand). counted (arrays_among (views es))) c.deref-in-Over.ensures.value
     ∙ sym (ap (λ (e : plain.Code). counted (arrays_in e)) (ap view c.in-Over.is ∙ view_over c.in-Over.field-0 c.in-Over.operands))
 
 pub counts_in-returns-in-Over-clause-labels : goal.counts_in-returns-in-Over-clause-labels
 counts_in-returns-in-Over-clause-labels t c =
-    c.at_least-in-Over.ensures.labels ∙ c.counts_among-in-Over.ensures.labels ∙ ap (λ (es : List Operand). counted (labels_among (views es))) c.deref-in-Over.ensures.value
+    c.at_least.ensures.labels ∙ c.counts_among-in-Over.ensures.labels ∙ ap (λ (es : List Operand). counted (labels_among (views es))) c.deref-in-Over.ensures.value
     ∙ sym (ap (λ (e : plain.Code). counted (labels_in e)) (ap view c.in-Over.is ∙ view_over c.in-Over.field-0 c.in-Over.operands))
 
 pub counts_in-returns-in-Call-clause-temporaries : goal.counts_in-returns-in-Call-clause-temporaries
