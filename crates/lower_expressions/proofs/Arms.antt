@@ -16,7 +16,8 @@ use Rattle.mid_program.specs.ViewCode.{before, views}
 use Rattle.mid_program.specs.declared.code.Operand.{Operand}
 use Rattle.mid_program.specs.declared.mid.Operation.{Operation}
 use Rattle.lower_model.specs.Arithmetic.{compared, is_value}
-use Rattle.lower_model.specs.Emission.{Layout, Immediate, immediate_in, immediate_or, immediately_compared, all_appended, all_boxed, all_converted, all_emitted, all_freed, all_given, all_given_pushed, asked, emitted, field_in, field_or, field_read, function_number, keeping_closed, left_over, listed_asked, performed, sequence_closed, slot_set}
+use Rattle.lower_model.specs.Emission.{Layout, Immediate, added_or, immediate_in, immediate_or, immediately_compared, all_appended, all_boxed, all_converted, all_emitted, all_freed, all_given, all_given_pushed, asked, emitted, field_in, field_or, field_read, function_number, keeping_closed, left_over, listed_asked, performed, sequence_closed, slot_set}
+use Rattle.lower_model.specs.Quick.{Addition, addition_in}
 use Rattle.lower_model.specs.Places.{made_in, array_local, handle_local}
 use Rattle.lower_model.specs.Small.{answer_kept, ask_row, code_number, converted, does, either, let_go, truth}
 use Rattle.host_imports.specs.declared.import.Import.TheVariants.{Drop}
@@ -25,7 +26,7 @@ use Rattle.lower_pieces.specs.Forms.{view_form}
 use Rattle.lower_pieces.specs.declared.form.Form.{Form}
 use Rattle.lower_expressions.specs.Fits.{AllCode, IsGiven}
 use Rattle.lower_expressions.specs.Keeping.{Keeping, kept_more}
-use Rattle.lower_expressions.specs.Parts.{appended_with, branch_with, called_with, entered, file_asked, forms_in, freed_with, listed_with, operated, replaced_with, stored_when, stored_with}
+use Rattle.lower_expressions.specs.Parts.{anyway_with, appended_with, branch_with, called_with, entered, file_asked, forms_in, freed_with, listed_with, operated, replaced_with, stored_when, stored_with, sum_with}
 use Rattle.lower_expressions.proofs.FormLemmas.{appended_are, boxed_are, converted_are, forms_counted, freed_are, given_are, pushed_are}
 use Rattle.lower_expressions.proofs.WalkLemmas.{no_items}
 
@@ -71,17 +72,29 @@ pub field_emitted : (y : Layout) (v : Bool) (fs : List plain.Form) (ts : List �
     → Emits a z (field_read y m t) → Emits a z (emitted y v fs ts (plain.Do o es) t w d)
 unfolding emitted all_emitted
 field_emitted y v fs ts o es m n t w d a z e h p k =
-    p k ∙ ap (λ (i : ℤ). followed a (field_read y i t k)) h
-    ∙ ap (λ (x : Option ℤ). followed a (field_or y x t k (all_emitted y fs ts es t w d (all_converted y fs (plain.arguments o) es t d (performed y o es t d k))))) (sym e)
+    let rest = added_or y (addition_in o es) t (anyway_with y fs ts o es t w (suc d) Done) k (anyway_with y fs ts o es t w d k) in
+    p k ∙ ap (λ (i : ℤ). followed a (field_read y i t k)) h ∙ ap (λ (x : Option ℤ). followed a (field_or y x t k rest)) (sym e)
 
-pub operation_emitted : (y : Layout) (v : Bool) (fs gs : List plain.Form) (ts : List ℕ) (o : Operation) (es : Codes) (t w d : ℕ) (a b z : List Instr) → field_in o es ≡ None → gs ≡ forms_in fs es
-    → Emits a b (all_emitted y fs ts es t w d) → Emits b z (operated y gs o es t d) → Emits a z (emitted y v fs ts (plain.Do o es) t w d)
-unfolding emitted all_emitted
-operation_emitted y v fs gs ts o es t w d a b z none e p q k =
-    let rest = all_converted y fs (plain.arguments o) es t d (performed y o es t d k) in
+-- an operation as it is in all cases
+pub anyway_emitted : (y : Layout) (fs gs : List plain.Form) (ts : List ℕ) (o : Operation) (es : Codes) (t w d : ℕ) (a b z : List Instr) → gs ≡ forms_in fs es
+    → Emits a b (all_emitted y fs ts es t w d) → Emits b z (operated y gs o es t d) → Emits a z (anyway_with y fs ts o es t w d)
+anyway_emitted y fs gs ts o es t w d a b z e p q k =
     q k ∙ ap (λ (x : List plain.Form). followed b (operated y x o es t d k)) e
-    ∙ ap (followed b) (converted_are y fs (plain.arguments o) es t d (performed y o es t d k)) ∙ p rest
-    ∙ ap (λ (x : Option ℤ). followed a (field_or y x t k (all_emitted y fs ts es t w d rest))) (sym none)
+    ∙ ap (followed b) (converted_are y fs (plain.arguments o) es t d (performed y o es t d k)) ∙ p _
+
+pub operation_emitted : (y : Layout) (v : Bool) (fs : List plain.Form) (ts : List ℕ) (o : Operation) (es : Codes) (t w d : ℕ) (a z : List Instr) → field_in o es ≡ None → addition_in o es ≡ None
+    → Emits a z (anyway_with y fs ts o es t w d) → Emits a z (emitted y v fs ts (plain.Do o es) t w d)
+unfolding emitted all_emitted
+operation_emitted y v fs ts o es t w d a z none alone p k =
+    let rest : Option Addition → Instructions = λ s. added_or y s t (anyway_with y fs ts o es t w (suc d) Done) k (anyway_with y fs ts o es t w d k) in
+    p k ∙ ap (λ (s : Option Addition). followed a (rest s)) (sym alone) ∙ ap (λ (x : Option ℤ). followed a (field_or y x t k (rest (addition_in o es)))) (sym none)
+
+pub sum_emitted : (y : Layout) (v : Bool) (fs : List plain.Form) (ts : List ℕ) (o : Operation) (es : Codes) (s : Addition) (t w d : ℕ) (a z : List Instr) → field_in o es ≡ None → addition_in o es ≡ Some s
+    → Emits a z (sum_with y fs ts s o es t w d) → Emits a z (emitted y v fs ts (plain.Do o es) t w d)
+unfolding emitted all_emitted
+sum_emitted y v fs ts o es s t w d a z none some p k =
+    let rest : Option Addition → Instructions = λ r. added_or y r t (anyway_with y fs ts o es t w (suc d) Done) k (anyway_with y fs ts o es t w d k) in
+    p k ∙ ap (λ (r : Option Addition). followed a (rest r)) (sym some) ∙ ap (λ (x : Option ℤ). followed a (field_or y x t k (rest (addition_in o es)))) (sym none)
 
 listed_are : (y : Layout) (fs : List plain.Form) (l : Listed) (es : Codes) (t d : ℕ) (k : Instructions) → AllCode es
     → listed_with y (forms_in fs es) l t d k ≡ all_boxed y fs es t (all_appended y es t (listed_asked y l (count_of es) t d k))

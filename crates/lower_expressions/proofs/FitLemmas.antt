@@ -1,8 +1,10 @@
 -- Code that fits has places, labels and arrays that do.
-use Rattle.std.proofs.Common.{◌≡◌, ℕ, suc, ◌+◌, ◌≤◌, Bool, true, Option, Some, None, ℤ, ap, subst, arith}
+use Rattle.std.proofs.Common.{◌≡◌, ℕ, suc, ◌+◌, ◌≤◌, Bool, true, if◌then◌else◌, Option, Some, None, is_some, ℤ, ap, subst, arith}
 use Rattle.mid_program.specs.Mid.{Code, Do, Over, Compare, Call, Ask, AskLine, FileLine, Replace, Number, Text, Unset, Get, Set, Array, IsOpen, Choose, Seq, Let, Bound, Codes, End, At, Fixed, Fresh}
+use Rattle.mid_program.specs.declared.mid.Operation.{Operation}
 use Rattle.mid_program.specs.Sorted.{count_of}
 use Rattle.lower_model.specs.Emission.{Layout, Immediate, FieldOf, TextOf, NumberOf, immediate_field, immediate_in, field_in, array_meant}
+use Rattle.lower_model.specs.Quick.{Addition, addition_in}
 use Rattle.lower_pieces.specs.Bounds.{most_labels, most_places}
 use Rattle.lower_expressions.specs.Fits.{AllFit, ArrayFits, ArraysFit, Fits, ImmediateFits, Within}
 
@@ -29,6 +31,24 @@ all_within y End t w d q = q
 all_within y (At e es) t w d q = q.0
 all_within y (Fixed m es) t w d q = all_within y es t w d q
 all_within y (Fresh es) t w d q = q.0
+
+-- operations
+
+pub outer_within : (t w d : ℕ) → Within t w (suc d) → Within t w d
+outer_within t w d q = let a = q.1.1 in (q.0, (q.1.0, omega (arith, a)))
+
+pub operation_place : (y : Layout) (o : Operation) (es : Codes) (t w d : ℕ) → Fits y (Do o es) t w d → t ≤ most_places
+operation_place y o es t w d q =
+    let e : ℕ = if is_some (addition_in o es) then suc d else d in
+    place_fits t w e (all_within y es t w e q)
+
+pub operands_fit_inside : (y : Layout) (o : Operation) (es : Codes) (s : Addition) (t w d : ℕ) → addition_in o es ≡ Some s → Fits y (Do o es) t w d → AllFit y es t w (suc d)
+operands_fit_inside y o es s t w d h q = subst (λ (x : Option Addition). AllFit y es t w (if is_some x then suc d else d)) h q
+
+pub operands_fit : (y : Layout) (o : Operation) (es : Codes) (t w d : ℕ) → addition_in o es ≡ None → Fits y (Do o es) t w d → AllFit y es t w d
+operands_fit y o es t w d h q = subst (λ (x : Option Addition). AllFit y es t w (if is_some x then suc d else d)) h q
+
+-- operands
 
 meant_fits : (y : Layout) (e : Code) (t w d : ℕ) → Fits y e t w d → ArrayFits (array_meant e)
 meant_fits y (Array a) t w d q = q

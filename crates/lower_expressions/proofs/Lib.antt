@@ -4,6 +4,7 @@ mod FormLemmas
 mod Keepings
 mod Keys
 mod RoutineLemmas
+pub mod SourceLemmas
 mod Views
 mod WalkLemmas
 pub mod Weights

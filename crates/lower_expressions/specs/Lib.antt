@@ -2,4 +2,5 @@ pub mod CodeAt
 pub mod Fits
 pub mod Keeping
 pub mod Parts
+pub mod Sources
 pub mod View

@@ -1,7 +1,7 @@
 -- Parts of the definitions, which are added by functions of their own. The words are those of the definitions (lower_model, `Emission`): `after` is the
 -- code that comes after, `temporary` the one that the value goes to, `arrays` how many arrays of calls are in use, `exit` how many labels further out the
 -- exit is.
-use Rattle.std.specs.Prelude.{ℕ, zero, suc, ◌+◌, Bool, true, false, List, [], ◌∷◌, length}
+use Rattle.std.specs.Prelude.{ℕ, zero, suc, ◌+◌, ◌^◌, pos, Bool, true, false, List, [], ◌∷◌, length}
 use Rattle.sem_primitives.specs.Constants.{flag_number}
 use Rattle.sem_primitives.specs.Table.{arguments_of, answer_of, can_fault}
 use Rattle.sem_primitives.specs.declared.sorts.Argument.{Argument}
@@ -22,8 +22,9 @@ use Rattle.mid_program.specs.declared.mid.Operation.{Operation}
 use Rattle.mid_program.specs.declared.mid.Operation.TheVariants.{Host}
 use Rattle.mid_program.specs.Mid.{Kind, Boxed, Unboxed, Many, Code, Codes, End, At, Fixed, Fresh, arguments, form_of, parameters_at}
 use Rattle.lower_model.specs.Places.{Bases, array_local, made_in, handle_local, number_local}
-use Rattle.lower_model.specs.Small.{ask, ask_row, does, kept, kept_code, answer_kept, minus_one, moved_out, number_is, to_value, converted, when}
-use Rattle.lower_model.specs.Emission.{Layout, all_pushed, emitted, text_kept, text_let_go, assigned, function_number, global_handle, global_number, listed_asked, one_given, pending_assigned, performed, text_dropped}
+use Rattle.lower_model.specs.Small.{ask, ask_row, does, either, kept, kept_code, answer_kept, minus_one, moved_out, number_is, to_value, converted, when}
+use Rattle.lower_model.specs.Emission.{Layout, added, all_converted, all_emitted, all_pushed, emitted, name_read, text_kept, text_let_go, assigned, function_number, global_handle, global_number, listed_asked, one_given, pending_assigned, performed, text_dropped}
+use Rattle.lower_model.specs.Quick.{Addition, addition_names, all_unsure}
 use Rattle.host_imports.specs.declared.import.Import.TheVariants.{Arg, Drop, FreeArray}
 
 -- a constant, and the value that a row has of it
@@ -116,6 +117,18 @@ host_performed layout primitive operands temporary exit after =
 abbrev pub operated : Layout → List plain.Form → Operation → Codes → ℕ → ℕ → Instructions → Instructions
 operated layout forms operation operands temporary exit after =
     converted_with layout.bases forms (arguments operation) operands temporary exit (performed layout operation operands temporary exit after)
+
+-- an operation as it is in all cases
+abbrev pub anyway_with : Layout → List plain.Form → List ℕ → Operation → Codes → ℕ → ℕ → ℕ → Instructions → Instructions
+anyway_with layout forms temporaries operation operands temporary arrays exit after =
+    all_emitted layout forms temporaries operands temporary arrays exit
+    (all_converted layout forms (arguments operation) operands temporary exit (performed layout operation operands temporary exit after))
+
+-- a sum of two sources
+abbrev pub sum_with : Layout → List plain.Form → List ℕ → Addition → Operation → Codes → ℕ → ℕ → ℕ → Instructions → Instructions
+sum_with layout forms temporaries addition operation operands temporary arrays exit after =
+    all_unsure (name_read layout) (addition_names addition) (pos (2 ^ 52)) (2 ^ 53)
+    (either (anyway_with layout forms temporaries operation operands temporary arrays (suc exit) Done) (added layout addition temporary Done) after)
 
 -- two subscripts of these forms are joined
 abbrev pub joined_with : Layout → plain.Form → plain.Form → ℕ → ℕ → Instructions → Instructions

@@ -6,9 +6,11 @@ ghost use Rattle.mid_program.specs.ViewCode.{joined, view, view_slot, views};
 ghost use Rattle.lower_expressions.specs.CodeAt.{AllFitAt, FitsAt, all_emitted_at, emitted_at};
 ghost use Rattle.lower_pieces.specs.Emits.{Emits};
 ghost use Rattle.lower_pieces.specs.Forms.{view_form};
-ghost use Rattle.lower_expressions.specs.Fits.{Fits, Within};
-ghost use Rattle.lower_expressions.specs.Parts.{branch_with, forms_in, stored_with};
+ghost use Rattle.lower_expressions.specs.Fits.{AllFit, Fits, Within};
+ghost use Rattle.lower_expressions.specs.Parts.{anyway_with, branch_with, forms_in, stored_with, sum_with};
+ghost use Rattle.lower_expressions.specs.Sources.{AdditionFits};
 ghost use Rattle.lower_expressions.specs.View.{view_layout};
+ghost use Rattle.lower_quick.specs.View.{view_addition};
 
 use crate::at::{At, after_array, inner_at, next, stored_at};
 use crate::calls::called;
@@ -21,16 +23,21 @@ use crate::lists::listed;
 use crate::operands::{all_joined, operated, operation_form};
 use crate::pending::asked;
 use crate::slots::slot_set;
+use crate::sources::{added, all_unsure};
 use crate::storing::{
     array_made, file_asked, keeping_closed, left_over, line_stored, replaced, sequence_closed,
     text_kept, text_let_go,
 };
 use awk_values::CompareOp;
 use lower_pieces::{Form, compared, converted, either, is_value, truth};
+use lower_quick::{Addition, addition_in, addition_names};
 use mid_program::{Code, Operand, Operation, Slot};
 use sem_primitives::{Answer, Listed, Primitive, Sort};
 use std::alloc::AllocError;
 use wasm_types::Instr;
+
+/// Two numbers of at most this magnitude have a sum in range.
+const MOST: u64 = 1 << 52;
 
 #[tactic(auto, unfolding(lower_model::specs::Emission::emitted))]
 /// Adds the code of an expression, and gives the form of its answer. Where `only` what it does counts, an assignment moves its value, and no answer is brought to
@@ -130,10 +137,59 @@ fn operation(
     if let Some(number) = field_in(what, operands) {
         return field_read(layout, out, number, at.temporary);
     }
+    match addition_in(what, operands) {
+        Some(addition) => sum(layout, kept, out, addition, what, operands, at)?,
+        None => anyway(layout, kept, out, what, operands, at)?,
+    }
+    Ok(operation_form(what))
+}
+
+/// Adds a sum of two sources: a few instructions where their numbers are near 0, and the code of all cases elsewhere.
+#[cycle(expressions)]
+fn sum(
+    layout: &FunctionLayout<'_>,
+    kept: &mut Kept,
+    out: &mut Vec<Instr>,
+    addition: Addition,
+    what: Operation,
+    operands: &[Operand],
+    at: At,
+) -> Result<(), AllocError>
+    requires sources { AdditionFits (view_addition addition) }
+    requires fit { AllFit (view_layout layout.now) (views operands.now) at.temporary at.arrays
+        (suc at.exit) }
+    ensures emits { OnOk result (Emits out.old.items out.new.items
+        (sum_with (view_layout layout.now) kept.old.forms kept.old.temporaries
+        (view_addition addition) what (views operands.now) at.temporary at.arrays at.exit)) }
+    ensures kept { OnOk result (kept.new ≡ kept.old) }
+{
+    let names = addition_names(layout.alloc, addition)?;
+    all_unsure(layout, out, &names, MOST, MOST + MOST)?;
+    let mut code = Vec::new(layout.alloc);
+    anyway(layout, kept, &mut code, what, operands, inner_at(at))?;
+    let near = added(layout, addition, at.temporary)?;
+    either(layout.alloc, out, code, near)
+}
+
+/// Adds an operation as it is in all cases: its operands, and what is done with them.
+#[cycle(expressions)]
+fn anyway(
+    layout: &FunctionLayout<'_>,
+    kept: &mut Kept,
+    out: &mut Vec<Instr>,
+    what: Operation,
+    operands: &[Operand],
+    at: At,
+) -> Result<(), AllocError>
+    requires { AllFitAt layout.now (views operands.now) at }
+    ensures emits { OnOk result (Emits out.old.items out.new.items
+        (anyway_with (view_layout layout.now) kept.old.forms kept.old.temporaries what
+        (views operands.now) at.temporary at.arrays at.exit)) }
+    ensures kept { OnOk result (kept.new ≡ kept.old) }
+{
     let mut forms = Vec::new(layout.alloc);
     all_operands(layout, kept, out, &mut forms, operands, at)?;
-    operated(layout, out, &forms, what, operands, at.temporary, at.exit)?;
-    Ok(operation_form(what))
+    operated(layout, out, &forms, what, operands, at.temporary, at.exit)
 }
 
 /// Adds the key of subscripts. All are evaluated before any are joined.

@@ -14,6 +14,7 @@ mod operands;
 mod pending;
 mod places;
 mod slots;
+mod sources;
 mod storing;
 mod walks;
 
@@ -25,4 +26,5 @@ pub use kept::Kept;
 pub use pending::{asked, pending_assigned, pending_code};
 pub use places::{array_pushed, global_handle, global_number, text_pushed};
 pub use slots::text_dropped;
+pub use sources::{all_unsure, name_read, source_read, sum_op};
 pub use storing::left_over;

@@ -1,45 +1,25 @@
 -- The names of quick ways are numbers of globals, and their parameters places of locals, where the code can be emitted.
-use Rattle.std.proofs.Common.{◌≡◌, ℕ, zero, suc, ◌+◌, ◌^◌, ◌<◌, ◌≤◌, Bool, true, false, nat_eq, List, [], ◌∷◌, length, get_or, take, drop, drop-cons, ◌-◌, Option, Some, None, ℤ, pos, ◌+ℤ◌, unsigned_abs, map, refl, sym, ap, ◌∙◌, subst, arith, if◌then◌else◌}
-use Rattle.std.proofs.lemmas.List.{take_all}
+use Rattle.std.proofs.Common.{◌≡◌, ℕ, zero, suc, ◌^◌, ◌<◌, ◌≤◌, Bool, true, false, nat_eq, [], ◌∷◌, Option, Some, None, ℤ, pos, ◌+ℤ◌, unsigned_abs, refl, sym, ap, subst, arith}
 use Rattle.awk_values.specs.declared.comparison.CompareOp.{CompareOp}
 use Rattle.awk_values.specs.declared.comparison.CompareOp.TheVariants as compare
-use Rattle.wasm_types.specs.Syntax.{Instructions}
-use Rattle.wasm_types.specs.declared.types.ValType.TheVariants.{I64}
-use Rattle.wasm_types.specs.declared.instr.IBinOp.TheVariants.{Or}
-use Rattle.wasm_types.specs.declared.instr.Simple.{Simple}
-use Rattle.wasm_types.specs.declared.instr.Simple.TheVariants.{Binary}
 use Rattle.mid_program.specs.declared.mid.Arithmetic.{Arithmetic}
 use Rattle.mid_program.specs.declared.mid.Operation.TheVariants.{Inline, AsNumber}
 use Rattle.mid_program.specs.Mid.{Slot, Code, Do, Compare, Number, Set, Let, Bound, Codes, End, At}
-use Rattle.lower_model.specs.Emission.{Layout, source_pushed}
-use Rattle.lower_model.specs.Quick.{Holder, OfName, OfParameter, holder_of, Source, Held, Constant, Sum, Update, update_in, Tally, tally_in, Remainder, remainder_in, remainder_names, Counted, counted_of, counted_in, field_count, Pair, Within, all_unsure, joined, shifted, and_name, and_source, both_within, compared_within, constant_in, first_ones, is_among, kept_sum, let_sum, name_in, new_sum, old_source, pair_in, pair_names, pair_of, set_after, set_alone, set_sum, source_in, stored_name, sum_in, sum_names, sum_of, test_within, two_sum, update_sum}
+use Rattle.lower_model.specs.Emission.{Layout}
+use Rattle.lower_model.specs.Quick.{Holder, OfName, OfParameter, holder_of, Source, Constant, Sum, Update, update_in, Tally, tally_in, Remainder, remainder_in, remainder_names, Counted, counted_of, counted_in, field_count, Pair, Within, and_source, both_within, compared_within, constant_in, first_ones, kept_sum, let_sum, name_in, new_sum, old_source, pair_in, pair_names, pair_of, set_after, set_alone, set_sum, source_in, stored_name, sum_in, sum_names, sum_of, test_within, two_sum, update_sum}
 use Rattle.lower_model.proofs.Quick.{holder_is, name_is}
 use Rattle.lower_model.proofs.State.{holder_slot}
 use Rattle.lower_model.proofs.Tallies.{Shape, Updating, Following, Leading, tally_code, IsAdded, tally_is}
 use Rattle.lower_model.proofs.Remainders.{IsRemainder, factored_code, remainder_code, remainder_is}
 use Rattle.lower_model.proofs.Updating.{added_is}
-use Rattle.lower_model.proofs.QuickNames.{near_sum, none_is, some_is, source_code, source_is, stored_is}
-use Rattle.lower_model.specs.Small.{does}
-
+use Rattle.lower_model.proofs.QuickNames.{near_sum, none_is, some_is, stored_is}
 use Rattle.lower_pieces.specs.Bounds.{most_labels}
 use Rattle.lower_expressions.specs.Fits.{AllFit, Fits, SlotFits}
-use Rattle.lower_quick.specs.View.{view_holder}
-use Rattle.lower_quick.specs.declared.source.Holder as quick
-use Rattle.lowering.specs.Parts.{past, source_read}
-use Rattle.lowering.specs.QuickFits.{FactorFits, HolderFits, NamesFit, PairFits, RemainderFits, SourceFits, SumFits, TallyFits}
+use Rattle.lower_expressions.specs.Sources.{HolderFits, NamesFit}
+use Rattle.lower_expressions.proofs.SourceLemmas.{MaybeFits, maybe_fits, name_list, source_list}
+use Rattle.lowering.specs.QuickFits.{FactorFits, PairFits, RemainderFits, SumFits, TallyFits}
 
 -- lists of names
-
-name_list : (i : Holder) (is : List Holder) → HolderFits i → NamesFit is → NamesFit (and_name i is)
-name_list i is le f = by (is_among i is)
-  where
-    by : (t : Bool) → NamesFit (if t then is else i ∷ is)
-    by true = f
-    by false = (le, f)
-
-source_list : (s : Source) (is : List Holder) → SourceFits s → NamesFit is → NamesFit (and_source s is)
-source_list (Held i) is le f = name_list i is le f
-source_list (Constant z) is le f = f
 
 pub sum_list : (s : Sum) → SumFits s → NamesFit (sum_names s)
 sum_list s f = name_list s.target (and_source s.left (and_source s.right [])) f.0 (source_list s.left (and_source s.right []) f.1.0 (source_list s.right [] f.1.1 tt))
@@ -50,38 +30,7 @@ remainder_list q f = name_list q.target (q.multiple.name ∷ []) f.0 (f.1.0, tt)
 pub pair_list : (q : Pair) → PairFits q → NamesFit (pair_names q)
 pair_list q f = source_list q.left (and_source q.right []) f.0 (source_list q.right [] f.1 tt)
 
--- the first of the names that are left
-
-left_at : (is : List quick.Holder) (i : ℕ) (d : quick.Holder) → i < length is → drop i is ≡ get_or is i d ∷ drop (i + 1) is
-left_at is i d lt =
-    let next : suc i ≡ i + 1 = omega arith in
-    drop-cons is i d lt ∙ ap (λ (n : ℕ). get_or is i d ∷ drop n is) next
-
-pub names_left : (is : List quick.Holder) (i : ℕ) (d : quick.Holder) → i < length is → NamesFit (map view_holder (drop i is)) → HolderFits (view_holder (get_or is i d)) × NamesFit (map view_holder (drop (i + 1) is))
-names_left is i d lt f = subst (λ (js : List quick.Holder). NamesFit (map view_holder js)) (left_at is i d lt) f
-
-pub joined_step : (read : Holder → Simple) (is : List quick.Holder) (i : ℕ) (d : quick.Holder) (q : ℤ) (k : Instructions) → i < length is →
-    shifted (read (view_holder (get_or is i d))) q (does (Binary I64 Or) (joined read (map view_holder (drop (i + 1) is)) q k)) ≡ joined read (map view_holder (drop i is)) q k
-joined_step read is i d q k lt = sym (ap (λ (js : List quick.Holder). joined read (map view_holder js) q k) (left_at is i d lt))
-
--- the test of names, from that of the first and the others
-pub all_of : (read : Holder → Simple) (is : List quick.Holder) (d : quick.Holder) (q : ℤ) (w : ℕ) (k : Instructions) → 1 ≤ length is →
-    shifted (read (view_holder (get_or is 0 d))) q (joined read (map view_holder (take (length is - 1) (drop 1 is))) q (past w k)) ≡ all_unsure read (map view_holder is) q w k
-all_of read [] d q w k h = absurd (omega arith)
-all_of read (i ∷ is) d q w k h = ap (λ (js : List quick.Holder). shifted (read (view_holder i)) q (joined read (map view_holder js) q (past w k))) (take_all (suc (length is) - 1) is (omega arith))
-
--- two sources on the stack
-pub two_read : (y : Layout) (a b : Source) (k : Instructions) → does (source_read y a) (does (source_read y b) k) ≡ source_pushed y a (source_pushed y b k)
-two_read y (Held i) (Held j) k = refl
-two_read y (Held i) (Constant z) k = refl
-two_read y (Constant z) (Held j) k = refl
-two_read y (Constant z) (Constant x) k = refl
-
 -- names in code
-
-abbrev MaybeFits : Option Source → Type 0
-MaybeFits None = Unit {0}
-MaybeFits (Some s) = SourceFits s
 
 sum_of_fits : (i : Holder) (o : Arithmetic) (a e : Option Source) (s : Sum) → sum_of i o a e ≡ Some s → HolderFits i → MaybeFits a → MaybeFits e → SumFits s
 sum_of_fits i o (Some a) (Some e) s q le f g = subst SumFits (near_sum i o a e s q).1 (le, (f, g))
@@ -112,22 +61,8 @@ slot_fits : (x : Slot) (i : Holder) → holder_of x ≡ Some i → SlotFits x �
 slot_fits x i h f = held_fits i (subst SlotFits (holder_is x i h) f)
 
 module _ (y : Layout) where
-  source_fits : (e : Code) (s : Source) (t w d : ℕ) → source_in e ≡ Some s → Fits y e t w d → SourceFits s
-  source_fits e s t w d q f = by s (subst (λ (x : Code). Fits y x t w d) (source_is e s q) f)
-    where
-      by : (r : Source) → Fits y (source_code r) t w d → SourceFits r
-      by (Held i) g = held_fits i g.1
-      by (Constant z) g = tt
-
-  maybe_fits : (e : Code) (t w d : ℕ) → Fits y e t w d → MaybeFits (source_in e)
-  maybe_fits e t w d f = by (source_in e) refl
-    where
-      by : (o : Option Source) → source_in e ≡ o → MaybeFits o
-      by None q = tt
-      by (Some s) q = source_fits e s t w d q f
-
   two_fits : (i : Holder) (o : Arithmetic) (es : Codes) (s : Sum) (t w d : ℕ) → two_sum i o es ≡ Some s → HolderFits i → AllFit y es t w d → SumFits s
-  two_fits i o (At a (At e End)) s t w d q le f = sum_of_fits i o (source_in a) (source_in e) s q le (maybe_fits a t w d f.1.0) (maybe_fits e (suc t) w d f.1.1.1.0)
+  two_fits i o (At a (At e End)) s t w d q le f = sum_of_fits i o (source_in a) (source_in e) s q le (maybe_fits y a t w d f.1.0) (maybe_fits y e (suc t) w d f.1.1.1.0)
   two_fits i o es s t w d q le f = cc
 
   set_fits : (i : Holder) (e : Code) (s : Sum) (t w d : ℕ) → set_sum i e ≡ Some s → HolderFits i → Fits y e t w d → SumFits s
@@ -135,7 +70,7 @@ module _ (y : Layout) where
   set_fits i e s t w d q le f = cc
 
   kept_fits : (i : Holder) (o : Arithmetic) (a : Code) (es : Codes) (s : Sum) (t w d : ℕ) → kept_sum i o a es ≡ Some s → HolderFits i → MaybeFits (source_in a) → AllFit y es t w d → SumFits s
-  kept_fits i o a (At x (At (Bound true zero) End)) s t w d q le g f = sum_of_fits i o (source_in x) (source_in a) s q le (maybe_fits x t w d f.1.0) g
+  kept_fits i o a (At x (At (Bound true zero) End)) s t w d q le g f = sum_of_fits i o (source_in x) (source_in a) s q le (maybe_fits y x t w d f.1.0) g
   kept_fits i o a es s t w d q le g f = cc
 
   update_fits : (i : Holder) (a e : Code) (s : Sum) (t w d : ℕ) → update_sum i a e ≡ Some s → HolderFits i → MaybeFits (source_in a) → Fits y e t w d → SumFits s
@@ -143,7 +78,7 @@ module _ (y : Layout) where
   update_fits i a e s t w d q le g f = cc
 
   old_fits : (e : Code) (t w d : ℕ) → Fits y e t w d → MaybeFits (old_source e)
-  old_fits (Do AsNumber (At a End)) t w d f = maybe_fits a t w d f.1.0
+  old_fits (Do AsNumber (At a End)) t w d f = maybe_fits y a t w d f.1.0
   old_fits e t w d f = tt
 
   stored_fits : (e : Code) (i : Holder) (t w d : ℕ) → stored_name e ≡ Some i → Fits y e t w d → HolderFits i
@@ -162,7 +97,7 @@ module _ (y : Layout) where
   alone_fits x None e s t w d h q f n = none_is q
 
   let_fits : (a e : Code) (s : Sum) (t w d : ℕ) → let_sum a e ≡ Some s → Fits y a t w d → Fits y e (suc t) w d → SumFits s
-  let_fits a (Set x e) s t w d q f g = after_fits x (holder_of x) a e s (suc t) w d refl q g.1.0 (maybe_fits a t w d f) g.1.1
+  let_fits a (Set x e) s t w d q f g = after_fits x (holder_of x) a e s (suc t) w d refl q g.1.0 (maybe_fits y a t w d f) g.1.1
   let_fits a (Let x z) s t w d q f g = new_fits (old_source a) (stored_name z) x s q (old_fits a t w d f) (λ j k. stored_fits z j (suc (suc t)) w d k g.1.1)
   let_fits a e s t w d q f g = cc
 
@@ -172,7 +107,7 @@ module _ (y : Layout) where
   sum_fits e s t w d q f = cc
 
   pub pair_fits : (e : Code) (q : Pair) (t w d : ℕ) → pair_in e ≡ Some q → Fits y e t w d → PairFits q
-  pair_fits (Compare c a b) q t w d h f = of_pair c (source_in a) (source_in b) q h (maybe_fits a t w d f.1.0) (maybe_fits b (suc t) w d f.1.1)
+  pair_fits (Compare c a b) q t w d h f = of_pair c (source_in a) (source_in b) q h (maybe_fits y a t w d f.1.0) (maybe_fits y b (suc t) w d f.1.1)
   pair_fits e q t w d h f = cc
 
   both_fits : (c : CompareOp) (a : Code) (i : Option Holder) (r : Option ℤ) (q : Within) (t w d : ℕ) → name_in a ≡ i → both_within c i r ≡ Some q → Fits y a t w d → HolderFits q.name

@@ -8,14 +8,14 @@ use Rattle.sem_primitives.specs.declared.table.Primitive.TheVariants as row
 use Rattle.wasm_types.specs.Syntax.{Instructions, Done}
 use Rattle.wasm_types.specs.declared.types.ValType.TheVariants.{I32, I64}
 use Rattle.wasm_types.specs.declared.instr.CvtOp.TheVariants.{I32WrapI64}
-use Rattle.wasm_types.specs.declared.instr.IRelOp.TheVariants.{Eq, GtU, LeS, Ne}
+use Rattle.wasm_types.specs.declared.instr.IRelOp.TheVariants.{Eq, LeS, Ne}
 use Rattle.wasm_types.specs.declared.instr.ITestOp.TheVariants.{Eqz}
 use Rattle.wasm_types.specs.declared.instr.Simple.{Simple}
 use Rattle.wasm_types.specs.declared.instr.Simple.TheVariants.{Nop, Br, BrIf, LocalGet, LocalSet, LocalTee, GlobalGet, GlobalSet, I32Const, I64Const, Test, Compare as Comparing, Convert}
 use Rattle.sem_scripts.specs.Names.{ArrayName}
 use Rattle.mid_program.specs.Mid.{Kind, Boxed, Unboxed, Many, Code, Form, Step, Steps, Program, form_of}
 use Rattle.lower_model.specs.Emission.{Layout, array_pushed, emitted, pending_assigned, tested, name_read}
-use Rattle.lower_model.specs.Quick.{Constant, Counted, Held, Holder, Pair, Remainder, Source, Sum, all_unsure, sum_names, sum_op, Tally, Within, is_nothing, pair_in, step_jumps, test_within}
+use Rattle.lower_model.specs.Quick.{Counted, Holder, Pair, Remainder, Sum, all_unsure, sum_names, sum_op, Tally, Within, is_nothing, pair_in, step_jumps, test_within}
 use Rattle.lower_model.specs.Places.{Bases, answer_local, handle_global, iterator_local, status_global, way_global, handle_local, number_local}
 use Rattle.lower_model.specs.Small.{ask, ask_row, does, either, end_code, fail_if, kept_code, least, number_is, text_beside, to_number, when}
 use Rattle.lower_model.specs.Statements.{again, all_emptied, before_parts, block, constant_given, first_part, goes_on, iterator_left, iterators_swept, operands_swept, key_stored, last_part, left_by, left_unless, left_unless_counted, left_unless_pair, name_numbered, names_declared, parameters_dropped, part_done, record_done, records_read, returned, routines_declared, step_emitted, steps_emitted, sum_kept, element_given, remainder_dropped, summed, summed_anyway, swept, way_exit, way_next}
@@ -37,10 +37,6 @@ test_left layout test exit out after = tested layout [] [] test zero zero exit (
 
 -- Quick ways.
 
--- a word is past a width
-abbrev pub past : ℕ → Instructions → Instructions
-past width after = does (I64Const width) (does (Comparing I64 GtU) after)
-
 -- a test that compares sources
 abbrev pub pair_tested : Layout → Pair → Code → (exit out : ℕ) → Instructions → Instructions
 pair_tested layout pair test exit out after = left_unless_pair layout (Some pair) test exit out after
@@ -57,11 +53,6 @@ sum_done layout sum exit after =
 -- a remainder that a name takes: quickly where no product leaves the range
 abbrev pub remainder_done : Layout → Remainder → Code → ℕ → Instructions → Instructions
 remainder_done layout remainder code exit after = remainder_dropped layout (Some remainder) code exit after
-
--- what puts a source on the stack
-abbrev pub source_read : Layout → Source → Simple
-source_read layout (Held name) = name_read layout name
-source_read layout (Constant number) = I64Const (cast_unsigned w64 number)
 
 -- whether a name has no number
 abbrev pub unnumbered : Layout → Holder → Instructions → Instructions

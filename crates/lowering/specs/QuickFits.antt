@@ -1,21 +1,9 @@
 -- Which quick ways can be emitted: the names in them are numbers of globals, the parameters places of locals, and their code fits.
-use Rattle.std.specs.Prelude.{ℕ, ◌≤◌, ◌<◌, List, [], ◌∷◌, Option, Some, None, ℤ, unsigned_abs}
+use Rattle.std.specs.Prelude.{ℕ, ◌<◌, Option, Some, None, ℤ, unsigned_abs}
 use Rattle.lower_model.specs.Emission.{Layout}
-use Rattle.lower_model.specs.Quick.{Holder, OfName, OfParameter, Source, Held, Constant, Sum, Tally, Remainder, Pair}
-use Rattle.lower_pieces.specs.Bounds.{most_places}
+use Rattle.lower_model.specs.Quick.{Sum, Tally, Remainder, Pair}
 use Rattle.lower_expressions.specs.Fits.{ArrayFits, Fits}
-
-abbrev pub HolderFits : Holder → Type 0
-HolderFits (OfName name) = name ≤ most_places
-HolderFits (OfParameter place) = place ≤ most_places
-
-abbrev pub NamesFit : List Holder → Type 0
-NamesFit [] = Unit {0}
-NamesFit (name ∷ names) = HolderFits name × NamesFit names
-
-abbrev pub SourceFits : Source → Type 0
-SourceFits (Held name) = HolderFits name
-SourceFits (Constant number) = Unit {0}
+use Rattle.lower_expressions.specs.Sources.{HolderFits, SourceFits}
 
 abbrev pub SumFits : Sum → Type 0
 SumFits sum = HolderFits sum.target × (SourceFits sum.left × SourceFits sum.right)

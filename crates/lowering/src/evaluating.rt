@@ -16,10 +16,10 @@ ghost use Rattle.lowering.specs.Parts.{remainder_done, status_left, sum_done};
 ghost use Rattle.lowering.specs.QuickFits.{RemainderFits, SumFits};
 
 use crate::leaving::WAY_EXIT;
-use crate::quick::{all_unsure, most_multiplied, remainder_code, sum_code};
+use crate::quick::{most_multiplied, remainder_code, sum_code};
 use crate::summing::{summed_anyway, updated};
 use crate::tallying::tallied;
-use lower_expressions::{At, FunctionLayout, Kept, expression, left_over};
+use lower_expressions::{At, FunctionLayout, Kept, all_unsure, expression, left_over};
 use lower_pieces::{Form, does_all, either, to_number, truth};
 use lower_quick::{
     Remainder, Sum, remainder_in, remainder_names, sum_in, sum_names, tally_in, update_in,

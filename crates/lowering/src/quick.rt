@@ -1,38 +1,27 @@
 //! Quick ways of statements on numbers: names whose numbers are within bounds, and what is done with them on the stack.
-ghost use Rattle.std.specs.Prelude.{[], ◌≡◌, ◌≤◌, ◌^◌, IfOk, OnOk, map, pos, suc};
+ghost use Rattle.std.specs.Prelude.{[], ◌≡◌, ◌≤◌, ◌^◌, IfOk, OnOk, pos, suc};
 ghost use Rattle.awk_text.specs.Number.{largest};
-ghost use Rattle.lower_model.specs.Quick.{all_unsure, joined, most_multiplied, sum_op, unsure};
+ghost use Rattle.lower_model.specs.Quick.{most_multiplied, unsure};
 ghost use Rattle.lower_model.specs.Statements.{counted_left, name_put, pair_left, remainder_taken, summed};
 ghost use Rattle.lower_model.specs.Emission.{name_read};
 ghost use Rattle.lower_pieces.specs.Bounds.{most_labels};
 ghost use Rattle.lower_pieces.specs.Emits.{Emits};
+ghost use Rattle.lower_expressions.specs.Sources.{HolderFits};
 ghost use Rattle.lower_expressions.specs.View.{view_layout};
-ghost use Rattle.lower_quick.specs.View.{view_counted, view_holder, view_pair, view_remainder, view_source, view_sum};
-ghost use Rattle.lowering.specs.Parts.{source_read, unnumbered};
-ghost use Rattle.lowering.specs.QuickFits.{FactorFits, HolderFits, NamesFit, PairFits, RemainderFits, SourceFits, SumFits};
+ghost use Rattle.lower_quick.specs.View.{view_counted, view_holder, view_pair, view_remainder, view_sum};
+ghost use Rattle.lowering.specs.Parts.{unnumbered};
+ghost use Rattle.lowering.specs.QuickFits.{FactorFits, PairFits, RemainderFits, SumFits};
 
 use crate::lists::{call_of, listed};
 use awk_text::MAX_NUMBER;
-use lower_expressions::{FunctionLayout, global_number};
-use lower_pieces::{TEXT_BESIDE, does, does_all, relation};
-use lower_quick::{Counted, Holder, Pair, Remainder, Source, Sum, Within, contrary};
-use mid_program::Arithmetic;
+use lower_expressions::{FunctionLayout, global_number, name_read, source_read, sum_op};
+use lower_pieces::{TEXT_BESIDE, does_all, relation};
+use lower_quick::{Counted, Holder, Pair, Remainder, Sum, Within, contrary};
 use sem_primitives::{Primitive, Special};
 use std::alloc::AllocError;
 use wasm_types::{IBinOp, IRelOp, Instr, Simple, ValType};
 
-/// What reads the number of an unboxed name or parameter.
-pub(crate) fn name_read(layout: &FunctionLayout<'_>, name: Holder) -> Simple
-    requires { HolderFits (view_holder name) }
-    ensures { result ≡ name_read (view_layout layout.now) (view_holder name) }
-{
-    match name {
-        Holder::Name(name) => Simple::GlobalGet(global_number(layout, name)),
-        Holder::Parameter(place) => Simple::LocalGet(place as u32),
-    }
-}
-
-/// What writes it.
+/// What writes the number of an unboxed name or parameter.
 pub(crate) fn name_put(layout: &FunctionLayout<'_>, name: Holder) -> Simple
     requires { HolderFits (view_holder name) }
     ensures { result ≡ name_put (view_layout layout.now) (view_holder name) }
@@ -62,83 +51,6 @@ pub(crate) fn unsure(
         Simple::Compare(ValType::I64, IRelOp::GtU),
     ];
     does_all(out, &all)
-}
-
-/// Joins the words of names, each with what is added to it, to the one on the stack.
-fn joined(
-    layout: &FunctionLayout<'_>,
-    out: &mut Vec<Instr>,
-    names: &[Holder],
-    shift: u64,
-) -> Result<(), AllocError>
-    requires { NamesFit (map view_holder names.now) }
-    ensures { OnOk result (Emits out.old.items out.new.items
-        (joined (name_read (view_layout layout.now)) (map view_holder names.now) (pos shift))) }
-{
-    for name in names {
-        let all = [
-            name_read(layout, *name),
-            Simple::I64Const(shift),
-            Simple::Binary(ValType::I64, IBinOp::Add),
-            Simple::Binary(ValType::I64, IBinOp::Or),
-        ];
-        does_all(out, &all)?;
-    }
-    Ok(())
-}
-
-/// Adds the test whether one of several names has no number, or one that is not from 0 to a width once it is shifted.
-pub(crate) fn all_unsure(
-    layout: &FunctionLayout<'_>,
-    out: &mut Vec<Instr>,
-    names: &[Holder],
-    shift: u64,
-    width: u64,
-) -> Result<(), AllocError>
-    requires { NamesFit (map view_holder names.now) }
-    ensures { OnOk result (Emits out.old.items out.new.items
-        (all_unsure (name_read (view_layout layout.now)) (map view_holder names.now)
-        (pos shift) width)) }
-{
-    let [first, others @ ..] = names else {
-        return does(out, Simple::I32Const(0));
-    };
-    let word = [
-        name_read(layout, *first),
-        Simple::I64Const(shift),
-        Simple::Binary(ValType::I64, IBinOp::Add),
-    ];
-    does_all(out, &word)?;
-    joined(layout, out, others, shift)?;
-    let past = [
-        Simple::I64Const(width),
-        Simple::Compare(ValType::I64, IRelOp::GtU),
-    ];
-    does_all(out, &past)
-}
-
-/// What puts a source on the stack.
-fn source_read(layout: &FunctionLayout<'_>, source: Source) -> Simple
-    requires { SourceFits (view_source source) }
-    ensures { result ≡ source_read (view_layout layout.now) (view_source source) }
-{
-    match source {
-        Source::Held(name) => name_read(layout, name),
-        Source::Constant(number) => Simple::I64Const(number.cast_unsigned()),
-    }
-}
-
-pub(crate) fn sum_op(op: Arithmetic) -> IBinOp
-    ensures { result ≡ sum_op op }
-{
-    match op {
-        Arithmetic::Minus => IBinOp::Sub,
-        Arithmetic::Plus
-        | Arithmetic::Times
-        | Arithmetic::Over
-        | Arithmetic::Modulo
-        | Arithmetic::Truncated => IBinOp::Add,
-    }
 }
 
 /// A sum in range, which its name takes.

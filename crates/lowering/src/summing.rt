@@ -7,17 +7,20 @@ ghost use Rattle.lower_model.specs.Emission.{field_at};
 ghost use Rattle.lower_pieces.specs.Bounds.{most_labels, most_places};
 ghost use Rattle.lower_pieces.specs.Emits.{Emits};
 ghost use Rattle.lower_expressions.specs.Fits.{Fits};
+ghost use Rattle.lower_expressions.specs.Sources.{HolderFits, SourceFits};
 ghost use Rattle.lower_expressions.specs.View.{view_layout};
 ghost use Rattle.lower_quick.specs.View.{view_holder, view_source, view_sum, view_update};
 ghost use Rattle.lowering.specs.Parts.{field_asked};
-ghost use Rattle.lowering.specs.QuickFits.{HolderFits, SourceFits, SumFits};
+ghost use Rattle.lowering.specs.QuickFits.{SumFits};
 
 use crate::evaluating::answered;
 use crate::lists::{call_of, listed};
-use crate::quick::{name_put, name_read, sum_op};
+use crate::quick::name_put;
 use awk_text::MAX_NUMBER;
 use awk_values::Fault;
-use lower_expressions::{FunctionLayout, field_at, global_handle, text_dropped};
+use lower_expressions::{
+    FunctionLayout, field_at, global_handle, name_read, sum_op, text_dropped,
+};
 use lower_pieces::{
     Form, TEXT_BESIDE, copied_by, does, does_all, either, fail_if, number_is, to_number, when,
 };

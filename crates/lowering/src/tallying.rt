@@ -14,9 +14,8 @@ ghost use Rattle.lowering.specs.QuickFits.{TallyFits};
 
 use crate::evaluating::at_first;
 use crate::lists::call_of;
-use crate::quick::sum_op;
 use crate::summing::sum_kept;
-use lower_expressions::{At, FunctionLayout, Kept, array_pushed, expression};
+use lower_expressions::{At, FunctionLayout, Kept, array_pushed, expression, sum_op};
 use lower_pieces::{Form, does_all, kept_number, moved_out, to_number, to_value};
 use lower_quick::Tally;
 use mid_program::ArrayName;

@@ -11,23 +11,26 @@ use Rattle.mid_program.specs.Mid.{Codes, form_of}
 use Rattle.mid_program.specs.ViewCode.{joined, view, view_slot, views}
 use Rattle.mid_program.specs.declared.code.Code.{Code}
 use Rattle.lower_model.specs.Arithmetic.{is_value}
-use Rattle.lower_model.specs.Emission.{emitted, immediate_in}
+use Rattle.lower_model.specs.Emission.{added, emitted, immediate_in}
 use Rattle.lower_pieces.specs.Emits.{followed, Emits}
 use Rattle.lower_pieces.specs.Forms.{view_form}
 use Rattle.lower_pieces.specs.declared.form.Form.{Form}
 use Rattle.lower_pieces.proofs.Appended.{emits_none}
+use Rattle.lower_quick.specs.View.{view_addition, view_holder}
 use Rattle.lower_expressions.specs.Fits.{AllFit, Fits}
 use Rattle.lower_expressions.specs.Keeping.{Keeping, kept_but_one, kept_more}
-use Rattle.lower_expressions.specs.Parts.{all_joined, branch_with, forms_in, stored_with}
+use Rattle.lower_expressions.specs.Parts.{all_joined, anyway_with, branch_with, forms_in, stored_with}
 use Rattle.lower_expressions.specs.View.{view_immediate, view_layout}
 use Rattle.lower_expressions.specs.declared.at.At.{At}
-use Rattle.lower_expressions.proofs.Arms.{assignment_emitted, branch_emitted, call_emitted, choice_emitted, code_emitted, comparison_emitted, field_emitted, file_line_emitted, fixed_emitted, form_added, fresh_emitted, immediate_emitted, keeping_emitted, kept_form, line_emitted, listing_emitted, next_operand, no_form, none_emitted, operation_emitted, replace_emitted, sequence_emitted, stored_emitted}
-use Rattle.lower_expressions.proofs.FitLemmas.{all_places, all_within, arrays_fit, immediate_fits, inner_fits, label_fits, next_fits, place_fits}
+use Rattle.lower_expressions.proofs.Arms.{anyway_emitted, assignment_emitted, branch_emitted, call_emitted, choice_emitted, code_emitted, comparison_emitted, field_emitted, file_line_emitted, fixed_emitted, form_added, fresh_emitted, immediate_emitted, keeping_emitted, kept_form, line_emitted, listing_emitted, next_operand, no_form, none_emitted, operation_emitted, replace_emitted, sequence_emitted, stored_emitted, sum_emitted}
+use Rattle.lower_expressions.proofs.FitLemmas.{all_places, all_within, arrays_fit, immediate_fits, inner_fits, label_fits, next_fits, operands_fit_inside, operation_place, outer_within, place_fits}
 use Rattle.lower_expressions.proofs.FormLemmas.{forms_counted}
 use Rattle.lower_expressions.proofs.Keys.{key_fits, key_weighs, subscript_emitted}
+use Rattle.lower_expressions.proofs.SourceLemmas.{addition_fits}
 use Rattle.lower_expressions.proofs.WalkLemmas.{no_items}
 use Rattle.lower_expressions.proofs.Views.{call_view, do_view, key_view, over_view, replace_view}
 use Rattle.lower_expressions.proofs.Weights.{weight, weights}
+use Rattle.lower_expressions.proofs.expressions.+expressions.Goals.{operation-in-Some-addition_in+in_ok-sum-in-Some-addition_in, operation-in-None+in_ok-anyway-in-None}
 use Rattle.lower_expressions.proofs.expressions.+expressions.Goals as goal
 
 -- expressions
@@ -545,21 +548,77 @@ all_operands-returns-in_ok-array_made-in-Fresh-clause-emits t c =
 
 -- expressions with operands
 
-pub operation-all_operands-requires : goal.operation-all_operands-requires
-operation-all_operands-requires t c = (omega (arith, c.decreases), c.requires)
+pub anyway-all_operands-requires : goal.anyway-all_operands-requires
+anyway-all_operands-requires t c = (omega (arith, c.decreases), c.requires)
 
-pub operation-operated-requires-clause-places : goal.operation-operated-requires-clause-places
-operation-operated-requires-clause-places t c =
+pub anyway-operated-requires-clause-places : goal.anyway-operated-requires-clause-places
+anyway-operated-requires-clause-places t c =
     let p = all_places (view_layout c.args.layout.now) (views c.args.operands.now) c.args.at.temporary c.args.at.arrays c.args.at.exit c.requires in
     omega (arith, p)
 
-pub operation-operated-requires-clause-labels : goal.operation-operated-requires-clause-labels
-operation-operated-requires-clause-labels t c = label_fits c.args.at.temporary c.args.at.arrays c.args.at.exit
+pub anyway-operated-requires-clause-labels : goal.anyway-operated-requires-clause-labels
+anyway-operated-requires-clause-labels t c = label_fits c.args.at.temporary c.args.at.arrays c.args.at.exit
     (all_within (view_layout c.args.layout.now) (views c.args.operands.now) c.args.at.temporary c.args.at.arrays c.args.at.exit c.requires)
 
-pub operation-operated-requires-clause-arrays : goal.operation-operated-requires-clause-arrays
-operation-operated-requires-clause-arrays t c = arrays_fit (view_layout c.args.layout.now) (views c.args.operands.now) c.args.at.temporary c.args.at.arrays
+pub anyway-operated-requires-clause-arrays : goal.anyway-operated-requires-clause-arrays
+anyway-operated-requires-clause-arrays t c = arrays_fit (view_layout c.args.layout.now) (views c.args.operands.now) c.args.at.temporary c.args.at.arrays
     c.args.at.exit c.requires
+
+pub anyway-returns-clause-emits : goal.anyway-returns-clause-emits
+anyway-returns-clause-emits t c =
+    let e = ap (map view_form) c.deref.ensures.value ∙ (rw c.new-forms.ensures.items at c.in_ok-all_operands.ensures.forms) in
+    on_ok_weaker c.operated.result (anyway_emitted (view_layout c.args.layout.now) c.args.kept.now.forms (map view_form c.deref.result.now) c.args.kept.now.temporaries
+    c.args.what (views c.args.operands.now) c.args.at.temporary c.args.at.arrays c.args.at.exit c.args.out.now.items c.all_operands.new.out.items
+    c.operated.new.out.items e c.in_ok-all_operands.ensures.emits) c.operated.ensures
+
+-- a sum of two sources
+
+pub operation-sum-requires : goal.operation-sum-requires
+operation-sum-requires t c =
+    let y = view_layout c.args.layout.now in
+    let es = views c.args.operands.now in
+    let s = view_addition c.in-Some-addition_in.addition in
+    let some = sym c.in-Some-addition_in.ensures in
+    let fit = operands_fit_inside y c.args.what es s c.args.at.temporary c.args.at.arrays c.args.at.exit some c.requires in (
+      omega (arith, c.decreases),
+      (addition_fits y c.args.what es s c.args.at.temporary c.args.at.arrays (suc c.args.at.exit) some fit, fit),
+    )
+
+pub sum-inner_at-requires : goal.sum-inner_at-requires
+sum-inner_at-requires t c = outer_within c.args.at.temporary c.args.at.arrays c.args.at.exit
+    (all_within (view_layout c.args.layout.now) (views c.args.operands.now) c.args.at.temporary c.args.at.arrays (suc c.args.at.exit) c.requires.fit)
+
+pub sum-added-requires-clause-place : goal.sum-added-requires-clause-place
+sum-added-requires-clause-place t c = place_fits c.args.at.temporary c.args.at.arrays (suc c.args.at.exit)
+    (all_within (view_layout c.args.layout.now) (views c.args.operands.now) c.args.at.temporary c.args.at.arrays (suc c.args.at.exit) c.requires.fit)
+
+pub sum-returns-clause-emits : goal.sum-returns-clause-emits
+sum-returns-clause-emits t c =
+    let y = view_layout c.args.layout.now in
+    let names = ap (map view_holder) c.deref.ensures.value ∙ c.in_ok-names.ensures in
+    let test = rw names at c.in_ok-all_unsure.ensures in
+    let slow = rw (c.inner_at.ensures, c.new-code.ensures.items) at c.in_ok-anyway.ensures.emits in
+    on_ok_weaker c.either.result (λ h k. h k ∙ test _) (c.either.ensures (anyway_with y c.args.kept.now.forms c.args.kept.now.temporaries c.args.what
+    (views c.args.operands.now) c.args.at.temporary c.args.at.arrays (suc c.args.at.exit)) (added y (view_addition c.args.addition) c.args.at.temporary) slow
+    c.in_ok-near.ensures)
+
+pub operation-returns-clause-emits : goal.operation-returns-clause-emits
+operation-returns-clause-emits t c =
+    let y = view_layout c.args.layout.now in
+    let es = views c.args.operands.now in
+    let fs = c.args.kept.now.forms in
+    let ts = c.args.kept.now.temporaries in
+    let none = sym c.field_in.ensures ∙ c.in_default.is in
+    λ v. elim c.match-addition_in.branch [
+      | operation-in-Some-addition_in+in_ok-sum-in-Some-addition_in w ↦
+          sum_emitted y v fs ts c.args.what es (view_addition w.in-Some-addition_in.addition) c.args.at.temporary c.args.at.arrays c.args.at.exit
+          c.args.out.now.items c.match-addition_in.out.items none (sym w.in-Some-addition_in.ensures)
+          (rw (sym w.out-is) at w.in_ok-sum-in-Some-addition_in.ensures.emits)
+      | operation-in-None+in_ok-anyway-in-None w ↦
+          operation_emitted y v fs ts c.args.what es c.args.at.temporary c.args.at.arrays c.args.at.exit
+          c.args.out.now.items c.match-addition_in.out.items none (sym w.in-None.ensures)
+          (rw (sym w.out-is) at w.in_ok-anyway-in-None.ensures.emits)
+    ]
 
 pub listing-all_operands-requires : goal.listing-all_operands-requires
 listing-all_operands-requires t c = (omega (arith, c.decreases), c.requires.1)
@@ -611,8 +670,8 @@ replacement-replaced-requires-clause-arrays t c = arrays_fit (view_layout c.args
     c.args.at.exit c.requires.1.0
 
 pub operation-field_read-requires : goal.operation-field_read-requires
-operation-field_read-requires t c = place_fits c.args.at.temporary c.args.at.arrays c.args.at.exit
-    (all_within (view_layout c.args.layout.now) (views c.args.operands.now) c.args.at.temporary c.args.at.arrays c.args.at.exit c.requires)
+operation-field_read-requires t c = operation_place (view_layout c.args.layout.now) c.args.what (views c.args.operands.now) c.args.at.temporary c.args.at.arrays
+    c.args.at.exit c.requires
 
 pub operation-returns-in-Some-clause-emits : goal.operation-returns-in-Some-clause-emits
 operation-returns-in-Some-clause-emits t c =
@@ -620,13 +679,6 @@ operation-returns-in-Some-clause-emits t c =
     λ v. on_ok_weaker c.field_read.result (field_emitted (view_layout c.args.layout.now) v c.args.kept.now.forms c.args.kept.now.temporaries c.args.what
     (views c.args.operands.now) _ c.in-Some.number c.args.at.temporary c.args.at.arrays c.args.at.exit c.args.out.now.items c.field_read.new.out.items
     (sym c.field_in.ensures ∙ c.in-Some.is) (to_z-of_z w64 c.in-Some.number fits)) c.field_read.ensures.emits
-
-pub operation-returns-clause-emits : goal.operation-returns-clause-emits
-operation-returns-clause-emits t c =
-    let e = ap (map view_form) c.deref.ensures.value ∙ (rw c.new-forms.ensures.items at c.in_ok-all_operands.ensures.forms) in
-    λ v. operation_emitted (view_layout c.args.layout.now) v c.args.kept.now.forms (map view_form c.deref.result.now) c.args.kept.now.temporaries
-    c.args.what (views c.args.operands.now) c.args.at.temporary c.args.at.arrays c.args.at.exit c.args.out.now.items c.all_operands.new.out.items
-    c.operated.new.out.items (sym c.field_in.ensures ∙ c.in_default.is) e c.in_ok-all_operands.ensures.emits c.in_ok-operated.ensures
 
 pub listing-returns-clause-emits : goal.listing-returns-clause-emits
 listing-returns-clause-emits t c =

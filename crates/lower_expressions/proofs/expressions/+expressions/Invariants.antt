@@ -16,10 +16,16 @@ abbrev pub decreases-expression : goal.decreases-expression
 decreases-expression l = 4 * weight (view l.code.now)
 
 abbrev pub decreases-all_operands : goal.decreases-all_operands
-decreases-all_operands l = 4 * weights (views l.operands.now) + 2
+decreases-all_operands l = 4 * weights (views l.operands.now)
 
 abbrev pub decreases-operation : goal.decreases-operation
 decreases-operation l = 4 * weights (views l.operands.now) + 3
+
+abbrev pub decreases-sum : goal.decreases-sum
+decreases-sum l = 4 * weights (views l.operands.now) + 2
+
+abbrev pub decreases-anyway : goal.decreases-anyway
+decreases-anyway l = 4 * weights (views l.operands.now) + 1
 
 abbrev pub decreases-listing : goal.decreases-listing
 decreases-listing l = 4 * weights (views l.operands.now) + 3

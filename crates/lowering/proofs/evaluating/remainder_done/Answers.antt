@@ -9,7 +9,7 @@ use Rattle.lower_model.specs.Statements.{remainder_taken}
 use Rattle.lower_pieces.proofs.Appended.{emits_then}
 use Rattle.lower_expressions.specs.View.{view_layout}
 use Rattle.lower_quick.specs.View.{view_holder, view_remainder}
-use Rattle.lowering.specs.QuickFits.{NamesFit}
+use Rattle.lower_expressions.specs.Sources.{NamesFit}
 use Rattle.lowering.proofs.QuickNames.{remainder_list}
 use Rattle.lowering.proofs.evaluating.remainder_done.Goals as goal
 

@@ -8,7 +8,7 @@ use Rattle.lower_model.specs.Emission.{name_read}
 use Rattle.lower_pieces.proofs.Appended.{emits_then}
 use Rattle.lower_expressions.specs.View.{view_layout}
 use Rattle.lower_quick.specs.View.{view_holder, view_sum}
-use Rattle.lowering.specs.QuickFits.{NamesFit}
+use Rattle.lower_expressions.specs.Sources.{NamesFit}
 use Rattle.lowering.proofs.QuickNames.{sum_list}
 use Rattle.lowering.proofs.evaluating.sum_done.Goals as goal
 

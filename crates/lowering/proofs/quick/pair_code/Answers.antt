@@ -4,7 +4,7 @@ use Rattle.lower_model.specs.Statements.{pair_left}
 use Rattle.lower_pieces.specs.Emits.{Emits}
 use Rattle.lower_expressions.specs.View.{view_layout}
 use Rattle.lower_quick.specs.View.{view_pair}
-use Rattle.lowering.proofs.QuickNames.{two_read}
+use Rattle.lower_expressions.proofs.SourceLemmas.{two_read}
 use Rattle.lowering.proofs.quick.pair_code.Goals as goal
 
 pub returns : goal.returns

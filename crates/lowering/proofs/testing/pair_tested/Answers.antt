@@ -10,7 +10,7 @@ use Rattle.lower_pieces.proofs.Appended.{emits_then}
 use Rattle.lower_expressions.specs.View.{view_layout}
 use Rattle.lower_quick.specs.View.{view_holder, view_pair}
 use Rattle.lowering.specs.Parts.{test_left}
-use Rattle.lowering.specs.QuickFits.{NamesFit}
+use Rattle.lower_expressions.specs.Sources.{NamesFit}
 use Rattle.lowering.proofs.QuickNames.{pair_list}
 use Rattle.lowering.proofs.testing.pair_tested.Goals as goal
 

@@ -3,8 +3,8 @@ use Rattle.std.proofs.lemmas.Result.{on_ok_weaker}
 use Rattle.lower_model.specs.Emission.{name_read}
 use Rattle.lower_pieces.specs.Emits.{followed}
 use Rattle.lower_expressions.specs.View.{view_layout}
-use Rattle.lowering.proofs.QuickNames.{all_of}
-use Rattle.lowering.proofs.quick.all_unsure.Goals as goal
+use Rattle.lower_expressions.proofs.SourceLemmas.{all_of}
+use Rattle.lower_expressions.proofs.sources.all_unsure.Goals as goal
 
 pub returns : goal.returns
 returns c =

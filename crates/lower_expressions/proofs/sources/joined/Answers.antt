@@ -7,8 +7,8 @@ use Rattle.lower_expressions.specs.View.{view_layout}
 use Rattle.lower_quick.specs.View.{view_holder}
 use Rattle.lower_quick.specs.declared.source.Holder.{Holder}
 use Rattle.lower_quick.specs.declared.source.Holder.TheVariants.{Name}
-use Rattle.lowering.proofs.QuickNames.{joined_step, names_left}
-use Rattle.lowering.proofs.quick.joined.Goals as goal
+use Rattle.lower_expressions.proofs.SourceLemmas.{joined_step, names_left}
+use Rattle.lower_expressions.proofs.sources.joined.Goals as goal
 
 pub loop-name-preserved : goal.loop-name-preserved
 loop-name-preserved c = record {

@@ -5,8 +5,8 @@ use Rattle.lower_model.specs.Emission.{name_read}
 use Rattle.lower_pieces.specs.Emits.{followed}
 use Rattle.lower_expressions.specs.View.{view_layout}
 use Rattle.lower_quick.specs.View.{view_holder}
-use Rattle.lowering.specs.QuickFits.{NamesFit}
-use Rattle.lowering.proofs.quick.joined.Given as goal
+use Rattle.lower_expressions.specs.Sources.{NamesFit}
+use Rattle.lower_expressions.proofs.sources.joined.Given as goal
 
 abbrev pub invariant-loop-name : goal.invariant-loop-name
 invariant-loop-name l = record {
