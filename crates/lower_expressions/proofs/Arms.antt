@@ -16,7 +16,7 @@ use Rattle.mid_program.specs.ViewCode.{before, views}
 use Rattle.mid_program.specs.declared.code.Operand.{Operand}
 use Rattle.mid_program.specs.declared.mid.Operation.{Operation}
 use Rattle.lower_model.specs.Arithmetic.{compared, is_value}
-use Rattle.lower_model.specs.Emission.{Layout, Immediate, added_or, immediate_in, immediate_or, immediately_compared, all_appended, all_boxed, all_converted, all_emitted, all_freed, all_given, all_given_pushed, asked, emitted, field_in, field_or, field_read, function_number, keeping_closed, left_over, listed_asked, performed, sequence_closed, slot_set}
+use Rattle.lower_model.specs.Emission.{Layout, Immediate, added_or, immediate_in, immediate_or, immediately_compared, all_appended, all_boxed, all_emitted, all_freed, all_given, all_given_pushed, asked, emitted, field_in, field_or, field_read, function_number, keeping_closed, left_over, listed_asked, performed, sequence_closed, slot_set}
 use Rattle.lower_model.specs.Quick.{Addition, addition_in}
 use Rattle.lower_model.specs.Places.{made_in, array_local, handle_local}
 use Rattle.lower_model.specs.Small.{answer_kept, ask_row, code_number, converted, does, either, let_go, truth}

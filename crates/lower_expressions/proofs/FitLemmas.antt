@@ -45,9 +45,6 @@ operation_place y o es t w d q =
 pub operands_fit_inside : (y : Layout) (o : Operation) (es : Codes) (s : Addition) (t w d : ℕ) → addition_in o es ≡ Some s → Fits y (Do o es) t w d → AllFit y es t w (suc d)
 operands_fit_inside y o es s t w d h q = subst (λ (x : Option Addition). AllFit y es t w (if is_some x then suc d else d)) h q
 
-pub operands_fit : (y : Layout) (o : Operation) (es : Codes) (t w d : ℕ) → addition_in o es ≡ None → Fits y (Do o es) t w d → AllFit y es t w d
-operands_fit y o es t w d h q = subst (λ (x : Option Addition). AllFit y es t w (if is_some x then suc d else d)) h q
-
 -- operands
 
 meant_fits : (y : Layout) (e : Code) (t w d : ℕ) → Fits y e t w d → ArrayFits (array_meant e)

@@ -11,7 +11,7 @@ use Rattle.mid_program.specs.declared.mid.Operation.{Operation}
 use Rattle.mid_program.specs.declared.mid.Operation.TheVariants.{Inline}
 use Rattle.mid_program.specs.Mid.{Code, Codes, Get, Number, End, At, Global, Parameter}
 use Rattle.lower_model.specs.Emission.{Layout, source_pushed}
-use Rattle.lower_model.specs.Quick.{Addition, addition_in, addition_names, addition_of, all_unsure, and_name, and_source, Constant, Held, Holder, is_among, is_near, is_sum, joined, shifted, Source, source_in}
+use Rattle.lower_model.specs.Quick.{Addition, addition_in, addition_of, all_unsure, and_name, and_source, Constant, Held, Holder, is_among, is_near, is_sum, joined, shifted, Source, source_in}
 use Rattle.lower_model.specs.Small.{does}
 use Rattle.lower_quick.specs.View.{view_holder}
 use Rattle.lower_quick.specs.declared.source.Holder as quick
@@ -30,9 +30,6 @@ name_list i is le f = by (is_among i is)
 pub source_list : (s : Source) (is : List Holder) → SourceFits s → NamesFit is → NamesFit (and_source s is)
 source_list (Held i) is le f = name_list i is le f
 source_list (Constant z) is le f = f
-
-pub addition_list : (s : Addition) → AdditionFits s → NamesFit (addition_names s)
-addition_list s f = source_list s.left (and_source s.right []) f.0 (source_list s.right [] f.1 tt)
 
 -- the first of the names that are left
 

@@ -1,5 +1,5 @@
 //! Quick ways of statements on numbers: names whose numbers are within bounds, and what is done with them on the stack.
-ghost use Rattle.std.specs.Prelude.{[], ◌≡◌, ◌≤◌, ◌^◌, IfOk, OnOk, pos, suc};
+ghost use Rattle.std.specs.Prelude.{[], ◌≡◌, ◌≤◌, IfOk, OnOk, pos, suc};
 ghost use Rattle.awk_text.specs.Number.{largest};
 ghost use Rattle.lower_model.specs.Quick.{most_multiplied, unsure};
 ghost use Rattle.lower_model.specs.Statements.{counted_left, name_put, pair_left, remainder_taken, summed};

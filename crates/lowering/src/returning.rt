@@ -19,7 +19,8 @@ use crate::evaluating::{answered, tested};
 use crate::testing::left_unless_pair;
 use lower_expressions::FunctionLayout;
 use lower_pieces::{
-    Form, LEAST, TEXT_BESIDE, TEXT_GLOBAL, block, does, does_all, either, moved_out, number_is, when,
+    Form, LEAST, TEXT_BESIDE, TEXT_GLOBAL, block, does, does_all, either, moved_out, number_is,
+    when,
 };
 use lower_quick::pair_in;
 use mid_program::Code;

@@ -18,9 +18,7 @@ use crate::lists::{call_of, listed};
 use crate::quick::name_put;
 use awk_text::MAX_NUMBER;
 use awk_values::Fault;
-use lower_expressions::{
-    FunctionLayout, field_at, global_handle, name_read, sum_op, text_dropped,
-};
+use lower_expressions::{FunctionLayout, field_at, global_handle, name_read, sum_op, text_dropped};
 use lower_pieces::{
     Form, TEXT_BESIDE, copied_by, does, does_all, either, fail_if, number_is, to_number, when,
 };
