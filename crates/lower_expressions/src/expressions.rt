@@ -144,7 +144,8 @@ fn operation(
     Ok(operation_form(what))
 }
 
-/// Adds a sum of two sources: a few instructions where their numbers are near 0, and the code of all cases elsewhere.
+/// Adds a sum of two sources: a few instructions where their numbers are near 0, and the code of
+/// all cases elsewhere.
 #[cycle(expressions)]
 fn sum(
     layout: &FunctionLayout<'_>,

@@ -1,4 +1,4 @@
-//! Unboxed names and parameters, and constants: their numbers are read without a test, and are tested together.
+//! Unboxed names and parameters, and constants: how their numbers are read, and tested together.
 ghost use Rattle.std.specs.Prelude.{[], ◌≡◌, ◌≤◌, IfOk, OnOk, map, pos};
 ghost use Rattle.lower_model.specs.Emission.{added, name_read};
 ghost use Rattle.lower_model.specs.Quick.{all_unsure, joined, sum_op};
@@ -61,7 +61,8 @@ fn joined(
     Ok(())
 }
 
-/// Adds the test whether one of several names has no number, or one that is not from 0 to a width once it is shifted.
+/// Adds the test whether one of several names has no number, or one that is not from 0 to a width
+/// once it is shifted.
 pub fn all_unsure(
     layout: &FunctionLayout<'_>,
     out: &mut Vec<Instr>,
