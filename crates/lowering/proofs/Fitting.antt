@@ -1,6 +1,6 @@
 -- Well-sorted code can be emitted where there are few places and labels.
 use Rattle.std.proofs.Common.{◌≡◌, ℕ, suc, ◌+◌, ◌≤◌, Bool, true, false, List, [], ◌∷◌, length, subst, arith, rules}
-use Rattle.std.specs.Prelude.{◌&&◌, is_some, nat_lt, not}
+use Rattle.std.specs.Prelude.{◌&&◌, if◌then◌else◌, is_some, nat_lt, not}
 use Rattle.std.proofs.lemmas.Bool.{and_parts, ltb-true}
 use Rattle.sem_primitives.specs.declared.sorts.Sort.TheVariants as sort
 use Rattle.mid_program.specs.declared.mid.Operation.{Operation}
@@ -13,9 +13,9 @@ use Rattle.mid_program.specs.Sorted.{Context, all_sorted, are_missing, all_value
 use Rattle.lower_model.proofs.Reading.{kind_below}
 use Rattle.lower_model.specs.Emission.{Layout}
 use Rattle.lower_model.specs.Places.{arrays_among, arrays_in, made_in, room, rooms, step_arrays, step_iterators, step_room, steps_arrays, steps_iterators, steps_room}
-use Rattle.lower_model.specs.Quick.{pair_in, step_jumps, sum_in}
+use Rattle.lower_model.specs.Quick.{addition_in, pair_in, step_jumps, sum_in}
 use Rattle.lower_pieces.specs.Bounds.{most_labels, most_places}
-use Rattle.lower_needs.specs.Labels.{choice_labels, chosen_labels, return_labels, labels_among, labels_in, more_if, step_labels, steps_labels}
+use Rattle.lower_needs.specs.Labels.{choice_labels, chosen_labels, return_labels, labels_among, labels_in, more_if, one_if, step_labels, steps_labels}
 use Rattle.lower_expressions.specs.Fits.{AllCode, AllFit, ArrayFits, Fits, IsGiven, SlotFits, Within}
 use Rattle.lowering.specs.StepFits.{ReturnFits, StepFits, StepsFit, TestFits}
 
@@ -40,9 +40,22 @@ pub record Rooms (es : Codes) (t w d : ℕ) : Type 0 where
   pub arrays : w + arrays_among es ≤ most_places
   pub labels : suc (suc (d + labels_among es)) ≤ most_labels
 
-operands_room : (o : Operation) (es : Codes) (t w d : ℕ) → Room (Do o es) t w d → Rooms es t w d
-operands_room (Inline a) es t w d r = record { places = omega (arith, r.places); arrays = r.arrays; labels = r.labels }
-operands_room o es t w d r = record { places = omega (arith, r.places); arrays = r.arrays; labels = r.labels }
+-- the operands of a sum of sources stand one label deeper
+
+one_deeper : (q : Bool) (d n : ℕ) → (if q then suc d else d) + n ≡ d + more_if q n
+one_deeper true d n = omega arith
+one_deeper false d n = omega arith
+
+operands_places : (o : Operation) (es : Codes) → rooms es ≤ room (Do o es)
+operands_places (Inline a) es = omega arith
+operands_places o es = omega arith
+
+operands_room : (o : Operation) (es : Codes) (t w d : ℕ) → Room (Do o es) t w d → Rooms es t w (if is_some (addition_in o es) then suc d else d)
+operands_room o es t w d r = record {
+  places = let le = operands_places o es in omega (arith, r.places, le);
+  arrays = r.arrays;
+  labels = let same = one_deeper (is_some (addition_in o es)) d (labels_among es) in omega (arith, r.labels, same);
+}
 
 within : (e : Code) (t w d : ℕ) → Room e t w d → Within t w d
 within e t w d r = (omega (arith, r.places), (omega (arith, r.arrays), omega (arith, r.labels)))
@@ -95,7 +108,7 @@ module _ {c : Context} {y : Layout} (n : Named c y) where
     code_fits fs (Do o es) t w d s r =
         let s1 = and_parts (is_done_here o) (fit_row fs (arguments o) es && all_sorted c fs es) s in
         let s2 = and_parts (fit_row fs (arguments o) es) (all_sorted c fs es) s1.1 in
-        codes_fit fs es t w d s2.1 (operands_room o es t w d r)
+        codes_fit fs es t w (if is_some (addition_in o es) then suc d else d) s2.1 (operands_room o es t w d r)
     code_fits fs (Over l es) t w d s r =
         let s1 = and_parts (are_enough l es) (all_values fs es && all_sorted c fs es) s in
         let s2 = and_parts (all_values fs es) (all_sorted c fs es) s1.1 in
@@ -237,6 +250,10 @@ deeper : (q : Bool) (d n : ℕ) → more_if q d + n ≡ d + more_if q n
 deeper true d n = omega arith
 deeper false d n = omega arith
 
+one_least : (q : Bool) (n : ℕ) → n ≤ one_if q n
+one_least true n = omega arith
+one_least false n = omega arith
+
 -- the test and both ways of a choice are within its labels
 choice_least : (q : Bool) (t a b : ℕ) → (t ≤ choice_labels q t a b) × ((suc (more_if q a) ≤ choice_labels q t a b) × (suc b ≤ choice_labels q t a b))
 choice_least true t a b = (omega arith, (omega arith, omega arith))
@@ -304,14 +321,14 @@ module _ {c : Context} {y : Layout} (n : Named c y) where
           ),
         ),
       )
-  return_fits e d s r = (omega (arith, r.labels), code_fits n [] e 0 0 d s (record { places = r.places; arrays = r.arrays; labels = omega (arith, r.labels) }))
+  return_fits e d s r = (omega (arith, r.labels), code_fits n [] e 0 0 d s (record { places = omega (arith, r.places); arrays = omega (arith, r.arrays); labels = omega (arith, r.labels) }))
 
   mutual
     unfolding step_sorted steps_sorted
 
     pub step_fits : (o l : Bool) (s : Step) (u d : ℕ) → step_sorted c o l s ≡ true → StepRoom s u d → StepFits y s u d
     step_fits o l (Eval e) u d s r =
-        let more = more_least (is_some (sum_in e)) (labels_in e) in (
+        let more = one_least (is_some (sum_in e)) (labels_in e) in (
           omega (arith, r.labels),
           code_fits n [] e 0 0 d (and_parts (is_dropped (form_of [] e)) (sorted c [] e) s).1 (record { places = omega (arith, r.places); arrays = omega (arith, r.arrays); labels = omega (arith, r.labels, more) }),
         )

@@ -1,12 +1,14 @@
 -- The names of quick ways are numbers of globals, and their parameters places of locals, where the code can be emitted.
 use Rattle.std.proofs.Common.{◌≡◌, ℕ, zero, suc, ◌^◌, ◌<◌, ◌≤◌, Bool, true, false, nat_eq, [], ◌∷◌, Option, Some, None, ℤ, pos, ◌+ℤ◌, unsigned_abs, refl, sym, ap, subst, arith}
+use Rattle.std.specs.Prelude.{◌&&◌, if◌then◌else◌, is_some}
 use Rattle.awk_values.specs.declared.comparison.CompareOp.{CompareOp}
 use Rattle.awk_values.specs.declared.comparison.CompareOp.TheVariants as compare
 use Rattle.mid_program.specs.declared.mid.Arithmetic.{Arithmetic}
+use Rattle.mid_program.specs.declared.mid.Arithmetic.TheVariants as inline
 use Rattle.mid_program.specs.declared.mid.Operation.TheVariants.{Inline, AsNumber}
-use Rattle.mid_program.specs.Mid.{Slot, Code, Do, Compare, Number, Set, Let, Bound, Codes, End, At}
+use Rattle.mid_program.specs.Mid.{Slot, Code, Do, Compare, Number, Get, Set, Let, Bound, Codes, End, At}
 use Rattle.lower_model.specs.Emission.{Layout}
-use Rattle.lower_model.specs.Quick.{Holder, OfName, OfParameter, holder_of, Source, Constant, Sum, Update, update_in, Tally, tally_in, Remainder, remainder_in, remainder_names, Counted, counted_of, counted_in, field_count, Pair, Within, and_source, both_within, compared_within, constant_in, first_ones, kept_sum, let_sum, name_in, new_sum, old_source, pair_in, pair_names, pair_of, set_after, set_alone, set_sum, source_in, stored_name, sum_in, sum_names, sum_of, test_within, two_sum, update_sum}
+use Rattle.lower_model.specs.Quick.{Addition, Holder, OfName, OfParameter, addition_in, addition_of, holder_of, is_near, is_sum, Source, Constant, Sum, Update, update_in, Tally, tally_in, Remainder, remainder_in, remainder_names, Counted, counted_of, counted_in, field_count, Pair, Within, and_source, both_within, compared_within, constant_in, first_ones, kept_sum, let_sum, name_in, new_sum, old_source, pair_in, pair_names, pair_of, set_after, set_alone, set_sum, source_in, stored_name, sum_in, sum_names, sum_of, test_within, two_sum, update_sum}
 use Rattle.lower_model.proofs.Quick.{holder_is, name_is}
 use Rattle.lower_model.proofs.State.{holder_slot}
 use Rattle.lower_model.proofs.Tallies.{Shape, Updating, Following, Leading, tally_code, IsAdded, tally_is}
@@ -66,7 +68,7 @@ module _ (y : Layout) where
   two_fits i o es s t w d q le f = cc
 
   set_fits : (i : Holder) (e : Code) (s : Sum) (t w d : ℕ) → set_sum i e ≡ Some s → HolderFits i → Fits y e t w d → SumFits s
-  set_fits i (Do (Inline o) es) s t w d q le f = two_fits i o es s t w d q le f
+  set_fits i (Do (Inline o) es) s t w d q le f = two_fits i o es s t w (if is_some (addition_in (Inline o) es) then suc d else d) q le f
   set_fits i e s t w d q le f = cc
 
   kept_fits : (i : Holder) (o : Arithmetic) (a : Code) (es : Codes) (s : Sum) (t w d : ℕ) → kept_sum i o a es ≡ Some s → HolderFits i → MaybeFits (source_in a) → AllFit y es t w d → SumFits s
@@ -74,7 +76,7 @@ module _ (y : Layout) where
   kept_fits i o a es s t w d q le g f = cc
 
   update_fits : (i : Holder) (a e : Code) (s : Sum) (t w d : ℕ) → update_sum i a e ≡ Some s → HolderFits i → MaybeFits (source_in a) → Fits y e t w d → SumFits s
-  update_fits i a (Do (Inline o) es) s t w d q le g f = kept_fits i o a es s t w d q le g f
+  update_fits i a (Do (Inline o) es) s t w d q le g f = kept_fits i o a es s t w (if is_some (addition_in (Inline o) es) then suc d else d) q le g f
   update_fits i a e s t w d q le g f = cc
 
   old_fits : (e : Code) (t w d : ℕ) → Fits y e t w d → MaybeFits (old_source e)
@@ -152,14 +154,37 @@ module _ (y : Layout) where
   remainder_fits e q t w d h f =
       let s = remainder_is e q h in
       let g = subst (λ (x : Code). Fits y x t w d) s.code f in
-      (held_fits q.target g.1.0, (factored_fits q.multiple.name q.multiple.factor t w d g.1.1.1.0, factor_fits e q.target q.multiple.name q.multiple.factor q.divisor s))
+      (held_fits q.target g.1.0, (factored_fits q.multiple.name q.multiple.factor t w _ g.1.1.1.0, factor_fits e q.target q.multiple.name q.multiple.factor q.divisor s))
+
+  -- what is no sum has its operands where it stands itself
+
+  no_addition : (o : Arithmetic) (es : Codes) → is_sum o ≡ false → is_some (addition_in (Inline o) es) ≡ false
+  no_addition o (At a (At e End)) h = by (source_in a) (source_in e)
+    where
+      by : (x z : Option Source) → is_some (addition_of o x z) ≡ false
+      by (Some x) (Some z) = ap (λ (j : Bool). is_some {T = Addition} (if j && (is_near x && is_near z) then Some (record { op = o; left = x; right = z }) else None)) h
+      by (Some x) None = refl
+      by None z = refl
+  no_addition o es h = refl
+
+  stands : (o : Arithmetic) (es : Codes) (d : ℕ) → is_sum o ≡ false → (if is_some (addition_in (Inline o) es) then suc d else d) ≡ d
+  stands o es d h = ap (λ (j : Bool). if j then suc d else d) (no_addition o es h)
+
+  operands_fit : (o : Arithmetic) (es : Codes) (t w d : ℕ) → is_sum o ≡ false → Fits y (Do (Inline o) es) t w d → AllFit y es t w d
+  operands_fit o es t w d h f = subst (λ (n : ℕ). AllFit y es t w n) (stands o es d h) f
+
+  done_fits : (o : Arithmetic) (es : Codes) (t w d : ℕ) → is_sum o ≡ false → AllFit y es t w d → Fits y (Do (Inline o) es) t w d
+  done_fits o es t w d h f = subst (λ (n : ℕ). AllFit y es t w n) (sym (stands o es d h)) f
 
   factored_deeper : (i : Holder) (f : Option ℤ) (t w d : ℕ) → suc (suc (suc d)) ≤ most_labels → Fits y (factored_code i f) t w d → Fits y (factored_code i f) t w (suc d)
   factored_deeper i None t w d l f = ((f.0.0, (f.0.1.0, l)), f.1)
   factored_deeper i (Some c) t w d l f =
-      let a = f.0 in
-      let g = f.1.0 in
-      let n = f.1.1 in
+      let es = At (Get (holder_slot i)) (At (Number c) End) in
+      let v = operands_fit inline.Times es t w d refl f in
+      let a = v.0 in
+      let g = v.1.0 in
+      let n = v.1.1 in
+      done_fits inline.Times es t w (suc d) refl
       ((a.0, (a.1.0, l)), (((g.0.0, (g.0.1.0, l)), g.1), ((n.0.0, (n.0.1.0, l)), ((n.1.0.0, (n.1.0.1.0, l)), (n.1.1.0, (n.1.1.1.0, l))))))
 
   -- one label deeper
@@ -170,10 +195,17 @@ module _ (y : Layout) where
     where
       by : Fits y (remainder_code q) 0 0 d → Fits y (remainder_code q) 0 0 (suc d)
       by g =
+          let es = At (factored_code q.multiple.name q.multiple.factor) (At (Number q.divisor) End) in
           let a = g.0 in
-          let x = g.1.1 in
-          let n = x.1.1 in
-          ((a.0, (a.1.0, l)), (g.1.0, ((x.0.0, (x.0.1.0, l)), (factored_deeper q.multiple.name q.multiple.factor 0 0 d l x.1.0, ((n.0.0, (n.0.1.0, l)), ((n.1.0.0, (n.1.0.1.0, l)), (n.1.1.0, (n.1.1.1.0, l))))))))
+          let x = operands_fit inline.Modulo es 0 0 d refl g.1.1 in
+          let n = x.1.1 in (
+            (a.0, (a.1.0, l)),
+            (
+              g.1.0,
+              done_fits inline.Modulo es 0 0 (suc d) refl
+                  ((x.0.0, (x.0.1.0, l)), (factored_deeper q.multiple.name q.multiple.factor 0 0 d l x.1.0, ((n.0.0, (n.0.1.0, l)), ((n.1.0.0, (n.1.0.1.0, l)), (n.1.1.0, (n.1.1.1.0, l)))))),
+            ),
+          )
 
   -- a comparison with how many fields there are
   counted_of_fits : (c : CompareOp) (a : Code) (i : Option Holder) (j : Bool) (q : Counted) (t w d : ℕ) → name_in a ≡ i → counted_of c i j ≡ Some q → Fits y a t w d → HolderFits q.name

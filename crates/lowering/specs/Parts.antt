@@ -168,6 +168,10 @@ parameter_dropped Boxed place after = does (LocalGet place) (ask Drop after)
 parameter_dropped Unboxed place after = after
 parameter_dropped Many place after = after
 
+-- the answer's word is what a local has
+abbrev pub local_given : Layout → ℕ → (exit : ℕ) → Instructions → Instructions
+local_given layout local exit after = does (LocalGet local) (does (LocalSet (answer_local layout.bases)) (does (Br (suc exit)) after))
+
 -- one of two is returned: in a block that a quick test leaves, or after it; or both in an `if`
 
 abbrev pub quick_returned : Layout → Code → Code → (exit : ℕ) → Instructions → Instructions

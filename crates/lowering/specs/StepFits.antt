@@ -1,7 +1,7 @@
 -- Which statements can be emitted: no place and no label is past its field.
 use Rattle.std.specs.Prelude.{ℕ, zero, suc, ◌≤◌, Bool, true, false, not, is_some, Option, Some, None}
 use Rattle.sem_primitives.specs.declared.sorts.Sort.TheVariants as sort
-use Rattle.mid_program.specs.Mid.{Code, Choose, Step, Eval, Block, If, Loop, Each, Break, Continue, Next, Exit, ExitWith, Return, Mark, Steps, NoStep, Then, Program}
+use Rattle.mid_program.specs.Mid.{Parameter, Code, Get, Choose, Step, Eval, Block, If, Loop, Each, Break, Continue, Next, Exit, ExitWith, Return, Mark, Steps, NoStep, Then, Program}
 use Rattle.lower_pieces.specs.Bounds.{most_places, most_labels}
 use Rattle.lower_model.specs.Emission.{Layout}
 use Rattle.lower_model.specs.Quick.{pair_in, step_jumps}
@@ -31,6 +31,11 @@ ReturnFits layout code exit = (exit ≤ most_labels) × Fits layout code zero ze
 abbrev pub choice_in : Code → Option (Code × Code × Code)
 choice_in (Choose sort.Value test so otherwise) = Some (test, so, otherwise)
 choice_in code = None
+
+-- the place of an unboxed parameter, whose number is the answer's word
+abbrev pub parameter_in : Code → Option ℕ
+parameter_in (Get (Parameter true place)) = Some place
+parameter_in code = None
 
 -- whether the body of a loop stands in a block of its own: where a test comes first, only one that `break` or `continue` leaves
 abbrev pub has_block : (first : Bool) → Step → Bool

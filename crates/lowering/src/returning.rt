@@ -12,8 +12,8 @@ ghost use Rattle.lower_pieces.specs.Emits.{Emits};
 ghost use Rattle.lower_pieces.specs.Forms.{view_form};
 ghost use Rattle.lower_expressions.specs.Fits.{Fits};
 ghost use Rattle.lower_expressions.specs.View.{view_layout};
-ghost use Rattle.lowering.specs.Parts.{either_returned, quickly_returned};
-ghost use Rattle.lowering.specs.StepFits.{ReturnFits, TestFits, choice_in};
+ghost use Rattle.lowering.specs.Parts.{either_returned, local_given, quickly_returned};
+ghost use Rattle.lowering.specs.StepFits.{ReturnFits, TestFits, choice_in, parameter_in};
 
 use crate::evaluating::{answered, tested};
 use crate::testing::left_unless_pair;
@@ -23,7 +23,7 @@ use lower_pieces::{
     when,
 };
 use lower_quick::pair_in;
-use mid_program::Code;
+use mid_program::{Code, Slot};
 use sem_primitives::{Answer, Sort};
 use std::alloc::AllocError;
 use wasm_types::{Instr, Simple};
@@ -46,6 +46,25 @@ pub(crate) fn constant_given(
     does_all(out, &all)
 }
 
+/// Gives the number of a local as the answer.
+fn local_given(
+    layout: &FunctionLayout<'_>,
+    out: &mut Vec<Instr>,
+    local: u32,
+    exit: u32,
+) -> Result<(), AllocError>
+    requires { exit ≤ most_labels }
+    ensures { OnOk result
+        (Emits out.old.items out.new.items (local_given (view_layout layout.now) local exit)) }
+{
+    let all = [
+        Simple::LocalGet(local),
+        Simple::LocalSet(layout.bases.answer()),
+        Simple::Br(exit + 1),
+    ];
+    does_all(out, &all)
+}
+
 /// Gives the number of the first temporary as the answer.
 fn word_given(
     layout: &FunctionLayout<'_>,
@@ -56,12 +75,7 @@ fn word_given(
     ensures { OnOk result
         (Emits out.old.items out.new.items (word_given (view_layout layout.now) exit)) }
 {
-    let all = [
-        Simple::LocalGet(layout.bases.number(0)),
-        Simple::LocalSet(layout.bases.answer()),
-        Simple::Br(exit + 1),
-    ];
-    does_all(out, &all)
+    local_given(layout, out, layout.bases.number(0), exit)
 }
 
 /// Moves the text of the first temporary to where it waits.
@@ -124,6 +138,16 @@ fn choice_in(code: &Code) -> Option<(&Code, &Code, &Code)>
             Sort::Value => Some((test, yes, no)),
             Sort::Number | Sort::Array | Sort::Iterator => None,
         },
+        _ => None,
+    }
+}
+
+/// The place of an unboxed parameter, if that is what code reads.
+fn parameter_in(code: &Code) -> Option<usize>
+    ensures { result ≡ parameter_in (view code.now) }
+{
+    match code {
+        Code::Get(Slot::Parameter(true, place)) => Some(*place),
         _ => None,
     }
 }
@@ -199,7 +223,7 @@ fn chosen_returned(
     }
 }
 
-/// Returns what is no choice of values.
+/// Returns what comes to the first temporary.
 fn plainly_returned(
     layout: &FunctionLayout<'_>,
     out: &mut Vec<Instr>,
@@ -216,7 +240,8 @@ fn plainly_returned(
     answer_given(layout, out, form, exit)
 }
 
-/// Adds `return`: what is chosen is returned where it is chosen.
+/// Adds `return`: what is chosen is returned where it is chosen, and the number of an unboxed
+/// parameter from where it is.
 #[cycle(returned)]
 pub(crate) fn returned(
     layout: &FunctionLayout<'_>,
@@ -230,6 +255,9 @@ pub(crate) fn returned(
 {
     match choice_in(code) {
         Some((test, yes, no)) => chosen_returned(layout, out, test, yes, no, exit),
-        None => plainly_returned(layout, out, code, exit),
+        None => match parameter_in(code) {
+            Some(place) => local_given(layout, out, place as u32, exit),
+            None => plainly_returned(layout, out, code, exit),
+        },
     }
 }
