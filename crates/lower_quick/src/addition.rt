@@ -48,7 +48,7 @@ fn two_added(op: Arithmetic, operands: &[Operand]) -> Option<Addition>
     addition_of(op, source_in(left), source_in(right))
 }
 
-/// The sum or the difference of two sources that an operation is, if it is one that may be in range.
+/// The sum or difference of two sources that an operation is, if it is one that may be in range.
 pub fn addition_in(operation: Operation, operands: &[Operand]) -> Option<Addition>
     ensures { option_map view_addition result ≡ addition_in operation (views operands.now) }
 {
