@@ -4,7 +4,7 @@ ghost use Rattle.mid_program.specs.Mid as plain;
 ghost use Rattle.mid_program.specs.Mid.{form_of};
 ghost use Rattle.mid_program.specs.ViewCode.{joined, view, view_slot, views};
 ghost use Rattle.lower_expressions.specs.CodeAt.{AllFitAt, FitsAt, all_emitted_at, emitted_at};
-ghost use Rattle.lower_pieces.specs.Emits.{Emits};
+ghost use Rattle.lower_pieces.specs.Emits.{Emits, Holds};
 ghost use Rattle.lower_pieces.specs.Forms.{view_form};
 ghost use Rattle.lower_expressions.specs.Fits.{AllFit, Fits, Within};
 ghost use Rattle.lower_expressions.specs.Parts.{anyway_with, branch_with, forms_in, stored_with, sum_with};
@@ -29,12 +29,11 @@ use crate::storing::{
     text_kept, text_let_go,
 };
 use awk_values::CompareOp;
-use lower_pieces::{Form, compared, converted, either, is_value, truth};
+use lower_pieces::{Emitted, Form, compared, converted, either, is_value, truth};
 use lower_quick::{Addition, addition_in, addition_names};
 use mid_program::{Code, Operand, Operation, Slot};
 use sem_primitives::{Answer, Listed, Primitive, Sort};
 use std::alloc::AllocError;
-use wasm_types::Instr;
 
 /// Two numbers of at most this magnitude have a sum in range.
 const MOST: u64 = 1 << 52;
@@ -46,14 +45,14 @@ const MOST: u64 = 1 << 52;
 pub fn expression(
     layout: &FunctionLayout<'_>,
     kept: &mut Kept,
-    out: &mut Vec<Instr>,
+    out: &mut Emitted,
     only: bool,
     code: &Code,
     at: At,
 ) -> Result<Form, AllocError>
     requires { FitsAt layout.now (view code.now) at }
     ensures form { IfOk result (λ form. view_form form ≡ form_of kept.old.forms (view code.now)) }
-    ensures emits { OnOk result (Emits out.old.items out.new.items
+    ensures emits { OnOk result (Emits out.old out.new
         (emitted_at layout.now only kept.old (view code.now) at)) }
     ensures kept { OnOk result (kept.new ≡ kept.old) }
 {
@@ -63,23 +62,23 @@ pub fn expression(
         Code::Over(what, operands) => listing(layout, kept, out, *what, operands, at),
         Code::Compare(op, left, right) => comparison(layout, kept, out, *op, left, right, at),
         Code::Call(function, operands) => call(layout, kept, out, *function, operands, at),
-        Code::Ask => line(layout, out, at),
+        Code::Ask => Ok(line(layout, out, at)),
         Code::AskLine(store) => line_into(layout, kept, out, store, at),
         Code::FileLine(file, store) => file_line(layout, kept, out, file, store, at),
         Code::Replace(all, operands, store) => replacement(
             layout, kept, out, *all, operands, store, at,
         ),
-        Code::Number(number) => constant(layout, out, number.cast_unsigned(), at),
-        Code::Text(place) => text(layout, out, *place, at),
-        Code::Unset => unset(layout, out, at),
-        Code::Get(slot) => variable(layout, out, *slot, at),
+        Code::Number(number) => Ok(constant(layout, out, number.cast_unsigned(), at)),
+        Code::Text(place) => Ok(text(layout, out, *place, at)),
+        Code::Unset => Ok(unset(layout, out, at)),
+        Code::Get(slot) => Ok(variable(layout, out, *slot, at)),
         Code::Set(slot, value) => assignment(layout, kept, out, only, *slot, value, at),
         Code::Array(_) => Ok(Form::Answered(Answer::Of(Sort::Array))),
-        Code::IsOpen(item) => is_open(layout, out, *item, at),
+        Code::IsOpen(item) => Ok(is_open(layout, out, *item, at)),
         Code::Choose(sort, test, yes, no) => choice(layout, kept, out, *sort, test, yes, no, at),
         Code::Seq(first, second) => sequence(layout, kept, out, only, first, second, at),
         Code::Let(value, rest) => keeping(layout, kept, out, only, value, rest, at),
-        Code::Bound(moves, after) => bound(layout, kept, out, only, *moves, *after, at),
+        Code::Bound(moves, after) => Ok(bound(layout, kept, out, only, *moves, *after, at)),
     }
 }
 
@@ -88,7 +87,7 @@ pub fn expression(
 fn all_operands(
     layout: &FunctionLayout<'_>,
     kept: &mut Kept,
-    out: &mut Vec<Instr>,
+    out: &mut Emitted,
     forms: &mut Vec<Form>,
     operands: &[Operand],
     at: At,
@@ -96,7 +95,7 @@ fn all_operands(
     requires { AllFitAt layout.now (views operands.now) at }
     ensures forms { OnOk result (map view_form forms.new.items
         ≡ map view_form forms.old.items ++ forms_in kept.old.forms (views operands.now)) }
-    ensures emits { OnOk result (Emits out.old.items out.new.items
+    ensures emits { OnOk result (Emits out.old out.new
         (all_emitted_at layout.now kept.old (views operands.now) at)) }
     ensures kept { OnOk result (kept.new ≡ kept.old) }
 {
@@ -111,7 +110,7 @@ fn all_operands(
         }
         Operand::Constant(_) => all_operands(layout, kept, out, forms, rest, at),
         Operand::Fresh => {
-            array_made(layout.bases, out, at.arrays)?;
+            array_made(layout.bases, out, at.arrays);
             all_operands(layout, kept, out, forms, rest, after_array(at))
         }
     }
@@ -122,7 +121,7 @@ fn all_operands(
 fn operation(
     layout: &FunctionLayout<'_>,
     kept: &mut Kept,
-    out: &mut Vec<Instr>,
+    out: &mut Emitted,
     what: Operation,
     operands: &[Operand],
     at: At,
@@ -130,12 +129,12 @@ fn operation(
     requires { FitsAt layout.now (plain.Do what (views operands.now)) at }
     ensures form { IfOk result
         (λ form. view_form form ≡ form_of kept.old.forms (plain.Do what (views operands.now))) }
-    ensures emits { (only : Bool) → OnOk result (Emits out.old.items out.new.items
+    ensures emits { (only : Bool) → OnOk result (Emits out.old out.new
         (emitted_at layout.now only kept.old (plain.Do what (views operands.now)) at)) }
     ensures kept { OnOk result (kept.new ≡ kept.old) }
 {
     if let Some(number) = field_in(what, operands) {
-        return field_read(layout, out, number, at.temporary);
+        return Ok(field_read(layout, out, number, at.temporary));
     }
     match addition_in(what, operands) {
         Some(addition) => sum(layout, kept, out, addition, what, operands, at)?,
@@ -150,7 +149,7 @@ fn operation(
 fn sum(
     layout: &FunctionLayout<'_>,
     kept: &mut Kept,
-    out: &mut Vec<Instr>,
+    out: &mut Emitted,
     addition: Addition,
     what: Operation,
     operands: &[Operand],
@@ -159,17 +158,22 @@ fn sum(
     requires sources { AdditionFits (view_addition addition) }
     requires fit { AllFit (view_layout layout.now) (views operands.now) at.temporary at.arrays
         (suc at.exit) }
-    ensures emits { OnOk result (Emits out.old.items out.new.items
+    ensures emits { OnOk result (Emits out.old out.new
         (sum_with (view_layout layout.now) kept.old.forms kept.old.temporaries
         (view_addition addition) what (views operands.now) at.temporary at.arrays at.exit)) }
     ensures kept { OnOk result (kept.new ≡ kept.old) }
 {
     let names = addition_names(layout.alloc, addition)?;
-    all_unsure(layout, out, &names, MOST, MOST + MOST)?;
-    let mut code = Vec::new(layout.alloc);
+    all_unsure(layout, out, &names, MOST, MOST + MOST);
+    let mut code = Emitted::new(layout.alloc);
     anyway(layout, kept, &mut code, what, operands, inner_at(at))?;
-    let near = added(layout, addition, at.temporary)?;
-    either(layout.alloc, out, code, near)
+    either(
+        layout.alloc,
+        out,
+        code,
+        added(layout, addition, at.temporary),
+    );
+    Ok(())
 }
 
 /// Adds an operation as it is in all cases: its operands, and what is done with them.
@@ -177,20 +181,21 @@ fn sum(
 fn anyway(
     layout: &FunctionLayout<'_>,
     kept: &mut Kept,
-    out: &mut Vec<Instr>,
+    out: &mut Emitted,
     what: Operation,
     operands: &[Operand],
     at: At,
 ) -> Result<(), AllocError>
     requires { AllFitAt layout.now (views operands.now) at }
-    ensures emits { OnOk result (Emits out.old.items out.new.items
+    ensures emits { OnOk result (Emits out.old out.new
         (anyway_with (view_layout layout.now) kept.old.forms kept.old.temporaries what
         (views operands.now) at.temporary at.arrays at.exit)) }
     ensures kept { OnOk result (kept.new ≡ kept.old) }
 {
     let mut forms = Vec::new(layout.alloc);
     all_operands(layout, kept, out, &mut forms, operands, at)?;
-    operated(layout, out, &forms, what, operands, at.temporary, at.exit)
+    operated(layout, out, &forms, what, operands, at.temporary, at.exit);
+    Ok(())
 }
 
 /// Adds the key of subscripts. All are evaluated before any are joined.
@@ -198,7 +203,7 @@ fn anyway(
 fn key(
     layout: &FunctionLayout<'_>,
     kept: &mut Kept,
-    out: &mut Vec<Instr>,
+    out: &mut Emitted,
     first: &Code,
     others: &[Code],
     last: &Code,
@@ -209,7 +214,7 @@ fn key(
     ensures form { IfOk result (λ form. view_form form
         ≡ form_of kept.old.forms (joined (view first.now ∷ map view others.now) (view last.now))) }
     ensures emits { (only : Bool)
-        → OnOk result (Emits out.old.items out.new.items (emitted_at layout.now only kept.old
+        → OnOk result (Emits out.old out.new (emitted_at layout.now only kept.old
         (joined (view first.now ∷ map view others.now) (view last.now)) at)) }
     ensures kept { OnOk result (kept.new ≡ kept.old) }
 {
@@ -224,7 +229,7 @@ fn key(
         left = rest;
     }
     let form = expression(layout, kept, out, false, last, place)?;
-    all_joined(layout, out, &forms, form, at.temporary, at.exit)?;
+    all_joined(layout, out, &forms, form, at.temporary, at.exit);
     Ok(operation_form(Operation::Host(Primitive::Join)))
 }
 
@@ -233,7 +238,7 @@ fn key(
 fn listing(
     layout: &FunctionLayout<'_>,
     kept: &mut Kept,
-    out: &mut Vec<Instr>,
+    out: &mut Emitted,
     what: Listed,
     operands: &[Operand],
     at: At,
@@ -241,13 +246,13 @@ fn listing(
     requires { FitsAt layout.now (plain.Over what (views operands.now)) at }
     ensures form { IfOk result
         (λ form. view_form form ≡ form_of kept.old.forms (plain.Over what (views operands.now))) }
-    ensures emits { (only : Bool) → OnOk result (Emits out.old.items out.new.items
+    ensures emits { (only : Bool) → OnOk result (Emits out.old out.new
         (emitted_at layout.now only kept.old (plain.Over what (views operands.now)) at)) }
     ensures kept { OnOk result (kept.new ≡ kept.old) }
 {
     let mut forms = Vec::new(layout.alloc);
     all_operands(layout, kept, out, &mut forms, operands, at)?;
-    listed(layout, out, &forms, what, at.temporary, at.exit)?;
+    listed(layout, out, &forms, what, at.temporary, at.exit);
     Ok(Form::Answered(what.answer()))
 }
 
@@ -256,7 +261,7 @@ fn listing(
 fn call(
     layout: &FunctionLayout<'_>,
     kept: &mut Kept,
-    out: &mut Vec<Instr>,
+    out: &mut Emitted,
     function: usize,
     operands: &[Operand],
     at: At,
@@ -264,13 +269,13 @@ fn call(
     requires { FitsAt layout.now (plain.Call function (views operands.now)) at }
     ensures form { IfOk result (λ form. view_form form
         ≡ form_of kept.old.forms (plain.Call function (views operands.now))) }
-    ensures emits { (only : Bool) → OnOk result (Emits out.old.items out.new.items
+    ensures emits { (only : Bool) → OnOk result (Emits out.old out.new
         (emitted_at layout.now only kept.old (plain.Call function (views operands.now)) at)) }
     ensures kept { OnOk result (kept.new ≡ kept.old) }
 {
     let mut forms = Vec::new(layout.alloc);
     all_operands(layout, kept, out, &mut forms, operands, at)?;
-    called(layout, out, &forms, function, operands, at)?;
+    called(layout, out, &forms, function, operands, at);
     Ok(Form::Bare)
 }
 
@@ -279,7 +284,7 @@ fn call(
 fn comparison(
     layout: &FunctionLayout<'_>,
     kept: &mut Kept,
-    out: &mut Vec<Instr>,
+    out: &mut Emitted,
     op: CompareOp,
     left: &Code,
     right: &Code,
@@ -288,14 +293,14 @@ fn comparison(
     requires { FitsAt layout.now (plain.Compare op (view left.now) (view right.now)) at }
     ensures form { IfOk result (λ form. view_form form
         ≡ form_of kept.old.forms (plain.Compare op (view left.now) (view right.now))) }
-    ensures emits { (only : Bool) → OnOk result (Emits out.old.items out.new.items (emitted_at
+    ensures emits { (only : Bool) → OnOk result (Emits out.old out.new (emitted_at
         layout.now only kept.old (plain.Compare op (view left.now) (view right.now)) at)) }
     ensures kept { OnOk result (kept.new ≡ kept.old) }
 {
     let first = expression(layout, kept, out, false, left, at)?;
     let temporary = at.temporary;
     if let Some(operand) = immediate_in(is_value(first), right) {
-        return immediately_compared(layout, out, op, first, operand, temporary, at.exit);
+        return Ok(immediately_compared(layout, out, op, first, operand, temporary, at.exit));
     }
     let second = expression(layout, kept, out, false, right, next(at))?;
     compared(
@@ -307,7 +312,7 @@ fn comparison(
         second,
         temporary,
         at.exit,
-    )?;
+    );
     Ok(Form::Answered(Answer::Truth))
 }
 
@@ -319,20 +324,21 @@ fn stored(
     primitive: Primitive,
     store: &Code,
     at: At,
-) -> Result<Vec<Instr>, AllocError>
+) -> Result<Emitted, AllocError>
     requires fit { Fits (view_layout layout.now) (view store.now) (suc (suc at.temporary)) at.arrays
         (suc at.exit) }
     requires within { Within at.temporary at.arrays at.exit }
-    ensures emits { IfOk result (λ code. Emits [] code.items
+    ensures emits { IfOk result (λ code. Holds code
         (stored_with (view_layout layout.now) kept.old.forms kept.old.temporaries primitive
         (view store.now) at.temporary at.arrays at.exit)) }
     ensures kept { OnOk result (kept.new ≡ kept.old) }
 {
-    let mut code = text_kept(layout.alloc, layout.bases, primitive, at.temporary)?;
+    let mut code = Emitted::new(layout.alloc);
+    text_kept(layout.bases, &mut code, primitive, at.temporary);
     kept.push(Form::Answered(Answer::Of(Sort::Value)), at.temporary + 1)?;
     let form = expression(layout, kept, &mut code, true, store, stored_at(at))?;
     kept.pop();
-    text_let_go(layout, &mut code, store, form, at.temporary)?;
+    text_let_go(layout, &mut code, store, form, at.temporary);
     Ok(code)
 }
 
@@ -341,20 +347,20 @@ fn stored(
 fn line_into(
     layout: &FunctionLayout<'_>,
     kept: &mut Kept,
-    out: &mut Vec<Instr>,
+    out: &mut Emitted,
     store: &Code,
     at: At,
 ) -> Result<Form, AllocError>
     requires { FitsAt layout.now (plain.AskLine (view store.now)) at }
     ensures form { IfOk result
         (λ form. view_form form ≡ form_of kept.old.forms (plain.AskLine (view store.now))) }
-    ensures emits { (only : Bool) → OnOk result (Emits out.old.items out.new.items
+    ensures emits { (only : Bool) → OnOk result (Emits out.old out.new
         (emitted_at layout.now only kept.old (plain.AskLine (view store.now)) at)) }
     ensures kept { OnOk result (kept.new ≡ kept.old) }
 {
-    asked(layout, out, Primitive::GetlineVar, at.temporary, at.exit)?;
+    asked(layout, out, Primitive::GetlineVar, at.temporary, at.exit);
     let store = stored(layout, kept, Primitive::Line, store, at)?;
-    line_stored(layout, out, store, at.temporary)?;
+    line_stored(layout, out, store, at.temporary);
     Ok(Form::Answered(Answer::Of(Sort::Number)))
 }
 
@@ -363,7 +369,7 @@ fn line_into(
 fn file_line(
     layout: &FunctionLayout<'_>,
     kept: &mut Kept,
-    out: &mut Vec<Instr>,
+    out: &mut Emitted,
     file: &Code,
     store: &Code,
     at: At,
@@ -371,14 +377,14 @@ fn file_line(
     requires { FitsAt layout.now (plain.FileLine (view file.now) (view store.now)) at }
     ensures form { IfOk result (λ form. view_form form
         ≡ form_of kept.old.forms (plain.FileLine (view file.now) (view store.now))) }
-    ensures emits { (only : Bool) → OnOk result (Emits out.old.items out.new.items (emitted_at
+    ensures emits { (only : Bool) → OnOk result (Emits out.old out.new (emitted_at
         layout.now only kept.old (plain.FileLine (view file.now) (view store.now)) at)) }
     ensures kept { OnOk result (kept.new ≡ kept.old) }
 {
     let form = expression(layout, kept, out, false, file, at)?;
-    file_asked(layout, out, form, at.temporary, at.exit)?;
+    file_asked(layout, out, form, at.temporary, at.exit);
     let store = stored(layout, kept, Primitive::Line, store, at)?;
-    line_stored(layout, out, store, at.temporary)?;
+    line_stored(layout, out, store, at.temporary);
     Ok(Form::Answered(Answer::Of(Sort::Number)))
 }
 
@@ -387,7 +393,7 @@ fn file_line(
 fn replacement(
     layout: &FunctionLayout<'_>,
     kept: &mut Kept,
-    out: &mut Vec<Instr>,
+    out: &mut Emitted,
     all: bool,
     operands: &[Operand],
     store: &Code,
@@ -396,16 +402,15 @@ fn replacement(
     requires { FitsAt layout.now (plain.Replace all (views operands.now) (view store.now)) at }
     ensures form { IfOk result (λ form. view_form form
         ≡ form_of kept.old.forms (plain.Replace all (views operands.now) (view store.now))) }
-    ensures emits { (only : Bool) → OnOk result (Emits out.old.items out.new.items (emitted_at
+    ensures emits { (only : Bool) → OnOk result (Emits out.old out.new (emitted_at
         layout.now only kept.old (plain.Replace all (views operands.now) (view store.now)) at)) }
     ensures kept { OnOk result (kept.new ≡ kept.old) }
 {
     let mut forms = Vec::new(layout.alloc);
     all_operands(layout, kept, out, &mut forms, operands, at)?;
-    replaced(layout, out, &forms, all, operands, at.temporary, at.exit)?;
+    replaced(layout, out, &forms, all, operands, at.temporary, at.exit);
     let store = stored(layout, kept, Primitive::SubResult, store, at)?;
-    let nothing = Vec::new(layout.alloc);
-    either(layout.alloc, out, nothing, store)?;
+    either(layout.alloc, out, Emitted::new(layout.alloc), store);
     Ok(Form::Answered(Answer::Of(Sort::Number)))
 }
 
@@ -414,7 +419,7 @@ fn replacement(
 fn assignment(
     layout: &FunctionLayout<'_>,
     kept: &mut Kept,
-    out: &mut Vec<Instr>,
+    out: &mut Emitted,
     only: bool,
     slot: Slot,
     value: &Code,
@@ -423,12 +428,12 @@ fn assignment(
     requires { FitsAt layout.now (plain.Set (view_slot slot) (view value.now)) at }
     ensures form { IfOk result (λ form. view_form form
         ≡ form_of kept.old.forms (plain.Set (view_slot slot) (view value.now))) }
-    ensures emits { OnOk result (Emits out.old.items out.new.items
+    ensures emits { OnOk result (Emits out.old out.new
         (emitted_at layout.now only kept.old (plain.Set (view_slot slot) (view value.now)) at)) }
     ensures kept { OnOk result (kept.new ≡ kept.old) }
 {
     let form = expression(layout, kept, out, false, value, at)?;
-    slot_set(layout, out, only, slot, form, at.temporary)?;
+    slot_set(layout, out, only, slot, form, at.temporary);
     Ok(form)
 }
 
@@ -440,15 +445,15 @@ fn branch(
     sort: Sort,
     code: &Code,
     at: At,
-) -> Result<Vec<Instr>, AllocError>
+) -> Result<Emitted, AllocError>
     requires fit { Fits
         (view_layout layout.now) (view code.now) at.temporary at.arrays (suc at.exit) }
     requires within { Within at.temporary at.arrays at.exit }
-    ensures emits { IfOk result (λ made. Emits [] made.items (branch_with (view_layout layout.now)
+    ensures emits { IfOk result (λ made. Holds made (branch_with (view_layout layout.now)
         kept.old.forms kept.old.temporaries sort (view code.now) at.temporary at.arrays at.exit)) }
     ensures kept { OnOk result (kept.new ≡ kept.old) }
 {
-    let mut list = Vec::new(layout.alloc);
+    let mut list = Emitted::new(layout.alloc);
     let inner = inner_at(at);
     let form = expression(layout, kept, &mut list, false, code, inner)?;
     converted(
@@ -459,7 +464,7 @@ fn branch(
         sort,
         at.temporary,
         inner.exit,
-    )?;
+    );
     Ok(list)
 }
 
@@ -468,7 +473,7 @@ fn branch(
 fn choice(
     layout: &FunctionLayout<'_>,
     kept: &mut Kept,
-    out: &mut Vec<Instr>,
+    out: &mut Emitted,
     sort: Sort,
     test: &Code,
     yes: &Code,
@@ -480,15 +485,15 @@ fn choice(
     ensures form { IfOk result (λ form. view_form form
         ≡ form_of kept.old.forms (plain.Choose sort (view test.now) (view yes.now) (view no.now))) }
     ensures emits { (only : Bool)
-        → OnOk result (Emits out.old.items out.new.items (emitted_at layout.now only kept.old
+        → OnOk result (Emits out.old out.new (emitted_at layout.now only kept.old
         (plain.Choose sort (view test.now) (view yes.now) (view no.now)) at)) }
     ensures kept { OnOk result (kept.new ≡ kept.old) }
 {
     let form = expression(layout, kept, out, false, test, at)?;
-    truth(layout.alloc, layout.bases, out, form, at.temporary)?;
+    truth(layout.alloc, layout.bases, out, form, at.temporary);
     let yes = branch(layout, kept, sort, yes, at)?;
     let no = branch(layout, kept, sort, no, at)?;
-    either(layout.alloc, out, yes, no)?;
+    either(layout.alloc, out, yes, no);
     Ok(Form::Answered(Answer::Of(sort)))
 }
 
@@ -497,7 +502,7 @@ fn choice(
 fn sequence(
     layout: &FunctionLayout<'_>,
     kept: &mut Kept,
-    out: &mut Vec<Instr>,
+    out: &mut Emitted,
     only: bool,
     first: &Code,
     second: &Code,
@@ -506,14 +511,14 @@ fn sequence(
     requires { FitsAt layout.now (plain.Seq (view first.now) (view second.now)) at }
     ensures form { IfOk result (λ form. view_form form
         ≡ form_of kept.old.forms (plain.Seq (view first.now) (view second.now))) }
-    ensures emits { OnOk result (Emits out.old.items out.new.items
+    ensures emits { OnOk result (Emits out.old out.new
         (emitted_at layout.now only kept.old (plain.Seq (view first.now) (view second.now)) at)) }
     ensures kept { OnOk result (kept.new ≡ kept.old) }
 {
     let form = expression(layout, kept, out, true, first, at)?;
-    left_over(layout, out, first, form, at.temporary)?;
+    left_over(layout, out, first, form, at.temporary);
     let answer = expression(layout, kept, out, only, second, at)?;
-    sequence_closed(layout, out, only, second, answer, at.temporary)?;
+    sequence_closed(layout, out, only, second, answer, at.temporary);
     Ok(answer)
 }
 
@@ -522,7 +527,7 @@ fn sequence(
 fn keeping(
     layout: &FunctionLayout<'_>,
     kept: &mut Kept,
-    out: &mut Vec<Instr>,
+    out: &mut Emitted,
     only: bool,
     value: &Code,
     rest: &Code,
@@ -531,7 +536,7 @@ fn keeping(
     requires { FitsAt layout.now (plain.Let (view value.now) (view rest.now)) at }
     ensures form { IfOk result (λ form. view_form form
         ≡ form_of kept.old.forms (plain.Let (view value.now) (view rest.now))) }
-    ensures emits { OnOk result (Emits out.old.items out.new.items
+    ensures emits { OnOk result (Emits out.old out.new
         (emitted_at layout.now only kept.old (plain.Let (view value.now) (view rest.now)) at)) }
     ensures kept { OnOk result (kept.new ≡ kept.old) }
 {
@@ -539,6 +544,6 @@ fn keeping(
     kept.push(held, at.temporary)?;
     let form = expression(layout, kept, out, only, rest, next(at))?;
     kept.pop();
-    keeping_closed(layout, out, only, rest, held, form, at.temporary)?;
+    keeping_closed(layout, out, only, rest, held, form, at.temporary);
     Ok(form)
 }

@@ -1,5 +1,5 @@
 //! Fields whose numbers are constants.
-ghost use Rattle.std.specs.Prelude.{◌≡◌, ◌≤◌, IfOk, OnOk};
+ghost use Rattle.std.specs.Prelude.{◌≡◌, ◌≤◌};
 ghost use Rattle.mid_program.specs.Mid.{a_value};
 ghost use Rattle.mid_program.specs.ViewCode.{view, views};
 ghost use Rattle.lower_model.specs.Emission.{constant_field, field_at, field_in, field_read, one_field};
@@ -9,11 +9,10 @@ ghost use Rattle.lower_pieces.specs.Forms.{view_form};
 ghost use Rattle.lower_expressions.specs.View.{view_layout};
 
 use crate::function_layout::FunctionLayout;
-use lower_pieces::{Form, does_all, row_call};
+use lower_pieces::{Emitted, Form, does_all, row_call};
 use mid_program::{Code, Operand, Operation};
 use sem_primitives::{Answer, MAX_FIELDS, Primitive, Sort};
-use std::alloc::AllocError;
-use wasm_types::{Instr, Simple};
+use wasm_types::Simple;
 
 /// The greatest number of a field.
 const LAST_FIELD: i64 = MAX_FIELDS as i64;
@@ -86,20 +85,19 @@ pub fn field_at(code: &Code) -> Option<i64>
 /// Adds the reading of such a field, which cannot fail.
 pub(crate) fn field_read(
     layout: &FunctionLayout<'_>,
-    out: &mut Vec<Instr>,
+    out: &mut Emitted,
     number: i64,
     temporary: u32,
-) -> Result<Form, AllocError>
+) -> Form
     requires { temporary ≤ most_places }
-    ensures form { IfOk result (λ form. view_form form ≡ a_value) }
-    ensures emits { OnOk result
-        (Emits out.old.items out.new.items (field_read (view_layout layout.now) number temporary)) }
+    ensures form { view_form result ≡ a_value }
+    ensures emits { Emits out.old out.new (field_read (view_layout layout.now) number temporary) }
 {
     let all = [
         Simple::I64Const(number.cast_unsigned()),
         row_call(Primitive::Field),
         Simple::LocalSet(layout.bases.handle(temporary)),
     ];
-    does_all(out, &all)?;
-    Ok(Form::Answered(Answer::Of(Sort::Value)))
+    does_all(out, &all);
+    Form::Answered(Answer::Of(Sort::Value))
 }

@@ -1,9 +1,9 @@
 //! Operands that are immediate: what they give is put on the stack where it is asked for.
 ghost use Rattle.std.specs.Option.{option_map};
-ghost use Rattle.std.specs.Prelude.{◌≡◌, ◌≤◌, IfOk, OnOk, suc};
+ghost use Rattle.std.specs.Prelude.{◌≡◌, ◌≤◌, suc};
 ghost use Rattle.sem_primitives.specs.declared.sorts.Answer.TheVariants.{Truth};
 ghost use Rattle.mid_program.specs.Mid.{Answered};
-ghost use Rattle.mid_program.specs.ViewCode.{view, views};
+ghost use Rattle.mid_program.specs.ViewCode.{view};
 ghost use Rattle.lower_model.specs.Emission.{immediate_field, immediate_in, immediate_pushed, immediately_compared};
 ghost use Rattle.lower_pieces.specs.Bounds.{most_places};
 ghost use Rattle.lower_pieces.specs.Emits.{Emits};
@@ -17,12 +17,11 @@ use crate::function_layout::FunctionLayout;
 use crate::places::text_pushed;
 use awk_values::CompareOp;
 use lower_pieces::{
-    Form, MINUS_ONE, ask_row, comparison_number, does_all, kept_code, row_call, to_value,
+    Emitted, Form, MINUS_ONE, ask_row, comparison_number, does_all, kept_code, row_call, to_value,
 };
 use mid_program::Code;
 use sem_primitives::{Answer, Primitive};
-use std::alloc::AllocError;
-use wasm_types::{Instr, Simple};
+use wasm_types::Simple;
 
 /// An operand that can neither fail nor change anything.
 #[derive(Clone, Copy, Drop)]
@@ -63,27 +62,23 @@ pub(crate) fn immediate_in(valued: bool, code: &Code) -> Option<Immediate>
 }
 
 /// Adds a constant, by its bits, and asks for the value that a row has of it.
-fn constant_asked(out: &mut Vec<Instr>, bits: u64, primitive: Primitive) -> Result<(), AllocError>
-    ensures { OnOk result (Emits out.old.items out.new.items (constant_asked bits primitive)) }
+fn constant_asked(out: &mut Emitted, bits: u64, primitive: Primitive)
+    ensures { Emits out.old out.new (constant_asked bits primitive) }
 {
-    does_all(out, &[Simple::I64Const(bits), row_call(primitive)])
+    does_all(out, &[Simple::I64Const(bits), row_call(primitive)]);
 }
 
 /// Puts the value of such an operand on the stack.
-fn immediate_pushed(
-    layout: &FunctionLayout<'_>,
-    out: &mut Vec<Instr>,
-    operand: Immediate,
-) -> Result<(), AllocError>
+fn immediate_pushed(layout: &FunctionLayout<'_>, out: &mut Emitted, operand: Immediate)
     requires { ImmediateFits (view_layout layout.now) (view_immediate operand) }
-    ensures { OnOk result (Emits out.old.items out.new.items
-        (immediate_pushed (view_layout layout.now) (view_immediate operand))) }
+    ensures { Emits out.old out.new
+        (immediate_pushed (view_layout layout.now) (view_immediate operand)) }
 {
     match operand {
         Immediate::Field(number) => constant_asked(out, number.cast_unsigned(), Primitive::Field),
         Immediate::Text(text) => {
-            text_pushed(layout, out, text)?;
-            ask_row(out, Primitive::Lit)
+            text_pushed(layout, out, text);
+            ask_row(out, Primitive::Lit);
         }
         Immediate::Number(number) => constant_asked(out, number.cast_unsigned(), Primitive::Num),
     }
@@ -92,20 +87,20 @@ fn immediate_pushed(
 /// Compares what stands in a temporary with such an operand.
 pub(crate) fn immediately_compared(
     layout: &FunctionLayout<'_>,
-    out: &mut Vec<Instr>,
+    out: &mut Emitted,
     op: CompareOp,
     form: Form,
     operand: Immediate,
     temporary: u32,
     exit: u32,
-) -> Result<Form, AllocError>
+) -> Form
     requires places { suc temporary ≤ most_places }
     requires operand { ImmediateFits (view_layout layout.now) (view_immediate operand) }
-    ensures form { IfOk result (λ form. view_form form ≡ Answered Truth) }
-    ensures emits { OnOk result (Emits out.old.items out.new.items (immediately_compared
-        (view_layout layout.now) op (view_form form) (view_immediate operand) temporary exit)) }
+    ensures form { view_form result ≡ Answered Truth }
+    ensures emits { Emits out.old out.new (immediately_compared
+        (view_layout layout.now) op (view_form form) (view_immediate operand) temporary exit) }
 {
-    to_value(layout.alloc, layout.bases, out, form, temporary)?;
+    to_value(layout.alloc, layout.bases, out, form, temporary);
     let local = layout.bases.handle(temporary);
     let all = [
         Simple::I32Const(comparison_number(op)),
@@ -113,9 +108,9 @@ pub(crate) fn immediately_compared(
         Simple::I32Const(MINUS_ONE),
         Simple::LocalSet(local),
     ];
-    does_all(out, &all)?;
-    immediate_pushed(layout, out, operand)?;
-    ask_row(out, Primitive::Compare)?;
-    kept_code(layout.bases, out, true, temporary, exit)?;
-    Ok(Form::Answered(Answer::Truth))
+    does_all(out, &all);
+    immediate_pushed(layout, out, operand);
+    ask_row(out, Primitive::Compare);
+    kept_code(layout.bases, out, true, temporary, exit);
+    Form::Answered(Answer::Truth)
 }

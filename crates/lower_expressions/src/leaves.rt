@@ -1,5 +1,5 @@
 //! Code with no code within it.
-ghost use Rattle.std.specs.Prelude.{◌≡◌, ◌<◌, ◌≤◌, get_or, IfOk, length, OnOk, suc, true};
+ghost use Rattle.std.specs.Prelude.{◌≡◌, ◌<◌, ◌≤◌, get_or, length};
 ghost use Rattle.sem_primitives.specs.declared.table.Primitive.TheVariants.{Getline, Lit};
 ghost use Rattle.wasm_types.specs.declared.instr.CvtOp.TheVariants.{I64ExtendI32U};
 ghost use Rattle.wasm_types.specs.declared.instr.Simple.TheVariants.{Convert, GlobalGet, I64Const, LocalSet};
@@ -20,141 +20,110 @@ use crate::kept::Kept;
 use crate::pending::asked;
 use crate::places::text_pushed;
 use crate::slots::{slot_form, slot_read};
-use lower_pieces::{Form, LEAST, bound_from, code_number, does_all, row_call};
+use lower_pieces::{Emitted, Form, LEAST, bound_from, code_number, does_all, row_call};
 use mid_program::Slot;
 use sem_primitives::{Answer, Primitive, Sort};
-use std::alloc::AllocError;
-use wasm_types::{CvtOp, Instr, Simple};
+use wasm_types::{CvtOp, Simple};
 
 /// Adds the reading of a record of the main input.
-pub(crate) fn line(
-    layout: &FunctionLayout<'_>,
-    out: &mut Vec<Instr>,
-    at: At,
-) -> Result<Form, AllocError>
+pub(crate) fn line(layout: &FunctionLayout<'_>, out: &mut Emitted, at: At) -> Form
     requires { Within at.temporary at.arrays at.exit }
-    ensures form { IfOk result (λ form. view_form form ≡ a_number) }
-    ensures emits { OnOk result (Emits out.old.items out.new.items
+    ensures form { view_form result ≡ a_number }
+    ensures emits { Emits out.old out.new
         (λ after. asked (view_layout layout.now) Getline at.temporary at.exit
-        (code_number layout.now.bases.now at.temporary after))) }
+        (code_number layout.now.bases.now at.temporary after)) }
 {
-    asked(layout, out, Primitive::Getline, at.temporary, at.exit)?;
-    code_number(layout.bases, out, at.temporary)?;
-    Ok(Form::Answered(Answer::Of(Sort::Number)))
+    asked(layout, out, Primitive::Getline, at.temporary, at.exit);
+    code_number(layout.bases, out, at.temporary);
+    Form::Answered(Answer::Of(Sort::Number))
 }
 
 /// Adds a number, by its bits.
-pub(crate) fn constant(
-    layout: &FunctionLayout<'_>,
-    out: &mut Vec<Instr>,
-    bits: u64,
-    at: At,
-) -> Result<Form, AllocError>
+pub(crate) fn constant(layout: &FunctionLayout<'_>, out: &mut Emitted, bits: u64, at: At) -> Form
     requires { Within at.temporary at.arrays at.exit }
-    ensures form { IfOk result (λ form. view_form form ≡ a_number) }
-    ensures emits { OnOk result (Emits out.old.items out.new.items (λ after. does
-        (I64Const bits) (does (LocalSet (number_local layout.now.bases.now at.temporary)) after))) }
+    ensures form { view_form result ≡ a_number }
+    ensures emits { Emits out.old out.new (λ after. does
+        (I64Const bits) (does (LocalSet (number_local layout.now.bases.now at.temporary)) after)) }
 {
     let put = Simple::LocalSet(layout.bases.number(at.temporary));
-    does_all(out, &[Simple::I64Const(bits), put])?;
-    Ok(Form::Answered(Answer::Of(Sort::Number)))
+    does_all(out, &[Simple::I64Const(bits), put]);
+    Form::Answered(Answer::Of(Sort::Number))
 }
 
 /// Adds a text of the script.
-pub(crate) fn text(
-    layout: &FunctionLayout<'_>,
-    out: &mut Vec<Instr>,
-    place: usize,
-    at: At,
-) -> Result<Form, AllocError>
+pub(crate) fn text(layout: &FunctionLayout<'_>, out: &mut Emitted, place: usize, at: At) -> Form
     requires within { Within at.temporary at.arrays at.exit }
     requires there { place < length (view_layout layout.now).texts }
-    ensures form { IfOk result (λ form. view_form form ≡ a_value) }
-    ensures emits { OnOk result
-        (Emits out.old.items out.new.items (λ after. text_pushed (view_layout layout.now) place
-        (ask_row Lit (does (LocalSet (handle_local layout.now.bases.now at.temporary)) after)))) }
+    ensures form { view_form result ≡ a_value }
+    ensures emits { Emits out.old out.new (λ after. text_pushed (view_layout layout.now) place
+        (ask_row Lit (does (LocalSet (handle_local layout.now.bases.now at.temporary)) after))) }
 {
-    text_pushed(layout, out, place)?;
+    text_pushed(layout, out, place);
     let put = Simple::LocalSet(layout.bases.handle(at.temporary));
-    does_all(out, &[row_call(Primitive::Lit), put])?;
-    Ok(Form::Answered(Answer::Of(Sort::Value)))
+    does_all(out, &[row_call(Primitive::Lit), put]);
+    Form::Answered(Answer::Of(Sort::Value))
 }
 
 /// Adds what a parameter is without an argument.
-pub(crate) fn unset(
-    layout: &FunctionLayout<'_>,
-    out: &mut Vec<Instr>,
-    at: At,
-) -> Result<Form, AllocError>
+pub(crate) fn unset(layout: &FunctionLayout<'_>, out: &mut Emitted, at: At) -> Form
     requires { Within at.temporary at.arrays at.exit }
-    ensures form { IfOk result (λ form. view_form form ≡ Perhaps) }
-    ensures emits { OnOk result (Emits out.old.items out.new.items (λ after. does (I64Const least)
-        (does (LocalSet (number_local layout.now.bases.now at.temporary)) after))) }
+    ensures form { view_form result ≡ Perhaps }
+    ensures emits { Emits out.old out.new (λ after. does (I64Const least)
+        (does (LocalSet (number_local layout.now.bases.now at.temporary)) after)) }
 {
     let put = Simple::LocalSet(layout.bases.number(at.temporary));
-    does_all(out, &[Simple::I64Const(LEAST), put])?;
-    Ok(Form::Perhaps)
+    does_all(out, &[Simple::I64Const(LEAST), put]);
+    Form::Perhaps
 }
 
 /// Adds the reading of a scalar.
-pub(crate) fn variable(
-    layout: &FunctionLayout<'_>,
-    out: &mut Vec<Instr>,
-    slot: Slot,
-    at: At,
-) -> Result<Form, AllocError>
+pub(crate) fn variable(layout: &FunctionLayout<'_>, out: &mut Emitted, slot: Slot, at: At) -> Form
     requires within { Within at.temporary at.arrays at.exit }
     requires slot { SlotFits (view_slot slot) }
-    ensures form { IfOk result (λ form. view_form form ≡ slot_form (view_slot slot)) }
-    ensures emits { OnOk result (Emits out.old.items out.new.items
-        (slot_read (view_layout layout.now) (view_slot slot) at.temporary)) }
+    ensures form { view_form result ≡ slot_form (view_slot slot) }
+    ensures emits { Emits out.old out.new
+        (slot_read (view_layout layout.now) (view_slot slot) at.temporary) }
 {
-    slot_read(layout, out, slot, at.temporary)?;
-    Ok(slot_form(slot))
+    slot_read(layout, out, slot, at.temporary);
+    slot_form(slot)
 }
 
 /// Adds whether the range of an item is open.
-pub(crate) fn is_open(
-    layout: &FunctionLayout<'_>,
-    out: &mut Vec<Instr>,
-    item: usize,
-    at: At,
-) -> Result<Form, AllocError>
+pub(crate) fn is_open(layout: &FunctionLayout<'_>, out: &mut Emitted, item: usize, at: At) -> Form
     requires within { Within at.temporary at.arrays at.exit }
     requires few { item ≤ most_places }
-    ensures form { IfOk result (λ form. view_form form ≡ Answered Answer.Truth) }
-    ensures emits { OnOk result (Emits out.old.items out.new.items
+    ensures form { view_form result ≡ Answered Answer.Truth }
+    ensures emits { Emits out.old out.new
         (λ after. does (GlobalGet (range_global item)) (does (Convert I64ExtendI32U)
-        (does (LocalSet (number_local layout.now.bases.now at.temporary)) after)))) }
+        (does (LocalSet (number_local layout.now.bases.now at.temporary)) after))) }
 {
     let all = [
         Simple::GlobalGet(item as u32 + 3),
         Simple::Convert(CvtOp::I64ExtendI32U),
         Simple::LocalSet(layout.bases.number(at.temporary)),
     ];
-    does_all(out, &all)?;
-    Ok(Form::Answered(Answer::Truth))
+    does_all(out, &all);
+    Form::Answered(Answer::Truth)
 }
 
 /// Adds what was kept. Where `only` what is done counts, that is nothing.
 pub(crate) fn bound(
     layout: &FunctionLayout<'_>,
     kept: &Kept,
-    out: &mut Vec<Instr>,
+    out: &mut Emitted,
     only: bool,
     moves: bool,
     after: usize,
     at: At,
-) -> Result<Form, AllocError>
+) -> Form
     requires { Within at.temporary at.arrays at.exit }
-    ensures form { IfOk result (λ form. view_form form ≡ form_at kept.now.forms after) }
-    ensures emits { OnOk result
-        (Emits out.old.items out.new.items (bound_read (view_layout layout.now) only moves
-        (form_at kept.now.forms after) (get_or kept.now.temporaries after 0) at.temporary)) }
+    ensures form { view_form result ≡ form_at kept.now.forms after }
+    ensures emits { Emits out.old out.new (bound_read (view_layout layout.now) only moves
+        (form_at kept.now.forms after) (get_or kept.now.temporaries after 0) at.temporary) }
 {
     let entry = kept.at(after);
     if only {
-        return Ok(entry.form);
+        return entry.form;
     }
     let to = at.temporary;
     bound_from(
@@ -165,6 +134,6 @@ pub(crate) fn bound(
         entry.form,
         entry.temporary,
         to,
-    )?;
-    Ok(entry.form)
+    );
+    entry.form
 }

@@ -1,5 +1,5 @@
 //! Lists of values, and what takes them.
-ghost use Rattle.std.specs.Prelude.{[], ◌≡◌, ◌+◌, suc, ◌≤◌, OnOk, length, map};
+ghost use Rattle.std.specs.Prelude.{◌≡◌, ◌+◌, ◌≤◌, length, map};
 ghost use Rattle.sem_primitives.specs.Constants.{destination_number};
 ghost use Rattle.lower_model.specs.Emission.{listed_asked, values_counted};
 ghost use Rattle.lower_pieces.specs.Bounds.{most_places};
@@ -11,10 +11,9 @@ ghost use Rattle.lower_expressions.specs.View.{view_layout};
 use crate::function_layout::FunctionLayout;
 use crate::walks::{all_appended, all_boxed};
 use host_imports::{Import, Listing};
-use lower_pieces::{Form, does_all, import_call, kept, kept_value};
+use lower_pieces::{Emitted, Form, does_all, import_call, kept, kept_value};
 use sem_primitives::{Answer, Destination, Listed};
-use std::alloc::AllocError;
-use wasm_types::{Instr, Simple};
+use wasm_types::Simple;
 
 fn destination_number(to: Destination) -> u32
     ensures { result ≡ destination_number to }
@@ -39,20 +38,20 @@ fn values_counted(to: Destination, count: u32) -> u32
 /// Asks the host for what takes a list of values.
 fn listed_asked(
     layout: &FunctionLayout<'_>,
-    out: &mut Vec<Instr>,
+    out: &mut Emitted,
     listed: Listed,
     count: u32,
     temporary: u32,
     exit: u32,
-) -> Result<(), AllocError>
+)
     requires { temporary ≤ most_places }
-    ensures { OnOk result (Emits out.old.items out.new.items
-        (listed_asked (view_layout layout.now) listed count temporary exit)) }
+    ensures { Emits out.old out.new
+        (listed_asked (view_layout layout.now) listed count temporary exit) }
 {
     let (listing, to) = match listed {
         Listed::Sprintf => {
             let call = import_call(Import::Over(Listing::Sprintf));
-            does_all(out, &[Simple::I32Const(count), call])?;
+            does_all(out, &[Simple::I32Const(count), call]);
             return kept_value(layout.bases, out, true, temporary, exit);
         }
         Listed::Print(to) => (Listing::Print, to),
@@ -63,24 +62,24 @@ fn listed_asked(
         Simple::I32Const(destination_number(to)),
         import_call(Import::Over(listing)),
     ];
-    does_all(out, &all)?;
-    kept(layout.bases, out, true, Answer::Done, temporary, exit)
+    does_all(out, &all);
+    kept(layout.bases, out, true, Answer::Done, temporary, exit);
 }
 
 /// Adds what takes a list of values that are evaluated.
 pub(crate) fn listed(
     layout: &FunctionLayout<'_>,
-    out: &mut Vec<Instr>,
+    out: &mut Emitted,
     forms: &[Form],
     listed: Listed,
     temporary: u32,
     exit: u32,
-) -> Result<(), AllocError>
+)
     requires { temporary + length forms.now ≤ most_places }
-    ensures { OnOk result (Emits out.old.items out.new.items
-        (listed_with (view_layout layout.now) (map view_form forms.now) listed temporary exit)) }
+    ensures { Emits out.old out.new
+        (listed_with (view_layout layout.now) (map view_form forms.now) listed temporary exit) }
 {
-    all_boxed(layout.alloc, layout.bases, out, forms, temporary)?;
-    all_appended(layout.bases, out, forms, temporary)?;
-    listed_asked(layout, out, listed, forms.len() as u32, temporary, exit)
+    all_boxed(layout.alloc, layout.bases, out, forms, temporary);
+    all_appended(layout.bases, out, forms, temporary);
+    listed_asked(layout, out, listed, forms.len() as u32, temporary, exit);
 }

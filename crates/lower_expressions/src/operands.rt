@@ -1,5 +1,5 @@
 //! Operands that are evaluated: converted, and taken by an operation.
-ghost use Rattle.std.specs.Prelude.{[], ◌≡◌, ◌+◌, suc, ◌≤◌, OnOk, length, map};
+ghost use Rattle.std.specs.Prelude.{◌≡◌, ◌+◌, suc, ◌≤◌, length, map};
 ghost use Rattle.mid_program.specs.Mid.{Answered, answer_by, arguments};
 ghost use Rattle.mid_program.specs.Sorted.{count_of};
 ghost use Rattle.mid_program.specs.ViewCode.{view, view_array, views};
@@ -14,11 +14,12 @@ ghost use Rattle.lower_expressions.specs.View.{view_layout};
 use crate::function_layout::FunctionLayout;
 use crate::places::array_pushed;
 use crate::walks::{all_boxed, all_converted};
-use lower_pieces::{Form, ask_row, calculated, does, field_checked, kept, kept_value, moved_out};
+use lower_pieces::{
+    Emitted, Form, ask_row, calculated, does, field_checked, kept, kept_value, moved_out,
+};
 use mid_program::{ArrayName, Code, Operand, Operation};
 use sem_primitives::{Answer, Argument, Primitive, Sort};
-use std::alloc::AllocError;
-use wasm_types::{Instr, Simple};
+use wasm_types::Simple;
 
 /// The array that code stands for.
 pub(crate) fn array_meant(code: &Code) -> ArrayName
@@ -61,72 +62,72 @@ fn arguments(operation: Operation) -> &'static [Argument]
 /// Puts an operand on the stack.
 fn one_pushed(
     layout: &FunctionLayout<'_>,
-    out: &mut Vec<Instr>,
+    out: &mut Emitted,
     wanted: Argument,
     code: &Code,
     temporary: u32,
-) -> Result<(), AllocError>
+)
     requires places { temporary ≤ most_places }
     requires array { ArrayFits (array_meant (view code.now)) }
-    ensures { OnOk result (Emits out.old.items out.new.items
-        (one_pushed (view_layout layout.now) wanted (view code.now) temporary)) }
+    ensures { Emits out.old out.new
+        (one_pushed (view_layout layout.now) wanted (view code.now) temporary) }
 {
     match wanted {
         Argument::Of(Sort::Value) => moved_out(out, layout.bases.handle(temporary)),
         Argument::Of(Sort::Number) => does(out, Simple::LocalGet(layout.bases.number(temporary))),
         Argument::Of(Sort::Array) => array_pushed(layout, out, array_meant(code)),
-        Argument::Of(Sort::Iterator) | Argument::Constant(_) | Argument::Place => Ok(()),
+        Argument::Of(Sort::Iterator) | Argument::Constant(_) | Argument::Place => {}
     }
 }
 
 /// Puts operands on the stack.
 pub(crate) fn all_pushed(
     layout: &FunctionLayout<'_>,
-    out: &mut Vec<Instr>,
+    out: &mut Emitted,
     wanted: &[Argument],
     operands: &[Operand],
     temporary: u32,
-) -> Result<(), AllocError>
+)
     requires places { temporary + count_of (views operands.now) ≤ most_places }
     requires arrays { ArraysFit (views operands.now) }
-    ensures { OnOk result (Emits out.old.items out.new.items
-        (all_pushed (view_layout layout.now) wanted.now (views operands.now) temporary)) }
+    ensures { Emits out.old out.new
+        (all_pushed (view_layout layout.now) wanted.now (views operands.now) temporary) }
 {
     let Some((operand, operands)) = operands.split_first() else {
-        return Ok(());
+        return;
     };
     let Some((first, wanted)) = wanted.split_first() else {
-        return Ok(());
+        return;
     };
     match operand {
         Operand::Code(code) => {
-            one_pushed(layout, out, *first, code, temporary)?;
-            all_pushed(layout, out, wanted, operands, temporary + 1)
+            one_pushed(layout, out, *first, code, temporary);
+            all_pushed(layout, out, wanted, operands, temporary + 1);
         }
         Operand::Constant(number) => {
-            does(out, Simple::I32Const(*number))?;
-            all_pushed(layout, out, wanted, operands, temporary)
+            does(out, Simple::I32Const(*number));
+            all_pushed(layout, out, wanted, operands, temporary);
         }
-        Operand::Fresh => Ok(()),
+        Operand::Fresh => {}
     }
 }
 
 /// Asks the host for an operation on operands.
 fn host_performed(
     layout: &FunctionLayout<'_>,
-    out: &mut Vec<Instr>,
+    out: &mut Emitted,
     primitive: Primitive,
     operands: &[Operand],
     temporary: u32,
     exit: u32,
-) -> Result<(), AllocError>
+)
     requires places { suc (suc temporary) + count_of (views operands.now) ≤ most_places }
     requires arrays { ArraysFit (views operands.now) }
-    ensures { OnOk result (Emits out.old.items out.new.items
-        (host_performed (view_layout layout.now) primitive (views operands.now) temporary exit)) }
+    ensures { Emits out.old out.new
+        (host_performed (view_layout layout.now) primitive (views operands.now) temporary exit) }
 {
-    all_pushed(layout, out, primitive.arguments(), operands, temporary)?;
-    ask_row(out, primitive)?;
+    all_pushed(layout, out, primitive.arguments(), operands, temporary);
+    ask_row(out, primitive);
     kept(
         layout.bases,
         out,
@@ -134,23 +135,23 @@ fn host_performed(
         primitive.answer(),
         temporary,
         exit,
-    )
+    );
 }
 
 /// Adds an operation on operands that are converted.
 fn performed(
     layout: &FunctionLayout<'_>,
-    out: &mut Vec<Instr>,
+    out: &mut Emitted,
     operation: Operation,
     operands: &[Operand],
     temporary: u32,
     exit: u32,
-) -> Result<(), AllocError>
+)
     requires places { suc (suc temporary) + count_of (views operands.now) ≤ most_places }
     requires labels { exit ≤ most_labels }
     requires arrays { ArraysFit (views operands.now) }
-    ensures { OnOk result (Emits out.old.items out.new.items
-        (performed (view_layout layout.now) operation (views operands.now) temporary exit)) }
+    ensures { Emits out.old out.new
+        (performed (view_layout layout.now) operation (views operands.now) temporary exit) }
 {
     match operation {
         Operation::Host(primitive) => host_performed(
@@ -164,7 +165,7 @@ fn performed(
             temporary,
             exit,
         ),
-        Operation::AsNumber => Ok(()),
+        Operation::AsNumber => {}
         Operation::FieldNumber => field_checked(layout.alloc, layout.bases, out, temporary, exit),
     }
 }
@@ -172,18 +173,18 @@ fn performed(
 /// Adds an operation on operands that are evaluated.
 pub(crate) fn operated(
     layout: &FunctionLayout<'_>,
-    out: &mut Vec<Instr>,
+    out: &mut Emitted,
     forms: &[Form],
     operation: Operation,
     operands: &[Operand],
     temporary: u32,
     exit: u32,
-) -> Result<(), AllocError>
+)
     requires places { suc (suc temporary) + count_of (views operands.now) ≤ most_places }
     requires labels { exit ≤ most_labels }
     requires arrays { ArraysFit (views operands.now) }
-    ensures { OnOk result (Emits out.old.items out.new.items (operated (view_layout layout.now)
-        (map view_form forms.now) operation (views operands.now) temporary exit)) }
+    ensures { Emits out.old out.new (operated (view_layout layout.now)
+        (map view_form forms.now) operation (views operands.now) temporary exit) }
 {
     let wanted = arguments(operation);
     all_converted(
@@ -195,8 +196,8 @@ pub(crate) fn operated(
         operands,
         temporary,
         exit,
-    )?;
-    performed(layout, out, operation, operands, temporary, exit)
+    );
+    performed(layout, out, operation, operands, temporary, exit);
 }
 
 /// What an operation answers.
@@ -214,46 +215,45 @@ pub(crate) fn operation_form(operation: Operation) -> Form
 /// Joins two subscripts that are evaluated.
 fn joined(
     layout: &FunctionLayout<'_>,
-    out: &mut Vec<Instr>,
+    out: &mut Emitted,
     first: Form,
     second: Form,
     temporary: u32,
     exit: u32,
-) -> Result<(), AllocError>
+)
     requires places { suc (suc (suc (suc temporary))) ≤ most_places }
     requires labels { exit ≤ most_labels }
-    ensures { OnOk result (Emits out.old.items out.new.items (joined_with (view_layout layout.now)
-        (view_form first) (view_form second) temporary exit)) }
+    ensures { Emits out.old out.new (joined_with (view_layout layout.now)
+        (view_form first) (view_form second) temporary exit) }
 {
     let bases = layout.bases;
-    all_boxed(layout.alloc, bases, out, &[first, second], temporary)?;
-    moved_out(out, bases.handle(temporary))?;
-    moved_out(out, bases.handle(temporary + 1))?;
-    ask_row(out, Primitive::Join)?;
-    kept_value(bases, out, true, temporary, exit)
+    all_boxed(layout.alloc, bases, out, &[first, second], temporary);
+    moved_out(out, bases.handle(temporary));
+    moved_out(out, bases.handle(temporary + 1));
+    ask_row(out, Primitive::Join);
+    kept_value(bases, out, true, temporary, exit);
 }
 
 /// Joins subscripts that are evaluated: the last one, whose form stands apart, to the one before it, and so on.
 pub(crate) fn all_joined(
     layout: &FunctionLayout<'_>,
-    out: &mut Vec<Instr>,
+    out: &mut Emitted,
     forms: &[Form],
     last: Form,
     temporary: u32,
     exit: u32,
-) -> Result<(), AllocError>
+)
     requires places { suc (suc (suc temporary)) + length forms.now ≤ most_places }
     requires labels { exit ≤ most_labels }
-    ensures { OnOk result (Emits out.old.items out.new.items (all_joined (view_layout layout.now)
-        (map view_form forms.now) (view_form last) temporary exit)) }
+    ensures { Emits out.old out.new (all_joined (view_layout layout.now)
+        (map view_form forms.now) (view_form last) temporary exit) }
 {
     let mut second = last;
     let mut left = forms;
     while let Some((first, before)) = left.split_last() {
         let place = temporary + before.len() as u32;
-        joined(layout, out, *first, second, place, exit)?;
+        joined(layout, out, *first, second, place, exit);
         second = operation_form(Operation::Host(Primitive::Join));
         left = before;
     }
-    Ok(())
 }

@@ -1,5 +1,5 @@
 //! Where names and arrays stand.
-ghost use Rattle.std.specs.Prelude.{◌≡◌, ◌<◌, ◌≤◌, length, OnOk};
+ghost use Rattle.std.specs.Prelude.{◌≡◌, ◌<◌, ◌≤◌, length};
 ghost use Rattle.mid_program.specs.ViewCode.{view_array};
 ghost use Rattle.lower_model.specs.Emission.{array_pushed, global_handle, global_number, text_pushed};
 ghost use Rattle.lower_pieces.specs.Bounds.{most_places};
@@ -8,10 +8,9 @@ ghost use Rattle.lower_expressions.specs.Fits.{ArrayFits};
 ghost use Rattle.lower_expressions.specs.View.{view_layout};
 
 use crate::function_layout::FunctionLayout;
-use lower_pieces::{does, does_all};
+use lower_pieces::{Emitted, does, does_all};
 use mid_program::ArrayName;
-use std::alloc::AllocError;
-use wasm_types::{Instr, Simple};
+use wasm_types::Simple;
 
 /// The global of a name's handle.
 pub fn global_handle(layout: &FunctionLayout<'_>, name: usize) -> u32
@@ -32,39 +31,30 @@ pub fn global_number(layout: &FunctionLayout<'_>, name: usize) -> u32
 }
 
 /// Adds an array.
-pub fn array_pushed(
-    layout: &FunctionLayout<'_>,
-    out: &mut Vec<Instr>,
-    array: ArrayName,
-) -> Result<(), AllocError>
+pub fn array_pushed(layout: &FunctionLayout<'_>, out: &mut Emitted, array: ArrayName)
     requires { ArrayFits (view_array array) }
-    ensures { OnOk result (Emits out.old.items out.new.items
-        (array_pushed (view_layout layout.now) (view_array array))) }
+    ensures { Emits out.old out.new
+        (array_pushed (view_layout layout.now) (view_array array)) }
 {
     match array {
         ArrayName::Numbered(0) => does(out, Simple::I32Const(0)),
         ArrayName::Numbered(1) => does(out, Simple::I32Const(1)),
         ArrayName::Numbered(number) => {
             let name = layout.script.array_name(number - 2);
-            does(out, Simple::GlobalGet(global_handle(layout, name)))
+            does(out, Simple::GlobalGet(global_handle(layout, name)));
         }
         ArrayName::Given(parameter) => does(out, Simple::LocalGet(parameter as u32)),
     }
 }
 
 /// Adds a text's place and its length.
-pub fn text_pushed(
-    layout: &FunctionLayout<'_>,
-    out: &mut Vec<Instr>,
-    text: usize,
-) -> Result<(), AllocError>
+pub fn text_pushed(layout: &FunctionLayout<'_>, out: &mut Emitted, text: usize)
     requires { text < length (view_layout layout.now).texts }
-    ensures { OnOk result
-        (Emits out.old.items out.new.items (text_pushed (view_layout layout.now) text)) }
+    ensures { Emits out.old out.new (text_pushed (view_layout layout.now) text) }
 {
     let span = layout.script.span(text);
     does_all(
         out,
         &[Simple::I32Const(span.place), Simple::I32Const(span.size)],
-    )
+    );
 }

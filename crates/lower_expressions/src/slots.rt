@@ -1,11 +1,11 @@
 //! Scalars that are read and written.
-ghost use Rattle.std.specs.Prelude.{[], ◌≡◌, ◌≤◌, IfOk, OnOk, true, false};
+ghost use Rattle.std.specs.Prelude.{◌≡◌, ◌≤◌, true, false};
 ghost use Rattle.mid_program.specs.Mid.{Bare, Global as GlobalSlot, slot_form};
 ghost use Rattle.mid_program.specs.ViewCode.{view_slot};
 ghost use Rattle.lower_model.specs.Emission.{handle_stored, slot_read, slot_set, text_dropped, value_stored};
 ghost use Rattle.lower_model.specs.Small.{boxed_perhaps};
 ghost use Rattle.lower_pieces.specs.Bounds.{most_places};
-ghost use Rattle.lower_pieces.specs.Emits.{Emits};
+ghost use Rattle.lower_pieces.specs.Emits.{Emits, Reads};
 ghost use Rattle.lower_pieces.specs.Forms.{view_form};
 ghost use Rattle.lower_expressions.specs.Fits.{SlotFits};
 ghost use Rattle.lower_expressions.specs.Parts.{bare_set};
@@ -15,13 +15,12 @@ use crate::function_layout::FunctionLayout;
 use crate::places::{global_handle, global_number};
 use host_imports::Import;
 use lower_pieces::{
-    Form, MINUS_ONE, TEXT_BESIDE, boxed_number, boxed_perhaps, copied_by, does, does_all, either,
-    import_call, moved_out, number_is, row_call, when_all,
+    Emitted, Form, MINUS_ONE, TEXT_BESIDE, boxed_number, boxed_perhaps, copied_by, does, does_all,
+    either, import_call, moved_out, number_is, row_call, when_all,
 };
 use mid_program::Slot;
 use sem_primitives::{Answer, Primitive, Sort};
-use std::alloc::AllocError;
-use wasm_types::{IRelOp, Instr, Simple, ValType};
+use wasm_types::{IRelOp, Simple, ValType};
 
 /// What a scalar is once it is read.
 pub(crate) fn slot_form(slot: Slot) -> Form
@@ -36,16 +35,11 @@ pub(crate) fn slot_form(slot: Slot) -> Form
 }
 
 /// Reads an unboxed global. Its number says whether a text stands beside it.
-fn bare_read(
-    layout: &FunctionLayout<'_>,
-    out: &mut Vec<Instr>,
-    name: usize,
-    temporary: u32,
-) -> Result<(), AllocError>
+fn bare_read(layout: &FunctionLayout<'_>, out: &mut Emitted, name: usize, temporary: u32)
     requires name { name ≤ most_places }
     requires places { temporary ≤ most_places }
-    ensures { OnOk result (Emits out.old.items out.new.items
-        (slot_read (view_layout layout.now) (GlobalSlot true name) temporary)) }
+    ensures { Emits out.old out.new
+        (slot_read (view_layout layout.now) (GlobalSlot true name) temporary) }
 {
     let all = [
         Simple::GlobalGet(global_number(layout, name)),
@@ -53,7 +47,7 @@ fn bare_read(
         Simple::I64Const(TEXT_BESIDE),
         Simple::Compare(ValType::I64, IRelOp::Eq),
     ];
-    does_all(out, &all)?;
+    does_all(out, &all);
     let global = global_handle(layout, name);
     let copy = [
         Simple::GlobalGet(global),
@@ -61,39 +55,34 @@ fn bare_read(
         row_call(Primitive::Dup),
         Simple::GlobalSet(global),
     ];
-    when_all(layout.alloc, out, &copy)
+    when_all(layout.alloc, out, &copy);
 }
 
 /// Reads a scalar.
-pub(crate) fn slot_read(
-    layout: &FunctionLayout<'_>,
-    out: &mut Vec<Instr>,
-    slot: Slot,
-    temporary: u32,
-) -> Result<(), AllocError>
+pub(crate) fn slot_read(layout: &FunctionLayout<'_>, out: &mut Emitted, slot: Slot, temporary: u32)
     requires slot { SlotFits (view_slot slot) }
     requires places { temporary ≤ most_places }
-    ensures { OnOk result (Emits out.old.items out.new.items
-        (slot_read (view_layout layout.now) (view_slot slot) temporary)) }
+    ensures { Emits out.old out.new
+        (slot_read (view_layout layout.now) (view_slot slot) temporary) }
 {
     match slot {
         Slot::Global(false, name) => {
             let global = global_handle(layout, name);
             let (get, set) = (Simple::GlobalGet(global), Simple::GlobalSet(global));
-            copied_by(out, get, set, layout.bases.handle(temporary))
+            copied_by(out, get, set, layout.bases.handle(temporary));
         }
         Slot::Global(true, name) => bare_read(layout, out, name, temporary),
         Slot::Parameter(false, place) => {
             let local = place as u32;
             let (get, set) = (Simple::LocalGet(local), Simple::LocalSet(local));
-            copied_by(out, get, set, layout.bases.handle(temporary))
+            copied_by(out, get, set, layout.bases.handle(temporary));
         }
         Slot::Parameter(true, place) => {
             let get = Simple::LocalGet(place as u32);
             does_all(
                 out,
                 &[get, Simple::LocalSet(layout.bases.number(temporary))],
-            )
+            );
         }
     }
 }
@@ -101,95 +90,62 @@ pub(crate) fn slot_read(
 /// Stores a value: a second handle, where the first stays the answer, or the only one.
 fn handle_stored(
     layout: &FunctionLayout<'_>,
-    out: &mut Vec<Instr>,
+    out: &mut Emitted,
     only: bool,
     temporary: u32,
     put: Simple,
-) -> Result<(), AllocError>
+)
     requires { temporary ≤ most_places }
-    ensures { OnOk result (Emits out.old.items out.new.items
-        (handle_stored (view_layout layout.now) only temporary put)) }
+    ensures { Emits out.old out.new
+        (handle_stored (view_layout layout.now) only temporary put) }
 {
     let local = layout.bases.handle(temporary);
     if only {
-        moved_out(out, local)?;
-        does(out, put)
+        moved_out(out, local);
+        does(out, put);
     } else {
-        copied_by(out, Simple::LocalGet(local), put, local)
+        copied_by(out, Simple::LocalGet(local), put, local);
     }
-}
-
-/// What stores a value.
-fn handle_code(
-    layout: &FunctionLayout<'_>,
-    only: bool,
-    temporary: u32,
-    put: Simple,
-) -> Result<Vec<Instr>, AllocError>
-    requires { temporary ≤ most_places }
-    ensures { IfOk result
-        (λ code. Emits [] code.items (handle_stored (view_layout layout.now) only temporary put)) }
-{
-    let mut code = Vec::new(layout.alloc);
-    handle_stored(layout, &mut code, only, temporary, put)?;
-    Ok(code)
-}
-
-/// What stores a number, or that there is none yet, as a value.
-fn perhaps_code(
-    layout: &FunctionLayout<'_>,
-    temporary: u32,
-    put: Simple,
-) -> Result<Vec<Instr>, AllocError>
-    requires { temporary ≤ most_places }
-    ensures { IfOk result
-        (λ code. Emits [] code.items (boxed_perhaps layout.now.bases.now temporary put)) }
-{
-    let mut code = Vec::new(layout.alloc);
-    boxed_perhaps(layout.alloc, layout.bases, &mut code, temporary, put)?;
-    Ok(code)
 }
 
 /// Stores what an unboxed name has, as a value.
 fn bare_stored(
     layout: &FunctionLayout<'_>,
-    out: &mut Vec<Instr>,
+    out: &mut Emitted,
     only: bool,
     temporary: u32,
     put: Simple,
-) -> Result<(), AllocError>
+)
     requires { temporary ≤ most_places }
-    ensures { OnOk result (Emits out.old.items out.new.items
-        (value_stored (view_layout layout.now) only Bare temporary put)) }
+    ensures { Emits out.old out.new
+        (value_stored (view_layout layout.now) only Bare temporary put) }
 {
-    number_is(out, layout.bases.number(temporary), TEXT_BESIDE)?;
-    let text = handle_code(layout, only, temporary, put)?;
-    either(
-        layout.alloc,
-        out,
-        text,
-        perhaps_code(layout, temporary, put)?,
-    )
+    number_is(out, layout.bases.number(temporary), TEXT_BESIDE);
+    let mut text = Emitted::new(layout.alloc);
+    handle_stored(layout, &mut text, only, temporary, put);
+    let mut number = Emitted::new(layout.alloc);
+    boxed_perhaps(layout.alloc, layout.bases, &mut number, temporary, put);
+    either(layout.alloc, out, text, number);
 }
 
 /// Stores what stands in a temporary, as a value.
 fn value_stored(
     layout: &FunctionLayout<'_>,
-    out: &mut Vec<Instr>,
+    out: &mut Emitted,
     only: bool,
     form: Form,
     temporary: u32,
     put: Simple,
-) -> Result<(), AllocError>
+)
     requires { temporary ≤ most_places }
-    ensures { OnOk result (Emits out.old.items out.new.items
-        (value_stored (view_layout layout.now) only (view_form form) temporary put)) }
+    ensures { Emits out.old out.new
+        (value_stored (view_layout layout.now) only (view_form form) temporary put) }
 {
     match form {
         Form::Answered(Answer::Of(Sort::Value)) => handle_stored(layout, out, only, temporary, put),
         Form::Answered(Answer::Of(Sort::Number) | Answer::Truth) => {
-            boxed_number(layout.bases, out, temporary)?;
-            does(out, put)
+            boxed_number(layout.bases, out, temporary);
+            does(out, put);
         }
         Form::Bare => bare_stored(layout, out, only, temporary, put),
         Form::Perhaps => boxed_perhaps(layout.alloc, layout.bases, out, temporary, put),
@@ -198,21 +154,16 @@ fn value_stored(
 }
 
 /// Drops the text beside an unboxed name, if its number says that there is one.
-pub fn text_dropped(
-    layout: &FunctionLayout<'_>,
-    out: &mut Vec<Instr>,
-    name: usize,
-) -> Result<(), AllocError>
+pub fn text_dropped(layout: &FunctionLayout<'_>, out: &mut Emitted, name: usize)
     requires { name ≤ most_places }
-    ensures { OnOk result
-        (Emits out.old.items out.new.items (text_dropped (view_layout layout.now) name)) }
+    ensures { Emits out.old out.new (text_dropped (view_layout layout.now) name) }
 {
     let all = [
         Simple::GlobalGet(global_number(layout, name)),
         Simple::I64Const(TEXT_BESIDE),
         Simple::Compare(ValType::I64, IRelOp::Eq),
     ];
-    does_all(out, &all)?;
+    does_all(out, &all);
     let global = global_handle(layout, name);
     let drop = [
         Simple::GlobalGet(global),
@@ -220,47 +171,41 @@ pub fn text_dropped(
         Simple::I32Const(MINUS_ONE),
         Simple::GlobalSet(global),
     ];
-    when_all(layout.alloc, out, &drop)
+    when_all(layout.alloc, out, &drop);
 }
 
 /// Writes an unboxed global.
-fn bare_set(
-    layout: &FunctionLayout<'_>,
-    out: &mut Vec<Instr>,
-    name: usize,
-    temporary: u32,
-) -> Result<(), AllocError>
+fn bare_set(layout: &FunctionLayout<'_>, out: &mut Emitted, name: usize, temporary: u32)
     requires name { name ≤ most_places }
     requires places { temporary ≤ most_places }
-    ensures { OnOk result
-        (Emits out.old.items out.new.items (bare_set (view_layout layout.now) name temporary)) }
+    ensures { Emits out.old out.new (bare_set (view_layout layout.now) name temporary) }
 {
-    text_dropped(layout, out, name)?;
+    text_dropped(layout, out, name);
     let all = [
         Simple::LocalGet(layout.bases.number(temporary)),
         Simple::GlobalSet(global_number(layout, name)),
     ];
-    does_all(out, &all)
+    does_all(out, &all);
 }
 
 /// Writes a scalar.
 pub(crate) fn slot_set(
     layout: &FunctionLayout<'_>,
-    out: &mut Vec<Instr>,
+    out: &mut Emitted,
     only: bool,
     slot: Slot,
     form: Form,
     temporary: u32,
-) -> Result<(), AllocError>
+)
     requires slot { SlotFits (view_slot slot) }
     requires places { temporary ≤ most_places }
-    ensures { OnOk result (Emits out.old.items out.new.items
-        (slot_set (view_layout layout.now) only (view_slot slot) (view_form form) temporary)) }
+    ensures { Emits out.old out.new
+        (slot_set (view_layout layout.now) only (view_slot slot) (view_form form) temporary) }
 {
     match slot {
         Slot::Global(false, name) => {
             let global = global_handle(layout, name);
-            does_all(out, &[Simple::GlobalGet(global), import_call(Import::Drop)])?;
+            does_all(out, &[Simple::GlobalGet(global), import_call(Import::Drop)]);
             value_stored(
                 layout,
                 out,
@@ -268,20 +213,20 @@ pub(crate) fn slot_set(
                 form,
                 temporary,
                 Simple::GlobalSet(global),
-            )
+            );
         }
         Slot::Global(true, name) => bare_set(layout, out, name, temporary),
         Slot::Parameter(false, place) => {
             let local = place as u32;
-            does_all(out, &[Simple::LocalGet(local), import_call(Import::Drop)])?;
-            value_stored(layout, out, only, form, temporary, Simple::LocalSet(local))
+            does_all(out, &[Simple::LocalGet(local), import_call(Import::Drop)]);
+            value_stored(layout, out, only, form, temporary, Simple::LocalSet(local));
         }
         Slot::Parameter(true, place) => {
             let put = Simple::LocalSet(place as u32);
             does_all(
                 out,
                 &[Simple::LocalGet(layout.bases.number(temporary)), put],
-            )
+            );
         }
     }
 }

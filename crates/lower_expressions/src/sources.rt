@@ -1,20 +1,19 @@
 //! Unboxed names and parameters, and constants: how their numbers are read, and tested together.
-ghost use Rattle.std.specs.Prelude.{[], ◌≡◌, ◌≤◌, IfOk, OnOk, map, pos};
+ghost use Rattle.std.specs.Prelude.{◌≡◌, ◌≤◌, map, pos};
 ghost use Rattle.lower_model.specs.Emission.{added, name_read};
 ghost use Rattle.lower_model.specs.Quick.{all_unsure, joined, sum_op};
 ghost use Rattle.lower_pieces.specs.Bounds.{most_places};
-ghost use Rattle.lower_pieces.specs.Emits.{Emits};
+ghost use Rattle.lower_pieces.specs.Emits.{Emits, Holds};
 ghost use Rattle.lower_expressions.specs.Sources.{AdditionFits, HolderFits, NamesFit, SourceFits, source_read};
 ghost use Rattle.lower_expressions.specs.View.{view_layout};
 ghost use Rattle.lower_quick.specs.View.{view_addition, view_holder, view_source};
 
 use crate::function_layout::FunctionLayout;
 use crate::places::global_number;
-use lower_pieces::{code_of, does, does_all};
+use lower_pieces::{Emitted, code_of, does, does_all};
 use lower_quick::{Addition, Holder, Source};
 use mid_program::Arithmetic;
-use std::alloc::AllocError;
-use wasm_types::{IBinOp, IRelOp, Instr, Simple, ValType};
+use wasm_types::{IBinOp, IRelOp, Simple, ValType};
 
 /// What reads the number of an unboxed name or parameter.
 pub fn name_read(layout: &FunctionLayout<'_>, name: Holder) -> Simple
@@ -39,15 +38,10 @@ pub fn source_read(layout: &FunctionLayout<'_>, source: Source) -> Simple
 }
 
 /// Joins the words of names, each with what is added to it, to the one on the stack.
-fn joined(
-    layout: &FunctionLayout<'_>,
-    out: &mut Vec<Instr>,
-    names: &[Holder],
-    shift: u64,
-) -> Result<(), AllocError>
+fn joined(layout: &FunctionLayout<'_>, out: &mut Emitted, names: &[Holder], shift: u64)
     requires { NamesFit (map view_holder names.now) }
-    ensures { OnOk result (Emits out.old.items out.new.items
-        (joined (name_read (view_layout layout.now)) (map view_holder names.now) (pos shift))) }
+    ensures { Emits out.old out.new
+        (joined (name_read (view_layout layout.now)) (map view_holder names.now) (pos shift)) }
 {
     for name in names {
         let all = [
@@ -56,24 +50,23 @@ fn joined(
             Simple::Binary(ValType::I64, IBinOp::Add),
             Simple::Binary(ValType::I64, IBinOp::Or),
         ];
-        does_all(out, &all)?;
+        does_all(out, &all);
     }
-    Ok(())
 }
 
 /// Adds the test whether one of several names has no number, or one that is not from 0 to a width
 /// once it is shifted.
 pub fn all_unsure(
     layout: &FunctionLayout<'_>,
-    out: &mut Vec<Instr>,
+    out: &mut Emitted,
     names: &[Holder],
     shift: u64,
     width: u64,
-) -> Result<(), AllocError>
+)
     requires { NamesFit (map view_holder names.now) }
-    ensures { OnOk result (Emits out.old.items out.new.items
+    ensures { Emits out.old out.new
         (all_unsure (name_read (view_layout layout.now)) (map view_holder names.now)
-        (pos shift) width)) }
+        (pos shift) width) }
 {
     let [first, others @ ..] = names else {
         return does(out, Simple::I32Const(0));
@@ -83,13 +76,13 @@ pub fn all_unsure(
         Simple::I64Const(shift),
         Simple::Binary(ValType::I64, IBinOp::Add),
     ];
-    does_all(out, &word)?;
-    joined(layout, out, others, shift)?;
+    does_all(out, &word);
+    joined(layout, out, others, shift);
     let past = [
         Simple::I64Const(width),
         Simple::Compare(ValType::I64, IRelOp::GtU),
     ];
-    does_all(out, &past)
+    does_all(out, &past);
 }
 
 /// The instruction of a sum or a difference.
@@ -107,15 +100,11 @@ pub fn sum_op(op: Arithmetic) -> IBinOp
 }
 
 /// A sum in range, which goes to a temporary.
-pub(crate) fn added(
-    layout: &FunctionLayout<'_>,
-    addition: Addition,
-    temporary: u32,
-) -> Result<Vec<Instr>, AllocError>
+pub(crate) fn added(layout: &FunctionLayout<'_>, addition: Addition, temporary: u32) -> Emitted
     requires sources { AdditionFits (view_addition addition) }
     requires place { temporary ≤ most_places }
-    ensures { IfOk result (λ code. Emits [] code.items
-        (added (view_layout layout.now) (view_addition addition) temporary)) }
+    ensures { Holds result
+        (added (view_layout layout.now) (view_addition addition) temporary) }
 {
     let all = [
         source_read(layout, addition.left),

@@ -1,5 +1,5 @@
 //! Texts that were read or replaced, kept while code stores them.
-ghost use Rattle.std.specs.Prelude.{[], ◌+◌, suc, ◌≤◌, map, IfOk, OnOk};
+ghost use Rattle.std.specs.Prelude.{◌+◌, suc, ◌≤◌, map};
 ghost use Rattle.sem_primitives.specs.declared.table.Primitive.TheVariants.{NewArray};
 ghost use Rattle.wasm_types.specs.Syntax.{Done, Instructions};
 ghost use Rattle.wasm_types.specs.declared.instr.Simple.TheVariants.{LocalSet};
@@ -10,7 +10,7 @@ ghost use Rattle.lower_model.specs.Emission.{keeping_closed, left_over, sequence
 ghost use Rattle.lower_model.specs.Places.{array_local, handle_local};
 ghost use Rattle.lower_model.specs.Small.{ask_row, code_number, does, let_go};
 ghost use Rattle.lower_pieces.specs.Bounds.{most_labels, most_places};
-ghost use Rattle.lower_pieces.specs.Emits.{Emits};
+ghost use Rattle.lower_pieces.specs.Emits.{Emits, Reads};
 ghost use Rattle.lower_pieces.specs.Forms.{view_form};
 ghost use Rattle.lower_expressions.specs.Fits.{ArraysFit};
 ghost use Rattle.lower_expressions.specs.Parts.{file_asked, replaced_asked, replaced_with, stored_when};
@@ -21,54 +21,48 @@ use crate::operands::all_pushed;
 use crate::walks::all_converted;
 use host_imports::Import;
 use lower_pieces::{
-    Bases, Form, ask_row, code_number, code_of, does_all, kept, kept_code, let_go, moved_from,
+    Bases, Emitted, Form, ask_row, code_number, does_all, kept, kept_code, let_go, moved_from,
     moved_out, number_is, released, row_call, to_value, unused, when,
 };
 use mid_program::{Code, Operand};
 use sem_primitives::{Answer, Argument, Primitive, Sort};
-use std::alloc::{AllocError, Global};
-use wasm_types::{ITestOp, Instr, Simple, ValType};
+use wasm_types::{ITestOp, Simple, ValType};
 
 /// Adds an array that is made for a call.
-pub(crate) fn array_made(bases: &Bases, out: &mut Vec<Instr>, arrays: u32) -> Result<(), AllocError>
+pub(crate) fn array_made(bases: &Bases, out: &mut Emitted, arrays: u32)
     requires { arrays ≤ most_places }
-    ensures { OnOk result (Emits out.old.items out.new.items
-        (λ after. ask_row NewArray (does (LocalSet (array_local bases.now arrays)) after))) }
+    ensures { Emits out.old out.new
+        (λ after. ask_row NewArray (does (LocalSet (array_local bases.now arrays)) after)) }
 {
     let put = Simple::LocalSet(bases.array(arrays));
-    does_all(out, &[row_call(Primitive::NewArray), put])
+    does_all(out, &[row_call(Primitive::NewArray), put]);
 }
 
-/// What keeps a text that was read or replaced.
-pub(crate) fn text_kept(
-    alloc: Global,
-    bases: &Bases,
-    primitive: Primitive,
-    temporary: u32,
-) -> Result<Vec<Instr>, AllocError>
+/// Keeps a text that was read or replaced.
+pub(crate) fn text_kept(bases: &Bases, out: &mut Emitted, primitive: Primitive, temporary: u32)
     requires { suc temporary ≤ most_places }
-    ensures { IfOk result (λ code. Emits [] code.items (λ after. ask_row primitive
-        (does (LocalSet (handle_local bases.now (suc temporary))) after))) }
+    ensures { Emits out.old out.new (λ after. ask_row primitive
+        (does (LocalSet (handle_local bases.now (suc temporary))) after)) }
 {
     let put = Simple::LocalSet(bases.handle(temporary + 1));
-    code_of(alloc, &[row_call(primitive), put])
+    does_all(out, &[row_call(primitive), put]);
 }
 
 /// Drops what code left that was evaluated for what it does alone. An assignment has given its value away then, what was kept is dropped where it was kept, and
 /// code in which something comes last has dropped that.
 pub fn left_over(
     layout: &FunctionLayout<'_>,
-    out: &mut Vec<Instr>,
+    out: &mut Emitted,
     code: &Code,
     form: Form,
     temporary: u32,
-) -> Result<(), AllocError>
+)
     requires { temporary ≤ most_places }
-    ensures { OnOk result (Emits out.old.items out.new.items
-        (left_over (view_layout layout.now) (view code.now) (view_form form) temporary)) }
+    ensures { Emits out.old out.new
+        (left_over (view_layout layout.now) (view code.now) (view_form form) temporary) }
 {
     match code {
-        Code::Set(_, _) | Code::Seq(_, _) | Code::Let(_, _) | Code::Bound(_, _) => Ok(()),
+        Code::Set(_, _) | Code::Seq(_, _) | Code::Let(_, _) | Code::Bound(_, _) => {}
         Code::Do(_, _)
         | Code::Over(_, _)
         | Code::Compare(_, _, _)
@@ -91,38 +85,36 @@ pub fn left_over(
 /// Lets go of a text, and of what is left of the code that stored it.
 pub(crate) fn text_let_go(
     layout: &FunctionLayout<'_>,
-    out: &mut Vec<Instr>,
+    out: &mut Emitted,
     store: &Code,
     form: Form,
     temporary: u32,
-) -> Result<(), AllocError>
+)
     requires { suc (suc temporary) ≤ most_places }
-    ensures { OnOk result (Emits out.old.items out.new.items (λ after. left_over
+    ensures { Emits out.old out.new (λ after. left_over
         (view_layout layout.now) (view store.now) (view_form form) (suc (suc temporary))
-        (let_go Drop (handle_local layout.now.bases.now (suc temporary)) after))) }
+        (let_go Drop (handle_local layout.now.bases.now (suc temporary)) after)) }
 {
-    left_over(layout, out, store, form, temporary + 2)?;
+    left_over(layout, out, store, form, temporary + 2);
     let local = layout.bases.handle(temporary + 1);
-    let_go(layout.alloc, out, Import::Drop, local)
+    let_go(layout.alloc, out, Import::Drop, local);
 }
 
 /// Adds the end of a sequence, whose last code is given, with the form of its answer. Where `only` what it does counts, the answer is dropped.
 pub(crate) fn sequence_closed(
     layout: &FunctionLayout<'_>,
-    out: &mut Vec<Instr>,
+    out: &mut Emitted,
     only: bool,
     code: &Code,
     form: Form,
     temporary: u32,
-) -> Result<(), AllocError>
+)
     requires { temporary ≤ most_places }
-    ensures { OnOk result (Emits out.old.items out.new.items (sequence_closed
-        (view_layout layout.now) only (view code.now) (view_form form) temporary)) }
+    ensures { Emits out.old out.new (sequence_closed
+        (view_layout layout.now) only (view code.now) (view_form form) temporary) }
 {
     if only {
-        left_over(layout, out, code, form, temporary)
-    } else {
-        Ok(())
+        left_over(layout, out, code, form, temporary);
     }
 }
 
@@ -130,84 +122,83 @@ pub(crate) fn sequence_closed(
 /// it does counts, the answer is dropped.
 pub(crate) fn keeping_closed(
     layout: &FunctionLayout<'_>,
-    out: &mut Vec<Instr>,
+    out: &mut Emitted,
     only: bool,
     code: &Code,
     held: Form,
     form: Form,
     temporary: u32,
-) -> Result<(), AllocError>
+)
     requires { suc temporary ≤ most_places }
-    ensures { OnOk result (Emits out.old.items out.new.items (keeping_closed (view_layout
-        layout.now) only (view code.now) (view_form held) (view_form form) temporary)) }
+    ensures { Emits out.old out.new (keeping_closed (view_layout
+        layout.now) only (view code.now) (view_form held) (view_form form) temporary) }
 {
     if only {
-        left_over(layout, out, code, form, temporary + 1)?;
-        released(layout.alloc, layout.bases, out, held, temporary)
+        left_over(layout, out, code, form, temporary + 1);
+        released(layout.alloc, layout.bases, out, held, temporary);
     } else {
-        released(layout.alloc, layout.bases, out, held, temporary)?;
-        moved_from(layout.bases, out, form, temporary + 1, temporary)
+        released(layout.alloc, layout.bases, out, held, temporary);
+        moved_from(layout.bases, out, form, temporary + 1, temporary);
     }
 }
 
 /// Asks for a record of a file, whose name is evaluated.
 pub(crate) fn file_asked(
     layout: &FunctionLayout<'_>,
-    out: &mut Vec<Instr>,
+    out: &mut Emitted,
     form: Form,
     temporary: u32,
     exit: u32,
-) -> Result<(), AllocError>
+)
     requires { temporary ≤ most_places }
-    ensures { OnOk result (Emits out.old.items out.new.items
-        (file_asked layout.now.bases.now (view_form form) temporary exit)) }
+    ensures { Emits out.old out.new
+        (file_asked layout.now.bases.now (view_form form) temporary exit) }
 {
-    to_value(layout.alloc, layout.bases, out, form, temporary)?;
-    moved_out(out, layout.bases.handle(temporary))?;
-    ask_row(out, Primitive::GetlineVarFile)?;
-    kept_code(layout.bases, out, true, temporary, exit)
+    to_value(layout.alloc, layout.bases, out, form, temporary);
+    moved_out(out, layout.bases.handle(temporary));
+    ask_row(out, Primitive::GetlineVarFile);
+    kept_code(layout.bases, out, true, temporary, exit);
 }
 
 /// Stores a text where one was read, and makes the number of the code that says so.
 pub(crate) fn line_stored(
     layout: &FunctionLayout<'_>,
-    out: &mut Vec<Instr>,
-    store: Vec<Instr>,
+    out: &mut Emitted,
+    store: Emitted,
     temporary: u32,
-) -> Result<(), AllocError>
+)
     requires { temporary ≤ most_places }
-    ensures { (adds : Instructions → Instructions) → Emits [] store.items adds
-        → OnOk result (Emits out.old.items out.new.items
-        (λ after. stored_when layout.now.bases.now (adds Done) temporary
-        (code_number layout.now.bases.now temporary after))) }
+    ensures { (added : Instructions) → Reads store Done added
+        → Emits out.old out.new (λ after. stored_when layout.now.bases.now added temporary
+        (code_number layout.now.bases.now temporary after)) }
 {
-    number_is(out, layout.bases.number(temporary), 1)?;
-    when(layout.alloc, out, store)?;
-    code_number(layout.bases, out, temporary)
+    number_is(out, layout.bases.number(temporary), 1);
+    when(layout.alloc, out, store);
+    code_number(layout.bases, out, temporary);
 }
 
 /// Asks the host for a replacement, whose operands are converted.
 fn replaced_asked(
     layout: &FunctionLayout<'_>,
-    out: &mut Vec<Instr>,
+    out: &mut Emitted,
     every: bool,
     operands: &[Operand],
     temporary: u32,
     exit: u32,
-) -> Result<(), AllocError>
+)
     requires places { temporary + count_of (views operands.now) ≤ most_places }
     requires arrays { ArraysFit (views operands.now) }
-    ensures { OnOk result (Emits out.old.items out.new.items
-        (replaced_asked (view_layout layout.now) every (views operands.now) temporary exit)) }
+    ensures { Emits out.old out.new
+        (replaced_asked (view_layout layout.now) every (views operands.now) temporary exit) }
 {
     let wanted = [
         Argument::Of(Sort::Value),
         Argument::Of(Sort::Value),
         Argument::Of(Sort::Value),
     ];
-    all_pushed(layout, out, &wanted, operands, temporary)?;
+    all_pushed(layout, out, &wanted, operands, temporary);
     let all = [Simple::I32Const(u32::from(every)), row_call(Primitive::Sub)];
-    does_all(out, &all)?;
+    does_all(out, &all);
     kept(
         layout.bases,
         out,
@@ -215,24 +206,24 @@ fn replaced_asked(
         Answer::Of(Sort::Number),
         temporary,
         exit,
-    )
+    );
 }
 
 /// Adds a replacement, whose operands are evaluated, and the test whether nothing was replaced.
 pub(crate) fn replaced(
     layout: &FunctionLayout<'_>,
-    out: &mut Vec<Instr>,
+    out: &mut Emitted,
     forms: &[Form],
     every: bool,
     operands: &[Operand],
     temporary: u32,
     exit: u32,
-) -> Result<(), AllocError>
+)
     requires places { temporary + count_of (views operands.now) ≤ most_places }
     requires labels { exit ≤ most_labels }
     requires arrays { ArraysFit (views operands.now) }
-    ensures { OnOk result (Emits out.old.items out.new.items (replaced_with (view_layout layout.now)
-        (map view_form forms.now) every (views operands.now) temporary exit)) }
+    ensures { Emits out.old out.new (replaced_with (view_layout layout.now)
+        (map view_form forms.now) every (views operands.now) temporary exit) }
 {
     let wanted = [
         Argument::Of(Sort::Value),
@@ -248,11 +239,11 @@ pub(crate) fn replaced(
         operands,
         temporary,
         exit,
-    )?;
-    replaced_asked(layout, out, every, operands, temporary, exit)?;
+    );
+    replaced_asked(layout, out, every, operands, temporary, exit);
     let all = [
         Simple::LocalGet(layout.bases.number(temporary)),
         Simple::Test(ValType::I64, ITestOp::Eqz),
     ];
-    does_all(out, &all)
+    does_all(out, &all);
 }

@@ -1,5 +1,5 @@
 //! Operands that are evaluated, one after the other.
-ghost use Rattle.std.specs.Prelude.{◌≡◌, ◌+◌, ◌≤◌, OnOk, length, map};
+ghost use Rattle.std.specs.Prelude.{◌≡◌, ◌+◌, ◌≤◌, length, map};
 ghost use Rattle.mid_program.specs.Sorted.{count_of};
 ghost use Rattle.mid_program.specs.View.{view_kind};
 ghost use Rattle.mid_program.specs.ViewCode.{views};
@@ -10,37 +10,36 @@ ghost use Rattle.lower_pieces.specs.Forms.{view_form};
 ghost use Rattle.lower_expressions.specs.Parts.{appended_with, boxed_with, converted_with, freed_with, given_one, given_with};
 
 use host_imports::Import;
-use lower_pieces::{Bases, Form, ask, converted, moved_out, to_value};
+use lower_pieces::{Bases, Emitted, Form, ask, converted, moved_out, to_value};
 use mid_program::{Kind, Operand};
 use sem_primitives::Argument;
-use std::alloc::{AllocError, Global};
-use wasm_types::Instr;
+use std::alloc::Global;
 
 /// Converts operands to what is wanted.
 pub(crate) fn all_converted(
     alloc: Global,
     bases: &Bases,
-    out: &mut Vec<Instr>,
+    out: &mut Emitted,
     forms: &[Form],
     wanted: &[Argument],
     operands: &[Operand],
     temporary: u32,
     exit: u32,
-) -> Result<(), AllocError>
+)
     requires places { temporary + count_of (views operands.now) ≤ most_places }
     requires labels { exit ≤ most_labels }
-    ensures { OnOk result (Emits out.old.items out.new.items (converted_with bases.now
-        (map view_form forms.now) wanted.now (views operands.now) temporary exit)) }
+    ensures { Emits out.old out.new (converted_with bases.now
+        (map view_form forms.now) wanted.now (views operands.now) temporary exit) }
 {
     let Some((operand, operands)) = operands.split_first() else {
-        return Ok(());
+        return;
     };
     let Some((first, wanted)) = wanted.split_first() else {
-        return Ok(());
+        return;
     };
     match (first, operand, forms.split_first()) {
         (Argument::Of(sort), Operand::Code(_), Some((form, forms))) => {
-            converted(alloc, bases, out, *form, *sort, temporary, exit)?;
+            converted(alloc, bases, out, *form, *sort, temporary, exit);
             all_converted(
                 alloc,
                 bases,
@@ -50,12 +49,12 @@ pub(crate) fn all_converted(
                 operands,
                 temporary + 1,
                 exit,
-            )
+            );
         }
         (_, Operand::Constant(_), _) => {
-            all_converted(alloc, bases, out, forms, wanted, operands, temporary, exit)
+            all_converted(alloc, bases, out, forms, wanted, operands, temporary, exit);
         }
-        _ => Ok(()),
+        _ => {}
     }
 }
 
@@ -63,62 +62,55 @@ pub(crate) fn all_converted(
 pub(crate) fn all_boxed(
     alloc: Global,
     bases: &Bases,
-    out: &mut Vec<Instr>,
+    out: &mut Emitted,
     forms: &[Form],
     temporary: u32,
-) -> Result<(), AllocError>
+)
     requires { temporary + length forms.now ≤ most_places }
-    ensures { OnOk result (Emits out.old.items out.new.items
-        (boxed_with bases.now (map view_form forms.now) temporary)) }
+    ensures { Emits out.old out.new
+        (boxed_with bases.now (map view_form forms.now) temporary) }
 {
     let mut left = forms;
     let mut place = temporary;
     while let Some((form, rest)) = left.split_first() {
-        to_value(alloc, bases, out, *form, place)?;
+        to_value(alloc, bases, out, *form, place);
         left = rest;
         place += 1;
     }
-    Ok(())
 }
 
 /// Puts the values of temporaries onto the argument list.
-pub(crate) fn all_appended(
-    bases: &Bases,
-    out: &mut Vec<Instr>,
-    forms: &[Form],
-    temporary: u32,
-) -> Result<(), AllocError>
+pub(crate) fn all_appended(bases: &Bases, out: &mut Emitted, forms: &[Form], temporary: u32)
     requires { temporary + length forms.now ≤ most_places }
-    ensures { OnOk result (Emits out.old.items out.new.items
-        (appended_with bases.now (map view_form forms.now) temporary)) }
+    ensures { Emits out.old out.new
+        (appended_with bases.now (map view_form forms.now) temporary) }
 {
     let mut left = forms;
     let mut place = temporary;
     while let Some((_, rest)) = left.split_first() {
-        moved_out(out, bases.handle(place))?;
-        ask(out, Import::Arg)?;
+        moved_out(out, bases.handle(place));
+        ask(out, Import::Arg);
         left = rest;
         place += 1;
     }
-    Ok(())
 }
 
 /// Makes a value of what a boxed parameter is given.
 pub(crate) fn given_one(
     alloc: Global,
     bases: &Bases,
-    out: &mut Vec<Instr>,
+    out: &mut Emitted,
     kind: Kind,
     form: Form,
     temporary: u32,
-) -> Result<(), AllocError>
+)
     requires { temporary ≤ most_places }
-    ensures { OnOk result (Emits out.old.items out.new.items
-        (given_one bases.now (view_kind kind) (view_form form) temporary)) }
+    ensures { Emits out.old out.new
+        (given_one bases.now (view_kind kind) (view_form form) temporary) }
 {
     match kind {
         Kind::Boxed => to_value(alloc, bases, out, form, temporary),
-        Kind::Unboxed | Kind::Many => Ok(()),
+        Kind::Unboxed | Kind::Many => {}
     }
 }
 
@@ -126,26 +118,26 @@ pub(crate) fn given_one(
 pub(crate) fn all_given(
     alloc: Global,
     bases: &Bases,
-    out: &mut Vec<Instr>,
+    out: &mut Emitted,
     forms: &[Form],
     kinds: &[Kind],
     operands: &[Operand],
     temporary: u32,
-) -> Result<(), AllocError>
+)
     requires { temporary + count_of (views operands.now) ≤ most_places }
-    ensures { OnOk result (Emits out.old.items out.new.items (given_with bases.now
-        (map view_form forms.now) (map view_kind kinds.now) (views operands.now) temporary)) }
+    ensures { Emits out.old out.new (given_with bases.now
+        (map view_form forms.now) (map view_kind kinds.now) (views operands.now) temporary) }
 {
     let Some((operand, operands)) = operands.split_first() else {
-        return Ok(());
+        return;
     };
     let Some((kind, kinds)) = kinds.split_first() else {
-        return Ok(());
+        return;
     };
     match (operand, forms.split_first()) {
         (Operand::Code(_), Some((form, forms))) => {
-            given_one(alloc, bases, out, *kind, *form, temporary)?;
-            all_given(alloc, bases, out, forms, kinds, operands, temporary + 1)
+            given_one(alloc, bases, out, *kind, *form, temporary);
+            all_given(alloc, bases, out, forms, kinds, operands, temporary + 1);
         }
         _ => all_given(alloc, bases, out, forms, kinds, operands, temporary),
     }
@@ -166,20 +158,14 @@ pub(crate) fn made_in(operands: &[Operand]) -> u32
 }
 
 /// Frees the arrays of a call, the last one first.
-pub(crate) fn all_freed(
-    bases: &Bases,
-    out: &mut Vec<Instr>,
-    arrays: u32,
-    count: u32,
-) -> Result<(), AllocError>
+pub(crate) fn all_freed(bases: &Bases, out: &mut Emitted, arrays: u32, count: u32)
     requires { arrays + count ≤ most_places }
-    ensures { OnOk result (Emits out.old.items out.new.items (freed_with bases.now arrays count)) }
+    ensures { Emits out.old out.new (freed_with bases.now arrays count) }
 {
     let mut left = count;
     while left > 0 {
         left -= 1;
-        moved_out(out, bases.array(arrays + left))?;
-        ask(out, Import::FreeArray)?;
+        moved_out(out, bases.array(arrays + left));
+        ask(out, Import::FreeArray);
     }
-    Ok(())
 }

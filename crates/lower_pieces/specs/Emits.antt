@@ -1,18 +1,27 @@
--- Instructions of a list, with others after them.
-use Rattle.std.specs.Prelude.{◌≡◌, List, [], ◌∷◌}
+-- Instructions that were emitted, with others after them.
+use Rattle.std.specs.Prelude.{◌≡◌, false, List, [], ◌∷◌}
 use Rattle.wasm_types.specs.Syntax.{Instructions, Then}
 use Rattle.wasm_types.specs.View.{view}
 use Rattle.wasm_types.specs.declared.instr.Instr.{Instr}
 use Rattle.wasm_types.specs.declared.instr.Simple.{Simple}
 use Rattle.lower_model.specs.Small.{does}
+use Rattle.lower_pieces.specs.declared.emitted.Emitted.{Emitted}
 
 abbrev pub followed : List Instr → Instructions → Instructions
 followed [] rest = rest
 followed (first ∷ others) rest = Then (view first) (followed others rest)
 
--- between the two lists this code was added, whatever comes after it
-abbrev pub Emits : List Instr → List Instr → (Instructions → Instructions) → Type 0
-Emits before after code = (rest : Instructions) → followed after rest ≡ followed before (code rest)
+-- what was emitted, with these instructions after it, is the whole, unless memory ran out
+pub record Reads (out : Emitted) (rest whole : Instructions) : Type 0 where
+  pub reads : out.is_refused ≡ false → followed out.code.items rest ≡ whole
+
+-- between the two this code was added, whatever comes after it, unless memory ran out
+abbrev pub Emits : Emitted → Emitted → (Instructions → Instructions) → Type 0
+Emits before after code = (rest whole : Instructions) → Reads before (code rest) whole → Reads after rest whole
+
+-- this code was emitted, whatever comes after it, unless memory ran out
+abbrev pub Holds : Emitted → (Instructions → Instructions) → Type 0
+Holds out code = (rest : Instructions) → Reads out rest (code rest)
 
 abbrev pub does_all : List Simple → Instructions → Instructions
 does_all [] after = after

@@ -1,5 +1,5 @@
 //! Arithmetic that the module carries out itself. Operands stand in a temporary and in the one behind it; the result goes to the first.
-ghost use Rattle.std.specs.Prelude.{suc, ◌≤◌, OnOk};
+ghost use Rattle.std.specs.Prelude.{suc, ◌≤◌};
 ghost use Rattle.lower_model.specs.Arithmetic.{calculated, factors_differ, field_checked, out_of_range, ranged, times, two_numbers, unless_broken, unless_zero};
 ghost use Rattle.lower_model.specs.Small.{does};
 ghost use Rattle.wasm_types.specs.declared.instr.Simple.TheVariants.{LocalSet};
@@ -8,17 +8,18 @@ ghost use Rattle.lower_pieces.specs.Emits.{Emits};
 
 use crate::bases::Bases;
 use crate::emit::{does, does_all};
+use crate::emitted::Emitted;
 use crate::faults::fail_if;
 use awk_text::MAX_NUMBER;
 use awk_values::Fault;
 use mid_program::Arithmetic;
 use sem_primitives::MAX_FIELDS;
-use std::alloc::{AllocError, Global};
-use wasm_types::{CvtOp, IBinOp, IRelOp, ITestOp, Instr, Simple, ValType};
+use std::alloc::Global;
+use wasm_types::{CvtOp, IBinOp, IRelOp, ITestOp, Simple, ValType};
 
 /// Adds the test whether a local's number is out of range.
-fn out_of_range(out: &mut Vec<Instr>, local: u32) -> Result<(), AllocError>
-    ensures { OnOk result (Emits out.old.items out.new.items (out_of_range local)) }
+fn out_of_range(out: &mut Emitted, local: u32)
+    ensures { Emits out.old out.new (out_of_range local) }
 {
     let all = [
         Simple::LocalGet(local),
@@ -27,19 +28,13 @@ fn out_of_range(out: &mut Vec<Instr>, local: u32) -> Result<(), AllocError>
         Simple::I64Const(1 << 54),
         Simple::Compare(ValType::I64, IRelOp::GtU),
     ];
-    does_all(out, &all)
+    does_all(out, &all);
 }
 
 /// Adds an operation on the numbers of two locals, whose result goes to a third one.
-fn combined(
-    out: &mut Vec<Instr>,
-    op: IBinOp,
-    left: u32,
-    right: u32,
-    to: u32,
-) -> Result<(), AllocError>
-    ensures { OnOk result (Emits out.old.items out.new.items
-        (λ after. two_numbers left right op (does (LocalSet to) after))) }
+fn combined(out: &mut Emitted, op: IBinOp, left: u32, right: u32, to: u32)
+    ensures { Emits out.old out.new
+        (λ after. two_numbers left right op (does (LocalSet to) after)) }
 {
     let all = [
         Simple::LocalGet(left),
@@ -47,34 +42,22 @@ fn combined(
         Simple::Binary(ValType::I64, op),
         Simple::LocalSet(to),
     ];
-    does_all(out, &all)
+    does_all(out, &all);
 }
 
 /// Adds a sum or a difference.
-fn ranged(
-    alloc: Global,
-    out: &mut Vec<Instr>,
-    op: IBinOp,
-    left: u32,
-    right: u32,
-    exit: u32,
-) -> Result<(), AllocError>
+fn ranged(alloc: Global, out: &mut Emitted, op: IBinOp, left: u32, right: u32, exit: u32)
     requires { exit ≤ most_labels }
-    ensures { OnOk result (Emits out.old.items out.new.items (ranged op left right exit)) }
+    ensures { Emits out.old out.new (ranged op left right exit) }
 {
-    combined(out, op, left, right, left)?;
-    out_of_range(out, left)?;
-    fail_if(alloc, out, Fault::Range, exit)
+    combined(out, op, left, right, left);
+    out_of_range(out, left);
+    fail_if(alloc, out, Fault::Range, exit);
 }
 
 /// Adds the test whether a product passed 64 bits.
-fn factors_differ(
-    out: &mut Vec<Instr>,
-    product: u32,
-    left: u32,
-    right: u32,
-) -> Result<(), AllocError>
-    ensures { OnOk result (Emits out.old.items out.new.items (factors_differ product left right)) }
+fn factors_differ(out: &mut Emitted, product: u32, left: u32, right: u32)
+    ensures { Emits out.old out.new (factors_differ product left right) }
 {
     let all = [
         Simple::LocalGet(product),
@@ -91,52 +74,39 @@ fn factors_differ(
         Simple::Compare(ValType::I64, IRelOp::Ne),
         Simple::Binary(ValType::I32, IBinOp::And),
     ];
-    does_all(out, &all)
+    does_all(out, &all);
 }
 
 /// Adds a product, which stands in `product` until it is known to be in range.
-fn times(
-    alloc: Global,
-    out: &mut Vec<Instr>,
-    left: u32,
-    right: u32,
-    product: u32,
-    exit: u32,
-) -> Result<(), AllocError>
+fn times(alloc: Global, out: &mut Emitted, left: u32, right: u32, product: u32, exit: u32)
     requires { exit ≤ most_labels }
-    ensures { OnOk result (Emits out.old.items out.new.items (times left right product exit)) }
+    ensures { Emits out.old out.new (times left right product exit) }
 {
-    combined(out, IBinOp::Mul, left, right, product)?;
-    factors_differ(out, product, left, right)?;
-    out_of_range(out, product)?;
-    does(out, Simple::Binary(ValType::I32, IBinOp::Or))?;
-    fail_if(alloc, out, Fault::Range, exit)?;
-    does_all(out, &[Simple::LocalGet(product), Simple::LocalSet(left)])
+    combined(out, IBinOp::Mul, left, right, product);
+    factors_differ(out, product, left, right);
+    out_of_range(out, product);
+    does(out, Simple::Binary(ValType::I32, IBinOp::Or));
+    fail_if(alloc, out, Fault::Range, exit);
+    does_all(out, &[Simple::LocalGet(product), Simple::LocalSet(left)]);
 }
 
 /// Leaves where a divisor is 0.
-fn unless_zero(alloc: Global, out: &mut Vec<Instr>, right: u32, exit: u32) -> Result<(), AllocError>
+fn unless_zero(alloc: Global, out: &mut Emitted, right: u32, exit: u32)
     requires { exit ≤ most_labels }
-    ensures { OnOk result (Emits out.old.items out.new.items (unless_zero right exit)) }
+    ensures { Emits out.old out.new (unless_zero right exit) }
 {
     let all = [
         Simple::LocalGet(right),
         Simple::Test(ValType::I64, ITestOp::Eqz),
     ];
-    does_all(out, &all)?;
-    fail_if(alloc, out, Fault::DivisionByZero, exit)
+    does_all(out, &all);
+    fail_if(alloc, out, Fault::DivisionByZero, exit);
 }
 
 /// Leaves where a quotient is not whole.
-fn unless_broken(
-    alloc: Global,
-    out: &mut Vec<Instr>,
-    left: u32,
-    right: u32,
-    exit: u32,
-) -> Result<(), AllocError>
+fn unless_broken(alloc: Global, out: &mut Emitted, left: u32, right: u32, exit: u32)
     requires { exit ≤ most_labels }
-    ensures { OnOk result (Emits out.old.items out.new.items (unless_broken left right exit)) }
+    ensures { Emits out.old out.new (unless_broken left right exit) }
 {
     let all = [
         Simple::LocalGet(left),
@@ -145,23 +115,22 @@ fn unless_broken(
         Simple::I64Const(0),
         Simple::Compare(ValType::I64, IRelOp::Ne),
     ];
-    does_all(out, &all)?;
-    fail_if(alloc, out, Fault::Inexact, exit)
+    does_all(out, &all);
+    fail_if(alloc, out, Fault::Inexact, exit);
 }
 
 /// Adds an operator of arithmetic with its checks.
 pub fn calculated(
     alloc: Global,
     bases: &Bases,
-    out: &mut Vec<Instr>,
+    out: &mut Emitted,
     operator: Arithmetic,
     temporary: u32,
     exit: u32,
-) -> Result<(), AllocError>
+)
     requires places { suc (suc temporary) ≤ most_places }
     requires labels { exit ≤ most_labels }
-    ensures { OnOk result
-        (Emits out.old.items out.new.items (calculated bases.now operator temporary exit)) }
+    ensures { Emits out.old out.new (calculated bases.now operator temporary exit) }
 {
     let left = bases.number(temporary);
     let right = bases.number(temporary + 1);
@@ -170,39 +139,32 @@ pub fn calculated(
         Arithmetic::Minus => ranged(alloc, out, IBinOp::Sub, left, right, exit),
         Arithmetic::Times => times(alloc, out, left, right, bases.number(temporary + 2), exit),
         Arithmetic::Over => {
-            unless_zero(alloc, out, right, exit)?;
-            unless_broken(alloc, out, left, right, exit)?;
-            combined(out, IBinOp::DivS, left, right, left)
+            unless_zero(alloc, out, right, exit);
+            unless_broken(alloc, out, left, right, exit);
+            combined(out, IBinOp::DivS, left, right, left);
         }
         Arithmetic::Modulo => {
-            unless_zero(alloc, out, right, exit)?;
-            combined(out, IBinOp::RemS, left, right, left)
+            unless_zero(alloc, out, right, exit);
+            combined(out, IBinOp::RemS, left, right, left);
         }
         Arithmetic::Truncated => {
-            unless_zero(alloc, out, right, exit)?;
-            combined(out, IBinOp::DivS, left, right, left)
+            unless_zero(alloc, out, right, exit);
+            combined(out, IBinOp::DivS, left, right, left);
         }
     }
 }
 
 /// Leaves where a temporary's number is no field's.
-pub fn field_checked(
-    alloc: Global,
-    bases: &Bases,
-    out: &mut Vec<Instr>,
-    temporary: u32,
-    exit: u32,
-) -> Result<(), AllocError>
+pub fn field_checked(alloc: Global, bases: &Bases, out: &mut Emitted, temporary: u32, exit: u32)
     requires places { temporary ≤ most_places }
     requires labels { exit ≤ most_labels }
-    ensures { OnOk result
-        (Emits out.old.items out.new.items (field_checked bases.now temporary exit)) }
+    ensures { Emits out.old out.new (field_checked bases.now temporary exit) }
 {
     let all = [
         Simple::LocalGet(bases.number(temporary)),
         Simple::I64Const(MAX_FIELDS as u64),
         Simple::Compare(ValType::I64, IRelOp::GtU),
     ];
-    does_all(out, &all)?;
-    fail_if(alloc, out, Fault::FieldNumber, exit)
+    does_all(out, &all);
+    fail_if(alloc, out, Fault::FieldNumber, exit);
 }

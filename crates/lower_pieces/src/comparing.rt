@@ -1,5 +1,5 @@
 //! Comparison: by the host where one is a value, or a text stands beside one; else of numbers, of which one that is not there yet is 0.
-ghost use Rattle.std.specs.Prelude.{[], ◌≡◌, suc, ◌≤◌, IfOk, OnOk};
+ghost use Rattle.std.specs.Prelude.{◌≡◌, suc, ◌≤◌};
 ghost use Rattle.sem_primitives.specs.Constants.{comparison_number};
 ghost use Rattle.lower_model.specs.Arithmetic.{bare_compared, compared, is_value, may_be_text, numbers_compared, relation, texts_beside, values_compared, zeroed_if};
 ghost use Rattle.lower_pieces.specs.Bounds.{most_labels, most_places};
@@ -10,6 +10,7 @@ ghost use Rattle.lower_pieces.specs.Fragments.{host_compared, parted};
 use crate::bases::Bases;
 use crate::converting::to_value;
 use crate::emit::{ask_row, does, does_all, either};
+use crate::emitted::Emitted;
 use crate::faults::number_is;
 use crate::form::Form;
 use crate::handles::moved_out;
@@ -17,8 +18,8 @@ use crate::keeping::{TEXT_BESIDE, kept_code};
 use crate::numbers::zeroed;
 use awk_values::CompareOp;
 use sem_primitives::{Answer, Primitive, Sort};
-use std::alloc::{AllocError, Global};
-use wasm_types::{CvtOp, IBinOp, IRelOp, Instr, Simple, ValType};
+use std::alloc::Global;
+use wasm_types::{CvtOp, IBinOp, IRelOp, Simple, ValType};
 
 /// The comparison of words that an operator is, once both are numbers.
 pub fn relation(op: CompareOp) -> IRelOp
@@ -71,59 +72,45 @@ fn may_be_text(form: Form) -> bool
 }
 
 /// Asks the host for a comparison of two values.
-fn host_compared(
-    bases: &Bases,
-    out: &mut Vec<Instr>,
-    op: CompareOp,
-    temporary: u32,
-    exit: u32,
-) -> Result<(), AllocError>
+fn host_compared(bases: &Bases, out: &mut Emitted, op: CompareOp, temporary: u32, exit: u32)
     requires { suc temporary ≤ most_places }
-    ensures { OnOk result
-        (Emits out.old.items out.new.items (host_compared bases.now op temporary exit)) }
+    ensures { Emits out.old out.new (host_compared bases.now op temporary exit) }
 {
-    does(out, Simple::I32Const(comparison_number(op)))?;
-    moved_out(out, bases.handle(temporary))?;
-    moved_out(out, bases.handle(temporary + 1))?;
-    ask_row(out, Primitive::Compare)?;
-    kept_code(bases, out, true, temporary, exit)
+    does(out, Simple::I32Const(comparison_number(op)));
+    moved_out(out, bases.handle(temporary));
+    moved_out(out, bases.handle(temporary + 1));
+    ask_row(out, Primitive::Compare);
+    kept_code(bases, out, true, temporary, exit);
 }
 
 /// Adds the host's comparison.
 fn values_compared(
     alloc: Global,
     bases: &Bases,
-    out: &mut Vec<Instr>,
+    out: &mut Emitted,
     op: CompareOp,
     left: Form,
     right: Form,
     temporary: u32,
     exit: u32,
-) -> Result<(), AllocError>
+)
     requires { suc temporary ≤ most_places }
-    ensures { OnOk result (Emits out.old.items out.new.items
-        (values_compared bases.now op (view_form left) (view_form right) temporary exit)) }
+    ensures { Emits out.old out.new
+        (values_compared bases.now op (view_form left) (view_form right) temporary exit) }
 {
-    to_value(alloc, bases, out, left, temporary)?;
-    to_value(alloc, bases, out, right, temporary + 1)?;
-    host_compared(bases, out, op, temporary, exit)
+    to_value(alloc, bases, out, left, temporary);
+    to_value(alloc, bases, out, right, temporary + 1);
+    host_compared(bases, out, op, temporary, exit);
 }
 
 /// Makes 0 of a number that may not be there yet.
-fn zeroed_if(
-    alloc: Global,
-    bases: &Bases,
-    out: &mut Vec<Instr>,
-    form: Form,
-    temporary: u32,
-) -> Result<(), AllocError>
+fn zeroed_if(alloc: Global, bases: &Bases, out: &mut Emitted, form: Form, temporary: u32)
     requires { temporary ≤ most_places }
-    ensures { OnOk result
-        (Emits out.old.items out.new.items (zeroed_if bases.now (view_form form) temporary)) }
+    ensures { Emits out.old out.new (zeroed_if bases.now (view_form form) temporary) }
 {
     match form {
         Form::Bare | Form::Perhaps => zeroed(alloc, bases, out, temporary),
-        Form::Answered(_) => Ok(()),
+        Form::Answered(_) => {}
     }
 }
 
@@ -131,18 +118,18 @@ fn zeroed_if(
 fn numbers_compared(
     alloc: Global,
     bases: &Bases,
-    out: &mut Vec<Instr>,
+    out: &mut Emitted,
     op: CompareOp,
     left: Form,
     right: Form,
     temporary: u32,
-) -> Result<(), AllocError>
+)
     requires { suc temporary ≤ most_places }
-    ensures { OnOk result (Emits out.old.items out.new.items
-        (numbers_compared bases.now op (view_form left) (view_form right) temporary)) }
+    ensures { Emits out.old out.new
+        (numbers_compared bases.now op (view_form left) (view_form right) temporary) }
 {
-    zeroed_if(alloc, bases, out, left, temporary)?;
-    zeroed_if(alloc, bases, out, right, temporary + 1)?;
+    zeroed_if(alloc, bases, out, left, temporary);
+    zeroed_if(alloc, bases, out, right, temporary + 1);
     let all = [
         Simple::LocalGet(bases.number(temporary)),
         Simple::LocalGet(bases.number(temporary + 1)),
@@ -150,123 +137,81 @@ fn numbers_compared(
         Simple::Convert(CvtOp::I64ExtendI32U),
         Simple::LocalSet(bases.number(temporary)),
     ];
-    does_all(out, &all)
+    does_all(out, &all);
 }
 
 /// Adds the test whether a text stands beside one of the two.
-fn texts_beside(
-    bases: &Bases,
-    out: &mut Vec<Instr>,
-    left: Form,
-    right: Form,
-    temporary: u32,
-) -> Result<(), AllocError>
+fn texts_beside(bases: &Bases, out: &mut Emitted, left: Form, right: Form, temporary: u32)
     requires { suc temporary ≤ most_places }
-    ensures { OnOk result (Emits out.old.items out.new.items
-        (texts_beside bases.now (view_form left) (view_form right) temporary)) }
+    ensures { Emits out.old out.new
+        (texts_beside bases.now (view_form left) (view_form right) temporary) }
 {
     let first = bases.number(temporary);
     let second = bases.number(temporary + 1);
     match (left, right) {
         (Form::Bare, Form::Bare) => {
-            number_is(out, first, TEXT_BESIDE)?;
-            number_is(out, second, TEXT_BESIDE)?;
-            does(out, Simple::Binary(ValType::I32, IBinOp::Or))
+            number_is(out, first, TEXT_BESIDE);
+            number_is(out, second, TEXT_BESIDE);
+            does(out, Simple::Binary(ValType::I32, IBinOp::Or));
         }
         (Form::Bare, Form::Perhaps | Form::Answered(_)) => number_is(out, first, TEXT_BESIDE),
         (Form::Perhaps | Form::Answered(_), _) => number_is(out, second, TEXT_BESIDE),
     }
 }
 
-/// The host's comparison, from within one label more.
-fn values_code(
+/// Adds both comparisons, and the test which of them is made.
+fn parted(
     alloc: Global,
     bases: &Bases,
+    out: &mut Emitted,
     op: CompareOp,
     left: Form,
     right: Form,
     temporary: u32,
     exit: u32,
-) -> Result<Vec<Instr>, AllocError>
+)
     requires places { suc temporary ≤ most_places }
     requires labels { exit ≤ most_labels }
-    ensures { IfOk result (λ code. Emits [] code.items
-        (values_compared bases.now op (view_form left) (view_form right) temporary (suc exit))) }
+    ensures { Emits out.old out.new
+        (parted bases.now op (view_form left) (view_form right) temporary exit) }
 {
-    let mut code = Vec::new(alloc);
+    texts_beside(bases, out, left, right, temporary);
+    let mut values = Emitted::new(alloc);
     values_compared(
         alloc,
         bases,
-        &mut code,
+        &mut values,
         op,
         left,
         right,
         temporary,
         exit + 1,
-    )?;
-    Ok(code)
-}
-
-fn numbers_code(
-    alloc: Global,
-    bases: &Bases,
-    op: CompareOp,
-    left: Form,
-    right: Form,
-    temporary: u32,
-) -> Result<Vec<Instr>, AllocError>
-    requires { suc temporary ≤ most_places }
-    ensures { IfOk result
-        (λ code. Emits [] code.items
-        (numbers_compared bases.now op (view_form left) (view_form right) temporary)) }
-{
-    let mut code = Vec::new(alloc);
-    numbers_compared(alloc, bases, &mut code, op, left, right, temporary)?;
-    Ok(code)
-}
-
-/// Adds both comparisons, and the test which of them is made.
-fn parted(
-    alloc: Global,
-    bases: &Bases,
-    out: &mut Vec<Instr>,
-    op: CompareOp,
-    left: Form,
-    right: Form,
-    temporary: u32,
-    exit: u32,
-) -> Result<(), AllocError>
-    requires places { suc temporary ≤ most_places }
-    requires labels { exit ≤ most_labels }
-    ensures { OnOk result (Emits out.old.items out.new.items
-        (parted bases.now op (view_form left) (view_form right) temporary exit)) }
-{
-    texts_beside(bases, out, left, right, temporary)?;
-    let values = values_code(alloc, bases, op, left, right, temporary, exit)?;
-    let numbers = numbers_code(alloc, bases, op, left, right, temporary)?;
-    either(alloc, out, values, numbers)
+    );
+    let mut numbers = Emitted::new(alloc);
+    numbers_compared(alloc, bases, &mut numbers, op, left, right, temporary);
+    either(alloc, out, values, numbers);
 }
 
 /// Adds a comparison of two numbers, beside which texts may stand.
 fn bare_compared(
     alloc: Global,
     bases: &Bases,
-    out: &mut Vec<Instr>,
+    out: &mut Emitted,
     op: CompareOp,
     left: Form,
     right: Form,
     temporary: u32,
     exit: u32,
-) -> Result<(), AllocError>
+)
     requires places { suc temporary ≤ most_places }
     requires labels { exit ≤ most_labels }
-    ensures { OnOk result (Emits out.old.items out.new.items
-        (bare_compared bases.now op (view_form left) (view_form right) temporary exit)) }
+    ensures { Emits out.old out.new
+        (bare_compared bases.now op (view_form left) (view_form right) temporary exit) }
 {
     if may_be_text(left) || may_be_text(right) {
-        parted(alloc, bases, out, op, left, right, temporary, exit)
+        parted(alloc, bases, out, op, left, right, temporary, exit);
     } else {
-        numbers_compared(alloc, bases, out, op, left, right, temporary)
+        numbers_compared(alloc, bases, out, op, left, right, temporary);
     }
 }
 
@@ -274,21 +219,21 @@ fn bare_compared(
 pub fn compared(
     alloc: Global,
     bases: &Bases,
-    out: &mut Vec<Instr>,
+    out: &mut Emitted,
     op: CompareOp,
     left: Form,
     right: Form,
     temporary: u32,
     exit: u32,
-) -> Result<(), AllocError>
+)
     requires places { suc temporary ≤ most_places }
     requires labels { exit ≤ most_labels }
-    ensures { OnOk result (Emits out.old.items out.new.items
-        (compared bases.now op (view_form left) (view_form right) temporary exit)) }
+    ensures { Emits out.old out.new
+        (compared bases.now op (view_form left) (view_form right) temporary exit) }
 {
     if is_value(left) || is_value(right) {
-        values_compared(alloc, bases, out, op, left, right, temporary, exit)
+        values_compared(alloc, bases, out, op, left, right, temporary, exit);
     } else {
-        bare_compared(alloc, bases, out, op, left, right, temporary, exit)
+        bare_compared(alloc, bases, out, op, left, right, temporary, exit);
     }
 }

@@ -1,56 +1,49 @@
 //! Single instructions, and choices.
-ghost use Rattle.std.specs.Prelude.{◌≡◌, [], ◌∷◌, ◌++◌, IfOk, OnOk};
+ghost use Rattle.std.specs.Prelude.{◌≡◌, IfOk};
 ghost use Rattle.wasm_types.specs.Syntax.{Instructions, Done};
+ghost use Rattle.wasm_types.specs.View.{views};
 ghost use Rattle.wasm_types.specs.declared.instr.Simple.TheVariants.{Call};
 ghost use Rattle.host_imports.specs.Imports.{import_number};
 ghost use Rattle.host_imports.specs.declared.import.Import.TheVariants.{Of};
 ghost use Rattle.lower_model.specs.Small.{ask, ask_row, does, either, when};
 ghost use Rattle.lower_model.specs.Statements.{again, block};
-ghost use Rattle.lower_pieces.specs.Emits.{does_all, Emits};
+ghost use Rattle.lower_pieces.specs.Emits.{does_all, Emits, Holds, Reads};
 
+use crate::emitted::Emitted;
 use host_imports::Import;
 use sem_primitives::Primitive;
 use std::alloc::{AllocError, Global};
 use std::rc::Rc;
 use wasm_types::{Instr, Simple};
 
-/// Adds an item to a list.
-fn pushed<T: Drop>(out: &mut Vec<T>, item: T) -> Result<(), AllocError>
-    ensures { OnOk result (out.new.items ≡ out.old.items ++ item ∷ []) }
-{
-    out.push(item)?;
-    Ok(())
-}
-
 /// Adds an instruction.
-pub fn does(out: &mut Vec<Instr>, simple: Simple) -> Result<(), AllocError>
-    ensures { OnOk result (Emits out.old.items out.new.items (does simple)) }
+pub fn does(out: &mut Emitted, simple: Simple)
+    ensures { Emits out.old out.new (does simple) }
 {
-    pushed(out, Instr::Plain(simple))
+    out.put(Instr::Plain(simple));
 }
 
 /// Adds instructions.
-pub fn does_all(out: &mut Vec<Instr>, all: &[Simple]) -> Result<(), AllocError>
-    ensures { OnOk result (Emits out.old.items out.new.items (does_all all.now)) }
+pub fn does_all(out: &mut Emitted, all: &[Simple])
+    ensures { Emits out.old out.new (does_all all.now) }
 {
     for simple in all {
-        does(out, *simple)?;
+        does(out, *simple);
     }
-    Ok(())
 }
 
 /// Adds a call of an import.
-pub fn ask(out: &mut Vec<Instr>, import: Import) -> Result<(), AllocError>
-    ensures { OnOk result (Emits out.old.items out.new.items (ask import)) }
+pub fn ask(out: &mut Emitted, import: Import)
+    ensures { Emits out.old out.new (ask import) }
 {
-    does(out, Simple::Call(import.number()))
+    does(out, Simple::Call(import.number()));
 }
 
 /// Adds a call of a primitive.
-pub fn ask_row(out: &mut Vec<Instr>, primitive: Primitive) -> Result<(), AllocError>
-    ensures { OnOk result (Emits out.old.items out.new.items (ask_row primitive)) }
+pub fn ask_row(out: &mut Emitted, primitive: Primitive)
+    ensures { Emits out.old out.new (ask_row primitive) }
 {
-    ask(out, Import::Of(primitive))
+    ask(out, Import::Of(primitive));
 }
 
 /// The instruction that calls an import.
@@ -68,82 +61,75 @@ pub fn row_call(primitive: Primitive) -> Simple
 }
 
 /// Instructions in a list of their own.
-pub fn code_of(alloc: Global, all: &[Simple]) -> Result<Vec<Instr>, AllocError>
-    ensures { IfOk result (λ code. Emits [] code.items (does_all all.now)) }
+pub fn code_of(alloc: Global, all: &[Simple]) -> Emitted
+    ensures { Holds result (does_all all.now) }
 {
-    let mut code = Vec::new(alloc);
-    does_all(&mut code, all)?;
-    Ok(code)
+    let mut code = Emitted::new(alloc);
+    does_all(&mut code, all);
+    code
 }
 
 /// Code within an instruction, in no more memory than it takes: nothing is added to it any more, and large scripts have much of it.
-fn enclosed(alloc: Global, code: Vec<Instr>) -> Result<Rc<Vec<Instr>>, AllocError>
-    ensures { IfOk result (λ inner. inner.value.items ≡ code.items) }
+fn enclosed(alloc: Global, code: Emitted) -> Result<Rc<Vec<Instr>>, AllocError>
+    ensures { IfOk result (λ inner. (whole : Instructions) → Reads code Done whole
+        → views inner.value.items ≡ whole) }
 {
-    let mut code = code;
+    let mut code = code.all()?;
     code.shrink_to_fit();
     Ok(Rc::new(alloc, code)?)
 }
 
 /// Adds what is done where the topmost operand is not 0, and what is done where it is.
-pub fn either(
-    alloc: Global,
-    out: &mut Vec<Instr>,
-    yes: Vec<Instr>,
-    no: Vec<Instr>,
-) -> Result<(), AllocError>
-    ensures { (one other : Instructions → Instructions)
-        → Emits [] yes.items one → Emits [] no.items other
-        → OnOk result (Emits out.old.items out.new.items (either (one Done) (other Done))) }
+pub fn either(alloc: Global, out: &mut Emitted, yes: Emitted, no: Emitted)
+    ensures { (one other : Instructions) → Reads yes Done one → Reads no Done other
+        → Emits out.old out.new (either one other) }
 {
-    let yes = enclosed(alloc, yes)?;
-    let no = enclosed(alloc, no)?;
-    pushed(out, Instr::If(None, yes, no))
+    match (enclosed(alloc, yes), enclosed(alloc, no)) {
+        (Ok(yes), Ok(no)) => out.put(Instr::If(None, yes, no)),
+        _ => out.refuse(),
+    }
 }
 
 /// Adds what is done where the topmost operand is not 0.
-pub fn when(alloc: Global, out: &mut Vec<Instr>, yes: Vec<Instr>) -> Result<(), AllocError>
-    ensures { (inside : Instructions → Instructions) → Emits [] yes.items inside
-        → OnOk result (Emits out.old.items out.new.items (when (inside Done))) }
+pub fn when(alloc: Global, out: &mut Emitted, yes: Emitted)
+    ensures { (inside : Instructions) → Reads yes Done inside
+        → Emits out.old out.new (when inside) }
 {
-    either(alloc, out, yes, Vec::new(alloc))
+    either(alloc, out, yes, Emitted::new(alloc));
 }
 
 /// Adds these instructions where the topmost operand is not 0, and those where it is.
-pub fn either_all(
-    alloc: Global,
-    out: &mut Vec<Instr>,
-    yes: &[Simple],
-    no: &[Simple],
-) -> Result<(), AllocError>
-    ensures { OnOk result (Emits out.old.items out.new.items
-        (either (does_all yes.now Done) (does_all no.now Done))) }
+pub fn either_all(alloc: Global, out: &mut Emitted, yes: &[Simple], no: &[Simple])
+    ensures { Emits out.old out.new (either (does_all yes.now Done) (does_all no.now Done)) }
 {
-    let one = code_of(alloc, yes)?;
-    either(alloc, out, one, code_of(alloc, no)?)
+    either(alloc, out, code_of(alloc, yes), code_of(alloc, no));
 }
 
 /// Adds these instructions where the topmost operand is not 0.
-pub fn when_all(alloc: Global, out: &mut Vec<Instr>, yes: &[Simple]) -> Result<(), AllocError>
-    ensures { OnOk result (Emits out.old.items out.new.items (when (does_all yes.now Done))) }
+pub fn when_all(alloc: Global, out: &mut Emitted, yes: &[Simple])
+    ensures { Emits out.old out.new (when (does_all yes.now Done)) }
 {
-    when(alloc, out, code_of(alloc, yes)?)
+    when(alloc, out, code_of(alloc, yes));
 }
 
 /// Adds a block.
-pub fn block(alloc: Global, out: &mut Vec<Instr>, code: Vec<Instr>) -> Result<(), AllocError>
-    ensures { (inside : Instructions → Instructions) → Emits [] code.items inside
-        → OnOk result (Emits out.old.items out.new.items (block (inside Done))) }
+pub fn block(alloc: Global, out: &mut Emitted, code: Emitted)
+    ensures { (inside : Instructions) → Reads code Done inside
+        → Emits out.old out.new (block inside) }
 {
-    let code = enclosed(alloc, code)?;
-    pushed(out, Instr::Block(None, code))
+    match enclosed(alloc, code) {
+        Ok(code) => out.put(Instr::Block(None, code)),
+        Err(_) => out.refuse(),
+    }
 }
 
 /// Adds a loop.
-pub fn again(alloc: Global, out: &mut Vec<Instr>, code: Vec<Instr>) -> Result<(), AllocError>
-    ensures { (inside : Instructions → Instructions) → Emits [] code.items inside
-        → OnOk result (Emits out.old.items out.new.items (again (inside Done))) }
+pub fn again(alloc: Global, out: &mut Emitted, code: Emitted)
+    ensures { (inside : Instructions) → Reads code Done inside
+        → Emits out.old out.new (again inside) }
 {
-    let code = enclosed(alloc, code)?;
-    pushed(out, Instr::Loop(None, code))
+    match enclosed(alloc, code) {
+        Ok(code) => out.put(Instr::Loop(None, code)),
+        Err(_) => out.refuse(),
+    }
 }

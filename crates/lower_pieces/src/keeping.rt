@@ -1,17 +1,18 @@
 //! Answers that are kept in temporaries. Where one may stand for a fault, and does, the function is left.
-ghost use Rattle.std.specs.Prelude.{[], ◌≤◌, IfOk, OnOk};
+ghost use Rattle.std.specs.Prelude.{◌≤◌};
 ghost use Rattle.lower_model.specs.Places.{Bases as PlainBases};
 ghost use Rattle.lower_model.specs.Small.{answer_kept, kept, kept_code, kept_done, kept_number, kept_value, text_or_left};
 ghost use Rattle.lower_pieces.specs.Bounds.{most_labels, most_places};
-ghost use Rattle.lower_pieces.specs.Emits.{Emits};
+ghost use Rattle.lower_pieces.specs.Emits.{Emits, Holds};
 
 use crate::bases::Bases;
 use crate::emit::{does, does_all, either_all, when};
+use crate::emitted::Emitted;
 use crate::faults::number_is;
 use crate::handles::MINUS_ONE;
 use sem_primitives::{Answer, Sort};
-use std::alloc::{AllocError, Global};
-use wasm_types::{CvtOp, IRelOp, Instr, Simple, ValType};
+use std::alloc::Global;
+use wasm_types::{CvtOp, IRelOp, Simple, ValType};
 
 /// The least number of 64 bits, which stands for a fault where an answer is a number, and in an unboxed name for none.
 pub const LEAST: u64 = 1 << 63;
@@ -26,16 +27,9 @@ pub const WAS_LEFT: u64 = LEAST + 2;
 pub const TEXT_GLOBAL: u32 = 2;
 
 /// Keeps a code, as a number.
-pub fn kept_code(
-    bases: &Bases,
-    out: &mut Vec<Instr>,
-    faults: bool,
-    temporary: u32,
-    exit: u32,
-) -> Result<(), AllocError>
+pub fn kept_code(bases: &Bases, out: &mut Emitted, faults: bool, temporary: u32, exit: u32)
     requires { temporary ≤ most_places }
-    ensures { OnOk result
-        (Emits out.old.items out.new.items (kept_code bases.now faults temporary exit)) }
+    ensures { Emits out.old out.new (kept_code bases.now faults temporary exit) }
 {
     let local = bases.number(temporary);
     if faults {
@@ -46,27 +40,20 @@ pub fn kept_code(
             Simple::Compare(ValType::I64, IRelOp::Eq),
             Simple::BrIf(exit),
         ];
-        does_all(out, &all)
+        does_all(out, &all);
     } else {
         let all = [
             Simple::Convert(CvtOp::I64ExtendI32U),
             Simple::LocalSet(local),
         ];
-        does_all(out, &all)
+        does_all(out, &all);
     }
 }
 
 /// Keeps a value's handle.
-pub fn kept_value(
-    bases: &Bases,
-    out: &mut Vec<Instr>,
-    faults: bool,
-    temporary: u32,
-    exit: u32,
-) -> Result<(), AllocError>
+pub fn kept_value(bases: &Bases, out: &mut Emitted, faults: bool, temporary: u32, exit: u32)
     requires { temporary ≤ most_places }
-    ensures { OnOk result
-        (Emits out.old.items out.new.items (kept_value bases.now faults temporary exit)) }
+    ensures { Emits out.old out.new (kept_value bases.now faults temporary exit) }
 {
     let local = bases.handle(temporary);
     if faults {
@@ -76,23 +63,16 @@ pub fn kept_value(
             Simple::Compare(ValType::I32, IRelOp::Eq),
             Simple::BrIf(exit),
         ];
-        does_all(out, &all)
+        does_all(out, &all);
     } else {
-        does(out, Simple::LocalSet(local))
+        does(out, Simple::LocalSet(local));
     }
 }
 
 /// Keeps a number.
-pub fn kept_number(
-    bases: &Bases,
-    out: &mut Vec<Instr>,
-    faults: bool,
-    temporary: u32,
-    exit: u32,
-) -> Result<(), AllocError>
+pub fn kept_number(bases: &Bases, out: &mut Emitted, faults: bool, temporary: u32, exit: u32)
     requires { temporary ≤ most_places }
-    ensures { OnOk result
-        (Emits out.old.items out.new.items (kept_number bases.now faults temporary exit)) }
+    ensures { Emits out.old out.new (kept_number bases.now faults temporary exit) }
 {
     let local = bases.number(temporary);
     if faults {
@@ -102,27 +82,22 @@ pub fn kept_number(
             Simple::Compare(ValType::I64, IRelOp::Eq),
             Simple::BrIf(exit),
         ];
-        does_all(out, &all)
+        does_all(out, &all);
     } else {
-        does(out, Simple::LocalSet(local))
+        does(out, Simple::LocalSet(local));
     }
 }
 
 /// What is done with an answer of a function that is no number: a text is taken. Where the function was left, this one is left too, from within two labels
 /// more.
-fn text_or_left(
-    alloc: Global,
-    bases: &Bases,
-    temporary: u32,
-    exit: u32,
-) -> Result<Vec<Instr>, AllocError>
+fn text_or_left(alloc: Global, bases: &Bases, temporary: u32, exit: u32) -> Emitted
     requires places { temporary ≤ most_places }
     requires labels { exit ≤ most_labels }
-    ensures { IfOk result (λ code. Emits [] code.items (text_or_left bases.now temporary exit)) }
+    ensures { Holds result (text_or_left bases.now temporary exit) }
 {
-    let mut code = Vec::new(alloc);
+    let mut code = Emitted::new(alloc);
     let local = bases.number(temporary);
-    number_is(&mut code, local, TEXT_BESIDE)?;
+    number_is(&mut code, local, TEXT_BESIDE);
     let taken = [
         Simple::GlobalGet(TEXT_GLOBAL),
         Simple::LocalSet(bases.handle(temporary)),
@@ -133,36 +108,29 @@ fn text_or_left(
         Simple::Compare(ValType::I64, IRelOp::Eq),
         Simple::BrIf(exit + 2),
     ];
-    either_all(alloc, &mut code, &taken, &left_too)?;
-    Ok(code)
+    either_all(alloc, &mut code, &taken, &left_too);
+    code
 }
 
 /// Keeps the answer of a function.
-pub fn answer_kept(
-    alloc: Global,
-    bases: &Bases,
-    out: &mut Vec<Instr>,
-    temporary: u32,
-    exit: u32,
-) -> Result<(), AllocError>
+pub fn answer_kept(alloc: Global, bases: &Bases, out: &mut Emitted, temporary: u32, exit: u32)
     requires places { temporary ≤ most_places }
     requires labels { exit ≤ most_labels }
-    ensures { OnOk result
-        (Emits out.old.items out.new.items (answer_kept bases.now temporary exit)) }
+    ensures { Emits out.old out.new (answer_kept bases.now temporary exit) }
 {
     let all = [
         Simple::LocalTee(bases.number(temporary)),
         Simple::I64Const(WAS_LEFT),
         Simple::Compare(ValType::I64, IRelOp::LeS),
     ];
-    does_all(out, &all)?;
-    when(alloc, out, text_or_left(alloc, bases, temporary, exit)?)
+    does_all(out, &all);
+    when(alloc, out, text_or_left(alloc, bases, temporary, exit));
 }
 
 /// Takes the answer that something is done.
-fn kept_done(out: &mut Vec<Instr>, faults: bool, exit: u32) -> Result<(), AllocError>
+fn kept_done(out: &mut Emitted, faults: bool, exit: u32)
     ensures { (bases : PlainBases)
-        → OnOk result (Emits out.old.items out.new.items (kept_done bases faults exit)) }
+        → Emits out.old out.new (kept_done bases faults exit) }
 {
     if faults {
         let all = [
@@ -170,35 +138,34 @@ fn kept_done(out: &mut Vec<Instr>, faults: bool, exit: u32) -> Result<(), AllocE
             Simple::Compare(ValType::I32, IRelOp::Eq),
             Simple::BrIf(exit),
         ];
-        does_all(out, &all)
+        does_all(out, &all);
     } else {
-        does(out, Simple::Drop)
+        does(out, Simple::Drop);
     }
 }
 
 /// Keeps an answer.
 pub fn kept(
     bases: &Bases,
-    out: &mut Vec<Instr>,
+    out: &mut Emitted,
     faults: bool,
     answer: Answer,
     temporary: u32,
     exit: u32,
-) -> Result<(), AllocError>
+)
     requires { temporary ≤ most_places }
-    ensures { OnOk result
-        (Emits out.old.items out.new.items (kept bases.now faults answer temporary exit)) }
+    ensures { Emits out.old out.new (kept bases.now faults answer temporary exit) }
 {
     match answer {
         Answer::Of(Sort::Value) => kept_value(bases, out, faults, temporary, exit),
         Answer::Of(Sort::Number) => kept_number(bases, out, faults, temporary, exit),
         Answer::Truth | Answer::Input | Answer::Assign | Answer::Stream => {
-            kept_code(bases, out, faults, temporary, exit)
+            kept_code(bases, out, faults, temporary, exit);
         }
         Answer::Done => kept_done(out, faults, exit),
         Answer::Of(Sort::Array | Sort::Iterator)
         | Answer::Nothing
         | Answer::ValueOrEnd
-        | Answer::Name => Ok(()),
+        | Answer::Name => {}
     }
 }

@@ -7,6 +7,7 @@ mod boxing;
 mod comparing;
 mod converting;
 mod emit;
+mod emitted;
 mod faults;
 mod form;
 mod handles;
@@ -24,6 +25,7 @@ pub use emit::{
     again, ask, ask_row, block, code_of, does, does_all, either, either_all, import_call, row_call,
     when, when_all,
 };
+pub use emitted::Emitted;
 pub use faults::{fail_if, number_is};
 pub use form::Form;
 pub use handles::{MINUS_ONE, copied_by, copied_if_any, emptied, going, let_go, moved_out};

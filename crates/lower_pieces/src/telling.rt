@@ -1,5 +1,5 @@
 //! The truth of what stands in a temporary, on the stack.
-ghost use Rattle.std.specs.Prelude.{[], ◌≤◌, IfOk, OnOk};
+ghost use Rattle.std.specs.Prelude.{◌≤◌};
 ghost use Rattle.sem_primitives.specs.declared.table.Primitive.TheVariants.{Truth};
 ghost use Rattle.mid_program.specs.Mid.{Bare};
 ghost use Rattle.wasm_types.specs.declared.instr.CvtOp.TheVariants.{I64ExtendI32U};
@@ -7,40 +7,41 @@ ghost use Rattle.wasm_types.specs.declared.instr.Simple.TheVariants.{Convert, Lo
 ghost use Rattle.lower_model.specs.Places.{handle_local, number_local};
 ghost use Rattle.lower_model.specs.Small.{ask_row, does, moved_out, not_zero, truth, zeroed};
 ghost use Rattle.lower_pieces.specs.Bounds.{most_places};
-ghost use Rattle.lower_pieces.specs.Emits.{Emits};
+ghost use Rattle.lower_pieces.specs.Emits.{Emits, Holds};
 ghost use Rattle.lower_pieces.specs.Forms.{view_form};
 ghost use Rattle.lower_pieces.specs.Fragments.{told};
 
 use crate::bases::Bases;
 use crate::emit::{ask_row, code_of, does_all, either, row_call};
+use crate::emitted::Emitted;
 use crate::faults::number_is;
 use crate::form::Form;
 use crate::handles::{MINUS_ONE, moved_out};
 use crate::keeping::TEXT_BESIDE;
-use crate::numbers::{zeroed, zeroed_code};
+use crate::numbers::zeroed;
 use sem_primitives::{Answer, Primitive, Sort};
-use std::alloc::{AllocError, Global};
-use wasm_types::{CvtOp, ITestOp, Instr, Simple, ValType};
+use std::alloc::Global;
+use wasm_types::{CvtOp, ITestOp, Simple, ValType};
 
 /// Adds the test whether a temporary's number is not 0.
-fn not_zero(bases: &Bases, out: &mut Vec<Instr>, temporary: u32) -> Result<(), AllocError>
+fn not_zero(bases: &Bases, out: &mut Emitted, temporary: u32)
     requires { temporary ≤ most_places }
-    ensures { OnOk result (Emits out.old.items out.new.items (not_zero bases.now temporary)) }
+    ensures { Emits out.old out.new (not_zero bases.now temporary) }
 {
     let all = [
         Simple::LocalGet(bases.number(temporary)),
         Simple::Test(ValType::I64, ITestOp::Eqz),
         Simple::Test(ValType::I32, ITestOp::Eqz),
     ];
-    does_all(out, &all)
+    does_all(out, &all);
 }
 
 /// What puts a value's truth in the place of the number.
-fn truth_put(alloc: Global, bases: &Bases, temporary: u32) -> Result<Vec<Instr>, AllocError>
+fn truth_put(alloc: Global, bases: &Bases, temporary: u32) -> Emitted
     requires { temporary ≤ most_places }
-    ensures { IfOk result (λ code. Emits [] code.items (λ after. moved_out
+    ensures { Holds result (λ after. moved_out
         (handle_local bases.now temporary) (ask_row Truth (does (Convert I64ExtendI32U)
-        (does (LocalSet (number_local bases.now temporary)) after))))) }
+        (does (LocalSet (number_local bases.now temporary)) after)))) }
 {
     let local = bases.handle(temporary);
     let all = [
@@ -55,44 +56,34 @@ fn truth_put(alloc: Global, bases: &Bases, temporary: u32) -> Result<Vec<Instr>,
 }
 
 /// Makes a number of what an unboxed name has, by its truth.
-fn bare_told(
-    alloc: Global,
-    bases: &Bases,
-    out: &mut Vec<Instr>,
-    temporary: u32,
-) -> Result<(), AllocError>
+fn bare_told(alloc: Global, bases: &Bases, out: &mut Emitted, temporary: u32)
     requires { temporary ≤ most_places }
-    ensures { OnOk result (Emits out.old.items out.new.items (told bases.now temporary)) }
+    ensures { Emits out.old out.new (told bases.now temporary) }
 {
-    number_is(out, bases.number(temporary), TEXT_BESIDE)?;
-    let some = truth_put(alloc, bases, temporary)?;
-    either(alloc, out, some, zeroed_code(alloc, bases, temporary)?)
+    number_is(out, bases.number(temporary), TEXT_BESIDE);
+    let some = truth_put(alloc, bases, temporary);
+    let mut none = Emitted::new(alloc);
+    zeroed(alloc, bases, &mut none, temporary);
+    either(alloc, out, some, none);
 }
 
 /// Adds the truth of what stands in a temporary.
-pub fn truth(
-    alloc: Global,
-    bases: &Bases,
-    out: &mut Vec<Instr>,
-    form: Form,
-    temporary: u32,
-) -> Result<(), AllocError>
+pub fn truth(alloc: Global, bases: &Bases, out: &mut Emitted, form: Form, temporary: u32)
     requires { temporary ≤ most_places }
-    ensures { OnOk result
-        (Emits out.old.items out.new.items (truth bases.now (view_form form) temporary)) }
+    ensures { Emits out.old out.new (truth bases.now (view_form form) temporary) }
 {
     match form {
         Form::Answered(Answer::Of(Sort::Value)) => {
-            moved_out(out, bases.handle(temporary))?;
-            ask_row(out, Primitive::Truth)
+            moved_out(out, bases.handle(temporary));
+            ask_row(out, Primitive::Truth);
         }
         Form::Bare => {
-            bare_told(alloc, bases, out, temporary)?;
-            not_zero(bases, out, temporary)
+            bare_told(alloc, bases, out, temporary);
+            not_zero(bases, out, temporary);
         }
         Form::Perhaps => {
-            zeroed(alloc, bases, out, temporary)?;
-            not_zero(bases, out, temporary)
+            zeroed(alloc, bases, out, temporary);
+            not_zero(bases, out, temporary);
         }
         Form::Answered(_) => not_zero(bases, out, temporary),
     }

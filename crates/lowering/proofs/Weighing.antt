@@ -23,7 +23,7 @@ use Rattle.lower_model.specs.Places.{status_global}
 use Rattle.lower_model.specs.Small.{ask_row, does}
 use Rattle.lower_model.specs.Statements.{all_emptied, arrays_emptied, before_parts, first_part, iterators_emptied, last_part, main_body, names_declared, names_made, part_done, records_read, routines_declared, step_emitted, steps_emitted, swept, temporaries_emptied}
 use Rattle.sem_primitives.specs.declared.table.Primitive.TheVariants as row
-use Rattle.lower_pieces.specs.Emits.{Emits, followed}
+use Rattle.lower_pieces.specs.Emits.{followed}
 use Rattle.lower_modules.specs.Lengths.{least_among, least_in}
 use Rattle.lowering.specs.Lengths.{TakesAtLeast, Weighs}
 use Rattle.lower_modules.specs.Limits.{most_bytes}
@@ -37,7 +37,7 @@ followed_least : (is : List Instr) (k : Instructions) → least_in (followed is 
 followed_least [] k = omega arith
 followed_least (i ∷ is) k = let r = followed_least is k in omega (arith, r)
 
-pub piece : (code : Instructions → Instructions) (is : List Instr) (n : ℕ) → Emits [] is code → n ≤ least_in (views is) → TakesAtLeast n code
+pub piece : (code : Instructions → Instructions) (is : List Instr) (n : ℕ) → ((k : Instructions) → followed is k ≡ code k) → n ≤ least_in (views is) → TakesAtLeast n code
 piece code is n emits le k =
     let e = ap least_in (emits k) in
     let f = followed_least is k in

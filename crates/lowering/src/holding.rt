@@ -1,5 +1,5 @@
 //! What a function holds: emptied at its beginning, and let go on every way out.
-ghost use Rattle.std.specs.Prelude.{◌≡◌, ◌≤◌, OnOk};
+ghost use Rattle.std.specs.Prelude.{◌≡◌, ◌≤◌};
 ghost use Rattle.lower_model.specs.Statements.{all_emptied, has_functions, iterators_swept, left_swept, operands_swept, swept};
 ghost use Rattle.lower_pieces.specs.Bounds.{most_places};
 ghost use Rattle.lower_pieces.specs.Emits.{Emits};
@@ -8,9 +8,8 @@ ghost use Rattle.lowering.specs.Holding.{held_count, held_emptied, held_import, 
 
 use host_imports::Import;
 use lower_expressions::FunctionLayout;
-use lower_pieces::{Bases, WAS_LEFT, does_all, emptied, let_go};
-use std::alloc::AllocError;
-use wasm_types::{Instr, Simple};
+use lower_pieces::{Bases, Emitted, WAS_LEFT, does_all, emptied, let_go};
+use wasm_types::Simple;
 
 /// What a function holds beside its answer.
 #[derive(Clone, Copy, Drop)]
@@ -56,24 +55,19 @@ fn import(held: Held) -> Import
 }
 
 /// Empties all of one sort.
-fn held_emptied(bases: &Bases, out: &mut Vec<Instr>, held: Held) -> Result<(), AllocError>
-    ensures { OnOk result (Emits out.old.items out.new.items
-        (held_emptied held bases.now 0 (held_count held bases.now))) }
+fn held_emptied(bases: &Bases, out: &mut Emitted, held: Held)
+    ensures { Emits out.old out.new
+        (held_emptied held bases.now 0 (held_count held bases.now)) }
 {
     let count = count(bases, held);
     for place in 0..count {
-        emptied(out, local(bases, held, place))?;
+        emptied(out, local(bases, held, place));
     }
-    Ok(())
 }
 
 /// Empties what a function has, at its beginning.
-pub(crate) fn all_emptied(
-    layout: &FunctionLayout<'_>,
-    out: &mut Vec<Instr>,
-) -> Result<(), AllocError>
-    ensures { OnOk result
-        (Emits out.old.items out.new.items (all_emptied (view_layout layout.now))) }
+pub(crate) fn all_emptied(layout: &FunctionLayout<'_>, out: &mut Emitted)
+    ensures { Emits out.old out.new (all_emptied (view_layout layout.now)) }
 {
     does_all(
         out,
@@ -81,72 +75,57 @@ pub(crate) fn all_emptied(
             Simple::I64Const(WAS_LEFT),
             Simple::LocalSet(layout.bases.answer()),
         ],
-    )?;
-    held_emptied(layout.bases, out, Held::Temporaries)?;
-    held_emptied(layout.bases, out, Held::Iterators)?;
-    held_emptied(layout.bases, out, Held::Arrays)
+    );
+    held_emptied(layout.bases, out, Held::Temporaries);
+    held_emptied(layout.bases, out, Held::Iterators);
+    held_emptied(layout.bases, out, Held::Arrays);
 }
 
 /// Lets all of one sort go.
-fn held_swept(
-    layout: &FunctionLayout<'_>,
-    out: &mut Vec<Instr>,
-    held: Held,
-) -> Result<(), AllocError>
-    ensures { OnOk result (Emits out.old.items out.new.items
-        (held_swept held layout.now.bases.now 0 (held_count held layout.now.bases.now))) }
+fn held_swept(layout: &FunctionLayout<'_>, out: &mut Emitted, held: Held)
+    ensures { Emits out.old out.new
+        (held_swept held layout.now.bases.now 0 (held_count held layout.now.bases.now)) }
 {
     let import = import(held);
     let count = count(layout.bases, held);
     for place in 0..count {
-        let_go(layout.alloc, out, import, local(layout.bases, held, place))?;
+        let_go(layout.alloc, out, import, local(layout.bases, held, place));
     }
-    Ok(())
 }
 
 /// Lets go of what a function has.
-pub(crate) fn swept(layout: &FunctionLayout<'_>, out: &mut Vec<Instr>) -> Result<(), AllocError>
-    ensures { OnOk result (Emits out.old.items out.new.items (swept (view_layout layout.now))) }
+pub(crate) fn swept(layout: &FunctionLayout<'_>, out: &mut Emitted)
+    ensures { Emits out.old out.new (swept (view_layout layout.now)) }
 {
-    held_swept(layout, out, Held::Temporaries)?;
-    held_swept(layout, out, Held::Iterators)?;
-    held_swept(layout, out, Held::Arrays)
+    held_swept(layout, out, Held::Temporaries);
+    held_swept(layout, out, Held::Iterators);
+    held_swept(layout, out, Held::Arrays);
 }
 
 /// Lets go of temporaries and of arrays of calls.
-pub(crate) fn operands_swept(
-    layout: &FunctionLayout<'_>,
-    out: &mut Vec<Instr>,
-) -> Result<(), AllocError>
-    ensures { OnOk result
-        (Emits out.old.items out.new.items (operands_swept (view_layout layout.now))) }
+pub(crate) fn operands_swept(layout: &FunctionLayout<'_>, out: &mut Emitted)
+    ensures { Emits out.old out.new (operands_swept (view_layout layout.now)) }
 {
-    held_swept(layout, out, Held::Temporaries)?;
-    held_swept(layout, out, Held::Arrays)
+    held_swept(layout, out, Held::Temporaries);
+    held_swept(layout, out, Held::Arrays);
 }
 
 /// Lets go of iterators.
-pub(crate) fn iterators_swept(
-    layout: &FunctionLayout<'_>,
-    out: &mut Vec<Instr>,
-) -> Result<(), AllocError>
-    ensures { OnOk result (Emits out.old.items out.new.items
-        (iterators_swept (view_layout layout.now) 0 layout.now.bases.now.iterators)) }
+pub(crate) fn iterators_swept(layout: &FunctionLayout<'_>, out: &mut Emitted)
+    ensures { Emits out.old out.new
+        (iterators_swept (view_layout layout.now) 0 layout.now.bases.now.iterators) }
 {
-    held_swept(layout, out, Held::Iterators)
+    held_swept(layout, out, Held::Iterators);
 }
 
 /// Lets go of what `next` or `exit` left in `main`: where the script has no functions, that is no more than iterators.
-pub(crate) fn left_swept(
-    layout: &FunctionLayout<'_>,
-    out: &mut Vec<Instr>,
-) -> Result<(), AllocError>
-    ensures { OnOk result (Emits out.old.items out.new.items
-        (left_swept (view_layout layout.now) (has_functions (view_layout layout.now).calls))) }
+pub(crate) fn left_swept(layout: &FunctionLayout<'_>, out: &mut Emitted)
+    ensures { Emits out.old out.new
+        (left_swept (view_layout layout.now) (has_functions (view_layout layout.now).calls)) }
 {
     if layout.script.routines().is_empty() {
-        held_swept(layout, out, Held::Iterators)
+        held_swept(layout, out, Held::Iterators);
     } else {
-        swept(layout, out)
+        swept(layout, out);
     }
 }

@@ -1,5 +1,5 @@
 //! How a function is left, and ranges that open and close.
-ghost use Rattle.std.specs.Prelude.{◌≤◌, OnOk};
+ghost use Rattle.std.specs.Prelude.{◌≤◌};
 ghost use Rattle.sem_primitives.specs.Constants.{flag_number};
 ghost use Rattle.wasm_types.specs.declared.instr.Simple.TheVariants.{GlobalSet, I32Const};
 ghost use Rattle.lower_model.specs.Places.{range_global};
@@ -8,9 +8,8 @@ ghost use Rattle.lower_model.specs.Statements.{left_by};
 ghost use Rattle.lower_pieces.specs.Bounds.{most_places};
 ghost use Rattle.lower_pieces.specs.Emits.{Emits};
 
-use lower_pieces::does_all;
-use std::alloc::AllocError;
-use wasm_types::{Instr, Simple};
+use lower_pieces::{Emitted, does_all};
+use wasm_types::Simple;
 
 /// How a function is left by a fault, or by `return`.
 pub(crate) const WAY_NONE: u32 = 0;
@@ -22,26 +21,26 @@ pub(crate) const WAY_NEXT: u32 = 1;
 pub(crate) const WAY_EXIT: u32 = 2;
 
 /// Leaves the function in a way.
-pub(crate) fn left_by(out: &mut Vec<Instr>, way: u32, exit: u32) -> Result<(), AllocError>
-    ensures { OnOk result (Emits out.old.items out.new.items (left_by way exit)) }
+pub(crate) fn left_by(out: &mut Emitted, way: u32, exit: u32)
+    ensures { Emits out.old out.new (left_by way exit) }
 {
     let all = [
         Simple::I32Const(way),
         Simple::GlobalSet(0),
         Simple::Br(exit),
     ];
-    does_all(out, &all)
+    does_all(out, &all);
 }
 
 /// Opens the range of an item, or closes it.
-pub(crate) fn marked(out: &mut Vec<Instr>, item: usize, opens: bool) -> Result<(), AllocError>
+pub(crate) fn marked(out: &mut Emitted, item: usize, opens: bool)
     requires { item ≤ most_places }
-    ensures { OnOk result (Emits out.old.items out.new.items (λ after. does
-        (I32Const (flag_number opens)) (does (GlobalSet (range_global item)) after))) }
+    ensures { Emits out.old out.new (λ after. does
+        (I32Const (flag_number opens)) (does (GlobalSet (range_global item)) after)) }
 {
     let all = [
         Simple::I32Const(u32::from(opens)),
         Simple::GlobalSet(item as u32 + 3),
     ];
-    does_all(out, &all)
+    does_all(out, &all);
 }

@@ -30,7 +30,7 @@ fn step_length(layout: &FunctionLayout<'_>, step: &Step) -> Result<u64, AllocErr
     match step {
         Step::Block(steps) => steps_length(layout, steps),
         _ => {
-            let code = inner(layout, step, OUTERMOST)?;
+            let code = inner(layout, step, OUTERMOST).all()?;
             Ok(least_in(&code))
         }
     }

@@ -1,6 +1,6 @@
 //! `return`: what a function answers.
 ghost use Rattle.std.specs.Option.{option_map};
-ghost use Rattle.std.specs.Prelude.{[], ◌≡◌, ◌≤◌, false, OnOk, suc};
+ghost use Rattle.std.specs.Prelude.{[], ◌≡◌, ◌≤◌, false, suc};
 ghost use Rattle.sem_primitives.specs.declared.sorts.Sort.TheVariants.{Value};
 ghost use Rattle.mid_program.specs.Mid as plain;
 ghost use Rattle.mid_program.specs.Mid.{Bare, form_of};
@@ -19,110 +19,81 @@ use crate::evaluating::{answered, tested};
 use crate::testing::left_unless_pair;
 use lower_expressions::FunctionLayout;
 use lower_pieces::{
-    Form, LEAST, TEXT_BESIDE, TEXT_GLOBAL, block, does, does_all, either, moved_out, number_is,
-    when,
+    Emitted, Form, LEAST, TEXT_BESIDE, TEXT_GLOBAL, block, does, does_all, either, moved_out,
+    number_is, when,
 };
 use lower_quick::pair_in;
 use mid_program::{Code, Slot};
 use sem_primitives::{Answer, Sort};
-use std::alloc::AllocError;
-use wasm_types::{Instr, Simple};
+use wasm_types::Simple;
 
 /// Gives a word as the answer.
-pub(crate) fn constant_given(
-    layout: &FunctionLayout<'_>,
-    out: &mut Vec<Instr>,
-    word: u64,
-    out_of: u32,
-) -> Result<(), AllocError>
-    ensures { OnOk result
-        (Emits out.old.items out.new.items (constant_given (view_layout layout.now) word out_of)) }
+pub(crate) fn constant_given(layout: &FunctionLayout<'_>, out: &mut Emitted, word: u64, out_of: u32)
+    ensures { Emits out.old out.new (constant_given (view_layout layout.now) word out_of) }
 {
     let all = [
         Simple::I64Const(word),
         Simple::LocalSet(layout.bases.answer()),
         Simple::Br(out_of),
     ];
-    does_all(out, &all)
+    does_all(out, &all);
 }
 
 /// Gives the number of a local as the answer.
-fn local_given(
-    layout: &FunctionLayout<'_>,
-    out: &mut Vec<Instr>,
-    local: u32,
-    exit: u32,
-) -> Result<(), AllocError>
+fn local_given(layout: &FunctionLayout<'_>, out: &mut Emitted, local: u32, exit: u32)
     requires { exit ≤ most_labels }
-    ensures { OnOk result
-        (Emits out.old.items out.new.items (local_given (view_layout layout.now) local exit)) }
+    ensures { Emits out.old out.new (local_given (view_layout layout.now) local exit) }
 {
     let all = [
         Simple::LocalGet(local),
         Simple::LocalSet(layout.bases.answer()),
         Simple::Br(exit + 1),
     ];
-    does_all(out, &all)
+    does_all(out, &all);
 }
 
 /// Gives the number of the first temporary as the answer.
-fn word_given(
-    layout: &FunctionLayout<'_>,
-    out: &mut Vec<Instr>,
-    exit: u32,
-) -> Result<(), AllocError>
+fn word_given(layout: &FunctionLayout<'_>, out: &mut Emitted, exit: u32)
     requires { exit ≤ most_labels }
-    ensures { OnOk result
-        (Emits out.old.items out.new.items (word_given (view_layout layout.now) exit)) }
+    ensures { Emits out.old out.new (word_given (view_layout layout.now) exit) }
 {
-    local_given(layout, out, layout.bases.number(0), exit)
+    local_given(layout, out, layout.bases.number(0), exit);
 }
 
 /// Moves the text of the first temporary to where it waits.
-fn text_given(layout: &FunctionLayout<'_>, out: &mut Vec<Instr>) -> Result<(), AllocError>
-    ensures { OnOk result
-        (Emits out.old.items out.new.items (text_given (view_layout layout.now))) }
+fn text_given(layout: &FunctionLayout<'_>, out: &mut Emitted)
+    ensures { Emits out.old out.new (text_given (view_layout layout.now)) }
 {
-    moved_out(out, layout.bases.handle(0))?;
-    does(out, Simple::GlobalSet(TEXT_GLOBAL))
+    moved_out(out, layout.bases.handle(0));
+    does(out, Simple::GlobalSet(TEXT_GLOBAL));
 }
 
 /// Gives what may be a number, nothing or a text.
-fn bare_given(
-    layout: &FunctionLayout<'_>,
-    out: &mut Vec<Instr>,
-    exit: u32,
-) -> Result<(), AllocError>
+fn bare_given(layout: &FunctionLayout<'_>, out: &mut Emitted, exit: u32)
     requires { exit ≤ most_labels }
-    ensures { OnOk result
-        (Emits out.old.items out.new.items (answer_given (view_layout layout.now) Bare exit)) }
+    ensures { Emits out.old out.new (answer_given (view_layout layout.now) Bare exit) }
 {
-    number_is(out, layout.bases.number(0), TEXT_BESIDE)?;
-    let mut text = Vec::new(layout.alloc);
-    text_given(layout, &mut text)?;
-    when(layout.alloc, out, text)?;
-    word_given(layout, out, exit)
+    number_is(out, layout.bases.number(0), TEXT_BESIDE);
+    let mut text = Emitted::new(layout.alloc);
+    text_given(layout, &mut text);
+    when(layout.alloc, out, text);
+    word_given(layout, out, exit);
 }
 
 /// Gives what the first temporary has as the answer.
-fn answer_given(
-    layout: &FunctionLayout<'_>,
-    out: &mut Vec<Instr>,
-    form: Form,
-    exit: u32,
-) -> Result<(), AllocError>
+fn answer_given(layout: &FunctionLayout<'_>, out: &mut Emitted, form: Form, exit: u32)
     requires { exit ≤ most_labels }
-    ensures { OnOk result (Emits out.old.items out.new.items
-        (answer_given (view_layout layout.now) (view_form form) exit)) }
+    ensures { Emits out.old out.new
+        (answer_given (view_layout layout.now) (view_form form) exit) }
 {
     match form {
         Form::Answered(Answer::Of(Sort::Value)) => {
-            text_given(layout, out)?;
-            constant_given(layout, out, TEXT_BESIDE, exit + 1)
+            text_given(layout, out);
+            constant_given(layout, out, TEXT_BESIDE, exit + 1);
         }
         Form::Bare => bare_given(layout, out, exit),
         Form::Perhaps | Form::Answered(Answer::Of(Sort::Number) | Answer::Truth) => {
-            word_given(layout, out, exit)
+            word_given(layout, out, exit);
         }
         Form::Answered(_) => constant_given(layout, out, LEAST, exit + 1),
     }
@@ -156,102 +127,92 @@ fn parameter_in(code: &Code) -> Option<usize>
 #[cycle(returned)]
 fn quickly_returned(
     layout: &FunctionLayout<'_>,
-    out: &mut Vec<Instr>,
+    out: &mut Emitted,
     test: &Code,
     yes: &Code,
     no: &Code,
     exit: u32,
-) -> Result<(), AllocError>
+)
     requires labels { suc (suc exit) ≤ most_labels }
     requires test { TestFits (view_layout layout.now) (view test.now) (suc exit) }
     requires yes { ReturnFits (view_layout layout.now) (view yes.now) (suc exit) }
     requires no { ReturnFits (view_layout layout.now) (view no.now) exit }
-    ensures { OnOk result (Emits out.old.items out.new.items (quickly_returned
-        (view_layout layout.now) (view test.now) (view yes.now) (view no.now) exit)) }
+    ensures { Emits out.old out.new (quickly_returned
+        (view_layout layout.now) (view test.now) (view yes.now) (view no.now) exit) }
 {
-    let mut so = Vec::new(layout.alloc);
-    left_unless_pair(layout, &mut so, test, exit + 1, 0)?;
-    returned(layout, &mut so, yes, exit + 1)?;
-    block(layout.alloc, out, so)?;
-    returned(layout, out, no, exit)
+    let mut so = Emitted::new(layout.alloc);
+    left_unless_pair(layout, &mut so, test, exit + 1, 0);
+    returned(layout, &mut so, yes, exit + 1);
+    block(layout.alloc, out, so);
+    returned(layout, out, no, exit);
 }
 
 /// Returns one of two, by an `if`.
 #[cycle(returned)]
 fn either_returned(
     layout: &FunctionLayout<'_>,
-    out: &mut Vec<Instr>,
+    out: &mut Emitted,
     test: &Code,
     yes: &Code,
     no: &Code,
     exit: u32,
-) -> Result<(), AllocError>
+)
     requires labels { suc exit ≤ most_labels }
     requires test { Fits (view_layout layout.now) (view test.now) 0 0 exit }
     requires yes { ReturnFits (view_layout layout.now) (view yes.now) (suc exit) }
     requires no { ReturnFits (view_layout layout.now) (view no.now) (suc exit) }
-    ensures { OnOk result (Emits out.old.items out.new.items (either_returned
-        (view_layout layout.now) (view test.now) (view yes.now) (view no.now) exit)) }
+    ensures { Emits out.old out.new (either_returned
+        (view_layout layout.now) (view test.now) (view yes.now) (view no.now) exit) }
 {
-    tested(layout, out, test, exit)?;
-    let mut so = Vec::new(layout.alloc);
-    returned(layout, &mut so, yes, exit + 1)?;
-    let mut otherwise = Vec::new(layout.alloc);
-    returned(layout, &mut otherwise, no, exit + 1)?;
-    either(layout.alloc, out, so, otherwise)
+    tested(layout, out, test, exit);
+    let mut so = Emitted::new(layout.alloc);
+    returned(layout, &mut so, yes, exit + 1);
+    let mut otherwise = Emitted::new(layout.alloc);
+    returned(layout, &mut otherwise, no, exit + 1);
+    either(layout.alloc, out, so, otherwise);
 }
 
 /// Returns one of two.
 #[cycle(returned)]
 fn chosen_returned(
     layout: &FunctionLayout<'_>,
-    out: &mut Vec<Instr>,
+    out: &mut Emitted,
     test: &Code,
     yes: &Code,
     no: &Code,
     exit: u32,
-) -> Result<(), AllocError>
+)
     requires { ReturnFits (view_layout layout.now)
         (plain.Choose Value (view test.now) (view yes.now) (view no.now)) exit }
-    ensures { OnOk result (Emits out.old.items out.new.items (returned (view_layout layout.now)
-        (plain.Choose Value (view test.now) (view yes.now) (view no.now)) exit)) }
+    ensures { Emits out.old out.new (returned (view_layout layout.now)
+        (plain.Choose Value (view test.now) (view yes.now) (view no.now)) exit) }
 {
     if pair_in(test).is_some() {
-        quickly_returned(layout, out, test, yes, no, exit)
+        quickly_returned(layout, out, test, yes, no, exit);
     } else {
-        either_returned(layout, out, test, yes, no, exit)
+        either_returned(layout, out, test, yes, no, exit);
     }
 }
 
 /// Returns what comes to the first temporary.
-fn plainly_returned(
-    layout: &FunctionLayout<'_>,
-    out: &mut Vec<Instr>,
-    code: &Code,
-    exit: u32,
-) -> Result<(), AllocError>
+fn plainly_returned(layout: &FunctionLayout<'_>, out: &mut Emitted, code: &Code, exit: u32)
     requires fit { Fits (view_layout layout.now) (view code.now) 0 0 exit }
     requires labels { exit ≤ most_labels }
-    ensures { OnOk result (Emits out.old.items out.new.items
+    ensures { Emits out.old out.new
         (λ after. emitted (view_layout layout.now) false [] [] (view code.now) 0 0 exit
-        (answer_given (view_layout layout.now) (form_of [] (view code.now)) exit after))) }
+        (answer_given (view_layout layout.now) (form_of [] (view code.now)) exit after)) }
 {
-    let form = answered(layout, out, code, exit)?;
-    answer_given(layout, out, form, exit)
+    let form = answered(layout, out, code, exit);
+    answer_given(layout, out, form, exit);
 }
 
 /// Adds `return`: what is chosen is returned where it is chosen, and the number of an unboxed
 /// parameter from where it is.
 #[cycle(returned)]
-pub(crate) fn returned(
-    layout: &FunctionLayout<'_>,
-    out: &mut Vec<Instr>,
-    code: &Code,
-    exit: u32,
-) -> Result<(), AllocError>
+pub(crate) fn returned(layout: &FunctionLayout<'_>, out: &mut Emitted, code: &Code, exit: u32)
     requires { ReturnFits (view_layout layout.now) (view code.now) exit }
-    ensures { OnOk result (Emits out.old.items out.new.items
-        (returned (view_layout layout.now) (view code.now) exit)) }
+    ensures { Emits out.old out.new
+        (returned (view_layout layout.now) (view code.now) exit) }
 {
     match choice_in(code) {
         Some((test, yes, no)) => chosen_returned(layout, out, test, yes, no, exit),

@@ -1,5 +1,5 @@
 //! Sums in all cases: a name's number may not be there yet, or be that of the text beside it.
-ghost use Rattle.std.specs.Prelude.{◌≤◌, None, OnOk, suc};
+ghost use Rattle.std.specs.Prelude.{◌≤◌, None, suc};
 ghost use Rattle.mid_program.specs.ViewCode.{view};
 ghost use Rattle.lower_model.specs.Quick.{OfName, sum_op};
 ghost use Rattle.lower_model.specs.Statements.{holder_cleared, name_numbered, number_found, number_there, source_numbered, source_taken, sum_kept, sum_taken, summed_anyway, both_asked, updated};
@@ -14,82 +14,81 @@ ghost use Rattle.lowering.specs.Parts.{field_asked};
 ghost use Rattle.lowering.specs.QuickFits.{SumFits};
 
 use crate::evaluating::answered;
-use crate::lists::{call_of, listed};
 use crate::quick::name_put;
 use awk_text::MAX_NUMBER;
 use awk_values::Fault;
 use lower_expressions::{FunctionLayout, field_at, global_handle, name_read, sum_op, text_dropped};
 use lower_pieces::{
-    Form, TEXT_BESIDE, copied_by, does, does_all, either, fail_if, number_is, to_number, when,
+    Emitted, Form, TEXT_BESIDE, code_of, copied_by, does, does_all, either, fail_if, number_is,
+    row_call, to_number, when,
 };
 use lower_quick::{Holder, Source, Sum, Update};
 use sem_primitives::{Answer, Primitive, Sort};
-use std::alloc::AllocError;
-use wasm_types::{IBinOp, IRelOp, Instr, Simple, ValType};
+use wasm_types::{IBinOp, IRelOp, Simple, ValType};
 
 /// Makes a number of the text beside a name, from within two labels more.
 fn number_there(
     layout: &FunctionLayout<'_>,
-    out: &mut Vec<Instr>,
+    out: &mut Emitted,
     name: usize,
     temporary: u32,
     exit: u32,
-) -> Result<(), AllocError>
+)
     requires name { name ≤ most_places }
     requires places { temporary ≤ most_places }
     requires labels { suc (suc exit) ≤ most_labels }
-    ensures { OnOk result (Emits out.old.items out.new.items
-        (number_there (view_layout layout.now) name temporary (suc (suc exit)))) }
+    ensures { Emits out.old out.new
+        (number_there (view_layout layout.now) name temporary (suc (suc exit))) }
 {
     let global = global_handle(layout, name);
     let (get, set) = (Simple::GlobalGet(global), Simple::GlobalSet(global));
-    copied_by(out, get, set, layout.bases.handle(temporary))?;
+    copied_by(out, get, set, layout.bases.handle(temporary));
     let value = Form::Answered(Answer::Of(Sort::Value));
-    to_number(layout.alloc, layout.bases, out, value, temporary, exit + 2)
+    to_number(layout.alloc, layout.bases, out, value, temporary, exit + 2);
 }
 
 /// Makes a number of what a name has that has none, from within one label more: what is no number yet is 0.
 fn name_found(
     layout: &FunctionLayout<'_>,
-    out: &mut Vec<Instr>,
+    out: &mut Emitted,
     name: usize,
     temporary: u32,
     exit: u32,
-) -> Result<(), AllocError>
+)
     requires name { name ≤ most_places }
     requires places { temporary ≤ most_places }
     requires labels { suc (suc exit) ≤ most_labels }
-    ensures { OnOk result (Emits out.old.items out.new.items
-        (number_found (view_layout layout.now) (OfName name) temporary exit)) }
+    ensures { Emits out.old out.new
+        (number_found (view_layout layout.now) (OfName name) temporary exit) }
 {
     let local = layout.bases.number(temporary);
-    number_is(out, local, TEXT_BESIDE)?;
-    let mut some = Vec::new(layout.alloc);
-    number_there(layout, &mut some, name, temporary, exit)?;
+    number_is(out, local, TEXT_BESIDE);
+    let mut some = Emitted::new(layout.alloc);
+    number_there(layout, &mut some, name, temporary, exit);
     let zero = [Simple::I64Const(0), Simple::LocalSet(local)];
-    let none = listed(layout.alloc, &zero)?;
-    either(layout.alloc, out, some, none)
+    let none = code_of(layout.alloc, &zero);
+    either(layout.alloc, out, some, none);
 }
 
 /// The same of a parameter too, beside which no text stands.
 fn number_found(
     layout: &FunctionLayout<'_>,
-    out: &mut Vec<Instr>,
+    out: &mut Emitted,
     name: Holder,
     temporary: u32,
     exit: u32,
-) -> Result<(), AllocError>
+)
     requires name { HolderFits (view_holder name) }
     requires places { temporary ≤ most_places }
     requires labels { suc (suc exit) ≤ most_labels }
-    ensures { OnOk result (Emits out.old.items out.new.items
-        (number_found (view_layout layout.now) (view_holder name) temporary exit)) }
+    ensures { Emits out.old out.new
+        (number_found (view_layout layout.now) (view_holder name) temporary exit) }
 {
     match name {
         Holder::Name(name) => name_found(layout, out, name, temporary, exit),
         Holder::Parameter(_) => {
             let local = layout.bases.number(temporary);
-            does_all(out, &[Simple::I64Const(0), Simple::LocalSet(local)])
+            does_all(out, &[Simple::I64Const(0), Simple::LocalSet(local)]);
         }
     }
 }
@@ -97,16 +96,16 @@ fn number_found(
 /// Puts a name's number into a temporary.
 fn name_numbered(
     layout: &FunctionLayout<'_>,
-    out: &mut Vec<Instr>,
+    out: &mut Emitted,
     name: Holder,
     temporary: u32,
     exit: u32,
-) -> Result<(), AllocError>
+)
     requires name { HolderFits (view_holder name) }
     requires places { temporary ≤ most_places }
     requires labels { suc (suc exit) ≤ most_labels }
-    ensures { OnOk result (Emits out.old.items out.new.items
-        (name_numbered (view_layout layout.now) (view_holder name) temporary exit)) }
+    ensures { Emits out.old out.new
+        (name_numbered (view_layout layout.now) (view_holder name) temporary exit) }
 {
     let all = [
         name_read(layout, name),
@@ -114,42 +113,37 @@ fn name_numbered(
         Simple::I64Const(TEXT_BESIDE),
         Simple::Compare(ValType::I64, IRelOp::LeS),
     ];
-    does_all(out, &all)?;
-    let mut code = Vec::new(layout.alloc);
-    number_found(layout, &mut code, name, temporary, exit)?;
-    when(layout.alloc, out, code)
+    does_all(out, &all);
+    let mut code = Emitted::new(layout.alloc);
+    number_found(layout, &mut code, name, temporary, exit);
+    when(layout.alloc, out, code);
 }
 
 /// The same of a source: a constant needs no temporary.
 fn source_numbered(
     layout: &FunctionLayout<'_>,
-    out: &mut Vec<Instr>,
+    out: &mut Emitted,
     source: Source,
     temporary: u32,
     exit: u32,
-) -> Result<(), AllocError>
+)
     requires fits { SourceFits (view_source source) }
     requires places { temporary ≤ most_places }
     requires labels { suc (suc exit) ≤ most_labels }
-    ensures { OnOk result (Emits out.old.items out.new.items
-        (source_numbered (view_layout layout.now) (view_source source) temporary exit)) }
+    ensures { Emits out.old out.new
+        (source_numbered (view_layout layout.now) (view_source source) temporary exit) }
 {
     match source {
         Source::Held(name) => name_numbered(layout, out, name, temporary, exit),
-        Source::Constant(_) => Ok(()),
+        Source::Constant(_) => {}
     }
 }
 
 /// Puts a source's number on the stack.
-fn source_taken(
-    layout: &FunctionLayout<'_>,
-    out: &mut Vec<Instr>,
-    source: Source,
-    temporary: u32,
-) -> Result<(), AllocError>
+fn source_taken(layout: &FunctionLayout<'_>, out: &mut Emitted, source: Source, temporary: u32)
     requires places { temporary ≤ most_places }
-    ensures { OnOk result (Emits out.old.items out.new.items
-        (source_taken (view_layout layout.now) (view_source source) temporary)) }
+    ensures { Emits out.old out.new
+        (source_taken (view_layout layout.now) (view_source source) temporary) }
 {
     match source {
         Source::Held(_) => does(out, Simple::LocalGet(layout.bases.number(temporary))),
@@ -160,15 +154,14 @@ fn source_taken(
 /// Puts what an operator gives of two numbers on the stack into a temporary, and tests it.
 pub(crate) fn sum_kept(
     layout: &FunctionLayout<'_>,
-    out: &mut Vec<Instr>,
+    out: &mut Emitted,
     op: IBinOp,
     temporary: u32,
     exit: u32,
-) -> Result<(), AllocError>
+)
     requires places { temporary ≤ most_places }
     requires labels { exit ≤ most_labels }
-    ensures { OnOk result
-        (Emits out.old.items out.new.items (sum_kept (view_layout layout.now) op temporary exit)) }
+    ensures { Emits out.old out.new (sum_kept (view_layout layout.now) op temporary exit) }
 {
     let all = [
         Simple::Binary(ValType::I64, op),
@@ -178,125 +171,94 @@ pub(crate) fn sum_kept(
         Simple::I64Const(1 << 54),
         Simple::Compare(ValType::I64, IRelOp::GtU),
     ];
-    does_all(out, &all)?;
-    fail_if(layout.alloc, out, Fault::Range, exit)
+    does_all(out, &all);
+    fail_if(layout.alloc, out, Fault::Range, exit);
 }
 
 /// Drops the text beside a name, if there is one. None stands beside a parameter.
-fn holder_cleared(
-    layout: &FunctionLayout<'_>,
-    out: &mut Vec<Instr>,
-    name: Holder,
-) -> Result<(), AllocError>
+fn holder_cleared(layout: &FunctionLayout<'_>, out: &mut Emitted, name: Holder)
     requires { HolderFits (view_holder name) }
-    ensures { OnOk result (Emits out.old.items out.new.items
-        (holder_cleared (view_layout layout.now) (view_holder name))) }
+    ensures { Emits out.old out.new
+        (holder_cleared (view_layout layout.now) (view_holder name)) }
 {
     match name {
         Holder::Name(name) => text_dropped(layout, out, name),
-        Holder::Parameter(_) => Ok(()),
+        Holder::Parameter(_) => {}
     }
 }
 
 /// A name takes what an operator gives of two numbers on the stack.
-fn sum_taken(
-    layout: &FunctionLayout<'_>,
-    out: &mut Vec<Instr>,
-    op: IBinOp,
-    name: Holder,
-    exit: u32,
-) -> Result<(), AllocError>
+fn sum_taken(layout: &FunctionLayout<'_>, out: &mut Emitted, op: IBinOp, name: Holder, exit: u32)
     requires name { HolderFits (view_holder name) }
     requires labels { exit ≤ most_labels }
-    ensures { OnOk result (Emits out.old.items out.new.items
-        (sum_taken (view_layout layout.now) op (view_holder name) 0 exit)) }
+    ensures { Emits out.old out.new
+        (sum_taken (view_layout layout.now) op (view_holder name) 0 exit) }
 {
-    sum_kept(layout, out, op, 0, exit)?;
-    holder_cleared(layout, out, name)?;
+    sum_kept(layout, out, op, 0, exit);
+    holder_cleared(layout, out, name);
     let all = [
         Simple::LocalGet(layout.bases.number(0)),
         name_put(layout, name),
     ];
-    does_all(out, &all)
+    does_all(out, &all);
 }
 
 /// Adds a sum of sources.
-pub(crate) fn summed_anyway(
-    layout: &FunctionLayout<'_>,
-    out: &mut Vec<Instr>,
-    sum: Sum,
-    exit: u32,
-) -> Result<(), AllocError>
+pub(crate) fn summed_anyway(layout: &FunctionLayout<'_>, out: &mut Emitted, sum: Sum, exit: u32)
     requires sum { SumFits (view_sum sum) }
     requires labels { suc (suc exit) ≤ most_labels }
-    ensures { OnOk result (Emits out.old.items out.new.items
-        (summed_anyway (view_layout layout.now) (view_sum sum) exit)) }
+    ensures { Emits out.old out.new
+        (summed_anyway (view_layout layout.now) (view_sum sum) exit) }
 {
-    source_numbered(layout, out, sum.left, 0, exit)?;
-    source_numbered(layout, out, sum.right, 1, exit)?;
-    source_taken(layout, out, sum.left, 0)?;
-    source_taken(layout, out, sum.right, 1)?;
-    sum_taken(layout, out, sum_op(sum.op), sum.target, exit)
+    source_numbered(layout, out, sum.left, 0, exit);
+    source_numbered(layout, out, sum.right, 1, exit);
+    source_taken(layout, out, sum.left, 0);
+    source_taken(layout, out, sum.right, 1);
+    sum_taken(layout, out, sum_op(sum.op), sum.target, exit);
 }
 
 /// Asks for the number of a name, and for that of the field with this number; both are put on the stack.
-fn field_asked(
-    layout: &FunctionLayout<'_>,
-    out: &mut Vec<Instr>,
-    name: Holder,
-    number: i64,
-    exit: u32,
-) -> Result<(), AllocError>
+fn field_asked(layout: &FunctionLayout<'_>, out: &mut Emitted, name: Holder, number: i64, exit: u32)
     requires name { HolderFits (view_holder name) }
     requires labels { suc (suc exit) ≤ most_labels }
-    ensures { OnOk result (Emits out.old.items out.new.items
-        (field_asked (view_layout layout.now) (view_holder name) number exit)) }
+    ensures { Emits out.old out.new
+        (field_asked (view_layout layout.now) (view_holder name) number exit) }
 {
-    name_numbered(layout, out, name, 0, exit)?;
+    name_numbered(layout, out, name, 0, exit);
     let all = [
         Simple::LocalGet(layout.bases.number(0)),
         Simple::I64Const(number.cast_unsigned()),
-        call_of(Primitive::Field),
-        call_of(Primitive::ToNum),
+        row_call(Primitive::Field),
+        row_call(Primitive::ToNum),
     ];
-    does_all(out, &all)
+    does_all(out, &all);
 }
 
 /// Evaluates what is added to a name, and asks for both numbers, that of the name first; both are put on the stack.
-fn added_asked(
-    layout: &FunctionLayout<'_>,
-    out: &mut Vec<Instr>,
-    update: Update<'_>,
-    exit: u32,
-) -> Result<(), AllocError>
+fn added_asked(layout: &FunctionLayout<'_>, out: &mut Emitted, update: Update<'_>, exit: u32)
     requires name { HolderFits (view_holder update.name) }
     requires fit { Fits (view_layout layout.now) (view update.added.now) 0 0 exit }
     requires labels { suc (suc exit) ≤ most_labels }
-    ensures { OnOk result (Emits out.old.items out.new.items
-        (both_asked (view_layout layout.now) None (view_update update.entry) exit)) }
+    ensures { Emits out.old out.new
+        (both_asked (view_layout layout.now) None (view_update update.entry) exit) }
 {
-    let form = answered(layout, out, update.added, exit)?;
-    name_numbered(layout, out, update.name, 1, exit)?;
-    to_number(layout.alloc, layout.bases, out, form, 0, exit)?;
+    let form = answered(layout, out, update.added, exit);
+    name_numbered(layout, out, update.name, 1, exit);
+    to_number(layout.alloc, layout.bases, out, form, 0, exit);
     let all = [
         Simple::LocalGet(layout.bases.number(1)),
         Simple::LocalGet(layout.bases.number(0)),
     ];
-    does_all(out, &all)
+    does_all(out, &all);
 }
 
 /// Puts the number of a name and that of what is added on the stack.
-fn both_asked(
-    layout: &FunctionLayout<'_>,
-    out: &mut Vec<Instr>,
-    update: Update<'_>,
-    exit: u32,
-) -> Result<(), AllocError>
+fn both_asked(layout: &FunctionLayout<'_>, out: &mut Emitted, update: Update<'_>, exit: u32)
     requires name { HolderFits (view_holder update.name) }
     requires fit { Fits (view_layout layout.now) (view update.added.now) 0 0 exit }
     requires labels { suc (suc exit) ≤ most_labels }
-    ensures { OnOk result (Emits out.old.items out.new.items (both_asked (view_layout layout.now)
-        (field_at (view update.entry.added.now)) (view_update update.entry) exit)) }
+    ensures { Emits out.old out.new (both_asked (view_layout layout.now)
+        (field_at (view update.entry.added.now)) (view_update update.entry) exit) }
 {
     match field_at(update.added) {
         Some(number) => field_asked(layout, out, update.name, number, exit),
@@ -305,19 +267,14 @@ fn both_asked(
 }
 
 /// Adds a sum of a name and what is evaluated first.
-pub(crate) fn updated(
-    layout: &FunctionLayout<'_>,
-    out: &mut Vec<Instr>,
-    update: Update<'_>,
-    exit: u32,
-) -> Result<(), AllocError>
+pub(crate) fn updated(layout: &FunctionLayout<'_>, out: &mut Emitted, update: Update<'_>, exit: u32)
     requires target { HolderFits (view_holder update.target) }
     requires name { HolderFits (view_holder update.name) }
     requires fit { Fits (view_layout layout.now) (view update.added.now) 0 0 exit }
     requires labels { suc (suc exit) ≤ most_labels }
-    ensures { OnOk result (Emits out.old.items out.new.items
-        (updated (view_layout layout.now) (view_update update.entry) exit)) }
+    ensures { Emits out.old out.new
+        (updated (view_layout layout.now) (view_update update.entry) exit) }
 {
-    both_asked(layout, out, update, exit)?;
-    sum_taken(layout, out, sum_op(update.op), update.target, exit)
+    both_asked(layout, out, update, exit);
+    sum_taken(layout, out, sum_op(update.op), update.target, exit);
 }

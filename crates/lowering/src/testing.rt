@@ -1,11 +1,10 @@
 //! Tests of loops and of choices: where one does not hold, code is left to a label.
-ghost use Rattle.std.specs.Prelude.{[], ◌≤◌, IfOk, OnOk, suc};
-ghost use Rattle.wasm_types.specs.Syntax.{Done};
+ghost use Rattle.std.specs.Prelude.{◌≤◌, suc};
 ghost use Rattle.mid_program.specs.ViewCode.{view};
 ghost use Rattle.lower_model.specs.Quick.{pair_in, test_within};
 ghost use Rattle.lower_model.specs.Statements.{left_unless, left_unless_pair};
 ghost use Rattle.lower_pieces.specs.Bounds.{most_labels};
-ghost use Rattle.lower_pieces.specs.Emits.{Emits};
+ghost use Rattle.lower_pieces.specs.Emits.{Emits, Holds};
 ghost use Rattle.lower_expressions.specs.Fits.{Fits};
 ghost use Rattle.lower_expressions.specs.Sources.{HolderFits};
 ghost use Rattle.lower_expressions.specs.View.{view_layout};
@@ -15,116 +14,104 @@ ghost use Rattle.lowering.specs.QuickFits.{PairFits};
 ghost use Rattle.lowering.specs.StepFits.{TestFits};
 
 use crate::evaluating::tested;
-use crate::quick::{counted_code, pair_code, unnumbered, unsure};
+use crate::quick::{counted_code, names_unsure, pair_code, unnumbered, unsure};
 use awk_text::MAX_NUMBER;
-use lower_expressions::{FunctionLayout, all_unsure};
-use lower_pieces::{does_all, either, when};
+use lower_expressions::FunctionLayout;
+use lower_pieces::{Emitted, does_all, either, when};
 use lower_quick::{Counted, Pair, Within, counted_in, pair_in, pair_names, test_within};
 use mid_program::Code;
-use std::alloc::AllocError;
-use wasm_types::{ITestOp, Instr, Simple, ValType};
+use wasm_types::{ITestOp, Simple, ValType};
 
 /// Adds a test in all cases, and leaves to a label where it does not hold.
-fn test_left(
-    layout: &FunctionLayout<'_>,
-    out: &mut Vec<Instr>,
-    test: &Code,
-    exit: u32,
-    label: u32,
-) -> Result<(), AllocError>
+fn test_left(layout: &FunctionLayout<'_>, out: &mut Emitted, test: &Code, exit: u32, label: u32)
     requires { Fits (view_layout layout.now) (view test.now) 0 0 exit }
-    ensures { OnOk result (Emits out.old.items out.new.items
-        (test_left (view_layout layout.now) (view test.now) exit label)) }
+    ensures { Emits out.old out.new
+        (test_left (view_layout layout.now) (view test.now) exit label) }
 {
-    tested(layout, out, test, exit)?;
+    tested(layout, out, test, exit);
     let all = [
         Simple::Test(ValType::I32, ITestOp::Eqz),
         Simple::BrIf(label),
     ];
-    does_all(out, &all)
+    does_all(out, &all);
 }
 
 /// The same in a list of its own, from within one label more.
-fn test_code(
-    layout: &FunctionLayout<'_>,
-    test: &Code,
-    exit: u32,
-    label: u32,
-) -> Result<Vec<Instr>, AllocError>
+fn test_code(layout: &FunctionLayout<'_>, test: &Code, exit: u32, label: u32) -> Emitted
     requires labels { suc exit ≤ most_labels }
     requires label { label ≤ exit }
     requires fit { Fits (view_layout layout.now) (view test.now) 0 0 (suc exit) }
-    ensures { IfOk result (λ code. Emits [] code.items
-        (test_left (view_layout layout.now) (view test.now) (suc exit) (suc label))) }
+    ensures { Holds result
+        (test_left (view_layout layout.now) (view test.now) (suc exit) (suc label)) }
 {
-    let mut code = Vec::new(layout.alloc);
-    test_left(layout, &mut code, test, exit + 1, label + 1)?;
-    Ok(code)
+    let mut code = Emitted::new(layout.alloc);
+    test_left(layout, &mut code, test, exit + 1, label + 1);
+    code
 }
 
 /// Adds a comparison of sources: by the module itself where their numbers are in range.
 fn pair_tested(
     layout: &FunctionLayout<'_>,
-    out: &mut Vec<Instr>,
+    out: &mut Emitted,
     pair: Pair,
     test: &Code,
     exit: u32,
     label: u32,
-) -> Result<(), AllocError>
+)
     requires labels { suc exit ≤ most_labels }
     requires label { label ≤ exit }
     requires pair { PairFits (view_pair pair) }
     requires fit { Fits (view_layout layout.now) (view test.now) 0 0 (suc exit) }
-    ensures { OnOk result (Emits out.old.items out.new.items
-        (pair_tested (view_layout layout.now) (view_pair pair) (view test.now) exit label)) }
+    ensures { Emits out.old out.new
+        (pair_tested (view_layout layout.now) (view_pair pair) (view test.now) exit label) }
 {
-    all_unsure(
+    names_unsure(
         layout,
         out,
-        &pair_names(layout.alloc, pair)?,
+        pair_names(layout.alloc, pair),
         MAX_NUMBER,
         1 << 54,
-    )?;
-    let all_cases = test_code(layout, test, exit, label)?;
-    let quick = pair_code(layout, pair, label)?;
-    either(layout.alloc, out, all_cases, quick)
+    );
+    let all_cases = test_code(layout, test, exit, label);
+    let quick = pair_code(layout, pair, label);
+    either(layout.alloc, out, all_cases, quick);
 }
 
 /// Adds a comparison of a name with how many fields there are: of two numbers where the name has one.
 fn counted_tested(
     layout: &FunctionLayout<'_>,
-    out: &mut Vec<Instr>,
+    out: &mut Emitted,
     counted: Counted,
     test: &Code,
     exit: u32,
     label: u32,
-) -> Result<(), AllocError>
+)
     requires labels { suc exit ≤ most_labels }
     requires label { label ≤ exit }
     requires name { HolderFits (view_holder counted.name) }
     requires fit { Fits (view_layout layout.now) (view test.now) 0 0 (suc exit) }
-    ensures { OnOk result (Emits out.old.items out.new.items (counted_tested
-        (view_layout layout.now) (view_counted counted) (view test.now) exit label)) }
+    ensures { Emits out.old out.new (counted_tested
+        (view_layout layout.now) (view_counted counted) (view test.now) exit label) }
 {
-    unnumbered(layout, out, counted.name)?;
-    let all_cases = test_code(layout, test, exit, label)?;
-    let quick = counted_code(layout, counted, label)?;
-    either(layout.alloc, out, all_cases, quick)
+    unnumbered(layout, out, counted.name);
+    let all_cases = test_code(layout, test, exit, label);
+    let quick = counted_code(layout, counted, label);
+    either(layout.alloc, out, all_cases, quick);
 }
 
 /// Adds a test that may compare sources, or a name with how many fields there are, and leaves to a label where it does not hold.
 pub(crate) fn left_unless_pair(
     layout: &FunctionLayout<'_>,
-    out: &mut Vec<Instr>,
+    out: &mut Emitted,
     test: &Code,
     exit: u32,
     label: u32,
-) -> Result<(), AllocError>
+)
     requires labels { suc exit ≤ most_labels }
     requires label { label ≤ exit }
     requires fit { TestFits (view_layout layout.now) (view test.now) exit }
-    ensures { OnOk result (Emits out.old.items out.new.items (left_unless_pair
-        (view_layout layout.now) (pair_in (view test.now)) (view test.now) exit label)) }
+    ensures { Emits out.old out.new (left_unless_pair
+        (view_layout layout.now) (pair_in (view test.now)) (view test.now) exit label) }
 {
     if let Some(pair) = pair_in(test) {
         return pair_tested(layout, out, pair, test, exit, label);
@@ -138,37 +125,37 @@ pub(crate) fn left_unless_pair(
 /// Adds a test that holds of some numbers of a name.
 fn within_tested(
     layout: &FunctionLayout<'_>,
-    out: &mut Vec<Instr>,
+    out: &mut Emitted,
     within: Within,
     test: &Code,
     exit: u32,
     label: u32,
-) -> Result<(), AllocError>
+)
     requires labels { suc exit ≤ most_labels }
     requires label { label ≤ exit }
     requires name { HolderFits (view_holder within.name) }
     requires fit { Fits (view_layout layout.now) (view test.now) 0 0 (suc exit) }
-    ensures { OnOk result (Emits out.old.items out.new.items
-        (within_tested (view_layout layout.now) (view_within within) (view test.now) exit label)) }
+    ensures { Emits out.old out.new
+        (within_tested (view_layout layout.now) (view_within within) (view test.now) exit label) }
 {
-    unsure(layout, out, within)?;
-    let all_cases = test_code(layout, test, exit, label)?;
-    when(layout.alloc, out, all_cases)
+    unsure(layout, out, within);
+    let all_cases = test_code(layout, test, exit, label);
+    when(layout.alloc, out, all_cases);
 }
 
 /// Adds a test, and leaves to a label where it does not hold.
 pub(crate) fn left_unless(
     layout: &FunctionLayout<'_>,
-    out: &mut Vec<Instr>,
+    out: &mut Emitted,
     test: &Code,
     exit: u32,
     label: u32,
-) -> Result<(), AllocError>
+)
     requires labels { suc exit ≤ most_labels }
     requires label { label ≤ exit }
     requires fit { TestFits (view_layout layout.now) (view test.now) exit }
-    ensures { OnOk result (Emits out.old.items out.new.items (left_unless (view_layout layout.now)
-        (test_within (view test.now)) (view test.now) exit label)) }
+    ensures { Emits out.old out.new (left_unless (view_layout layout.now)
+        (test_within (view test.now)) (view test.now) exit label) }
 {
     match test_within(test) {
         Some(within) => within_tested(layout, out, within, test, exit, label),

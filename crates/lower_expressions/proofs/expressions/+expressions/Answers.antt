@@ -1,25 +1,25 @@
-use Rattle.std.proofs.Common.{rules, ◌≡◌, ℕ, suc, ◌+◌, false, List, [], ◌∷◌, ◌++◌, length, map, OnOk, refl, sym, ap, ◌∙◌, subst, arith, length-append}
+use Rattle.std.proofs.Common.{rules, ◌≡◌, ℕ, suc, ◌+◌, false, List, [], ◌∷◌, ◌++◌, length, map, sym, ap, ◌∙◌, subst, arith, length-append}
 use Rattle.std.proofs.lemmas.Int.{to_z-of_z}
 use Rattle.std.proofs.lemmas.List.{length-map, map-append}
 use Rattle.std.proofs.lemmas.Result.{IfOk-weaker, on_ok_weaker}
 use Rattle.std.specs.Int.{w64}
 use Rattle.std.specs.Prelude.{FitsSigned}
 use Rattle.std.specs.Option.{option_map}
-use Rattle.sem_primitives.specs.declared.table.Primitive.TheVariants as row
+use Rattle.wasm_types.specs.Syntax.{Done}
 use Rattle.mid_program.specs.Mid as plain
 use Rattle.mid_program.specs.Mid.{Codes, form_of}
 use Rattle.mid_program.specs.ViewCode.{joined, view, view_slot, views}
 use Rattle.mid_program.specs.declared.code.Code.{Code}
 use Rattle.lower_model.specs.Arithmetic.{is_value}
-use Rattle.lower_model.specs.Emission.{added, emitted, immediate_in}
-use Rattle.lower_pieces.specs.Emits.{followed, Emits}
+use Rattle.lower_model.specs.Emission.{emitted, immediate_in}
+use Rattle.lower_pieces.specs.Emits.{Emits}
 use Rattle.lower_pieces.specs.Forms.{view_form}
 use Rattle.lower_pieces.specs.declared.form.Form.{Form}
-use Rattle.lower_pieces.proofs.Appended.{emits_none}
+use Rattle.lower_pieces.proofs.Appended.{◌⨟◌, same}
 use Rattle.lower_quick.specs.View.{view_addition, view_holder}
 use Rattle.lower_expressions.specs.Fits.{AllFit, Fits}
 use Rattle.lower_expressions.specs.Keeping.{Keeping, kept_but_one, kept_more}
-use Rattle.lower_expressions.specs.Parts.{all_joined, anyway_with, branch_with, forms_in, stored_with}
+use Rattle.lower_expressions.specs.Parts.{all_joined, forms_in}
 use Rattle.lower_expressions.specs.View.{view_immediate, view_layout}
 use Rattle.lower_expressions.specs.declared.at.At.{At}
 use Rattle.lower_expressions.proofs.Arms.{anyway_emitted, assignment_emitted, branch_emitted, call_emitted, choice_emitted, code_emitted, comparison_emitted, field_emitted, file_line_emitted, fixed_emitted, form_added, fresh_emitted, immediate_emitted, keeping_emitted, kept_form, line_emitted, listing_emitted, next_operand, no_form, none_emitted, operation_emitted, replace_emitted, sequence_emitted, stored_emitted, sum_emitted}
@@ -207,20 +207,18 @@ expression-line-requires t c = subst (λ (x : plain.Code). Fits (view_layout c.a
 pub expression-returns-in-Ask-clause-emits : goal.expression-returns-in-Ask-clause-emits
 unfolding emitted
 expression-returns-in-Ask-clause-emits t c =
-    subst (λ (x : plain.Code). OnOk c.line.result (Emits c.args.out.now.items c.line.new.out.items
-    (emitted (view_layout c.args.layout.now) c.args.only c.args.kept.now.forms c.args.kept.now.temporaries x c.args.at.temporary c.args.at.arrays c.args.at.exit)))
+    subst (λ (x : plain.Code). Emits c.args.out.now c.line.new.out
+    (emitted (view_layout c.args.layout.now) c.args.only c.args.kept.now.forms c.args.kept.now.temporaries x c.args.at.temporary c.args.at.arrays c.args.at.exit))
     (sym (ap view c.in-Ask.is)) c.line.ensures.emits
 
 pub expression-returns-in-Ask-clause-form : goal.expression-returns-in-Ask-clause-form
-expression-returns-in-Ask-clause-form t c = IfOk-weaker c.line.result _ _ (λ r h. h ∙ ap (form_of c.args.kept.now.forms)
-    (sym (ap view c.in-Ask.is))) c.line.ensures.form
+expression-returns-in-Ask-clause-form t c = c.line.ensures.form ∙ ap (form_of c.args.kept.now.forms) (sym (ap view c.in-Ask.is))
 
 pub expression-constant-requires : goal.expression-constant-requires
 expression-constant-requires t c = subst (λ (x : plain.Code). Fits (view_layout c.args.layout.now) x c.args.at.temporary c.args.at.arrays c.args.at.exit) (ap view c.in-Number.is) c.requires
 
 pub expression-returns-in-Number-clause-form : goal.expression-returns-in-Number-clause-form
-expression-returns-in-Number-clause-form t c = IfOk-weaker c.constant.result _ _ (λ r h. h ∙ ap (form_of c.args.kept.now.forms)
-    (sym (ap view c.in-Number.is))) c.constant.ensures.form
+expression-returns-in-Number-clause-form t c = c.constant.ensures.form ∙ ap (form_of c.args.kept.now.forms) (sym (ap view c.in-Number.is))
 
 pub expression-text-requires-clause-within : goal.expression-text-requires-clause-within
 expression-text-requires-clause-within t c = (subst (λ (x : plain.Code). Fits (view_layout c.args.layout.now) x c.args.at.temporary c.args.at.arrays c.args.at.exit) (ap view c.in-Text.is) c.requires).0
@@ -231,13 +229,12 @@ expression-text-requires-clause-there t c = (subst (λ (x : plain.Code). Fits (v
 pub expression-returns-in-Text-clause-emits : goal.expression-returns-in-Text-clause-emits
 unfolding emitted
 expression-returns-in-Text-clause-emits t c =
-    subst (λ (x : plain.Code). OnOk c.text.result (Emits c.args.out.now.items c.text.new.out.items
-    (emitted (view_layout c.args.layout.now) c.args.only c.args.kept.now.forms c.args.kept.now.temporaries x c.args.at.temporary c.args.at.arrays c.args.at.exit)))
+    subst (λ (x : plain.Code). Emits c.args.out.now c.text.new.out
+    (emitted (view_layout c.args.layout.now) c.args.only c.args.kept.now.forms c.args.kept.now.temporaries x c.args.at.temporary c.args.at.arrays c.args.at.exit))
     (sym (ap view c.in-Text.is)) c.text.ensures.emits
 
 pub expression-returns-in-Text-clause-form : goal.expression-returns-in-Text-clause-form
-expression-returns-in-Text-clause-form t c = IfOk-weaker c.text.result _ _ (λ r h. h ∙ ap (form_of c.args.kept.now.forms)
-    (sym (ap view c.in-Text.is))) c.text.ensures.form
+expression-returns-in-Text-clause-form t c = c.text.ensures.form ∙ ap (form_of c.args.kept.now.forms) (sym (ap view c.in-Text.is))
 
 pub expression-unset-requires : goal.expression-unset-requires
 expression-unset-requires t c = subst (λ (x : plain.Code). Fits (view_layout c.args.layout.now) x c.args.at.temporary c.args.at.arrays c.args.at.exit) (ap view c.in-Unset.is) c.requires
@@ -245,13 +242,12 @@ expression-unset-requires t c = subst (λ (x : plain.Code). Fits (view_layout c.
 pub expression-returns-in-Unset-clause-emits : goal.expression-returns-in-Unset-clause-emits
 unfolding emitted
 expression-returns-in-Unset-clause-emits t c =
-    subst (λ (x : plain.Code). OnOk c.unset.result (Emits c.args.out.now.items c.unset.new.out.items
-    (emitted (view_layout c.args.layout.now) c.args.only c.args.kept.now.forms c.args.kept.now.temporaries x c.args.at.temporary c.args.at.arrays c.args.at.exit)))
+    subst (λ (x : plain.Code). Emits c.args.out.now c.unset.new.out
+    (emitted (view_layout c.args.layout.now) c.args.only c.args.kept.now.forms c.args.kept.now.temporaries x c.args.at.temporary c.args.at.arrays c.args.at.exit))
     (sym (ap view c.in-Unset.is)) c.unset.ensures.emits
 
 pub expression-returns-in-Unset-clause-form : goal.expression-returns-in-Unset-clause-form
-expression-returns-in-Unset-clause-form t c = IfOk-weaker c.unset.result _ _ (λ r h. h ∙ ap (form_of c.args.kept.now.forms)
-    (sym (ap view c.in-Unset.is))) c.unset.ensures.form
+expression-returns-in-Unset-clause-form t c = c.unset.ensures.form ∙ ap (form_of c.args.kept.now.forms) (sym (ap view c.in-Unset.is))
 
 pub expression-variable-requires-clause-within : goal.expression-variable-requires-clause-within
 expression-variable-requires-clause-within t c = (subst (λ (x : plain.Code). Fits (view_layout c.args.layout.now) x c.args.at.temporary c.args.at.arrays c.args.at.exit) (ap view c.in-Get.is) c.requires).0
@@ -262,13 +258,12 @@ expression-variable-requires-clause-slot t c = (subst (λ (x : plain.Code). Fits
 pub expression-returns-in-Get-clause-emits : goal.expression-returns-in-Get-clause-emits
 unfolding emitted
 expression-returns-in-Get-clause-emits t c =
-    subst (λ (x : plain.Code). OnOk c.variable.result (Emits c.args.out.now.items c.variable.new.out.items
-    (emitted (view_layout c.args.layout.now) c.args.only c.args.kept.now.forms c.args.kept.now.temporaries x c.args.at.temporary c.args.at.arrays c.args.at.exit)))
+    subst (λ (x : plain.Code). Emits c.args.out.now c.variable.new.out
+    (emitted (view_layout c.args.layout.now) c.args.only c.args.kept.now.forms c.args.kept.now.temporaries x c.args.at.temporary c.args.at.arrays c.args.at.exit))
     (sym (ap view c.in-Get.is)) c.variable.ensures.emits
 
 pub expression-returns-in-Get-clause-form : goal.expression-returns-in-Get-clause-form
-expression-returns-in-Get-clause-form t c = IfOk-weaker c.variable.result _ _ (λ r h. h ∙ ap (form_of c.args.kept.now.forms)
-    (sym (ap view c.in-Get.is))) c.variable.ensures.form
+expression-returns-in-Get-clause-form t c = c.variable.ensures.form ∙ ap (form_of c.args.kept.now.forms) (sym (ap view c.in-Get.is))
 
 pub expression-is_open-requires-clause-within : goal.expression-is_open-requires-clause-within
 expression-is_open-requires-clause-within t c = (subst (λ (x : plain.Code). Fits (view_layout c.args.layout.now) x c.args.at.temporary c.args.at.arrays c.args.at.exit) (ap view c.in-IsOpen.is) c.requires).0
@@ -279,13 +274,12 @@ expression-is_open-requires-clause-few t c = (subst (λ (x : plain.Code). Fits (
 pub expression-returns-in-IsOpen-clause-emits : goal.expression-returns-in-IsOpen-clause-emits
 unfolding emitted
 expression-returns-in-IsOpen-clause-emits t c =
-    subst (λ (x : plain.Code). OnOk c.is_open.result (Emits c.args.out.now.items c.is_open.new.out.items
-    (emitted (view_layout c.args.layout.now) c.args.only c.args.kept.now.forms c.args.kept.now.temporaries x c.args.at.temporary c.args.at.arrays c.args.at.exit)))
+    subst (λ (x : plain.Code). Emits c.args.out.now c.is_open.new.out
+    (emitted (view_layout c.args.layout.now) c.args.only c.args.kept.now.forms c.args.kept.now.temporaries x c.args.at.temporary c.args.at.arrays c.args.at.exit))
     (sym (ap view c.in-IsOpen.is)) c.is_open.ensures.emits
 
 pub expression-returns-in-IsOpen-clause-form : goal.expression-returns-in-IsOpen-clause-form
-expression-returns-in-IsOpen-clause-form t c = IfOk-weaker c.is_open.result _ _ (λ r h. h ∙ ap (form_of c.args.kept.now.forms)
-    (sym (ap view c.in-IsOpen.is))) c.is_open.ensures.form
+expression-returns-in-IsOpen-clause-form t c = c.is_open.ensures.form ∙ ap (form_of c.args.kept.now.forms) (sym (ap view c.in-IsOpen.is))
 
 pub expression-bound-requires : goal.expression-bound-requires
 expression-bound-requires t c = subst (λ (x : plain.Code). Fits (view_layout c.args.layout.now) x c.args.at.temporary c.args.at.arrays c.args.at.exit) (ap view c.in-Bound.is) c.requires
@@ -293,20 +287,19 @@ expression-bound-requires t c = subst (λ (x : plain.Code). Fits (view_layout c.
 pub expression-returns-in-Bound-clause-emits : goal.expression-returns-in-Bound-clause-emits
 unfolding emitted
 expression-returns-in-Bound-clause-emits t c =
-    subst (λ (x : plain.Code). OnOk c.bound.result (Emits c.args.out.now.items c.bound.new.out.items
-    (emitted (view_layout c.args.layout.now) c.args.only c.args.kept.now.forms c.args.kept.now.temporaries x c.args.at.temporary c.args.at.arrays c.args.at.exit)))
+    subst (λ (x : plain.Code). Emits c.args.out.now c.bound.new.out
+    (emitted (view_layout c.args.layout.now) c.args.only c.args.kept.now.forms c.args.kept.now.temporaries x c.args.at.temporary c.args.at.arrays c.args.at.exit))
     (sym (ap view c.in-Bound.is)) c.bound.ensures.emits
 
 pub expression-returns-in-Bound-clause-form : goal.expression-returns-in-Bound-clause-form
-expression-returns-in-Bound-clause-form t c = IfOk-weaker c.bound.result _ _ (λ r h. h ∙ ap (form_of c.args.kept.now.forms)
-    (sym (ap view c.in-Bound.is))) c.bound.ensures.form
+expression-returns-in-Bound-clause-form t c = c.bound.ensures.form ∙ ap (form_of c.args.kept.now.forms) (sym (ap view c.in-Bound.is))
 
 pub expression-returns-in-Array-clause-emits : goal.expression-returns-in-Array-clause-emits
 unfolding emitted
 expression-returns-in-Array-clause-emits t c =
-    subst (λ (x : plain.Code). Emits c.args.out.now.items c.args.out.now.items
+    subst (λ (x : plain.Code). Emits c.args.out.now c.args.out.now
     (emitted (view_layout c.args.layout.now) c.args.only c.args.kept.now.forms c.args.kept.now.temporaries x c.args.at.temporary c.args.at.arrays c.args.at.exit))
-    (sym (ap view c.in-Array.is)) (λ k. refl)
+    (sym (ap view c.in-Array.is)) (λ k whole h. h)
 
 -- keys
 
@@ -354,12 +347,12 @@ key-loop-other-init t c =
       temporary = omega (arith, first, one);
       arrays = ap (λ (a : At). a.arrays) c.next-place.ensures;
       exit = ap (λ (a : At). a.exit) c.next-place.ensures;
-      emits = λ v k. ap (λ (n : ℕ). followed c.expression.new.out.items (emitted y false fs ts (joined es last) n w d
-          (all_joined y (map view_form c.in_ok-forms.forms.items) (form_of fs (joined es last)) c.args.at.temporary d k))) first
-          ∙ ap (λ (gs : List Form). followed c.expression.new.out.items (emitted y false fs ts (joined es last) (suc c.args.at.temporary) w d
-          (all_joined y (map view_form gs) (form_of fs (joined es last)) c.args.at.temporary d k))) c.in_ok-forms.ensures.items
-          ∙ subscript_emitted y v fs [] ts (view c.args.first.now) es last (view_form c.in_ok-form.form) c.args.at.temporary c.args.at.temporary w d
-          c.args.out.now.items c.expression.new.out.items k c.in_ok-form.ensures.form (omega arith) c.in_ok-form.ensures.emits;
+      emits = λ v k. same (ap (λ (n : ℕ). emitted y false fs ts (joined es last) n w d
+          (all_joined y (map view_form c.in_ok-forms.forms.items) (form_of fs (joined es last)) c.args.at.temporary d k)) first)
+          ⨟ same (ap (λ (gs : List Form). emitted y false fs ts (joined es last) (suc c.args.at.temporary) w d
+          (all_joined y (map view_form gs) (form_of fs (joined es last)) c.args.at.temporary d k)) c.in_ok-forms.ensures.items)
+          ⨟ subscript_emitted y v fs [] ts (view c.args.first.now) es last (view_form c.in_ok-form.form) c.args.at.temporary c.args.at.temporary w d
+          c.args.out.now c.expression.new.out k c.in_ok-form.ensures.form (omega arith) c.in_ok-form.ensures.emits;
       kept = c.in_ok-form.ensures.kept;
       lighter = omega arith;
     }
@@ -377,8 +370,8 @@ key-loop-other-preserved t c =
     let x = c.in-Some.other.now in
     let gs = map view_form c.loop-other.forms.items in
     let place = c.loop-other.place.temporary in
-    let old = c.loop-other.out.items in
-    let new = c.expression-in-Some.new.out.items in
+    let old = c.loop-other.out in
+    let new = c.expression-in-Some.new.out in
     let is = c.in-Some.ensures.cases.0 in
     let here = c.loop-other.invariant in
     let further : c.next-place-in-Some.result.temporary ≡ suc place = ap (λ (a : At). a.temporary) c.next-place-in-Some.ensures in
@@ -391,15 +384,14 @@ key-loop-other-preserved t c =
       temporary = omega (arith, further, more, here.temporary);
       arrays = ap (λ (a : At). a.arrays) c.next-place-in-Some.ensures ∙ here.arrays;
       exit = ap (λ (a : At). a.exit) c.next-place-in-Some.ensures ∙ here.exit;
-      emits = λ v k. ap (λ (n : ℕ). followed new (emitted y false fs ts (joined (map view rest) last) n w d
-          (all_joined y (map view_form c.push.new.self.items) (form_of fs (joined (map view rest) last)) c.args.at.temporary d k))) further
-          ∙ ap (λ (hs : List plain.Form). followed new (emitted y false fs ts (joined (map view rest) last) (suc place) w d
-          (all_joined y hs (form_of fs (joined (map view rest) last)) c.args.at.temporary d k)))
-          (ap (map view_form) c.in_ok-push.ensures.items ∙ map-append view_form c.loop-other.forms.items (c.in_ok-form-2.form ∷ []))
-          ∙ subscript_emitted y false fs gs ts (view x) (map view rest) last (view_form c.in_ok-form-2.form) place c.args.at.temporary w d old new k form there code
-          ∙ ap (λ (xs : List Code). followed old (emitted y false fs ts (joined (map view xs) last) place w d
-          (all_joined y gs (form_of fs (joined (map view xs) last)) c.args.at.temporary d k))) (sym is)
-          ∙ here.emits v k;
+      emits = λ v k. same (ap (λ (n : ℕ). emitted y false fs ts (joined (map view rest) last) n w d
+          (all_joined y (map view_form c.push.new.self.items) (form_of fs (joined (map view rest) last)) c.args.at.temporary d k)) further)
+          ⨟ same (ap (λ (hs : List plain.Form). emitted y false fs ts (joined (map view rest) last) (suc place) w d
+          (all_joined y hs (form_of fs (joined (map view rest) last)) c.args.at.temporary d k)) (ap (map view_form) c.in_ok-push.ensures.items ∙ map-append view_form c.loop-other.forms.items (c.in_ok-form-2.form ∷ [])))
+          ⨟ subscript_emitted y false fs gs ts (view x) (map view rest) last (view_form c.in_ok-form-2.form) place c.args.at.temporary w d old new k form there code
+          ⨟ same (ap (λ (xs : List Code). emitted y false fs ts (joined (map view xs) last) place w d
+          (all_joined y gs (form_of fs (joined (map view xs) last)) c.args.at.temporary d k)) (sym is))
+          ⨟ here.emits v k;
       kept = c.in_ok-form-2.ensures.kept ∙ here.kept;
       lighter = let n = key_weighs left rest x last is in omega (arith, n.1, here.lighter);
     }
@@ -440,13 +432,13 @@ key-returns-clause-emits t c =
     let here = c.loop-other.invariant in
     let form = c.in_ok-form-3.ensures.form ∙ ap (λ (m : Keeping). form_of m.forms last) here.kept in
     let code = rw (here.kept, here.arrays, here.exit) at c.in_ok-form-3.ensures.emits in
-    λ v k. c.in_ok-all_joined.ensures k
-    ∙ ap (λ (hs : List Form). followed c.expression-2.new.out.items (all_joined y (map view_form hs) (view_form c.in_ok-form-3.form) c.args.at.temporary d k)) c.deref.ensures.value
-    ∙ ap (λ (f : plain.Form). followed c.expression-2.new.out.items (all_joined y gs f c.args.at.temporary d k)) form
-    ∙ code (all_joined y gs (form_of fs last) c.args.at.temporary d k)
-    ∙ ap (λ (xs : List Code). followed c.loop-other.out.items (emitted y false fs ts (joined (map view xs) last) place w d
-    (all_joined y gs (form_of fs (joined (map view xs) last)) c.args.at.temporary d k))) (no_items c.loop-other.left.now c.in_default.ensures.cases)
-    ∙ here.emits v k
+    λ v k. c.all_joined.ensures k
+    ⨟ same (ap (λ (hs : List Form). all_joined y (map view_form hs) (view_form c.in_ok-form-3.form) c.args.at.temporary d k) c.deref.ensures.value)
+    ⨟ same (ap (λ (f : plain.Form). all_joined y gs f c.args.at.temporary d k) form)
+    ⨟ code (all_joined y gs (form_of fs last) c.args.at.temporary d k)
+    ⨟ same (ap (λ (xs : List Code). emitted y false fs ts (joined (map view xs) last) place w d
+    (all_joined y gs (form_of fs (joined (map view xs) last)) c.args.at.temporary d k)) (no_items c.loop-other.left.now c.in_default.ensures.cases))
+    ⨟ here.emits v k
 
 -- operands
 
@@ -456,7 +448,7 @@ all_operands-returns-in_default-clause-forms t c = no_form c.args.kept.now.forms
 
 pub all_operands-returns-in_default-clause-emits : goal.all_operands-returns-in_default-clause-emits
 all_operands-returns-in_default-clause-emits t c = none_emitted (view_layout c.args.layout.now) c.args.kept.now.forms c.args.kept.now.temporaries c.args.operands.now
-    c.args.at.temporary c.args.at.arrays c.args.at.exit c.args.out.now.items c.in_default.ensures.cases
+    c.args.at.temporary c.args.at.arrays c.args.at.exit c.args.out.now c.in_default.ensures.cases
 
 pub all_operands-expression-requires : goal.all_operands-expression-requires
 all_operands-expression-requires t c =
@@ -516,8 +508,8 @@ pub all_operands-returns-in_ok-push-in-Code-clause-emits : goal.all_operands-ret
 all_operands-returns-in_ok-push-in-Code-clause-emits t c =
     let e = next_operand c.args.operands.now c.in-Some.rest.now c.in-Some.operand.now _ c.in-Some.ensures.cases.0 c.in-Code.is in
     on_ok_weaker c.all_operands.result (code_emitted (view_layout c.args.layout.now) c.args.kept.now.forms c.args.kept.now.temporaries (view c.in-Code.code)
-    (views c.in-Some.rest.now) (views c.args.operands.now) c.args.at.temporary c.args.at.arrays c.args.at.exit c.args.out.now.items
-    c.expression.new.out.items c.all_operands.new.out.items e c.in_ok-form-in-Code.ensures.emits) (rw (c.in_ok-form-in-Code.ensures.kept, c.next.ensures)
+    (views c.in-Some.rest.now) (views c.args.operands.now) c.args.at.temporary c.args.at.arrays c.args.at.exit c.args.out.now
+    c.expression.new.out c.all_operands.new.out e c.in_ok-form-in-Code.ensures.emits) (rw (c.in_ok-form-in-Code.ensures.kept, c.next.ensures)
     at c.all_operands.ensures.emits)
 
 pub all_operands-returns-in-Constant-clause-forms : goal.all_operands-returns-in-Constant-clause-forms
@@ -530,21 +522,21 @@ pub all_operands-returns-in-Constant-clause-emits : goal.all_operands-returns-in
 all_operands-returns-in-Constant-clause-emits t c =
     let e = next_operand c.args.operands.now c.in-Some.rest.now c.in-Some.operand.now _ c.in-Some.ensures.cases.0 c.in-Constant.is in
     on_ok_weaker c.all_operands-in-Constant.result (fixed_emitted (view_layout c.args.layout.now) c.args.kept.now.forms c.args.kept.now.temporaries _ (views
-    c.in-Some.rest.now) (views c.args.operands.now) c.args.at.temporary c.args.at.arrays c.args.at.exit c.args.out.now.items
-    c.all_operands-in-Constant.new.out.items e) c.all_operands-in-Constant.ensures.emits
+    c.in-Some.rest.now) (views c.args.operands.now) c.args.at.temporary c.args.at.arrays c.args.at.exit c.args.out.now
+    c.all_operands-in-Constant.new.out e) c.all_operands-in-Constant.ensures.emits
 
-pub all_operands-returns-in_ok-array_made-in-Fresh-clause-forms : goal.all_operands-returns-in_ok-array_made-in-Fresh-clause-forms
-all_operands-returns-in_ok-array_made-in-Fresh-clause-forms t c =
+pub all_operands-returns-in-Fresh-clause-forms : goal.all_operands-returns-in-Fresh-clause-forms
+all_operands-returns-in-Fresh-clause-forms t c =
     let e = next_operand c.args.operands.now c.in-Some.rest.now c.in-Some.operand.now _ c.in-Some.ensures.cases.0 c.in-Fresh.is in
     on_ok_weaker c.all_operands-in-Fresh.result (λ h. h ∙ ap (λ (x : Codes). map view_form c.args.forms.now.items ++ forms_in c.args.kept.now.forms x) e)
     c.all_operands-in-Fresh.ensures.forms
 
-pub all_operands-returns-in_ok-array_made-in-Fresh-clause-emits : goal.all_operands-returns-in_ok-array_made-in-Fresh-clause-emits
-all_operands-returns-in_ok-array_made-in-Fresh-clause-emits t c =
+pub all_operands-returns-in-Fresh-clause-emits : goal.all_operands-returns-in-Fresh-clause-emits
+all_operands-returns-in-Fresh-clause-emits t c =
     let e = next_operand c.args.operands.now c.in-Some.rest.now c.in-Some.operand.now _ c.in-Some.ensures.cases.0 c.in-Fresh.is in
     on_ok_weaker c.all_operands-in-Fresh.result (fresh_emitted (view_layout c.args.layout.now) c.args.kept.now.forms c.args.kept.now.temporaries (views
-    c.in-Some.rest.now) (views c.args.operands.now) c.args.at.temporary c.args.at.arrays c.args.at.exit c.args.out.now.items c.array_made.new.out.items
-    c.all_operands-in-Fresh.new.out.items e c.in_ok-array_made-in-Fresh.ensures) (rw c.after_array.ensures at c.all_operands-in-Fresh.ensures.emits)
+    c.in-Some.rest.now) (views c.args.operands.now) c.args.at.temporary c.args.at.arrays c.args.at.exit c.args.out.now c.array_made.new.out
+    c.all_operands-in-Fresh.new.out e c.array_made.ensures) (rw c.after_array.ensures at c.all_operands-in-Fresh.ensures.emits)
 
 -- expressions with operands
 
@@ -567,9 +559,9 @@ anyway-operated-requires-clause-arrays t c = arrays_fit (view_layout c.args.layo
 pub anyway-returns-clause-emits : goal.anyway-returns-clause-emits
 anyway-returns-clause-emits t c =
     let e = ap (map view_form) c.deref.ensures.value ∙ (rw c.new-forms.ensures.items at c.in_ok-all_operands.ensures.forms) in
-    on_ok_weaker c.operated.result (anyway_emitted (view_layout c.args.layout.now) c.args.kept.now.forms (map view_form c.deref.result.now) c.args.kept.now.temporaries
-    c.args.what (views c.args.operands.now) c.args.at.temporary c.args.at.arrays c.args.at.exit c.args.out.now.items c.all_operands.new.out.items
-    c.operated.new.out.items e c.in_ok-all_operands.ensures.emits) c.operated.ensures
+    anyway_emitted (view_layout c.args.layout.now) c.args.kept.now.forms (map view_form c.deref.result.now) c.args.kept.now.temporaries
+    c.args.what (views c.args.operands.now) c.args.at.temporary c.args.at.arrays c.args.at.exit c.args.out.now c.all_operands.new.out
+    c.operated.new.out e c.in_ok-all_operands.ensures.emits c.operated.ensures
 
 -- a sum of two sources
 
@@ -596,11 +588,9 @@ pub sum-returns-clause-emits : goal.sum-returns-clause-emits
 sum-returns-clause-emits t c =
     let y = view_layout c.args.layout.now in
     let names = ap (map view_holder) c.deref.ensures.value ∙ c.in_ok-names.ensures in
-    let test = rw names at c.in_ok-all_unsure.ensures in
-    let slow = rw (c.inner_at.ensures, c.new-code.ensures.items) at c.in_ok-anyway.ensures.emits in
-    on_ok_weaker c.either.result (λ h k. h k ∙ test _) (c.either.ensures (anyway_with y c.args.kept.now.forms c.args.kept.now.temporaries c.args.what
-    (views c.args.operands.now) c.args.at.temporary c.args.at.arrays (suc c.args.at.exit)) (added y (view_addition c.args.addition) c.args.at.temporary) slow
-    c.in_ok-near.ensures)
+    let test = rw names at c.all_unsure.ensures in
+    let slow = rw c.inner_at.ensures at c.in_ok-anyway.ensures.emits in
+    λ k. c.either.ensures _ _ (slow Done _ (c.new-code.ensures _)) (c.added.ensures Done) k ⨟ test _
 
 pub operation-returns-clause-emits : goal.operation-returns-clause-emits
 operation-returns-clause-emits t c =
@@ -612,11 +602,11 @@ operation-returns-clause-emits t c =
     λ v. elim c.match-addition_in.branch [
       | operation-in-Some-addition_in+in_ok-sum-in-Some-addition_in w ↦
           sum_emitted y v fs ts c.args.what es (view_addition w.in-Some-addition_in.addition) c.args.at.temporary c.args.at.arrays c.args.at.exit
-          c.args.out.now.items c.match-addition_in.out.items none (sym w.in-Some-addition_in.ensures)
+          c.args.out.now c.match-addition_in.out none (sym w.in-Some-addition_in.ensures)
           (rw (sym w.out-is) at w.in_ok-sum-in-Some-addition_in.ensures.emits)
       | operation-in-None+in_ok-anyway-in-None w ↦
           operation_emitted y v fs ts c.args.what es c.args.at.temporary c.args.at.arrays c.args.at.exit
-          c.args.out.now.items c.match-addition_in.out.items none (sym w.in-None.ensures)
+          c.args.out.now c.match-addition_in.out none (sym w.in-None.ensures)
           (rw (sym w.out-is) at w.in_ok-anyway-in-None.ensures.emits)
     ]
 
@@ -676,23 +666,23 @@ operation-field_read-requires t c = operation_place (view_layout c.args.layout.n
 pub operation-returns-in-Some-clause-emits : goal.operation-returns-in-Some-clause-emits
 operation-returns-in-Some-clause-emits t c =
     let fits : FitsSigned w64 c.in-Some.number = search rules in
-    λ v. on_ok_weaker c.field_read.result (field_emitted (view_layout c.args.layout.now) v c.args.kept.now.forms c.args.kept.now.temporaries c.args.what
-    (views c.args.operands.now) _ c.in-Some.number c.args.at.temporary c.args.at.arrays c.args.at.exit c.args.out.now.items c.field_read.new.out.items
-    (sym c.field_in.ensures ∙ c.in-Some.is) (to_z-of_z w64 c.in-Some.number fits)) c.field_read.ensures.emits
+    λ v. field_emitted (view_layout c.args.layout.now) v c.args.kept.now.forms c.args.kept.now.temporaries c.args.what
+    (views c.args.operands.now) _ c.in-Some.number c.args.at.temporary c.args.at.arrays c.args.at.exit c.args.out.now c.field_read.new.out
+    (sym c.field_in.ensures ∙ c.in-Some.is) (to_z-of_z w64 c.in-Some.number fits) c.field_read.ensures.emits
 
 pub listing-returns-clause-emits : goal.listing-returns-clause-emits
 listing-returns-clause-emits t c =
     let e = ap (map view_form) c.deref.ensures.value ∙ (rw c.new-forms.ensures.items at c.in_ok-all_operands.ensures.forms) in
     λ v. listing_emitted (view_layout c.args.layout.now) v c.args.kept.now.forms (map view_form c.deref.result.now) c.args.kept.now.temporaries c.args.what
-    (views c.args.operands.now) c.args.at.temporary c.args.at.arrays c.args.at.exit c.args.out.now.items c.all_operands.new.out.items c.listed.new.out.items
-    c.requires.0 e c.in_ok-all_operands.ensures.emits c.in_ok-listed.ensures
+    (views c.args.operands.now) c.args.at.temporary c.args.at.arrays c.args.at.exit c.args.out.now c.all_operands.new.out c.listed.new.out
+    c.requires.0 e c.in_ok-all_operands.ensures.emits c.listed.ensures
 
 pub call-returns-clause-emits : goal.call-returns-clause-emits
 call-returns-clause-emits t c =
     let e = ap (map view_form) c.deref.ensures.value ∙ (rw c.new-forms.ensures.items at c.in_ok-all_operands.ensures.forms) in
     λ v. call_emitted (view_layout c.args.layout.now) v c.args.kept.now.forms (map view_form c.deref.result.now) c.args.kept.now.temporaries
-    c.args.function (views c.args.operands.now) c.args.at.temporary c.args.at.arrays c.args.at.exit c.args.out.now.items c.all_operands.new.out.items
-    c.called.new.out.items c.requires.0 e c.in_ok-all_operands.ensures.emits c.in_ok-called.ensures
+    c.args.function (views c.args.operands.now) c.args.at.temporary c.args.at.arrays c.args.at.exit c.args.out.now c.all_operands.new.out
+    c.called.new.out c.requires.0 e c.in_ok-all_operands.ensures.emits c.called.ensures
 
 pub replacement-stored-requires : goal.replacement-stored-requires
 replacement-stored-requires t c = (omega (arith, c.decreases), (c.requires.1.1, c.requires.0))
@@ -701,11 +691,9 @@ pub replacement-returns-clause-emits : goal.replacement-returns-clause-emits
 replacement-returns-clause-emits t c =
     let e = ap (map view_form) c.deref.ensures.value ∙ (rw c.new-forms.ensures.items at c.in_ok-all_operands.ensures.forms) in
     λ v. replace_emitted (view_layout c.args.layout.now) v c.args.kept.now.forms (map view_form c.deref.result.now) c.args.kept.now.temporaries c.args.all
-    (views c.args.operands.now) (view c.args.store.now) c.args.at.temporary c.args.at.arrays c.args.at.exit c.args.out.now.items c.all_operands.new.out.items
-    c.replaced.new.out.items c.either.new.out.items e c.in_ok-all_operands.ensures.emits c.in_ok-replaced.ensures
-    (c.in_ok-either.ensures (λ k. k) (stored_with (view_layout c.args.layout.now) c.args.kept.now.forms c.args.kept.now.temporaries row.SubResult (view
-    c.args.store.now) c.args.at.temporary c.args.at.arrays c.args.at.exit) (emits_none [] _ c.new-nothing.ensures.items) (rw
-    c.in_ok-all_operands.ensures.kept at c.in_ok-store.ensures.emits))
+    (views c.args.operands.now) (view c.args.store.now) c.args.at.temporary c.args.at.arrays c.args.at.exit c.args.out.now c.all_operands.new.out
+    c.replaced.new.out c.either.new.out e c.in_ok-all_operands.ensures.emits c.replaced.ensures
+    (c.either.ensures _ _ (c.new.ensures Done) ((rw c.in_ok-all_operands.ensures.kept at c.in_ok-store.ensures.emits) Done))
 
 -- a comparison
 
@@ -735,19 +723,19 @@ comparison-immediately_compared-requires-clause-operand t c =
     c.requires.1.1
 
 pub comparison-returns-in-Some-clause-emits : goal.comparison-returns-in-Some-clause-emits
-comparison-returns-in-Some-clause-emits t c = λ v. on_ok_weaker c.immediately_compared.result (immediate_emitted (view_layout c.args.layout.now) v c.args.kept.now.forms c.args.kept.now.temporaries c.args.op
+comparison-returns-in-Some-clause-emits t c = λ v. immediate_emitted (view_layout c.args.layout.now) v c.args.kept.now.forms c.args.kept.now.temporaries c.args.op
     (view c.args.left.now) (view c.args.right.now) (view_form c.in_ok-first.first) (view_immediate c.in-Some.operand) c.args.at.temporary
-    c.args.at.arrays c.args.at.exit c.args.out.now.items c.expression.new.out.items c.immediately_compared.new.out.items c.in_ok-first.ensures.form
+    c.args.at.arrays c.args.at.exit c.args.out.now c.expression.new.out c.immediately_compared.new.out c.in_ok-first.ensures.form
     (ap (λ v. immediate_in v (view c.args.right.now)) (sym c.is_value.ensures) ∙ sym c.immediate_in.ensures ∙ ap (option_map view_immediate) c.in-Some.is)
-    c.in_ok-first.ensures.emits) c.immediately_compared.ensures.emits
+    c.in_ok-first.ensures.emits c.immediately_compared.ensures.emits
 
 pub comparison-returns-clause-emits : goal.comparison-returns-clause-emits
 comparison-returns-clause-emits t c = λ v. comparison_emitted (view_layout c.args.layout.now) v c.args.kept.now.forms c.args.kept.now.temporaries c.args.op
     (view c.args.left.now) (view c.args.right.now) (view_form c.in_ok-first.first) (view_form c.in_ok-second.second) c.args.at.temporary
-    c.args.at.arrays c.args.at.exit c.args.out.now.items c.expression.new.out.items c.expression-2.new.out.items c.compared.new.out.items
+    c.args.at.arrays c.args.at.exit c.args.out.now c.expression.new.out c.expression-2.new.out c.compared.new.out
     c.in_ok-first.ensures.form (rw c.in_ok-first.ensures.kept at c.in_ok-second.ensures.form)
     (ap (λ v. immediate_in v (view c.args.right.now)) (sym c.is_value.ensures) ∙ sym c.immediate_in.ensures ∙ ap (option_map view_immediate) c.in_default.is)
-    c.in_ok-first.ensures.emits (rw (c.in_ok-first.ensures.kept, c.next.ensures) at c.in_ok-second.ensures.emits) c.in_ok-compared.ensures
+    c.in_ok-first.ensures.emits (rw (c.in_ok-first.ensures.kept, c.next.ensures) at c.in_ok-second.ensures.emits) c.compared.ensures
 
 -- texts that are stored
 
@@ -776,10 +764,10 @@ stored-expression-requires t c = (omega (arith, c.decreases), rw c.stored_at.ens
 pub stored-returns-clause-emits : goal.stored-returns-clause-emits
 stored-returns-clause-emits t c =
     let n : c.args.at.temporary + 1 ≡ suc c.args.at.temporary = omega arith in
-    stored_emitted (view_layout c.args.layout.now) c.args.kept.now c.push.new.self c.args.primitive (view c.args.store.now) (view_form c.in_ok-form.form)
-    c.args.at.temporary c.args.at.arrays c.args.at.exit [] c.in_ok-code.code.items c.expression.new.out.items c.text_let_go.new.out.items
+    λ k. stored_emitted (view_layout c.args.layout.now) c.args.kept.now c.push.new.self c.args.primitive (view c.args.store.now) (view_form c.in_ok-form.form)
+    c.args.at.temporary c.args.at.arrays c.args.at.exit c.new-code.result c.text_kept.new.out c.expression.new.out c.text_let_go.new.out
     (c.in_ok-push.ensures ∙ ap (λ (x : ℕ). kept_more plain.a_value x c.args.kept.now) n) c.in_ok-form.ensures.form
-    c.in_ok-code.ensures (rw c.stored_at.ensures at c.in_ok-form.ensures.emits) c.in_ok-text_let_go.ensures
+    c.text_kept.ensures (rw c.stored_at.ensures at c.in_ok-form.ensures.emits) c.text_let_go.ensures k _ (c.new-code.ensures _)
 
 pub stored-returns-clause-kept : goal.stored-returns-clause-kept
 stored-returns-clause-kept t c = c.pop.ensures ∙ ap kept_but_one (c.in_ok-form.ensures.kept ∙ c.in_ok-push.ensures)
@@ -798,9 +786,8 @@ line_into-line_stored-requires t c = place_fits c.args.at.temporary c.args.at.ar
 
 pub line_into-returns-clause-emits : goal.line_into-returns-clause-emits
 line_into-returns-clause-emits t c = λ v. line_emitted (view_layout c.args.layout.now) v c.args.kept.now.forms c.args.kept.now.temporaries (view
-    c.args.store.now) c.args.at.temporary c.args.at.arrays c.args.at.exit c.args.out.now.items c.asked.new.out.items c.line_stored.new.out.items c.in_ok-asked.ensures
-    (c.in_ok-line_stored.ensures (stored_with (view_layout c.args.layout.now) c.args.kept.now.forms c.args.kept.now.temporaries row.Line (view
-    c.args.store.now) c.args.at.temporary c.args.at.arrays c.args.at.exit) c.in_ok-store.ensures.emits)
+    c.args.store.now) c.args.at.temporary c.args.at.arrays c.args.at.exit c.args.out.now c.asked.new.out c.line_stored.new.out c.asked.ensures
+    (c.line_stored.ensures _ (c.in_ok-store.ensures.emits Done))
 
 pub file_line-expression-requires : goal.file_line-expression-requires
 file_line-expression-requires t c = (omega (arith, c.decreases), c.requires.1.0)
@@ -816,11 +803,10 @@ file_line-line_stored-requires t c = place_fits c.args.at.temporary c.args.at.ar
 
 pub file_line-returns-clause-emits : goal.file_line-returns-clause-emits
 file_line-returns-clause-emits t c = λ v. file_line_emitted (view_layout c.args.layout.now) v c.args.kept.now.forms c.args.kept.now.temporaries (view
-    c.args.file.now) (view c.args.store.now) (view_form c.in_ok-form.form) c.args.at.temporary c.args.at.arrays c.args.at.exit c.args.out.now.items
-    c.expression.new.out.items c.file_asked.new.out.items c.line_stored.new.out.items c.in_ok-form.ensures.form
-    c.in_ok-form.ensures.emits c.in_ok-file_asked.ensures
-    (c.in_ok-line_stored.ensures (stored_with (view_layout c.args.layout.now) c.args.kept.now.forms c.args.kept.now.temporaries row.Line (view
-    c.args.store.now) c.args.at.temporary c.args.at.arrays c.args.at.exit) (rw c.in_ok-form.ensures.kept at c.in_ok-store.ensures.emits))
+    c.args.file.now) (view c.args.store.now) (view_form c.in_ok-form.form) c.args.at.temporary c.args.at.arrays c.args.at.exit c.args.out.now
+    c.expression.new.out c.file_asked.new.out c.line_stored.new.out c.in_ok-form.ensures.form
+    c.in_ok-form.ensures.emits c.file_asked.ensures
+    (c.line_stored.ensures _ ((rw c.in_ok-form.ensures.kept at c.in_ok-store.ensures.emits) Done))
 
 -- an assignment
 
@@ -836,8 +822,8 @@ assignment-slot_set-requires-clause-places t c = place_fits c.args.at.temporary 
 pub assignment-returns-clause-emits : goal.assignment-returns-clause-emits
 assignment-returns-clause-emits t c = assignment_emitted (view_layout c.args.layout.now) c.args.only c.args.kept.now.forms c.args.kept.now.temporaries
     (view_slot c.args.slot) (view c.args.value.now) (view_form c.in_ok-form.form) c.args.at.temporary c.args.at.arrays c.args.at.exit
-    c.args.out.now.items c.expression.new.out.items c.slot_set.new.out.items c.in_ok-form.ensures.form c.in_ok-form.ensures.emits
-    c.in_ok-slot_set.ensures
+    c.args.out.now c.expression.new.out c.slot_set.new.out c.in_ok-form.ensures.form c.in_ok-form.ensures.emits
+    c.slot_set.ensures
 
 -- a choice
 
@@ -854,10 +840,10 @@ pub branch-converted-requires-clause-labels : goal.branch-converted-requires-cla
 branch-converted-requires-clause-labels t c = rw c.inner_at-inner.ensures (inner_fits c.args.at.temporary c.args.at.arrays c.args.at.exit c.requires.within)
 
 pub branch-returns-clause-emits : goal.branch-returns-clause-emits
-branch-returns-clause-emits t c = branch_emitted (view_layout c.args.layout.now) c.args.kept.now.forms c.args.kept.now.temporaries c.args.sort (view
-    c.args.code.now) (view_form c.in_ok-form.form) c.args.at.temporary c.args.at.arrays c.args.at.exit [] c.expression.new.out.items
-    c.converted.new.out.items c.in_ok-form.ensures.form
-    (rw (c.new-list.ensures.items, c.inner_at-inner.ensures) at c.in_ok-form.ensures.emits) (rw c.inner_at-inner.ensures at c.in_ok-converted.ensures)
+branch-returns-clause-emits t c = λ k. branch_emitted (view_layout c.args.layout.now) c.args.kept.now.forms c.args.kept.now.temporaries c.args.sort (view
+    c.args.code.now) (view_form c.in_ok-form.form) c.args.at.temporary c.args.at.arrays c.args.at.exit c.new-list.result c.expression.new.out
+    c.converted.new.out c.in_ok-form.ensures.form (rw c.inner_at-inner.ensures at c.in_ok-form.ensures.emits)
+    (rw c.inner_at-inner.ensures at c.converted.ensures) k _ (c.new-list.ensures _)
 
 pub choice-expression-requires : goal.choice-expression-requires
 choice-expression-requires t c = (omega (arith, c.decreases), c.requires.1.0)
@@ -874,13 +860,10 @@ choice-branch-layout-requires-2 t c = (omega (arith, c.decreases), (c.requires.1
 pub choice-returns-clause-emits : goal.choice-returns-clause-emits
 choice-returns-clause-emits t c = λ v. choice_emitted (view_layout c.args.layout.now) v c.args.kept.now.forms c.args.kept.now.temporaries c.args.sort (view
     c.args.test.now) (view c.args.yes.now) (view c.args.no.now) (view_form c.in_ok-form.form) c.args.at.temporary c.args.at.arrays c.args.at.exit
-    c.args.out.now.items c.expression.new.out.items c.truth.new.out.items c.either.new.out.items c.in_ok-form.ensures.form c.in_ok-form.ensures.emits
-    c.in_ok-truth.ensures
-    (c.in_ok-either.ensures (branch_with (view_layout c.args.layout.now) c.args.kept.now.forms c.args.kept.now.temporaries c.args.sort (view
-    c.args.yes.now) c.args.at.temporary c.args.at.arrays c.args.at.exit) (branch_with (view_layout c.args.layout.now) c.args.kept.now.forms
-    c.args.kept.now.temporaries c.args.sort (view c.args.no.now) c.args.at.temporary c.args.at.arrays c.args.at.exit)
-    (rw c.in_ok-form.ensures.kept at c.in_ok-yes.ensures.emits) (rw (c.in_ok-yes.ensures.kept, c.in_ok-form.ensures.kept) at
-    c.in_ok-no.ensures.emits))
+    c.args.out.now c.expression.new.out c.truth.new.out c.either.new.out c.in_ok-form.ensures.form c.in_ok-form.ensures.emits
+    c.truth.ensures
+    (c.either.ensures _ _ ((rw c.in_ok-form.ensures.kept at c.in_ok-yes.ensures.emits) Done)
+    ((rw (c.in_ok-yes.ensures.kept, c.in_ok-form.ensures.kept) at c.in_ok-no.ensures.emits) Done))
 
 -- one after the other
 
@@ -902,9 +885,9 @@ sequence-returns-clause-form t c = rw c.in_ok-form.ensures.kept at c.in_ok-answe
 pub sequence-returns-clause-emits : goal.sequence-returns-clause-emits
 sequence-returns-clause-emits t c = sequence_emitted (view_layout c.args.layout.now) c.args.only c.args.kept.now.forms
     c.args.kept.now.temporaries (view c.args.first.now) (view c.args.second.now) (view_form c.in_ok-form.form) (view_form c.in_ok-answer.answer)
-    c.args.at.temporary c.args.at.arrays c.args.at.exit c.args.out.now.items c.expression.new.out.items c.left_over.new.out.items
-    c.expression-2.new.out.items c.sequence_closed.new.out.items c.in_ok-form.ensures.form (rw c.in_ok-form.ensures.kept at c.in_ok-answer.ensures.form)
-    c.in_ok-form.ensures.emits c.in_ok-left_over.ensures (rw c.in_ok-form.ensures.kept at c.in_ok-answer.ensures.emits) c.in_ok-sequence_closed.ensures
+    c.args.at.temporary c.args.at.arrays c.args.at.exit c.args.out.now c.expression.new.out c.left_over.new.out
+    c.expression-2.new.out c.sequence_closed.new.out c.in_ok-form.ensures.form (rw c.in_ok-form.ensures.kept at c.in_ok-answer.ensures.form)
+    c.in_ok-form.ensures.emits c.left_over.ensures (rw c.in_ok-form.ensures.kept at c.in_ok-answer.ensures.emits) c.sequence_closed.ensures
 
 -- what is kept
 
@@ -933,9 +916,9 @@ pub keeping-returns-clause-emits : goal.keeping-returns-clause-emits
 keeping-returns-clause-emits t c =
     let m = c.in_ok-push.ensures ∙ ap (kept_more (view_form c.in_ok-held.held) c.args.at.temporary) c.in_ok-held.ensures.kept in
     keeping_emitted (view_layout c.args.layout.now) c.args.only c.args.kept.now c.push.new.self (view c.args.value.now) (view c.args.rest.now) (view_form
-    c.in_ok-held.held) (view_form c.in_ok-form.form) c.args.at.temporary c.args.at.arrays c.args.at.exit c.args.out.now.items
-    c.expression.new.out.items c.expression-2.new.out.items c.keeping_closed.new.out.items c.in_ok-held.ensures.form m c.in_ok-form.ensures.form
-    c.in_ok-held.ensures.emits (rw c.next.ensures at c.in_ok-form.ensures.emits) c.in_ok-keeping_closed.ensures
+    c.in_ok-held.held) (view_form c.in_ok-form.form) c.args.at.temporary c.args.at.arrays c.args.at.exit c.args.out.now
+    c.expression.new.out c.expression-2.new.out c.keeping_closed.new.out c.in_ok-held.ensures.form m c.in_ok-form.ensures.form
+    c.in_ok-held.ensures.emits (rw c.next.ensures at c.in_ok-form.ensures.emits) c.keeping_closed.ensures
 
 pub keeping-returns-clause-kept : goal.keeping-returns-clause-kept
 keeping-returns-clause-kept t c =

@@ -4,8 +4,8 @@ use Rattle.mid_program.specs.Mid as plain
 use Rattle.mid_program.specs.Mid.{form_of}
 use Rattle.mid_program.specs.ViewCode.{joined, view, views}
 use Rattle.lower_model.specs.Emission.{emitted}
-use Rattle.lower_pieces.specs.Emits.{followed}
 use Rattle.lower_pieces.specs.Forms.{view_form}
+use Rattle.lower_pieces.proofs.Appended.{Follows}
 use Rattle.lower_expressions.specs.Fits.{AllFit}
 use Rattle.lower_expressions.specs.Parts.{all_joined}
 use Rattle.lower_expressions.specs.View.{view_layout}
@@ -76,9 +76,9 @@ invariant-key-loop-other l = record {
   arrays : l.place.arrays ≡ l.at.arrays;
   exit : l.place.exit ≡ l.at.exit;
   emits : (v : Bool) (k : Instructions) →
-      followed l.out.items (emitted (view_layout l.layout) false l.fn.kept.forms l.fn.kept.temporaries (joined (map view l.left) (view l.last)) l.place.temporary l.at.arrays l.at.exit
+      Follows l.out (emitted (view_layout l.layout) false l.fn.kept.forms l.fn.kept.temporaries (joined (map view l.left) (view l.last)) l.place.temporary l.at.arrays l.at.exit
       (all_joined (view_layout l.layout) (map view_form l.forms.items) (form_of l.fn.kept.forms (joined (map view l.left) (view l.last))) l.at.temporary l.at.exit k))
-      ≡ followed l.fn.out.items (emitted (view_layout l.layout) v l.fn.kept.forms l.fn.kept.temporaries (joined (view l.first ∷ map view l.others) (view l.last)) l.at.temporary l.at.arrays l.at.exit k);
+      l.fn.out (emitted (view_layout l.layout) v l.fn.kept.forms l.fn.kept.temporaries (joined (view l.first ∷ map view l.others) (view l.last)) l.at.temporary l.at.arrays l.at.exit k);
   kept : l.kept ≡ l.fn.kept;
   lighter : weight (joined (map view l.left) (view l.last)) ≤ weight (joined (map view l.others) (view l.last));
 }

@@ -5,7 +5,7 @@ use Rattle.mid_program.specs.Sorted.{kinds_of}
 use Rattle.mid_program.specs.View.{view_declared, view_kind}
 use Rattle.mid_program.specs.declared.program.Declared.{Declared}
 use Rattle.lower_model.specs.Emission.{Layout, assigned_by_number}
-use Rattle.lower_pieces.specs.Emits.{followed}
+use Rattle.lower_pieces.proofs.Appended.{◌⨟◌, same}
 use Rattle.lower_expressions.specs.Parts.{one_assigned}
 use Rattle.lower_expressions.specs.View.{view_layout}
 use Rattle.lower_expressions.proofs.pending.assigned_by_number.Goals as goal
@@ -31,8 +31,8 @@ loop-declared-preserved c =
     let i = c.loop-declared.declared-index in
     record {
       place = omega arith;
-      emits = λ k. (rw c.loop-declared.invariant.place at c.in_ok-one_assigned.ensures) _
-          ∙ ap (followed c.loop-declared.out.items) (assigned_step (view_layout c.args.layout.now) c.args.layout.now.script.now.program.now.globals.items i c.args.temporary c.declared-item.result k
+      emits = λ k. (rw c.loop-declared.invariant.place at c.one_assigned.ensures) _
+          ⨟ same (assigned_step (view_layout c.args.layout.now) c.args.layout.now.script.now.program.now.globals.items i c.args.temporary c.declared-item.result k
           (omega (arith, n)) (c.declared-item.is ∙ ap (λ (xs : List Declared). get_or xs i c.declared-item.result) c.names-declared-items.ensures.names))
-          ∙ c.loop-declared.invariant.emits k;
+          ⨟ c.loop-declared.invariant.emits k;
     }

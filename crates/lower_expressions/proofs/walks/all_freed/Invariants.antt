@@ -1,6 +1,6 @@
-use Rattle.std.proofs.Common.{◌≡◌, ◌≤◌}
+use Rattle.std.proofs.Common.{◌≤◌}
 use Rattle.wasm_types.specs.Syntax.{Instructions}
-use Rattle.lower_pieces.specs.Emits.{followed}
+use Rattle.lower_pieces.proofs.Appended.{Follows}
 use Rattle.lower_expressions.specs.Parts.{freed_with}
 use Rattle.lower_expressions.proofs.walks.all_freed.Given as goal
 
@@ -10,5 +10,5 @@ decreases-loop-left l = l.left
 abbrev pub invariant-loop-left : goal.invariant-loop-left
 invariant-loop-left l = record {
   few : l.left ≤ l.count;
-  emits : (k : Instructions) → followed l.out.items (freed_with l.fn.bases l.arrays l.left k) ≡ followed l.fn.out.items (freed_with l.fn.bases l.arrays l.count k);
+  emits : (k : Instructions) → Follows l.out (freed_with l.fn.bases l.arrays l.left k) l.fn.out (freed_with l.fn.bases l.arrays l.count k);
 }

@@ -1,10 +1,11 @@
-use Rattle.std.proofs.Common.{List, [], refl, sym, subst}
-use Rattle.std.proofs.lemmas.Result.{on_ok_weaker}
-use Rattle.wasm_types.specs.declared.instr.Instr.{Instr}
-use Rattle.lower_pieces.specs.Emits.{Emits}
-use Rattle.lower_pieces.proofs.Appended.{looped}
+use Rattle.std.proofs.Common.{None, ap, ◌∙◌}
+use Rattle.wasm_types.specs.Syntax.{Loop, Then}
+use Rattle.wasm_types.proofs.Views.{view_loop}
+use Rattle.lower_pieces.proofs.Appended.{reads_by}
 use Rattle.lower_pieces.proofs.emit.again.Goals as goal
 
-pub returns : goal.returns
-returns c = λ a emits. on_ok_weaker c.pushed.result (λ added. looped c.args.out.now.items c.pushed.new.out.items c.in_ok-code.code c.in_ok-code.code.value a refl added
-    (subst (λ (is : List Instr). Emits [] is a) (sym c.in_ok-code.ensures) emits)) c.pushed.ensures
+pub returns-in-Ok : goal.returns-in-Ok
+returns-in-Ok c = λ inside p k w h. c.put.ensures k w (reads_by (ap (λ i. Then i k) (view_loop None c.in-Ok.code ∙ ap (Loop None) (c.in-Ok.ensures inside p))) h)
+
+pub returns-in-Err : goal.returns-in-Err
+returns-in-Err c = λ inside p k w h. c.refuse.ensures k w

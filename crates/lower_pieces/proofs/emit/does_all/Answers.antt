@@ -3,7 +3,8 @@ use Rattle.wasm_types.specs.Syntax.{Instructions}
 use Rattle.wasm_types.specs.declared.instr.Simple.{Simple}
 use Rattle.wasm_types.specs.declared.instr.Simple.TheVariants.{Unreachable}
 use Rattle.lower_model.specs.Small.{does}
-use Rattle.lower_pieces.specs.Emits.{does_all, followed}
+use Rattle.lower_pieces.specs.Emits.{does_all}
+use Rattle.lower_pieces.proofs.Appended.{reads_by}
 use Rattle.lower_pieces.proofs.emit.does_all.Goals as goal
 
 does_step : (all : List Simple) (i : ℕ) (k : Instructions) → i < length all → does (get_or all i Unreachable) (does_all (drop (i + 1) all) k) ≡ does_all (drop i all) k
@@ -12,4 +13,5 @@ does_step all i k lt =
     (λ j. does (get_or all i Unreachable) (does_all (drop (next j) all) k)) ∙ sym (ap (λ (rest : List Simple). does_all rest k) (drop-cons all i Unreachable lt))
 
 pub loop-simple-preserved : goal.loop-simple-preserved
-loop-simple-preserved c = λ k. c.in_ok-does.ensures _ ∙ ap (followed c.loop-simple.out.items) (does_step c.args.all.now c.loop-simple.simple-index k (omega arith)) ∙ c.loop-simple.invariant k
+loop-simple-preserved c = λ k whole h.
+    c.does.ensures _ whole (reads_by (does_step c.args.all.now c.loop-simple.simple-index k (omega arith)) (c.loop-simple.invariant k whole h))

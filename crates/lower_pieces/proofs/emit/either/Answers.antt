@@ -1,12 +1,8 @@
-use Rattle.std.proofs.Common.{List, [], refl, sym, subst}
-use Rattle.std.proofs.lemmas.Result.{on_ok_weaker}
-use Rattle.wasm_types.specs.declared.instr.Instr.{Instr}
-use Rattle.lower_pieces.specs.Emits.{Emits}
-use Rattle.lower_pieces.proofs.Appended.{chosen}
+use Rattle.lower_pieces.proofs.Appended.{chosen, reads_by}
 use Rattle.lower_pieces.proofs.emit.either.Goals as goal
 
-pub returns : goal.returns
-returns c = λ a b first second. on_ok_weaker c.pushed.result
-    (λ added. chosen c.args.out.now.items c.pushed.new.out.items c.in_ok-yes.yes c.in_ok-no.no c.in_ok-yes.yes.value c.in_ok-no.no.value a b refl refl added
-    (subst (λ (is : List Instr). Emits [] is a) (sym c.in_ok-yes.ensures) first)
-    (subst (λ (is : List Instr). Emits [] is b) (sym c.in_ok-no.ensures) second)) c.pushed.ensures
+pub returns-in-Ok-Ok : goal.returns-in-Ok-Ok
+returns-in-Ok-Ok c = λ one other p q k w h. c.put.ensures k w (reads_by (chosen c.in-Ok-Ok.yes c.in-Ok-Ok.no one other (c.in-Ok-Ok.ensures one p) (c.in-Ok-Ok.ensures' other q) k) h)
+
+pub returns-in_default : goal.returns-in_default
+returns-in_default c = λ one other p q k w h. c.refuse.ensures k w

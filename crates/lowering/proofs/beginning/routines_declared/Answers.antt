@@ -4,8 +4,8 @@ use Rattle.mid_program.specs.Mid as plain
 use Rattle.mid_program.specs.View.{view_routine}
 use Rattle.mid_program.specs.declared.program.Routine.{Routine}
 use Rattle.lower_model.specs.Statements.{routines_declared}
-use Rattle.lower_pieces.specs.Emits.{followed}
 use Rattle.lower_expressions.specs.View.{view_layout}
+use Rattle.lower_pieces.proofs.Appended.{◌⨟◌, same}
 use Rattle.lowering.proofs.Announced.{routines_step}
 use Rattle.lowering.proofs.beginning.routines_declared.Goals as goal
 
@@ -31,8 +31,13 @@ loop-text-init c = λ k.
     let n = ap length c.routines.ensures in
     let calls = called c.args.layout.now.script.now.program.now.routines.items in
     let count : (c.args.first + length c.routines.result.now) - c.args.first ≡ length y.calls = omega (arith, n, calls) in
-    ap (λ (m : ℕ). followed c.args.out.now.items (routines_declared y c.args.first m k)) count
+    same (ap (λ (m : ℕ). routines_declared y c.args.first m k) count)
 
 pub loop-text-preserved : goal.loop-text-preserved
 loop-text-preserved c = λ k.
-    c.in_ok-declared.ensures _ ∙ ap (followed c.loop-text.out.items) (sym (routines_step (view_layout c.args.layout.now) c.loop-text.text (c.args.first + length c.routines.result.now) k (omega arith))) ∙ c.loop-text.invariant k
+    c.declared.ensures _ ⨟ same (sym (routines_step (view_layout c.args.layout.now) c.loop-text.text (c.args.first + length c.routines.result.now) k (omega arith))) ⨟ c.loop-text.invariant k
+
+pub returns : goal.returns
+returns c = λ k.
+    let none : (c.args.first + length c.routines.result.now) - c.loop-text.text ≡ 0 = omega arith in
+    same (sym (ap (λ (m : ℕ). routines_declared (view_layout c.args.layout.now) c.loop-text.text m k) none)) ⨟ c.loop-text.invariant k

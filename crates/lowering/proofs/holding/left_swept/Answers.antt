@@ -1,9 +1,8 @@
 use Rattle.std.proofs.Common.{◌<◌, length, sym, ap, ◌∙◌, arith}
 use Rattle.std.proofs.lemmas.Bool.{eqb-false, eqb-true}
-use Rattle.std.proofs.lemmas.Result.{on_ok_weaker}
-use Rattle.lower_pieces.specs.Emits.{followed}
 use Rattle.lower_expressions.specs.View.{view_layout}
 use Rattle.lower_model.specs.Statements.{has_functions}
+use Rattle.lower_pieces.proofs.Appended.{◌⨟◌, same}
 use Rattle.lowering.proofs.Holdings.{all_left, iterators_left, no_functions, some_functions}
 use Rattle.lowering.proofs.holding.left_swept.Goals as goal
 
@@ -13,13 +12,13 @@ returns-then-is_empty c =
     let rs = c.args.layout.now.script.now.program.now.routines.items in
     let n = eqb-true (length c.routines.result.now) 0 (sym c.is_empty.ensures ∙ c.if-is_empty.true) in
     let none = no_functions rs (ap length (sym c.routines.ensures) ∙ n) in
-    on_ok_weaker c.held_swept.result (λ h k. h k ∙ ap (followed c.args.out.now.items) (iterators_left y (has_functions y.calls) k none)) c.held_swept.ensures
+    λ k. c.held_swept.ensures k ⨟ same (iterators_left y (has_functions y.calls) k none)
 
 pub returns-else-is_empty : goal.returns-else-is_empty
 returns-else-is_empty c =
     let y = view_layout c.args.layout.now in
     let rs = c.args.layout.now.script.now.program.now.routines.items in
     let n = eqb-false (length c.routines.result.now) 0 (sym c.is_empty.ensures ∙ c.if-is_empty.false) in
-    let same = ap length c.routines.ensures in
-    let many : 0 < length rs = omega (arith, n, same) in
-    on_ok_weaker c.swept.result (λ h k. h k ∙ ap (followed c.args.out.now.items) (all_left y (has_functions y.calls) k (some_functions rs many))) c.swept.ensures
+    let size = ap length c.routines.ensures in
+    let many : 0 < length rs = omega (arith, n, size) in
+    λ k. c.swept.ensures k ⨟ same (all_left y (has_functions y.calls) k (some_functions rs many))

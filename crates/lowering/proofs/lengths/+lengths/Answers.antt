@@ -30,7 +30,7 @@ step_length-returns-in_ok-code-in_default t c =
     let code = c.in_ok-code-in_default.code.items in
     let least : c.least_in.result ≤ least_in (views code) = rw c.deref-in_default.ensures.value at c.least_in.ensures in
     let emitted = step_emitted (view_layout c.args.layout.now) (view_step c.args.step.now) 0 0 0 0 in
-    weighed c.least_in.result emitted (piece emitted code c.least_in.result (λ k. c.in_ok-code-in_default.ensures k) least)
+    weighed c.least_in.result emitted (piece emitted code c.least_in.result (λ k. c.in_ok-code-in_default.ensures k _ (c.inner.ensures k)) least)
 
 pub steps_length-loop-step-preserved : goal.steps_length-loop-step-preserved
 steps_length-loop-step-preserved t c =

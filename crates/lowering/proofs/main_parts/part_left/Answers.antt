@@ -1,8 +1,8 @@
-use Rattle.std.proofs.Common.{◌≡◌, ◌+◌, suc, ◌∙◌, arith}
-use Rattle.std.proofs.lemmas.Result.{on_ok_weaker}
+use Rattle.std.proofs.Common.{◌≡◌, ◌+◌, suc, arith}
+use Rattle.lower_pieces.proofs.Appended.{◌⨟◌}
 use Rattle.lowering.proofs.main_parts.part_left.Goals as goal
 
 pub returns : goal.returns
-returns c =
+returns c = λ k.
     let inner : c.args.exit + 1 ≡ suc c.args.exit = omega arith in
-    on_ok_weaker c.goes_on.result (λ h k. h k ∙ (rw inner at c.in_ok-fail_if.ensures) _ ∙ (rw inner at c.in_ok-does_all.ensures) _) c.goes_on.ensures
+    c.goes_on.ensures k ⨟ (rw inner at c.fail_if.ensures) _ ⨟ (rw inner at c.does_all.ensures) _

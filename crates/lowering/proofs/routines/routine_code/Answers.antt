@@ -1,7 +1,8 @@
 use Rattle.std.proofs.Common.{sym, ◌∙◌}
 use Rattle.wasm_types.specs.Syntax.{Done}
 use Rattle.lower_pieces.proofs.Appended.{followed_end}
+use Rattle.std.proofs.lemmas.Result.{IfOk-weaker}
 use Rattle.lowering.proofs.routines.routine_code.Goals as goal
 
 pub returns : goal.returns
-returns c = sym (followed_end c.routine_added.new.out.items) ∙ (rw c.new-code.ensures.items at c.in_ok-routine_added.ensures) Done
+returns c = IfOk-weaker c.all.result _ _ (λ code h. sym (followed_end code.items) ∙ h Done _ (c.routine_added.ensures Done _ (c.new-code.ensures _))) c.all.ensures

@@ -1,9 +1,9 @@
-use Rattle.std.proofs.Common.{◌≡◌, ◌+◌, ◌*◌, ◌≤◌, drop, true}
+use Rattle.std.proofs.Common.{◌+◌, ◌*◌, ◌≤◌, drop, true}
 use Rattle.wasm_types.specs.Syntax.{Instructions}
 use Rattle.mid_program.specs.ViewCode.{view_step, view_steps}
 use Rattle.lower_model.specs.Boundaries.{step_places, steps_places}
 use Rattle.lower_model.specs.Statements.{steps_emitted}
-use Rattle.lower_pieces.specs.Emits.{followed}
+use Rattle.lower_pieces.proofs.Appended.{Follows}
 use Rattle.lower_expressions.specs.View.{view_layout}
 use Rattle.lowering.specs.StepFits.{StepsFit}
 use Rattle.lowering.proofs.Stepping.{last_places}
@@ -59,6 +59,6 @@ invariant-statements-loop-step l = record {
   few : steps_places (view_steps (drop l.step-index l.steps)) ≤ steps_places (view_steps l.steps);
   fit : StepsFit (view_layout l.fn.layout) (view_steps (drop l.step-index l.steps)) l.at.iterators l.at.exit;
   emits : (k : Instructions) →
-      followed l.out.items (steps_emitted (view_layout l.fn.layout) (view_steps (drop l.step-index l.steps)) l.at.iterators l.at.exit l.at.break_to l.at.continue_to k)
-      ≡ followed l.fn.out.items (steps_emitted (view_layout l.fn.layout) (view_steps l.steps) l.at.iterators l.at.exit l.at.break_to l.at.continue_to k);
+      Follows l.out (steps_emitted (view_layout l.fn.layout) (view_steps (drop l.step-index l.steps)) l.at.iterators l.at.exit l.at.break_to l.at.continue_to k)
+      l.fn.out (steps_emitted (view_layout l.fn.layout) (view_steps l.steps) l.at.iterators l.at.exit l.at.break_to l.at.continue_to k);
 }

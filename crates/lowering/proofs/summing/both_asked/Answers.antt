@@ -1,4 +1,4 @@
-use Rattle.std.proofs.Common.{rules, Option, OnOk, ℤ, subst}
+use Rattle.std.proofs.Common.{rules, Option, ℤ, subst}
 use Rattle.std.proofs.lemmas.Int.{to_z-of_z}
 use Rattle.std.specs.Int.{w64}
 use Rattle.std.specs.Prelude.{FitsSigned}
@@ -11,10 +11,10 @@ use Rattle.lowering.proofs.summing.both_asked.Goals as goal
 pub returns-in-Some : goal.returns-in-Some
 returns-in-Some c =
     let fits : FitsSigned w64 c.in-Some.number = search rules in
-    subst (λ (o : Option ℤ). OnOk c.field_asked.result (Emits c.args.out.now.items c.field_asked.new.out.items (both_asked (view_layout c.args.layout.now) o (view_update c.args.update) c.args.exit))) c.in-Some.ensures
+    subst (λ (o : Option ℤ). Emits c.args.out.now c.field_asked.new.out (both_asked (view_layout c.args.layout.now) o (view_update c.args.update) c.args.exit)) c.in-Some.ensures
     (rw (to_z-of_z w64 c.in-Some.number fits) at c.field_asked.ensures)
 
 pub returns-in-None : goal.returns-in-None
 returns-in-None c =
-    subst (λ (o : Option ℤ). OnOk c.added_asked.result (Emits c.args.out.now.items c.added_asked.new.out.items (both_asked (view_layout c.args.layout.now) o (view_update c.args.update) c.args.exit))) c.in-None.ensures
+    subst (λ (o : Option ℤ). Emits c.args.out.now c.added_asked.new.out (both_asked (view_layout c.args.layout.now) o (view_update c.args.update) c.args.exit)) c.in-None.ensures
     c.added_asked.ensures

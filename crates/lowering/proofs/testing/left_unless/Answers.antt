@@ -1,4 +1,4 @@
-use Rattle.std.proofs.Common.{Option, OnOk, sym, subst}
+use Rattle.std.proofs.Common.{Option, sym, subst}
 use Rattle.mid_program.specs.ViewCode.{view}
 use Rattle.lower_model.specs.Quick.{Within}
 use Rattle.lower_model.specs.Statements.{left_unless}
@@ -13,10 +13,10 @@ within_tested-requires-clause-name c = within_fits (view_layout c.args.layout.no
 
 pub returns-in-Some : goal.returns-in-Some
 returns-in-Some c =
-    subst (λ (o : Option Within). OnOk c.within_tested.result (Emits c.args.out.now.items c.within_tested.new.out.items (left_unless (view_layout c.args.layout.now) o (view c.args.test.now) c.args.exit c.args.label))) c.in-Some.ensures
+    subst (λ (o : Option Within). Emits c.args.out.now c.within_tested.new.out (left_unless (view_layout c.args.layout.now) o (view c.args.test.now) c.args.exit c.args.label)) c.in-Some.ensures
     c.within_tested.ensures
 
 pub returns-in-None : goal.returns-in-None
 returns-in-None c =
-    subst (λ (o : Option Within). OnOk c.left_unless_pair.result (Emits c.args.out.now.items c.left_unless_pair.new.out.items (left_unless (view_layout c.args.layout.now) o (view c.args.test.now) c.args.exit c.args.label))) c.in-None.ensures
+    subst (λ (o : Option Within). Emits c.args.out.now c.left_unless_pair.new.out (left_unless (view_layout c.args.layout.now) o (view c.args.test.now) c.args.exit c.args.label)) c.in-None.ensures
     c.left_unless_pair.ensures

@@ -1,12 +1,12 @@
-use Rattle.std.proofs.Common.{◌≡◌, Option, None, OnOk, ap, sym, ◌∙◌, subst}
+use Rattle.std.proofs.Common.{◌≡◌, Option, None, ap, sym, ◌∙◌, subst}
 use Rattle.std.specs.Option.{option_map}
-use Rattle.std.proofs.lemmas.Result.{on_ok_weaker}
 use Rattle.mid_program.specs.ViewCode.{view}
 use Rattle.lower_model.specs.Quick.{Pair, pair_in}
 use Rattle.lower_model.specs.Statements.{left_unless_pair}
-use Rattle.lower_pieces.specs.Emits.{Emits, followed}
+use Rattle.lower_pieces.specs.Emits.{Emits}
 use Rattle.lower_expressions.specs.View.{view_layout}
 use Rattle.lower_quick.specs.View.{view_counted, view_pair}
+use Rattle.lower_pieces.proofs.Appended.{◌⨟◌, same}
 use Rattle.lowering.proofs.QuickNames.{counted_fits, pair_fits}
 use Rattle.lowering.proofs.Ways.{no_pair}
 use Rattle.lowering.proofs.testing.left_unless_pair.Goals as goal
@@ -16,7 +16,7 @@ pair_tested-requires-clause-pair c = pair_fits (view_layout c.args.layout.now) (
 
 pub returns-in-Some : goal.returns-in-Some
 returns-in-Some c =
-    subst (λ (o : Option Pair). OnOk c.pair_tested.result (Emits c.args.out.now.items c.pair_tested.new.out.items (left_unless_pair (view_layout c.args.layout.now) o (view c.args.test.now) c.args.exit c.args.label))) c.in-Some.ensures
+    subst (λ (o : Option Pair). Emits c.args.out.now c.pair_tested.new.out (left_unless_pair (view_layout c.args.layout.now) o (view c.args.test.now) c.args.exit c.args.label)) c.in-Some.ensures
     c.pair_tested.ensures
 
 pub counted_tested-requires-clause-name : goal.counted_tested-requires-clause-name
@@ -25,13 +25,9 @@ counted_tested-requires-clause-name c = counted_fits (view_layout c.args.layout.
 pub returns-in-Some-counted_in : goal.returns-in-Some-counted_in
 returns-in-Some-counted_in c =
     let none : None ≡ pair_in (view c.args.test.now) = sym (ap (option_map view_pair) c.in_default.is) ∙ c.pair_in.ensures in
-    on_ok_weaker c.counted_tested.result
-    (λ h k. h k ∙ ap (followed c.args.out.now.items) (no_pair (view_layout c.args.layout.now) _ (view c.args.test.now) c.args.exit c.args.label k none c.in-Some-counted_in.ensures))
-    c.counted_tested.ensures
+    λ k. c.counted_tested.ensures k ⨟ same (no_pair (view_layout c.args.layout.now) _ (view c.args.test.now) c.args.exit c.args.label k none c.in-Some-counted_in.ensures)
 
 pub returns-in-None : goal.returns-in-None
 returns-in-None c =
     let none : None ≡ pair_in (view c.args.test.now) = sym (ap (option_map view_pair) c.in_default.is) ∙ c.pair_in.ensures in
-    on_ok_weaker c.test_left.result
-    (λ h k. h k ∙ ap (followed c.args.out.now.items) (no_pair (view_layout c.args.layout.now) _ (view c.args.test.now) c.args.exit c.args.label k none c.in-None.ensures))
-    c.test_left.ensures
+    λ k. c.test_left.ensures k ⨟ same (no_pair (view_layout c.args.layout.now) _ (view c.args.test.now) c.args.exit c.args.label k none c.in-None.ensures)
