@@ -1,7 +1,7 @@
 -- The code of lists of expressions, a step at a time.
-use Rattle.std.proofs.Common.{◌≡◌, ◌≢◌, ℕ, zero, suc, ◌+◌, ◌<◌, ◌≤◌, ◌==◌, length, drop, get_or, List, [], ◌∷◌, ◌++◌, Option, None, Some, Bool, true, false, if◌then◌else◌, MatchOption, map, refl, ap, sym, ◌∙◌, arith}
+use Rattle.std.proofs.Common.{◌≡◌, ◌≢◌, ℕ, zero, suc, ◌+◌, ◌<◌, ◌≤◌, ◌==◌, length, drop, get_or, List, [], ◌∷◌, ◌++◌, Option, None, Some, Bool, true, false, if◌then◌else◌, MatchOption, Result, Ok, Err, map, refl, ap, sym, ◌∙◌, arith}
 use Rattle.std.proofs.lemmas.List.{append_assoc, append-nil, map-append}
-use Rattle.std.specs.Prelude.{is_some}
+use Rattle.std.specs.Prelude.{IfOk, IsOkAnd, is_some}
 use Rattle.std.proofs.lemmas.Bool.{eqb-true}
 use Rattle.std.specs.Int.{from_bool}
 use Rattle.std.specs.Borrow.{Bor}
@@ -38,11 +38,15 @@ use Rattle.mid_code.specs.Keys.{each_code, key_of}
 use Rattle.mid_code.specs.ViewTarget.{sub_or_gsub}
 use Rattle.mid_program.specs.declared.code.Code.{Code as Owned}
 use Rattle.mid_program.specs.declared.code.Operand.{Operand}
-use Rattle.mid_program.specs.declared.code.Operand.TheVariants as operand
 use Rattle.mid_program.specs.declared.mid.Arithmetic.TheVariants as inline
-use Rattle.mid_program.specs.declared.mid.Operation.TheVariants.{AsNumber, Inline}
+use Rattle.mid_program.specs.declared.mid.Operation.TheVariants.{AsNumber, FieldNumber, Inline}
 use Rattle.mid_code.proofs.NameTables.{drop_any}
 use Rattle.mid_code.proofs.Views.{followed_end, followed_push}
+
+-- what holds of a value that was made
+pub made_then : {T E G : Type 0} {P Q : T → Type 0} (made : Result T E) → IsOkAnd made P → IfOk made Q → ((x : T) → P x → Q x → G) → G
+made_then (Ok x) p q f = f x p q
+made_then (Err e) p q f = absurd p
 
 -- lists by their first parts
 
@@ -95,24 +99,30 @@ flag_is true = refl
 flag_is false = refl
 
 module _ (texts : List (List ℕ)) (scope : Scope) where
-  -- places
+  -- keys
 
-  pub in_list_code : (e : Tree) (x : List ℕ) (t : Tree) (ts : Trees) (key first rest : Code) → HasList t ts x ≡ e → key ≡ host row.Join (two first rest) →
-      first ≡ code_of texts scope t → rest ≡ key_code texts scope ts → host row.Has (two (Array (array_of scope x)) key) ≡ code_of texts scope e
-  unfolding code_of
-  in_list_code e x t ts key first rest is k f r = rw (k, f, r) (ap (code_of texts scope) is)
+  pub key_each : (ts : Trees) → key_of (each_code texts scope ts) ≡ key_code texts scope ts
+  unfolding key_code
+  key_each NoTree = refl
+  key_each (Then t NoTree) = refl
+  key_each (Then t (Then u ts)) = ap (λ (k : Code). host row.Join (two (code_of texts scope t) k)) (key_each (Then u ts))
 
-  pub element_code : (e : Tree) (x : List ℕ) (ts : Trees) (key : Code) → Index x ts ≡ e → key ≡ key_code texts scope ts →
-      host row.Elem (two (Array (array_of scope x)) key) ≡ code_of texts scope e
-  unfolding code_of
-  element_code e x ts key is k = rw k (ap (code_of texts scope) is)
+  -- expressions by their parts
 
-  pub conditional_code : (e : Expr) (p q r : Box Expr Global) (a b c : Expr) (test first second : Code) → e ≡ Conditional p q r → a ≡ p.value →
-      b ≡ q.value → c ≡ r.value →
-      test ≡ code_of texts scope (tree a) → first ≡ code_of texts scope (tree b) → second ≡ code_of texts scope (tree c) →
-      Choose sort.Value test first second ≡ code_of texts scope (tree e)
+  pub in_list_code : (e : Tree) (x : List ℕ) (t : Tree) (ts : Trees) → HasList t ts x ≡ e →
+      host row.Has (two (Array (array_of scope x)) (host row.Join (two (code_of texts scope t) (key_of (each_code texts scope ts))))) ≡ code_of texts scope e
   unfolding code_of
-  conditional_code e p q r a b c test first second is ha hb hc ht hf hs = rw (ht, hf, hs, ha, hb, hc, is) refl
+  in_list_code e x t ts is =
+      ap (λ (k : Code). host row.Has (two (Array (array_of scope x)) (host row.Join (two (code_of texts scope t) k)))) (key_each ts) ∙ ap (code_of texts scope) is
+
+  pub element_code : (e : Tree) (x : List ℕ) (ts : Trees) → Index x ts ≡ e → host row.Elem (two (Array (array_of scope x)) (key_code texts scope ts)) ≡ code_of texts scope e
+  unfolding code_of
+  element_code e x ts is = ap (code_of texts scope) is
+
+  pub conditional_code : (e : Expr) (p q r : Box Expr Global) (a b c : Expr) → e ≡ Conditional p q r → a ≡ p.value → b ≡ q.value → c ≡ r.value →
+      Choose sort.Value (code_of texts scope (tree a)) (code_of texts scope (tree b)) (code_of texts scope (tree c)) ≡ code_of texts scope (tree e)
+  unfolding code_of
+  conditional_code e p q r a b c is ha hb hc = rw (ha, hb, hc, is) refl
 
   pub field_code : (e : Expr) (p : Box Expr Global) (a : Expr) → e ≡ expr.Field p → a ≡ p.value → host row.Field (one (code_of texts scope (tree a))) ≡ code_of texts scope (tree e)
   unfolding code_of
@@ -122,21 +132,21 @@ module _ (texts : List (List ℕ)) (scope : Scope) where
   unfolding code_of
   group_code e p a is ha = rw (ha, is) refl
 
-  pub unary_code : (e : Expr) (o : UnaryOp) (p : Box Expr Global) (a : Expr) (operand : Code) → e ≡ expr.Unary o p → a ≡ p.value → operand ≡ code_of texts scope (tree a) →
-      prefixed (view_unary o) operand ≡ code_of texts scope (tree e)
+  pub unary_code : (e : Expr) (o : UnaryOp) (p : Box Expr Global) (a : Expr) → e ≡ expr.Unary o p → a ≡ p.value →
+      prefixed (view_unary o) (code_of texts scope (tree a)) ≡ code_of texts scope (tree e)
   unfolding code_of
-  unary_code e o p a operand is ha ho = rw (ho, ha, is) refl
+  unary_code e o p a is ha = rw (ha, is) refl
 
-  -- the place is read twice: for what is kept, and for what takes the value
-  pub pre_code : (e : Expr) (o : StepOp) (p : Box Expr Global) (a b : Expr) (kept : Option Code) → e ≡ expr.PreStep o p → a ≡ p.value → b ≡ p.value → kept ≡ kept_code texts scope (tree b) →
-      keeping kept (stepped_at (view_step o) (target_in texts scope (tree a))) ≡ code_of texts scope (tree e)
+  -- the place is read twice: for what takes the value, and for what is kept
+  pub pre_code : (e : Expr) (o : StepOp) (p : Box Expr Global) (a b : Expr) → e ≡ expr.PreStep o p → a ≡ p.value → b ≡ p.value →
+      keeping (kept_code texts scope (tree b)) (stepped_at (view_step o) (target_in texts scope (tree a))) ≡ code_of texts scope (tree e)
   unfolding code_of
-  pre_code e o p a b kept is ha hb hk = rw (hk, ha, hb, is) refl
+  pre_code e o p a b is ha hb = rw (ha, hb, is) refl
 
-  pub post_code : (e : Expr) (o : StepOp) (p : Box Expr Global) (a b : Expr) (kept : Option Code) → e ≡ expr.PostStep o p → a ≡ p.value → b ≡ p.value → kept ≡ kept_code texts scope (tree b) →
-      keeping kept (step_after_at (view_step o) (target_in texts scope (tree a))) ≡ code_of texts scope (tree e)
+  pub post_code : (e : Expr) (o : StepOp) (p : Box Expr Global) (a b : Expr) → e ≡ expr.PostStep o p → a ≡ p.value → b ≡ p.value →
+      keeping (kept_code texts scope (tree b)) (step_after_at (view_step o) (target_in texts scope (tree a))) ≡ code_of texts scope (tree e)
   unfolding code_of
-  post_code e o p a b kept is ha hb hk = rw (hk, ha, hb, is) refl
+  post_code e o p a b is ha hb = rw (ha, hb, is) refl
 
   between_code : (o : BinaryOp) (t u : Tree) →
       combined (view_binary o) (code_of texts scope t) (ere_code texts (ere_for (view_binary o) u) (code_of texts scope u)) ≡ code_of texts scope (Bin (view_binary o) t u)
@@ -159,59 +169,54 @@ module _ (texts : List (List ℕ)) (scope : Scope) where
   between_code binary.Modulo t u = refl
   between_code binary.Power t u = refl
 
-  pub binary_code : (e : Expr) (o : BinaryOp) (p q : Box Expr Global) (a b : Expr) (left right : Code) → e ≡ Binary o p q → a ≡ p.value → b ≡ q.value →
-      left ≡ code_of texts scope (tree a) → right ≡ ere_code texts (ere_for (view_binary o) (tree b)) (code_of texts scope (tree b)) →
-      combined (view_binary o) left right ≡ code_of texts scope (tree e)
-  binary_code e o p q a b left right is ha hb hl hr =
-      rw (hl, hr) (between_code o (tree a) (tree b) ∙ sym (ap (code_of texts scope) (binary_is e o p q a b is ha hb)))
+  pub binary_code : (e : Expr) (o : BinaryOp) (p q : Box Expr Global) (a b : Expr) → e ≡ Binary o p q → a ≡ p.value → b ≡ q.value →
+      combined (view_binary o) (code_of texts scope (tree a)) (ere_code texts (ere_for (view_binary o) (tree b)) (code_of texts scope (tree b))) ≡ code_of texts scope (tree e)
+  binary_code e o p q a b is ha hb = between_code o (tree a) (tree b) ∙ sym (ap (code_of texts scope) (binary_is e o p q a b is ha hb))
 
-  pub assign_code : (e : Expr) (o : AssignOp) (p q : Box Expr Global) (a b c : Expr) (kept : Option Code) (value : Code) → e ≡ expr.Assign o p q → a ≡ p.value → b ≡ p.value → c ≡ q.value →
-      kept ≡ kept_code texts scope (tree a) → value ≡ code_of texts scope (tree c) →
-      keeping kept (assigned_at (view_assign o) (target_in texts scope (tree b)) value) ≡ code_of texts scope (tree e)
+  pub assign_code : (e : Expr) (o : AssignOp) (p q : Box Expr Global) (a b c : Expr) → e ≡ expr.Assign o p q → a ≡ p.value → b ≡ p.value → c ≡ q.value →
+      keeping (kept_code texts scope (tree b)) (assigned_at (view_assign o) (target_in texts scope (tree a)) (code_of texts scope (tree c))) ≡ code_of texts scope (tree e)
   unfolding code_of
-  assign_code e o p q a b c kept value is ha hb hc hk hv = rw (hk, hv, ha, hb, hc, is) refl
+  assign_code e o p q a b c is ha hb hc = rw (ha, hb, hc, is) refl
 
-  pub in_code : (e : Expr) (p : Box Expr Global) (n : Vec ℕ) (a : Expr) (x : List ℕ) (key : Code) → e ≡ expr.In p n → a ≡ p.value → x ≡ n.items → key ≡ code_of texts scope (tree a) →
-      host row.Has (two (Array (array_of scope x)) key) ≡ code_of texts scope (tree e)
+  pub in_code : (e : Expr) (p : Box Expr Global) (n : Vec ℕ) (a : Expr) (x : List ℕ) → e ≡ expr.In p n → a ≡ p.value → x ≡ n.items →
+      host row.Has (two (Array (array_of scope x)) (code_of texts scope (tree a))) ≡ code_of texts scope (tree e)
   unfolding code_of
-  in_code e p n a x key is ha hx hk = rw (hk, ha, hx, is) refl
+  in_code e p n a x is ha hx = rw (ha, hx, is) refl
 
-  pub line_code : (e : Expr) (p : Box Expr Global) (a b : Expr) (kept : Option Code) → e ≡ expr.GetlineInto p → a ≡ p.value → b ≡ p.value → kept ≡ kept_code texts scope (tree b) →
-      keeping kept (AskLine (received_at (target_in texts scope (tree a)))) ≡ code_of texts scope (tree e)
+  pub line_code : (e : Expr) (p : Box Expr Global) (a b : Expr) → e ≡ expr.GetlineInto p → a ≡ p.value → b ≡ p.value →
+      keeping (kept_code texts scope (tree b)) (AskLine (received_at (target_in texts scope (tree a)))) ≡ code_of texts scope (tree e)
   unfolding code_of
-  line_code e p a b kept is ha hb hk = rw (hk, ha, hb, is) refl
+  line_code e p a b is ha hb = rw (ha, hb, is) refl
 
-  pub file_code : (e : Expr) (p : Box Expr Global) (a : Expr) (operand : Code) → e ≡ expr.GetlineFrom p → a ≡ p.value → operand ≡ code_of texts scope (tree a) →
-      Do AsNumber (one (host row.GetlineFile (one operand))) ≡ code_of texts scope (tree e)
+  pub file_code : (e : Expr) (p : Box Expr Global) (a : Expr) → e ≡ expr.GetlineFrom p → a ≡ p.value →
+      Do AsNumber (one (host row.GetlineFile (one (code_of texts scope (tree a))))) ≡ code_of texts scope (tree e)
   unfolding code_of
-  file_code e p a operand is ha ho = rw (ho, ha, is) refl
+  file_code e p a is ha = rw (ha, is) refl
 
-  pub file_line_code : (e : Expr) (p q : Box Expr Global) (a b c : Expr) (kept : Option Code) (file : Code) → e ≡ expr.GetlineIntoFrom p q → a ≡ p.value → b ≡ p.value → c ≡ q.value →
-      kept ≡ kept_code texts scope (tree a) → file ≡ code_of texts scope (tree c) →
-      keeping kept (FileLine file (received_at (target_in texts scope (tree b)))) ≡ code_of texts scope (tree e)
+  pub file_line_code : (e : Expr) (p q : Box Expr Global) (a b c : Expr) → e ≡ expr.GetlineIntoFrom p q → a ≡ p.value → b ≡ p.value → c ≡ q.value →
+      keeping (kept_code texts scope (tree b)) (FileLine (code_of texts scope (tree c)) (received_at (target_in texts scope (tree a)))) ≡ code_of texts scope (tree e)
   unfolding code_of
-  file_line_code e p q a b c kept file is ha hb hc hk hf = rw (hk, hf, ha, hb, hc, is) refl
+  file_line_code e p q a b c is ha hb hc = rw (ha, hb, hc, is) refl
 
-  pub element_kept : (e : Tree) (x : List ℕ) (ts : Trees) (key : Code) → Index x ts ≡ e → key ≡ key_code texts scope ts →
-      Some key ≡ kept_code texts scope e
+  pub element_kept : (e : Tree) (x : List ℕ) (ts : Trees) → Index x ts ≡ e → Some (key_code texts scope ts) ≡ kept_code texts scope e
   unfolding kept_code
-  element_kept e x ts key is k = ap Some k ∙ ap (kept_code texts scope) is
+  element_kept e x ts is = ap (kept_code texts scope) is
+
+  pub field_kept : (e : Expr) (p : Box Expr Global) (a : Expr) → e ≡ expr.Field p → a ≡ p.value →
+      Some (Do FieldNumber (one (code_of texts scope (tree a)))) ≡ kept_code texts scope (tree e)
+  unfolding kept_code
+  field_kept e p a is ha = rw (ha, is) refl
 
   -- operands
 
-  pub operands_step : (old new : List Operand) (code : Owned) (es : List Expr) (i : ℕ) (e : Expr) (total : Codes) → i < length es →
-      e ≡ get_or es i e →
-      new ≡ old ++ operand.Code code ∷ [] → view code ≡ code_of texts scope (tree e) →
+  pub operands_step : (old new : List Operand) (es : List Expr) (i : ℕ) (e : Expr) (total : Codes) → i < length es → e ≡ get_or es i e →
+      followed (views new) (codes_of texts scope (trees (drop (i + 1) es)))
+      ≡ followed (views old) (At (code_of texts scope (tree e)) (codes_of texts scope (trees (drop (i + 1) es)))) →
       followed (views old) (codes_of texts scope (trees (drop i es))) ≡ total →
       followed (views new) (codes_of texts scope (trees (drop (i + 1) es))) ≡ total
   unfolding codes_of
-  operands_step old new code es i e total lt read more is so =
-      let rest = codes_of texts scope (trees (drop (i + 1) es)) in
-      ap (λ (os : List Operand). followed (views os) rest) more
-      ∙ followed_push old (operand.Code code) rest
-      ∙ ap (λ (c : Code). followed (views old) (At c rest)) is
-      ∙ sym (ap (λ (ts : Trees). followed (views old) (codes_of texts scope ts)) (part_of es i e lt read))
-      ∙ so
+  operands_step old new es i e total lt read more so =
+      more ∙ sym (ap (λ (ts : Trees). followed (views old) (codes_of texts scope ts)) (part_of es i e lt read)) ∙ so
 
   pub operands_end : (all : List Operand) (es : List Expr) (i : ℕ) (total : Codes) → length es ≤ i →
       followed (views all) (codes_of texts scope (trees (drop i es))) ≡ total → views all ≡ total
@@ -221,16 +226,10 @@ module _ (texts : List (List ℕ)) (scope : Scope) where
 
   -- keys
 
-  pub key_each : (ts : Trees) → key_of (each_code texts scope ts) ≡ key_code texts scope ts
-  unfolding key_code
-  key_each NoTree = refl
-  key_each (Then t NoTree) = refl
-  key_each (Then t (Then u ts)) = ap (λ (k : Code). host row.Join (two (code_of texts scope t) k)) (key_each (Then u ts))
-
-  pub each_step : (old new : List Owned) (code : Owned) (es : List Expr) (i : ℕ) (e : Expr) (total : List Code) → i < length es → e ≡ get_or es i e →
-      new ≡ old ++ code ∷ [] → view code ≡ code_of texts scope (tree e) → map view old ++ each_code texts scope (trees (drop i es)) ≡ total →
-      map view new ++ each_code texts scope (trees (drop (i + 1) es)) ≡ total
-  each_step old new code es i e total lt read more is so =
+  pub each_step : (old new : List Owned) (es : List Expr) (i : ℕ) (e : Expr) (total : List Code) → i < length es → e ≡ get_or es i e →
+      map view old ++ each_code texts scope (trees (drop i es)) ≡ total →
+      (code : Owned) → new ≡ old ++ code ∷ [] → view code ≡ code_of texts scope (tree e) → map view new ++ each_code texts scope (trees (drop (i + 1) es)) ≡ total
+  each_step old new es i e total lt read so code more is =
       let rest = each_code texts scope (trees (drop (i + 1) es)) in
       ap (λ (cs : List Owned). map view cs ++ rest) more
       ∙ ap (λ (cs : List Code). cs ++ rest) (map-append view old (code ∷ []))
@@ -285,20 +284,17 @@ module _ (texts : List (List ℕ)) (scope : Scope) where
   given_missing p o es i le is ps =
       ap (before o) (arguments_past ps es (i + 1) (omega arith)) ∙ is ps ∙ sym (arguments_past (p ∷ ps) es i le)
 
-  pub given_argument : (p : Name) (code : Owned) (es : List Expr) (i : ℕ) (e : Expr) → i < length es → e ≡ get_or es i e →
-      view code ≡ given_code texts scope p (tree e) (code_of texts scope (tree e)) →
-      (ps : List Name) → At (view code) (argument_codes texts scope ps (trees (drop (i + 1) es))) ≡ argument_codes texts scope (p ∷ ps) (trees (drop i es))
+  pub given_argument : (p : Name) (es : List Expr) (i : ℕ) (e : Expr) → i < length es → e ≡ get_or es i e → (ps : List Name) →
+      At (given_code texts scope p (tree e) (code_of texts scope (tree e))) (argument_codes texts scope ps (trees (drop (i + 1) es))) ≡ argument_codes texts scope (p ∷ ps) (trees (drop i es))
   unfolding argument_codes
-  given_argument p code es i e lt read is ps =
-      ap (λ (c : Code). At c (argument_codes texts scope ps (trees (drop (i + 1) es)))) is
-      ∙ sym (ap (argument_codes texts scope (p ∷ ps)) (part_of es i e lt read))
+  given_argument p es i e lt read ps = sym (ap (argument_codes texts scope (p ∷ ps)) (part_of es i e lt read))
 
-  pub call_step : (old new : List Operand) (o : Operand) (ps : List NameKind) (es : List Expr) (i : ℕ) (p : NameKind) (total : Codes) → i < length ps →
+  pub call_step : (old new : List Operand) (ps : List NameKind) (es : List Expr) (i : ℕ) (p : NameKind) (total : Codes) → i < length ps →
+      followed (views old) (argument_codes texts scope (view_name_kinds (drop i ps)) (trees (drop i es))) ≡ total → (o : Operand) →
       new ≡ old ++ o ∷ [] →
       ((rest : List Name) → before o (argument_codes texts scope rest (trees (drop (i + 1) es))) ≡ argument_codes texts scope (view_name (get_or ps i p) ∷ rest) (trees (drop i es))) →
-      followed (views old) (argument_codes texts scope (view_name_kinds (drop i ps)) (trees (drop i es))) ≡ total →
       followed (views new) (argument_codes texts scope (view_name_kinds (drop (i + 1) ps)) (trees (drop (i + 1) es))) ≡ total
-  call_step old new o ps es i p total lt more is so =
+  call_step old new ps es i p total lt so o more is =
       let rest = argument_codes texts scope (view_name_kinds (drop (i + 1) ps)) (trees (drop (i + 1) es)) in
       ap (λ (os : List Operand). followed (views os) rest) more
       ∙ followed_push old o rest
@@ -346,7 +342,7 @@ module _ (texts : List (List ℕ)) (scope : Scope) where
   other_code builtin.Fflush ts other = refl
 
   -- one operand
-  one_applied : (f : Builtin) (t : Tree) → f ≢ builtin.Int → applied_to f (code_of texts scope t) ≡ applied_code texts scope f (Then t NoTree)
+  pub one_applied : (f : Builtin) (t : Tree) → f ≢ builtin.Int → applied_to f (code_of texts scope t) ≡ applied_code texts scope f (Then t NoTree)
   unfolding applied_code
   one_applied builtin.Int t other = absurd (other refl)
   one_applied builtin.Length t other = refl
@@ -361,10 +357,6 @@ module _ (texts : List (List ℕ)) (scope : Scope) where
   one_applied builtin.ToUpper t other = refl
   one_applied builtin.Close t other = refl
   one_applied builtin.Fflush t other = refl
-
-  pub applied_one : (f : Builtin) (t : Tree) (e : Code) → f ≢ builtin.Int → e ≡ code_of texts scope t →
-      applied_to f e ≡ applied_code texts scope f (Then t NoTree)
-  applied_one f t e other is = ap (applied_to f) is ∙ one_applied f t other
 
   -- operands of which only the first counts
   first_counts : (f : Builtin) (t : Tree) (ts : Trees) → f ≢ builtin.Length → f ≢ builtin.Index → f ≢ builtin.Match → f ≢ builtin.Substr →
@@ -398,33 +390,25 @@ module _ (texts : List (List ℕ)) (scope : Scope) where
   length_more f (a ∷ []) le is = absurd (omega arith)
   length_more f (a ∷ b ∷ es) le is = sym (ap (λ (g : Builtin). applied_code texts scope g (trees (a ∷ b ∷ es))) is)
 
-  pub index_code : (f : Builtin) (es : List Expr) (a b : Expr) (l r : Code) → 2 ≤ length es → a ≡ get_or es 0 a → b ≡ get_or es 1 b →
-      f ≡ builtin.Index →
-      l ≡ code_of texts scope (tree a) → r ≡ code_of texts scope (tree b) → host row.Index (two l r) ≡ applied_code texts scope f (trees es)
+  pub index_code : (f : Builtin) (es : List Expr) (a b : Expr) → 2 ≤ length es → a ≡ get_or es 0 a → b ≡ get_or es 1 b → f ≡ builtin.Index →
+      host row.Index (two (code_of texts scope (tree a)) (code_of texts scope (tree b))) ≡ applied_code texts scope f (trees es)
   unfolding applied_code
-  index_code f es a b l r le first second is hl hr = rw (hl, hr, is)
-      (sym (ap (applied_code texts scope builtin.Index) (two_trees es a b le first second)))
+  index_code f es a b le first second is = rw is (sym (ap (applied_code texts scope builtin.Index) (two_trees es a b le first second)))
 
-  pub match_code : (f : Builtin) (es : List Expr) (a b : Expr) (l r : Code) → 2 ≤ length es → a ≡ get_or es 0 a → b ≡ get_or es 1 b →
-      f ≡ builtin.Match →
-      l ≡ code_of texts scope (tree a) → r ≡ ere_code texts (ere_in (tree b)) (code_of texts scope (tree b)) →
-      host row.Match (two l r) ≡ applied_code texts scope f (trees es)
+  pub match_code : (f : Builtin) (es : List Expr) (a b : Expr) → 2 ≤ length es → a ≡ get_or es 0 a → b ≡ get_or es 1 b → f ≡ builtin.Match →
+      host row.Match (two (code_of texts scope (tree a)) (ere_code texts (ere_in (tree b)) (code_of texts scope (tree b)))) ≡ applied_code texts scope f (trees es)
   unfolding applied_code
-  match_code f es a b l r le first second is hl hr = rw (hl, hr, is)
-      (sym (ap (applied_code texts scope builtin.Match) (two_trees es a b le first second)))
+  match_code f es a b le first second is = rw is (sym (ap (applied_code texts scope builtin.Match) (two_trees es a b le first second)))
 
-  pub substr_from : (es : List Expr) (a b : Expr) (l r : Code) → length es ≡ 2 → a ≡ get_or es 0 a → b ≡ get_or es 1 b →
-      l ≡ code_of texts scope (tree a) → r ≡ code_of texts scope (tree b) →
-      host row.SubstrFrom (two l r) ≡ applied_code texts scope builtin.Substr (trees es)
+  pub substr_from : (es : List Expr) (a b : Expr) → length es ≡ 2 → a ≡ get_or es 0 a → b ≡ get_or es 1 b →
+      host row.SubstrFrom (two (code_of texts scope (tree a)) (code_of texts scope (tree b))) ≡ applied_code texts scope builtin.Substr (trees es)
   unfolding applied_code
-  substr_from es a b l r n first second hl hr = rw (hl, hr) (sym (ap (applied_code texts scope builtin.Substr) (just_two es a b n first second)))
+  substr_from es a b n first second = sym (ap (applied_code texts scope builtin.Substr) (just_two es a b n first second))
 
-  pub substr_code : (es : List Expr) (a b c : Expr) (l r n : Code) → 3 ≤ length es → a ≡ get_or es 0 a → b ≡ get_or es 1 b → c ≡ get_or es 2 c →
-      l ≡ code_of texts scope (tree a) → r ≡ code_of texts scope (tree b) → n ≡ code_of texts scope (tree c) →
-      host row.Substr (At l (two r n)) ≡ applied_code texts scope builtin.Substr (trees es)
+  pub substr_code : (es : List Expr) (a b c : Expr) → 3 ≤ length es → a ≡ get_or es 0 a → b ≡ get_or es 1 b → c ≡ get_or es 2 c →
+      host row.Substr (At (code_of texts scope (tree a)) (two (code_of texts scope (tree b)) (code_of texts scope (tree c)))) ≡ applied_code texts scope builtin.Substr (trees es)
   unfolding applied_code
-  substr_code es a b c l r n le first second third hl hr hn = rw (hl, hr, hn)
-      (sym (ap (applied_code texts scope builtin.Substr) (three_trees es a b c le first second third)))
+  substr_code es a b c le first second third = sym (ap (applied_code texts scope builtin.Substr) (three_trees es a b c le first second third))
 
   -- the second operand of `split` is a name
   split_other : (s t : Tree) (ts : Trees) → bare_name t ≡ None → Unset ≡ applied_code texts scope builtin.Split (Then s (Then t ts))
@@ -455,57 +439,46 @@ module _ (texts : List (List ℕ)) (scope : Scope) where
   split_none (x ∷ []) b le second none = absurd (omega arith)
   split_none (x ∷ y ∷ es) b le second none = split_other (tree x) (tree y) (trees es) (ap (λ (e : Expr). bare_name (tree e)) (sym second) ∙ none)
 
-  pub split_code : (es : List Expr) (a b : Expr) (x : List ℕ) (l array r : Code) → length es ≡ 2 → a ≡ get_or es 0 a → b ≡ get_or es 1 b →
-      tree b ≡ Var x →
-      l ≡ code_of texts scope (tree a) → array ≡ Array (array_of scope x) → r ≡ special_code Fs →
-      host row.Split (At l (At array (At r (Fixed (flag_number false) End)))) ≡ applied_code texts scope builtin.Split (trees es)
+  pub split_code : (es : List Expr) (a b : Expr) (x : List ℕ) (array : Code) → length es ≡ 2 → a ≡ get_or es 0 a → b ≡ get_or es 1 b → tree b ≡ Var x →
+      array ≡ Array (array_of scope x) →
+      host row.Split (At (code_of texts scope (tree a)) (At array (At (special_code Fs) (Fixed (flag_number false) End)))) ≡ applied_code texts scope builtin.Split (trees es)
   unfolding applied_code
-  split_code es a b x l array r n first second name hl ha hr =
-      rw (hl, ha, hr) (sym (ap (applied_code texts scope builtin.Split)
-      (just_two es a b n first second ∙ ap (λ (t : Tree). Then (tree a) (Then t NoTree)) name)))
+  split_code es a b x array n first second name ha =
+      rw ha (sym (ap (applied_code texts scope builtin.Split) (just_two es a b n first second ∙ ap (λ (t : Tree). Then (tree a) (Then t NoTree)) name)))
 
-  pub split_by_code : (es : List Expr) (a b c : Expr) (x : List ℕ) (l array r : Code) (flag : Bool) → 3 ≤ length es → a ≡ get_or es 0 a →
-      b ≡ get_or es 1 b → c ≡ get_or es 2 c →
-      tree b ≡ Var x → l ≡ code_of texts scope (tree a) → array ≡ Array (array_of scope x) →
-      r ≡ ere_code texts (ere_in (tree c)) (code_of texts scope (tree c)) → flag ≡ is_ere (ere_in (tree c)) →
-      host row.Split (At l (At array (At r (Fixed (flag_number flag) End)))) ≡ applied_code texts scope builtin.Split (trees es)
+  pub split_by_code : (es : List Expr) (a b c : Expr) (x : List ℕ) (array : Code) (flag : Bool) → 3 ≤ length es → a ≡ get_or es 0 a → b ≡ get_or es 1 b →
+      c ≡ get_or es 2 c → tree b ≡ Var x → array ≡ Array (array_of scope x) → flag ≡ is_ere (ere_in (tree c)) →
+      host row.Split (At (code_of texts scope (tree a)) (At array (At (ere_code texts (ere_in (tree c)) (code_of texts scope (tree c))) (Fixed (flag_number flag) End))))
+      ≡ applied_code texts scope builtin.Split (trees es)
   unfolding applied_code
-  split_by_code es a b c x l array r flag le first second third name hl ha hr hf =
-      rw (hl, ha, hr, hf) (sym (ap (applied_code texts scope builtin.Split)
+  split_by_code es a b c x array flag le first second third name ha hf =
+      rw (ha, hf) (sym (ap (applied_code texts scope builtin.Split)
       (three_trees es a b c le first second third ∙ ap (λ (t : Tree). Then (tree a) (Then t (Then (tree c) (trees (drop 3 es))))) name)))
 
-  pub record_replaced : (all : Bool) (es : List Expr) (a b : Expr) (ere replacement : Code) → length es ≡ 2 → a ≡ get_or es 0 a → b ≡ get_or es 1 b →
-      ere ≡ ere_code texts (ere_in (tree a)) (code_of texts scope (tree a)) → replacement ≡ code_of texts scope (tree b) →
-      Let ere (Let replacement (Let zero_code (substituted_at all FieldTarget))) ≡ applied_code texts scope (sub_or_gsub all) (trees es)
+  pub record_replaced : (all : Bool) (es : List Expr) (a b : Expr) → length es ≡ 2 → a ≡ get_or es 0 a → b ≡ get_or es 1 b →
+      Let (ere_code texts (ere_in (tree a)) (code_of texts scope (tree a))) (Let (code_of texts scope (tree b)) (Let zero_code (substituted_at all FieldTarget)))
+      ≡ applied_code texts scope (sub_or_gsub all) (trees es)
   unfolding applied_code
-  record_replaced false es a b ere replacement n first second he hr =
-      rw (he, hr) (sym (ap (applied_code texts scope builtin.Sub) (just_two es a b n first second)))
-  record_replaced true es a b ere replacement n first second he hr =
-      rw (he, hr) (sym (ap (applied_code texts scope builtin.Gsub) (just_two es a b n first second)))
+  record_replaced false es a b n first second = sym (ap (applied_code texts scope builtin.Sub) (just_two es a b n first second))
+  record_replaced true es a b n first second = sym (ap (applied_code texts scope builtin.Gsub) (just_two es a b n first second))
 
-  pub place_replaced : (all : Bool) (es : List Expr) (a b c : Expr) (ere replacement : Code) (kept : Option Code) → 3 ≤ length es →
-      a ≡ get_or es 0 a → b ≡ get_or es 1 b → c ≡ get_or es 2 c →
-      ere ≡ ere_code texts (ere_in (tree a)) (code_of texts scope (tree a)) → replacement ≡ code_of texts scope (tree b) →
-      kept ≡ kept_code texts scope (tree c) →
-      Let ere (Let replacement (keeping kept (substituted_at all (target_in texts scope (tree c))))) ≡ applied_code texts scope (sub_or_gsub all)
-      (trees es)
+  pub place_replaced : (all : Bool) (es : List Expr) (a b c : Expr) → 3 ≤ length es → a ≡ get_or es 0 a → b ≡ get_or es 1 b → c ≡ get_or es 2 c →
+      Let (ere_code texts (ere_in (tree a)) (code_of texts scope (tree a))) (Let (code_of texts scope (tree b))
+      (keeping (kept_code texts scope (tree c)) (substituted_at all (target_in texts scope (tree c))))) ≡ applied_code texts scope (sub_or_gsub all) (trees es)
   unfolding applied_code
-  place_replaced false es a b c ere replacement kept le first second third he hr hk =
-      rw (he, hr, hk) (sym (ap (applied_code texts scope builtin.Sub) (three_trees es a b c le first second third)))
-  place_replaced true es a b c ere replacement kept le first second third he hr hk =
-      rw (he, hr, hk) (sym (ap (applied_code texts scope builtin.Gsub) (three_trees es a b c le first second third)))
+  place_replaced false es a b c le first second third = sym (ap (applied_code texts scope builtin.Sub) (three_trees es a b c le first second third))
+  place_replaced true es a b c le first second third = sym (ap (applied_code texts scope builtin.Gsub) (three_trees es a b c le first second third))
 
   -- q says whether the operator divides
-  pub quotient_code : (e a b : Tree) (o : Op) (q : Bool) (l r : Code) → e ≡ Bin o a b →
+  pub quotient_code : (e a b : Tree) (o : Op) (q : Bool) → e ≡ Bin o a b →
       ((whole : Code) → truncated_code texts scope (Bin o a b) whole ≡
       (if q then Do (Inline inline.Truncated) (two (code_of texts scope a) (code_of texts scope b)) else host row.IntOf (one whole))) →
-      q ≡ true → l ≡ code_of texts scope a → r ≡ code_of texts scope b →
-      Do (Inline inline.Truncated) (two l r) ≡ truncated_code texts scope e (code_of texts scope e)
-  quotient_code e a b o q l r is so divides hl hr =
+      q ≡ true → Do (Inline inline.Truncated) (two (code_of texts scope a) (code_of texts scope b)) ≡ truncated_code texts scope e (code_of texts scope e)
+  quotient_code e a b o q is so divides =
       let whole = code_of texts scope e in
-      rw (hl, hr) (sym (ap (λ (t : Tree). truncated_code texts scope t whole) is ∙ so whole
+      sym (ap (λ (t : Tree). truncated_code texts scope t whole) is ∙ so whole
       ∙ ap (λ (d : Bool). if d then Do (Inline inline.Truncated) (two (code_of texts scope a) (code_of texts scope b)) else host row.IntOf
-      (one whole)) divides))
+      (one whole)) divides)
 
   pub other_operator : (e a b : Tree) (o : Op) (q : Bool) → e ≡ Bin o a b →
       ((whole : Code) → truncated_code texts scope (Bin o a b) whole ≡

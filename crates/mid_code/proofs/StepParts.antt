@@ -1,33 +1,42 @@
 -- The code of statements, a step at a time.
-use Rattle.std.proofs.Common.{◌≡◌, ℕ, ◌+◌, ◌<◌, ◌≤◌, length, drop, get_or, List, [], ◌∷◌, ◌++◌, Option, Some, None, refl, ap, sym, ◌∙◌}
-use Rattle.std.specs.Option.{option_to_list}
-use Rattle.std.proofs.lemmas.List.{append-nil}
+use Rattle.std.proofs.Common.{◌≡◌, ◌⊎◌, inl, inr, ℕ, ◌+◌, ◌<◌, ◌≤◌, length, drop, get_or, true, false, List, [], ◌∷◌, ◌++◌, Option, Some, Result, Ok, Err, refl, ap, sym, ◌∙◌, arith}
+use Rattle.std.specs.Prelude.{IsOkAnd}
+use Rattle.std.specs.Global.{Vec}
+use Rattle.std.specs.declared.alloc.Global.{Global}
+use Rattle.std.specs.declared.boxed.Box.{Box}
 use Rattle.std.proofs.Math.ListN.{drop_of_length-le}
 use Rattle.awk_grammar.specs.Tree.{Tree, Trees, NoTree, Then as ThenTree}
-use Rattle.awk_grammar.specs.Stmt.{NoArgs}
-use Rattle.awk_grammar.specs.ViewStmt.{view_stmt, view_stmts}
+use Rattle.awk_grammar.specs.Item.{Item as PlainItem}
+use Rattle.awk_grammar.specs.Stmt.{NoArgs, Block as Listed, Leave}
+use Rattle.awk_grammar.specs.View.{view as tree}
+use Rattle.awk_grammar.specs.ViewStmt.{view_item, view_leaving, view_maybe, view_maybe_simple, view_pattern, view_stmt, view_stmts, view_target}
+use Rattle.awk_grammar.specs.declared.tree.Expr.{Expr}
+use Rattle.awk_grammar.specs.declared.tree.Item.TheVariants as entry
+use Rattle.awk_grammar.specs.declared.tree.Item.{Item}
+use Rattle.awk_grammar.specs.declared.tree.Leaving.{Leaving}
+use Rattle.awk_grammar.specs.declared.tree.Leaving.TheVariants as leaving
+use Rattle.awk_grammar.specs.declared.tree.Pattern.{Pattern}
+use Rattle.awk_grammar.specs.declared.tree.PrintTarget.{PrintTarget}
+use Rattle.awk_grammar.specs.declared.tree.PrintTarget.TheVariants.{File, FileEnd}
+use Rattle.awk_grammar.specs.declared.tree.SimpleStmt.{SimpleStmt}
+use Rattle.awk_grammar.specs.declared.tree.Stmt as statement
 use Rattle.awk_grammar.specs.declared.tree.Stmt.{Stmt}
 use Rattle.awk_resolve.proofs.Names.{drop_at}
 use Rattle.awk_text.specs.Number.{denominator, numerator}
 use Rattle.awk_text.specs.Reading.{exponent_at, fraction_at, numeral_at, sign_at}
 use Rattle.sem_primitives.specs.declared.constants.Destination.TheVariants as destination
 use Rattle.sem_primitives.specs.declared.table.Listed.TheVariants as listed
-use Rattle.sem_scripts.specs.Items.{print_record}
-use Rattle.mid_program.specs.Mid.{Code as PlainCode, Codes, End, At, Over, Eval, Steps, NoStep, Then}
-use Rattle.sem_scripts.specs.Names.{Scope}
-use Rattle.sem_scripts.specs.Statements.{operands_of, with_last}
-use Rattle.mid_program.specs.Translation.{code_of, codes_of, record_code, step_code, steps_code}
-use Rattle.mid_program.specs.ViewCode.{followed, maybe_then, view, views}
-use Rattle.mid_program.specs.declared.code.Code.{Code}
-use Rattle.mid_program.specs.declared.code.Operand.{Operand}
-use Rattle.mid_program.specs.declared.code.Operand.TheVariants as operand
+use Rattle.sem_scripts.specs.Items.{item_ranges, print_record}
+use Rattle.mid_program.specs.Mid.{Codes, End, At, Over, Step as PlainStep, Block, Each, Eval, If, Loop, Steps, NoStep, Then}
+use Rattle.sem_scripts.specs.Names.{Scope, array_of, variable_of}
+use Rattle.sem_scripts.specs.Statements.{operands_of, with_last, with_target}
+use Rattle.mid_program.specs.Translation.{begin_code, code_of, codes_of, end_code, items_code, maybe_step, moved, record_code, step_code, steps_code, store_variable_code, test_code, where_code}
+use Rattle.mid_program.specs.ViewCode.{followed}
 use Rattle.mid_program.specs.declared.step.Step.{Step}
-use Rattle.mid_code.proofs.Views.{chain, chain_push, followed_end, followed_push}
-
--- one step more, if there is one
-pub chain_maybe : (found : List Step) (step : Option Step) (rest : Steps) → chain (found ++ option_to_list step) rest ≡ chain found (maybe_then step rest)
-chain_maybe found None rest = ap (λ (ss : List Step). chain ss rest) (append-nil found)
-chain_maybe found (Some s) rest = chain_push found s rest
+use Rattle.mid_code.specs.Leaving.{left_with}
+use Rattle.mid_code.specs.Made.{MakesStep}
+use Rattle.mid_code.specs.ViewSteps.{chain}
+use Rattle.mid_code.proofs.Views.{chain_push}
 
 module _ (texts : List (List ℕ)) (scope : Scope) where
   with_last_is : (ts : Trees) (t : Tree) → followed (codes_of texts scope ts) (At (code_of texts scope t) End) ≡ codes_of texts scope (with_last ts t)
@@ -35,21 +44,24 @@ module _ (texts : List (List ℕ)) (scope : Scope) where
   with_last_is NoTree t = refl
   with_last_is (ThenTree u us) t = ap (At (code_of texts scope u)) (with_last_is us t)
 
-  -- operands with one more at the end
-  pub last_operand : (es : List Operand) (e : Code) (ts : Trees) (t : Tree) → views es ≡ codes_of texts scope ts → view e ≡ code_of texts scope t →
-      views (es ++ operand.Code e ∷ []) ≡ codes_of texts scope (with_last ts t)
-  last_operand es e ts t h k =
-      sym (followed_end (views (es ++ operand.Code e ∷ [])))
-      ∙ followed_push es (operand.Code e) End
-      ∙ ap (λ (cs : Codes). followed cs (At (view e) End)) h
-      ∙ ap (λ (x : PlainCode). followed (codes_of texts scope ts) (At x End)) k
-      ∙ with_last_is ts t
+  -- where there is a target
+  pub with_target_is : (ts : Trees) (file : Expr) (target : PrintTarget) → (target ≡ File file) ⊎ (target ≡ FileEnd file) →
+      followed (codes_of texts scope ts) (At (code_of texts scope (tree file)) End) ≡ codes_of texts scope (with_target ts (view_target target))
+  with_target_is ts file target (inl is) = with_last_is ts (tree file) ∙ sym (ap (λ (t : PrintTarget). codes_of texts scope (with_target ts (view_target t))) is)
+  with_target_is ts file target (inr is) = with_last_is ts (tree file) ∙ sym (ap (λ (t : PrintTarget). codes_of texts scope (with_target ts (view_target t))) is)
 
   -- without operands it is the record
 
   pub whole_record_is : codes_of texts scope (operands_of NoArgs) ≡ At record_code End
   unfolding code_of codes_of numeral_at sign_at fraction_at exponent_at numerator denominator
   whole_record_is = refl
+
+  -- a step more, and what it is the code of
+  pub chain_made : {E : Type 0} (old new : List Step) (made : Result Step E) (s : PlainStep) (rest all : Steps) → IsOkAnd made (λ m. new ≡ old ++ m ∷ []) → MakesStep made s →
+      Then s rest ≡ all → chain new rest ≡ chain old all
+  chain_made old new (Ok m) s rest all more is so =
+      ap (λ (ss : List Step). chain ss rest) more ∙ chain_push old m rest ∙ ap (λ (x : PlainStep). chain old (Then x rest)) is ∙ ap (chain old) so
+  chain_made old new (Err e) s rest all more is so = absurd more
 
   pub print_record_is : steps_code texts scope print_record ≡ Then (Eval (Over (listed.Print destination.Standard) (At record_code End))) NoStep
   unfolding step_code steps_code
@@ -63,3 +75,72 @@ module _ (texts : List (List ℕ)) (scope : Scope) where
   pub steps_past : (body : List Stmt) (i : ℕ) → length body ≤ i → steps_code texts scope (view_stmts (drop i body)) ≡ NoStep
   unfolding steps_code
   steps_past body i le = ap (λ (xs : List Stmt). steps_code texts scope (view_stmts xs)) (drop_of_length-le body le)
+
+  -- statements by their parts
+
+  pub block_step : (s : Stmt) (v : Vec Stmt) (b : List Stmt) → Listed (view_stmts b) ≡ view_stmt s → Block (steps_code texts scope (view_stmts b)) ≡ step_code texts scope (view_stmt s)
+  unfolding step_code
+  block_step s v b is = ap (step_code texts scope) is
+
+  pub if_step : (s : Stmt) (e : Expr) (p : Box Stmt Global) (y : Stmt) → s ≡ statement.If e p → y ≡ p.value →
+      If (code_of texts scope (tree e)) (step_code texts scope (view_stmt y)) (Block NoStep) ≡ step_code texts scope (view_stmt s)
+  unfolding step_code
+  if_step s e p y is hy = rw (hy, is) refl
+
+  pub if_else_step : (s : Stmt) (e : Expr) (p q : Box Stmt Global) (y n : Stmt) → s ≡ statement.IfElse e p q → y ≡ p.value → n ≡ q.value →
+      If (code_of texts scope (tree e)) (step_code texts scope (view_stmt y)) (step_code texts scope (view_stmt n)) ≡ step_code texts scope (view_stmt s)
+  unfolding step_code
+  if_else_step s e p q y n is hy hn = rw (hy, hn, is) refl
+
+  pub while_step : (s : Stmt) (e : Expr) (p : Box Stmt Global) (b : Stmt) → s ≡ statement.While e p → b ≡ p.value →
+      Loop true (code_of texts scope (tree e)) (step_code texts scope (view_stmt b)) (Block NoStep) ≡ step_code texts scope (view_stmt s)
+  unfolding step_code
+  while_step s e p b is hb = rw (hb, is) refl
+
+  pub do_step : (s : Stmt) (e : Expr) (p : Box Stmt Global) (b : Stmt) → s ≡ statement.Do p e → b ≡ p.value →
+      Loop false (code_of texts scope (tree e)) (step_code texts scope (view_stmt b)) (Block NoStep) ≡ step_code texts scope (view_stmt s)
+  unfolding step_code
+  do_step s e p b is hb = rw (hb, is) refl
+
+  pub for_step : (s : Stmt) (i n : Option SimpleStmt) (e : Option Expr) (p : Box Stmt Global) (b : Stmt) → s ≡ statement.For i e n p → b ≡ p.value →
+      Block (Then (maybe_step texts scope (view_maybe_simple i)) (Then (Loop true (test_code texts scope (view_maybe e)) (step_code texts scope (view_stmt b))
+      (maybe_step texts scope (view_maybe_simple n))) NoStep)) ≡ step_code texts scope (view_stmt s)
+  unfolding step_code
+  for_step s i n e p b is hb = rw (hb, is) refl
+
+  pub for_in_step : (s : Stmt) (k a : Vec ℕ) (x y : List ℕ) (p : Box Stmt Global) (b : Stmt) → s ≡ statement.ForIn k a p → x ≡ k.items → y ≡ a.items → b ≡ p.value →
+      Each (array_of scope y) (store_variable_code (variable_of scope x) (moved 0)) (step_code texts scope (view_stmt b)) ≡ step_code texts scope (view_stmt s)
+  unfolding step_code
+  for_in_step s k a x y p b is hx hy hb = rw (hx, hy, hb, is) refl
+
+  pub left_step : (l : Leaving) (t : Tree) → left_with l (code_of texts scope t) ≡ step_code texts scope (Leave (view_leaving l) (Some t))
+  unfolding step_code
+  left_step leaving.Exit t = refl
+  left_step leaving.Return t = refl
+
+  -- items by their parts
+
+  pub begin_item : (item : Item) (v : Vec Stmt) (b : List Stmt) (items : List PlainItem) → item ≡ entry.Begin v → b ≡ v.items →
+      Then (Block (steps_code texts scope (view_stmts b))) (begin_code texts scope items) ≡ begin_code texts scope (view_item item ∷ items)
+  begin_item item v b items is hb = rw (hb, is) refl
+
+  pub end_item : (item : Item) (v : Vec Stmt) (b : List Stmt) (items : List PlainItem) → item ≡ entry.End v → b ≡ v.items →
+      Then (Block (steps_code texts scope (view_stmts b))) (end_code texts scope items) ≡ end_code texts scope (view_item item ∷ items)
+  end_item item v b items is hb = rw (hb, is) refl
+
+  pub action_item : (item : Item) (v : Vec Stmt) (b : List Stmt) (n : ℕ) (items : List PlainItem) → item ≡ entry.Action v → b ≡ v.items →
+      Then (Block (steps_code texts scope (view_stmts b))) (items_code texts scope (item_ranges (view_item item) + n) items)
+      ≡ items_code texts scope n (view_item item ∷ items)
+  action_item item v b n items is hb =
+      let none : 0 + n ≡ n = omega arith in
+      rw (hb, is) (ap (λ (m : ℕ). Then (Block (steps_code texts scope (view_stmts v.items))) (items_code texts scope m items)) none)
+
+  pub rule_item : (item : Item) (p : Pattern) (v : Vec Stmt) (b : List Stmt) (n : ℕ) (items : List PlainItem) → item ≡ entry.Rule p v → b ≡ v.items →
+      Then (where_code texts scope n (view_pattern p) (Block (steps_code texts scope (view_stmts b)))) (items_code texts scope (item_ranges (view_item item) + n) items)
+      ≡ items_code texts scope n (view_item item ∷ items)
+  rule_item item p v b n items is hb = rw (hb, is) refl
+
+  pub lone_item : (item : Item) (p : Pattern) (n : ℕ) (items : List PlainItem) → item ≡ entry.PatternOnly p →
+      Then (where_code texts scope n (view_pattern p) (Block (steps_code texts scope print_record))) (items_code texts scope (item_ranges (view_item item) + n) items)
+      ≡ items_code texts scope n (view_item item ∷ items)
+  lone_item item p n items is = rw is refl

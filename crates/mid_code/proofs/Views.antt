@@ -6,6 +6,7 @@ use Rattle.std.specs.declared.alloc.Global.{Global}
 use Rattle.sem_primitives.specs.declared.table.Listed.{Listed}
 use Rattle.mid_program.specs.Mid as plain
 use Rattle.mid_program.specs.ViewCode.{before, followed, view, view_row, view_step, view_step_row, view_steps, views}
+use Rattle.mid_code.specs.ViewSteps.{chain}
 use Rattle.mid_program.specs.declared.mid.Operation.{Operation}
 use Rattle.mid_program.specs.declared.code.Operand.{Operand}
 use Rattle.mid_program.specs.declared.code.Operand.TheVariants as operand
@@ -72,9 +73,6 @@ pub view_block : (v : Vec Step Global) → view_step (Block v) ≡ plain.Block (
 view_block v = ap plain.Block (step_rows (hidden-the_row-Step-0 v) ∙ ap view_steps (items_hidden-the_row-Step-0 v))
 
 -- steps before others
-abbrev pub chain : List Step → plain.Steps → plain.Steps
-chain [] rest = rest
-chain (s ∷ ss) rest = plain.Then (view_step s) (chain ss rest)
 
 pub chain_push : (ss : List Step) (s : Step) (rest : plain.Steps) → chain (ss ++ s ∷ []) rest ≡ chain ss (plain.Then (view_step s) rest)
 chain_push [] s rest = refl

@@ -1,5 +1,7 @@
 pub mod Applied
 pub mod Keys
+pub mod Leaving
+pub mod Made
 pub mod ViewNames
 pub mod ViewBodies
 pub mod ViewScope

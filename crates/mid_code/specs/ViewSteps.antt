@@ -1,10 +1,9 @@
--- Steps in boxes, as the code has them.
-use Rattle.std.specs.Prelude.{Option, Some, None}
-use Rattle.std.specs.declared.alloc.Global.{Global}
-use Rattle.std.specs.declared.boxed.Box.{Box}
+-- Steps before others.
+use Rattle.std.specs.Prelude.{List, [], ◌∷◌}
+use Rattle.mid_program.specs.Mid as plain
+use Rattle.mid_program.specs.ViewCode.{view_step}
 use Rattle.mid_program.specs.declared.step.Step.{Step}
 
--- the step that a box holds, if there is one
-abbrev pub unboxed : Option (Box Step Global) → Option Step
-unboxed None = None
-unboxed (Some step) = Some step.value
+abbrev pub chain : List Step → plain.Steps → plain.Steps
+chain [] rest = rest
+chain (s ∷ ss) rest = plain.Then (view_step s) (chain ss rest)

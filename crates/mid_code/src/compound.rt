@@ -1,6 +1,6 @@
 //! The code of expressions whose parts have their code.
 
-ghost use Rattle.std.specs.Prelude.{◌≡◌, ℕ, List, ◌∷◌, map, IfOk};
+ghost use Rattle.std.specs.Prelude.{◌≡◌, ℕ, List, ◌∷◌, Option, Some, map, IfOk, OnOk};
 ghost use Rattle.awk_grammar.specs.Token.{Ere};
 ghost use Rattle.awk_grammar.specs.Tree.{Leaf, NoTree};
 ghost use Rattle.awk_grammar.specs.View.{view as tree, view_assign, view_step};
@@ -8,22 +8,22 @@ ghost use Rattle.awk_resolve.specs.ViewKinds.{view_name};
 ghost use Rattle.sem_primitives.specs.Constants.{flag_number};
 ghost use Rattle.sem_primitives.specs.declared.table.Primitive.TheVariants as row;
 ghost use Rattle.awk_text.specs.Escapes.{string_text};
+ghost use Rattle.mid_program.specs.declared.mid.Arithmetic.TheVariants as inline;
 ghost use Rattle.mid_program.specs.Mid as plain;
 ghost use Rattle.sem_scripts.specs.Names as plain_names;
 ghost use Rattle.sem_scripts.specs.Names.{Name, array_of};
 ghost use Rattle.mid_program.specs.Texts.{text_place};
 ghost use Rattle.mid_program.specs.Translation.{FieldTarget, applied_code, assigned_at, code_of, fresh_codes, keeping, one, passed_code, received_at, record_code, special_code, step_after_at, stepped_at, substituted_at, target_in, two, zero_code};
-ghost use Rattle.mid_program.specs.ViewCode.{before, view, view_array};
+ghost use Rattle.mid_program.specs.ViewCode.{before, followed, view, view_array, views};
 ghost use Rattle.mid_code.specs.Applied.{applied_to};
 ghost use Rattle.mid_code.specs.Keys.{key_of};
+ghost use Rattle.mid_code.specs.Made.{Makes, MakesEach, MakesKept};
 ghost use Rattle.mid_code.specs.ViewScope.{scope_of, texts_of};
-ghost use Rattle.mid_code.specs.ViewTarget.{view_kept};
 
 use crate::build::{
     applied, binary, kept_while, number, record, reserved, ternary, three, unary, variable,
 };
-use crate::held::{boxed, push};
-use crate::operators::host;
+use crate::held::{both, boxed, in_box, push};
 use crate::peek::ere_text;
 use crate::scope::Scope;
 use crate::target::{
@@ -32,7 +32,7 @@ use crate::target::{
 use awk_grammar::{AssignOp, Builtin, Expr, StepOp};
 use awk_resolve::NameKind;
 use awk_text::string_text;
-use mid_program::{ArrayName, Code, Operand, Operation};
+use mid_program::{Arithmetic, ArrayName, Code, Operand, Operation};
 use sem_primitives::{Primitive, Special};
 use std::alloc::{AllocError, Global};
 
@@ -74,22 +74,49 @@ pub(crate) fn record_length(alloc: Global) -> Result<Code, AllocError>
 pub(crate) fn host_one(
     alloc: Global,
     primitive: Primitive,
-    operand: Code,
+    operand: Result<Code, AllocError>,
 ) -> Result<Code, AllocError>
-    ensures { IfOk result (λ code. view code ≡ plain.Do (Operation.Host primitive) (one (view
-        operand))) }
+    ensures { (e : plain.Code) → Makes operand e
+        → Makes result (plain.Do (Operation.Host primitive) (one e)) }
 {
-    unary(alloc, Operation::Host(primitive), operand)
+    unary(alloc, Operation::Host(primitive), operand?)
+}
+
+/// What the host does with two operands.
+pub(crate) fn host_two(
+    alloc: Global,
+    primitive: Primitive,
+    left: Result<Code, AllocError>,
+    right: Result<Code, AllocError>,
+) -> Result<Code, AllocError>
+    ensures { (a b : plain.Code) → Makes left a → Makes right b
+        → Makes result (plain.Do (Operation.Host primitive) (two a b)) }
+{
+    let (left, right) = both(left, right)?;
+    binary(alloc, Operation::Host(primitive), left, right)
+}
+
+/// A quotient's whole part.
+pub(crate) fn truncated_quotient(
+    alloc: Global,
+    left: Result<Code, AllocError>,
+    right: Result<Code, AllocError>,
+) -> Result<Code, AllocError>
+    ensures { (a b : plain.Code) → Makes left a → Makes right b
+        → Makes result (plain.Do (Operation.Inline inline.Truncated) (two a b)) }
+{
+    let (left, right) = both(left, right)?;
+    binary(alloc, Operation::Inline(Arithmetic::Truncated), left, right)
 }
 
 /// The number of what the host does with one operand.
 pub(crate) fn host_number(
     alloc: Global,
     primitive: Primitive,
-    operand: Code,
+    operand: Result<Code, AllocError>,
 ) -> Result<Code, AllocError>
-    ensures { IfOk result (λ code. view code ≡ plain.Do Operation.AsNumber (one (plain.Do
-        (Operation.Host primitive) (one (view operand))))) }
+    ensures { (e : plain.Code) → Makes operand e → Makes result (plain.Do Operation.AsNumber (one
+        (plain.Do (Operation.Host primitive) (one e)))) }
 {
     let answer = host_one(alloc, primitive, operand)?;
     unary(alloc, Operation::AsNumber, answer)
@@ -104,7 +131,8 @@ pub(crate) fn host_whole(
     ensures { IfOk result (λ code. view code ≡ plain.Do (Operation.Host primitive) (one (plain.Array
         (array_of (scope_of scope.now) name.now)))) }
 {
-    host_one(scope.alloc, primitive, Code::Array(scope.array(name)))
+    let array = Code::Array(scope.array(name));
+    unary(scope.alloc, Operation::Host(primitive), array)
 }
 
 /// What the host does with an array and a key.
@@ -112,53 +140,87 @@ pub(crate) fn host_array(
     scope: &Scope<'_>,
     primitive: Primitive,
     name: &[u8],
-    key: Box<Code>,
+    key: Result<Code, AllocError>,
 ) -> Result<Code, AllocError>
-    ensures { IfOk result (λ code. view code ≡ plain.Do (Operation.Host primitive) (two (plain.Array
-        (array_of (scope_of scope.now) name.now)) (view key.value))) }
+    ensures { (e : plain.Code) → Makes key e → Makes result (plain.Do (Operation.Host primitive) (two
+        (plain.Array (array_of (scope_of scope.now) name.now)) e)) }
 {
     let array = Code::Array(scope.array(name));
-    binary(
-        scope.alloc,
-        Operation::Host(primitive),
-        array,
-        Box::into_inner(key),
-    )
+    binary(scope.alloc, Operation::Host(primitive), array, key?)
 }
 
 /// The key of a subscript and others.
-pub(crate) fn joined(
-    alloc: Global,
-    first: Box<Code>,
-    others: Vec<Code>,
-) -> Result<Box<Code>, AllocError>
-    ensures { IfOk result (λ key. view key.value ≡ plain.Do (Operation.Host row.Join) (two (view
+fn joined_key(alloc: Global, first: Box<Code>, others: Vec<Code>) -> Result<Code, AllocError>
+    ensures { IfOk result (λ key. view key ≡ plain.Do (Operation.Host row.Join) (two (view
         first.value) (key_of (map view others.items)))) }
 {
     let mut others = others;
     let last = others.pop().unwrap_or(Code::Unset);
     let last = boxed(alloc, last)?;
-    boxed(alloc, Code::Joined(first, others, last))
+    Ok(Code::Joined(first, others, last))
+}
+
+/// The same, of subscripts as they were made.
+pub(crate) fn joined(
+    alloc: Global,
+    first: Result<Code, AllocError>,
+    others: Result<Vec<Code>, AllocError>,
+) -> Result<Code, AllocError>
+    ensures { (e : plain.Code) (es : List plain.Code) → Makes first e → MakesEach others es
+        → Makes result (plain.Do (Operation.Host row.Join) (two e (key_of es))) }
+{
+    let (first, others) = both(in_box(alloc, first), others)?;
+    joined_key(alloc, first, others)
 }
 
 /// The key of subscripts.
-pub(crate) fn key_of(alloc: Global, codes: Vec<Code>) -> Result<Box<Code>, AllocError>
-    ensures { IfOk result (λ key. view key.value ≡ key_of (map view codes.items)) }
+fn key_by(alloc: Global, codes: Vec<Code>) -> Result<Code, AllocError>
+    ensures { IfOk result (λ key. view key ≡ key_of (map view codes.items)) }
 {
     let mut codes = codes;
     if codes.len() < 2 {
-        return boxed(alloc, codes.pop().unwrap_or(Code::Unset));
+        return Ok(codes.pop().unwrap_or(Code::Unset));
     }
     let first = boxed(alloc, codes.remove(0))?;
-    joined(alloc, first, codes)
+    joined_key(alloc, first, codes)
+}
+
+/// The same, of subscripts as they were made.
+pub(crate) fn key_of(
+    alloc: Global,
+    codes: Result<Vec<Code>, AllocError>,
+) -> Result<Code, AllocError>
+    ensures { (es : List plain.Code) → MakesEach codes es → Makes result (key_of es) }
+{
+    key_by(alloc, codes?)
+}
+
+/// A key that is kept for a place.
+pub(crate) fn kept_key(
+    alloc: Global,
+    key: Result<Code, AllocError>,
+) -> Result<Option<Box<Code>>, AllocError>
+    ensures { (e : plain.Code) → Makes key e → MakesKept result (Some e) }
+{
+    Ok(Some(in_box(alloc, key)?))
 }
 
 /// The number of a field, which is kept for a place.
-pub(crate) fn field_number(alloc: Global, number: Code) -> Result<Box<Code>, AllocError>
-    ensures { IfOk result (λ kept. view kept.value ≡ plain.Do Operation.FieldNumber (one (view
-        number))) }
+pub(crate) fn kept_number(
+    alloc: Global,
+    number: Result<Code, AllocError>,
+) -> Result<Option<Box<Code>>, AllocError>
+    ensures { (e : plain.Code) → Makes number e
+        → MakesKept result (Some (plain.Do Operation.FieldNumber (one e))) }
 {
-    boxed(alloc, unary(alloc, Operation::FieldNumber, number)?)
+    kept_key(alloc, unary(alloc, Operation::FieldNumber, number?))
+}
+
+/// What is kept for what is no place.
+pub(crate) fn kept_zero(alloc: Global) -> Result<Option<Box<Code>>, AllocError>
+    ensures { MakesKept result (Some zero_code) }
+{
+    Ok(Some(number(alloc, 0)?))
 }
 
 /// A step of a place; the number after it is the answer.
@@ -166,11 +228,12 @@ pub(crate) fn step_place(
     scope: &Scope<'_>,
     op: StepOp,
     place: &Expr,
-    kept: Option<Box<Code>>,
+    kept: Result<Option<Box<Code>>, AllocError>,
 ) -> Result<Code, AllocError>
-    ensures { IfOk result (λ code. view code ≡ keeping (view_kept kept) (stepped_at (view_step op)
-        (target_in (texts_of scope.now) (scope_of scope.now) (tree place.now)))) }
+    ensures { (k : Option plain.Code) → MakesKept kept k → Makes result (keeping k (stepped_at
+        (view_step op) (target_in (texts_of scope.now) (scope_of scope.now) (tree place.now)))) }
 {
+    let kept = kept?;
     let body = stepped(scope.alloc, op, target_in(scope, place))?;
     keeping(scope.alloc, kept, body)
 }
@@ -180,11 +243,12 @@ pub(crate) fn step_place_after(
     scope: &Scope<'_>,
     op: StepOp,
     place: &Expr,
-    kept: Option<Box<Code>>,
+    kept: Result<Option<Box<Code>>, AllocError>,
 ) -> Result<Code, AllocError>
-    ensures { IfOk result (λ code. view code ≡ keeping (view_kept kept) (step_after_at (view_step
-        op) (target_in (texts_of scope.now) (scope_of scope.now) (tree place.now)))) }
+    ensures { (k : Option plain.Code) → MakesKept kept k → Makes result (keeping k (step_after_at
+        (view_step op) (target_in (texts_of scope.now) (scope_of scope.now) (tree place.now)))) }
 {
+    let kept = kept?;
     let body = step_after(scope.alloc, op, target_in(scope, place))?;
     keeping(scope.alloc, kept, body)
 }
@@ -194,12 +258,14 @@ pub(crate) fn assign_place(
     scope: &Scope<'_>,
     op: AssignOp,
     place: &Expr,
-    kept: Option<Box<Code>>,
-    right: Code,
+    kept: Result<Option<Box<Code>>, AllocError>,
+    right: Result<Code, AllocError>,
 ) -> Result<Code, AllocError>
-    ensures { IfOk result (λ code. view code ≡ keeping (view_kept kept) (assigned_at (view_assign
-        op) (target_in (texts_of scope.now) (scope_of scope.now) (tree place.now)) (view right))) }
+    ensures { (k : Option plain.Code) (e : plain.Code) → MakesKept kept k → Makes right e
+        → Makes result (keeping k (assigned_at (view_assign op) (target_in (texts_of scope.now)
+        (scope_of scope.now) (tree place.now)) e)) }
 {
+    let (kept, right) = both(kept, right)?;
     let body = assigned(scope.alloc, op, target_in(scope, place), right)?;
     keeping(scope.alloc, kept, body)
 }
@@ -208,11 +274,12 @@ pub(crate) fn assign_place(
 pub(crate) fn line_into(
     scope: &Scope<'_>,
     place: &Expr,
-    kept: Option<Box<Code>>,
+    kept: Result<Option<Box<Code>>, AllocError>,
 ) -> Result<Code, AllocError>
-    ensures { IfOk result (λ code. view code ≡ keeping (view_kept kept) (plain.AskLine (received_at
-        (target_in (texts_of scope.now) (scope_of scope.now) (tree place.now))))) }
+    ensures { (k : Option plain.Code) → MakesKept kept k → Makes result (keeping k (plain.AskLine
+        (received_at (target_in (texts_of scope.now) (scope_of scope.now) (tree place.now))))) }
 {
+    let kept = kept?;
     let store = received(scope.alloc, target_in(scope, place))?;
     keeping(scope.alloc, kept, Code::AskLine(store))
 }
@@ -221,13 +288,14 @@ pub(crate) fn line_into(
 pub(crate) fn file_line_into(
     scope: &Scope<'_>,
     place: &Expr,
-    kept: Option<Box<Code>>,
-    file: Box<Code>,
+    kept: Result<Option<Box<Code>>, AllocError>,
+    file: Result<Code, AllocError>,
 ) -> Result<Code, AllocError>
-    ensures { IfOk result (λ code. view code ≡ keeping (view_kept kept) (plain.FileLine (view
-        file.value) (received_at (target_in (texts_of scope.now) (scope_of scope.now) (tree
-        place.now))))) }
+    ensures { (k : Option plain.Code) (e : plain.Code) → MakesKept kept k → Makes file e
+        → Makes result (keeping k (plain.FileLine e (received_at (target_in (texts_of scope.now)
+        (scope_of scope.now) (tree place.now))))) }
 {
+    let (kept, file) = both(kept, in_box(scope.alloc, file))?;
     let store = received(scope.alloc, target_in(scope, place))?;
     keeping(scope.alloc, kept, Code::FileLine(file, store))
 }
@@ -262,6 +330,26 @@ pub(crate) fn missing(parameter: &NameKind<'_>) -> Operand
     }
 }
 
+/// Code that was made, as an operand.
+pub(crate) fn operand_of(code: Result<Code, AllocError>) -> Result<Operand, AllocError>
+    ensures { (e : plain.Code) → Makes code e → IfOk result (λ operand. (es : plain.Codes)
+        → before operand es ≡ plain.At e es) }
+{
+    Ok(Operand::Code(code?))
+}
+
+/// Adds code that was made to operands.
+pub(crate) fn push_code(
+    operands: &mut Vec<Operand>,
+    code: Result<Code, AllocError>,
+) -> Result<(), AllocError>
+    ensures { (e : plain.Code) (es : plain.Codes) → Makes code e → OnOk result
+        (followed (views operands.new.items) es ≡ followed (views operands.old.items)
+        (plain.At e es)) }
+{
+    push(operands, Operand::Code(code?))
+}
+
 /// The code of a built-in function without operands.
 #[tactic(auto, unfolding(mid_program::specs::Translation::applied_code, mid_program::specs::Translation::code_of))]
 pub(crate) fn apply_none(alloc: Global, function: Builtin) -> Result<Code, AllocError>
@@ -289,9 +377,9 @@ pub(crate) fn apply_none(alloc: Global, function: Builtin) -> Result<Code, Alloc
 pub(crate) fn applied_to(
     alloc: Global,
     function: Builtin,
-    operand: Code,
+    operand: Result<Code, AllocError>,
 ) -> Result<Code, AllocError>
-    ensures { IfOk result (λ code. view code ≡ applied_to function (view operand)) }
+    ensures { (e : plain.Code) → Makes operand e → Makes result (applied_to function e) }
 {
     match function {
         Builtin::Length => host_one(alloc, Primitive::Length, operand),
@@ -306,46 +394,47 @@ pub(crate) fn applied_to(
         | Builtin::Gsub
         | Builtin::Match
         | Builtin::Sprintf
-        | Builtin::Int => Ok(Code::Unset),
+        | Builtin::Int => {
+            operand?;
+            Ok(Code::Unset)
+        }
     }
 }
 
 /// A part of a text, from a place on and of a length.
 pub(crate) fn part_of(
     alloc: Global,
-    text: Box<Code>,
-    from: Box<Code>,
-    count: Box<Code>,
+    text: Result<Code, AllocError>,
+    from: Result<Code, AllocError>,
+    count: Result<Code, AllocError>,
 ) -> Result<Code, AllocError>
-    ensures { IfOk result (λ code. view code ≡ plain.Do (Operation.Host row.Substr) (plain.At (view
-        text.value) (two (view from.value) (view count.value)))) }
+    ensures { (a b c : plain.Code) → Makes text a → Makes from b → Makes count c
+        → Makes result (plain.Do (Operation.Host row.Substr) (plain.At a (two b c))) }
 {
-    let text = Box::into_inner(text);
-    let from = Box::into_inner(from);
-    ternary(alloc, Primitive::Substr, text, from, Box::into_inner(count))
+    let (text, (from, count)) = both(text, both(from, count))?;
+    ternary(alloc, Primitive::Substr, text, from, count)
 }
 
 /// The separator of `split` where none is given.
-pub(crate) fn field_separator(alloc: Global) -> Result<Box<Code>, AllocError>
-    ensures { IfOk result (λ code. view code.value ≡ special_code Special.Fs) }
+pub(crate) fn field_separator(alloc: Global) -> Result<Code, AllocError>
+    ensures { Makes result (special_code Special.Fs) }
 {
-    boxed(alloc, reserved(alloc, Special::Fs)?)
+    reserved(alloc, Special::Fs)
 }
 
 /// A text is split into an array's elements; the last operand says whether the separator is an ERE.
 pub(crate) fn split_into(
     alloc: Global,
-    text: Box<Code>,
+    text: Result<Code, AllocError>,
     array: ArrayName,
-    separator: Box<Code>,
+    separator: Result<Code, AllocError>,
     is_ere: bool,
 ) -> Result<Code, AllocError>
-    ensures { IfOk result (λ code. view code ≡ plain.Do (Operation.Host row.Split) (plain.At (view
-        text.value) (plain.At (plain.Array (view_array array)) (plain.At (view separator.value)
+    ensures { (a b : plain.Code) → Makes text a → Makes separator b → Makes result (plain.Do
+        (Operation.Host row.Split) (plain.At a (plain.At (plain.Array (view_array array)) (plain.At b
         (plain.Fixed (flag_number is_ere) plain.End))))) }
 {
-    let text = Box::into_inner(text);
-    let separator = Box::into_inner(separator);
+    let (text, separator) = both(text, separator)?;
     let mut operands = three(alloc, text, Code::Array(array), separator)?;
     push(&mut operands, Operand::Constant(u32::from(is_ere)))?;
     Ok(applied(Operation::Host(Primitive::Split), operands))
@@ -369,12 +458,13 @@ fn replacing(
 pub(crate) fn substitute_record(
     alloc: Global,
     all: bool,
-    ere: Box<Code>,
-    replacement: Box<Code>,
+    ere: Result<Code, AllocError>,
+    replacement: Result<Code, AllocError>,
 ) -> Result<Code, AllocError>
-    ensures { IfOk result (λ code. view code ≡ plain.Let (view ere.value) (plain.Let (view
-        replacement.value) (plain.Let zero_code (substituted_at all FieldTarget)))) }
+    ensures { (a b : plain.Code) → Makes ere a → Makes replacement b → Makes result (plain.Let a
+        (plain.Let b (plain.Let zero_code (substituted_at all FieldTarget)))) }
 {
+    let (ere, replacement) = both(in_box(alloc, ere), in_box(alloc, replacement))?;
     let zero = number(alloc, 0)?;
     let body = substituted(alloc, all, Target::Field)?;
     let body = kept_while(alloc, zero, body)?;
@@ -386,14 +476,16 @@ pub(crate) fn substitute_place(
     scope: &Scope<'_>,
     all: bool,
     place: &Expr,
-    kept: Option<Box<Code>>,
-    ere: Box<Code>,
-    replacement: Box<Code>,
+    kept: Result<Option<Box<Code>>, AllocError>,
+    ere: Result<Code, AllocError>,
+    replacement: Result<Code, AllocError>,
 ) -> Result<Code, AllocError>
-    ensures { IfOk result (λ code. view code ≡ plain.Let (view ere.value) (plain.Let (view
-        replacement.value) (keeping (view_kept kept) (substituted_at all (target_in (texts_of
-        scope.now) (scope_of scope.now) (tree place.now)))))) }
+    ensures { (k : Option plain.Code) (a b : plain.Code) → MakesKept kept k → Makes ere a
+        → Makes replacement b → Makes result (plain.Let a (plain.Let b (keeping k (substituted_at all
+        (target_in (texts_of scope.now) (scope_of scope.now) (tree place.now)))))) }
 {
+    let parts = both(in_box(scope.alloc, ere), in_box(scope.alloc, replacement));
+    let (kept, (ere, replacement)) = both(kept, parts)?;
     let body = substituted(scope.alloc, all, target_in(scope, place))?;
     let body = keeping(scope.alloc, kept, body)?;
     replacing(scope.alloc, ere, replacement, body)

@@ -14,21 +14,21 @@ ghost use Rattle.mid_code.specs.Keys.{each_code};
 ghost use Rattle.mid_code.specs.ViewScope.{scope_of, texts_of};
 ghost use Rattle.mid_code.specs.ViewTarget.{sub_or_gsub, view_kept};
 
-use crate::build::{called, chosen, number, over, variable};
+use crate::build::{called, over, variable};
 use crate::compound::{
-    applied_to, apply_none, assign_place, field_number, field_separator, file_line_into,
-    host_array, host_number, host_one, joined, key_of, line_into, missing, part_of, passed,
-    record_length, record_matches, split_into, step_place, step_place_after, string,
-    substitute_place, substitute_record,
+    applied_to, apply_none, assign_place, field_separator, file_line_into, host_array, host_number,
+    host_one, host_two, joined, kept_key, kept_number, kept_zero, key_of, line_into, missing,
+    operand_of, part_of, passed, push_code, record_length, record_matches, split_into, step_place,
+    step_place_after, string, substitute_place, substitute_record, truncated_quotient,
 };
-use crate::held::{boxed, push};
-use crate::operators::{combined, constant, host, inline, prefixed};
+use crate::held::push_made;
+use crate::operators::{combined, conditional, constant, prefixed};
 use crate::peek::{bare_name, ere_in, is_ere, is_match, is_quotient};
 use crate::scope::Scope;
 use awk_grammar::{BinaryOp, Builtin, Expr, StepOp};
 use awk_resolve::NameKind;
-use mid_program::{Arithmetic, Code, Operand};
-use sem_primitives::{Listed, Primitive, Sort};
+use mid_program::{Code, Operand};
+use sem_primitives::{Listed, Primitive};
 use std::alloc::AllocError;
 
 /// The code of an expression.
@@ -45,51 +45,39 @@ pub(crate) fn code(scope: &Scope<'_>, e: &Expr) -> Result<Code, AllocError>
         Expr::Ere(token) => record_matches(scope, token),
         Expr::Length => record_length(alloc),
         Expr::Var(name) => variable(alloc, scope.variable(name)),
-        Expr::Element(name, keys) => host_array(scope, Primitive::Elem, name, key(scope, keys)?),
+        Expr::Element(name, keys) => host_array(scope, Primitive::Elem, name, key(scope, keys)),
         Expr::Field(number) => host_of(scope, Primitive::Field, number),
         Expr::Group(inner) => code(scope, inner),
         Expr::Call(name, arguments) => call(scope, name, arguments),
         Expr::Apply(function, arguments) => apply(scope, *function, arguments),
-        Expr::Unary(op, inner) => prefixed(alloc, *op, code(scope, inner)?),
-        Expr::PreStep(op, place) => step_place(scope, *op, place, kept(scope, place)?),
-        Expr::PostStep(op, place) => step_place_after(scope, *op, place, kept(scope, place)?),
+        Expr::Unary(op, inner) => prefixed(alloc, *op, code(scope, inner)),
+        Expr::PreStep(op, place) => step_place(scope, *op, place, kept(scope, place)),
+        Expr::PostStep(op, place) => step_place_after(scope, *op, place, kept(scope, place)),
         Expr::Binary(op, left, right) => {
-            let left = boxed_code(scope, left)?;
-            combined(alloc, *op, left, operand(scope, *op, right)?)
+            combined(alloc, *op, code(scope, left), operand(scope, *op, right))
         }
         Expr::Assign(op, place, value) => {
-            let kept = kept(scope, place)?;
-            assign_place(scope, *op, place, kept, code(scope, value)?)
+            assign_place(scope, *op, place, kept(scope, place), code(scope, value))
         }
-        Expr::In(key, name) => host_array(scope, Primitive::Has, name, boxed_code(scope, key)?),
+        Expr::In(key, name) => host_array(scope, Primitive::Has, name, code(scope, key)),
         Expr::InList(first, others, name) => {
-            let first = boxed_code(scope, first)?;
-            let others = codes(scope, others)?;
-            let key = joined(scope.alloc, first, others)?;
+            let others = codes(scope, others);
+            let key = joined(alloc, code(scope, first), others);
             host_array(scope, Primitive::Has, name, key)
         }
-        Expr::Conditional(test, yes, no) => {
-            let test = boxed_code(scope, test)?;
-            let yes = boxed_code(scope, yes)?;
-            Ok(chosen(Sort::Value, test, yes, boxed_code(scope, no)?))
-        }
+        Expr::Conditional(test, yes, no) => conditional(
+            alloc,
+            code(scope, test),
+            code(scope, yes),
+            code(scope, no),
+        ),
         Expr::Getline => Ok(Code::Ask),
-        Expr::GetlineInto(place) => line_into(scope, place, kept(scope, place)?),
-        Expr::GetlineFrom(file) => host_number(alloc, Primitive::GetlineFile, code(scope, file)?),
+        Expr::GetlineInto(place) => line_into(scope, place, kept(scope, place)),
+        Expr::GetlineFrom(file) => host_number(alloc, Primitive::GetlineFile, code(scope, file)),
         Expr::GetlineIntoFrom(place, file) => {
-            let kept = kept(scope, place)?;
-            file_line_into(scope, place, kept, boxed_code(scope, file)?)
+            file_line_into(scope, place, kept(scope, place), code(scope, file))
         }
     }
-}
-
-/// The code of an expression in a box.
-#[cycle(expressions)]
-fn boxed_code(scope: &Scope<'_>, e: &Expr) -> Result<Box<Code>, AllocError>
-    ensures { IfOk result (λ code. view code.value ≡ code_of (texts_of scope.now) (scope_of
-        scope.now) (tree e.now)) }
-{
-    boxed(scope.alloc, code(scope, e)?)
 }
 
 /// What the host does with an expression's answer.
@@ -98,8 +86,7 @@ fn host_of(scope: &Scope<'_>, primitive: Primitive, e: &Expr) -> Result<Code, Al
     ensures { IfOk result (λ code. view code ≡ plain.Do (Operation.Host primitive) (one (code_of
         (texts_of scope.now) (scope_of scope.now) (tree e.now)))) }
 {
-    let operand = code(scope, e)?;
-    host_one(scope.alloc, primitive, operand)
+    host_one(scope.alloc, primitive, code(scope, e))
 }
 
 /// Adds the code of operands.
@@ -113,7 +100,7 @@ pub(crate) fn push_operands(
         (texts_of scope.now) (scope_of scope.now) (trees es.now))) }
 {
     for e in es {
-        push(codes, Operand::Code(code(scope, e)?))?;
+        push_code(codes, code(scope, e))?;
     }
     Ok(())
 }
@@ -126,19 +113,18 @@ fn codes(scope: &Scope<'_>, es: &[Expr]) -> Result<Vec<Code>, AllocError>
 {
     let mut codes = Vec::new(scope.alloc);
     for e in es {
-        push(&mut codes, code(scope, e)?)?;
+        push_made(&mut codes, code(scope, e))?;
     }
     Ok(codes)
 }
 
 /// The code of a key, by its subscripts.
 #[cycle(expressions)]
-pub(crate) fn key(scope: &Scope<'_>, subscripts: &[Expr]) -> Result<Box<Code>, AllocError>
-    ensures { IfOk result (λ code. view code.value ≡ key_code (texts_of scope.now) (scope_of
+pub(crate) fn key(scope: &Scope<'_>, subscripts: &[Expr]) -> Result<Code, AllocError>
+    ensures { IfOk result (λ code. view code ≡ key_code (texts_of scope.now) (scope_of
         scope.now) (trees subscripts.now)) }
 {
-    let codes = codes(scope, subscripts)?;
-    key_of(scope.alloc, codes)
+    key_of(scope.alloc, codes(scope, subscripts))
 }
 
 /// What is kept for a place.
@@ -150,11 +136,8 @@ pub(crate) fn kept(scope: &Scope<'_>, place: &Expr) -> Result<Option<Box<Code>>,
 {
     match place {
         Expr::Var(_) => Ok(None),
-        Expr::Element(_, subscripts) => Ok(Some(key(scope, subscripts)?)),
-        Expr::Field(number) => {
-            let number = code(scope, number)?;
-            Ok(Some(field_number(scope.alloc, number)?))
-        }
+        Expr::Element(_, subscripts) => kept_key(scope.alloc, key(scope, subscripts)),
+        Expr::Field(number) => kept_number(scope.alloc, code(scope, number)),
         Expr::Number(_)
         | Expr::Str(_)
         | Expr::Ere(_)
@@ -173,23 +156,23 @@ pub(crate) fn kept(scope: &Scope<'_>, place: &Expr) -> Result<Option<Box<Code>>,
         | Expr::Getline
         | Expr::GetlineInto(_)
         | Expr::GetlineFrom(_)
-        | Expr::GetlineIntoFrom(_, _) => Ok(Some(number(scope.alloc, 0)?)),
+        | Expr::GetlineIntoFrom(_, _) => kept_zero(scope.alloc),
     }
 }
 
 /// The code of an operator's right operand: an ERE token that is matched is its text.
 #[cycle(expressions)]
-fn operand(scope: &Scope<'_>, op: BinaryOp, e: &Expr) -> Result<Box<Code>, AllocError>
-    ensures { IfOk result (λ code. view code.value ≡ ere_code (texts_of scope.now) (ere_for
+fn operand(scope: &Scope<'_>, op: BinaryOp, e: &Expr) -> Result<Code, AllocError>
+    ensures { IfOk result (λ code. view code ≡ ere_code (texts_of scope.now) (ere_for
         (view_binary op) (tree e.now)) (code_of (texts_of scope.now) (scope_of scope.now) (tree
         e.now))) }
 {
     if is_match(op) {
         if let Some(text) = ere_in(e) {
-            return boxed(scope.alloc, Code::Text(scope.text_place(text)));
+            return Ok(Code::Text(scope.text_place(text)));
         }
     }
-    boxed_code(scope, e)
+    code(scope, e)
 }
 
 /// The code of an argument for a parameter; a bare name may be an array's.
@@ -221,7 +204,7 @@ fn given(
     if place >= es.len() {
         return Ok(missing(parameter));
     }
-    Ok(Operand::Code(argument(scope, parameter, &es[place])?))
+    operand_of(argument(scope, parameter, &es[place]))
 }
 
 /// The code of a call.
@@ -234,7 +217,7 @@ fn call(scope: &Scope<'_>, name: &[u8], es: &[Expr]) -> Result<Code, AllocError>
     let parameters = scope.parameters_of(function);
     let mut operands = Vec::new(scope.alloc);
     for i in 0..parameters.len() {
-        push(&mut operands, given(scope, &parameters[i], es, i)?)?;
+        push_made(&mut operands, given(scope, &parameters[i], es, i))?;
     }
     Ok(called(function, operands))
 }
@@ -279,7 +262,7 @@ fn apply_one(scope: &Scope<'_>, function: Builtin, e: &Expr) -> Result<Code, All
 {
     match function {
         Builtin::Int => truncated(scope, e),
-        _ => applied_to(scope.alloc, function, code(scope, e)?),
+        _ => applied_to(scope.alloc, function, code(scope, e)),
     }
 }
 
@@ -293,14 +276,13 @@ fn apply_more(scope: &Scope<'_>, function: Builtin, es: &[Expr]) -> Result<Code,
     match function {
         Builtin::Length => record_length(scope.alloc),
         Builtin::Index => {
-            let text = boxed_code(scope, &es[0])?;
-            let part = boxed_code(scope, &es[1])?;
-            host(scope.alloc, Primitive::Index, text, part)
+            let text = code(scope, &es[0]);
+            host_two(scope.alloc, Primitive::Index, text, code(scope, &es[1]))
         }
         Builtin::Match => {
-            let text = boxed_code(scope, &es[0])?;
-            let ere = operand(scope, BinaryOp::Match, &es[1])?;
-            host(scope.alloc, Primitive::Match, text, ere)
+            let text = code(scope, &es[0]);
+            let ere = operand(scope, BinaryOp::Match, &es[1]);
+            host_two(scope.alloc, Primitive::Match, text, ere)
         }
         Builtin::Substr => substr(scope, es),
         Builtin::Split => split(scope, es),
@@ -323,9 +305,7 @@ fn truncated(scope: &Scope<'_>, e: &Expr) -> Result<Code, AllocError>
             if !is_quotient(*op) {
                 return host_of(scope, Primitive::IntOf, e);
             }
-            let left = boxed_code(scope, left)?;
-            let right = boxed_code(scope, right)?;
-            inline(scope.alloc, Arithmetic::Truncated, left, right)
+            truncated_quotient(scope.alloc, code(scope, left), code(scope, right))
         }
         Expr::Number(_)
         | Expr::Str(_)
@@ -357,13 +337,12 @@ fn substr(scope: &Scope<'_>, es: &[Expr]) -> Result<Code, AllocError>
     ensures { IfOk result (λ code. view code ≡ applied_code (texts_of scope.now) (scope_of
         scope.now) Builtin.Substr (trees es.now)) }
 {
-    let text = boxed_code(scope, &es[0])?;
-    let from = boxed_code(scope, &es[1])?;
+    let text = code(scope, &es[0]);
+    let from = code(scope, &es[1]);
     if es.len() == 2 {
-        return host(scope.alloc, Primitive::SubstrFrom, text, from);
+        return host_two(scope.alloc, Primitive::SubstrFrom, text, from);
     }
-    let count = boxed_code(scope, &es[2])?;
-    part_of(scope.alloc, text, from, count)
+    part_of(scope.alloc, text, from, code(scope, &es[2]))
 }
 
 /// The code of `split`.
@@ -376,14 +355,19 @@ fn split(scope: &Scope<'_>, es: &[Expr]) -> Result<Code, AllocError>
     let Some(name) = bare_name(&es[1]) else {
         return Ok(Code::Unset);
     };
-    let text = boxed_code(scope, &es[0])?;
+    let text = code(scope, &es[0]);
     let array = scope.array(name);
     if es.len() == 2 {
-        let separator = field_separator(scope.alloc)?;
-        return split_into(scope.alloc, text, array, separator, false);
+        return split_into(
+            scope.alloc,
+            text,
+            array,
+            field_separator(scope.alloc),
+            false,
+        );
     }
     let ere = &es[2];
-    let separator = operand(scope, BinaryOp::Match, ere)?;
+    let separator = operand(scope, BinaryOp::Match, ere);
     split_into(scope.alloc, text, array, separator, is_ere(ere))
 }
 
@@ -394,12 +378,11 @@ fn substitute(scope: &Scope<'_>, all: bool, es: &[Expr]) -> Result<Code, AllocEr
     ensures { IfOk result (λ code. view code ≡ applied_code (texts_of scope.now) (scope_of
         scope.now) (sub_or_gsub all) (trees es.now)) }
 {
-    let ere = operand(scope, BinaryOp::Match, &es[0])?;
-    let replacement = boxed_code(scope, &es[1])?;
+    let ere = operand(scope, BinaryOp::Match, &es[0]);
+    let replacement = code(scope, &es[1]);
     if es.len() == 2 {
         return substitute_record(scope.alloc, all, ere, replacement);
     }
     let place = &es[2];
-    let kept = kept(scope, place)?;
-    substitute_place(scope, all, place, kept, ere, replacement)
+    substitute_place(scope, all, place, kept(scope, place), ere, replacement)
 }

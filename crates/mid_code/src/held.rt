@@ -1,6 +1,6 @@
 //! Boxes and lists of what owns much: what finds no room is let go here, for every type at once.
 
-ghost use Rattle.std.specs.Prelude.{◌≡◌, [], ◌∷◌, ◌++◌, IfOk, OnOk};
+ghost use Rattle.std.specs.Prelude.{◌≡◌, [], ◌∷◌, ◌++◌, Ok, IfOk, IsOkAnd, OnOk};
 
 use std::alloc::{AllocError, Global};
 
@@ -17,6 +17,38 @@ pub(crate) fn push<T: Drop>(items: &mut Vec<T>, item: T) -> Result<(), AllocErro
 {
     items.push(item)?;
     Ok(())
+}
+
+/// Adds an item that was made, if it was.
+pub(crate) fn push_made<T: Drop>(
+    items: &mut Vec<T>,
+    item: Result<T, AllocError>,
+) -> Result<(), AllocError>
+    ensures items { OnOk result (IsOkAnd item (λ made. items.new.items
+        ≡ items.old.items ++ made ∷ [])) }
+{
+    push(items, item?)
+}
+
+/// A value that was made, in a box.
+pub(crate) fn in_box<T: Drop>(
+    alloc: Global,
+    value: Result<T, AllocError>,
+) -> Result<Box<T>, AllocError>
+    ensures { IfOk result (λ boxed. value ≡ Ok boxed.value) }
+{
+    boxed(alloc, value?)
+}
+
+/// Two values, if both were made.
+pub(crate) fn both<T: Drop, U: Drop>(
+    first: Result<T, AllocError>,
+    second: Result<U, AllocError>,
+) -> Result<(T, U), AllocError>
+    ensures { IfOk result (λ both. (first ≡ Ok both.0) × (second ≡ Ok both.1)) }
+{
+    let first = first?;
+    Ok((first, second?))
 }
 
 /// A list of one item.

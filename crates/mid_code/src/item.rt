@@ -1,44 +1,44 @@
 //! The code of items.
 
-ghost use Rattle.std.specs.Option.{option_to_list};
-ghost use Rattle.std.specs.Prelude.{◌≡◌, ◌≤◌, ◌+◌, ◌||◌, List, ◌∷◌, ◌++◌, true, false, IfOk, OnOk};
+ghost use Rattle.std.specs.Prelude.{◌≡◌, ◌≤◌, ◌+◌, ◌||◌, List, ◌∷◌, true, false, IfOk, OnOk};
 ghost use Rattle.awk_grammar.specs.Item.{Item as PlainItem};
 ghost use Rattle.awk_grammar.specs.View.{view as tree};
 ghost use Rattle.awk_grammar.specs.ViewStmt.{view_item, view_items, view_pattern, view_stmts as tree_stmts};
 ghost use Rattle.sem_scripts.specs.Items.{item_ranges, print_record, range_count, reads_records};
 ghost use Rattle.mid_program.specs.Mid as plain;
 ghost use Rattle.mid_program.specs.Translation.{begin_code, code_of, end_code, items_code, steps_code, where_code};
-ghost use Rattle.mid_program.specs.ViewCode.{maybe_then, view_step, view_steps};
+ghost use Rattle.mid_program.specs.ViewCode.{view_steps};
 ghost use Rattle.mid_code.specs.ViewScope.{scope_of, texts_of};
-ghost use Rattle.mid_code.specs.ViewSteps.{unboxed};
+ghost use Rattle.mid_code.specs.Made.{MakesStep};
+ghost use Rattle.mid_code.specs.ViewSteps.{chain};
 
 use crate::build::{over, record};
 use crate::expression::code;
-use crate::held::{boxed, single};
+use crate::held::{push_made, single};
 use crate::scope::Scope;
-use crate::statement::{block, done_where, in_turn, nothing, push_step, steps};
+use crate::statement::{block, branches, done_where, in_turn, nothing, steps};
 use awk_grammar::{Expr, Item, Pattern, Stmt};
 use mid_program::{Code, Operand, Step};
 use sem_primitives::{Destination, Listed};
 use std::alloc::{AllocError, Global};
 
 /// The code of an action.
-fn action(scope: &Scope<'_>, body: &[Stmt]) -> Result<Box<Step>, AllocError>
-    ensures { IfOk result (λ step. view_step step.value ≡ plain.Block (steps_code (texts_of
-        scope.now) (scope_of scope.now) (tree_stmts body.now))) }
+fn action(scope: &Scope<'_>, body: &[Stmt]) -> Result<Step, AllocError>
+    ensures { MakesStep result (plain.Block (steps_code (texts_of scope.now) (scope_of scope.now)
+        (tree_stmts body.now))) }
 {
-    block(scope.alloc, steps(scope, body)?)
+    block(steps(scope, body))
 }
 
 /// The code of an action that is left out: the record is printed.
-#[tactic(auto, using(crate::proofs::StepParts::print_record_is))]
-fn print_record(scope: &Scope<'_>) -> Result<Box<Step>, AllocError>
-    ensures { IfOk result (λ step. view_step step.value ≡ plain.Block (steps_code (texts_of
-        scope.now) (scope_of scope.now) print_record)) }
+#[tactic(auto, using(crate::proofs::StepParts::print_record_is, crate::proofs::Views::view_block))]
+fn print_record(scope: &Scope<'_>) -> Result<Step, AllocError>
+    ensures { MakesStep result (plain.Block (steps_code (texts_of scope.now) (scope_of scope.now)
+        print_record)) }
 {
     let values = single(scope.alloc, Operand::Code(record(scope.alloc)?))?;
     let printed = over(Listed::Print(Destination::Standard), values);
-    block(scope.alloc, single(scope.alloc, Step::Eval(printed))?)
+    Ok(Step::Block(single(scope.alloc, Step::Eval(printed))?))
 }
 
 /// The code that opens or closes a range where a pattern is true.
@@ -47,25 +47,23 @@ fn marked(
     number: usize,
     pattern: &Expr,
     is_open: bool,
-) -> Result<Box<Step>, AllocError>
-    ensures { IfOk result (λ step. view_step step.value ≡ plain.If (code_of (texts_of scope.now)
-        (scope_of scope.now) (tree pattern.now)) (plain.Mark number is_open) (plain.Block
-        plain.NoStep)) }
+) -> Result<Step, AllocError>
+    ensures { MakesStep result (plain.If (code_of (texts_of scope.now) (scope_of scope.now) (tree
+        pattern.now)) (plain.Mark number is_open) (plain.Block plain.NoStep)) }
 {
-    let mark = boxed(scope.alloc, Step::Mark(number, is_open))?;
-    done_where(scope, pattern, mark)
+    let mark = Ok(Step::Mark(number, is_open));
+    done_where(scope.alloc, code(scope, pattern), mark)
 }
 
 /// The code that opens a range where its first pattern is true.
-fn opening(scope: &Scope<'_>, number: usize, first: &Expr) -> Result<Box<Step>, AllocError>
-    ensures { IfOk result (λ step. view_step step.value ≡ plain.If (plain.IsOpen number)
-        (plain.Block plain.NoStep) (plain.If (code_of (texts_of scope.now) (scope_of scope.now)
-        (tree first.now)) (plain.Mark number true) (plain.Block plain.NoStep))) }
+fn opening(scope: &Scope<'_>, number: usize, first: &Expr) -> Result<Step, AllocError>
+    ensures { MakesStep result (plain.If (plain.IsOpen number) (plain.Block plain.NoStep) (plain.If
+        (code_of (texts_of scope.now) (scope_of scope.now) (tree first.now)) (plain.Mark number
+        true) (plain.Block plain.NoStep))) }
 {
-    let opened = marked(scope, number, first, true)?;
-    let nothing = nothing(scope.alloc)?;
-    let is_open = Code::IsOpen(number);
-    boxed(scope.alloc, Step::If(is_open, nothing, opened))
+    let opened = marked(scope, number, first, true);
+    let is_open = Ok(Code::IsOpen(number));
+    branches(scope.alloc, is_open, Ok(nothing(scope.alloc)), opened)
 }
 
 /// The code that closes a range where its last pattern is true, before its action.
@@ -73,18 +71,16 @@ fn closing(
     scope: &Scope<'_>,
     number: usize,
     last: &Expr,
-    action: Box<Step>,
-) -> Result<Box<Step>, AllocError>
-    ensures { IfOk result (λ step. view_step step.value ≡ plain.If (plain.IsOpen number)
-        (plain.Block (plain.Then (plain.If (code_of (texts_of scope.now) (scope_of scope.now) (tree
-        last.now)) (plain.Mark number false) (plain.Block plain.NoStep)) (plain.Then (view_step
-        action.value) plain.NoStep))) (plain.Block plain.NoStep)) }
+    action: Result<Step, AllocError>,
+) -> Result<Step, AllocError>
+    ensures { (s : plain.Step) → MakesStep action s → MakesStep result (plain.If (plain.IsOpen
+        number) (plain.Block (plain.Then (plain.If (code_of (texts_of scope.now) (scope_of
+        scope.now) (tree last.now)) (plain.Mark number false) (plain.Block plain.NoStep)) (plain.Then
+        s plain.NoStep))) (plain.Block plain.NoStep)) }
 {
-    let closed = marked(scope, number, last, false)?;
-    let both = in_turn(scope.alloc, closed, action)?;
-    let nothing = nothing(scope.alloc)?;
-    let is_open = Code::IsOpen(number);
-    boxed(scope.alloc, Step::If(is_open, both, nothing))
+    let closed = marked(scope, number, last, false);
+    let both = in_turn(scope.alloc, closed, action);
+    done_where(scope.alloc, Ok(Code::IsOpen(number)), both)
 }
 
 /// The code of an action where its pattern is met, which has this number if it is a range.
@@ -92,87 +88,77 @@ fn where_met(
     scope: &Scope<'_>,
     number: usize,
     pattern: &Pattern,
-    action: Box<Step>,
-) -> Result<Box<Step>, AllocError>
-    ensures { IfOk result (λ step. view_step step.value ≡ where_code (texts_of scope.now) (scope_of
-        scope.now) number (view_pattern pattern.now) (view_step action.value)) }
+    action: Result<Step, AllocError>,
+) -> Result<Step, AllocError>
+    ensures { (s : plain.Step) → MakesStep action s → MakesStep result (where_code (texts_of
+        scope.now) (scope_of scope.now) number (view_pattern pattern.now) s) }
 {
     match pattern {
-        Pattern::One(e) => done_where(scope, e, action),
+        Pattern::One(e) => done_where(scope.alloc, code(scope, e), action),
         Pattern::Range(first, last) => {
-            let closing = closing(scope, number, last, action)?;
-            let opening = opening(scope, number, first)?;
-            in_turn(scope.alloc, opening, closing)
+            let closing = closing(scope, number, last, action);
+            in_turn(scope.alloc, opening(scope, number, first), closing)
         }
     }
 }
 
-/// The code of an item that is done for each record, by the number of its range.
-fn record_item(
+/// Adds the code of an item that is done for each record, by the number of its range.
+fn push_record_item(
+    steps: &mut Vec<Step>,
     scope: &Scope<'_>,
     number: usize,
     item: &Item,
-) -> Result<Option<Box<Step>>, AllocError>
-    ensures { IfOk result (λ step. (items : List PlainItem)
-        → items_code (texts_of scope.now) (scope_of scope.now) number (view_item item.now ∷ items) ≡
-        maybe_then (unboxed step) (items_code (texts_of scope.now) (scope_of scope.now)
-        (item_ranges (view_item item.now) + number) items)) }
+) -> Result<(), AllocError>
+    ensures { OnOk result ((items : List PlainItem) → chain steps.new.items (items_code (texts_of
+        scope.now) (scope_of scope.now) (item_ranges (view_item item.now) + number) items)
+        ≡ chain steps.old.items (items_code (texts_of scope.now) (scope_of scope.now) number
+        (view_item item.now ∷ items))) }
 {
     match item {
-        Item::Action(body) => Ok(Some(action(scope, body)?)),
+        Item::Action(body) => push_made(steps, action(scope, body)),
         Item::Rule(pattern, body) => {
-            let action = action(scope, body)?;
-            Ok(Some(where_met(scope, number, pattern, action)?))
+            let action = action(scope, body);
+            push_made(steps, where_met(scope, number, pattern, action))
         }
         Item::PatternOnly(pattern) => {
-            let action = print_record(scope)?;
-            Ok(Some(where_met(scope, number, pattern, action)?))
+            let action = print_record(scope);
+            push_made(steps, where_met(scope, number, pattern, action))
         }
-        Item::Function(_, _, _) | Item::Begin(_) | Item::End(_) | Item::Empty => Ok(None),
+        Item::Function(_, _, _) | Item::Begin(_) | Item::End(_) | Item::Empty => Ok(()),
     }
 }
 
-/// The code of an item that is an action of BEGIN.
-fn begin_item(scope: &Scope<'_>, item: &Item) -> Result<Option<Box<Step>>, AllocError>
-    ensures { IfOk result (λ step. (items : List PlainItem)
-        → begin_code (texts_of scope.now) (scope_of scope.now) (view_item item.now ∷ items)
-        ≡ maybe_then (unboxed step) (begin_code (texts_of scope.now) (scope_of scope.now) items)) }
+/// Adds the code of an item that is an action of BEGIN.
+fn push_begin_item(steps: &mut Vec<Step>, scope: &Scope<'_>, item: &Item) -> Result<(), AllocError>
+    ensures { OnOk result ((items : List PlainItem) → chain steps.new.items (begin_code (texts_of
+        scope.now) (scope_of scope.now) items) ≡ chain steps.old.items (begin_code (texts_of
+        scope.now) (scope_of scope.now) (view_item item.now ∷ items))) }
 {
     match item {
-        Item::Begin(body) => Ok(Some(action(scope, body)?)),
+        Item::Begin(body) => push_made(steps, action(scope, body)),
         Item::Function(_, _, _)
         | Item::End(_)
         | Item::Action(_)
         | Item::Rule(_, _)
         | Item::PatternOnly(_)
-        | Item::Empty => Ok(None),
+        | Item::Empty => Ok(()),
     }
 }
 
-/// The code of an item that is an action of END.
-fn end_item(scope: &Scope<'_>, item: &Item) -> Result<Option<Box<Step>>, AllocError>
-    ensures { IfOk result (λ step. (items : List PlainItem)
-        → end_code (texts_of scope.now) (scope_of scope.now) (view_item item.now ∷ items)
-        ≡ maybe_then (unboxed step) (end_code (texts_of scope.now) (scope_of scope.now) items)) }
+/// Adds the code of an item that is an action of END.
+fn push_end_item(steps: &mut Vec<Step>, scope: &Scope<'_>, item: &Item) -> Result<(), AllocError>
+    ensures { OnOk result ((items : List PlainItem) → chain steps.new.items (end_code (texts_of
+        scope.now) (scope_of scope.now) items) ≡ chain steps.old.items (end_code (texts_of
+        scope.now) (scope_of scope.now) (view_item item.now ∷ items))) }
 {
     match item {
-        Item::End(body) => Ok(Some(action(scope, body)?)),
+        Item::End(body) => push_made(steps, action(scope, body)),
         Item::Function(_, _, _)
         | Item::Begin(_)
         | Item::Action(_)
         | Item::Rule(_, _)
         | Item::PatternOnly(_)
-        | Item::Empty => Ok(None),
-    }
-}
-
-/// Adds a step, if there is one.
-fn push_found(steps: &mut Vec<Step>, step: Option<Box<Step>>) -> Result<(), AllocError>
-    ensures { OnOk result (steps.new.items ≡ steps.old.items ++ option_to_list (unboxed step)) }
-{
-    match step {
-        None => Ok(()),
-        Some(step) => push_step(steps, step),
+        | Item::Empty => Ok(()),
     }
 }
 
@@ -212,7 +198,7 @@ pub(crate) fn record_items(scope: &Scope<'_>, items: &[Item]) -> Result<Vec<Step
     let mut found = Vec::new(scope.alloc);
     let mut number = 0;
     for item in items {
-        push_found(&mut found, record_item(scope, number, item)?)?;
+        push_record_item(&mut found, scope, number, item)?;
         number += ranges_of(item);
     }
     Ok(found)
@@ -225,7 +211,7 @@ pub(crate) fn begin(scope: &Scope<'_>, items: &[Item]) -> Result<Vec<Step>, Allo
 {
     let mut found = Vec::new(scope.alloc);
     for item in items {
-        push_found(&mut found, begin_item(scope, item)?)?;
+        push_begin_item(&mut found, scope, item)?;
     }
     Ok(found)
 }
@@ -237,7 +223,7 @@ pub(crate) fn end(scope: &Scope<'_>, items: &[Item]) -> Result<Vec<Step>, AllocE
 {
     let mut found = Vec::new(scope.alloc);
     for item in items {
-        push_found(&mut found, end_item(scope, item)?)?;
+        push_end_item(&mut found, scope, item)?;
     }
     Ok(found)
 }

@@ -7,9 +7,10 @@ ghost use Rattle.mid_program.specs.Mid as plain;
 ghost use Rattle.sem_scripts.specs.Steps.{constant, or_nought};
 ghost use Rattle.mid_program.specs.Translation.{combined, one_code, prefixed, truth_code, two, zero_code};
 ghost use Rattle.mid_program.specs.ViewCode.{view};
+ghost use Rattle.mid_code.specs.Made.{Makes};
 
 use crate::build::{binary, chosen, number, truth, unary, untruth};
-use crate::held::boxed;
+use crate::held::{both, boxed, in_box};
 use awk_grammar::{BinaryOp, UnaryOp};
 use awk_text::number_of;
 use awk_values::CompareOp;
@@ -28,9 +29,14 @@ pub(crate) fn constant(text: &[u8]) -> i64
 }
 
 /// An operator before its operand.
-pub(crate) fn prefixed(alloc: Global, op: UnaryOp, operand: Code) -> Result<Code, AllocError>
-    ensures { IfOk result (λ code. view code ≡ prefixed (view_unary op) (view operand)) }
+pub(crate) fn prefixed(
+    alloc: Global,
+    op: UnaryOp,
+    operand: Result<Code, AllocError>,
+) -> Result<Code, AllocError>
+    ensures { (e : plain.Code) → Makes operand e → Makes result (prefixed (view_unary op) e) }
 {
+    let operand = operand?;
     match op {
         UnaryOp::Not => untruth(alloc, operand),
         UnaryOp::Plus => unary(alloc, Operation::AsNumber, operand),
@@ -42,7 +48,7 @@ pub(crate) fn prefixed(alloc: Global, op: UnaryOp, operand: Code) -> Result<Code
 }
 
 /// What the module does with two numbers.
-pub(crate) fn inline(
+fn inline(
     alloc: Global,
     arithmetic: Arithmetic,
     left: Box<Code>,
@@ -60,7 +66,7 @@ pub(crate) fn inline(
 }
 
 /// What the host does with two operands.
-pub(crate) fn host(
+fn host(
     alloc: Global,
     primitive: Primitive,
     left: Box<Code>,
@@ -78,7 +84,7 @@ pub(crate) fn host(
 }
 
 /// Whether both are true.
-fn both(alloc: Global, left: Box<Code>, right: Box<Code>) -> Result<Code, AllocError>
+fn both_true(alloc: Global, left: Box<Code>, right: Box<Code>) -> Result<Code, AllocError>
     ensures { IfOk result (λ code. view code ≡ plain.Choose sort.Number (view left.value)
         (truth_code (view right.value)) zero_code) }
 {
@@ -88,7 +94,7 @@ fn both(alloc: Global, left: Box<Code>, right: Box<Code>) -> Result<Code, AllocE
 }
 
 /// Whether one is true.
-fn either(alloc: Global, left: Box<Code>, right: Box<Code>) -> Result<Code, AllocError>
+fn one_true(alloc: Global, left: Box<Code>, right: Box<Code>) -> Result<Code, AllocError>
     ensures { IfOk result (λ code. view code ≡ plain.Choose sort.Number (view left.value) one_code
         (truth_code (view right.value))) }
 {
@@ -97,8 +103,8 @@ fn either(alloc: Global, left: Box<Code>, right: Box<Code>) -> Result<Code, Allo
     Ok(chosen(Sort::Number, left, one, right))
 }
 
-/// An operator between its operands.
-pub(crate) fn combined(
+/// An operator between operands in boxes.
+fn between(
     alloc: Global,
     op: BinaryOp,
     left: Box<Code>,
@@ -108,8 +114,8 @@ pub(crate) fn combined(
         right.value)) }
 {
     match op {
-        BinaryOp::Or => either(alloc, left, right),
-        BinaryOp::And => both(alloc, left, right),
+        BinaryOp::Or => one_true(alloc, left, right),
+        BinaryOp::And => both_true(alloc, left, right),
         BinaryOp::Match => host(alloc, Primitive::Matches, left, right),
         BinaryOp::NoMatch => {
             let matched = host(alloc, Primitive::Matches, left, right)?;
@@ -129,4 +135,33 @@ pub(crate) fn combined(
         BinaryOp::Modulo => inline(alloc, Arithmetic::Modulo, left, right),
         BinaryOp::Power => host(alloc, Primitive::Pow, left, right),
     }
+}
+
+/// An operator between its operands.
+pub(crate) fn combined(
+    alloc: Global,
+    op: BinaryOp,
+    left: Result<Code, AllocError>,
+    right: Result<Code, AllocError>,
+) -> Result<Code, AllocError>
+    ensures { (a b : plain.Code) → Makes left a → Makes right b
+        → Makes result (combined (view_binary op) a b) }
+{
+    let (left, right) = both(in_box(alloc, left), in_box(alloc, right))?;
+    between(alloc, op, left, right)
+}
+
+/// One of two values, by the truth of a test.
+pub(crate) fn conditional(
+    alloc: Global,
+    test: Result<Code, AllocError>,
+    yes: Result<Code, AllocError>,
+    no: Result<Code, AllocError>,
+) -> Result<Code, AllocError>
+    ensures { (a b c : plain.Code) → Makes test a → Makes yes b → Makes no c
+        → Makes result (plain.Choose sort.Value a b c) }
+{
+    let choices = both(in_box(alloc, yes), in_box(alloc, no));
+    let (test, (yes, no)) = both(in_box(alloc, test), choices)?;
+    Ok(chosen(Sort::Value, test, yes, no))
 }

@@ -1,4 +1,5 @@
-use Rattle.std.proofs.Common.{ℕ, ap, ◌∙◌}
+use Rattle.std.proofs.Common.{◌≡◌, ℕ, ap, ◌∙◌}
+use Rattle.std.proofs.lemmas.Result.{IfOk-at_ok}
 use Rattle.mid_program.specs.Mid as plain
 use Rattle.mid_program.specs.ViewCode.{view, view_array, views}
 use Rattle.mid_program.specs.declared.mid.Operation.TheVariants.{Host}
@@ -8,9 +9,8 @@ use Rattle.mid_code.proofs.Views.{views_push}
 use Rattle.mid_code.proofs.compound.split_into.Goals as goal
 
 pub returns : goal.returns
-returns c =
+returns c a b text separator =
     c.applied.ensures ∙ ap (plain.Do (Host row.Split))
     (ap views c.in_ok-push.ensures.items ∙ views_push c.in_ok-operands.operands.items _ _ c.in_ok-operands.ensures
-    ∙ rw (c.into_inner-text.ensures, c.into_inner-separator.ensures)
-    (ap (λ (n : ℕ). plain.At (view c.args.text.value) (plain.At (plain.Array (view_array c.args.array)) (plain.At (view c.args.separator.value) (plain.Fixed n plain.End))))
-    (c.from.ensures ∙ flag_is c.args.is_ere)))
+    ∙ rw (IfOk-at_ok (λ code. view code ≡ a) c.in_ok-text.ensures.0 text, IfOk-at_ok (λ code. view code ≡ b) c.in_ok-text.ensures.1 separator)
+    (ap (λ (n : ℕ). plain.At a (plain.At (plain.Array (view_array c.args.array)) (plain.At b (plain.Fixed n plain.End)))) (c.from.ensures ∙ flag_is c.args.is_ere)))

@@ -2,7 +2,7 @@ use Rattle.std.proofs.Common.{◌≡◌, drop}
 use Rattle.awk_grammar.specs.ViewStmt.{view_items}
 use Rattle.mid_program.specs.Translation.{begin_code}
 use Rattle.mid_code.specs.ViewScope.{scope_of, texts_of}
-use Rattle.mid_code.proofs.Views.{chain}
+use Rattle.mid_code.specs.ViewSteps.{chain}
 use Rattle.mid_code.proofs.item.begin.Given as goal
 
 abbrev pub invariant-loop-item : goal.invariant-loop-item

@@ -5,10 +5,8 @@ use Rattle.awk_grammar.specs.declared.tree.Item.{Item}
 use Rattle.awk_resolve.proofs.Names.{drop_at}
 use Rattle.mid_program.specs.Translation.{end_code}
 use Rattle.mid_code.specs.ViewScope.{scope_of, texts_of}
-use Rattle.mid_code.specs.ViewSteps.{unboxed}
-use Rattle.mid_program.specs.declared.step.Step.{Step}
-use Rattle.mid_code.proofs.StepParts.{chain_maybe}
-use Rattle.mid_code.proofs.Views.{chain, chain_end}
+use Rattle.mid_code.specs.ViewSteps.{chain}
+use Rattle.mid_code.proofs.Views.{chain_end}
 use Rattle.mid_code.proofs.item.end.Goals as goal
 
 pub loop-item-preserved : goal.loop-item-preserved
@@ -18,10 +16,7 @@ loop-item-preserved c =
     let i = c.loop-item.item-index in
     let found = c.loop-item.found.items in
     let code = end_code (texts_of c.args.scope.now) (scope_of c.args.scope.now) in
-    let rest = code (view_items (drop (i + 1) items)) in
-    ap (λ (ss : List Step). chain ss rest) c.in_ok-push_found.ensures
-    ∙ chain_maybe found (unboxed c.in_ok-end_item.field-0) rest
-    ∙ ap (chain found) (sym (c.in_ok-end_item.ensures (view_items (drop (i + 1) items))))
+    c.in_ok-push_end_item.ensures (view_items (drop (i + 1) items))
     ∙ sym (ap (λ (xs : List Item). chain found (code (view_items xs))) (drop_at items i item c.loop-item-test.true c.item-item.is))
     ∙ c.loop-item.invariant
 

@@ -4,12 +4,9 @@ use Rattle.awk_grammar.specs.ViewStmt.{view_items}
 use Rattle.awk_grammar.specs.declared.tree.Item.{Item}
 use Rattle.awk_resolve.proofs.Names.{drop_at}
 use Rattle.mid_program.specs.Translation.{items_code}
-use Rattle.mid_program.specs.ViewCode.{maybe_then}
 use Rattle.mid_code.specs.ViewScope.{scope_of, texts_of}
-use Rattle.mid_code.specs.ViewSteps.{unboxed}
-use Rattle.mid_program.specs.declared.step.Step.{Step}
-use Rattle.mid_code.proofs.StepParts.{chain_maybe}
-use Rattle.mid_code.proofs.Views.{chain, chain_end}
+use Rattle.mid_code.specs.ViewSteps.{chain}
+use Rattle.mid_code.proofs.Views.{chain_end}
 use Rattle.mid_code.proofs.item.record_items.Goals as goal
 
 pub loop-item-preserved : goal.loop-item-preserved
@@ -21,15 +18,14 @@ loop-item-preserved c =
     let found = c.loop-item.found.items in
     let code = items_code (texts_of c.args.scope.now) (scope_of c.args.scope.now) in
     let left = view_items (drop (i + 1) items) in
-    let next = n + c.ranges_of.result in
+    let next = n + c.ranges_of-number.result in
     record {
       code =
-          ap (λ (ss : List Step). chain ss (code next left)) c.in_ok-push_found.ensures
-          ∙ chain_maybe found (unboxed c.in_ok-record_item.field-0) (code next left)
-          ∙ ap (chain found) (ap (λ (j : ℕ). maybe_then (unboxed c.in_ok-record_item.field-0) (code j left)) (omega (arith, c.ranges_of.ensures.is)) ∙ sym (c.in_ok-record_item.ensures left))
+          ap (λ (j : ℕ). chain c.push_record_item.new.steps.items (code j left)) (omega (arith, c.ranges_of-number.ensures.is))
+          ∙ c.in_ok-push_record_item.ensures left
           ∙ sym (ap (λ (xs : List Item). chain found (code n (view_items xs))) (drop_at items i item c.loop-item-test.true c.item-item.is))
           ∙ c.loop-item.invariant.code;
-      within = omega (arith, c.ranges_of.ensures.within, c.loop-item.invariant.within);
+      within = omega (arith, c.ranges_of-number.ensures.within, c.loop-item.invariant.within);
     }
 
 pub returns : goal.returns

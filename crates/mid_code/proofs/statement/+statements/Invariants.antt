@@ -2,7 +2,7 @@ use Rattle.std.proofs.Common.{◌≡◌, drop}
 use Rattle.awk_grammar.specs.ViewStmt.{view_stmts}
 use Rattle.mid_program.specs.Translation.{steps_code}
 use Rattle.mid_code.specs.ViewScope.{scope_of, texts_of}
-use Rattle.mid_code.proofs.Views.{chain}
+use Rattle.mid_code.specs.ViewSteps.{chain}
 use Rattle.mid_code.proofs.statement.+statements.Given as goal
 
 abbrev pub invariant-steps-loop-s : goal.invariant-steps-loop-s

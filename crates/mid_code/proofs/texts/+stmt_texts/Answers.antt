@@ -1,10 +1,10 @@
-use Rattle.std.proofs.Common.{List, drop, ap, arith}
+use Rattle.std.proofs.Common.{List, ap, arith}
 use Rattle.std.proofs.lemmas.List.{drop_all}
 use Rattle.awk_grammar.specs.ViewStmt.{view_stmts}
 use Rattle.awk_grammar.specs.declared.tree.Stmt.{Stmt}
 use Rattle.awk_resolve.proofs.Names.{drop_at}
 use Rattle.mid_program.specs.Texts.{stmts_texts}
-use Rattle.mid_code.proofs.TextTables.{adds_as, adds_both, block_texts, leads_all, leads_first, leads_next}
+use Rattle.mid_code.proofs.TextTables.{adds_as, block_texts, leads_all, leads_first, leads_next}
 use Rattle.mid_code.proofs.texts.+stmt_texts.Goals as goal
 
 pub put_stmt-returns-in-Block : goal.put_stmt-returns-in-Block

@@ -1,7 +1,7 @@
-use Rattle.std.proofs.Common.{List, drop, ap, arith}
+use Rattle.std.proofs.Common.{List, ap, arith}
 use Rattle.std.proofs.lemmas.List.{drop_all}
 use Rattle.awk_grammar.specs.declared.tree.Expr.{Expr}
-use Rattle.awk_grammar.specs.View.{view as tree, views as trees}
+use Rattle.awk_grammar.specs.View.{views as trees}
 use Rattle.awk_resolve.proofs.Names.{drop_at}
 use Rattle.mid_program.specs.Texts.{all_texts}
 use Rattle.mid_code.proofs.TextTables.{adds_as, adds_both, apply_texts, call_texts, element_texts, leads_all, leads_first, leads_next, list_texts}

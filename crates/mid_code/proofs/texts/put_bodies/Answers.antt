@@ -1,4 +1,4 @@
-use Rattle.std.proofs.Common.{◌+◌, ℕ, List, ◌++◌, drop, ap, sym, ◌∙◌}
+use Rattle.std.proofs.Common.{◌+◌, ◌++◌, drop, ap, sym, ◌∙◌}
 use Rattle.awk_grammar.specs.Stmt.{Stmts}
 use Rattle.awk_resolve.specs.ViewFunctions.{view_functions}
 use Rattle.sem_scripts.specs.Kinds.{with_bodies}
