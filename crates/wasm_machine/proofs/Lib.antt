@@ -1,5 +1,5 @@
 pub mod Calls
-pub mod Following
+pub mod Entering
 pub mod KnownTurns
 pub mod Laying
 pub mod Placing
