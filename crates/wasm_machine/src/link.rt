@@ -277,7 +277,7 @@ fn code_of(alloc: Global, whole: &Module, func: &Func) -> Result<Code, AllocErro
     let Ok(locals) = u32::try_from(ty.params.len() + func.locals.len()) else {
         return Err(AllocError);
     };
-    let code = Code::new(alloc, whole, locals, &func.body)?;
+    let code = Code::new(alloc, whole, locals, ty.result, &func.body)?;
     let _layout = code.layout();
     Ok(code)
 }
@@ -304,7 +304,7 @@ fn first_code(alloc: Global, whole: &Module, main: u32) -> Result<Code, AllocErr
     ensures locals { IfOk result (λ c. c.locals ≡ 0) }
 {
     let calls = entry(alloc, whole.start, main)?;
-    let code = Code::new(alloc, whole, 0, &calls)?;
+    let code = Code::new(alloc, whole, 0, Some(ValType::I32), &calls)?;
     let _layout = code.layout();
     Ok(code)
 }

@@ -9,7 +9,7 @@ ghost use Rattle.wasm_types.specs.View.{view_module};
 use crate::link::{codes_of, first_state, link};
 use crate::program::Program;
 use crate::run::run;
-use crate::sites::all_sites;
+use crate::sites::all_lines;
 use module_validator::ValidModule;
 use std::alloc::Global;
 use std::marker::Model;
@@ -95,12 +95,12 @@ impl Machine {
             whole,
             numbers,
             codes,
-            sites: Vec::new(alloc),
+            lines: Vec::new(alloc),
         };
-        let Ok(sites) = all_sites(alloc, &program) else {
+        let Ok(lines) = all_lines(alloc, &program) else {
             return Err(LinkFault::NoMemory);
         };
-        program.sites = sites;
+        program.lines = lines;
         Ok(Machine {
             program,
             state,
