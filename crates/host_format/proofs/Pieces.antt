@@ -1,9 +1,10 @@
 -- The pieces between marks, from the first mark on.
-use Rattle.std.proofs.Common.{◌≡◌, ◌⊎◌, inl, inr, ℕ, zero, suc, ◌+◌, ◌-◌, ◌<◌, ◌≤◌, Bool, true, false, List, [], ◌∷◌, map, length, take, drop, get_or, slice_range, Some, None, refl, sym, ap, subst, ◌∙◌, append-nil, arith}
+use Rattle.std.proofs.Common.{◌≡◌, ◌⊎◌, inl, inr, ℕ, zero, suc, ◌+◌, ◌-◌, ◌<◌, ◌≤◌, Bool, true, false, List, [], ◌∷◌, ◌++◌, map, length, take, drop, get_or, slice_range, Some, None, refl, sym, ap, subst, ◌∙◌, append-nil, append_assoc, arith}
 use Rattle.std.specs.Prelude.{◌||◌}
 use Rattle.std.proofs.lemmas.Bool.{false≢true, cases_Bool}
-use Rattle.std.proofs.lemmas.List.{length-drop, length-take, drop-drop, drop_more, take_all}
-use Rattle.std.proofs.lemmas.List.Elements.{All-nil}
+use Rattle.std.proofs.lemmas.List.{length-drop, length-take, drop-drop, drop_more, map-append, take_all}
+use Rattle.std.proofs.lemmas.List.Elements.{All-nil, All-push}
+use Rattle.std.specs.List.{All}
 use Rattle.memchr.specs.Find.{IsFirstByte}
 use Rattle.sem_primitives.specs.Fields.{behind, parted}
 use Rattle.host_format.specs.Marks.{kept}
@@ -98,3 +99,13 @@ length_of_range text line to inside = length-take (to - line) (drop line text) �
 pub kept_none : (skip : Bool) → kept skip [] ≡ []
 kept_none true = refl
 kept_none false = refl
+
+-- a part more
+pub part_pushed : (text : List ℕ) (old new : List Span) (start end : ℕ) (rest total : List (List ℕ)) → start ≤ end → end ≤ length text → new ≡ old ++ record { start = start; end = end } ∷ [] → IsSoFar text old (slice_range text start end ∷ rest) total → IsSoFar text new rest total
+part_pushed text old new start end rest total order within e s =
+    let part : Span = record { start = start; end = end } in
+    let parts = span_text text in
+    record {
+      texts = ap (λ spans. map parts spans ++ rest) e ∙ ap (λ texts. texts ++ rest) (map-append parts old (part ∷ [])) ∙ append_assoc (map parts old) (parts part ∷ []) rest ∙ s.texts;
+      inside = subst (λ spans. All (IsInside text) spans) (sym e) (All-push (IsInside text) old part s.inside (order, within));
+    }

@@ -21,6 +21,7 @@ use memchr::memchr;
 use std::alloc::{AllocError, Global};
 
 /// Adds a piece, unless it is empty and no field.
+#[inline(always)]
 fn push_piece(
     spans: &mut Vec<Span>,
     marks: Marks,
@@ -39,6 +40,7 @@ fn push_piece(
 }
 
 /// Adds the pieces between certain bytes to no piece.
+#[inline(always)]
 fn split_by(spans: &mut Vec<Span>, text: &[u8], marks: Marks) -> Result<(), AllocError>
     requires { spans.old.items ≡ [] }
     ensures { OnOk result (AreSpans text.now spans.new.items (pieces_by marks text.now)) }

@@ -12,10 +12,16 @@ pub struct Span {
 }
 
 /// Adds a part.
+#[inline(always)]
 pub(crate) fn push(spans: &mut Vec<Span>, start: usize, end: usize) -> Result<(), AllocFailed<Span>>
     ensures { (text : List ℕ) (rest total : List (List ℕ)) → start ≤ end → end ≤ length text
         → IsSoFar text spans.old.items (slice_range text start end ∷ rest) total
         → OnOk result (IsSoFar text spans.new.items rest total) }
 {
-    spans.push(Span { start, end })
+    let span = Span { start, end };
+    if spans.len() < spans.capacity() {
+        spans.push_reserved(span);
+        return Ok(());
+    }
+    spans.push(span)
 }
