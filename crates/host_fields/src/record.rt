@@ -122,20 +122,32 @@ impl Record {
     ///
     /// `BadEre` and `EreTooLarge` of FS, also where the text is empty; `FieldNumber` where there are more than 1,048,576 fields;
     /// [`Stop::NoMemory`].
+    #[inline(always)]
     pub fn set_whole(&mut self, text: Bytes, fs: &[u8], rs: &[u8]) -> Result<(), Stop>
         ensures ok { OnOk result (IsRecordOf fs.now rs.now text self.new) }
         ensures err { IfErr result (IsStopOfRecord fs.now rs.now text) }
         ensures refused { OnErr result (self.new ≡ self.old) }
     {
-        let newlines = do_newlines_separate(fs, rs);
         if let Some(by) = Plain::of(fs) {
             if text.len() < MAX_FIELDS {
+                let newlines = do_newlines_separate(fs, rs);
                 self.own.clear();
                 self.form = Form::Later(by, newlines);
                 put_text(&mut self.whole, text);
                 return Ok(());
             }
         }
+        self.set_split(text, fs, rs)
+    }
+
+    /// The same, where `$0` is split at once. It stands apart, so that the way of most records is short.
+    #[inline(never)]
+    fn set_split(&mut self, text: Bytes, fs: &[u8], rs: &[u8]) -> Result<(), Stop>
+        ensures ok { OnOk result (IsRecordOf fs.now rs.now text self.new) }
+        ensures err { IfErr result (IsStopOfRecord fs.now rs.now text) }
+        ensures refused { OnErr result (self.new ≡ self.old) }
+    {
+        let newlines = do_newlines_separate(fs, rs);
         split(
             &mut self.spare,
             &mut self.last,
