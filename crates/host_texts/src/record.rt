@@ -1,5 +1,5 @@
 //! Primitives on special variables, the record and its fields.
-ghost use Rattle.std.specs.Prelude.{◌≡◌, ◌≢◌, pos, IfErr, IfOk, OnErr, OnOk};
+ghost use Rattle.std.specs.Prelude.{◌≡◌, ◌≢◌, pos, IfErr, IfOk, IfSome, OnErr, OnOk};
 ghost use Rattle.awk_values.specs.Values.{text_of_value};
 ghost use Rattle.sem_primitives.specs.FieldMeaning.{done, set_special, set_special_row, with_record};
 ghost use Rattle.sem_primitives.specs.SharedState.{Inner, special_of};
@@ -169,12 +169,43 @@ pub(crate) fn field(
     })
 }
 
+/// The text of a value that is a text.
+#[inline(always)]
+fn lent_text(value: &Value) -> Option<&Bytes>
+    ensures { IfSome result (λ text. text.now ≡ text_of_value value.now) }
+{
+    match value {
+        Value::Text(text) | Value::StrNum(text) => Some(text),
+        Value::Uninit | Value::Num(_) => None,
+    }
+}
+
 /// Sets `$0`.
 ///
 /// # Errors
 ///
 /// The faults of FS and of the number of fields, or want of memory; nothing changes.
+#[inline(always)]
 pub fn put_record(alloc: Global, texts: &mut Texts, text: Bytes) -> Result<(), Stop>
+    ensures ok { OnOk result ((inner : Inner) → with_record text (with_texts texts.old inner)
+        ≡ Ok (with_texts texts.new inner)) }
+    ensures err { IfErr result
+        (λ stop. (inner : Inner) → IsStopOf (with_record text (with_texts texts.old inner)) stop) }
+    ensures refused { OnErr result (texts.new ≡ texts.old) }
+    ensures substituted { texts.new.substituted ≡ texts.old.substituted }
+{
+    let Some(fs) = lent_text(texts.specials.get(Special::Fs)) else {
+        return put_record_by_made(alloc, texts, text);
+    };
+    let Some(rs) = lent_text(texts.specials.get(Special::Rs)) else {
+        return put_record_by_made(alloc, texts, text);
+    };
+    texts.held.set_whole(text, fs.as_slice(), rs.as_slice())
+}
+
+/// The same, where FS or RS has to be made a text first. It stands apart, so that the way of most records is short.
+#[inline(never)]
+fn put_record_by_made(alloc: Global, texts: &mut Texts, text: Bytes) -> Result<(), Stop>
     ensures ok { OnOk result ((inner : Inner) → with_record text (with_texts texts.old inner)
         ≡ Ok (with_texts texts.new inner)) }
     ensures err { IfErr result

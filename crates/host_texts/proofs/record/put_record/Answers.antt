@@ -6,10 +6,10 @@ use Rattle.host_texts.proofs.record.put_record.Goals as goal
 
 pub returns-clause-ok : goal.returns-clause-ok
 returns-clause-ok c =
-    on_ok_weaker c.set_whole-set.result (λ h inner.
-    h (with_texts c.args.texts.now inner) (sym (c.as_slice.ensures ∙ c.in_ok-fs.ensures ∙ ap text_of_value c.get.ensures)) (sym (c.as_slice-2.ensures ∙ c.in_ok-rs.ensures ∙ ap text_of_value c.get-2.ensures))) c.set_whole-set.ensures.ok
+    on_ok_weaker c.set_whole.result (λ h inner.
+    h (with_texts c.args.texts.now inner) (sym (c.as_slice.ensures.value ∙ c.in-Some.ensures ∙ ap text_of_value c.get.ensures)) (sym (c.as_slice-2.ensures.value ∙ c.in-Some-lent_text.ensures ∙ ap text_of_value c.get-2.ensures))) c.set_whole.ensures.ok
 
 pub returns-clause-err : goal.returns-clause-err
 returns-clause-err c =
-    IfErr-weaker c.set_whole-set.result _ _ (λ stop h inner.
-    h (with_texts c.args.texts.now inner) (sym (c.as_slice.ensures ∙ c.in_ok-fs.ensures ∙ ap text_of_value c.get.ensures)) (sym (c.as_slice-2.ensures ∙ c.in_ok-rs.ensures ∙ ap text_of_value c.get-2.ensures))) c.set_whole-set.ensures.err
+    IfErr-weaker c.set_whole.result _ _ (λ stop h inner.
+    h (with_texts c.args.texts.now inner) (sym (c.as_slice.ensures.value ∙ c.in-Some.ensures ∙ ap text_of_value c.get.ensures)) (sym (c.as_slice-2.ensures.value ∙ c.in-Some-lent_text.ensures ∙ ap text_of_value c.get-2.ensures))) c.set_whole.ensures.err
