@@ -10,7 +10,6 @@ ghost use Rattle.host_streams.specs.Readers.{Answers, EndStays, Fills, GoesOn, H
 use crate::look::{Known, Look, seen};
 use awk_values::{Bytes, Fault, Stop};
 use std::alloc::{AllocError, Global};
-use std::mem::replace;
 use world_core::{World, WorldFault};
 
 /// How many bytes are asked for at once.
@@ -58,13 +57,14 @@ pub(crate) struct Reader {
     phase: Phase,
     /// What a read fills.
     piece: Vec<u8>,
-    /// The text of the last short record.
-    given: Option<Bytes>,
-    /// That of the one before it, whose room is taken again where nobody has it any more.
-    spare: Option<Bytes>,
+    /// The texts of the last two short records: the room of the earlier one is taken again where nobody has it any more.
+    given: [Option<Bytes>; 2],
+    /// Whether the second of them is the earlier one.
+    earlier: bool,
 }
 
 /// A text of bytes, in the room of another that nobody has any more.
+#[inline(always)]
 fn text_in(alloc: Global, room: Option<Bytes>, bytes: &[u8]) -> Result<Bytes, AllocError>
     ensures { IfOk result (λ text. text ≡ bytes.now) }
 {
@@ -75,10 +75,11 @@ fn text_in(alloc: Global, room: Option<Bytes>, bytes: &[u8]) -> Result<Bytes, Al
 }
 
 /// The text of a record.
+#[inline(always)]
 fn record_text(
     alloc: Global,
-    given: &mut Option<Bytes>,
-    spare: &mut Option<Bytes>,
+    given: &mut [Option<Bytes>; 2],
+    earlier: &mut bool,
     bytes: &[u8],
 ) -> Result<Bytes, AllocError>
     ensures { IfOk result (λ text. text ≡ bytes.now) }
@@ -86,8 +87,10 @@ fn record_text(
     if bytes.len() > SHORT {
         return Bytes::from_slice(alloc, bytes);
     }
-    let text = text_in(alloc, spare.take(), bytes)?;
-    *spare = replace(given, Some(text.clone()?));
+    let room = &mut given[usize::from(*earlier)];
+    let text = text_in(alloc, room.take(), bytes)?;
+    *room = Some(text.clone()?);
+    *earlier = !*earlier;
     Ok(text)
 }
 
@@ -161,8 +164,8 @@ impl Reader {
             start: 0,
             phase: Phase::Open,
             piece: Vec::new(alloc),
-            given: None,
-            spare: None,
+            given: [None, None],
+            earlier: false,
         }
     }
 
@@ -188,7 +191,8 @@ impl Reader {
         Ok(())
     }
 
-    /// Reads a piece more. Where that fails, it answers false, and the reader is broken from then on.
+    /// Reads a piece more. Where that fails, it answers false, and the reader is broken from then on. It stands apart: most records are there already.
+    #[inline(never)]
     fn more<W: World>(&mut self, alloc: Global, world: &mut W) -> Result<bool, Stop>
         requires reading { W.kinds world.old self.old.id ≡ Reading }
         requires short { length (unread self.old) ≤ most_text + 1 }
@@ -219,6 +223,7 @@ impl Reader {
             Err(WorldFault::NoMemory) => Err(Stop::NoMemory),
         }
     }
+
     /// One turn: an answer from what is kept, or else a piece more.
     fn turn<W: World>(
         &mut self,
@@ -249,7 +254,7 @@ impl Reader {
                 let text = record_text(
                     alloc,
                     &mut self.given,
-                    &mut self.spare,
+                    &mut self.earlier,
                     &unread_of(self.kept.as_slice(), self.start)[from..to],
                 )?;
                 self.start += next;
@@ -273,6 +278,7 @@ impl Reader {
     }
 
     /// What is left at the end is a record, if it is not empty.
+    #[inline(never)]
     fn last(&mut self, alloc: Global, from: usize, to: usize) -> Result<Turn, Stop>
         requires order { from ≤ to }
         requires within { to ≤ length (unread self.old) }
