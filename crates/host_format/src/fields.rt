@@ -1,5 +1,5 @@
 //! The fields of a text.
-ghost use Rattle.std.specs.Prelude.{◌≡◌, ℕ, zero, ◌+◌, ◌<◌, ◌≤◌, List, None, Option, IfErr, IfOk, IfSome, OnOk, length, map, slice_range, [], ◌∷◌, if◌then◌else◌};
+ghost use Rattle.std.specs.Prelude.{◌≡◌, ℕ, zero, ◌+◌, ◌<◌, ◌≤◌, List, None, Option, IfErr, IfOk, IfSome, OnOk, length, map, slice_range, take, [], ◌∷◌, if◌then◌else◌};
 ghost use Rattle.ere_syntax.specs.Tree.{Tree};
 ghost use Rattle.ere_match.specs.Autos.{IsAutoOf};
 ghost use Rattle.awk_values.specs.declared.fault.Stop.TheVariants as stops;
@@ -14,43 +14,48 @@ ghost use Rattle.host_format.specs.Spans.{AreSpans, IsSoFar};
 use crate::eres::first_not_empty;
 use crate::marks::Marks;
 use crate::sep::{Plain, Sep};
-use crate::span::{Span, push};
+use crate::span::{Span, push, put};
 use awk_values::Stop;
 use ere_match::Auto;
 use memchr::memchr;
 use std::alloc::{AllocError, Global};
 
-/// Adds a piece, unless it is empty and no field.
+/// Puts a piece in a place, unless it is empty and no field, and gives the place of the next one.
 #[inline(always)]
-fn push_piece(
+fn put_piece(
     spans: &mut Vec<Span>,
     marks: Marks,
+    at: usize,
     start: usize,
     end: usize,
-) -> Result<(), AllocError>
-    ensures { (text : List ℕ) (rest total : List (List ℕ)) → start ≤ end → end ≤ length text
-        → IsSoFar text spans.old.items
-        (kept (skips_empty marks) (slice_range text start end ∷ rest)) total
-        → OnOk result (IsSoFar text spans.new.items (kept (skips_empty marks) rest) total) }
+) -> Result<usize, AllocError>
+    requires { at ≤ length spans.old.items }
+    ensures within { IfOk result (λ next. next ≤ length spans.new.items) }
+    ensures parts { (text : List ℕ) (rest total : List (List ℕ)) → start ≤ end → end ≤ length text
+        → IsSoFar text (take at spans.old.items)
+        (kept (skips_empty marks) (slice_range text start end ∷ rest)) total → IfOk result
+        (λ next. IsSoFar text (take next spans.new.items) (kept (skips_empty marks) rest) total) }
 {
     if start < end || !marks.skips_empty() {
-        push(spans, start, end)?;
+        put(spans, at, start, end)?;
+        return Ok(at + 1);
     }
-    Ok(())
+    Ok(at)
 }
 
-/// Adds the pieces between certain bytes to no piece.
+/// Puts the pieces between certain bytes in the place of these parts.
 #[inline(always)]
 fn split_by(spans: &mut Vec<Span>, text: &[u8], marks: Marks) -> Result<(), AllocError>
-    requires { spans.old.items ≡ [] }
     ensures { OnOk result (AreSpans text.now spans.new.items (pieces_by marks text.now)) }
 {
     let mut from = 0;
+    let mut count = 0;
     while let Some(at) = marks.find(&text[from..]) {
-        push_piece(spans, marks, from, from + at)?;
+        count = put_piece(spans, marks, count, from, from + at)?;
         from = from + at + 1;
     }
-    push_piece(spans, marks, from, text.len())?;
+    count = put_piece(spans, marks, count, from, text.len())?;
+    spans.truncate(count);
     Ok(())
 }
 
@@ -170,18 +175,24 @@ pub fn split_into(
     ensures kept { (s : Separator) → IsSep sep.old s → IsSep sep.new s }
     ensures err { IfErr result (λ stop. stop ≡ stops.NoMemory) }
 {
-    spans.clear();
     if text.is_empty() {
+        spans.clear();
         return Ok(());
     }
     match sep {
         Sep::Blanks => split_by(spans, text, Marks::Blanks)?,
-        Sep::EachByte => split_each(spans, text)?,
+        Sep::EachByte => {
+            spans.clear();
+            split_each(spans, text)?;
+        }
         Sep::Byte(byte) => {
             let marks = byte_marks(*byte, newlines);
             split_by(spans, text, marks)?;
         }
-        Sep::Ere(auto) => split_by_ere(spans, text, auto, newlines)?,
+        Sep::Ere(auto) => {
+            spans.clear();
+            split_by_ere(spans, text, auto, newlines)?;
+        }
     }
     Ok(())
 }
@@ -200,8 +211,8 @@ pub fn split_plain(
     ensures { OnOk result
         (AreSpans text.now spans.new.items (pieces_of (separator_by by) newlines text.now)) }
 {
-    spans.clear();
     if text.is_empty() {
+        spans.clear();
         return Ok(());
     }
     match by {

@@ -1,5 +1,5 @@
 //! Parts of a text.
-ghost use Rattle.std.specs.Prelude.{◌≡◌, ℕ, ◌∷◌, ◌≤◌, List, OnOk, length, slice_range};
+ghost use Rattle.std.specs.Prelude.{◌≡◌, ℕ, ◌+◌, ◌∷◌, ◌≤◌, List, OnOk, length, slice_range, take};
 ghost use Rattle.host_format.specs.Spans.{IsSoFar};
 
 use std::alloc::AllocFailed;
@@ -24,4 +24,25 @@ pub(crate) fn push(spans: &mut Vec<Span>, start: usize, end: usize) -> Result<()
         return Ok(());
     }
     spans.push(span)
+}
+
+/// Puts a part in the place of another, or after the last one.
+#[inline(always)]
+pub(crate) fn put(
+    spans: &mut Vec<Span>,
+    at: usize,
+    start: usize,
+    end: usize,
+) -> Result<(), AllocFailed<Span>>
+    requires { at ≤ length spans.old.items }
+    ensures within { OnOk result (at + 1 ≤ length spans.new.items) }
+    ensures parts { (text : List ℕ) (rest total : List (List ℕ)) → start ≤ end → end ≤ length text
+        → IsSoFar text (take at spans.old.items) (slice_range text start end ∷ rest) total
+        → OnOk result (IsSoFar text (take (at + 1) spans.new.items) rest total) }
+{
+    if at < spans.len() {
+        spans[at] = Span { start, end };
+        return Ok(());
+    }
+    spans.push(Span { start, end })
 }
