@@ -10,6 +10,7 @@ ghost use Rattle.host_streams.specs.Readers.{Answers, EndStays, Fills, GoesOn, H
 use crate::look::{Known, Look, seen};
 use awk_values::{Bytes, Fault, Stop};
 use std::alloc::{AllocError, Global};
+use std::mem::replace;
 use world_core::{World, WorldFault};
 
 /// How many bytes are asked for at once.
@@ -57,10 +58,10 @@ pub(crate) struct Reader {
     phase: Phase,
     /// What a read fills.
     piece: Vec<u8>,
-    /// The texts of the last two short records: the room of the earlier one is taken again where nobody has it any more.
-    given: [Option<Bytes>; 2],
-    /// Whether the second of them is the earlier one.
-    earlier: bool,
+    /// The text of the last short record.
+    given: Option<Bytes>,
+    /// That of the one before it, whose room is taken again where nobody has it any more.
+    spare: Option<Bytes>,
 }
 
 /// A text of bytes, in the room of another that nobody has any more.
@@ -78,8 +79,8 @@ fn text_in(alloc: Global, room: Option<Bytes>, bytes: &[u8]) -> Result<Bytes, Al
 #[inline(always)]
 fn record_text(
     alloc: Global,
-    given: &mut [Option<Bytes>; 2],
-    earlier: &mut bool,
+    given: &mut Option<Bytes>,
+    spare: &mut Option<Bytes>,
     bytes: &[u8],
 ) -> Result<Bytes, AllocError>
     ensures { IfOk result (λ text. text ≡ bytes.now) }
@@ -87,10 +88,8 @@ fn record_text(
     if bytes.len() > SHORT {
         return Bytes::from_slice(alloc, bytes);
     }
-    let room = &mut given[usize::from(*earlier)];
-    let text = text_in(alloc, room.take(), bytes)?;
-    *room = Some(text.clone()?);
-    *earlier = !*earlier;
+    let text = text_in(alloc, spare.take(), bytes)?;
+    *spare = replace(given, Some(text.clone()?));
     Ok(text)
 }
 
@@ -164,8 +163,8 @@ impl Reader {
             start: 0,
             phase: Phase::Open,
             piece: Vec::new(alloc),
-            given: [None, None],
-            earlier: false,
+            given: None,
+            spare: None,
         }
     }
 
@@ -254,7 +253,7 @@ impl Reader {
                 let text = record_text(
                     alloc,
                     &mut self.given,
-                    &mut self.earlier,
+                    &mut self.spare,
                     &unread_of(self.kept.as_slice(), self.start)[from..to],
                 )?;
                 self.start += next;
