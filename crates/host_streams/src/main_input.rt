@@ -220,8 +220,7 @@ impl MainInput {
         }
     }
 
-    /// Closes the file that is read, if one is. It stands apart, so that the way of a record is short.
-    #[inline(never)]
+    /// Closes the file that is read, if one is.
     fn stop_reading<W: World>(&mut self, world: &mut W)
         requires held { HoldsMain self.old (W.kinds world.old) }
         requires whole { self.old.standard.phase ≢ Broken }
@@ -435,8 +434,7 @@ impl MainInput {
         }
     }
 
-    /// Reaches the next operand, or what follows the operands. It stands apart, so that the way of a record is short.
-    #[inline(never)]
+    /// Reaches the next operand, or what follows the operands.
     fn reach<W: World, O: Operands>(
         &mut self,
         world: &mut W,

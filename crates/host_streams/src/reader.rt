@@ -65,7 +65,6 @@ pub(crate) struct Reader {
 }
 
 /// A text of bytes, in the room of another that nobody has any more.
-#[inline(always)]
 fn text_in(alloc: Global, room: Option<Bytes>, bytes: &[u8]) -> Result<Bytes, AllocError>
     ensures { IfOk result (λ text. text ≡ bytes.now) }
 {
@@ -76,7 +75,6 @@ fn text_in(alloc: Global, room: Option<Bytes>, bytes: &[u8]) -> Result<Bytes, Al
 }
 
 /// The text of a record.
-#[inline(always)]
 fn record_text(
     alloc: Global,
     given: &mut Option<Bytes>,
@@ -190,8 +188,7 @@ impl Reader {
         Ok(())
     }
 
-    /// Reads a piece more. Where that fails, it answers false, and the reader is broken from then on. It stands apart: most records are there already.
-    #[inline(never)]
+    /// Reads a piece more. Where that fails, it answers false, and the reader is broken from then on.
     fn more<W: World>(&mut self, alloc: Global, world: &mut W) -> Result<bool, Stop>
         requires reading { W.kinds world.old self.old.id ≡ Reading }
         requires short { length (unread self.old) ≤ most_text + 1 }
@@ -222,7 +219,6 @@ impl Reader {
             Err(WorldFault::NoMemory) => Err(Stop::NoMemory),
         }
     }
-
     /// One turn: an answer from what is kept, or else a piece more.
     fn turn<W: World>(
         &mut self,
@@ -277,7 +273,6 @@ impl Reader {
     }
 
     /// What is left at the end is a record, if it is not empty.
-    #[inline(never)]
     fn last(&mut self, alloc: Global, from: usize, to: usize) -> Result<Turn, Stop>
         requires order { from ≤ to }
         requires within { to ≤ length (unread self.old) }
