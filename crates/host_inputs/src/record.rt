@@ -17,6 +17,7 @@ const LARGEST: i64 = MAX_NUMBER as i64;
 
 /// The value of a special variable, among all of them, is another.
 #[tactic(auto, using(crate::proofs::SpecialNumbers::number_within))]
+#[inline(always)]
 fn put(values: &mut [Value; 14], special: Special, value: Value)
     ensures { specials_of values.new ≡ (λ t. cond (special_number special == special_number t) value
         (specials_of values.old t)) }
@@ -25,6 +26,7 @@ fn put(values: &mut [Value; 14], special: Special, value: Value)
 }
 
 /// Gives a special variable another value; NF is not kept so.
+#[inline(always)]
 pub(crate) fn give(texts: &mut Texts, special: Special, value: Value)
     ensures set { (inner : Inner) → with_texts texts.new inner
         ≡ with_special special value (with_texts texts.old inner) }
@@ -34,6 +36,7 @@ pub(crate) fn give(texts: &mut Texts, special: Special, value: Value)
 }
 
 /// The next number.
+#[inline(always)]
 fn one_more(number: i64) -> Result<i64, Fault>
     ensures { result ≡ sum number (pos 1) }
 {
@@ -48,16 +51,21 @@ fn one_more(number: i64) -> Result<i64, Fault>
 }
 
 /// The count after the one that a value holds.
+#[inline(always)]
 fn count_after(value: &Value) -> Result<i64, Fault>
     ensures { result ≡ count_after value.now }
 {
-    match to_number(value) {
-        Ok(number) => one_more(number),
-        Err(fault) => Err(fault),
+    match value {
+        Value::Num(number) => one_more(*number),
+        _ => match to_number(value) {
+            Ok(number) => one_more(number),
+            Err(fault) => Err(fault),
+        },
     }
 }
 
 /// The same as a value.
+#[inline(always)]
 fn next_count(value: &Value) -> Result<Value, Fault>
     ensures { result ≡ next_count value.now }
 {
@@ -68,6 +76,7 @@ fn next_count(value: &Value) -> Result<Value, Fault>
 }
 
 /// A special variable counts a record, by its own number.
+#[inline(always)]
 fn count_by(texts: &mut Texts, special: Special) -> Result<(), Fault>
     requires { special ≢ Special.Nf }
     ensures ok { OnOk result ((inner : Inner) → counted_by special (with_texts texts.old inner)
