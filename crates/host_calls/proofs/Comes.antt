@@ -1,11 +1,14 @@
 -- From calls of the families to what a call of the host comes to.
-use Rattle.std.proofs.Common.{◌≡◌, ℕ, false, List, [], Option, Some, None, Result, Ok, Err, refl, subst, sym}
+use Rattle.std.proofs.Common.{◌≡◌, ℕ, false, true≢false, not, List, [], Option, Some, None, Result, Ok, Err, refl, subst, sym, ap, ◌∙◌}
 use Rattle.wasm_model.specs.declared.host.HostAnswer.{HostAnswer}
 use Rattle.awk_values.specs.declared.fault.Fault.{Fault}
 use Rattle.wasm_store.specs.declared.word.Word.{Word}
-use Rattle.world_core.specs.WorldState.{Action, Entry, Outside}
+use Rattle.world_core.specs.WorldState.{Action, Entry, Outside, State}
+use Rattle.host_step.specs.HostStep.{refuses}
 use Rattle.host_step.specs.Worlds.{reads}
+use Rattle.host_imports.specs.Imports.{lets_go}
 use Rattle.host_imports.specs.declared.import.Import.{Import}
+use Rattle.host_inputs.specs.declared.input.Input.{Input}
 use Rattle.host_values.specs.declared.reply.Refusal.{Refusal}
 use Rattle.host_values.specs.declared.reply.Refusal.TheVariants as why
 use Rattle.host_elements.specs.Calls.{IsTableCall}
@@ -18,8 +21,15 @@ use Rattle.host_meaning.specs.WorldCalls.{IsCalled}
 use Rattle.host_meaning.proofs.Faults.{called_too}
 use Rattle.host_meaning.proofs.Means.{plain_calls}
 use Rattle.host_table_calls.specs.Answers.{told_as}
+use Rattle.host_table_calls.specs.Calls.{import_of_table}
+use Rattle.host_table_calls.specs.Forms.{of_tables}
+use Rattle.host_table_calls.specs.declared.held.Tables.{Tables}
+use Rattle.host_table_calls.specs.declared.table_call.TableCall.{TableCall}
+use Rattle.host_table_calls.proofs.Chosen.{chosen_plain}
+use Rattle.host_table_calls.proofs.Quiet.{quiet}
 use Rattle.host_table_calls.proofs.Tellings.{told_means, world_told}
 use Rattle.host_calls.specs.Calls.{ComesTo, MeansSome}
+use Rattle.host_calls.specs.Forms.{form_in}
 
 module _ (tells : Type 0) (i : Import) (words : List Word) (memory : List ℕ) where
   module _ (quiet : reads i ≡ false) where
@@ -77,3 +87,21 @@ pub told_comes : (tells : Type 0) (i : Import) (before between after-call : Host
 told_comes tells i before between after-call words memory r a told left comes =
     subst (λ (b : HostAnswer). MeansSome tells i before words memory b after-call) (sym told)
     (subst (λ (z : HostForm). MeansSome tells i before words memory (told_as i r) z) (sym left) comes)
+
+-- a call on the tables by a function of its own, as it is told
+module _ (tells : Type 0) (call : TableCall) (words : List Word) (memory : List ℕ) (t u : Tables) (i : Input) (state : State) (r : Result (Option Word) Refusal) (a : HostAnswer) (after-call : HostForm)
+    (told : a ≡ told_as (import_of_table call) r) (kept : after-call ≡ left_by_call r (form_in u i state)) where
+  pub table_told : TableCalls (import_of_table call) (form_in t i state) words memory r (form_in u i state) → MeansSome tells (import_of_table call) (form_in t i state) words memory a after-call
+  table_told calls =
+      told_comes tells (import_of_table call) (form_in t i state) (form_in u i state) after-call words memory r a told kept
+      (table_comes tells (import_of_table call) words memory (quiet call) (form_in t i state) (form_in u i state) r refl refl calls)
+
+  -- where no fault is kept
+  pub plain_told : t.fault ≡ None → ((f : HostForm) → IsTableCall (import_of_table call) (of_tables t f) words memory r (of_tables u f))
+      → MeansSome tells (import_of_table call) (form_in t i state) words memory a after-call
+  plain_told none calls = table_told (chosen_plain call call words memory r refl t u (form_in t i state) none calls)
+
+-- an import that can be refused is not, so no fault is kept
+pub none_kept : (i : Import) (o : Option Fault) → lets_go i ≡ false → refuses i o ≡ false → o ≡ None
+none_kept i None keeps goes = refl
+none_kept i (Some f) keeps goes = absurd (true≢false (sym (ap not keeps) ∙ goes))

@@ -1,5 +1,5 @@
 //! The answer to a call.
-ghost use Rattle.std.specs.Prelude.{◌≡◌, false};
+ghost use Rattle.std.specs.Prelude.{◌≡◌, List, ℕ, false};
 ghost use Rattle.host_calls.specs.Calls.{ComesTo, MeansSome, import_of};
 ghost use Rattle.host_calls.specs.Forms.{host_form};
 ghost use Rattle.host_imports.specs.Imports.{import_answer};
@@ -7,13 +7,15 @@ ghost use Rattle.host_step.specs.Answers.{refusal};
 ghost use Rattle.host_step.specs.HostStep.{refuses};
 ghost use Rattle.host_meaning.specs.TableCalls.{left_by_call};
 ghost use Rattle.host_table_calls.specs.Answers.{told_as};
-ghost use Rattle.host_table_calls.specs.Calls.{import_of_table};
+ghost use Rattle.host_texts.specs.Primitives.{row_of};
+ghost use Rattle.host_values.specs.Primitives.{primitive_of};
 
 use crate::dispatch::{Call, call_of};
 use crate::host::Host;
 use host_imports::{Import, Listing};
-use host_table_calls::{TableCall, refusal, refuses, told};
-use host_values::Refusal;
+use host_table_calls::{refusal, refuses, told};
+use host_texts::TextPrimitive;
+use host_values::{Refusal, ValuePrimitive};
 use sem_primitives::Primitive;
 use wasm_model::HostAnswer;
 use wasm_store::Word;
@@ -60,7 +62,11 @@ impl<W: World> Host<W> {
 
     /// Tells what a call came to, and keeps the fault that it met.
     #[inline(always)]
-    fn tell(&mut self, import: Import, outcome: Result<Option<Word>, Refusal>) -> HostAnswer
+    pub(crate) fn tell(
+        &mut self,
+        import: Import,
+        outcome: Result<Option<Word>, Refusal>,
+    ) -> HostAnswer
         ensures told { result ≡ told_as import outcome }
         ensures kept { host_form W.state self.new
             ≡ left_by_call outcome (host_form W.state self.old) }
@@ -69,39 +75,38 @@ impl<W: World> Host<W> {
         told(import, outcome)
     }
 
-    /// Answers a call on the tables that is not refused. Where it is known which import that is, so is the way to the table, and how it is told.
+    /// Answers a call of a primitive on values that is not refused.
     #[inline(always)]
-    pub(crate) fn on_known(
+    pub(crate) fn on_values(
         &mut self,
         import: Import,
-        call: TableCall,
+        primitive: ValuePrimitive,
         words: &[Word],
         memory: &[u8],
     ) -> HostAnswer
-        requires same { import_of_table call ≡ import }
+        requires same { Import.Of (primitive_of primitive) ≡ import }
         requires goes { refuses import self.old.tables.fault ≡ false }
         ensures { MeansSome W.tells import (host_form W.state self.old) words.now memory.now result
             (host_form W.state self.new) }
     {
-        let outcome = self.on_tables(call, words, memory);
+        let outcome = self.tables.on_values(primitive, words, memory);
         self.tell(import, outcome)
     }
 
-    /// Answers any call that is not refused.
+    /// Answers a call of a primitive on texts that is not refused.
     #[inline(always)]
-    pub(crate) fn on_call(
+    pub(crate) fn on_texts(
         &mut self,
         import: Import,
-        call: Call,
+        primitive: TextPrimitive,
         words: &[Word],
-        memory: &[u8],
     ) -> HostAnswer
-        requires same { import_of call ≡ import }
+        requires same { Import.Of (row_of primitive) ≡ import }
         requires goes { refuses import self.old.tables.fault ≡ false }
-        ensures { MeansSome W.tells import (host_form W.state self.old) words.now memory.now result
-            (host_form W.state self.new) }
+        ensures { (memory : List ℕ) → MeansSome W.tells import (host_form W.state self.old)
+            words.now memory result (host_form W.state self.new) }
     {
-        let outcome = self.outcome(call, words, memory);
+        let outcome = self.tables.on_texts(primitive, words);
         self.tell(import, outcome)
     }
 
@@ -112,7 +117,8 @@ impl<W: World> Host<W> {
         ensures { MeansSome W.tells import (host_form W.state self.old) words.now memory.now result
             (host_form W.state self.new) }
     {
-        self.on_call(import, call_of(import), words, memory)
+        let outcome = self.outcome(call_of(import), words, memory);
+        self.tell(import, outcome)
     }
 
     /// Answers a call of an import. Once a fault is kept every import but those that let something go only refuses. The imports that scripts call most
@@ -126,8 +132,8 @@ impl<W: World> Host<W> {
             return refused(import);
         }
         match import {
-            Import::Drop => self.on_drop(words, memory),
-            Import::Arg => self.on_arg(words, memory),
+            Import::Drop => self.on_drop(words),
+            Import::Arg => self.on_arg(words),
             Import::Of(Primitive::Num) => self.on_num(words, memory),
             Import::Of(Primitive::Dup) => self.on_dup(words, memory),
             Import::Of(Primitive::ToNum) => self.on_to_num(words, memory),
@@ -135,18 +141,18 @@ impl<W: World> Host<W> {
             Import::Of(Primitive::Compare) => self.on_compare(words, memory),
             Import::Of(Primitive::Lit) => self.on_lit(words, memory),
             Import::Of(Primitive::Concat) => self.on_concat(words, memory),
-            Import::Of(Primitive::Field) => self.on_field(words, memory),
-            Import::Of(Primitive::GetSpecial) => self.on_get_special(words, memory),
-            Import::Of(Primitive::SetField) => self.on_set_field(words, memory),
-            Import::Of(Primitive::Length) => self.on_length(words, memory),
-            Import::Of(Primitive::Matches) => self.on_matches(words, memory),
-            Import::Of(Primitive::Sub) => self.on_sub(words, memory),
-            Import::Of(Primitive::Elem) => self.on_elem(words, memory),
-            Import::Of(Primitive::SetElem) => self.on_set_elem(words, memory),
-            Import::Of(Primitive::Has) => self.on_has(words, memory),
-            Import::Of(Primitive::NextMain) => self.on_next_main(words, memory),
-            Import::Over(Listing::Print) => self.on_print(words, memory),
-            Import::Over(Listing::Printf) => self.on_printf(words, memory),
+            Import::Of(Primitive::Field) => self.on_field(words),
+            Import::Of(Primitive::GetSpecial) => self.on_get_special(words),
+            Import::Of(Primitive::SetField) => self.on_set_field(words),
+            Import::Of(Primitive::Length) => self.on_length(words),
+            Import::Of(Primitive::Matches) => self.on_matches(words),
+            Import::Of(Primitive::Sub) => self.on_sub(words),
+            Import::Of(Primitive::Elem) => self.on_elem(words),
+            Import::Of(Primitive::SetElem) => self.on_set_elem(words),
+            Import::Of(Primitive::Has) => self.on_has(words),
+            Import::Of(Primitive::NextMain) => self.on_next_main(words),
+            Import::Over(Listing::Print) => self.on_print(words),
+            Import::Over(Listing::Printf) => self.on_printf(words),
             _ => self.on_any(import, words, memory),
         }
     }

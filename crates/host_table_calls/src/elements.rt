@@ -23,9 +23,13 @@ impl Tables {
         new_array(&mut self.arrays, words)
     }
 
-    /// A copy of an element, which is made where there is none.
+    /// `elem`: a copy of an element, which is made where there is none.
+    ///
+    /// # Errors
+    ///
+    /// A trap, which changes nothing; a fault, which is to be kept; or want of memory.
     #[inline(always)]
-    pub(crate) fn elem(&mut self, words: &[Word]) -> Result<Option<Word>, Refusal>
+    pub fn elem(&mut self, words: &[Word]) -> Result<Option<Word>, Refusal>
         requires { self.old.fault ≡ None }
         ensures { (f : HostForm) (memory : List ℕ) → IsTableCall (Import.Of row.Elem)
             (of_tables self.old f) words.now memory result (of_tables self.new f) }
@@ -33,9 +37,13 @@ impl Tables {
         elem(self.alloc, &mut self.arrays, &mut self.handles, words)
     }
 
-    /// Gives an element a value.
+    /// `set_elem`: gives an element a value.
+    ///
+    /// # Errors
+    ///
+    /// A trap, which changes nothing; a fault, which is to be kept; or want of memory.
     #[inline(always)]
-    pub(crate) fn set_elem(&mut self, words: &[Word]) -> Result<Option<Word>, Refusal>
+    pub fn set_elem(&mut self, words: &[Word]) -> Result<Option<Word>, Refusal>
         requires { self.old.fault ≡ None }
         ensures { (f : HostForm) (memory : List ℕ) → IsTableCall (Import.Of row.SetElem)
             (of_tables self.old f) words.now memory result (of_tables self.new f) }
@@ -43,9 +51,13 @@ impl Tables {
         set_elem(self.alloc, &mut self.arrays, &mut self.handles, words)
     }
 
-    /// Whether an array has an element.
+    /// `has`: whether an array has an element.
+    ///
+    /// # Errors
+    ///
+    /// A trap, which changes nothing; a fault, which is to be kept; or want of memory.
     #[inline(always)]
-    pub(crate) fn has(&mut self, words: &[Word]) -> Result<Option<Word>, Refusal>
+    pub fn has(&mut self, words: &[Word]) -> Result<Option<Word>, Refusal>
         requires { self.old.fault ≡ None }
         ensures { (f : HostForm) (memory : List ℕ) → IsTableCall (Import.Of row.Has)
             (of_tables self.old f) words.now memory result (of_tables self.new f) }

@@ -5,7 +5,7 @@ ghost use Rattle.host_elements.specs.Calls.{IsTableCall};
 ghost use Rattle.host_elements.specs.Forms.{HostForm};
 ghost use Rattle.host_imports.specs.declared.import.Import.{Import};
 ghost use Rattle.host_imports.specs.declared.import.Listing.{Listing};
-ghost use Rattle.host_tables.specs.Families.{of_values};
+ghost use Rattle.host_meaning.specs.TableCalls.{TableCalls};
 ghost use Rattle.host_texts.specs.Primitives.{row_of};
 ghost use Rattle.host_values.specs.Primitives.{primitive_of};
 ghost use Rattle.host_table_calls.specs.Forms.{of_tables};
@@ -17,9 +17,13 @@ use host_values::{Refusal, ValuePrimitive};
 use wasm_store::Word;
 
 impl Tables {
-    /// A primitive on values.
+    /// `num`, `dup` and the other primitives on values.
+    ///
+    /// # Errors
+    ///
+    /// A trap, which changes nothing; a fault, which is to be kept; or want of memory.
     #[inline(always)]
-    pub(crate) fn on_values(
+    pub fn on_values(
         &mut self,
         primitive: ValuePrimitive,
         words: &[Word],
@@ -39,9 +43,13 @@ impl Tables {
         )
     }
 
-    /// A primitive on texts, special variables and the record.
+    /// `field`, `length` and the other primitives on texts, special variables and the record.
+    ///
+    /// # Errors
+    ///
+    /// A trap, which changes nothing; a fault, which is to be kept; or want of memory.
     #[inline(always)]
-    pub(crate) fn on_texts(
+    pub fn on_texts(
         &mut self,
         primitive: TextPrimitive,
         words: &[Word],
@@ -68,9 +76,13 @@ impl Tables {
         format_last(self.alloc, &mut self.handles, &mut self.arguments, words)
     }
 
-    /// A value goes onto the argument list.
+    /// `arg`: a value goes onto the argument list.
+    ///
+    /// # Errors
+    ///
+    /// A trap, which changes nothing, or want of memory.
     #[inline(always)]
-    pub(crate) fn arg(&mut self, words: &[Word]) -> Result<Option<Word>, Refusal>
+    pub fn arg(&mut self, words: &[Word]) -> Result<Option<Word>, Refusal>
         requires { self.old.fault ≡ None }
         ensures { (f : HostForm) (memory : List ℕ) → IsTableCall Import.Arg (of_tables self.old f)
             words.now memory result (of_tables self.new f) }
@@ -93,13 +105,15 @@ impl Tables {
         )
     }
 
-    /// Gives a value up, also where a fault is kept.
+    /// `drop`: gives a value up, also where a fault is kept.
+    ///
+    /// # Errors
+    ///
+    /// A trap, which changes nothing.
     #[inline(always)]
-    pub(crate) fn release(&mut self, words: &[Word]) -> Result<Option<Word>, Refusal>
-        ensures step { (f : HostForm) (memory : List ℕ) → IsTableCall Import.Drop
-            (of_values self.old.handles f) words.now memory result (of_values self.new.handles f) }
-        ensures others { (f : HostForm) → of_tables self.new f
-            ≡ of_values self.new.handles (of_tables self.old f) }
+    pub fn release(&mut self, words: &[Word]) -> Result<Option<Word>, Refusal>
+        ensures { (f : HostForm) (memory : List ℕ) → TableCalls Import.Drop (of_tables self.old f)
+            words.now memory result (of_tables self.new f) }
     {
         release(&mut self.handles, words)
     }

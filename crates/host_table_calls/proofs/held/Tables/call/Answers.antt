@@ -5,7 +5,7 @@ use Rattle.host_meaning.specs.TableCalls.{TableCalls}
 use Rattle.host_table_calls.specs.Forms.{of_tables}
 use Rattle.host_table_calls.specs.declared.table_call.TableCall.TheVariants as call
 use Rattle.host_table_calls.proofs.Chosen.{chosen, chosen_plain}
-use Rattle.host_table_calls.proofs.LetGo.{array_goes, iterator_goes, value_goes}
+use Rattle.host_table_calls.proofs.LetGo.{array_goes, iterator_goes}
 use Rattle.host_table_calls.proofs.held.Tables.call.Goals as goal
 
 pub returns-in-Values : goal.returns-in-Values
@@ -49,11 +49,8 @@ returns-in-IterNext c f = chosen_plain c.args.call call.IterNext c.args.words.no
 
 pub returns-in-Drop : goal.returns-in-Drop
 returns-in-Drop c f =
-    let before = of_tables c.args.self.now f in
-    let after = of_tables c.release.new.self f in
-    chosen c.args.call call.Drop c.args.words.now c.args.memory.now c.release.result (search rules) before after
-    (subst (λ (z : HostForm). TableCalls import.Drop before c.args.words.now c.args.memory.now c.release.result z) (sym (c.release.ensures.others f))
-    (value_goes before c.args.words.now c.args.memory.now c.release.result c.release.new.self.handles (λ g. c.release.ensures.step g c.args.memory.now)))
+    chosen c.args.call call.Drop c.args.words.now c.args.memory.now c.release.result (search rules) (of_tables c.args.self.now f) (of_tables c.release.new.self f)
+    (c.release.ensures f c.args.memory.now)
 
 pub returns-in-IterFree : goal.returns-in-IterFree
 returns-in-IterFree c f =

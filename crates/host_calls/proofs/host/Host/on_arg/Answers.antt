@@ -1,0 +1,16 @@
+use Rattle.std.proofs.Common.{refl}
+use Rattle.host_imports.specs.declared.import.Import.TheVariants.{Arg}
+use Rattle.host_table_calls.specs.declared.table_call.TableCall.TheVariants as call
+use Rattle.host_calls.specs.Forms.{host_form}
+use Rattle.host_calls.proofs.Comes.{none_kept, plain_told}
+use Rattle.host_calls.proofs.host.Host.on_arg.Goals as goal
+
+pub arg-outcome-requires : goal.arg-outcome-requires
+arg-outcome-requires g c = none_kept Arg c.args.self.now.tables.fault refl c.requires
+
+pub returns : goal.returns
+returns g c memory =
+    let host = c.args.self.now in
+    plain_told g.W.World.tells call.Arg c.args.words.now memory host.tables c.arg-outcome.new.self host.input (g.W.World.state host.world) c.arg-outcome.result
+    c.tell.result (host_form g.W.World.state c.tell.new.self) c.tell.ensures.told c.tell.ensures.kept
+    (none_kept Arg host.tables.fault refl c.requires) (λ f. c.arg-outcome.ensures f memory)

@@ -1,0 +1,25 @@
+use Rattle.std.proofs.Common.{◌≡◌, false, refl, subst, sym}
+use Rattle.host_step.specs.HostStep.{refuses}
+use Rattle.host_imports.specs.declared.import.Import.{Import}
+use Rattle.host_imports.specs.declared.import.Import.TheVariants.{Of}
+use Rattle.host_texts.specs.Primitives.{row_of}
+use Rattle.host_table_calls.specs.Answers.{told_as}
+use Rattle.host_table_calls.specs.declared.table_call.TableCall.TheVariants.{Texts}
+use Rattle.host_calls.specs.Calls.{MeansSome}
+use Rattle.host_calls.specs.Forms.{host_form}
+use Rattle.host_calls.proofs.Comes.{none_kept, plain_told}
+use Rattle.host_calls.proofs.host.Host.on_texts.Goals as goal
+
+pub on_texts-outcome-requires : goal.on_texts-outcome-requires
+on_texts-outcome-requires g c = none_kept (Of (row_of c.args.primitive)) c.args.self.now.tables.fault refl
+    (subst (λ (i : Import). refuses i c.args.self.now.tables.fault ≡ false) (sym c.requires.same) c.requires.goes)
+
+pub returns : goal.returns
+returns g c memory =
+    let host = c.args.self.now in
+    let last = host_form g.W.World.state c.tell.new.self in
+    subst (λ (i : Import). MeansSome g.W.World.tells i (host_form g.W.World.state host) c.args.words.now memory c.tell.result last) c.requires.same
+    (plain_told g.W.World.tells (Texts c.args.primitive) c.args.words.now memory host.tables c.on_texts-outcome.new.self host.input (g.W.World.state host.world) c.on_texts-outcome.result
+    c.tell.result last (subst (λ (i : Import). c.tell.result ≡ told_as i c.on_texts-outcome.result) (sym c.requires.same) c.tell.ensures.told) c.tell.ensures.kept
+    (none_kept (Of (row_of c.args.primitive)) host.tables.fault refl
+    (subst (λ (i : Import). refuses i host.tables.fault ≡ false) (sym c.requires.same) c.requires.goes)) (λ f. c.on_texts-outcome.ensures f memory))
