@@ -1,7 +1,8 @@
 pub mod Calls
-pub mod Following
+pub mod Entering
 pub mod KnownTurns
 pub mod Laying
+pub mod Leaving
 pub mod Placing
 pub mod Refusals
 pub mod Stretching

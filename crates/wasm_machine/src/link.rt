@@ -277,7 +277,7 @@ fn code_of(alloc: Global, whole: &Module, func: &Func) -> Result<Code, AllocErro
     let Ok(locals) = u32::try_from(ty.params.len() + func.locals.len()) else {
         return Err(AllocError);
     };
-    let code = Code::new(alloc, whole, locals, &func.body)?;
+    let code = Code::new(alloc, whole, locals, ty.result, &func.body)?;
     let _layout = code.layout();
     Ok(code)
 }
@@ -302,9 +302,10 @@ fn first_code(alloc: Global, whole: &Module, main: u32) -> Result<Code, AllocErr
     ensures body { IfOk result (λ c. code_at c 0 ≡ entry_code whole.now.start main) }
     ensures begins { IfOk result Begins }
     ensures locals { IfOk result (λ c. c.locals ≡ 0) }
+    ensures gives { IfOk result (λ c. c.gives ≡ Some ValType.I32) }
 {
     let calls = entry(alloc, whole.start, main)?;
-    let code = Code::new(alloc, whole, 0, &calls)?;
+    let code = Code::new(alloc, whole, 0, Some(ValType::I32), &calls)?;
     let _layout = code.layout();
     Ok(code)
 }
@@ -328,7 +329,7 @@ pub(crate) fn first_state(
     let Some(code) = codes.get(first) else {
         return Err(AllocError);
     };
-    let frames = Frames::new(alloc, code.layout(), first, Some(ValType::I32))?;
+    let frames = Frames::new(alloc, code.layout(), first)?;
     let limits = limits_of(&whole.memories);
     let mut memory = Memory::new(alloc, limits)?;
     pour(&mut memory, limits.min as usize * 65536, &whole.data);

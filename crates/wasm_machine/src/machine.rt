@@ -9,11 +9,12 @@ ghost use Rattle.wasm_types.specs.View.{view_module};
 use crate::link::{codes_of, first_state, link};
 use crate::program::Program;
 use crate::run::run;
-use crate::sites::all_sites;
+use crate::sites::no_lines;
 use module_validator::ValidModule;
 use std::alloc::Global;
 use std::marker::Model;
 use wasm_model::{End, HostCalls, LinkFault, MachineEnd, RunEnd};
+use wasm_registers::fast::Fast;
 use wasm_states::State;
 use wasm_store::{TrapKind, Word};
 
@@ -32,10 +33,11 @@ fn tell(end: RunEnd) -> MachineEnd
     }
 }
 
-/// A machine that runs one module. A contract sees its module with the numbers of its imports, its configuration, and how it ended.
+/// A machine that runs one module. `lines` has the operations of each code that was entered, of as many instructions as are known together. A contract sees its module with the numbers of its imports, its configuration, and how it ended.
 #[derive(Drop)]
 pub struct Machine {
     program: Program,
+    lines: Vec<Vec<Fast>>,
     state: State,
     ended: Option<MachineEnd>,
 }
@@ -46,7 +48,7 @@ impl Model for Machine {
     ghost use Rattle.std.specs.Prelude.{◌≡◌, None};
     ghost use Rattle.wasm_frames.specs.Standing.{Stand};
     ghost use Rattle.wasm_states.specs.Confs.{conf_of};
-    ghost use Rattle.wasm_machine.specs.ViewConf.{HasCodes, program_of};
+    ghost use Rattle.wasm_machine.specs.ViewConf.{HasCodes, HasLines, program_of};
     ghost use Rattle.wasm_model.specs.Runs.{MachineForm};
     ghost use Rattle.wasm_model.specs.Typed.{MachineOk};
 
@@ -60,7 +62,8 @@ impl Model for Machine {
       ended = a.ended;
     } };
 
-    ghost invariant = { λ a. HasCodes a.program × (a.ended ≡ None → Stand a.program.codes.items a.state.frames)
+    ghost invariant = { λ a. (HasCodes a.program × HasLines a.program a.lines.items)
+        × (a.ended ≡ None → Stand a.program.codes.items a.state.frames)
         × MachineOk (program_of a.program) (conf_of a.program.codes.items a.state) a.ended };
 }
 
@@ -91,18 +94,17 @@ impl Machine {
             return Err(LinkFault::NoMemory);
         };
         let whole = valid.into_module();
-        let mut program = Program {
+        let program = Program {
             whole,
             numbers,
             codes,
-            sites: Vec::new(alloc),
         };
-        let Ok(sites) = all_sites(alloc, &program) else {
+        let Ok(lines) = no_lines(alloc, &program) else {
             return Err(LinkFault::NoMemory);
         };
-        program.sites = sites;
         Ok(Machine {
             program,
+            lines,
             state,
             ended: None,
         })
@@ -131,7 +133,7 @@ impl Machine {
         if let Some(end) = self.ended {
             return end;
         }
-        let end = tell(run(&mut self.state, &self.program, host, steps));
+        let end = tell(run(&mut self.state, &self.program, &mut self.lines, host, steps));
         if end != MachineEnd::OutOfSteps {
             self.ended = Some(end);
         }

@@ -56,6 +56,6 @@ returns c =
             let there : slice_get c.push-2.new.items.items (length whole.funcs.items) ≡ Some code = ap (λ (xs : List Laid). slice_get xs (length whole.funcs.items)) items ∙ (ap (slice_get (old ++ code ∷ [])) (sym size) ∙ slice_get_last old code) in
             let same : Some f ≡ Some code = sym e ∙ there in
             let is : f ≡ code = cc in
-            ap (λ (x : Laid). x.locals) is ∙ c.in_ok-first.ensures.locals;
+            (ap (λ (x : Laid). x.locals) is ∙ c.in_ok-first.ensures.locals, ap (λ (x : Laid). x.gives) is ∙ c.in_ok-first.ensures.gives);
       };
     }
