@@ -33,7 +33,8 @@ fn tell(end: RunEnd) -> MachineEnd
     }
 }
 
-/// A machine that runs one module. `lines` has the operations of each code that was entered, of as many instructions as are known together. A contract sees its module with the numbers of its imports, its configuration, and how it ended.
+/// A machine that runs one module. `lines` has the operations of each code that was entered, of as many instructions as are known together. A contract sees its
+/// module with the numbers of its imports, its configuration, and how it ended.
 #[derive(Drop)]
 pub struct Machine {
     program: Program,
