@@ -14,6 +14,7 @@ use world_core::World;
 
 impl<W: World> Host<W> {
     /// Reads the main input (`next_main`, `getline`, `getline_var`), where no fault is kept.
+    #[inline(always)]
     pub(crate) fn read_main(
         &mut self,
         how: MainRead,

@@ -75,6 +75,7 @@ pub struct Record {
 }
 
 /// `$0` gets another text.
+#[inline(always)]
 fn put_text(whole: &mut Value, text: Bytes)
     ensures { whole.new ≡ StrNum text }
 {

@@ -74,3 +74,17 @@ two_steps s inner (Err fault) v e = cc
 pub counts : (s : Special) (inner new : Inner) (v w : Value) → s ≢ Nf → v ≡ inner.specials s → next_count v ≡ Ok w → new ≡ with_special s w inner → counted_by s inner ≡ Ok new
 counts s inner new v w other held is set =
     ap (λ x. number_of_value x >>= λ k. sum k (pos 1) >>= λ j. Ok (with_special s (Num j) inner)) (plain s inner other ∙ sym held) ∙ two_steps s inner (number_of_value v) w is ∙ ap (λ i. Ok i) (sym set)
+
+-- No count.
+
+one_fails : (s : Special) (inner : Inner) (r : Result ℤ Fault) (fault : Fault) → (r >>= λ n. Ok (Num n)) ≡ Err fault → (r >>= λ j. Ok (with_special s (Num j) inner)) ≡ Err fault
+one_fails s inner (Ok n) fault e = cc
+one_fails s inner (Err first) fault e = let same : first ≡ fault = cc in ap (λ f. Err f) same
+
+two_fail : (s : Special) (inner : Inner) (r : Result ℤ Fault) (fault : Fault) → ((r >>= λ n. sum n (pos 1)) >>= λ n. Ok (Num n)) ≡ Err fault → (r >>= λ k. sum k (pos 1) >>= λ j. Ok (with_special s (Num j) inner)) ≡ Err fault
+two_fail s inner (Ok n) fault e = one_fails s inner (sum n (pos 1)) fault e
+two_fail s inner (Err first) fault e = let same : first ≡ fault = cc in ap (λ f. Err f) same
+
+pub miscounts : (s : Special) (inner : Inner) (fault : Fault) → s ≢ Nf → next_count (inner.specials s) ≡ Err fault → counted_by s inner ≡ Err fault
+miscounts s inner fault other is =
+    ap (λ x. number_of_value x >>= λ k. sum k (pos 1) >>= λ j. Ok (with_special s (Num j) inner)) (plain s inner other) ∙ two_fail s inner (number_of_value (inner.specials s)) fault is

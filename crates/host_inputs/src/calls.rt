@@ -59,6 +59,7 @@ fn answered(read: Result<InputAnswer, Stop>) -> Result<Option<Word>, Refusal>
 /// # Errors
 ///
 /// A trap, which changes nothing; a fault, which is to be kept, and after which nothing of texts and input is to be looked at; or want of memory.
+#[inline(always)]
 pub fn read_main<W: World>(
     alloc: Global,
     world: &mut W,

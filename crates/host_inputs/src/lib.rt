@@ -7,6 +7,7 @@ mod files;
 mod input;
 mod main_record;
 mod record;
+mod shown;
 mod turn;
 
 pub use calls::{begin_end, line, next_file, read_file, read_main};

@@ -52,6 +52,7 @@ fn given<W: World, O: Operands>(
 }
 
 /// A record is set, or kept for a variable.
+#[inline(always)]
 pub(crate) fn keep(
     alloc: Global,
     texts: &mut Texts,
@@ -88,6 +89,7 @@ fn keep_of(how: MainRead) -> Keep
 }
 
 /// A record is counted, and then set or kept.
+#[inline(always)]
 fn take(
     alloc: Global,
     texts: &mut Texts,

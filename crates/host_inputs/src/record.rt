@@ -3,7 +3,7 @@ ghost use Rattle.std.specs.Prelude.{◌≡◌, ◌≢◌, ◌==◌, cond, Err, I
 ghost use Rattle.awk_values.specs.Operators.{sum};
 ghost use Rattle.sem_primitives.specs.InputMeaning.{counted_by, counted_record};
 ghost use Rattle.sem_primitives.specs.SharedState.{Inner, with_special};
-ghost use Rattle.host_inputs.specs.Counts.{count_after, next_count};
+ghost use Rattle.host_inputs.specs.Counts.{IsCounted, count_after, next_count};
 ghost use Rattle.sem_primitives.specs.Constants.{special_number};
 ghost use Rattle.host_texts.specs.States.{specials_of, with_texts};
 ghost use Rattle.host_inputs.specs.Keeps.{KeepsSubstituted};
@@ -34,6 +34,7 @@ pub(crate) fn give(texts: &mut Texts, special: Special, value: Value)
 }
 
 /// The next number.
+#[inline(always)]
 fn one_more(number: i64) -> Result<i64, Fault>
     ensures { result ≡ sum number (pos 1) }
 {
@@ -48,6 +49,7 @@ fn one_more(number: i64) -> Result<i64, Fault>
 }
 
 /// The count after the one that a value holds.
+#[inline(never)]
 fn count_after(value: &Value) -> Result<i64, Fault>
     ensures { result ≡ count_after value.now }
 {
@@ -57,17 +59,35 @@ fn count_after(value: &Value) -> Result<i64, Fault>
     }
 }
 
-/// The same as a value.
-fn next_count(value: &Value) -> Result<Value, Fault>
-    ensures { result ≡ next_count value.now }
+/// A value counts a record.
+#[inline(always)]
+fn count(value: &mut Value) -> Result<(), Fault>
+    ensures ok { OnOk result (next_count value.old ≡ Ok value.new) }
+    ensures err { IfErr result (λ fault. next_count value.old ≡ Err fault) }
+    ensures refused { OnErr result (value.new ≡ value.old) }
 {
-    match count_after(value) {
-        Ok(count) => Ok(Value::Num(count)),
-        Err(fault) => Err(fault),
+    if let Value::Num(number) = value {
+        *number = one_more(*number)?;
+        return Ok(());
     }
+    *value = Value::Num(count_after(value)?);
+    Ok(())
+}
+
+/// A special variable counts a record, among all of them.
+#[tactic(auto, using(crate::proofs::SpecialNumbers::number_within))]
+#[inline(always)]
+fn count_in(values: &mut [Value; 14], special: Special) -> Result<(), Fault>
+    ensures ok { OnOk result (IsCounted special values.old values.new) }
+    ensures err { IfErr result
+        (λ fault. next_count (specials_of values.old special) ≡ Err fault) }
+    ensures refused { OnErr result (values.new ≡ values.old) }
+{
+    count(&mut values[usize::from(special.number())])
 }
 
 /// A special variable counts a record, by its own number.
+#[inline(always)]
 fn count_by(texts: &mut Texts, special: Special) -> Result<(), Fault>
     requires { special ≢ Special.Nf }
     ensures ok { OnOk result ((inner : Inner) → counted_by special (with_texts texts.old inner)
@@ -77,12 +97,11 @@ fn count_by(texts: &mut Texts, special: Special) -> Result<(), Fault>
     ensures refused { OnErr result (texts.new ≡ texts.old) }
     ensures substituted { KeepsSubstituted texts.old texts.new }
 {
-    let next = next_count(texts.specials.get(special))?;
-    give(texts, special, next);
-    Ok(())
+    count_in(&mut texts.specials.values, special)
 }
 
 /// NR counts a record, and then FNR.
+#[inline(always)]
 pub(crate) fn count_record(texts: &mut Texts) -> Result<(), Fault>
     ensures ok { OnOk result ((inner : Inner) → counted_record (with_texts texts.old inner)
         ≡ Ok (with_texts texts.new inner)) }

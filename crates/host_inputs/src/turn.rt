@@ -16,11 +16,11 @@ ghost use Rattle.host_inputs.specs.States.{HoldsInput, Over, with_tables};
 
 use crate::input::{Given, Input};
 use crate::record::give;
+use crate::shown::shown_text;
 use awk_values::{Bytes, Fault, Stop, Value};
 use host_names::assign;
 use host_streams::{MainNext, Operands};
 use host_texts::Texts;
-use host_values::value_text;
 use sem_primitives::Special;
 use std::alloc::Global;
 use world_core::World;
@@ -38,7 +38,6 @@ fn begin(texts: &mut Texts, name: Bytes)
 
 /// What the main input gives next.
 fn next<W: World, O: Operands>(
-    alloc: Global,
     world: &mut W,
     operands: &O,
     texts: &Texts,
@@ -60,7 +59,7 @@ fn next<W: World, O: Operands>(
     ensures live { AssignLive result input.new.main }
     ensures finds { FindsNext (O.text operands.now) texts.now input.old result input.new }
 {
-    let rs = value_text(alloc, texts.specials.get(Special::Rs))?;
+    let rs = shown_text(texts.specials.get(Special::Rs));
     let argc = texts.specials.get(Special::Argc);
     input.main.next(world, operands, argc, rs.as_slice())
 }
@@ -101,7 +100,7 @@ pub(crate) fn turn<W: World, O: Operands>(
     ensures finds { FindsTurn (O.text operands.now) texts.old input.old result
         texts.new input.new }
 {
-    match next(alloc, world, operands, texts, input) {
+    match next(world, operands, texts, input) {
         Ok(MainNext::Record(text)) => Ok(Some(Given::Taken(text))),
         Ok(MainNext::End) => Ok(Some(Given::Over)),
         Ok(MainNext::Opened(name)) => {

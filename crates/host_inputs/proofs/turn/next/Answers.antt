@@ -23,14 +23,14 @@ returns-clause-told g c = λ tells inner offered.
     let now = with_tables c.args.texts.now c.args.input.now (Over old) inner in
     subst (λ x. AnswerIs (main_input old.outside now) c.next.result old.outside now x)
     (tables_next c.args.texts.now c.args.input.now c.next.new.self (g.W.World.kinds c.args.world.now) old (g.W.World.state c.next.new.world) inner c.requires.held (c.next.ensures.places tells))
-    (c.next.ensures.told tells now (record { separator = ap record_separator (sym (c.as_slice.ensures ∙ c.in_ok-rs.ensures ∙ ap text_of_value c.get.ensures)) }) (record { count = sym c.get-argc.ensures; operands = offered }))
+    (c.next.ensures.told tells now (record { separator = ap record_separator (sym (c.as_slice.ensures ∙ c.shown_text-rs.ensures ∙ ap text_of_value c.get.ensures)) }) (record { count = sym c.get-argc.ensures; operands = offered }))
 
 pub returns-clause-finds : goal.returns-clause-finds
 returns-clause-finds g c =
     let finds = c.next.ensures.finds in (
       finds.0,
       λ later outside inner offered. finds.1 later outside (with_tables c.args.texts.now c.args.input.now (Finding later) inner)
-          (record { separator = ap record_separator (sym (c.as_slice.ensures ∙ c.in_ok-rs.ensures ∙ ap text_of_value c.get.ensures)) }) (record { count = sym c.get-argc.ensures; operands = offered }),
+          (record { separator = ap record_separator (sym (c.as_slice.ensures ∙ c.shown_text-rs.ensures ∙ ap text_of_value c.get.ensures)) }) (record { count = sym c.get-argc.ensures; operands = offered }),
     )
 
 pub returns-clause-passes : goal.returns-clause-passes
