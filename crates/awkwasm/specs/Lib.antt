@@ -1,3 +1,1 @@
-pub mod Jobs
-pub mod Examples
-pub mod Tasks
+pub mod Uncompiled

@@ -1,30 +1,7 @@
 //! What `imports` prints.
-ghost use Rattle.std.specs.Prelude.{IfErr, IfOk};
-ghost use Rattle.awkwasm.specs.Tasks.{IsUnreadable};
-ghost use Rattle.run_imports.specs.Calls.{AsksOnly, HasImports};
-
-use awk_run::{Refusal, RunEnd};
 use host_imports::Import;
-use run_imports::{Reads, Unlisted, Writes, imports_of, reads_of, writes_of};
+use run_imports::{Reads, Writes, reads_of, writes_of};
 use std::alloc::{AllocError, Global};
-use wasm_model::LinkFault;
-
-/// The imports of a module; else what is told of it, as where it is run.
-pub(crate) fn listed(alloc: Global, bytes: &[u8]) -> Result<Vec<Import>, RunEnd>
-    ensures ok { IfOk result
-        (λ found. HasImports bytes.now found.items × AsksOnly bytes.now found.items) }
-    ensures err { IfErr result (IsUnreadable bytes.now) }
-{
-    match imports_of(alloc, bytes) {
-        Ok(imports) => Ok(imports),
-        Err(Unlisted::Decode(fault)) => Err(RunEnd::Refused(Refusal::Decode(fault))),
-        Err(Unlisted::Invalid(fault)) => Err(RunEnd::Refused(Refusal::Invalid(fault))),
-        Err(Unlisted::BadImport(place)) => Err(RunEnd::Refused(Refusal::Link(LinkFault::BadImport(
-            place,
-        )))),
-        Err(Unlisted::NoMemory) => Err(RunEnd::NoMemory),
-    }
-}
 
 fn reads_text(reads: Reads) -> &'static str {
     match reads {

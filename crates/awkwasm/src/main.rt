@@ -1,17 +1,16 @@
 //! awkwasm: compiles AWK scripts to WebAssembly modules, and runs scripts and modules.
 #![tactic(auto)]
 
+mod environment;
 mod explanations;
 mod imports;
-mod job;
 mod standard;
 mod tasks;
-mod undone;
 
 use crate::standard::take_closed;
 use crate::tasks::{carry_out, tell_task};
-use crate::undone::Undone;
 use command_line::{exit_status, is_no_memory, is_script_file, request_of};
+use run_tasks::Undone;
 use std::alloc::AllocError;
 use std::io;
 use std::process::ExitCode;

@@ -4,19 +4,19 @@ ghost use Rattle.script_compiler.specs.Compiled.{IsCompiled};
 ghost use Rattle.awk_run.specs.ModuleRun.{Answers};
 ghost use Rattle.awk_run.specs.ScriptRuns.{ScriptAnswers};
 ghost use Rattle.run_report.specs.EndTexts.{exit_code};
-ghost use Rattle.awkwasm.specs.Jobs.{fence_of_task, job_of_task};
-ghost use Rattle.awkwasm.specs.Tasks.{IsUncompiled, task_code};
-ghost use Rattle.world_fenced.specs.Fences.{form_of};
+ghost use Rattle.awkwasm.specs.Uncompiled.{IsUncompiled};
+ghost use Rattle.run_tasks.specs.Jobs.{job_of_task};
+ghost use Rattle.run_tasks.specs.Tasks.{task_code};
 ghost use Rattle.host_names.specs.Forms.{pair_of};
 
+use crate::environment::environment_of;
 use crate::explanations::{explanation_text, names_text};
-use crate::imports::{imports_text, listed};
-use crate::job::{environment_of, job_on};
-use crate::undone::{Undone, undone_status, undone_text};
+use crate::imports::imports_text;
 use awk_run::{CompileFault, Refusal, RunEnd, compile, run_module, run_script};
 use command_line::{Request, Task};
 use host_calls::NamedText;
 use run_report::{FileFault, fault_text, no_memory_text, status_of, topic_named};
+use run_tasks::{Undone, job_on, listed, undone_status, undone_text, world_of};
 use script_code::MAX_SCRIPT_BYTES;
 use std::alloc::Global;
 use std::hash::RandomState;
@@ -25,7 +25,6 @@ use std::rt::Files;
 use std::{fs, io};
 use wasm_types::MAX_MODULE_BYTES;
 use world_core::World;
-use world_fenced::{FencedWorld, FileFence};
 use world_os::OsWorld;
 
 /// How many bytes of a script's file are read at most: one past the greatest length of a script.
@@ -85,30 +84,6 @@ fn script_on<W: World>(
         Ok(job) => run_script(alloc, script, &job, state, world, task.steps),
         Err(_) => (RunEnd::NoMemory, world),
     }
-}
-
-/// The fence that a task's options set up.
-fn fence_of<'a>(task: &'a Task<'_>) -> FileFence<'a>
-    ensures { form_of result ≡ fence_of_task task.now }
-{
-    let operands = if task.fences.only_operands {
-        Some(task.words.as_slice())
-    } else {
-        None
-    };
-    FileFence {
-        no_files: task.fences.no_files,
-        read_only: task.fences.read_only,
-        operands,
-    }
-}
-
-/// A world in which a task opens only what its options let through.
-fn world_of<'a, W: World>(world: W, task: &'a Task<'_>) -> FencedWorld<W, FileFence<'a>>
-    ensures inner { result.inner ≡ world }
-    ensures fence { form_of result.fence ≡ fence_of_task task.now }
-{
-    FencedWorld::new(world, fence_of(task))
 }
 
 /// What the keys of arrays are hashed with. No script can know it.

@@ -1,22 +1,15 @@
 -- What is told of a task: the line and the exit status where it is not done, and the status of each.
 use Rattle.std.specs.Prelude.{ℕ, List, Result, Ok, Err, codes}
-use Rattle.script_compiler.specs.Refusals.{IsNotCompiled}
 use Rattle.wasm_model.specs.declared.fault.LinkFault.TheVariants.{BadImport}
 use Rattle.run_imports.specs.Calls.{IsUnlisted}
 use Rattle.run_imports.specs.declared.imports.Unlisted.TheVariants as unlisted
-use Rattle.run_ends.specs.declared.end.Refusal.TheVariants.{Compile, Decode, Invalid, Link}
+use Rattle.run_ends.specs.declared.end.Refusal.TheVariants.{Decode, Invalid, Link}
 use Rattle.run_ends.specs.declared.end.RunEnd.{RunEnd}
 use Rattle.run_ends.specs.declared.end.RunEnd.TheVariants.{Refused}
 use Rattle.run_ends.specs.declared.end.RunEnd.TheVariants as end
 use Rattle.run_report.specs.EndTexts.{end_text, exit_code, file_text}
-use Rattle.awkwasm.specs.declared.undone.Undone.{Undone}
-use Rattle.awkwasm.specs.declared.undone.Undone.TheVariants.{Arguments, Environment, File, NoMemory, RandomNumbers, ScriptFile, Unexplained}
-
--- what is told of a script that is not compiled
-abbrev pub IsUncompiled : List ℕ → RunEnd → Type 0
-IsUncompiled bytes (Refused (Compile fault)) = IsNotCompiled bytes fault
-IsUncompiled bytes end.NoMemory = Unit {0}
-IsUncompiled bytes _ = ⊥
+use Rattle.run_tasks.specs.declared.undone.Undone.{Undone}
+use Rattle.run_tasks.specs.declared.undone.Undone.TheVariants.{Arguments, Environment, File, NoMemory, RandomNumbers, ScriptFile, Unexplained}
 
 -- what is told of a module whose imports are not listed: what is told of it where it is run
 abbrev pub IsUnreadable : List ℕ → RunEnd → Type 0

@@ -1,13 +1,13 @@
 //! Why a task is not done, and what is said of it.
 ghost use Rattle.std.specs.Prelude.{◌≡◌};
-ghost use Rattle.awkwasm.specs.Tasks.{undone_code, undone_text};
+ghost use Rattle.run_tasks.specs.Tasks.{undone_code, undone_text};
 
 use run_report::{FileFault, file_fault_text, no_memory_text};
 use std::alloc::AllocError;
 
 /// Why a task is not done.
 #[derive(Drop)]
-pub(crate) enum Undone {
+pub enum Undone {
     /// A file that the line names failed.
     File(FileFault),
     /// An argument is not UTF-8.
@@ -26,7 +26,7 @@ pub(crate) enum Undone {
 
 impl From<AllocError> for Undone {
     ghost use Rattle.std.specs.Prelude.{◌≡◌};
-    ghost use Rattle.awkwasm.specs.declared.undone.Undone.TheVariants.{NoMemory};
+    ghost use Rattle.run_tasks.specs.declared.undone.Undone.TheVariants.{NoMemory};
 
     ghost from_gives = { λ _ e. e ≡ NoMemory };
 
@@ -40,7 +40,7 @@ const SCRIPT_FILE: &str =
     "awkwasm: no option -f: give the file's text, as awkwasm run \"$(cat prog.awk)\" .., or compile it and then exec\n";
 
 /// The line for the standard error.
-pub(crate) fn undone_text(undone: &Undone) -> &'static [u8]
+pub fn undone_text(undone: &Undone) -> &'static [u8]
     ensures { result.now ≡ undone_text undone.now }
 {
     match undone {
@@ -56,7 +56,7 @@ pub(crate) fn undone_text(undone: &Undone) -> &'static [u8]
 }
 
 /// The exit status: 5 where memory ran out, 8 for every other cause.
-pub(crate) fn undone_status(undone: &Undone) -> u8
+pub fn undone_status(undone: &Undone) -> u8
     ensures { result ≡ undone_code undone.now }
 {
     match undone {

@@ -1,17 +1,15 @@
 //! What a script or a module is run with: operands, assignments and the environment.
 ghost use Rattle.std.specs.Prelude.{◌≡◌, ◌++◌, IfOk, OnOk, map, string_bytes};
-ghost use Rattle.awkwasm.specs.Jobs.{assignment, job_of_task, separator};
+ghost use Rattle.run_tasks.specs.Jobs.{assignment, job_of_task, separator};
 ghost use Rattle.command_line.specs.Request.{texts};
 ghost use Rattle.host_names.specs.Forms.{pair_of};
 ghost use Rattle.host_tables.specs.Starts.{job_of};
 
-use crate::undone::Undone;
 use awk_values::Bytes;
 use command_line::Task;
-use host_calls::{Job, NamedText};
+use host_names::NamedText;
+use host_tables::Job;
 use std::alloc::{AllocError, Global};
-use std::env;
-use std::env::VarError;
 
 /// The words, as operands.
 fn operands_of(alloc: Global, words: &[&str]) -> Result<Vec<Bytes>, AllocError>
@@ -71,8 +69,12 @@ fn push_separators(
     Ok(())
 }
 
-/// The job of a task in an environment.
-pub(crate) fn job_on(
+/// The job of a task in an environment: its words are the operands; every `-v` is an assignment, and then every `-F` is one to FS.
+///
+/// # Errors
+///
+/// Where memory is wanting.
+pub fn job_on(
     alloc: Global,
     task: &Task<'_>,
     environment: Vec<NamedText>,
@@ -90,7 +92,11 @@ pub(crate) fn job_on(
 }
 
 /// The pairs, in order, as bytes.
-fn named_texts(alloc: Global, pairs: &[(String, String)]) -> Result<Vec<NamedText>, AllocError>
+///
+/// # Errors
+///
+/// Where memory is wanting.
+pub fn named_texts(alloc: Global, pairs: &[(String, String)]) -> Result<Vec<NamedText>, AllocError>
     ensures { IfOk result
         (λ texts. map pair_of texts.items
         ≡ map (λ pair. (string_bytes pair.0, string_bytes pair.1)) pairs.now) }
@@ -100,16 +106,4 @@ fn named_texts(alloc: Global, pairs: &[(String, String)]) -> Result<Vec<NamedTex
         texts.push(named_text(alloc, name.as_str(), text.as_str())?)?;
     }
     Ok(texts)
-}
-
-/// The environment, sorted by name.
-pub(crate) fn environment_of(rt: &HostRuntime) -> Result<Vec<NamedText>, Undone> {
-    let pairs = match env::vars(rt) {
-        Ok(pairs) => pairs,
-        Err(VarError::OutOfMemory) => return Err(Undone::NoMemory),
-        Err(_) => return Err(Undone::Environment),
-    };
-    let mut sorted: Vec<(String, String)> = pairs.collect(rt.alloc())?;
-    sorted.sort_by(|a, b| a.0.cmp(&b.0))?;
-    Ok(named_texts(rt.alloc(), &sorted)?)
 }

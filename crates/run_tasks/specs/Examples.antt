@@ -1,6 +1,6 @@
 -- Words of the command line and what they assign.
 use Rattle.std.specs.Prelude.{◌≡◌, [], codes, refl}
-use Rattle.awkwasm.specs.Jobs.{assignment, separator}
+use Rattle.run_tasks.specs.Jobs.{assignment, separator}
 
 pub name_and_text : assignment (codes "n=007") ≡ (codes "n", codes "007")
 name_and_text = refl

@@ -1,6 +1,6 @@
 use Rattle.std.proofs.Common.{◌≡◌, ◌++◌, drop, map}
-use Rattle.awkwasm.specs.Jobs.{assignment}
-use Rattle.awkwasm.proofs.job.assigns_of.Given as goal
+use Rattle.run_tasks.specs.Jobs.{assignment}
+use Rattle.run_tasks.proofs.job.assigns_of.Given as goal
 use Rattle.command_line.specs.Request.{texts}
 use Rattle.host_names.specs.Forms.{pair_of}
 

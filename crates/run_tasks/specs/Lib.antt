@@ -1,0 +1,3 @@
+pub mod Jobs
+pub mod Examples
+pub mod Tasks
