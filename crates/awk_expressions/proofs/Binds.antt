@@ -80,6 +80,9 @@ pub climb_stops : (expr : Reader) (g : Bool) (limit w l : ℕ) (t : Tree) (ts : 
 climb_stops expr g limit zero l t ts o e s = refl
 climb_stops expr g limit (suc w) l t ts o e s = rw (e, s) refl
 
+pub climb_done : (expr : Reader) (g : Bool) (limit w l : ℕ) (t : Tree) (ts : List Token) → w ≡ 0 → climb expr g limit w l t ts ≡ Ok (t, ts)
+climb_done expr g limit w l t ts e = rw e refl
+
 checked_then : (limit : ℕ) (go : Tree → List Token → Read) (r : Read) → (r >>= checked limit go) ≡ (r >>= checked limit done >>= λ y. go y.0 y.1)
 checked_then limit go (Err e) = refl
 checked_then limit go (Ok x) = by (ltb limit (depth x.0))
