@@ -386,3 +386,94 @@ linked-returns-in-In t c = record {
 
 pub linked-returns-in-Question : goal.linked-returns-in-Question
 linked-returns-in-Question t c = record { tree = rw c.in-Question.is c.conditional.ensures.tree; depth = c.conditional.ensures.depth; small = c.conditional.ensures.small }
+
+pub extended-returns : goal.extended-returns
+extended-returns t c = record {
+  tree = rw (← c.in_ok-left.ensures.depth.0, c.in_ok-read.ensures.tree) c.within.ensures.tree;
+  depth = IfOk-weaker c.within.result _ _ (λ x h. rw h.0 c.in_ok-read.ensures.depth) c.within.ensures.same;
+  small = IfOk-weaker c.within.result _ _ (λ x h. h.1) c.within.ensures.same;
+}
+
+pub binary-returns : goal.binary-returns
+binary-returns t c = record {
+  tree = rw (← c.right_of.ensures, c.in_ok-right.ensures.tree) refl;
+  depth = omega (arith, c.requires.depth, c.in_ok-right.ensures.depth);
+  small = omega (arith, c.requires.small, c.in_ok-right.ensures.small);
+}
+
+pub assignment-returns : goal.assignment-returns
+assignment-returns t c = record {
+  tree = rw c.in_ok-right.ensures.tree refl;
+  depth = omega (arith, c.requires.depth, c.in_ok-right.ensures.depth);
+  small = omega (arith, c.requires.small, c.in_ok-right.ensures.small);
+}
+
+pub conditional-returns : goal.conditional-returns
+conditional-returns t c = record {
+  tree = rw c.in_ok-then.ensures.tree c.otherwise.ensures.tree;
+  depth = c.otherwise.ensures.depth;
+  small = c.otherwise.ensures.small;
+}
+
+pub otherwise-returns : goal.otherwise-returns
+otherwise-returns t c = record {
+  tree = rw (c.in_ok-rest.ensures, c.in_ok-last.ensures.tree) refl;
+  depth = omega (arith, c.requires.depth, c.in_ok-last.ensures.depth);
+  small = omega (arith, c.requires.small, c.in_ok-last.ensures.small);
+}
+
+pub parenthesised-returns-in-Some : goal.parenthesised-returns-in-Some
+parenthesised-returns-in-Some t c = record {
+  tree = rw (c.in_ok-first.ensures.tree, c.in-Some.ensures) c.in_list.ensures.tree;
+  depth = c.in_list.ensures.depth;
+  small = c.in_list.ensures.small;
+}
+
+pub parenthesised-returns : goal.parenthesised-returns
+parenthesised-returns t c = record {
+  tree = rw (c.in_ok-first.ensures.tree, c.in_default.ensures, c.in_ok-rest.ensures) refl;
+  depth = omega (arith, c.in_ok-first.ensures.depth);
+  small = omega (arith, c.in_ok-first.ensures.small);
+}
+
+pub getline_into-returns-in_default : goal.getline_into-returns-in_default
+getline_into-returns-in_default t c = record {
+  tree = rw c.in_default.ensures refl;
+  depth = omega (arith, c.requires.depth);
+  small = omega (arith, c.requires.small);
+}
+
+pub getline_into-returns : goal.getline_into-returns
+getline_into-returns t c = record {
+  tree = rw (c.in-Some.ensures, c.in_ok-file.ensures.tree) refl;
+  depth = omega (arith, c.requires.depth, c.in_ok-file.ensures.depth);
+  small = omega (arith, c.requires.small, c.in_ok-file.ensures.small);
+}
+
+pub getline_line-returns : goal.getline_line-returns
+getline_line-returns t c = record {
+  tree = rw (c.in-Some.ensures, c.in_ok-file.ensures.tree) refl;
+  depth = omega (arith, c.in_ok-file.ensures.depth);
+  small = omega (arith, c.in_ok-file.ensures.small);
+}
+
+pub field-returns : goal.field-returns
+field-returns t c = record {
+  tree = rw c.in_ok-inner.ensures.tree refl;
+  depth = omega (arith, c.in_ok-inner.ensures.depth);
+  small = omega (arith, c.in_ok-inner.ensures.small);
+}
+
+pub unary-returns : goal.unary-returns
+unary-returns t c = record {
+  tree = rw (← c.under.ensures, c.in_ok-inner.ensures.tree) refl;
+  depth = omega (arith, c.in_ok-inner.ensures.depth);
+  small = omega (arith, c.in_ok-inner.ensures.small);
+}
+
+pub pre_step-returns : goal.pre_step-returns
+pre_step-returns t c = record {
+  tree = rw c.in_ok-inner.ensures.tree refl;
+  depth = omega (arith, c.in_ok-inner.ensures.depth);
+  small = omega (arith, c.in_ok-inner.ensures.small);
+}
