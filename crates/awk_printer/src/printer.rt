@@ -1,6 +1,6 @@
 //! From an expression to its tokens.
 
-ghost use Rattle.std.specs.Prelude.{◌≡◌, [], ◌∷◌, ◌++◌, ◌<◌, length, drop, OnOk};
+ghost use Rattle.std.specs.Prelude.{◌≡◌, [], ◌∷◌, ◌++◌, ◌<◌, length, drop, MatchOption, OnOk};
 ghost use Rattle.awk_grammar.specs.Token.{Infix, Assign, Compare, Less, StepMark, Name, GetlineWord, InWord, Open, Close};
 ghost use Rattle.awk_grammar.specs.Tree.{op_tokens, prefix_token, print, print_list, print_more};
 ghost use Rattle.awk_grammar.specs.Lexeme.{lexeme, lexemes, keyword_lexeme, mark_lexeme};
@@ -54,28 +54,39 @@ fn prefix_mark(op: UnaryOp) -> Punctuator
     }
 }
 
+/// The punctuator that an operator is; juxtaposition has none.
+fn operator_mark(op: BinaryOp) -> Option<Punctuator>
+    ensures { MatchOption result (op_tokens (view_binary op) ≡ [])
+        (λ m. op_tokens (view_binary op) ≡ mark_lexeme m ∷ []) }
+{
+    match op {
+        BinaryOp::Or => Some(Punctuator::Or),
+        BinaryOp::And => Some(Punctuator::And),
+        BinaryOp::Match => Some(Punctuator::Tilde),
+        BinaryOp::NoMatch => Some(Punctuator::NotTilde),
+        BinaryOp::Less => Some(Punctuator::Less),
+        BinaryOp::LessEqual => Some(Punctuator::LessEqual),
+        BinaryOp::Equal => Some(Punctuator::Equal),
+        BinaryOp::NotEqual => Some(Punctuator::NotEqual),
+        BinaryOp::Greater => Some(Punctuator::Greater),
+        BinaryOp::GreaterEqual => Some(Punctuator::GreaterEqual),
+        BinaryOp::Concat => None,
+        BinaryOp::Add => Some(Punctuator::Plus),
+        BinaryOp::Subtract => Some(Punctuator::Minus),
+        BinaryOp::Multiply => Some(Punctuator::Star),
+        BinaryOp::Divide => Some(Punctuator::Slash),
+        BinaryOp::Modulo => Some(Punctuator::Percent),
+        BinaryOp::Power => Some(Punctuator::Caret),
+    }
+}
+
 fn push_operator(out: &mut Vec<Printed>, op: BinaryOp) -> Result<(), AllocError>
     ensures { OnOk result
         (lexemes out.new.items ≡ lexemes out.old.items ++ op_tokens (view_binary op)) }
 {
-    match op {
-        BinaryOp::Or => mark(out, Punctuator::Or),
-        BinaryOp::And => mark(out, Punctuator::And),
-        BinaryOp::Match => mark(out, Punctuator::Tilde),
-        BinaryOp::NoMatch => mark(out, Punctuator::NotTilde),
-        BinaryOp::Less => mark(out, Punctuator::Less),
-        BinaryOp::LessEqual => mark(out, Punctuator::LessEqual),
-        BinaryOp::Equal => mark(out, Punctuator::Equal),
-        BinaryOp::NotEqual => mark(out, Punctuator::NotEqual),
-        BinaryOp::Greater => mark(out, Punctuator::Greater),
-        BinaryOp::GreaterEqual => mark(out, Punctuator::GreaterEqual),
-        BinaryOp::Concat => Ok(()),
-        BinaryOp::Add => mark(out, Punctuator::Plus),
-        BinaryOp::Subtract => mark(out, Punctuator::Minus),
-        BinaryOp::Multiply => mark(out, Punctuator::Star),
-        BinaryOp::Divide => mark(out, Punctuator::Slash),
-        BinaryOp::Modulo => mark(out, Punctuator::Percent),
-        BinaryOp::Power => mark(out, Punctuator::Caret),
+    match operator_mark(op) {
+        Some(punctuator) => mark(out, punctuator),
+        None => Ok(()),
     }
 }
 

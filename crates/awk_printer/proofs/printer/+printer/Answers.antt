@@ -27,3 +27,45 @@ pub push_expr-returns-in_ok-push_within-in-InList : goal.push_expr-returns-in_ok
 push_expr-returns-in_ok-push_within-in-InList t c =
     on_ok_weaker c.push_others.result (λ h. in_list_tokens _ _ _ (view c.deref-in-InList.result.now) (views c.deref-in-InList-2.result.now) c.deref-in-InList-3.result.now c.in_ok-push_within-in-InList.ensures h
     ∙ ap (λ u. lexemes c.args.out.now.items ++ print u) (in_list_is c.args.e.now c.in-InList.first c.in-InList.others c.in-InList.name _ _ _ c.in-InList.is c.deref-in-InList.ensures c.deref-in-InList-2.ensures.value c.deref-in-InList-3.ensures.value)) c.push_others.ensures
+
+pub push_expr-returns-in-Number : goal.push_expr-returns-in-Number
+push_expr-returns-in-Number t c = rw (c.in-Number.is, ← c.deref.ensures.value) c.put.ensures
+
+pub push_expr-returns-in-Str : goal.push_expr-returns-in-Str
+push_expr-returns-in-Str t c = rw (c.in-Str.is, ← c.deref-in-Str.ensures.value) c.put-in-Str.ensures
+
+pub push_expr-returns-in-Ere : goal.push_expr-returns-in-Ere
+push_expr-returns-in-Ere t c = rw (c.in-Ere.is, ← c.deref-in-Ere.ensures.value) c.put-in-Ere.ensures
+
+pub push_expr-returns-in-Length : goal.push_expr-returns-in-Length
+push_expr-returns-in-Length t c = rw c.in-Length.is c.put-in-Length.ensures
+
+pub push_expr-returns-in-Var : goal.push_expr-returns-in-Var
+push_expr-returns-in-Var t c = rw (c.in-Var.is, ← c.deref-in-Var.ensures.value) c.put-in-Var.ensures
+
+pub push_expr-returns-in-Field : goal.push_expr-returns-in-Field
+push_expr-returns-in-Field t c = rw (c.in-Field.is, ← c.deref-in-Field.ensures) c.push_after.ensures
+
+pub push_expr-returns-in-Group : goal.push_expr-returns-in-Group
+push_expr-returns-in-Group t c = rw (c.in-Group.is, ← c.deref-in-Group.ensures) c.push_within.ensures
+
+pub push_expr-returns-in-Unary : goal.push_expr-returns-in-Unary
+push_expr-returns-in-Unary t c = rw (c.in-Unary.is, ← c.deref-in-Unary.ensures, ← c.prefix_mark.ensures) c.push_after-in-Unary.ensures
+
+pub push_expr-returns-in-PreStep : goal.push_expr-returns-in-PreStep
+push_expr-returns-in-PreStep t c = rw (c.in-PreStep.is, ← c.deref-in-PreStep.ensures, ← c.step_mark.ensures) c.push_after-in-PreStep.ensures
+
+pub push_expr-returns-in-PostStep : goal.push_expr-returns-in-PostStep
+push_expr-returns-in-PostStep t c = rw (c.in-PostStep.is, ← c.deref-in-PostStep.ensures, ← c.step_mark-in-PostStep.ensures) c.push_before.ensures
+
+pub push_expr-returns-in-In : goal.push_expr-returns-in-In
+push_expr-returns-in-In t c = rw (c.in-In.is, ← c.deref-in-In.ensures, ← c.deref-in-In-2.ensures.value) c.push_member.ensures
+
+pub push_expr-returns-in-Getline : goal.push_expr-returns-in-Getline
+push_expr-returns-in-Getline t c = rw c.in-Getline.is c.word.ensures
+
+pub push_expr-returns-in-GetlineInto : goal.push_expr-returns-in-GetlineInto
+push_expr-returns-in-GetlineInto t c = rw (c.in-GetlineInto.is, ← c.deref-in-GetlineInto.ensures) c.push_after-in-GetlineInto.ensures
+
+pub push_expr-returns-in-GetlineFrom : goal.push_expr-returns-in-GetlineFrom
+push_expr-returns-in-GetlineFrom t c = rw (c.in-GetlineFrom.is, ← c.deref-in-GetlineFrom.ensures) c.push_getline_from.ensures
