@@ -5,6 +5,7 @@ use Rattle.awk_grammar.specs.Tree.{Tree, Trees, HasList, print, print_list}
 use Rattle.awk_grammar.specs.Lexeme.{lexemes}
 use Rattle.awk_grammar.specs.View.{view, views}
 use Rattle.awk_grammar.proofs.Views.{element_is, call_is, apply_is, in_list_is}
+use Rattle.awk_printer.proofs.Parts.{two_parts, three_parts, four_parts}
 use Rattle.awk_printer.proofs.printer.+printer.Goals as goal
 
 -- the tokens in two parts
@@ -69,3 +70,44 @@ push_expr-returns-in-GetlineInto t c = rw (c.in-GetlineInto.is, ← c.deref-in-G
 
 pub push_expr-returns-in-GetlineFrom : goal.push_expr-returns-in-GetlineFrom
 push_expr-returns-in-GetlineFrom t c = rw (c.in-GetlineFrom.is, ← c.deref-in-GetlineFrom.ensures) c.push_getline_from.ensures
+
+pub push_expr-returns-in_ok-push_expr-in-Binary : goal.push_expr-returns-in_ok-push_expr-in-Binary
+push_expr-returns-in_ok-push_expr-in-Binary t c =
+    rw (c.in-Binary.is, ← c.deref-in-Binary.ensures, ← c.deref-in-Binary-2.ensures) (on_ok_weaker c.push_operand.result (two_parts _ _ _ _ _ c.in_ok-push_expr-in-Binary.ensures) c.push_operand.ensures)
+
+pub push_expr-returns-in_ok-push_expr-in-Assign : goal.push_expr-returns-in_ok-push_expr-in-Assign
+push_expr-returns-in_ok-push_expr-in-Assign t c =
+    rw (c.in-Assign.is, ← c.deref-in-Assign.ensures, ← c.deref-in-Assign-2.ensures, ← c.assignment_mark.ensures) (on_ok_weaker c.push_after-in-Assign.result (two_parts _ _ _ _ _ c.in_ok-push_expr-in-Assign.ensures) c.push_after-in-Assign.ensures)
+
+pub push_expr-returns-in_ok-push_after-in-GetlineIntoFrom : goal.push_expr-returns-in_ok-push_after-in-GetlineIntoFrom
+push_expr-returns-in_ok-push_after-in-GetlineIntoFrom t c =
+    rw (c.in-GetlineIntoFrom.is, ← c.deref-in-GetlineIntoFrom.ensures, ← c.deref-in-GetlineIntoFrom-2.ensures) (on_ok_weaker c.push_after-in-GetlineIntoFrom-2.result (two_parts _ _ _ _ _ c.in_ok-push_after-in-GetlineIntoFrom.ensures) c.push_after-in-GetlineIntoFrom-2.ensures)
+
+pub push_expr-returns-in_ok-push_after-in-Conditional : goal.push_expr-returns-in_ok-push_after-in-Conditional
+push_expr-returns-in_ok-push_after-in-Conditional t c =
+    rw (c.in-Conditional.is, ← c.deref-in-Conditional.ensures, ← c.deref-in-Conditional-2.ensures, ← c.deref-in-Conditional-3.ensures)
+    (on_ok_weaker c.push_after-in-Conditional-2.result (three_parts _ _ _ _ _ _ _ c.in_ok-push_expr-in-Conditional.ensures c.in_ok-push_after-in-Conditional.ensures) c.push_after-in-Conditional-2.ensures)
+
+pub push_after-returns : goal.push_after-returns
+push_after-returns t c = on_ok_weaker c.push_expr.result (two_parts _ _ _ _ _ c.in_ok-put.ensures) c.push_expr.ensures
+
+pub push_before-returns : goal.push_before-returns
+push_before-returns t c = on_ok_weaker c.mark.result (two_parts _ _ _ _ _ c.in_ok-push_expr.ensures) c.mark.ensures
+
+pub push_operand-returns : goal.push_operand-returns
+push_operand-returns t c = on_ok_weaker c.push_expr.result (two_parts _ _ _ _ _ c.in_ok-push_operator.ensures) c.push_expr.ensures
+
+pub push_member-returns : goal.push_member-returns
+push_member-returns t c = on_ok_weaker c.push_in.result (two_parts _ _ _ _ _ c.in_ok-push_expr.ensures) c.push_in.ensures
+
+pub push_getline_from-returns : goal.push_getline_from-returns
+push_getline_from-returns t c = on_ok_weaker c.push_after.result (two_parts _ _ _ _ _ c.in_ok-word.ensures) c.push_after.ensures
+
+pub push_within-returns : goal.push_within-returns
+push_within-returns t c = on_ok_weaker c.mark.result (two_parts _ _ _ _ _ c.in_ok-push_after.ensures) c.mark.ensures
+
+pub push_others-returns : goal.push_others-returns
+push_others-returns t c = on_ok_weaker c.push_in.result (three_parts _ _ _ _ _ _ _ c.in_ok-push_list.ensures c.in_ok-mark.ensures) c.push_in.ensures
+
+pub push_listed-returns : goal.push_listed-returns
+push_listed-returns t c = on_ok_weaker c.mark-2.result (four_parts _ _ _ _ _ _ _ _ _ c.in_ok-put.ensures c.in_ok-mark.ensures c.in_ok-push_list.ensures) c.mark-2.ensures
