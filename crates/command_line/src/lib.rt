@@ -70,14 +70,19 @@ pub enum Request<'a> {
     Explain(Option<&'a str>),
 }
 
+/// Words that need not be there.
+fn free_arg<'a>(alloc: Global, id: &'a str, help: &'a str, action: ArgAction) -> Arg<'a>
+    ensures rule { rule_of result ≡ record (new_rule id.now) { action = Some action } }
+    ensures local { result.global ≡ false }
+{
+    Arg::new(alloc, id).help(help).action(action)
+}
+
 fn single_arg<'a>(alloc: Global, id: &'a str, help: &'a str) -> Arg<'a>
     ensures rule { rule_of result ≡ single id.now }
     ensures local { result.global ≡ false }
 {
-    Arg::new(alloc, id)
-        .help(help)
-        .required(true)
-        .action(ArgAction::Set)
+    free_arg(alloc, id, help, ArgAction::Set).required(true)
 }
 
 /// An option of one letter, which may be given often.
@@ -92,41 +97,27 @@ fn letter_arg<'a>(
         { short = Some letter; action = Some ArgAction.Append; value_names = 1 } }
     ensures local { result.global ≡ false }
 {
-    Arg::new(alloc, id)
+    free_arg(alloc, id, help, ArgAction::Append)
         .short(letter)
-        .help(help)
         .value_name(value)
-        .action(ArgAction::Append)
 }
 
 fn steps_arg<'a>(alloc: Global) -> Arg<'a>
     ensures rule { rule_of result ≡ steps_rule }
     ensures local { result.global ≡ false }
 {
-    Arg::new(alloc, "steps")
+    let help = "Stop after this many steps of the module";
+    free_arg(alloc, "steps", help, ArgAction::Set)
         .long("steps")
-        .help("Stop after this many steps of the module")
         .value_name("N")
         .value_parser(ValueParser::unsigned(0, u64::MAX))
-        .action(ArgAction::Set)
 }
 
 fn flag_arg<'a>(alloc: Global, name: &'a str, help: &'a str) -> Arg<'a>
     ensures rule { rule_of result ≡ flag_rule name.now }
     ensures local { result.global ≡ false }
 {
-    Arg::new(alloc, name)
-        .long(name)
-        .help(help)
-        .action(ArgAction::SetTrue)
-}
-
-/// Words that need not be there.
-fn free_arg<'a>(alloc: Global, id: &'a str, help: &'a str, action: ArgAction) -> Arg<'a>
-    ensures rule { rule_of result ≡ record (new_rule id.now) { action = Some action } }
-    ensures local { result.global ≡ false }
-{
-    Arg::new(alloc, id).help(help).action(action)
+    free_arg(alloc, name, help, ArgAction::SetTrue).long(name)
 }
 
 /// A command without arguments.
@@ -145,8 +136,10 @@ fn with_arg<'a>(
     ensures { (app : App) (rule : Rule) → rule_of arg.entry ≡ rule
         → IfOk command.entry (Builds app) → IfOk result (Builds (with_rule app rule)) }
 {
-    let command = command?;
-    command.arg(arg)
+    match command {
+        Ok(command) => command.arg(arg),
+        Err(refused) => Err(refused),
+    }
 }
 
 fn options_command<'a>(
@@ -279,8 +272,10 @@ fn with_subcommand<'a>(
         → IfOk added.entry (Builds sub)
         → IfOk result (λ c. app_of c ≡ with_subcommand app sub.top) }
 {
-    let (line, added) = both(line, added)?;
-    line.subcommand(added)
+    match both(line, added) {
+        Ok((line, added)) => line.subcommand(added),
+        Err(refused) => Err(refused),
+    }
 }
 
 fn command<'a>(alloc: Global) -> Result<Command<'a>, AllocError>

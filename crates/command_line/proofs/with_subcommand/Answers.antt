@@ -8,8 +8,8 @@ use Rattle.command_line.specs.Line.{Builds}
 use Rattle.command_line.proofs.LineLemmas.{one_more}
 use Rattle.command_line.proofs.with_subcommand.Goals as goal
 
-pub returns : goal.returns
-returns c = λ app sub line added.
-    let before = subst (λ (r : Result Command AllocError). IfOk r (λ k. app_of k ≡ app)) c.in_ok-line.ensures.0 line in
-    let other = subst (λ (r : Result Command AllocError). IfOk r (Builds sub)) c.in_ok-line.ensures.1 added in
-    IfOk-weaker c.subcommand.result _ _ (λ after adds. one_more c.in_ok-line.line c.in_ok-line.added after app sub before other adds) c.subcommand.ensures
+pub returns-in-Ok : goal.returns-in-Ok
+returns-in-Ok c = λ app sub line added.
+    let before = subst (λ (r : Result Command AllocError). IfOk r (λ k. app_of k ≡ app)) c.in-Ok.ensures.0 line in
+    let other = subst (λ (r : Result Command AllocError). IfOk r (Builds sub)) c.in-Ok.ensures.1 added in
+    IfOk-weaker c.subcommand.result _ _ (λ after adds. one_more c.in-Ok.line c.in-Ok.added after app sub before other adds) c.subcommand.ensures
