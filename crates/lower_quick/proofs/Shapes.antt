@@ -1,6 +1,7 @@
 -- The parts of code and of steps as they stand in memory.
 use Rattle.std.proofs.Common.{◌≡◌, ℕ, zero, ◌≢◌, Bool, true, false, List, [], ◌∷◌, length, get_or, Option, Some, None, true≢false, refl, sym, ap, ◌∙◌, arith}
-use Rattle.std.specs.Prelude.{cond, nat_eq, ◌&&◌}
+use Rattle.std.specs.Option.{option_map}
+use Rattle.std.specs.Prelude.{ℤ, cond, if◌then◌else◌, nat_eq, ◌&&◌}
 use Rattle.std.specs.Bool.{◌==◌}
 use Rattle.std.proofs.lemmas.Bool.Decides.{nat_tests}
 use Rattle.std.specs.declared.vec.Vec.{Vec}
@@ -17,7 +18,7 @@ use Rattle.mid_program.specs.declared.code.Operand.{Operand}
 use Rattle.mid_program.specs.declared.code.Operand.TheVariants as operand
 use Rattle.mid_program.specs.declared.code.Code.{Code, Do}
 use Rattle.mid_program.specs.declared.step.Step.{Step, Block}
-use Rattle.lower_model.specs.Quick.{array_here, array_where, element_at, element_read, element_set, field_count, is_bound, is_count, is_nothing, kept_sum, kept_update, multiple_in, name_in, source_in, new_sum, sum_of, taker_at, two_product, two_remainder, update_of, Holder, Source, multiple_of}
+use Rattle.lower_model.specs.Quick.{array_here, array_where, element_at, element_read, element_set, field_count, is_bound, is_count, is_nothing, kept_sum, kept_update, multiple_in, name_in, source_in, addition_of, constant_in, is_near, is_sum, new_sum, sum_of, taker_at, two_product, two_remainder, update_of, Addition, Constant, Holder, Source, Sum, multiple_of}
 use Rattle.lower_model.proofs.Tallies.{bound_is}
 use Rattle.lower_quick.specs.Operands.{calculated_in, divided_by, is_elem, is_modulo, is_set_elem, is_times, one_code, product_in, reads_special, three_codes, two_codes, two_factors}
 use Rattle.lower_quick.proofs.Views.{view_block, view_do}
@@ -133,6 +134,11 @@ calculated_are (plain.Do (Inline p) fs) o es h = λ i. plain.Do (Inline (operato
     operands None = fs
 calculated_are _ o es h = absurd cc
 
+-- two operands of arithmetic
+two_done : (s : Option Source) (i : Option Holder) (o : Arithmetic) (es : plain.Codes) (e x y : plain.Code) → Some (o, es) ≡ calculated_in e → Some (x, y) ≡ two_codes es →
+    new_sum s i (plain.Do (Inline o) (plain.At x (plain.At y plain.End))) ≡ new_sum s i e
+two_done s i o es e x y h g = ap (λ (fs : plain.Codes). new_sum s i (plain.Do (Inline o) fs)) (sym (two_are es x y g)) ∙ ap (new_sum s i) (calculated_are e o es h)
+
 -- of what was not kept just before
 
 unkept : (s : Option Source) (i : Option Holder) (o : Arithmetic) (x y : plain.Code) → is_bound false zero x ≡ false → None ≡ new_sum s i (plain.Do (Inline o) (plain.At x (plain.At y plain.End)))
@@ -140,8 +146,53 @@ unkept s (Some i) o (plain.Bound false zero) (plain.Number z) h = absurd (true�
 unkept s i o x y h = refl
 
 pub unkept_is : (s : Option Source) (i : Option Holder) (o : Arithmetic) (es : plain.Codes) (e x y : plain.Code) → Some (o, es) ≡ calculated_in e → Some (x, y) ≡ two_codes es → is_bound false zero x ≡ false → None ≡ new_sum s i e
-unkept_is s i o es e x y h g k =
-    unkept s i o x y k ∙ ap (λ (fs : plain.Codes). new_sum s i (plain.Do (Inline o) fs)) (sym (two_are es x y g)) ∙ ap (new_sum s i) (calculated_are e o es h)
+unkept_is s i o es e x y h g k = unkept s i o x y k ∙ two_done s i o es e x y h g
+
+-- of what is no arithmetic, of other than two operands, and of what is no constant
+
+pub uncalculated_is : (s : Option Source) (i : Option Holder) (e : plain.Code) → None ≡ calculated_in e → None ≡ new_sum s i e
+uncalculated_is s (Some i) (plain.Do (Inline o) es) h = absurd cc
+uncalculated_is s i e h = refl
+
+untwo : (s : Option Source) (i : Option Holder) (o : Arithmetic) (es : plain.Codes) → None ≡ two_codes es → None ≡ new_sum s i (plain.Do (Inline o) es)
+untwo s (Some i) o (plain.At (plain.Bound false zero) (plain.At (plain.Number n) plain.End)) h = absurd cc
+untwo s i o es h = refl
+
+pub untwo_is : (s : Option Source) (i : Option Holder) (o : Arithmetic) (es : plain.Codes) (e : plain.Code) → Some (o, es) ≡ calculated_in e → None ≡ two_codes es → None ≡ new_sum s i e
+untwo_is s i o es e h g = untwo s i o es g ∙ ap (new_sum s i) (calculated_are e o es h)
+
+unfixed : (s : Option Source) (i : Option Holder) (o : Arithmetic) (x y : plain.Code) → None ≡ constant_in y → None ≡ new_sum s i (plain.Do (Inline o) (plain.At x (plain.At y plain.End)))
+unfixed s (Some i) o (plain.Bound false zero) (plain.Number n) h = absurd cc
+unfixed s i o x y h = refl
+
+pub unfixed_is : (s : Option Source) (i : Option Holder) (o : Arithmetic) (es : plain.Codes) (e x y : plain.Code) → Some (o, es) ≡ calculated_in e → Some (x, y) ≡ two_codes es → None ≡ constant_in y →
+    None ≡ new_sum s i e
+unfixed_is s i o es e x y h g k = unfixed s i o x y k ∙ two_done s i o es e x y h g
+
+fixed : (s : Option Source) (i : Holder) (o : Arithmetic) (y : plain.Code) (n : ℤ) → Some n ≡ constant_in y →
+    sum_of i o s (Some (Constant n)) ≡ new_sum s (Some i) (plain.Do (Inline o) (plain.At (plain.Bound false zero) (plain.At y plain.End)))
+fixed s i o (plain.Number m) n h = ap (λ (z : Option ℤ). sum_of i o s (option_map Constant z)) h
+fixed s i o y n h = absurd cc
+
+pub summed_is : (s : Option Source) (i : Holder) (o : Arithmetic) (es : plain.Codes) (e x y : plain.Code) (n : ℤ) → Some (o, es) ≡ calculated_in e → Some (x, y) ≡ two_codes es →
+    is_bound false zero x ≡ true → Some n ≡ constant_in y → sum_of i o s (Some (Constant n)) ≡ new_sum s (Some i) e
+summed_is s i o es e x y n h g b k =
+    fixed s i o y n k ∙ ap (λ (z : plain.Code). new_sum s (Some i) (plain.Do (Inline o) (plain.At z (plain.At y plain.End)))) (sym (bound_is false zero x b)) ∙ two_done s (Some i) o es e x y h g
+
+-- a sum is an addition that goes to a name
+
+abbrev pub going : Holder → Addition → Sum
+going target a = record { target = target; op = a.op; left = a.left; right = a.right }
+
+going_where : (i : Holder) (o : Arithmetic) (x y : Source) (near : Bool) → option_map (going i) (if near then Some (record { op = o; left = x; right = y }) else None)
+    ≡ (if near then Some (record { target = i; op = o; left = x; right = y }) else None)
+going_where i o x y true = refl
+going_where i o x y false = refl
+
+pub going_is : (i : Holder) (o : Arithmetic) (s t : Option Source) → option_map (going i) (addition_of o s t) ≡ sum_of i o s t
+going_is i o (Some x) (Some y) = going_where i o x y (is_sum o && (is_near x && is_near y))
+going_is i o None t = refl
+going_is i o (Some x) None = refl
 
 three_are : (es : plain.Codes) (x y z : plain.Code) → Some (x, y, z) ≡ three_codes es → es ≡ plain.At x (plain.At y (plain.At z plain.End))
 three_are (plain.At a (plain.At b (plain.At c plain.End))) x y z h = λ i. plain.At (part (λ p. p.0) a (sym h i)) (plain.At (part (λ p. p.1) b (sym h i)) (plain.At (part (λ p. p.2) c (sym h i)) plain.End))
