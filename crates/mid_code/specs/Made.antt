@@ -14,6 +14,10 @@ use Rattle.mid_code.specs.ViewTarget.{view_kept}
 abbrev pub Makes : {E : Type 0} → Result Code E → plain.Code → Type 0
 Makes made e = IfOk made (λ c. view c ≡ e)
 
+-- the same, in a box
+abbrev pub MakesBoxed : {E : Type 0} → Result (Box Code Global) E → plain.Code → Type 0
+MakesBoxed made e = IfOk made (λ c. view c.value ≡ e)
+
 -- the code of each of these
 abbrev pub MakesEach : {E : Type 0} → Result (Vec Code) E → List plain.Code → Type 0
 MakesEach made es = IfOk made (λ cs. map view cs.items ≡ es)

@@ -5,9 +5,10 @@ ghost use Rattle.sem_primitives.specs.declared.sorts.Sort.TheVariants as sort;
 ghost use Rattle.mid_program.specs.Mid as plain;
 ghost use Rattle.mid_program.specs.Translation.{moved, one, two, record_code, set_variable_code, special_code, store_variable_code, truth_code, untruth_code, variable_code};
 ghost use Rattle.mid_program.specs.ViewCode.{view, view_slot, views};
+ghost use Rattle.mid_code.specs.Made.{Makes, MakesBoxed, MakesOperands};
 ghost use Rattle.mid_code.specs.ViewNames.{view_variable};
 
-use crate::held::{boxed, pair, single, triple};
+use crate::held::{both, boxed, in_box, pair, single, triple};
 use crate::names::Variable;
 use mid_program::{Code, Operand, Operation, Slot};
 use sem_primitives::{Listed, Primitive, Sort, Special};
@@ -17,6 +18,17 @@ pub(crate) fn applied(operation: Operation, operands: Vec<Operand>) -> Code
     ensures { view result ≡ plain.Do operation (views operands.items) }
 {
     Code::Do(operation, operands)
+}
+
+/// An operation on operands as they were made.
+pub(crate) fn done(
+    operation: Operation,
+    operands: Result<Vec<Operand>, AllocError>,
+) -> Result<Code, AllocError>
+    ensures { (es : plain.Codes) → MakesOperands operands es
+        → Makes result (plain.Do operation es) }
+{
+    Ok(applied(operation, operands?))
 }
 
 pub(crate) fn over(listed: Listed, operands: Vec<Operand>) -> Code
@@ -35,8 +47,18 @@ pub(crate) fn called(function: usize, operands: Vec<Operand>) -> Code
 pub(crate) fn unary(alloc: Global, operation: Operation, operand: Code) -> Result<Code, AllocError>
     ensures { IfOk result (λ code. view code ≡ plain.Do operation (one (view operand))) }
 {
-    let operands = single(alloc, Operand::Code(operand))?;
-    Ok(applied(operation, operands))
+    done(operation, single(alloc, Operand::Code(operand)))
+}
+
+/// The same, on an operand as it was made.
+pub(crate) fn unary_on(
+    alloc: Global,
+    operation: Operation,
+    operand: Result<Code, AllocError>,
+) -> Result<Code, AllocError>
+    ensures { (e : plain.Code) → Makes operand e → Makes result (plain.Do operation (one e)) }
+{
+    unary(alloc, operation, operand?)
 }
 
 /// An operation on two operands.
@@ -48,8 +70,24 @@ pub(crate) fn binary(
 ) -> Result<Code, AllocError>
     ensures { IfOk result (λ code. view code ≡ plain.Do operation (two (view left) (view right))) }
 {
-    let operands = pair(alloc, Operand::Code(left), Operand::Code(right))?;
-    Ok(applied(operation, operands))
+    done(
+        operation,
+        pair(alloc, Operand::Code(left), Operand::Code(right)),
+    )
+}
+
+/// The same, on operands as they were made.
+pub(crate) fn binary_on(
+    alloc: Global,
+    operation: Operation,
+    left: Result<Code, AllocError>,
+    right: Result<Code, AllocError>,
+) -> Result<Code, AllocError>
+    ensures { (a b : plain.Code) → Makes left a → Makes right b
+        → Makes result (plain.Do operation (two a b)) }
+{
+    let (left, right) = both(left, right)?;
+    binary(alloc, operation, left, right)
 }
 
 /// Three operands.
@@ -77,8 +115,10 @@ pub(crate) fn ternary(
     ensures { IfOk result (λ code. view code ≡ plain.Do (Operation.Host primitive) (plain.At (view
         first) (two (view second) (view third)))) }
 {
-    let operands = three(alloc, first, second, third)?;
-    Ok(applied(Operation::Host(primitive), operands))
+    done(
+        Operation::Host(primitive),
+        three(alloc, first, second, third),
+    )
 }
 
 /// A number in a box.
@@ -96,53 +136,55 @@ pub(crate) fn chosen(sort: Sort, test: Box<Code>, yes: Box<Code>, no: Box<Code>)
 }
 
 /// What is kept for other code.
-pub(crate) fn kept_while(alloc: Global, kept: Box<Code>, body: Code) -> Result<Code, AllocError>
-    ensures { IfOk result (λ code. view code ≡ plain.Let (view kept.value) (view body)) }
+pub(crate) fn kept_while(
+    alloc: Global,
+    kept: Result<Box<Code>, AllocError>,
+    body: Result<Code, AllocError>,
+) -> Result<Code, AllocError>
+    ensures { (a b : plain.Code) → MakesBoxed kept a → Makes body b
+        → Makes result (plain.Let a b) }
 {
-    Ok(Code::Let(kept, boxed(alloc, body)?))
+    let (kept, body) = both(kept, in_box(alloc, body))?;
+    Ok(Code::Let(kept, body))
+}
+
+/// Code, and then its answer.
+fn in_sequence(
+    alloc: Global,
+    first: Result<Code, AllocError>,
+    answer: Code,
+) -> Result<Code, AllocError>
+    ensures { (a : plain.Code) → Makes first a → Makes result (plain.Seq a (view answer)) }
+{
+    let (first, answer) = both(in_box(alloc, first), boxed(alloc, answer))?;
+    Ok(Code::Seq(first, answer))
 }
 
 /// Code is kept while other code stores it; then what was kept with so many others after it is the answer.
 pub(crate) fn kept_and_stored(
     alloc: Global,
-    kept: Box<Code>,
-    store: Code,
+    kept: Result<Code, AllocError>,
+    store: Result<Code, AllocError>,
     after: usize,
 ) -> Result<Code, AllocError>
-    ensures { IfOk result (λ code. view code ≡ plain.Let (view kept.value) (plain.Seq (view store)
-        (moved after))) }
+    ensures { (a b : plain.Code) → Makes kept a → Makes store b
+        → Makes result (plain.Let a (plain.Seq b (moved after))) }
 {
-    let store = boxed(alloc, store)?;
-    let answer = boxed(alloc, Code::Bound(true, after))?;
-    kept_while(alloc, kept, Code::Seq(store, answer))
+    let body = in_sequence(alloc, store, Code::Bound(true, after));
+    kept_while(alloc, in_box(alloc, kept), body)
 }
 
 /// A substitution: expression, replacement and target; and the code that stores the new text.
-fn replaced(all: bool, operands: Vec<Operand>, store: Box<Code>) -> Code
+pub(crate) fn replaced(all: bool, operands: Vec<Operand>, store: Box<Code>) -> Code
     ensures { view result ≡ plain.Replace all (views operands.items) (view store.value) }
 {
     Code::Replace(all, operands, store)
 }
 
-/// The same, with its operands.
-pub(crate) fn substitution(
-    alloc: Global,
-    all: bool,
-    ere: Code,
-    replacement: Code,
-    target: Code,
-    store: Box<Code>,
-) -> Result<Code, AllocError>
-    ensures { IfOk result (λ code. view code ≡ plain.Replace all (plain.At (view ere) (two (view
-        replacement) (view target))) (view store.value)) }
+fn set(alloc: Global, slot: Slot, code: Result<Code, AllocError>) -> Result<Code, AllocError>
+    ensures { (e : plain.Code) → Makes code e → Makes result (plain.Set (view_slot slot) e) }
 {
-    Ok(replaced(all, three(alloc, ere, replacement, target)?, store))
-}
-
-fn set(alloc: Global, slot: Slot, code: Code) -> Result<Code, AllocError>
-    ensures { IfOk result (λ set. view set ≡ plain.Set (view_slot slot) (view code)) }
-{
-    Ok(Code::Set(slot, boxed(alloc, code)?))
+    Ok(Code::Set(slot, in_box(alloc, code)?))
 }
 
 /// One of two numbers, by the truth of code.
@@ -150,9 +192,8 @@ fn one_of(alloc: Global, code: Code, yes: i64, no: i64) -> Result<Code, AllocErr
     ensures { IfOk result (λ chosen. view chosen ≡ plain.Choose sort.Number (view code)
         (plain.Number yes) (plain.Number no)) }
 {
-    let test = boxed(alloc, code)?;
-    let yes = number(alloc, yes)?;
-    let no = number(alloc, no)?;
+    let numbers = both(number(alloc, yes), number(alloc, no));
+    let (test, (yes, no)) = both(boxed(alloc, code), numbers)?;
     Ok(chosen(Sort::Number, test, yes, no))
 }
 
@@ -181,8 +222,11 @@ pub(crate) fn record(alloc: Global) -> Result<Code, AllocError>
 pub(crate) fn reserved(alloc: Global, special: Special) -> Result<Code, AllocError>
     ensures { IfOk result (λ code. view code ≡ special_code special) }
 {
-    let operands = single(alloc, Operand::Constant(u32::from(special.number())))?;
-    Ok(applied(Operation::Host(Primitive::GetSpecial), operands))
+    let number = Operand::Constant(u32::from(special.number()));
+    done(
+        Operation::Host(Primitive::GetSpecial),
+        single(alloc, number),
+    )
 }
 
 /// A special variable takes a value.
@@ -191,8 +235,8 @@ fn set_reserved(alloc: Global, special: Special, code: Code) -> Result<Code, All
         special)) (view code)) }
 {
     let number = Operand::Constant(u32::from(special.number()));
-    let operands = pair(alloc, number, Operand::Code(code))?;
-    Ok(applied(Operation::Host(Primitive::SetSpecial), operands))
+    let operands = pair(alloc, number, Operand::Code(code));
+    done(Operation::Host(Primitive::SetSpecial), operands)
 }
 
 /// A variable.
@@ -216,8 +260,8 @@ pub(crate) fn store_variable(
         code)) }
 {
     match variable {
-        Variable::Global(number) => set(alloc, Slot::Global(false, number), code),
-        Variable::Parameter(place) => set(alloc, Slot::Parameter(false, place), code),
+        Variable::Global(number) => set(alloc, Slot::Global(false, number), Ok(code)),
+        Variable::Parameter(place) => set(alloc, Slot::Parameter(false, place), Ok(code)),
         Variable::Reserved(special) => set_reserved(alloc, special, code),
     }
 }
@@ -226,17 +270,16 @@ pub(crate) fn store_variable(
 pub(crate) fn set_variable(
     alloc: Global,
     variable: Variable,
-    code: Code,
+    code: Result<Code, AllocError>,
 ) -> Result<Code, AllocError>
-    ensures { IfOk result
-        (λ set. view set ≡ set_variable_code (view_variable variable) (view code)) }
+    ensures { (e : plain.Code) → Makes code e
+        → Makes result (set_variable_code (view_variable variable) e) }
 {
     match variable {
         Variable::Global(number) => set(alloc, Slot::Global(false, number), code),
         Variable::Parameter(place) => set(alloc, Slot::Parameter(false, place), code),
         Variable::Reserved(special) => {
-            let code = boxed(alloc, code)?;
-            let store = set_reserved(alloc, special, Code::Bound(false, 0))?;
+            let store = set_reserved(alloc, special, Code::Bound(false, 0));
             kept_and_stored(alloc, code, store, 0)
         }
     }

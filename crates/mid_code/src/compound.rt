@@ -17,11 +17,12 @@ ghost use Rattle.mid_program.specs.Translation.{FieldTarget, applied_code, assig
 ghost use Rattle.mid_program.specs.ViewCode.{before, followed, view, view_array, views};
 ghost use Rattle.mid_code.specs.Applied.{applied_to};
 ghost use Rattle.mid_code.specs.Keys.{key_of};
-ghost use Rattle.mid_code.specs.Made.{Makes, MakesEach, MakesKept};
+ghost use Rattle.mid_code.specs.Made.{Makes, MakesBoxed, MakesEach, MakesKept};
 ghost use Rattle.mid_code.specs.ViewScope.{scope_of, texts_of};
 
 use crate::build::{
-    applied, binary, kept_while, number, record, reserved, ternary, three, unary, variable,
+    applied, binary_on, kept_while, number, record, reserved, ternary, three, unary, unary_on,
+    variable,
 };
 use crate::held::{both, boxed, in_box, push};
 use crate::peek::ere_text;
@@ -51,14 +52,9 @@ pub(crate) fn record_matches(scope: &Scope<'_>, token: &[u8]) -> Result<Code, Al
     ensures { IfOk result (λ code. view code ≡ code_of (texts_of scope.now) (scope_of scope.now)
         (Leaf (Ere token.now))) }
 {
-    let record = record(scope.alloc)?;
+    let record = record(scope.alloc);
     let text = Code::Text(scope.text_place(ere_text(token)));
-    binary(
-        scope.alloc,
-        Operation::Host(Primitive::Matches),
-        record,
-        text,
-    )
+    host_two(scope.alloc, Primitive::Matches, record, Ok(text))
 }
 
 /// The length of the record.
@@ -66,8 +62,7 @@ pub(crate) fn record_length(alloc: Global) -> Result<Code, AllocError>
     ensures { IfOk result (λ code. view code ≡ plain.Do (Operation.Host row.Length) (one
         record_code)) }
 {
-    let record = record(alloc)?;
-    unary(alloc, Operation::Host(Primitive::Length), record)
+    host_one(alloc, Primitive::Length, record(alloc))
 }
 
 /// What the host does with one operand.
@@ -79,7 +74,7 @@ pub(crate) fn host_one(
     ensures { (e : plain.Code) → Makes operand e
         → Makes result (plain.Do (Operation.Host primitive) (one e)) }
 {
-    unary(alloc, Operation::Host(primitive), operand?)
+    unary_on(alloc, Operation::Host(primitive), operand)
 }
 
 /// What the host does with two operands.
@@ -92,8 +87,7 @@ pub(crate) fn host_two(
     ensures { (a b : plain.Code) → Makes left a → Makes right b
         → Makes result (plain.Do (Operation.Host primitive) (two a b)) }
 {
-    let (left, right) = both(left, right)?;
-    binary(alloc, Operation::Host(primitive), left, right)
+    binary_on(alloc, Operation::Host(primitive), left, right)
 }
 
 /// A quotient's whole part.
@@ -105,8 +99,7 @@ pub(crate) fn truncated_quotient(
     ensures { (a b : plain.Code) → Makes left a → Makes right b
         → Makes result (plain.Do (Operation.Inline inline.Truncated) (two a b)) }
 {
-    let (left, right) = both(left, right)?;
-    binary(alloc, Operation::Inline(Arithmetic::Truncated), left, right)
+    binary_on(alloc, Operation::Inline(Arithmetic::Truncated), left, right)
 }
 
 /// The number of what the host does with one operand.
@@ -118,8 +111,8 @@ pub(crate) fn host_number(
     ensures { (e : plain.Code) → Makes operand e → Makes result (plain.Do Operation.AsNumber (one
         (plain.Do (Operation.Host primitive) (one e)))) }
 {
-    let answer = host_one(alloc, primitive, operand)?;
-    unary(alloc, Operation::AsNumber, answer)
+    let answer = host_one(alloc, primitive, operand);
+    unary_on(alloc, Operation::AsNumber, answer)
 }
 
 /// What the host does with an array.
@@ -145,8 +138,8 @@ pub(crate) fn host_array(
     ensures { (e : plain.Code) → Makes key e → Makes result (plain.Do (Operation.Host primitive) (two
         (plain.Array (array_of (scope_of scope.now) name.now)) e)) }
 {
-    let array = Code::Array(scope.array(name));
-    binary(scope.alloc, Operation::Host(primitive), array, key?)
+    let array = Ok(Code::Array(scope.array(name)));
+    host_two(scope.alloc, primitive, array, key)
 }
 
 /// The key of a subscript and others.
@@ -213,7 +206,7 @@ pub(crate) fn kept_number(
     ensures { (e : plain.Code) → Makes number e
         → MakesKept result (Some (plain.Do Operation.FieldNumber (one e))) }
 {
-    kept_key(alloc, unary(alloc, Operation::FieldNumber, number?))
+    kept_key(alloc, unary_on(alloc, Operation::FieldNumber, number))
 }
 
 /// What is kept for what is no place.
@@ -233,8 +226,7 @@ pub(crate) fn step_place(
     ensures { (k : Option plain.Code) → MakesKept kept k → Makes result (keeping k (stepped_at
         (view_step op) (target_in (texts_of scope.now) (scope_of scope.now) (tree place.now)))) }
 {
-    let kept = kept?;
-    let body = stepped(scope.alloc, op, target_in(scope, place))?;
+    let body = stepped(scope.alloc, op, target_in(scope, place));
     keeping(scope.alloc, kept, body)
 }
 
@@ -248,8 +240,7 @@ pub(crate) fn step_place_after(
     ensures { (k : Option plain.Code) → MakesKept kept k → Makes result (keeping k (step_after_at
         (view_step op) (target_in (texts_of scope.now) (scope_of scope.now) (tree place.now)))) }
 {
-    let kept = kept?;
-    let body = step_after(scope.alloc, op, target_in(scope, place))?;
+    let body = step_after(scope.alloc, op, target_in(scope, place));
     keeping(scope.alloc, kept, body)
 }
 
@@ -265,9 +256,15 @@ pub(crate) fn assign_place(
         → Makes result (keeping k (assigned_at (view_assign op) (target_in (texts_of scope.now)
         (scope_of scope.now) (tree place.now)) e)) }
 {
-    let (kept, right) = both(kept, right)?;
-    let body = assigned(scope.alloc, op, target_in(scope, place), right)?;
+    let body = assigned(scope.alloc, op, target_in(scope, place), right);
     keeping(scope.alloc, kept, body)
+}
+
+/// A record of the main input is read, and stored.
+fn asked(store: Result<Box<Code>, AllocError>) -> Result<Code, AllocError>
+    ensures { (e : plain.Code) → MakesBoxed store e → Makes result (plain.AskLine e) }
+{
+    Ok(Code::AskLine(store?))
 }
 
 /// A record of the main input into a place.
@@ -279,9 +276,20 @@ pub(crate) fn line_into(
     ensures { (k : Option plain.Code) → MakesKept kept k → Makes result (keeping k (plain.AskLine
         (received_at (target_in (texts_of scope.now) (scope_of scope.now) (tree place.now))))) }
 {
-    let kept = kept?;
-    let store = received(scope.alloc, target_in(scope, place))?;
-    keeping(scope.alloc, kept, Code::AskLine(store))
+    let store = received(scope.alloc, target_in(scope, place));
+    keeping(scope.alloc, kept, asked(store))
+}
+
+/// A record of a file is read, and stored.
+fn file_asked(
+    file: Result<Box<Code>, AllocError>,
+    store: Result<Box<Code>, AllocError>,
+) -> Result<Code, AllocError>
+    ensures { (a b : plain.Code) → MakesBoxed file a → MakesBoxed store b
+        → Makes result (plain.FileLine a b) }
+{
+    let (file, store) = both(file, store)?;
+    Ok(Code::FileLine(file, store))
 }
 
 /// A record of a file into a place.
@@ -295,9 +303,12 @@ pub(crate) fn file_line_into(
         → Makes result (keeping k (plain.FileLine e (received_at (target_in (texts_of scope.now)
         (scope_of scope.now) (tree place.now))))) }
 {
-    let (kept, file) = both(kept, in_box(scope.alloc, file))?;
-    let store = received(scope.alloc, target_in(scope, place))?;
-    keeping(scope.alloc, kept, Code::FileLine(file, store))
+    let store = received(scope.alloc, target_in(scope, place));
+    keeping(
+        scope.alloc,
+        kept,
+        file_asked(in_box(scope.alloc, file), store),
+    )
 }
 
 /// What a bare name gives for a parameter.
@@ -443,15 +454,15 @@ pub(crate) fn split_into(
 /// Replacement and expression are kept for what replaces.
 fn replacing(
     alloc: Global,
-    ere: Box<Code>,
-    replacement: Box<Code>,
-    body: Code,
+    ere: Result<Code, AllocError>,
+    replacement: Result<Code, AllocError>,
+    body: Result<Code, AllocError>,
 ) -> Result<Code, AllocError>
-    ensures { IfOk result (λ code. view code ≡ plain.Let (view ere.value) (plain.Let (view
-        replacement.value) (view body))) }
+    ensures { (a b c : plain.Code) → Makes ere a → Makes replacement b → Makes body c
+        → Makes result (plain.Let a (plain.Let b c)) }
 {
-    let body = kept_while(alloc, replacement, body)?;
-    kept_while(alloc, ere, body)
+    let body = kept_while(alloc, in_box(alloc, replacement), body);
+    kept_while(alloc, in_box(alloc, ere), body)
 }
 
 /// What is replaced in the record.
@@ -464,10 +475,8 @@ pub(crate) fn substitute_record(
     ensures { (a b : plain.Code) → Makes ere a → Makes replacement b → Makes result (plain.Let a
         (plain.Let b (plain.Let zero_code (substituted_at all FieldTarget)))) }
 {
-    let (ere, replacement) = both(in_box(alloc, ere), in_box(alloc, replacement))?;
-    let zero = number(alloc, 0)?;
-    let body = substituted(alloc, all, Target::Field)?;
-    let body = kept_while(alloc, zero, body)?;
+    let body = substituted(alloc, all, Target::Field);
+    let body = kept_while(alloc, number(alloc, 0), body);
     replacing(alloc, ere, replacement, body)
 }
 
@@ -484,9 +493,7 @@ pub(crate) fn substitute_place(
         → Makes replacement b → Makes result (plain.Let a (plain.Let b (keeping k (substituted_at all
         (target_in (texts_of scope.now) (scope_of scope.now) (tree place.now)))))) }
 {
-    let parts = both(in_box(scope.alloc, ere), in_box(scope.alloc, replacement));
-    let (kept, (ere, replacement)) = both(kept, parts)?;
-    let body = substituted(scope.alloc, all, target_in(scope, place))?;
-    let body = keeping(scope.alloc, kept, body)?;
+    let body = substituted(scope.alloc, all, target_in(scope, place));
+    let body = keeping(scope.alloc, kept, body);
     replacing(scope.alloc, ere, replacement, body)
 }

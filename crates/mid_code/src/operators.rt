@@ -10,7 +10,7 @@ ghost use Rattle.mid_program.specs.ViewCode.{view};
 ghost use Rattle.mid_code.specs.Made.{Makes};
 
 use crate::build::{binary, chosen, number, truth, unary, untruth};
-use crate::held::{both, boxed, in_box};
+use crate::held::{both, in_box};
 use awk_grammar::{BinaryOp, UnaryOp};
 use awk_text::number_of;
 use awk_values::CompareOp;
@@ -88,8 +88,8 @@ fn both_true(alloc: Global, left: Box<Code>, right: Box<Code>) -> Result<Code, A
     ensures { IfOk result (λ code. view code ≡ plain.Choose sort.Number (view left.value)
         (truth_code (view right.value)) zero_code) }
 {
-    let right = boxed(alloc, truth(alloc, Box::into_inner(right))?)?;
-    let zero = number(alloc, 0)?;
+    let right = in_box(alloc, truth(alloc, Box::into_inner(right)));
+    let (left, (right, zero)) = both(Ok(left), both(right, number(alloc, 0)))?;
     Ok(chosen(Sort::Number, left, right, zero))
 }
 
@@ -98,8 +98,8 @@ fn one_true(alloc: Global, left: Box<Code>, right: Box<Code>) -> Result<Code, Al
     ensures { IfOk result (λ code. view code ≡ plain.Choose sort.Number (view left.value) one_code
         (truth_code (view right.value))) }
 {
-    let right = boxed(alloc, truth(alloc, Box::into_inner(right))?)?;
-    let one = number(alloc, 1)?;
+    let right = in_box(alloc, truth(alloc, Box::into_inner(right)));
+    let (left, (right, one)) = both(Ok(left), both(right, number(alloc, 1)))?;
     Ok(chosen(Sort::Number, left, one, right))
 }
 

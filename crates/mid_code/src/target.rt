@@ -1,22 +1,23 @@
 //! What takes values.
 
-ghost use Rattle.std.specs.Prelude.{◌≡◌, IfOk};
+ghost use Rattle.std.specs.Prelude.{◌≡◌, suc, Option, IfOk};
 ghost use Rattle.awk_grammar.specs.View.{view as tree, view_assign, view_step};
 ghost use Rattle.mid_program.specs.Translation.{assigned_at, copied, kept_at, keeping, moved, one_code, read_at, received_at, step_after_at, step_of, stepped_at, store_at, stored_at, substituted_at, target_in, two, updated_at};
 ghost use Rattle.mid_program.specs.Mid as plain;
 ghost use Rattle.mid_program.specs.ViewCode.{view};
+ghost use Rattle.mid_code.specs.Made.{Makes, MakesKept, MakesOperands};
 ghost use Rattle.mid_code.specs.ViewScope.{scope_of, texts_of};
-ghost use Rattle.mid_code.specs.ViewTarget.{view_kept, view_target};
+ghost use Rattle.mid_code.specs.ViewTarget.{view_target};
 
 use crate::build::{
-    binary, kept_and_stored, kept_while, set_variable, store_variable, substitution, ternary,
-    unary, variable,
+    binary, binary_on, kept_and_stored, kept_while, replaced, set_variable, store_variable,
+    ternary, three, unary, unary_on, variable,
 };
-use crate::held::boxed;
+use crate::held::{both, in_box};
 use crate::names::Variable;
 use crate::scope::Scope;
 use awk_grammar::{AssignOp, Expr, StepOp};
-use mid_program::{Arithmetic, ArrayName, Code, Operation};
+use mid_program::{Arithmetic, ArrayName, Code, Operand, Operation};
 use sem_primitives::Primitive;
 use std::alloc::{AllocError, Global};
 
@@ -100,16 +101,20 @@ fn store(alloc: Global, target: Target, after: usize, code: Code) -> Result<Code
 }
 
 /// The same, and what it takes is the answer.
-fn stored(alloc: Global, target: Target, after: u8, code: Code) -> Result<Code, AllocError>
-    ensures { IfOk result
-        (λ stored. view stored ≡ stored_at (view_target target) after (view code)) }
+fn stored(
+    alloc: Global,
+    target: Target,
+    after: u8,
+    code: Result<Code, AllocError>,
+) -> Result<Code, AllocError>
+    ensures { (e : plain.Code) → Makes code e
+        → Makes result (stored_at (view_target target) after e) }
 {
     match target {
         Target::Name(name) => set_variable(alloc, name, code),
         Target::Element(_) | Target::Field => {
-            let code = boxed(alloc, code)?;
             let after = usize::from(after) + 1;
-            let store = store(alloc, target, after, Code::Bound(false, 0))?;
+            let store = store(alloc, target, after, Code::Bound(false, 0));
             kept_and_stored(alloc, code, store, 0)
         }
     }
@@ -129,8 +134,8 @@ fn step_operation(op: StepOp) -> Operation
 pub(crate) fn stepped(alloc: Global, op: StepOp, target: Target) -> Result<Code, AllocError>
     ensures { IfOk result (λ code. view code ≡ stepped_at (view_step op) (view_target target)) }
 {
-    let old = read(alloc, target, 0)?;
-    let new = binary(alloc, step_operation(op), old, Code::Number(1))?;
+    let old = read(alloc, target, 0);
+    let new = binary_on(alloc, step_operation(op), old, Ok(Code::Number(1)));
     stored(alloc, target, 0, new)
 }
 
@@ -140,9 +145,8 @@ fn step_from(alloc: Global, op: StepOp, target: Target) -> Result<Code, AllocErr
         (copied 0) one_code)) (plain.Seq (store_at (view_target target) 2 (moved 0)) (moved 1))) }
 {
     let kept = Code::Bound(false, 0);
-    let new = binary(alloc, step_operation(op), kept, Code::Number(1))?;
-    let new = boxed(alloc, new)?;
-    let store = store(alloc, target, 2, Code::Bound(true, 0))?;
+    let new = binary(alloc, step_operation(op), kept, Code::Number(1));
+    let store = store(alloc, target, 2, Code::Bound(true, 0));
     kept_and_stored(alloc, new, store, 1)
 }
 
@@ -150,10 +154,8 @@ fn step_from(alloc: Global, op: StepOp, target: Target) -> Result<Code, AllocErr
 pub(crate) fn step_after(alloc: Global, op: StepOp, target: Target) -> Result<Code, AllocError>
     ensures { IfOk result (λ code. view code ≡ step_after_at (view_step op) (view_target target)) }
 {
-    let old = read(alloc, target, 0)?;
-    let number = boxed(alloc, unary(alloc, Operation::AsNumber, old)?)?;
-    let body = step_from(alloc, op, target)?;
-    kept_while(alloc, number, body)
+    let number = unary_on(alloc, Operation::AsNumber, read(alloc, target, 0));
+    kept_while(alloc, in_box(alloc, number), step_from(alloc, op, target))
 }
 
 /// An assignment with an operator.
@@ -161,16 +163,14 @@ fn updated(
     alloc: Global,
     operation: Operation,
     target: Target,
-    right: Code,
+    right: Result<Code, AllocError>,
 ) -> Result<Code, AllocError>
-    ensures { IfOk result (λ code. view code ≡ updated_at operation (view_target target) (view
-        right)) }
+    ensures { (e : plain.Code) → Makes right e
+        → Makes result (updated_at operation (view_target target) e) }
 {
-    let right = boxed(alloc, right)?;
-    let old = read(alloc, target, 1)?;
-    let new = binary(alloc, operation, old, Code::Bound(true, 0))?;
-    let body = stored(alloc, target, 1, new)?;
-    kept_while(alloc, right, body)
+    let old = read(alloc, target, 1);
+    let new = binary_on(alloc, operation, old, Ok(Code::Bound(true, 0)));
+    kept_while(alloc, in_box(alloc, right), stored(alloc, target, 1, new))
 }
 
 /// An assignment.
@@ -178,10 +178,10 @@ pub(crate) fn assigned(
     alloc: Global,
     op: AssignOp,
     target: Target,
-    right: Code,
+    right: Result<Code, AllocError>,
 ) -> Result<Code, AllocError>
-    ensures { IfOk result (λ code. view code ≡ assigned_at (view_assign op) (view_target target)
-        (view right)) }
+    ensures { (e : plain.Code) → Makes right e
+        → Makes result (assigned_at (view_assign op) (view_target target) e) }
 {
     let operation = match op {
         AssignOp::Set => return stored(alloc, target, 0, right),
@@ -199,7 +199,7 @@ pub(crate) fn assigned(
 pub(crate) fn received(alloc: Global, target: Target) -> Result<Box<Code>, AllocError>
     ensures { IfOk result (λ code. view code.value ≡ received_at (view_target target)) }
 {
-    boxed(alloc, store(alloc, target, 1, Code::Bound(true, 0))?)
+    in_box(alloc, store(alloc, target, 1, Code::Bound(true, 0)))
 }
 
 /// How many answers are kept for a target.
@@ -212,28 +212,42 @@ fn kept_count(target: Target) -> u8
     }
 }
 
+/// The operands of a substitution: an expression and a replacement that were kept, and the target.
+fn substituting(
+    alloc: Global,
+    after: u8,
+    target: Result<Code, AllocError>,
+) -> Result<Vec<Operand>, AllocError>
+    ensures { (e : plain.Code) → Makes target e → MakesOperands result
+        (plain.At (moved (suc after)) (two (moved after) e)) }
+{
+    let target = target?;
+    let after = usize::from(after);
+    let ere = Code::Bound(true, after + 1);
+    three(alloc, ere, Code::Bound(true, after), target)
+}
+
 /// What is replaced in a target, after an expression and a replacement were kept.
 pub(crate) fn substituted(alloc: Global, all: bool, target: Target) -> Result<Code, AllocError>
     ensures { IfOk result (λ code. view code ≡ substituted_at all (view_target target)) }
 {
-    let after = usize::from(kept_count(target));
-    let store = received(alloc, target)?;
-    let old = read(alloc, target, 0)?;
-    let ere = Code::Bound(true, after + 1);
-    let replacement = Code::Bound(true, after);
-    substitution(alloc, all, ere, replacement, old, store)
+    let operands = substituting(alloc, kept_count(target), read(alloc, target, 0));
+    let (operands, store) = both(operands, received(alloc, target))?;
+    Ok(replaced(all, operands, store))
 }
 
 /// What is kept, if anything is, before what is done with it.
 pub(crate) fn keeping(
     alloc: Global,
-    kept: Option<Box<Code>>,
-    body: Code,
+    kept: Result<Option<Box<Code>>, AllocError>,
+    body: Result<Code, AllocError>,
 ) -> Result<Code, AllocError>
-    ensures { IfOk result (λ code. view code ≡ keeping (view_kept kept) (view body)) }
+    ensures { (k : Option plain.Code) (e : plain.Code) → MakesKept kept k → Makes body e
+        → Makes result (keeping k e) }
 {
+    let (kept, body) = both(kept, body)?;
     match kept {
-        Some(kept) => kept_while(alloc, kept, body),
+        Some(kept) => kept_while(alloc, Ok(kept), Ok(body)),
         None => Ok(body),
     }
 }
