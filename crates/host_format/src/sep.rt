@@ -1,5 +1,5 @@
 //! What stands between fields.
-ghost use Rattle.std.specs.Prelude.{◌≡◌, IfErr, IfNone, IfOk, IfSome, Ok};
+ghost use Rattle.std.specs.Prelude.{◌≡◌, IfErr, IfNone, IfOk, IfSome, MatchOption, Ok, length};
 ghost use Rattle.sem_primitives.specs.Fields.{separator_of};
 ghost use Rattle.host_format.specs.Outcomes.{IsStopOf};
 ghost use Rattle.host_format.specs.Separators.{IsAnySep, IsLong, Separates, separator_by};
@@ -34,7 +34,8 @@ pub enum Plain {
 impl Plain {
     /// What a separator's text means, where it has one byte.
     pub fn of(text: &[u8]) -> Option<Plain>
-        ensures { IfSome result (λ by. separator_of text.now ≡ Ok (separator_by by)) }
+        ensures { MatchOption result (length text.now ≡ 1 → ⊥)
+            (λ by. separator_of text.now ≡ Ok (separator_by by)) }
     {
         match text {
             [byte] => {
