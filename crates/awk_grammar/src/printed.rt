@@ -3,7 +3,7 @@
 use awk_tokens::{Builtin, Keyword, Punctuator};
 
 /// A token of a tree: its kind, and its text where it is a name, a number, a string or an ERE.
-#[derive(Clone, Copy, Debug)]
+#[derive(Clone, Copy)]
 pub enum Printed<'a> {
     Name(&'a [u8]),
     FuncName(&'a [u8]),

@@ -8,7 +8,7 @@ ghost use Rattle.awk_grammar.specs.View.{view, views, view_binary, view_unary};
 use crate::tree::{BinaryOp, Builtin, Expr, UnaryOp};
 
 /// What a token is to the end of the expression before it.
-#[derive(Clone, Copy, Debug, PartialEq, Eq)]
+#[derive(Clone, Copy)]
 pub enum Next {
     Paren,
     Bracket,

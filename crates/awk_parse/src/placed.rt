@@ -10,7 +10,7 @@ use awk_tokens::{Keyword, Token, TokenKind};
 use std::alloc::{AllocError, Global};
 
 /// What a statement is part of.
-#[derive(Clone, Copy, Debug, PartialEq, Eq)]
+#[derive(Clone, Copy)]
 pub(crate) enum Place {
     InFunction,
     InBeginOrEnd,

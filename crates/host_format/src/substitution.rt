@@ -15,7 +15,7 @@ use ere_match::Auto;
 use std::alloc::{AllocError, Global};
 
 /// What a substitution gives.
-#[derive(Debug, Drop)]
+#[derive(Drop)]
 pub struct Substituted {
     /// How many matches were replaced.
     pub count: usize,

@@ -5,7 +5,7 @@ ghost use Rattle.host_imports.specs.Imports.{can_fault, can_trap, import_answer,
 use sem_primitives::{Answer, Argument, Constant, Primitive, Sort};
 
 /// What is made of the last values of the argument list.
-#[derive(Clone, Copy, Debug, PartialEq, Eq, Drop)]
+#[derive(Clone, Copy, Drop)]
 pub enum Listing {
     Sprintf,
     Print,
@@ -13,7 +13,7 @@ pub enum Listing {
 }
 
 /// What a module may ask of the host: a row of the table of primitives, or what builds the argument list, uses it, or lets something go.
-#[derive(Clone, Copy, Debug, PartialEq, Eq, Drop)]
+#[derive(Clone, Copy, Drop)]
 pub enum Import {
     Of(Primitive),
     Over(Listing),
@@ -334,10 +334,10 @@ impl Import {
         ensures { result ≡ spends self sort }
     {
         match sort {
-            Sort::Value => self != Import::Of(Primitive::Dup),
+            Sort::Value => !matches!(self, Import::Of(Primitive::Dup)),
             Sort::Number => false,
-            Sort::Array => self == Import::FreeArray,
-            Sort::Iterator => self == Import::IterFree,
+            Sort::Array => matches!(self, Import::FreeArray),
+            Sort::Iterator => matches!(self, Import::IterFree),
         }
     }
 

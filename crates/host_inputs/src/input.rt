@@ -43,7 +43,7 @@ impl Input {
 }
 
 /// Where a record goes.
-#[derive(Clone, Copy, Debug, PartialEq, Eq, Drop)]
+#[derive(Clone, Copy, Drop)]
 pub enum Keep {
     /// `$0`.
     Record,
@@ -52,7 +52,7 @@ pub enum Keep {
 }
 
 /// Which import reads the main input.
-#[derive(Clone, Copy, Debug, PartialEq, Eq, Drop)]
+#[derive(Clone, Copy, Drop)]
 pub enum MainRead {
     /// `next_main`: a file that does not open, or does not read, is a fault.
     Loop,

@@ -3,7 +3,7 @@ use host_texts::TextPrimitive;
 use host_values::ValuePrimitive;
 
 /// A call on the tables alone, by its import.
-#[derive(Clone, Copy, Debug, PartialEq, Eq, Drop)]
+#[derive(Clone, Copy, Drop)]
 pub enum TableCall {
     /// A primitive on values.
     Values(ValuePrimitive),

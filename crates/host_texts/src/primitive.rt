@@ -5,7 +5,7 @@ ghost use Rattle.host_texts.specs.Primitives.{text_primitive};
 use sem_primitives::Primitive;
 
 /// A primitive that looks at values, at special variables, and at the record and its fields, and at nothing else.
-#[derive(Clone, Copy, Debug, PartialEq, Eq, Drop)]
+#[derive(Clone, Copy, Drop)]
 pub enum TextPrimitive {
     GetSpecial,
     SetSpecial,

@@ -5,7 +5,7 @@ ghost use Rattle.host_values.specs.Primitives.{value_primitive};
 use sem_primitives::Primitive;
 
 /// A primitive that takes values, numbers and constants, and looks at nothing else.
-#[derive(Clone, Copy, Debug, PartialEq, Eq, Drop)]
+#[derive(Clone, Copy, Drop)]
 pub enum ValuePrimitive {
     Num,
     Lit,

@@ -24,7 +24,7 @@ pub(crate) struct Evaluated {
 }
 
 /// Why a call has no answer.
-#[derive(Clone, Copy, Debug, PartialEq, Eq, Drop)]
+#[derive(Clone, Copy, Drop)]
 pub enum Refusal {
     /// It traps: nothing was spent, and nothing changed.
     Trap(TrapKind),

@@ -11,14 +11,14 @@ use std::alloc::{AllocError, Global};
 use std::marker::Model;
 
 /// Something that is kept: its form, and its temporary.
-#[derive(Clone, Copy, Debug, Drop)]
+#[derive(Clone, Copy, Drop)]
 pub struct Entry {
     pub form: Form,
     pub temporary: u32,
 }
 
 /// What is kept, the last one first.
-#[derive(Debug, Drop)]
+#[derive(Drop)]
 pub struct Kept {
     entries: Vec<Entry>,
 }

@@ -7,7 +7,7 @@ use crate::fault::LowerFault;
 use mid_program::{Declared, Routine};
 
 /// A text's place in memory, and how long it is.
-#[derive(Clone, Copy, Debug, Drop)]
+#[derive(Clone, Copy, Drop)]
 pub struct Span {
     pub place: u32,
     pub size: u32,

@@ -20,7 +20,7 @@ const MOST_PARAMETERS: usize = MAX_MODULE_BYTES;
 const MOST_LOCALS: u64 = MAX_LOCALS as u64;
 
 /// How many parameters a function has, and how many temporaries, iterators and arrays of calls its code needs at once.
-#[derive(Clone, Copy, Debug, PartialEq, Eq, Drop)]
+#[derive(Clone, Copy, Drop)]
 pub struct Needs {
     pub parameters: u32,
     pub temporaries: u32,

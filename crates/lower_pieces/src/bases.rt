@@ -7,7 +7,7 @@ use std::marker::Model;
 
 /// How many places a function has: its parameters, then its answer, then temporaries with a local of 32 bits and one of 64 each, then
 /// iterators, then arrays that are made for calls.
-#[derive(Debug, Drop)]
+#[derive(Drop)]
 pub struct Bases {
     parameters: u32,
     temporaries: u32,

@@ -3,7 +3,7 @@
 use sem_primitives::Answer;
 
 /// What code leaves in its temporary.
-#[derive(Clone, Copy, Debug, PartialEq, Eq, Drop)]
+#[derive(Clone, Copy, Drop)]
 pub enum Form {
     /// What a primitive answers.
     Answered(Answer),

@@ -10,7 +10,7 @@ use crate::source::{Source, is_near, source_in};
 use mid_program::{Arithmetic, Operand, Operation};
 
 /// A sum or a difference of two sources.
-#[derive(Clone, Copy, Debug, PartialEq, Eq, Drop)]
+#[derive(Clone, Copy, Drop)]
 pub struct Addition {
     pub op: Arithmetic,
     pub left: Source,

@@ -12,7 +12,7 @@ use mid_program::{Code, Operand, Operation};
 use sem_primitives::{Primitive, Special};
 
 /// A comparison of a name with how many fields there are.
-#[derive(Clone, Copy, Debug, PartialEq, Eq, Drop)]
+#[derive(Clone, Copy, Drop)]
 pub struct Counted {
     pub op: CompareOp,
     pub name: Holder,

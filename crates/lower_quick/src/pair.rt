@@ -10,7 +10,7 @@ use awk_values::CompareOp;
 use mid_program::Code;
 
 /// A comparison of two sources.
-#[derive(Clone, Copy, Debug, PartialEq, Eq, Drop)]
+#[derive(Clone, Copy, Drop)]
 pub struct Pair {
     pub op: CompareOp,
     pub left: Source,

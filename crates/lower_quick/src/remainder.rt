@@ -11,14 +11,14 @@ use crate::source::{Holder, holder_of, name_in};
 use mid_program::{Arithmetic, Code, Operand};
 
 /// A name, and what it is multiplied by, if it is.
-#[derive(Clone, Copy, Debug, PartialEq, Eq, Drop)]
+#[derive(Clone, Copy, Drop)]
 pub struct Multiple {
     pub name: Holder,
     pub factor: Option<i64>,
 }
 
 /// A remainder of a multiple, and the name that it goes to.
-#[derive(Clone, Copy, Debug, PartialEq, Eq, Drop)]
+#[derive(Clone, Copy, Drop)]
 pub struct Remainder {
     pub target: Holder,
     pub multiple: Multiple,

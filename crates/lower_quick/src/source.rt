@@ -11,14 +11,14 @@ use mid_program::{Code, Slot};
 const MOST: u64 = 1 << 52;
 
 /// What has its number in one word: an unboxed name by its number, or an unboxed parameter by its place.
-#[derive(Clone, Copy, Debug, PartialEq, Eq, Drop)]
+#[derive(Clone, Copy, Drop)]
 pub enum Holder {
     Name(usize),
     Parameter(usize),
 }
 
 /// What has a number in one word, or a constant.
-#[derive(Clone, Copy, Debug, PartialEq, Eq, Drop)]
+#[derive(Clone, Copy, Drop)]
 pub enum Source {
     Held(Holder),
     Constant(i64),

@@ -12,7 +12,7 @@ use crate::source::{Holder, Source, constant_in, holder_of, source_in};
 use mid_program::{Arithmetic, Code, Operand};
 
 /// A sum or a difference, and the name that it goes to.
-#[derive(Clone, Copy, Debug, PartialEq, Eq, Drop)]
+#[derive(Clone, Copy, Drop)]
 pub struct Sum {
     pub target: Holder,
     pub op: Arithmetic,

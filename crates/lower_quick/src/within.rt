@@ -14,7 +14,7 @@ use mid_program::Code;
 const LEAST_NUMBER: i64 = -(MAX_NUMBER as i64);
 
 /// Of a name the numbers from the least one on, up to one that is so much greater.
-#[derive(Clone, Copy, Debug, PartialEq, Eq, Drop)]
+#[derive(Clone, Copy, Drop)]
 pub struct Within {
     pub name: Holder,
     pub width: u64,

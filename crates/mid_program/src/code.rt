@@ -5,14 +5,14 @@ use awk_values::CompareOp;
 use sem_primitives::{Listed, Sort};
 
 /// Where a scalar is kept: a global by its number, or a parameter by its place; and whether it is unboxed, which is kept as a number.
-#[derive(Clone, Copy, Debug, PartialEq, Eq, Drop)]
+#[derive(Clone, Copy, Drop)]
 pub enum Slot {
     Global(bool, usize),
     Parameter(bool, usize),
 }
 
 /// An array: by its number, or by the parameter that it is given for.
-#[derive(Clone, Copy, Debug, PartialEq, Eq, Drop)]
+#[derive(Clone, Copy, Drop)]
 pub enum ArrayName {
     Numbered(usize),
     Given(usize),

@@ -3,7 +3,7 @@
 use sem_primitives::Primitive;
 
 /// An operator that the module carries out itself, with a check of the range.
-#[derive(Clone, Copy, Debug, PartialEq, Eq, Drop)]
+#[derive(Clone, Copy, Drop)]
 pub enum Arithmetic {
     Plus,
     Minus,
@@ -16,7 +16,7 @@ pub enum Arithmetic {
 }
 
 /// What is done with operands.
-#[derive(Clone, Copy, Debug, PartialEq, Eq, Drop)]
+#[derive(Clone, Copy, Drop)]
 pub enum Operation {
     /// The host does it.
     Host(Primitive),

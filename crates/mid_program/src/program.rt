@@ -4,7 +4,7 @@ use crate::step::Step;
 use indexmap::IndexSet;
 
 /// What a name of the program is.
-#[derive(Clone, Copy, Debug, PartialEq, Eq, Drop)]
+#[derive(Clone, Copy, Drop)]
 pub enum Kind {
     /// A scalar whose value is boxed.
     Boxed,
@@ -15,7 +15,7 @@ pub enum Kind {
 }
 
 /// A global name.
-#[derive(Debug, Drop)]
+#[derive(Drop)]
 pub struct Declared {
     pub name: Vec<u8>,
     pub kind: Kind,

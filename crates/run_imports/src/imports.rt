@@ -16,7 +16,7 @@ use std::alloc::Global;
 use wasm_types::{FuncType, Import as ModuleImport, Module};
 
 /// Why the imports of a module are not listed.
-#[derive(Debug, Drop)]
+#[derive(Drop)]
 pub enum Unlisted {
     /// The bytes are no module.
     Decode(DecodeFault),

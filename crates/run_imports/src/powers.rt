@@ -8,7 +8,7 @@ use host_imports::{Import, Listing};
 use sem_primitives::Primitive;
 
 /// What a module may read.
-#[derive(Clone, Copy, Debug, PartialEq, Eq, Drop)]
+#[derive(Clone, Copy, Drop)]
 pub enum Reads {
     /// It reads nothing: no file and no standard input.
     Nothing,
@@ -19,7 +19,7 @@ pub enum Reads {
 }
 
 /// What a module may write.
-#[derive(Clone, Copy, Debug, PartialEq, Eq, Drop)]
+#[derive(Clone, Copy, Drop)]
 pub enum Writes {
     /// It writes nothing, and opens no file for writing.
     Nothing,

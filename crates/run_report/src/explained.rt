@@ -19,7 +19,7 @@ use crate::explained::traps::trap_explanation;
 use crate::topic::Topic;
 
 /// What is said of a name.
-#[derive(Clone, Copy, Debug, PartialEq, Eq, Drop)]
+#[derive(Clone, Copy, Drop)]
 pub struct Explanation {
     /// What it means.
     pub meaning: &'static str,

@@ -18,7 +18,7 @@ use wasm_model::LinkFault;
 use wasm_store::TrapKind;
 
 /// Why a script is refused. Of an expression that is refused the name is that of a fault.
-#[derive(Clone, Copy, Debug, PartialEq, Eq, Drop)]
+#[derive(Clone, Copy, Drop)]
 pub enum ScriptTopic {
     TooLarge,
     BadByte,
@@ -38,7 +38,7 @@ pub enum ScriptTopic {
 }
 
 /// Why a module is refused.
-#[derive(Clone, Copy, Debug, PartialEq, Eq, Drop)]
+#[derive(Clone, Copy, Drop)]
 pub enum ModuleTopic {
     BadHeader,
     Truncated,
@@ -56,7 +56,7 @@ pub enum ModuleTopic {
 }
 
 /// Why a run was cut off.
-#[derive(Clone, Copy, Debug, PartialEq, Eq, Drop)]
+#[derive(Clone, Copy, Drop)]
 pub enum EndTopic {
     OutOfSteps,
     Exhausted,
@@ -64,7 +64,7 @@ pub enum EndTopic {
 }
 
 /// An exit status.
-#[derive(Clone, Copy, Debug, PartialEq, Eq, Drop)]
+#[derive(Clone, Copy, Drop)]
 pub enum StatusTopic {
     /// 0: the script's own.
     Own,
@@ -85,7 +85,7 @@ pub enum StatusTopic {
 }
 
 /// What there is to explain.
-#[derive(Clone, Copy, Debug, PartialEq, Eq, Drop)]
+#[derive(Clone, Copy, Drop)]
 pub enum Topic {
     Fault(Fault),
     Script(ScriptTopic),

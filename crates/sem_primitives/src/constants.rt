@@ -4,7 +4,7 @@ ghost use Rattle.sem_primitives.specs.Assignments.{named, special_name};
 ghost use Rattle.sem_primitives.specs.Constants.{special_at, special_number, specials};
 
 /// A special variable (POSIX.1-2017 awk, "Variables and Special Variables"); ARGV and ENVIRON are arrays.
-#[derive(Clone, Copy, Debug, PartialEq, Eq, Drop)]
+#[derive(Clone, Copy, Drop)]
 pub enum Special {
     Argc,
     Convfmt,
@@ -113,7 +113,7 @@ fn named_among(list: &[Special], name: &[u8]) -> Option<Special>
 }
 
 /// Where print and printf write to.
-#[derive(Clone, Copy, Debug, PartialEq, Eq, Drop)]
+#[derive(Clone, Copy, Drop)]
 pub enum Destination {
     Standard,
     /// A file that is emptied when it is opened (`>`).
@@ -123,7 +123,7 @@ pub enum Destination {
 }
 
 /// What a name of the script is.
-#[derive(Clone, Copy, Debug, PartialEq, Eq, Drop)]
+#[derive(Clone, Copy, Drop)]
 pub enum NameKind {
     Scalar,
     ArrayOrFunction,

@@ -5,7 +5,7 @@ ghost use Rattle.sem_primitives.specs.Table.{answer_of, arguments_of, can_fault,
 use crate::{Answer, Argument, Constant, Destination, Sort};
 
 /// What the host does for a script, apart from what takes a list of values.
-#[derive(Clone, Copy, Debug, PartialEq, Eq, Drop)]
+#[derive(Clone, Copy, Drop)]
 pub enum Primitive {
     /// The value of a number.
     Num,
@@ -108,7 +108,7 @@ pub enum Primitive {
 }
 
 /// What the host does with a list of values.
-#[derive(Clone, Copy, Debug, PartialEq, Eq, Drop)]
+#[derive(Clone, Copy, Drop)]
 pub enum Listed {
     /// The formatted text: the first value is the format.
     Sprintf,

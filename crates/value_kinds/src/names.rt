@@ -11,7 +11,7 @@ ghost use Rattle.value_kinds.specs.View.{slots};
 use mid_program::{Kind, Slot};
 
 /// Which of a script's names are unboxed: the others are boxed, or arrays.
-#[derive(Debug, Drop)]
+#[derive(Drop)]
 pub struct Lanes {
     /// By the numbers of the globals. An unboxed one is a number with a boxed twin, since the command line may give it a text.
     pub globals: Vec<Kind>,

@@ -47,7 +47,7 @@ pub enum ExportDesc {
 }
 
 /// The sections that are not custom, in their order.
-#[derive(Clone, Copy, Debug, PartialEq, Eq)]
+#[derive(Clone, Copy)]
 pub enum SectionId {
     Type,
     Import,

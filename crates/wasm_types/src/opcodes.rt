@@ -8,7 +8,7 @@ use crate::instr::{CvtOp, IBinOp, IRelOp, ITestOp, IUnOp, LoadOp, Simple, StoreO
 use crate::types::ValType;
 
 /// The instructions with one index and nothing else.
-#[derive(Clone, Copy, Debug, PartialEq, Eq)]
+#[derive(Clone, Copy)]
 pub enum IndexOp {
     Br,
     BrIf,
@@ -39,7 +39,7 @@ impl IndexOp {
 }
 
 /// What an opcode begins.
-#[derive(Clone, Copy, Debug, PartialEq, Eq)]
+#[derive(Clone, Copy)]
 pub enum Lead {
     /// An instruction without immediates.
     Bare(Simple),

@@ -26,7 +26,7 @@ pub trait Fence: Drop {
 }
 
 /// The fence that lets no name through.
-#[derive(Clone, Copy, Debug, PartialEq, Eq, Drop)]
+#[derive(Clone, Copy, Drop)]
 pub struct NoFiles;
 
 impl Fence for NoFiles {
@@ -51,7 +51,7 @@ impl Fence for NoFiles {
 }
 
 /// The fence of a command line. Each part that is set takes names away; without any every name is let through.
-#[derive(Clone, Copy, Debug, Drop)]
+#[derive(Clone, Copy, Drop)]
 pub struct FileFence<'a> {
     /// No name is let through.
     pub no_files: bool,
