@@ -5,6 +5,7 @@ use Rattle.std.proofs.lemmas.List.{drop_all, length-map}
 use Rattle.wasm_types.specs.declared.instr.Instr.{Instr}
 use Rattle.wasm_types.specs.Leb128.{and_then}
 use Rattle.wasm_types.specs.declared.types.ValType.{ValType}
+use Rattle.wasm_types.specs.declared.module.SectionId.{SectionId}
 use Rattle.wasm_types.specs.Instructions.{block_code}
 use Rattle.wasm_types.specs.Syntax.{Instructions, Done}
 use Rattle.wasm_types.specs.View.{view, views}
@@ -13,7 +14,7 @@ use Rattle.module_writer.specs.declared.fault.WriteFault.TheVariants.{TooLarge, 
 use Rattle.module_writer.specs.declared.output.Output.{Output}
 use Rattle.module_writer.specs.Outputs.{Stands, StandsAfter, Adds}
 use Rattle.module_writer.specs.Writers.{Written, Fails, byte_to, each_to, index_to, vec_to}
-use Rattle.module_writer.specs.Writing.{opened_to, within_to, else_to, instr_to, instrs_to}
+use Rattle.module_writer.specs.Writing.{opened_to, within_to, else_to, instr_to, instrs_to, section_to, vec_section_to}
 
 pub fails_then : (e : WriteFault) (r : Written) (f : List ℕ → Written) → Fails e r → Fails e (and_then r f)
 fails_then TooLarge r f h = rw h refl
@@ -37,7 +38,7 @@ nothing a = record { stands = unchanged a.refused a.bytes.items }
 
 -- ---- elements
 
-next : {A : Type 0} (all : List A) (i : ℕ) (x : A) → i < length all → x ≡ get_or all i x → drop i all ≡ x ∷ drop (i + 1) all
+pub next : {A : Type 0} (all : List A) (i : ℕ) (x : A) → i < length all → x ≡ get_or all i x → drop i all ≡ x ∷ drop (i + 1) all
 next all i x h is =
     let one_more : suc i ≡ i + 1 = omega arith in
     drop-cons all i x h ∙ (ap (λ (y : _). y ∷ drop (suc i) all) (sym is) ∙ ap (λ (m : ℕ). x ∷ drop m all) one_more)
@@ -54,6 +55,11 @@ module _ {A B : Type 0} (p : A → List ℕ → Written) (f : B → A) (all : Li
 
   pub all_done : (a : Output) (i : ℕ) → length all ≤ i → Adds a a (each_to p (map f (drop i all)) a.bytes.items)
   all_done a i le = subst (λ (ys : List B). Adds a a (each_to p (map f ys) a.bytes.items)) (sym (drop_all i all le)) (nothing a)
+
+-- what an entry section is where there are some
+pub not_empty : {A B : Type 0} (k : SectionId) (p : A → List ℕ → Written) (f : B → A) (all : List B) (out : List ℕ) → 1 ≤ length all → vec_section_to k p (map f all) out ≡ section_to k (vec_to p (map f all) []) out
+not_empty k p f [] out some = absurd (omega (arith, some))
+not_empty k p f (x ∷ xs) out some = refl
 
 -- a loop over instructions
 module _ (limit : ℕ) (all : List Instr) where

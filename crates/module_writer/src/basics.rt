@@ -1,4 +1,4 @@
-//! Codes, names, bytes with their size.
+//! Codes of one byte, and names.
 
 ghost use Rattle.std.specs.Prelude.{◌≡◌};
 ghost use Rattle.wasm_types.specs.Instructions.{val_code, block_code};

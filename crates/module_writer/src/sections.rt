@@ -52,13 +52,10 @@ fn entry_section<K: Kind>(out: &mut Output, id: SectionId, all: &[K::Entry])
 fn start_section(out: &mut Output, start: Option<u32>)
     ensures { Adds out.old out.new (start_to start out.old.bytes.items) }
 {
-    match start {
-        None => {}
-        Some(n) => {
-            let mut contents = Output::new(out.alloc());
-            contents.index(n);
-            section(out, SectionId::Start, contents);
-        }
+    if let Some(n) = start {
+        let mut contents = Output::new(out.alloc());
+        contents.index(n);
+        section(out, SectionId::Start, contents);
     }
 }
 
