@@ -7,7 +7,7 @@ ghost use Rattle.lower_model.specs.Modules.{called_from, calls_by, calls_in, cho
 ghost use Rattle.wasm_types.specs.View.{view, views};
 
 use crate::function::Function;
-use crate::held::put;
+use crate::held::Grown;
 use host_imports::{IMPORT_COUNT, IMPORTS, Import};
 use std::alloc::{AllocError, Global};
 use std::rc::Rc;
@@ -133,11 +133,11 @@ fn renumbered_one(alloc: Global, called: &[bool], instr: &Instr) -> Result<Instr
 fn renumbered_all(alloc: Global, called: &[bool], code: &[Instr]) -> Result<Vec<Instr>, AllocError>
     ensures { IfOk result (λ out. views out.items ≡ renumbered called.now (views code.now)) }
 {
-    let mut out = Vec::with_capacity(alloc, code.len())?;
+    let mut out = Grown::new(Vec::with_capacity(alloc, code.len())?);
     for instr in code {
-        put(&mut out, renumbered_one(alloc, called, instr)?)?;
+        out.put(renumbered_one(alloc, called, instr));
     }
-    Ok(out)
+    out.all()
 }
 
 /// Code whose calls have the new numbers.
