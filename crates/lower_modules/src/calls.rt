@@ -8,7 +8,7 @@ ghost use Rattle.wasm_types.specs.View.{view, views};
 
 use crate::function::Function;
 use crate::held::Grown;
-use host_imports::{IMPORT_COUNT, IMPORTS, Import};
+use host_imports::{IMPORT_COUNT, Import};
 use std::alloc::{AllocError, Global};
 use std::rc::Rc;
 use wasm_types::{Instr, Simple};
@@ -78,7 +78,9 @@ pub(crate) fn chosen(alloc: Global, called: &[bool]) -> Result<Vec<Import>, Allo
     let mut used = Vec::new(alloc);
     for place in 0..IMPORT_COUNT {
         if called[place] {
-            used.push(IMPORTS[place])?;
+            if let Some(import) = Import::of_number(place as u32) {
+                used.push(import)?;
+            }
         }
     }
     Ok(used)
