@@ -131,17 +131,6 @@ fn renumbered_one(alloc: Global, called: &[bool], instr: &Instr) -> Result<Instr
     }
 }
 
-#[cycle(renumbering)]
-fn renumbered_all(alloc: Global, called: &[bool], code: &[Instr]) -> Result<Vec<Instr>, AllocError>
-    ensures { IfOk result (λ out. views out.items ≡ renumbered called.now (views code.now)) }
-{
-    let mut out = Grown::new(Vec::with_capacity(alloc, code.len())?);
-    for instr in code {
-        out.put(renumbered_one(alloc, called, instr));
-    }
-    out.all()
-}
-
 /// Code whose calls have the new numbers.
 #[cycle(renumbering)]
 pub(crate) fn renumbered(
@@ -152,5 +141,10 @@ pub(crate) fn renumbered(
     ensures { IfOk result
         (λ out. views out.value.items ≡ renumbered called.now (views code.now)) }
 {
-    Ok(Rc::new(alloc, renumbered_all(alloc, called, code)?)?)
+    let mut out = Grown::new(Vec::with_capacity(alloc, code.len())?);
+    for instr in code {
+        out.put(renumbered_one(alloc, called, instr));
+    }
+    let out = out.all()?;
+    Ok(Rc::new(alloc, out)?)
 }

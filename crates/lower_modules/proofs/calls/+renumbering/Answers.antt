@@ -1,6 +1,5 @@
-use Rattle.std.proofs.Common.{◌≡◌, ◌+◌, false, List, [], ◌∷◌, ◌++◌, drop, sym, ap, ◌∙◌}
+use Rattle.std.proofs.Common.{◌≡◌, ◌+◌, List, [], ◌∷◌, ◌++◌, drop, sym, ap, ◌∙◌}
 use Rattle.std.proofs.lemmas.List.{at_drop_all}
-use Rattle.std.proofs.lemmas.Result.{IfOk-weaker}
 use Rattle.std.specs.declared.vec.Vec.{Vec}
 use Rattle.std.specs.declared.alloc.Global.{Global}
 use Rattle.awk_resolve.proofs.Names.{drop_at}
@@ -14,8 +13,8 @@ use Rattle.lower_modules.proofs.Growing.{taken}
 use Rattle.lower_modules.proofs.Pieces.{followed_end, followed_more}
 use Rattle.lower_modules.proofs.calls.+renumbering.Goals as goal
 
-pub renumbered_all-loop-instr-preserved : goal.renumbered_all-loop-instr-preserved
-renumbered_all-loop-instr-preserved t c =
+pub renumbered-loop-instr-preserved : goal.renumbered-loop-instr-preserved
+renumbered-loop-instr-preserved t c =
     let bs = c.args.called.now in
     let i = c.loop-instr.instr-index in
     let old = c.loop-instr.out.items.items in
@@ -29,14 +28,13 @@ renumbered_all-loop-instr-preserved t c =
     ∙ sym (ap (λ (is : List Instr). followed_by (views old) (renumbered bs (views is))) (drop_at c.args.code.now i c.instr-item.result c.loop-instr-test.true c.instr-item.is))
     ∙ c.loop-instr.invariant p.0
 
-pub renumbered_all-returns : goal.renumbered_all-returns
-renumbered_all-returns t c =
+pub renumbered-returns : goal.renumbered-returns
+renumbered-returns t c =
     let old = c.loop-instr.out.items.items in
-    let bs = c.args.called.now in
-    IfOk-weaker c.all.result (λ all. (c.loop-instr.out.is_refused ≡ false) × (all.items ≡ old)) (λ all. views all.items ≡ renumbered bs (views c.args.code.now))
-    (λ all is. ap views is.1 ∙ sym (followed_end old)
-    ∙ sym (at_drop_all (λ (is : List Instr). followed_by (views old) (renumbered bs (views is))) c.args.code.now c.loop-instr.instr-index c.loop-instr-test.false)
-    ∙ c.loop-instr.invariant is.0) c.all.ensures
+    let is = c.in_ok-out.ensures in
+    ap (λ (v : Vec Instr Global). views v.items) c.in_ok-new.ensures.ok ∙ ap views is.1 ∙ sym (followed_end old)
+    ∙ sym (at_drop_all (λ (is : List Instr). followed_by (views old) (renumbered c.args.called.now (views is))) c.args.code.now c.loop-instr.instr-index c.loop-instr-test.false)
+    ∙ c.loop-instr.invariant is.0
 
 pub renumbered_one-returns-in_ok-renumbered-in-Block : goal.renumbered_one-returns-in_ok-renumbered-in-Block
 renumbered_one-returns-in_ok-renumbered-in-Block t c =
