@@ -14,8 +14,8 @@ use std::rc::Rc;
 use wasm_types::{Instr, Simple};
 
 /// Notes what an instruction calls, if that is an import.
-fn note_simple(called: &mut Vec<bool>, simple: Simple)
-    ensures { called.new.items ≡ noted (λ import. is_call import simple) called.old.items }
+fn note_simple(called: &mut [bool], simple: Simple)
+    ensures { called.new ≡ noted (λ import. is_call import simple) called.old }
 {
     match simple {
         Simple::Call(number) => {
@@ -30,9 +30,8 @@ fn note_simple(called: &mut Vec<bool>, simple: Simple)
 
 /// Notes which imports an instruction calls.
 #[cycle(calls)]
-fn note_calls_by(called: &mut Vec<bool>, instr: &Instr)
-    ensures { called.new.items ≡
-        noted (λ import. calls_by import (view instr.now)) called.old.items }
+fn note_calls_by(called: &mut [bool], instr: &Instr)
+    ensures { called.new ≡ noted (λ import. calls_by import (view instr.now)) called.old }
 {
     match instr {
         Instr::Plain(simple) => note_simple(called, *simple),
@@ -48,9 +47,8 @@ fn note_calls_by(called: &mut Vec<bool>, instr: &Instr)
 
 /// Notes which imports code calls.
 #[cycle(calls)]
-fn note_calls_in(called: &mut Vec<bool>, code: &[Instr])
-    ensures { called.new.items ≡
-        noted (λ import. calls_in import (views code.now)) called.old.items }
+fn note_calls_in(called: &mut [bool], code: &[Instr])
+    ensures { called.new ≡ noted (λ import. calls_in import (views code.now)) called.old }
 {
     for instr in code {
         note_calls_by(called, instr);
@@ -58,15 +56,14 @@ fn note_calls_in(called: &mut Vec<bool>, code: &[Instr])
 }
 
 /// For each import, whether it is called: one walk over the code finds all of them.
-pub(crate) fn called_imports(alloc: Global, functions: &[Function]) -> Result<Vec<bool>, AllocError>
-    ensures { IfOk result
-        (λ called. called.items ≡ called_from 0 imports (view_functions functions.now)) }
+pub(crate) fn called_imports(functions: &[Function]) -> [bool; IMPORT_COUNT]
+    ensures { result ≡ called_from 0 imports (view_functions functions.now) }
 {
-    let mut called = vec![in alloc; false; IMPORT_COUNT]?;
+    let mut called = [false; IMPORT_COUNT];
     for function in functions {
         note_calls_in(&mut called, &function.body);
     }
-    Ok(called)
+    called
 }
 
 /// The imports that are called.

@@ -58,7 +58,7 @@ fn code_parts(alloc: Global, functions: &[Function]) -> Result<CodeParts, AllocE
         (chosen (called_from 0 imports (view_functions functions.now)) imports)
         (view_functions functions.now)) }
 {
-    let called = called_imports(alloc, functions)?;
+    let called = called_imports(functions);
     let used = chosen(alloc, &called)?;
     let first = used.len() as u32;
     Ok(CodeParts {
