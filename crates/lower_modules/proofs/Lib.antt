@@ -1,3 +1,4 @@
+mod Growing
 mod Steps
 mod Pieces
 mod Noted

@@ -1,3 +1,4 @@
+pub mod Grown
 pub mod Calls
 pub mod Lengths
 pub mod Limits

@@ -7,15 +7,15 @@ ghost use Rattle.lower_model.specs.Modules.{called_from, calls_by, calls_in, cho
 ghost use Rattle.wasm_types.specs.View.{view, views};
 
 use crate::function::Function;
-use crate::held::put;
-use host_imports::{IMPORT_COUNT, IMPORTS, Import};
+use crate::held::Grown;
+use host_imports::{IMPORT_COUNT, Import};
 use std::alloc::{AllocError, Global};
 use std::rc::Rc;
 use wasm_types::{Instr, Simple};
 
 /// Notes what an instruction calls, if that is an import.
-fn note_simple(called: &mut Vec<bool>, simple: Simple)
-    ensures { called.new.items ≡ noted (λ import. is_call import simple) called.old.items }
+fn note_simple(called: &mut [bool], simple: Simple)
+    ensures { called.new ≡ noted (λ import. is_call import simple) called.old }
 {
     match simple {
         Simple::Call(number) => {
@@ -30,9 +30,8 @@ fn note_simple(called: &mut Vec<bool>, simple: Simple)
 
 /// Notes which imports an instruction calls.
 #[cycle(calls)]
-fn note_calls_by(called: &mut Vec<bool>, instr: &Instr)
-    ensures { called.new.items ≡
-        noted (λ import. calls_by import (view instr.now)) called.old.items }
+fn note_calls_by(called: &mut [bool], instr: &Instr)
+    ensures { called.new ≡ noted (λ import. calls_by import (view instr.now)) called.old }
 {
     match instr {
         Instr::Plain(simple) => note_simple(called, *simple),
@@ -48,9 +47,8 @@ fn note_calls_by(called: &mut Vec<bool>, instr: &Instr)
 
 /// Notes which imports code calls.
 #[cycle(calls)]
-fn note_calls_in(called: &mut Vec<bool>, code: &[Instr])
-    ensures { called.new.items ≡
-        noted (λ import. calls_in import (views code.now)) called.old.items }
+fn note_calls_in(called: &mut [bool], code: &[Instr])
+    ensures { called.new ≡ noted (λ import. calls_in import (views code.now)) called.old }
 {
     for instr in code {
         note_calls_by(called, instr);
@@ -58,15 +56,14 @@ fn note_calls_in(called: &mut Vec<bool>, code: &[Instr])
 }
 
 /// For each import, whether it is called: one walk over the code finds all of them.
-pub(crate) fn called_imports(alloc: Global, functions: &[Function]) -> Result<Vec<bool>, AllocError>
-    ensures { IfOk result
-        (λ called. called.items ≡ called_from 0 imports (view_functions functions.now)) }
+pub(crate) fn called_imports(functions: &[Function]) -> [bool; IMPORT_COUNT]
+    ensures { result ≡ called_from 0 imports (view_functions functions.now) }
 {
-    let mut called = vec![in alloc; false; IMPORT_COUNT]?;
+    let mut called = [false; IMPORT_COUNT];
     for function in functions {
         note_calls_in(&mut called, &function.body);
     }
-    Ok(called)
+    called
 }
 
 /// The imports that are called.
@@ -78,7 +75,9 @@ pub(crate) fn chosen(alloc: Global, called: &[bool]) -> Result<Vec<Import>, Allo
     let mut used = Vec::new(alloc);
     for place in 0..IMPORT_COUNT {
         if called[place] {
-            used.push(IMPORTS[place])?;
+            if let Some(import) = Import::of_number(place as u32) {
+                used.push(import)?;
+            }
         }
     }
     Ok(used)
@@ -129,17 +128,6 @@ fn renumbered_one(alloc: Global, called: &[bool], instr: &Instr) -> Result<Instr
     }
 }
 
-#[cycle(renumbering)]
-fn renumbered_all(alloc: Global, called: &[bool], code: &[Instr]) -> Result<Vec<Instr>, AllocError>
-    ensures { IfOk result (λ out. views out.items ≡ renumbered called.now (views code.now)) }
-{
-    let mut out = Vec::with_capacity(alloc, code.len())?;
-    for instr in code {
-        put(&mut out, renumbered_one(alloc, called, instr)?)?;
-    }
-    Ok(out)
-}
-
 /// Code whose calls have the new numbers.
 #[cycle(renumbering)]
 pub(crate) fn renumbered(
@@ -150,5 +138,10 @@ pub(crate) fn renumbered(
     ensures { IfOk result
         (λ out. views out.value.items ≡ renumbered called.now (views code.now)) }
 {
-    Ok(Rc::new(alloc, renumbered_all(alloc, called, code)?)?)
+    let mut out = Grown::new(Vec::with_capacity(alloc, code.len())?);
+    for instr in code {
+        out.put(renumbered_one(alloc, called, instr));
+    }
+    let out = out.all()?;
+    Ok(Rc::new(alloc, out)?)
 }

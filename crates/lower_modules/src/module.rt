@@ -12,11 +12,12 @@ ghost use Rattle.wasm_types.specs.View.{signature_of, view_module};
 
 use crate::calls::{called_imports, chosen};
 use crate::function::Function;
+use crate::held::Grown;
 use crate::lengths::least_among;
 use crate::sections::{
     exports, function_forms, globals, import_forms, memory, memory_for, segments,
 };
-use crate::types::{function_types, import_types};
+use crate::types::{put_function_types, put_import_types};
 use host_imports::Import;
 use lower_layout::LowerFault;
 use mid_program::Mid;
@@ -33,10 +34,10 @@ fn types(
         (λ all. map signature_of all.items
         ≡ map import_type used.now ++ map callee_type (view_functions functions.now)) }
 {
-    let mut all = import_types(alloc, used)?;
-    let mut others = function_types(alloc, functions)?;
-    all.append(&mut others)?;
-    Ok(all)
+    let mut all = Grown::new(Vec::new(alloc));
+    put_import_types(alloc, &mut all, used);
+    put_function_types(alloc, &mut all, functions);
+    all.all()
 }
 
 /// The parts of a module that have to do with functions.
@@ -57,7 +58,7 @@ fn code_parts(alloc: Global, functions: &[Function]) -> Result<CodeParts, AllocE
         (chosen (called_from 0 imports (view_functions functions.now)) imports)
         (view_functions functions.now)) }
 {
-    let called = called_imports(alloc, functions)?;
+    let called = called_imports(functions);
     let used = chosen(alloc, &called)?;
     let first = used.len() as u32;
     Ok(CodeParts {

@@ -2,6 +2,7 @@
 ghost use Rattle.std.specs.Prelude.{◌≡◌, ◌+◌, ◌*◌, ◌≤◌, ◌++◌, ◌∷◌, [], length, map, replicate, true, IfOk, OnOk};
 ghost use Rattle.mid_program.specs.Sorted.{announced_names, kinds_of};
 ghost use Rattle.mid_program.specs.View.{view_declared, view_mid, view_routine, view_texts};
+ghost use Rattle.lower_modules.specs.Grown.{Puts};
 ghost use Rattle.lower_modules.specs.Limits.{most_bytes};
 ghost use Rattle.lower_modules.specs.Parts.{main_form, text_form};
 ghost use Rattle.lower_modules.specs.View.{view_function, view_functions};
@@ -15,7 +16,7 @@ ghost use Rattle.wasm_types.specs.View.{view_data, view_export, view_func, view_
 
 use crate::calls::renumbered;
 use crate::function::Function;
-use crate::held::{only, put};
+use crate::held::{Grown, only};
 use host_imports::Import;
 use mid_program::{Declared, Kind, Mid, Routine};
 use std::alloc::{AllocError, Global};
@@ -41,13 +42,13 @@ pub(crate) fn import_forms(
     requires { length used.now ≤ length imports }
     ensures { IfOk result (λ all. map view_import all.items ≡ imported_from 0 used.now) }
 {
-    let mut all = Vec::new(alloc);
+    let mut all = Grown::new(Vec::new(alloc));
     let mut ty = 0;
     for import in used {
-        put(&mut all, import_form(alloc, *import, ty)?)?;
+        all.put(import_form(alloc, *import, ty));
         ty += 1;
     }
-    Ok(all)
+    all.all()
 }
 
 fn function_form(
@@ -82,13 +83,13 @@ pub(crate) fn function_forms(
         (λ all. map view_func all.items
         ≡ functions_from called.now first (view_functions functions.now)) }
 {
-    let mut all = Vec::new(alloc);
+    let mut all = Grown::new(Vec::new(alloc));
     let mut ty = first;
     for function in functions {
-        put(&mut all, function_form(alloc, called, ty, function)?)?;
+        all.put(function_form(alloc, called, ty, function));
         ty += 1;
     }
-    Ok(all)
+    all.all()
 }
 
 /// A global that begins with a constant.
@@ -105,48 +106,44 @@ fn global(alloc: Global, value: ValType, constant: Simple) -> Result<wasm_types:
     })
 }
 
-/// Puts a global of 32 bits.
-fn put_word(alloc: Global, all: &mut Vec<wasm_types::Global>, number: u32) -> Result<(), AllocError>
-    ensures { OnOk result (map view_global all.new.items
-        ≡ map view_global all.old.items ++ word_global number ∷ []) }
+/// A global of 32 bits.
+fn word(alloc: Global, number: u32) -> Result<wasm_types::Global, AllocError>
+    ensures { IfOk result (λ made. view_global made ≡ word_global number) }
 {
-    put(all, global(alloc, ValType::I32, Simple::I32Const(number))?)
+    global(alloc, ValType::I32, Simple::I32Const(number))
 }
 
-/// Puts a global of 64 bits.
-fn put_long(alloc: Global, all: &mut Vec<wasm_types::Global>, number: u64) -> Result<(), AllocError>
-    ensures { OnOk result (map view_global all.new.items
-        ≡ map view_global all.old.items ++ long_global number ∷ []) }
+/// A global of 64 bits.
+fn long(alloc: Global, number: u64) -> Result<wasm_types::Global, AllocError>
+    ensures { IfOk result (λ made. view_global made ≡ long_global number) }
 {
-    put(all, global(alloc, ValType::I64, Simple::I64Const(number))?)
+    global(alloc, ValType::I64, Simple::I64Const(number))
 }
 
 /// The module's own globals, and one for each range.
-fn first_globals(alloc: Global, ranges: usize) -> Result<Vec<wasm_types::Global>, AllocError>
-    ensures { IfOk result (λ all. map view_global all.items
-        ≡ word_global 0 ∷ (long_global 0 ∷ (word_global minus_one
-        ∷ replicate ranges (word_global 0)))) }
+fn put_first_globals(alloc: Global, all: &mut Grown<wasm_types::Global>, ranges: usize)
+    ensures { Puts view_global all.old all.new (word_global 0 ∷ (long_global 0
+        ∷ (word_global minus_one ∷ replicate ranges (word_global 0)))) }
 {
-    let mut all = Vec::new(alloc);
-    put_word(alloc, &mut all, 0)?;
-    put_long(alloc, &mut all, 0)?;
-    put_word(alloc, &mut all, u32::MAX)?;
+    all.put(word(alloc, 0));
+    all.put(long(alloc, 0));
+    all.put(word(alloc, u32::MAX));
     for _done in 0..ranges {
-        put_word(alloc, &mut all, 0)?;
+        all.put(word(alloc, 0));
     }
-    Ok(all)
 }
 
 /// The globals of a module: for each name two, which have nothing yet.
 pub(crate) fn globals(alloc: Global, mid: &Mid) -> Result<Vec<wasm_types::Global>, AllocError>
     ensures { IfOk result (λ all. map view_global all.items ≡ globals_of (view_mid mid.now)) }
 {
-    let mut all = first_globals(alloc, mid.ranges)?;
+    let mut all = Grown::new(Vec::new(alloc));
+    put_first_globals(alloc, &mut all, mid.ranges);
     for _name in &mid.globals {
-        put_word(alloc, &mut all, u32::MAX)?;
-        put_long(alloc, &mut all, 1 << 63)?;
+        all.put(word(alloc, u32::MAX));
+        all.put(long(alloc, 1 << 63));
     }
-    Ok(all)
+    all.all()
 }
 
 fn text_bytes(alloc: Global, texts: &[Vec<u8>]) -> Result<Vec<u8>, AllocError>

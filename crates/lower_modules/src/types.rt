@@ -1,6 +1,7 @@
 //! The types of functions, those that are imported and those of the module.
 ghost use Rattle.std.specs.Prelude.{◌≡◌, map, IfOk};
 ghost use Rattle.mid_program.specs.View.{view_kind};
+ghost use Rattle.lower_modules.specs.Grown.{Puts};
 ghost use Rattle.lower_modules.specs.View.{view_function};
 ghost use Rattle.host_imports.specs.Imports.{import_type};
 ghost use Rattle.lower_model.specs.Modules.{callee_type};
@@ -8,7 +9,7 @@ ghost use Rattle.lower_model.specs.Places.{kind_type};
 ghost use Rattle.wasm_types.specs.View.{signature_of};
 
 use crate::function::Function;
-use crate::held::put;
+use crate::held::Grown;
 use host_imports::{Import, type_of};
 use mid_program::Kind;
 use std::alloc::{AllocError, Global};
@@ -44,28 +45,20 @@ fn function_type(alloc: Global, function: &Function) -> Result<FuncType, AllocEr
     })
 }
 
-/// The types of imports.
-pub(crate) fn import_types(alloc: Global, used: &[Import]) -> Result<Vec<FuncType>, AllocError>
-    ensures { IfOk result (λ all. map signature_of all.items ≡ map import_type used.now) }
+/// Puts the types of imports.
+pub(crate) fn put_import_types(alloc: Global, all: &mut Grown<FuncType>, used: &[Import])
+    ensures { Puts signature_of all.old all.new (map import_type used.now) }
 {
-    let mut types = Vec::new(alloc);
     for import in used {
-        put(&mut types, type_of(alloc, *import)?)?;
+        all.put(type_of(alloc, *import));
     }
-    Ok(types)
 }
 
-/// The types of functions.
-pub(crate) fn function_types(
-    alloc: Global,
-    functions: &[Function],
-) -> Result<Vec<FuncType>, AllocError>
-    ensures { IfOk result
-        (λ all. map signature_of all.items ≡ map callee_type (map view_function functions.now)) }
+/// Puts the types of functions.
+pub(crate) fn put_function_types(alloc: Global, all: &mut Grown<FuncType>, functions: &[Function])
+    ensures { Puts signature_of all.old all.new (map callee_type (map view_function functions.now)) }
 {
-    let mut types = Vec::new(alloc);
     for function in functions {
-        put(&mut types, function_type(alloc, function)?)?;
+        all.put(function_type(alloc, function));
     }
-    Ok(types)
 }

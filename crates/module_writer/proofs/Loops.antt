@@ -1,67 +1,111 @@
 -- Writing one after the other.
-use Rattle.std.proofs.Common.{◌≡◌, ℕ, suc, ◌+◌, ◌<◌, ◌≤◌, List, [], ◌∷◌, length, map, drop, get_or, Some, None, Result, Ok, Err, refl, sym, ap, subst, ◌∙◌, arith, drop-cons}
+use Rattle.std.proofs.Common.{◌≡◌, ℕ, zero, suc, ◌+◌, ◌-◌, ◌<◌, ◌≤◌, List, [], ◌∷◌, length, map, drop, get_or, Option, Some, None, refl, sym, ap, subst, ◌∙◌, arith, drop-cons, ◌==◌, if◌then◌else◌}
+use Rattle.std.proofs.Math.Dec.{eqb-suc-zero}
 use Rattle.std.proofs.lemmas.List.{drop_all, length-map}
-use Rattle.std.specs.Prelude.{IsErr, IsErrAnd}
 use Rattle.wasm_types.specs.declared.instr.Instr.{Instr}
 use Rattle.wasm_types.specs.Leb128.{and_then}
-use Rattle.wasm_types.specs.View.{views}
+use Rattle.wasm_types.specs.declared.types.ValType.{ValType}
+use Rattle.wasm_types.specs.declared.module.SectionId.{SectionId}
+use Rattle.wasm_types.specs.Instructions.{block_code}
+use Rattle.wasm_types.specs.Syntax.{Instructions, Done}
+use Rattle.wasm_types.specs.View.{view, views}
 use Rattle.module_writer.specs.declared.fault.WriteFault.{WriteFault}
 use Rattle.module_writer.specs.declared.fault.WriteFault.TheVariants.{TooLarge, NoMemory}
-use Rattle.module_writer.specs.Writers.{Written, Fails, Puts, byte_to, each_to, index_to, vec_to}
-use Rattle.module_writer.specs.Writing.{else_to}
+use Rattle.module_writer.specs.declared.output.Output.{Output}
+use Rattle.module_writer.specs.Outputs.{Stands, StandsAfter, Adds}
+use Rattle.module_writer.specs.Writers.{Written, Fails, byte_to, each_to, index_to, vec_to}
+use Rattle.module_writer.specs.Writing.{opened_to, within_to, else_to, instr_to, instrs_to, section_to, vec_section_to}
 
 pub fails_then : (e : WriteFault) (r : Written) (f : List ℕ → Written) → Fails e r → Fails e (and_then r f)
 fails_then TooLarge r f h = rw h refl
 fails_then NoMemory r f h = tt
 
+stands_then : (was between now : Option WriteFault) (mid new : List ℕ) (r : Written) (f : List ℕ → Written) → StandsAfter was between mid r → StandsAfter between now new (f mid) → StandsAfter was now new (and_then r f)
+stands_then (Some e) between now mid new r f h k = subst (λ (x : Option WriteFault). StandsAfter x now new (f mid)) h k
+stands_then None None now mid new r f h k = rw h k
+stands_then None (Some e) now mid new r f h k = subst (λ (x : Option WriteFault). Stands x new (and_then r f)) (sym k) (fails_then e r f h)
+
+-- what one writer adds, and then another
+pub both : {a b c : Output} (r : Written) (f : List ℕ → Written) → Adds a b r → Adds b c (f b.bytes.items) → Adds a c (and_then r f)
+both {a} {b} {c} r f h k = record { stands = stands_then a.refused b.refused c.refused b.bytes.items c.bytes.items r f h.stands k.stands }
+
+unchanged : (was : Option WriteFault) (bytes : List ℕ) → StandsAfter was was bytes (Some bytes)
+unchanged None bytes = refl
+unchanged (Some e) bytes = refl
+
+pub nothing : (a : Output) → Adds a a (Some a.bytes.items)
+nothing a = record { stands = unchanged a.refused a.bytes.items }
+
+-- ---- elements
+
+pub next : {A : Type 0} (all : List A) (i : ℕ) (x : A) → i < length all → x ≡ get_or all i x → drop i all ≡ x ∷ drop (i + 1) all
+next all i x h is =
+    let one_more : suc i ≡ i + 1 = omega arith in
+    drop-cons all i x h ∙ (ap (λ (y : _). y ∷ drop (suc i) all) (sym is) ∙ ap (λ (m : ℕ). x ∷ drop m all) one_more)
+
+-- a loop over elements that are written by their plain data
+module _ {A B : Type 0} (p : A → List ℕ → Written) (f : B → A) (all : List B) where
+  pub begun : {a b c : Output} → Adds a b (index_to (length all) a.bytes.items) → Adds b c (each_to p (map f all) b.bytes.items) → Adds a c (vec_to p (map f all) a.bytes.items)
+  begun {a} {b} {c} h k = both (index_to (length (map f all)) a.bytes.items) (each_to p (map f all)) (rw (length-map all f) h) k
+
+  pub one_more : {a b c : Output} (i : ℕ) (x : B) → i < length all → x ≡ get_or all i x → Adds a b (p (f x) a.bytes.items) → Adds b c (each_to p (map f (drop (i + 1) all)) b.bytes.items)
+      → Adds a c (each_to p (map f (drop i all)) a.bytes.items)
+  one_more {a} {b} {c} i x lt is h k =
+      subst (λ (ys : List B). Adds a c (each_to p (map f ys) a.bytes.items)) (sym (next all i x lt is)) (both (p (f x) a.bytes.items) (each_to p (map f (drop (i + 1) all))) h k)
+
+  pub all_done : (a : Output) (i : ℕ) → length all ≤ i → Adds a a (each_to p (map f (drop i all)) a.bytes.items)
+  all_done a i le = subst (λ (ys : List B). Adds a a (each_to p (map f ys) a.bytes.items)) (sym (drop_all i all le)) (nothing a)
+
+-- what an entry section is where there are some
+pub not_empty : {A B : Type 0} (k : SectionId) (p : A → List ℕ → Written) (f : B → A) (all : List B) (out : List ℕ) → 1 ≤ length all → vec_section_to k p (map f all) out ≡ section_to k (vec_to p (map f all) []) out
+not_empty k p f [] out some = absurd (omega (arith, some))
+not_empty k p f (x ∷ xs) out some = refl
+
+-- a loop over instructions
+module _ (limit : ℕ) (all : List Instr) where
+  pub one_more_instr : {a b c : Output} (i : ℕ) (x : Instr) → i < length all → x ≡ get_or all i x → Adds a b (instr_to limit (view x) a.bytes.items) → Adds b c (instrs_to limit (views (drop (i + 1) all)) b.bytes.items)
+      → Adds a c (instrs_to limit (views (drop i all)) a.bytes.items)
+  one_more_instr {a} {b} {c} i x lt is h k =
+      subst (λ (ys : List Instr). Adds a c (instrs_to limit (views ys) a.bytes.items)) (sym (next all i x lt is)) (both (instr_to limit (view x) a.bytes.items) (instrs_to limit (views (drop (i + 1) all))) h k)
+
+  pub all_instrs : (a : Output) (i : ℕ) → length all ≤ i → Adds a a (instrs_to limit (views (drop i all)) a.bytes.items)
+  all_instrs a i le = subst (λ (ys : List Instr). Adds a a (instrs_to limit (views ys) a.bytes.items)) (sym (drop_all i all le)) (nothing a)
+
+-- ---- blocks
+
+pub inside : {a b : Output} (d : ℕ) (body : ℕ → List ℕ → Written) → 1 ≤ d → Adds a b (body (d - 1) a.bytes.items) → Adds a b (within_to d body a.bytes.items)
+inside zero body some h = absurd (omega (arith, some))
+inside (suc d) body some h = rw (eqb-suc-zero d) h
+
+pub opened : {a b c d e : Output} (op : ℕ) (k : Option ValType) (inner : List ℕ → Written) → Adds a b (byte_to op a.bytes.items) → Adds b c (byte_to (block_code k) b.bytes.items) → Adds c d (inner c.bytes.items) → Adds d e (byte_to 0x0b d.bytes.items)
+    → Adds a e (opened_to op k inner a.bytes.items)
+opened {a} {b} {c} {d} {e} op k inner f g h i =
+    both (byte_to op a.bytes.items) (λ o. and_then (byte_to (block_code k) o) (λ p. and_then (inner p) (byte_to 0x0b))) f
+    (both (byte_to (block_code k) b.bytes.items) (λ p. and_then (inner p) (byte_to 0x0b)) g (both (inner c.bytes.items) (byte_to 0x0b) h i))
+
+pub else_none : (is : List Instr) (body : List ℕ → Written) (out : Output) → length is ≡ 0 → Adds out out (else_to (views is) body out.bytes.items)
+else_none [] body out h = nothing out
+else_none (i ∷ is) body out h = absurd (omega (arith, h))
+
 pub else_some : (is : List Instr) (body : List ℕ → Written) (out : List ℕ) → 1 ≤ length is → else_to (views is) body out ≡ and_then (byte_to 0x05 out) body
 else_some [] body out h = absurd (omega (arith, h))
 else_some (i ∷ is) body out h = refl
 
--- an error that `?` hands on
-pub handed_on : (r : Result Unit WriteFault) (e : WriteFault) (all : Written) (new : List ℕ) → IsErr r × IsErrAnd r (λ d. d ≡ e) → Fails e all → Puts r all new
-handed_on (Ok _) e all new h f = cc
-handed_on (Err d) e all new h f = subst (λ (y : WriteFault). Fails y all) (sym h.1) f
+then_ends : (r : Written) → and_then r (λ out. Some out) ≡ r
+then_ends None = refl
+then_ends (Some out) = refl
 
--- ---- elements
+same_then : (r : Written) (f g : List ℕ → Written) → ((out : List ℕ) → f out ≡ g out) → and_then r f ≡ and_then r g
+same_then None f g e = refl
+same_then (Some out) f g e = e out
 
--- a loop over a list whose number was written first; total is what the whole list gives
-module _ {A : Type 0} (p : A → List ℕ → Written) (all : List A) where
-  pub begun : (n : ℕ) (out new : List ℕ) (total : Written) → n ≡ length all → total ≡ vec_to p all out → index_to n out ≡ Some new → each_to p all new ≡ total
-  begun n out new total same is e = sym (is ∙ ap (λ (r : Written). and_then r (each_to p all)) (ap (λ (m : ℕ). index_to m out) (sym same) ∙ e))
+opened_same : (op : ℕ) (k : Option ValType) (f g : List ℕ → Written) (out : List ℕ) → ((o : List ℕ) → f o ≡ g o) → opened_to op k f out ≡ opened_to op k g out
+opened_same op k f g out e = same_then (byte_to op out) (λ o. and_then (byte_to (block_code k) o) (λ p. and_then (f p) (byte_to 0x0b))) (λ o. and_then (byte_to (block_code k) o) (λ p. and_then (g p) (byte_to 0x0b)))
+    (λ o. same_then (byte_to (block_code k) o) (λ p. and_then (f p) (byte_to 0x0b)) (λ p. and_then (g p) (byte_to 0x0b)) (λ p. ap (λ (r : Written). and_then r (byte_to 0x0b)) (e p)))
 
-  pub no_number : (n : ℕ) (out : List ℕ) (total : Written) (e : WriteFault) → n ≡ length all → total ≡ vec_to p all out → Fails e (index_to n out) → Fails e total
-  no_number n out total e same is h =
-      subst (Fails e) (sym is) (fails_then e (index_to (length all) out) (each_to p all) (subst (λ (m : ℕ). Fails e (index_to m out)) same h))
-
-  here : (i : ℕ) (x : A) (out : List ℕ) → i < length all → x ≡ get_or all i x → each_to p (drop i all) out ≡ and_then (p x out) (each_to p (drop (i + 1) all))
-  here i x out h is =
-      let one_more : suc i ≡ i + 1 = omega arith in
-      let next : drop i all ≡ x ∷ drop (i + 1) all =
-      drop-cons all i x h ∙ (ap (λ (y : A). y ∷ drop (suc i) all) (sym is) ∙ ap (λ (m : ℕ). x ∷ drop m all) one_more) in
-      ap (λ (ys : List A). each_to p ys out) next
-
-  pub one_more : (i : ℕ) (x : A) (out new : List ℕ) (total : Written) → i < length all → x ≡ get_or all i x → p x out ≡ Some new → each_to p (drop i all) out ≡ total → each_to p (drop (i + 1) all) new ≡ total
-  one_more i x out new total h is e so_far = sym (ap (λ (r : Written). and_then r (each_to p (drop (i + 1) all))) e) ∙ (sym (here i x out h is) ∙ so_far)
-
-  pub stuck : (i : ℕ) (x : A) (out : List ℕ) (total : Written) (e : WriteFault) → i < length all → x ≡ get_or all i x → Fails e (p x out) → each_to p (drop i all) out ≡ total → Fails e total
-  stuck i x out total TooLarge h is f so_far = sym so_far ∙ (here i x out h is ∙ ap (λ (r : Written). and_then r (each_to p (drop (i + 1) all))) f)
-  stuck i x out total NoMemory h is f so_far = tt
-
-  pub all_done : (i : ℕ) (out : List ℕ) (total : Written) → length all ≤ i → each_to p (drop i all) out ≡ total → total ≡ Some out
-  all_done i out total h so_far = sym so_far ∙ ap (λ (ys : List A). each_to p ys out) (drop_all i all h)
-
--- elements that are written by their plain data
-module _ {A B : Type 0} (p : A → List ℕ → Written) (f : B → A) where
-  same_then : (r : Written) (g h : List ℕ → Written) → ((out : List ℕ) → g out ≡ h out) → and_then r g ≡ and_then r h
-  same_then None g h e = refl
-  same_then (Some out) g h e = e out
-
-  each_map : (xs : List B) (out : List ℕ) → each_to p (map f xs) out ≡ each_to (λ x. p (f x)) xs out
-  each_map [] out = refl
-  each_map (x ∷ xs) out = same_then (p (f x) out) (each_to p (map f xs)) (each_to (λ y. p (f y)) xs) (λ o. each_map xs o)
-
-  pub vec_map : (xs : List B) (out : List ℕ) → vec_to p (map f xs) out ≡ vec_to (λ x. p (f x)) xs out
-  vec_map xs out =
-      ap (λ (n : ℕ). and_then (index_to n out) (each_to p (map f xs))) (length-map xs f)
-      ∙ same_then (index_to (length xs) out) (each_to p (map f xs)) (each_to (λ y. p (f y)) xs) (λ o. each_map xs o)
+-- a block with no others is one that cannot have any
+pub without_others : (d op : ℕ) (k : Option ValType) (is : Instructions) (out : List ℕ)
+    → within_to d (λ e. opened_to op k (λ o. and_then (instrs_to e is o) (else_to Done (instrs_to e Done)))) out ≡ within_to d (λ e. opened_to op k (instrs_to e is)) out
+without_others d op k is out =
+    ap (λ (r : Written). if d == 0 then None else r)
+    (opened_same op k (λ o. and_then (instrs_to (d - 1) is o) (else_to Done (instrs_to (d - 1) Done))) (instrs_to (d - 1) is) out (λ o. then_ends (instrs_to (d - 1) is o)))

@@ -17,11 +17,6 @@ abbrev pub Fails : WriteFault → Written → Type 0
 Fails TooLarge all = all ≡ None
 Fails NoMemory all = Unit
 
--- the code leaves what the writer does
-abbrev pub Puts : Result Unit WriteFault → Written → List ℕ → Type 0
-Puts (Ok u) all new = all ≡ Some new
-Puts (Err e) all new = Fails e all
-
 -- the code gives them
 abbrev pub Gives : Result (Vec ℕ Global) WriteFault → Written → Type 0
 Gives (Ok v) all = all ≡ Some v.items

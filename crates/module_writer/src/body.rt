@@ -4,17 +4,18 @@ ghost use Rattle.std.specs.Prelude.{◌≡◌};
 ghost use Rattle.wasm_types.specs.Opcodes.{immediates};
 ghost use Rattle.wasm_types.specs.Leb128.{and_then};
 ghost use Rattle.wasm_types.specs.View.{view, views};
-ghost use Rattle.module_writer.specs.Writers.{Puts};
+ghost use Rattle.module_writer.specs.Outputs.{Adds};
 ghost use Rattle.module_writer.specs.Writing.{immediates_to, simple_to, table_to, opened_to, within_to, else_to, instr_to, instrs_to, expr_to};
 
-use crate::basics::{bits32, bits64, block_code, byte, index, mem_arg};
-use crate::entries::entries;
+use crate::basics::block_code;
+use crate::entries::{Indices, entries};
 use crate::fault::WriteFault;
+use crate::output::Output;
 use wasm_types::{BlockType, Instr, MAX_NESTING, Simple, opcode};
 
 // What stands behind an opcode.
-fn immediates(out: &mut Vec<u8>, instr: Simple) -> Result<(), WriteFault>
-    ensures { Puts result (immediates_to (immediates instr) out.old.items) out.new.items }
+fn immediates(out: &mut Output, instr: Simple)
+    ensures { Adds out.old out.new (immediates_to (immediates instr) out.old.bytes.items) }
 {
     match instr {
         Simple::Br(n)
@@ -24,15 +25,18 @@ fn immediates(out: &mut Vec<u8>, instr: Simple) -> Result<(), WriteFault>
         | Simple::LocalSet(n)
         | Simple::LocalTee(n)
         | Simple::GlobalGet(n)
-        | Simple::GlobalSet(n) => index(out, n),
+        | Simple::GlobalSet(n) => out.index(n),
         Simple::CallIndirect(n) => {
-            index(out, n)?;
-            byte(out, 0)
+            out.index(n);
+            out.byte(0);
         }
-        Simple::Load(_, arg) | Simple::Store(_, arg) => mem_arg(out, arg),
-        Simple::MemorySize | Simple::MemoryGrow => byte(out, 0),
-        Simple::I32Const(n) => bits32(out, n),
-        Simple::I64Const(n) => bits64(out, n),
+        Simple::Load(_, arg) | Simple::Store(_, arg) => {
+            out.index(arg.align);
+            out.index(arg.offset);
+        }
+        Simple::MemorySize | Simple::MemoryGrow => out.byte(0),
+        Simple::I32Const(n) => out.bits32(n),
+        Simple::I64Const(n) => out.bits64(n),
         Simple::Unreachable
         | Simple::Nop
         | Simple::Return
@@ -42,109 +46,82 @@ fn immediates(out: &mut Vec<u8>, instr: Simple) -> Result<(), WriteFault>
         | Simple::Compare(_, _)
         | Simple::Unary(_, _)
         | Simple::Binary(_, _)
-        | Simple::Convert(_) => Ok(()),
+        | Simple::Convert(_) => {}
     }
 }
 
-fn simple(out: &mut Vec<u8>, instr: Simple) -> Result<(), WriteFault>
-    ensures { Puts result (simple_to instr out.old.items) out.new.items }
+fn simple(out: &mut Output, instr: Simple)
+    ensures { Adds out.old out.new (simple_to instr out.old.bytes.items) }
 {
-    byte(out, opcode(instr))?;
-    immediates(out, instr)
+    out.byte(opcode(instr));
+    immediates(out, instr);
 }
 
-fn table(out: &mut Vec<u8>, labels: &[u32], last: u32) -> Result<(), WriteFault>
-    ensures { Puts result (table_to labels.now last out.old.items) out.new.items }
+fn table(out: &mut Output, labels: &[u32], last: u32)
+    ensures { Adds out.old out.new (table_to labels.now last out.old.bytes.items) }
 {
-    byte(out, 0x0e)?;
-    entries(out, labels)?;
-    index(out, last)
+    out.byte(0x0e);
+    entries::<Indices>(out, labels);
+    out.index(last);
 }
 
-// A block or a loop, by its opcode.
+// A block, a loop or a choice, by its opcode: only a choice has others.
 #[cycle(body)]
 fn block(
-    out: &mut Vec<u8>,
+    out: &mut Output,
     limit: u32,
     opcode: u8,
     kind: BlockType,
     inner: &[Instr],
-) -> Result<(), WriteFault>
-    ensures { Puts result (within_to limit
-        (λ e. opened_to opcode kind (instrs_to e (views inner.now))) out.old.items) out.new.items }
+    other: &[Instr],
+)
+    ensures { Adds out.old out.new
+        (within_to limit (λ e. opened_to opcode kind (λ o. and_then (instrs_to e (views inner.now) o)
+        (else_to (views other.now) (instrs_to e (views other.now))))) out.old.bytes.items) }
 {
     if limit == 0 {
-        return Err(WriteFault::TooLarge);
+        out.refuse(WriteFault::TooLarge);
+        return;
     }
-    byte(out, opcode)?;
-    byte(out, block_code(kind))?;
-    instrs(out, limit - 1, inner)?;
-    byte(out, 0x0b)
-}
-
-#[cycle(body)]
-fn otherwise(out: &mut Vec<u8>, limit: u32, other: &[Instr]) -> Result<(), WriteFault>
-    ensures { Puts result (else_to (views other.now) (instrs_to limit (views other.now))
-        out.old.items) out.new.items }
-{
+    out.byte(opcode);
+    out.byte(block_code(kind));
+    instrs(out, limit - 1, inner);
     match other {
-        [] => Ok(()),
+        [] => {}
         [_, ..] => {
-            byte(out, 0x05)?;
-            instrs(out, limit, other)
+            out.byte(0x05);
+            instrs(out, limit - 1, other);
         }
     }
+    out.byte(0x0b);
 }
 
 #[cycle(body)]
-fn choice(
-    out: &mut Vec<u8>,
-    limit: u32,
-    kind: BlockType,
-    then: &[Instr],
-    other: &[Instr],
-) -> Result<(), WriteFault>
-    ensures { Puts result
-        (within_to limit (λ e. opened_to 0x04 kind (λ o. and_then (instrs_to e (views then.now) o)
-        (else_to (views other.now) (instrs_to e (views other.now))))) out.old.items) out.new.items }
-{
-    if limit == 0 {
-        return Err(WriteFault::TooLarge);
-    }
-    byte(out, 0x04)?;
-    byte(out, block_code(kind))?;
-    instrs(out, limit - 1, then)?;
-    otherwise(out, limit - 1, other)?;
-    byte(out, 0x0b)
-}
-
-#[cycle(body)]
-fn instr(out: &mut Vec<u8>, limit: u32, instr: &Instr) -> Result<(), WriteFault>
-    ensures { Puts result (instr_to limit (view instr.now) out.old.items) out.new.items }
+fn instr(out: &mut Output, limit: u32, instr: &Instr)
+    ensures { Adds out.old out.new (instr_to limit (view instr.now) out.old.bytes.items) }
 {
     match instr {
         Instr::Plain(p) => simple(out, *p),
         Instr::BrTable(labels, last) => table(out, labels, *last),
-        Instr::Block(kind, inner) => block(out, limit, 0x02, *kind, inner),
-        Instr::Loop(kind, inner) => block(out, limit, 0x03, *kind, inner),
-        Instr::If(kind, then, other) => choice(out, limit, *kind, then, other),
+        Instr::Block(kind, inner) => block(out, limit, 0x02, *kind, inner, &[]),
+        Instr::Loop(kind, inner) => block(out, limit, 0x03, *kind, inner, &[]),
+        Instr::If(kind, then, other) => block(out, limit, 0x04, *kind, then, other),
     }
 }
 
 #[cycle(body)]
-fn instrs(out: &mut Vec<u8>, limit: u32, all: &[Instr]) -> Result<(), WriteFault>
-    ensures { Puts result (instrs_to limit (views all.now) out.old.items) out.new.items }
+fn instrs(out: &mut Output, limit: u32, all: &[Instr])
+    ensures { Adds out.old out.new (instrs_to limit (views all.now) out.old.bytes.items) }
 {
     for i in all {
-        instr(out, limit, i)?;
+        instr(out, limit, i);
     }
-    Ok(())
 }
 
 /// Instructions and their end.
-pub(crate) fn expr(out: &mut Vec<u8>, all: &[Instr]) -> Result<(), WriteFault>
-    ensures { Puts result (expr_to (views all.now) out.old.items) out.new.items }
+pub(crate) fn expr(out: &mut Output, all: &[Instr])
+    ensures { Adds out.old out.new (expr_to (views all.now) out.old.bytes.items) }
 {
-    instrs(out, MAX_NESTING, all)?;
-    byte(out, 0x0b)
+    instrs(out, MAX_NESTING, all);
+    out.byte(0x0b);
 }

@@ -1,44 +1,54 @@
 //! What sections hold one after the other.
 
 ghost use Rattle.std.specs.Prelude.{◌≡◌, map};
-ghost use Rattle.module_writer.specs.Writers.{Puts, vec_to};
+ghost use Rattle.module_writer.specs.Outputs.{Adds};
+ghost use Rattle.module_writer.specs.Writers.{vec_to};
 
-use crate::basics::{count, index, val_type};
-use crate::fault::WriteFault;
+use crate::basics::val_code;
+use crate::output::Output;
 use wasm_types::ValType;
 
-/// What a section, or another part of a module, holds one after the other.
-pub(crate) trait Entry {
+/// A kind of what a section, or another part of a module, holds one after the other.
+pub(crate) trait Kind {
     ghost use Rattle.std.specs.Prelude.{ℕ, List};
-    ghost use Rattle.module_writer.specs.Writers.{Puts, Written};
+    ghost use Rattle.module_writer.specs.Outputs.{Adds};
+    ghost use Rattle.module_writer.specs.Writers.{Written};
+
+    /// One of them.
+    type Entry;
 
     /// Its plain data.
     ghost Form: { Type 0 };
 
-    ghost form: { Self → Form };
+    ghost form: { Self.Entry → Form };
 
     /// How it is written behind bytes.
     ghost writes: { Form → List ℕ → Written };
 
     /// Writes one.
-    fn write(&self, out: &mut Vec<u8>) -> Result<(), WriteFault>
-        ensures { Puts result (writes (form self.now) out.old.items) out.new.items };
+    fn write(out: &mut Output, one: &Self::Entry)
+        ensures { Adds out.old out.new (writes (form one.now) out.old.bytes.items) };
 }
 
 /// Entries with their number before them.
-pub(crate) fn entries<T: Entry>(out: &mut Vec<u8>, all: &[T]) -> Result<(), WriteFault>
-    ensures { Puts result (vec_to T.writes (map T.form all.now) out.old.items) out.new.items }
+pub(crate) fn entries<K: Kind>(out: &mut Output, all: &[K::Entry])
+    ensures { Adds out.old out.new
+        (vec_to K.writes (map K.form all.now) out.old.bytes.items) }
 {
-    count(out, all.len())?;
+    out.count(all.len());
     for one in all {
-        one.write(out)?;
+        K::write(out, one);
     }
-    Ok(())
 }
 
-impl Entry for u32 {
+/// Integers.
+pub(crate) enum Indices {}
+
+impl Kind for Indices {
     ghost use Rattle.std.specs.Prelude.{ℕ};
     ghost use Rattle.module_writer.specs.Writers.{index_to};
+
+    type Entry = u32;
 
     ghost Form = { ℕ };
 
@@ -46,14 +56,19 @@ impl Entry for u32 {
 
     ghost writes = { index_to };
 
-    fn write(&self, out: &mut Vec<u8>) -> Result<(), WriteFault> {
-        index(out, *self)
+    fn write(out: &mut Output, one: &u32) {
+        out.index(*one);
     }
 }
 
-impl Entry for ValType {
+/// Types of values.
+pub(crate) enum ValTypes {}
+
+impl Kind for ValTypes {
     ghost use Rattle.wasm_types.specs.declared.types.ValType.{ValType};
     ghost use Rattle.module_writer.specs.Writing.{val_type_to};
+
+    type Entry = ValType;
 
     ghost Form = { ValType };
 
@@ -61,7 +76,7 @@ impl Entry for ValType {
 
     ghost writes = { val_type_to };
 
-    fn write(&self, out: &mut Vec<u8>) -> Result<(), WriteFault> {
-        val_type(out, *self)
+    fn write(out: &mut Output, one: &ValType) {
+        out.byte(val_code(*one));
     }
 }

@@ -1,25 +1,30 @@
 //! The parts of modules.
 
-ghost use Rattle.std.specs.Prelude.{◌≡◌, ◌≤◌, length, map, IfOk};
-ghost use Rattle.wasm_types.specs.Profile.{most_locals, most_pages};
-ghost use Rattle.wasm_types.specs.View.{view_func};
-ghost use Rattle.module_writer.specs.Writers.{Puts, vec_to};
-ghost use Rattle.module_writer.specs.Writing.{limits_by, limits_to, table_type_to, export_desc_to, runs_of, locals_to, code_parts_to, code_to, type_index_to};
+ghost use Rattle.std.specs.Prelude.{◌≡◌, ◌≤◌, length, IfOk};
+ghost use Rattle.wasm_types.specs.Profile.{most_locals};
+ghost use Rattle.module_writer.specs.Outputs.{Adds};
+ghost use Rattle.module_writer.specs.Writing.{limits_to, runs_of, locals_to};
 
-use crate::basics::{byte, count, counted, index, mut_code, name, result_type, val_type};
+use crate::basics::{mut_code, name, val_code};
 use crate::body::expr;
-use crate::entries::{Entry, entries};
+use crate::entries::{Indices, Kind, ValTypes, entries};
 use crate::fault::WriteFault;
+use crate::output::Output;
 use std::alloc::{self, AllocError};
 use wasm_types::{
     Data, Elem, Export, ExportDesc, Func, FuncType, Global, Import, Limits, MAX_ELEMENTS,
     MAX_LOCALS, MAX_PAGES, ValType,
 };
 
-impl Entry for FuncType {
+/// Function types.
+pub(crate) enum FuncTypes {}
+
+impl Kind for FuncTypes {
     ghost use Rattle.wasm_types.specs.Syntax.{Signature};
     ghost use Rattle.wasm_types.specs.View.{signature_of};
     ghost use Rattle.module_writer.specs.Writing.{func_type_to};
+
+    type Entry = FuncType;
 
     ghost Form = { Signature };
 
@@ -27,17 +32,28 @@ impl Entry for FuncType {
 
     ghost writes = { func_type_to };
 
-    fn write(&self, out: &mut Vec<u8>) -> Result<(), WriteFault> {
-        byte(out, 0x60)?;
-        entries(out, &self.params)?;
-        result_type(out, self.result)
+    fn write(out: &mut Output, one: &FuncType) {
+        out.byte(0x60);
+        entries::<ValTypes>(out, &one.params);
+        match one.result {
+            None => out.index(0),
+            Some(t) => {
+                out.index(1);
+                out.byte(val_code(t));
+            }
+        }
     }
 }
 
-impl Entry for Import {
+/// Imports.
+pub(crate) enum Imports {}
+
+impl Kind for Imports {
     ghost use Rattle.wasm_types.specs.Syntax.{ImportForm};
     ghost use Rattle.wasm_types.specs.View.{view_import};
     ghost use Rattle.module_writer.specs.Writing.{import_to};
+
+    type Entry = Import;
 
     ghost Form = { ImportForm };
 
@@ -45,85 +61,107 @@ impl Entry for Import {
 
     ghost writes = { import_to };
 
-    fn write(&self, out: &mut Vec<u8>) -> Result<(), WriteFault> {
-        name(out, &self.module)?;
-        name(out, &self.name)?;
-        byte(out, 0x00)?;
-        index(out, self.ty)
+    fn write(out: &mut Output, one: &Import) {
+        name(out, &one.module);
+        name(out, &one.name);
+        out.byte(0x00);
+        out.index(one.ty);
     }
 }
 
-/// The contents of a function section.
-pub(crate) fn type_indices(out: &mut Vec<u8>, all: &[Func]) -> Result<(), WriteFault>
-    ensures { Puts result (vec_to type_index_to (map view_func all.now) out.old.items)
-        out.new.items }
-{
-    count(out, all.len())?;
-    for f in all {
-        index(out, f.ty)?;
-    }
-    Ok(())
-}
+/// Functions, of which a function section has the types.
+pub(crate) enum TypeIndices {}
 
-fn limits_by(out: &mut Vec<u8>, min: u32, max: Option<u32>) -> Result<(), WriteFault>
-    ensures { Puts result (limits_by min max out.old.items) out.new.items }
-{
-    match max {
-        None => {
-            byte(out, 0x00)?;
-            index(out, min)
-        }
-        Some(max) => {
-            byte(out, 0x01)?;
-            index(out, min)?;
-            index(out, max)
-        }
+impl Kind for TypeIndices {
+    ghost use Rattle.wasm_types.specs.Syntax.{FuncForm};
+    ghost use Rattle.wasm_types.specs.View.{view_func};
+    ghost use Rattle.module_writer.specs.Writing.{type_index_to};
+
+    type Entry = Func;
+
+    ghost Form = { FuncForm };
+
+    ghost form = { view_func };
+
+    ghost writes = { type_index_to };
+
+    fn write(out: &mut Output, one: &Func) {
+        out.index(one.ty);
     }
 }
 
-fn limits(out: &mut Vec<u8>, most: u32, l: Limits) -> Result<(), WriteFault>
-    ensures { Puts result (limits_to most l out.old.items) out.new.items }
+// Limits, of which the first is itself limited.
+fn limits(out: &mut Output, most: u32, l: Limits)
+    ensures { Adds out.old out.new (limits_to most l out.old.bytes.items) }
 {
     if l.min > most {
-        return Err(WriteFault::TooLarge);
+        out.refuse(WriteFault::TooLarge);
+        return;
     }
-    limits_by(out, l.min, l.max)
-}
-
-/// The type of a table, whose size at first is limited.
-fn table_type(out: &mut Vec<u8>, l: Limits) -> Result<(), WriteFault>
-    ensures { Puts result (table_type_to l out.old.items) out.new.items }
-{
-    byte(out, 0x70)?;
-    limits(out, MAX_ELEMENTS, l)
-}
-
-/// The contents of a table section.
-pub(crate) fn tables(out: &mut Vec<u8>, all: &[Limits]) -> Result<(), WriteFault>
-    ensures { Puts result (vec_to table_type_to all.now out.old.items) out.new.items }
-{
-    count(out, all.len())?;
-    for l in all {
-        table_type(out, *l)?;
+    match l.max {
+        None => {
+            out.byte(0x00);
+            out.index(l.min);
+        }
+        Some(max) => {
+            out.byte(0x01);
+            out.index(l.min);
+            out.index(max);
+        }
     }
-    Ok(())
 }
 
-/// The contents of a memory section, whose size at first is limited.
-pub(crate) fn memories(out: &mut Vec<u8>, all: &[Limits]) -> Result<(), WriteFault>
-    ensures { Puts result (vec_to (limits_to most_pages) all.now out.old.items) out.new.items }
-{
-    count(out, all.len())?;
-    for l in all {
-        limits(out, MAX_PAGES, *l)?;
+/// Tables, whose sizes at first are limited.
+pub(crate) enum Tables {}
+
+impl Kind for Tables {
+    ghost use Rattle.wasm_types.specs.declared.types.Limits.{Limits};
+    ghost use Rattle.module_writer.specs.Writing.{table_type_to};
+
+    type Entry = Limits;
+
+    ghost Form = { Limits };
+
+    ghost form = { λ l. l };
+
+    ghost writes = { table_type_to };
+
+    fn write(out: &mut Output, one: &Limits) {
+        out.byte(0x70);
+        limits(out, MAX_ELEMENTS, *one);
     }
-    Ok(())
 }
 
-impl Entry for Global {
+/// Memories, whose sizes at first are limited.
+pub(crate) enum Memories {}
+
+impl Kind for Memories {
+    ghost use Rattle.wasm_types.specs.declared.types.Limits.{Limits};
+    ghost use Rattle.wasm_types.specs.Profile.{most_pages};
+    ghost use Rattle.module_writer.specs.Writing.{limits_to};
+
+    type Entry = Limits;
+
+    ghost Form = { Limits };
+
+    ghost form = { λ l. l };
+
+    ghost writes = { limits_to most_pages };
+
+    fn write(out: &mut Output, one: &Limits) {
+        limits(out, MAX_PAGES, *one);
+    }
+}
+
+/// Globals.
+pub(crate) enum Globals {}
+
+impl Kind for Globals {
     ghost use Rattle.wasm_types.specs.Syntax.{GlobalForm};
     ghost use Rattle.wasm_types.specs.View.{view_global};
     ghost use Rattle.module_writer.specs.Writing.{global_to};
+
+    type Entry = Global;
 
     ghost Form = { GlobalForm };
 
@@ -131,30 +169,22 @@ impl Entry for Global {
 
     ghost writes = { global_to };
 
-    fn write(&self, out: &mut Vec<u8>) -> Result<(), WriteFault> {
-        val_type(out, self.ty.value)?;
-        byte(out, mut_code(self.ty.mutable))?;
-        expr(out, &self.init)
+    fn write(out: &mut Output, one: &Global) {
+        out.byte(val_code(one.ty.value));
+        out.byte(mut_code(one.ty.mutable));
+        expr(out, &one.init);
     }
 }
 
-fn export_desc(out: &mut Vec<u8>, desc: ExportDesc) -> Result<(), WriteFault>
-    ensures { Puts result (export_desc_to desc out.old.items) out.new.items }
-{
-    let (code, n) = match desc {
-        ExportDesc::Func(n) => (0x00, n),
-        ExportDesc::Table(n) => (0x01, n),
-        ExportDesc::Memory(n) => (0x02, n),
-        ExportDesc::Global(n) => (0x03, n),
-    };
-    byte(out, code)?;
-    index(out, n)
-}
+/// Exports.
+pub(crate) enum Exports {}
 
-impl Entry for Export {
+impl Kind for Exports {
     ghost use Rattle.wasm_types.specs.Syntax.{ExportForm};
     ghost use Rattle.wasm_types.specs.View.{view_export};
     ghost use Rattle.module_writer.specs.Writing.{export_to};
+
+    type Entry = Export;
 
     ghost Form = { ExportForm };
 
@@ -162,16 +192,28 @@ impl Entry for Export {
 
     ghost writes = { export_to };
 
-    fn write(&self, out: &mut Vec<u8>) -> Result<(), WriteFault> {
-        name(out, &self.name)?;
-        export_desc(out, self.desc)
+    fn write(out: &mut Output, one: &Export) {
+        let (code, n) = match one.desc {
+            ExportDesc::Func(n) => (0x00, n),
+            ExportDesc::Table(n) => (0x01, n),
+            ExportDesc::Memory(n) => (0x02, n),
+            ExportDesc::Global(n) => (0x03, n),
+        };
+        name(out, &one.name);
+        out.byte(code);
+        out.index(n);
     }
 }
 
-impl Entry for Elem {
+/// Element segments.
+pub(crate) enum Elems {}
+
+impl Kind for Elems {
     ghost use Rattle.wasm_types.specs.Syntax.{ElemForm};
     ghost use Rattle.wasm_types.specs.View.{view_elem};
     ghost use Rattle.module_writer.specs.Writing.{elem_to};
+
+    type Entry = Elem;
 
     ghost Form = { ElemForm };
 
@@ -179,17 +221,22 @@ impl Entry for Elem {
 
     ghost writes = { elem_to };
 
-    fn write(&self, out: &mut Vec<u8>) -> Result<(), WriteFault> {
-        index(out, self.table)?;
-        expr(out, &self.offset)?;
-        entries(out, &self.init)
+    fn write(out: &mut Output, one: &Elem) {
+        out.index(one.table);
+        expr(out, &one.offset);
+        entries::<Indices>(out, &one.init);
     }
 }
 
-impl Entry for Data {
+/// Data segments.
+pub(crate) enum DataSegments {}
+
+impl Kind for DataSegments {
     ghost use Rattle.wasm_types.specs.Syntax.{DataForm};
     ghost use Rattle.wasm_types.specs.View.{view_data};
     ghost use Rattle.module_writer.specs.Writing.{data_to};
+
+    type Entry = Data;
 
     ghost Form = { DataForm };
 
@@ -197,10 +244,10 @@ impl Entry for Data {
 
     ghost writes = { data_to };
 
-    fn write(&self, out: &mut Vec<u8>) -> Result<(), WriteFault> {
-        index(out, self.memory)?;
-        expr(out, &self.offset)?;
-        counted(out, &self.init)
+    fn write(out: &mut Output, one: &Data) {
+        out.index(one.memory);
+        expr(out, &one.offset);
+        out.counted(&one.init);
     }
 }
 
@@ -230,12 +277,16 @@ fn runs(alloc: alloc::Global, locals: &[ValType]) -> Result<Vec<(u32, ValType)>,
     Ok(all)
 }
 
-// A run: how many, and of which type.
-impl Entry for (u32, ValType) {
+// Runs: how many, and of which type.
+enum LocalRuns {}
+
+impl Kind for LocalRuns {
     ghost use Rattle.std.specs.Prelude.{ℕ};
     ghost use Rattle.wasm_types.specs.declared.types.ValType.{ValType};
     ghost use Rattle.module_writer.specs.Writers.{both_to, index_to};
     ghost use Rattle.module_writer.specs.Writing.{val_type_to};
+
+    type Entry = (u32, ValType);
 
     ghost Form = { ℕ × ValType };
 
@@ -243,45 +294,49 @@ impl Entry for (u32, ValType) {
 
     ghost writes = { both_to index_to val_type_to };
 
-    fn write(&self, out: &mut Vec<u8>) -> Result<(), WriteFault> {
-        index(out, self.0)?;
-        val_type(out, self.1)
+    fn write(out: &mut Output, one: &(u32, ValType)) {
+        out.index(one.0);
+        out.byte(val_code(one.1));
     }
 }
 
-fn locals(alloc: alloc::Global, out: &mut Vec<u8>, all: &[ValType]) -> Result<(), WriteFault>
-    ensures { Puts result (locals_to all.now out.old.items) out.new.items }
+fn locals(out: &mut Output, all: &[ValType])
+    ensures { Adds out.old out.new (locals_to all.now out.old.bytes.items) }
 {
     if all.len() > MAX_LOCALS as usize {
-        return Err(WriteFault::TooLarge);
+        out.refuse(WriteFault::TooLarge);
+        return;
     }
-    let runs = runs(alloc, all)?;
-    entries(out, &runs)
-}
-
-fn code_parts(alloc: alloc::Global, out: &mut Vec<u8>, f: &Func) -> Result<(), WriteFault>
-    ensures { Puts result (code_parts_to (view_func f.now) out.old.items) out.new.items }
-{
-    locals(alloc, out, &f.locals)?;
-    expr(out, &f.body)
-}
-
-// The code of a function: it is written on its own first, since its size stands before it.
-fn code(alloc: alloc::Global, out: &mut Vec<u8>, f: &Func) -> Result<(), WriteFault>
-    ensures { Puts result (code_to (view_func f.now) out.old.items) out.new.items }
-{
-    let mut body = Vec::new(alloc);
-    code_parts(alloc, &mut body, f)?;
-    counted(out, &body)
-}
-
-/// The contents of a code section.
-pub(crate) fn codes(alloc: alloc::Global, out: &mut Vec<u8>, all: &[Func]) -> Result<(), WriteFault>
-    ensures { Puts result (vec_to code_to (map view_func all.now) out.old.items) out.new.items }
-{
-    count(out, all.len())?;
-    for f in all {
-        code(alloc, out, f)?;
+    match runs(out.alloc(), all) {
+        Ok(runs) => entries::<LocalRuns>(out, &runs),
+        Err(_) => out.refuse(WriteFault::NoMemory),
     }
-    Ok(())
+}
+
+/// Functions, of which a code section has the code.
+pub(crate) enum Codes {}
+
+impl Kind for Codes {
+    ghost use Rattle.wasm_types.specs.Syntax.{FuncForm};
+    ghost use Rattle.wasm_types.specs.View.{view_func};
+    ghost use Rattle.module_writer.specs.Writing.{code_to};
+
+    type Entry = Func;
+
+    ghost Form = { FuncForm };
+
+    ghost form = { view_func };
+
+    ghost writes = { code_to };
+
+    // It is written on its own first, since its size stands before it.
+    fn write(out: &mut Output, one: &Func) {
+        let mut code = Output::new(out.alloc());
+        locals(&mut code, &one.locals);
+        expr(&mut code, &one.body);
+        match code.all() {
+            Ok(bytes) => out.counted(&bytes),
+            Err(fault) => out.refuse(fault),
+        }
+    }
 }

@@ -6,6 +6,7 @@ mod body;
 mod entries;
 mod entry_kinds;
 mod fault;
+mod output;
 mod sections;
 
 pub use fault::WriteFault;

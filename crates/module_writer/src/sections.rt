@@ -1,140 +1,79 @@
 //! Sections and modules.
 
-ghost use Rattle.std.specs.Prelude.{◌≡◌, ◌≤◌, List, ℕ, length, map, Some, IfOk, IfErr};
-ghost use Rattle.wasm_types.specs.declared.module.SectionId.TheVariants as section;
-ghost use Rattle.wasm_types.specs.View.{view_func, view_module};
+ghost use Rattle.std.specs.Prelude.{◌≡◌, ◌≤◌, List, ℕ, length, map, IfOk, IfErr};
+ghost use Rattle.wasm_types.specs.View.{view_module};
 ghost use Rattle.wasm_types.specs.ModuleGrammar.{IsModule};
-ghost use Rattle.wasm_types.specs.Profile.{most_pages};
 ghost use Rattle.module_writer.specs.declared.fault.WriteFault.TheVariants.{TooLarge};
-ghost use Rattle.module_writer.specs.Writers.{Puts, Gives};
-ghost use Rattle.module_writer.specs.Writing.{type_index_to, table_type_to, limits_to, code_to, section_to, vec_section_to, start_to, from_types_to, module_to};
+ghost use Rattle.module_writer.specs.Outputs.{Adds};
+ghost use Rattle.module_writer.specs.Writers.{Written};
+ghost use Rattle.module_writer.specs.Writing.{section_to, vec_section_to, start_to, from_types_to};
 
-use crate::basics::{byte, counted, index};
-use crate::entries::{Entry, entries};
-use crate::entry_kinds::{codes, memories, tables, type_indices};
+use crate::entries::{Kind, entries};
+use crate::entry_kinds::{
+    Codes, DataSegments, Elems, Exports, FuncTypes, Globals, Imports, Memories, Tables, TypeIndices,
+};
 use crate::fault::WriteFault;
+use crate::output::Output;
 use std::alloc;
-use wasm_types::{Func, Limits, MAX_MODULE_BYTES, Module, SectionId};
+use wasm_types::{Module, SectionId};
 
 /// "\0asm" and version 1.
 const HEADER: [u8; 8] = [0x00, 0x61, 0x73, 0x6d, 0x01, 0x00, 0x00, 0x00];
 
 // A section with these contents: they were written on their own, since their size stands before them.
-fn section(out: &mut Vec<u8>, id: SectionId, contents: &[u8]) -> Result<(), WriteFault>
-    ensures { Puts result (section_to id (Some contents.now) out.old.items) out.new.items }
+fn section(out: &mut Output, id: SectionId, contents: Output)
+    ensures { (empty : Output) (all : Written) → empty.refused ≡ None → Adds empty contents all
+        → Adds out.old out.new (section_to id all out.old.bytes.items) }
 {
-    byte(out, id.number())?;
-    counted(out, contents)
+    match contents.all() {
+        Ok(bytes) => {
+            out.byte(id.number());
+            out.counted(&bytes);
+        }
+        Err(fault) => out.refuse(fault),
+    }
 }
 
 // A section of entries, if there are any.
-fn entry_section<T: Entry>(
-    alloc: alloc::Global,
-    out: &mut Vec<u8>,
-    id: SectionId,
-    all: &[T],
-) -> Result<(), WriteFault>
-    ensures { Puts result (vec_section_to id T.writes (map T.form all.now) out.old.items)
-        out.new.items }
+fn entry_section<K: Kind>(out: &mut Output, id: SectionId, all: &[K::Entry])
+    ensures { Adds out.old out.new
+        (vec_section_to id K.writes (map K.form all.now) out.old.bytes.items) }
 {
     match all {
-        [] => Ok(()),
+        [] => {}
         [_, ..] => {
-            let mut contents = Vec::new(alloc);
-            entries(&mut contents, all)?;
-            section(out, id, &contents)
+            let mut contents = Output::new(out.alloc());
+            entries::<K>(&mut contents, all);
+            section(out, id, contents);
         }
     }
 }
 
-fn function_section(alloc: alloc::Global, out: &mut Vec<u8>, all: &[Func]) -> Result<(), WriteFault>
-    ensures { Puts result (vec_section_to section.Function type_index_to (map view_func all.now)
-        out.old.items) out.new.items }
+fn start_section(out: &mut Output, start: Option<u32>)
+    ensures { Adds out.old out.new (start_to start out.old.bytes.items) }
 {
-    match all {
-        [] => Ok(()),
-        [_, ..] => {
-            let mut contents = Vec::new(alloc);
-            type_indices(&mut contents, all)?;
-            section(out, SectionId::Function, &contents)
-        }
-    }
-}
-
-fn table_section(alloc: alloc::Global, out: &mut Vec<u8>, all: &[Limits]) -> Result<(), WriteFault>
-    ensures { Puts result
-        (vec_section_to section.Table table_type_to all.now out.old.items) out.new.items }
-{
-    match all {
-        [] => Ok(()),
-        [_, ..] => {
-            let mut contents = Vec::new(alloc);
-            tables(&mut contents, all)?;
-            section(out, SectionId::Table, &contents)
-        }
-    }
-}
-
-fn memory_section(alloc: alloc::Global, out: &mut Vec<u8>, all: &[Limits]) -> Result<(), WriteFault>
-    ensures { Puts result
-        (vec_section_to section.Memory (limits_to most_pages) all.now out.old.items) out.new.items }
-{
-    match all {
-        [] => Ok(()),
-        [_, ..] => {
-            let mut contents = Vec::new(alloc);
-            memories(&mut contents, all)?;
-            section(out, SectionId::Memory, &contents)
-        }
-    }
-}
-
-fn start_section(
-    alloc: alloc::Global,
-    out: &mut Vec<u8>,
-    start: Option<u32>,
-) -> Result<(), WriteFault>
-    ensures { Puts result (start_to start out.old.items) out.new.items }
-{
-    match start {
-        None => Ok(()),
-        Some(n) => {
-            let mut contents = Vec::new(alloc);
-            index(&mut contents, n)?;
-            section(out, SectionId::Start, &contents)
-        }
-    }
-}
-
-fn code_section(alloc: alloc::Global, out: &mut Vec<u8>, all: &[Func]) -> Result<(), WriteFault>
-    ensures { Puts result
-        (vec_section_to section.Code code_to (map view_func all.now) out.old.items) out.new.items }
-{
-    match all {
-        [] => Ok(()),
-        [_, ..] => {
-            let mut contents = Vec::new(alloc);
-            codes(alloc, &mut contents, all)?;
-            section(out, SectionId::Code, &contents)
-        }
+    if let Some(n) = start {
+        let mut contents = Output::new(out.alloc());
+        contents.index(n);
+        section(out, SectionId::Start, contents);
     }
 }
 
 // All sections that have something to tell.
-fn sections(alloc: alloc::Global, out: &mut Vec<u8>, m: &Module) -> Result<(), WriteFault>
-    ensures { Puts result (from_types_to (view_module m.now) out.old.items) out.new.items }
+fn sections(out: &mut Output, m: &Module)
+    ensures { Adds out.old out.new (from_types_to (view_module m.now) out.old.bytes.items) }
 {
-    entry_section(alloc, out, SectionId::Type, &m.types)?;
-    entry_section(alloc, out, SectionId::Import, &m.imports)?;
-    function_section(alloc, out, &m.funcs)?;
-    table_section(alloc, out, &m.tables)?;
-    memory_section(alloc, out, &m.memories)?;
-    entry_section(alloc, out, SectionId::Global, &m.globals)?;
-    entry_section(alloc, out, SectionId::Export, &m.exports)?;
-    start_section(alloc, out, m.start)?;
-    entry_section(alloc, out, SectionId::Element, &m.elems)?;
-    code_section(alloc, out, &m.funcs)?;
-    entry_section(alloc, out, SectionId::Data, &m.data)
+    entry_section::<FuncTypes>(out, SectionId::Type, &m.types);
+    entry_section::<Imports>(out, SectionId::Import, &m.imports);
+    entry_section::<TypeIndices>(out, SectionId::Function, &m.funcs);
+    entry_section::<Tables>(out, SectionId::Table, &m.tables);
+    entry_section::<Memories>(out, SectionId::Memory, &m.memories);
+    entry_section::<Globals>(out, SectionId::Global, &m.globals);
+    entry_section::<Exports>(out, SectionId::Export, &m.exports);
+    start_section(out, m.start);
+    entry_section::<Elems>(out, SectionId::Element, &m.elems);
+    entry_section::<Codes>(out, SectionId::Code, &m.funcs);
+    entry_section::<DataSegments>(out, SectionId::Data, &m.data);
 }
 
 /// The bytes of a module (Core 1.0, section 5.5): the fewest that are its, without custom sections.
@@ -148,16 +87,9 @@ pub fn write(alloc: alloc::Global, m: &Module) -> Result<Vec<u8>, WriteFault>
     ensures refused { IfErr result
         (λ e. e ≡ TooLarge → (bytes : List ℕ) → IsModule bytes (view_module m.now) → ⊥) }
 {
-    write_module(alloc, m)
-}
-
-fn write_module(alloc: alloc::Global, m: &Module) -> Result<Vec<u8>, WriteFault>
-    ensures { Gives result (module_to (view_module m.now)) }
-{
-    let mut out = Vec::from_slice(alloc, &HEADER)?;
-    sections(alloc, &mut out, m)?;
-    if out.len() > MAX_MODULE_BYTES {
-        return Err(WriteFault::TooLarge);
-    }
-    Ok(out)
+    let mut out = Output::new(alloc);
+    out.bytes(&HEADER);
+    sections(&mut out, m);
+    out.limit();
+    out.all()
 }

@@ -14,26 +14,26 @@ use Rattle.lower_modules.proofs.calls.+calls.Goals as goal
 
 pub note_calls_by-returns-in-BrTable : goal.note_calls_by-returns-in-BrTable
 note_calls_by-returns-in-BrTable t c =
-    sym (noted_none c.args.called.now.items) ∙ ap (λ (x : Instr). noted (λ i. calls_by i (view x)) c.args.called.now.items) (sym c.in-BrTable.is)
+    sym (noted_none c.args.called.now) ∙ ap (λ (x : Instr). noted (λ i. calls_by i (view x)) c.args.called.now) (sym c.in-BrTable.is)
 
 pub note_calls_by-returns-in-Block : goal.note_calls_by-returns-in-Block
 note_calls_by-returns-in-Block t c =
-    let bs = c.args.called.now.items in
+    let bs = c.args.called.now in
     let within = c.deref-in-Block.ensures.value ∙ ap (λ (v : Vec Instr Global). v.items) c.deref.ensures in
     c.note_calls_in.ensures ∙ ap (λ (is : List Instr). noted (λ i. calls_in i (views is)) bs) within
     ∙ sym (ap (λ (x : Instruction). noted (λ i. calls_by i x) bs) (ap view c.in-Block.is ∙ view_block c.in-Block.field-0 c.in-Block.inner))
 
 pub note_calls_by-returns-in-Loop : goal.note_calls_by-returns-in-Loop
 note_calls_by-returns-in-Loop t c =
-    let bs = c.args.called.now.items in
+    let bs = c.args.called.now in
     let within = c.deref-in-Loop-2.ensures.value ∙ ap (λ (v : Vec Instr Global). v.items) c.deref-in-Loop.ensures in
     c.note_calls_in-in-Loop.ensures ∙ ap (λ (is : List Instr). noted (λ i. calls_in i (views is)) bs) within
     ∙ sym (ap (λ (x : Instruction). noted (λ i. calls_by i x) bs) (ap view c.in-Loop.is ∙ view_loop c.in-Loop.field-0 c.in-Loop.inner))
 
 pub note_calls_by-returns-in-If : goal.note_calls_by-returns-in-If
 note_calls_by-returns-in-If t c =
-    let bs = c.args.called.now.items in
-    let between = c.note_calls_in-in-If.new.called.items in
+    let bs = c.args.called.now in
+    let between = c.note_calls_in-in-If.new.called in
     let f : ℕ → Bool = λ i. calls_in i (views c.in-If.inner.value.items) in
     let g : ℕ → Bool = λ i. calls_in i (views c.in-If.other.value.items) in
     let within = c.deref-in-If-2.ensures.value ∙ ap (λ (v : Vec Instr Global). v.items) c.deref-in-If.ensures in
@@ -47,7 +47,7 @@ pub note_calls_in-loop-instr-preserved : goal.note_calls_in-loop-instr-preserved
 note_calls_in-loop-instr-preserved t c =
     let code = c.args.code.now in
     let at = c.loop-instr.instr-index in
-    let bs = c.loop-instr.called.items in
+    let bs = c.loop-instr.called in
     let f : ℕ → Bool = λ i. calls_by i (view c.instr-item.result) in
     let g : ℕ → Bool = λ i. calls_in i (views (drop (at + 1) code)) in
     ap (noted g) c.note_calls_by.ensures ∙ noted_both f g bs
@@ -56,7 +56,7 @@ note_calls_in-loop-instr-preserved t c =
 
 pub note_calls_in-returns : goal.note_calls_in-returns
 note_calls_in-returns t c =
-    let bs = c.loop-instr.called.items in
+    let bs = c.loop-instr.called in
     sym (noted_none bs)
     ∙ sym (at_drop_all (λ (is : List Instr). noted (λ i. calls_in i (views is)) bs) c.args.code.now c.loop-instr.instr-index c.loop-instr-test.false)
     ∙ c.loop-instr.invariant

@@ -5,4 +5,4 @@ use Rattle.lower_modules.specs.Calls.{noted}
 use Rattle.lower_modules.proofs.calls.+calls.Given as goal
 
 abbrev pub invariant-note_calls_in-loop-instr : goal.invariant-note_calls_in-loop-instr
-invariant-note_calls_in-loop-instr l = noted (λ i. calls_in i (views (drop l.instr-index l.code))) l.called.items ≡ noted (λ i. calls_in i (views l.code)) l.initial.called.items
+invariant-note_calls_in-loop-instr l = noted (λ i. calls_in i (views (drop l.instr-index l.code))) l.called ≡ noted (λ i. calls_in i (views l.code)) l.initial.called

@@ -1,4 +1,4 @@
-use Rattle.std.proofs.Common.{◌+◌, List, drop, sym, ap, ◌∙◌}
+use Rattle.std.proofs.Common.{◌≡◌, ◌+◌, List, [], ◌∷◌, ◌++◌, drop, sym, ap, ◌∙◌}
 use Rattle.std.proofs.lemmas.List.{at_drop_all}
 use Rattle.std.specs.declared.vec.Vec.{Vec}
 use Rattle.std.specs.declared.alloc.Global.{Global}
@@ -9,27 +9,32 @@ use Rattle.wasm_types.specs.Syntax.{Instruction, Instructions, Then}
 use Rattle.wasm_types.specs.View.{view, views}
 use Rattle.wasm_types.proofs.Views.{followed_by, view_block, view_loop, view_if}
 use Rattle.lower_model.specs.Modules.{renumbered, renumbered_one}
+use Rattle.lower_modules.proofs.Growing.{taken}
 use Rattle.lower_modules.proofs.Pieces.{followed_end, followed_more}
 use Rattle.lower_modules.proofs.calls.+renumbering.Goals as goal
 
-pub renumbered_all-loop-instr-preserved : goal.renumbered_all-loop-instr-preserved
-renumbered_all-loop-instr-preserved t c =
+pub renumbered-loop-instr-preserved : goal.renumbered-loop-instr-preserved
+renumbered-loop-instr-preserved t c =
     let bs = c.args.called.now in
     let i = c.loop-instr.instr-index in
-    let before = views c.loop-instr.out.items in
+    let old = c.loop-instr.out.items.items in
     let rest = renumbered bs (views (drop (i + 1) c.args.code.now)) in
-    ap (λ (is : List Instr). followed_by (views is) rest) c.in_ok-put.ensures
-    ∙ followed_more c.loop-instr.out.items c.in_ok-renumbered_one.field-0 rest
-    ∙ ap (λ (a : Instruction). followed_by before (Then a rest)) c.in_ok-renumbered_one.ensures
-    ∙ sym (ap (λ (is : List Instr). followed_by before (renumbered bs (views is))) (drop_at c.args.code.now i c.instr-item.result c.loop-instr-test.true c.instr-item.is))
-    ∙ c.loop-instr.invariant
+    λ fine.
+    let p = c.put.ensures fine in
+    let x = taken (λ made. c.put.new.self.items.items ≡ old ++ made ∷ []) (λ made. view made ≡ renumbered_one bs (view c.instr-item.result)) c.renumbered_one.result p.1 c.renumbered_one.ensures in
+    ap (λ (is : List Instr). followed_by (views is) rest) x.1
+    ∙ followed_more old x.0 rest
+    ∙ ap (λ (a : Instruction). followed_by (views old) (Then a rest)) x.2
+    ∙ sym (ap (λ (is : List Instr). followed_by (views old) (renumbered bs (views is))) (drop_at c.args.code.now i c.instr-item.result c.loop-instr-test.true c.instr-item.is))
+    ∙ c.loop-instr.invariant p.0
 
-pub renumbered_all-returns : goal.renumbered_all-returns
-renumbered_all-returns t c =
-    let out = c.loop-instr.out.items in
-    sym (followed_end out)
-    ∙ sym (at_drop_all (λ (is : List Instr). followed_by (views out) (renumbered c.args.called.now (views is))) c.args.code.now c.loop-instr.instr-index c.loop-instr-test.false)
-    ∙ c.loop-instr.invariant
+pub renumbered-returns : goal.renumbered-returns
+renumbered-returns t c =
+    let old = c.loop-instr.out.items.items in
+    let is = c.in_ok-out.ensures in
+    ap (λ (v : Vec Instr Global). views v.items) c.in_ok-new.ensures.ok ∙ ap views is.1 ∙ sym (followed_end old)
+    ∙ sym (at_drop_all (λ (is : List Instr). followed_by (views old) (renumbered c.args.called.now (views is))) c.args.code.now c.loop-instr.instr-index c.loop-instr-test.false)
+    ∙ c.loop-instr.invariant is.0
 
 pub renumbered_one-returns-in_ok-renumbered-in-Block : goal.renumbered_one-returns-in_ok-renumbered-in-Block
 renumbered_one-returns-in_ok-renumbered-in-Block t c =

@@ -14,7 +14,7 @@ pub loop-function-preserved : goal.loop-function-preserved
 loop-function-preserved c =
     let fs = c.args.functions.now in
     let at = c.loop-function.function-index in
-    let bs = c.loop-function.called.items in
+    let bs = c.loop-function.called in
     let f : ℕ → Bool = λ i. calls_in i (views c.function-item.result.body.items) in
     let g : ℕ → Bool = λ i. any_calls i (view_functions (drop (at + 1) fs)) in
     ap (noted g) (c.note_calls_in.ensures ∙ ap (λ (is : List Instr). noted (λ i. calls_in i (views is)) bs) c.deref.ensures.value) ∙ noted_both f g bs
@@ -23,7 +23,7 @@ loop-function-preserved c =
 
 pub returns : goal.returns
 returns c =
-    let bs = c.loop-function.called.items in
+    let bs = c.loop-function.called in
     sym (noted_none bs)
     ∙ sym (at_drop_all (λ (xs : List Function). noted (λ i. any_calls i (view_functions xs)) bs) c.args.functions.now c.loop-function.function-index c.loop-function-test.false)
     ∙ c.loop-function.invariant

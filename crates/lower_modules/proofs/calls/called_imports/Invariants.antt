@@ -6,4 +6,4 @@ use Rattle.lower_modules.specs.View.{view_functions}
 use Rattle.lower_modules.proofs.calls.called_imports.Given as goal
 
 abbrev pub invariant-loop-function : goal.invariant-loop-function
-invariant-loop-function l = noted (λ i. any_calls i (view_functions (drop l.function-index l.functions))) l.called.items ≡ called_from 0 imports (view_functions l.functions)
+invariant-loop-function l = noted (λ i. any_calls i (view_functions (drop l.function-index l.functions))) l.called ≡ called_from 0 imports (view_functions l.functions)

@@ -1,4 +1,4 @@
-use Rattle.std.proofs.Common.{◌≡◌, [], ◌∷◌, length, ap, ◌∙◌, rules, List}
+use Rattle.std.proofs.Common.{◌≡◌, [], ◌∷◌, length, ap, ◌∙◌, rules}
 use Rattle.std.specs.Vec.{vec_len}
 use Rattle.wasm_types.specs.declared.types.Limits.{Limits}
 use Rattle.lower_model.specs.Modules.{memory_for}

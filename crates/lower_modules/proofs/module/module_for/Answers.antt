@@ -3,13 +3,9 @@ use Rattle.std.proofs.lemmas.List.{length-map}
 use Rattle.std.specs.Vec.{vec_len}
 use Rattle.mid_program.specs.View.{view_mid, view_routine}
 use Rattle.wasm_types.specs.View.{view_elem}
-use Rattle.wasm_types.specs.Syntax.{DataForm, ExportForm}
-use Rattle.wasm_types.specs.declared.types.Limits.{Limits}
-use Rattle.lower_model.specs.Functions.{texts_of}
 use Rattle.host_imports.specs.Imports.{imports, import_type}
 use Rattle.lower_model.specs.Machine.{Callee}
 use Rattle.lower_model.specs.Modules.{called_from, callee_type, chosen, functions_from, imported_from, memory_for}
-use Rattle.lower_model.specs.Places.{memory_of}
 use Rattle.lower_modules.specs.Lengths.{least_among}
 use Rattle.lower_modules.specs.Limits.{most_bytes}
 use Rattle.lower_modules.specs.Parts.{main_form, text_form}

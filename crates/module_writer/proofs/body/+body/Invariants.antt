@@ -1,22 +1,18 @@
-use Rattle.std.proofs.Common.{◌≡◌, ◌+◌, ◌*◌, drop}
+use Rattle.std.proofs.Common.{◌+◌, ◌*◌, drop}
 use Rattle.wasm_types.specs.View.{views}
+use Rattle.module_writer.specs.declared.output.Output.{Output}
+use Rattle.module_writer.specs.Outputs.{Adds}
 use Rattle.module_writer.specs.Writing.{instrs_to}
 use Rattle.module_writer.proofs.body.+body.Given as goal
 
 abbrev pub decreases-block : goal.decreases-block
-decreases-block l = 4 * l.limit
-
-abbrev pub decreases-choice : goal.decreases-choice
-decreases-choice l = 4 * l.limit
+decreases-block l = 3 * l.limit
 
 abbrev pub decreases-instr : goal.decreases-instr
-decreases-instr l = 4 * l.limit + 1
+decreases-instr l = 3 * l.limit + 1
 
 abbrev pub decreases-instrs : goal.decreases-instrs
-decreases-instrs l = 4 * l.limit + 2
-
-abbrev pub decreases-otherwise : goal.decreases-otherwise
-decreases-otherwise l = 4 * l.limit + 3
+decreases-instrs l = 3 * l.limit + 2
 
 abbrev pub invariant-instrs-loop-i : goal.invariant-instrs-loop-i
-invariant-instrs-loop-i l = instrs_to l.limit (views (drop l.i-index l.all)) l.out.items ≡ instrs_to l.limit (views l.all) l.fn.out.items
+invariant-instrs-loop-i l = (end : Output) → Adds l.out end (instrs_to l.limit (views (drop l.i-index l.all)) l.out.bytes.items) → Adds l.fn.out end (instrs_to l.limit (views l.all) l.fn.out.bytes.items)

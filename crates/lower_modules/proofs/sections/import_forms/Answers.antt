@@ -1,0 +1,37 @@
+use Rattle.std.proofs.Common.{◌≡◌, ℕ, suc, ◌+◌, ◌<◌, ◌∷◌, List, length, drop, get_or, refl, ap, subst, ◌∙◌, arith}
+use Rattle.std.proofs.lemmas.List.{drop_all, drop_more}
+use Rattle.wasm_types.specs.Syntax.{ImportForm}
+use Rattle.wasm_types.specs.View.{view_import}
+use Rattle.host_imports.specs.Imports.{import_name, module_name}
+use Rattle.host_imports.specs.declared.import.Import.{Import}
+use Rattle.lower_model.specs.Modules.{imported_from}
+use Rattle.lower_modules.specs.Grown.{Leads}
+use Rattle.lower_modules.proofs.Growing.{begun, put_one, all_of}
+use Rattle.lower_modules.proofs.sections.import_forms.Goals as goal
+
+next : (used : List Import) (i ty : ℕ) (d : Import) → i < length used
+    → imported_from ty (drop i used) ≡ (record { from = module_name; name = import_name (get_or used i d); ty = ty }) ∷ imported_from (ty + 1) (drop (i + 1) used)
+next used i ty d lt =
+    let one_more : suc ty ≡ ty + 1 = omega arith in
+    let form : ImportForm = record { from = module_name; name = import_name (get_or used i d); ty = ty } in
+    ap (imported_from ty) (drop_more used i d lt) ∙ ap (λ (n : ℕ). form ∷ imported_from n (drop (i + 1) used)) one_more
+
+pub loop-import-init : goal.loop-import-init
+loop-import-init c = record { forms = begun view_import c.new-all.result (imported_from 0 c.args.used.now) (c.new-all.ensures ∙ c.new.ensures.items); ty = refl }
+
+pub loop-import-preserved : goal.loop-import-preserved
+loop-import-preserved c =
+    let used = c.args.used.now in
+    let i = c.loop-import.import-index in
+    let ty = c.loop-import.ty in
+    record {
+      forms = put_one view_import c.import_form.result _ (imported_from (ty + 1) (drop (i + 1) used)) c.put.ensures c.import_form.ensures
+          (subst (λ (forms : List ImportForm). Leads view_import c.loop-import.all forms (imported_from 0 used)) (next used i ty _ c.loop-import-test.true) c.loop-import.invariant.forms);
+      ty = ap (λ (n : ℕ). n + 1) c.loop-import.invariant.ty;
+    }
+
+pub returns : goal.returns
+returns c =
+    let whole = imported_from 0 c.args.used.now in
+    all_of view_import c.loop-import.all c.all.result whole c.all.ensures
+    (subst (λ (us : List Import). Leads view_import c.loop-import.all (imported_from c.loop-import.ty us) whole) (drop_all c.loop-import.import-index c.args.used.now c.loop-import-test.false) c.loop-import.invariant.forms)
