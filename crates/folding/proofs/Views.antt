@@ -1,5 +1,5 @@
 -- Lists that are written anew, element by element.
-use Rattle.std.proofs.Common.{◌≡◌, ℕ, zero, suc, ◌+◌, ◌<◌, ◌≤◌, Bool, List, [], ◌∷◌, length, map, get_or, set, take, ◌++◌, Option, Some, None, ℤ, pos, negsuc, FitsSigned, w64, to_z, of_z, to_z-of_z, refl, ap, sym, subst, ◌∙◌, arith}
+use Rattle.std.proofs.Common.{◌≡◌, ℕ, zero, suc, ◌+◌, ◌<◌, ◌≤◌, List, [], ◌∷◌, length, map, get_or, set, take, ◌++◌, Option, Some, None, ℤ, pos, negsuc, FitsSigned, w64, to_z, of_z, to_z-of_z, refl, ap, sym, subst, ◌∙◌, arith}
 use Rattle.std.proofs.Math.Seq.{take-append_seam}
 use Rattle.std.proofs.lemmas.List.{get_or-set_other, length-set}
 use Rattle.std.specs.declared.vec.Vec.{Vec}
@@ -17,6 +17,7 @@ use Rattle.mid_program.specs.declared.step.Step.{Step, Row_of-Step, end_of-Step,
 use Rattle.mid_program.specs.declared.step.Step.TheBlock.{hidden-the_row-Step-0}
 use Rattle.std.specs.Prelude.{◌^◌, unsigned_abs}
 use Rattle.std.proofs.lemmas.Int.{ints}
+use Rattle.std.proofs.lemmas.Option.{none-some}
 use Rattle.awk_text.specs.NumberText.{InRange}
 use Rattle.sem_primitives.specs.Numbers.{Number}
 use Rattle.sem_primitives.proofs.Words.{fits, small}
@@ -151,7 +152,7 @@ some_reduced o es z r h k = by (value_of o es) (sym k ∙ h)
         or_that : Option ℤ → ℤ
         or_that (Some y) = y
         or_that None = z
-    by None e = absurd cc
+    by None e = absurd (none-some z (sym e))
 
 pub some_fits : (o : Operation) (es : plain.Codes) (z : ℤ) (r : Option ℤ) → r ≡ numeral (value_of o es) → r ≡ Some z → FitsSigned w64 z
 some_fits o es z r h k = by (value_of o es) (sym k ∙ h)
@@ -162,13 +163,13 @@ some_fits o es z r h k = by (value_of o es) (sym k ∙ h)
         or_that : Option ℤ → ℤ
         or_that (Some y) = y
         or_that None = z
-    by None e = absurd cc
+    by None e = absurd (none-some z (sym e))
 
 pub none_reduced : (o : Operation) (es : plain.Codes) (r : Option ℤ) → r ≡ numeral (value_of o es) → r ≡ None → plain.Do o es ≡ reduced o es
 none_reduced o es r h k = by (value_of o es) (sym k ∙ h)
   where
     by : (v : Option Number) → None ≡ numeral v → plain.Do o es ≡ reduced_to v o es
-    by (Some n) e = absurd cc
+    by (Some n) e = absurd (none-some n.number e)
     by None e = refl
 
 -- operands in a slice
@@ -206,9 +207,9 @@ range_known (operand.Code a) k h = by (constant (view a)) h
   where
     by : (c : Option Number) → Some k ≡ numeral c → InRange (to_z w64 (of_z w64 k))
     by (Some n) e = subst InRange (word_number k n e) (small_range n.number (small n))
-    by None e = absurd cc
-range_known (operand.Constant n) k h = absurd cc
-range_known operand.Fresh k h = absurd cc
+    by None e = absurd (none-some k (sym e))
+range_known (operand.Constant n) k h = absurd (none-some k (sym h))
+range_known operand.Fresh k h = absurd (none-some k (sym h))
 
 pub one_known : (o : Operation) (r : Option ℤ) (x : Operand) (k : ℤ) → Some k ≡ numeral (leading_constant (before x plain.End)) →
     ((n : Number) → n.number ≡ to_z w64 (of_z w64 k) → r ≡ numeral (of_one o (Some n))) → r ≡ numeral (value_of o (before x plain.End))
@@ -216,9 +217,9 @@ one_known o r (operand.Code a) k h f = by (constant (view a)) h
   where
     by : (c : Option Number) → Some k ≡ numeral c → r ≡ numeral (of_one o c)
     by (Some n) e = f n (word_number k n e)
-    by None e = absurd cc
-one_known o r (operand.Constant n) k h f = absurd cc
-one_known o r operand.Fresh k h f = absurd cc
+    by None e = absurd (none-some k (sym e))
+one_known o r (operand.Constant n) k h f = absurd (none-some k (sym h))
+one_known o r operand.Fresh k h f = absurd (none-some k (sym h))
 
 pub two_known : (o : Operation) (r : Option ℤ) (x y : Operand) (k m : ℤ) → Some k ≡ numeral (leading_constant (before x plain.End)) → Some m ≡ numeral (leading_constant (before y plain.End)) →
     ((a b : Number) → a.number ≡ to_z w64 (of_z w64 k) → b.number ≡ to_z w64 (of_z w64 m) → r ≡ numeral (of_two o (Some a) (Some b))) → r ≡ numeral (value_of o (before x (before y plain.End)))
@@ -226,12 +227,12 @@ two_known o r (operand.Code a) (operand.Code b) k m h g f = by (constant (view a
   where
     by : (c d : Option Number) → Some k ≡ numeral c → Some m ≡ numeral d → r ≡ numeral (of_two o c d)
     by (Some p) (Some q) e j = f p q (word_number k p e) (word_number m q j)
-    by (Some p) None e j = absurd cc
-    by None d e j = absurd cc
-two_known o r (operand.Code a) (operand.Constant n) k m h g f = absurd cc
-two_known o r (operand.Code a) operand.Fresh k m h g f = absurd cc
-two_known o r (operand.Constant n) y k m h g f = absurd cc
-two_known o r operand.Fresh y k m h g f = absurd cc
+    by (Some p) None e j = absurd (none-some m (sym j))
+    by None d e j = absurd (none-some k (sym e))
+two_known o r (operand.Code a) (operand.Constant n) k m h g f = absurd (none-some m (sym g))
+two_known o r (operand.Code a) operand.Fresh k m h g f = absurd (none-some m (sym g))
+two_known o r (operand.Constant n) y k m h g f = absurd (none-some k (sym h))
+two_known o r operand.Fresh y k m h g f = absurd (none-some k (sym h))
 
 pub one_unknown : (o : Operation) (x : Operand) → None ≡ numeral (leading_constant (before x plain.End)) → None ≡ numeral (value_of o (before x plain.End))
 one_unknown o (operand.Code a) h = by (constant (view a)) h
@@ -242,7 +243,7 @@ one_unknown o (operand.Code a) h = by (constant (view a)) h
     none _ = refl
 
     by : (c : Option Number) → None ≡ numeral c → None ≡ numeral (of_one o c)
-    by (Some n) e = absurd cc
+    by (Some n) e = absurd (none-some n.number e)
     by None e = ap numeral (none o)
 one_unknown o (operand.Constant n) h = refl
 one_unknown o operand.Fresh h = refl
@@ -262,7 +263,7 @@ pub left_unknown : (o : Operation) (x y : Operand) → None ≡ numeral (leading
 left_unknown o (operand.Code a) (operand.Code b) h = by (constant (view a)) h
   where
     by : (c : Option Number) → None ≡ numeral c → None ≡ numeral (of_two o c (constant (view b)))
-    by (Some n) e = absurd cc
+    by (Some n) e = absurd (none-some n.number e)
     by None e = sym (ap numeral (left_none o (constant (view b))))
 left_unknown o (operand.Code a) (operand.Constant n) h = refl
 left_unknown o (operand.Code a) operand.Fresh h = refl
@@ -273,7 +274,7 @@ pub right_unknown : (o : Operation) (x y : Operand) → None ≡ numeral (leadin
 right_unknown o (operand.Code a) (operand.Code b) h = by (constant (view b)) h
   where
     by : (d : Option Number) → None ≡ numeral d → None ≡ numeral (of_two o (constant (view a)) d)
-    by (Some n) e = absurd cc
+    by (Some n) e = absurd (none-some n.number e)
     by None e = sym (ap numeral (right_none o (constant (view a))))
 right_unknown o (operand.Code a) (operand.Constant n) h = refl
 right_unknown o (operand.Code a) operand.Fresh h = refl

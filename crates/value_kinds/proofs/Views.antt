@@ -1,7 +1,7 @@
 -- Lists that are written anew, element by element.
-use Rattle.std.proofs.Common.{◌≡◌, ℕ, zero, suc, false, ◌+◌, ◌<◌, ◌≤◌, Bool, List, [], ◌∷◌, length, map, get_or, set, take, ◌++◌, refl, ap, subst, ◌∙◌, arith}
-use Rattle.std.proofs.Math.Seq.{take-append_seam}
-use Rattle.std.proofs.lemmas.List.{get_or-set_other, length-set}
+use Rattle.std.proofs.Common.{◌≡◌, ℕ, zero, suc, false, ◌+◌, ◌<◌, ◌≤◌, Bool, List, [], ◌∷◌, length, map, get_or, set, take, drop, ◌++◌, append_assoc, add-one, refl, sym, ap, subst, ◌∙◌, arith}
+use Rattle.std.proofs.Math.Seq.{drop-cons, take-append_seam}
+use Rattle.std.proofs.lemmas.List.{get_or-set_other, length-set, map-append}
 use Rattle.std.specs.declared.vec.Vec.{Vec}
 use Rattle.std.specs.declared.boxed.Box.{Box}
 use Rattle.std.specs.declared.alloc.Global.{Global}
@@ -186,6 +186,14 @@ routines_done gs ps (suc i) [] ys e h = absurd cc
 -- what a Vec has once its elements were lent
 pub written_back : {A : Type 0} (n : ℕ) (xs ys : List A) → n ≡ length xs → take n (xs ++ ys) ≡ xs
 written_back n xs ys e = ap (λ (m : ℕ). take m (xs ++ ys)) e ∙ take-append_seam xs ys
+
+-- a list that is made anew, element by element: v of what is made is f of what is read, and F is f of each
+pub pushed_next : {A B K : Type 0} (v : B → K) (f : A → K) (F : List A → List K) → ((x : A) (xs : List A) → f x ∷ F xs ≡ F (x ∷ xs)) →
+    (xs : List A) (i : ℕ) (d : A) (bs cs : List B) (b : B) → i < length xs → cs ≡ bs ++ (b ∷ []) → v b ≡ f (get_or xs i d) → map v cs ++ F (drop (i + 1) xs) ≡ map v bs ++ F (drop i xs)
+pushed_next {A} {B} {K} v f F each xs i d bs cs b lt pushed e =
+    (λ j. map v (pushed j) ++ F (drop (add-one i j) xs)) ∙ ap (λ (ks : List K). ks ++ F (drop (suc i) xs)) (map-append v bs (b ∷ [])) ∙ append_assoc (map v bs) (v b ∷ []) (F (drop (suc i) xs))
+    ∙ ap (λ (k : K). map v bs ++ (k ∷ F (drop (suc i) xs))) e
+    ∙ ap (λ (ks : List K). map v bs ++ ks) (each (get_or xs i d) (drop (suc i) xs) ∙ ap F (sym (drop-cons xs i d lt)))
 
 -- what is found by its place
 

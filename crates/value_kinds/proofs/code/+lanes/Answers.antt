@@ -1,4 +1,4 @@
-use Rattle.std.proofs.Common.{◌≡◌, ◌∷◌, length, drop, map, refl, ap, sym, subst, ◌∙◌, arith}
+use Rattle.std.proofs.Common.{◌≡◌, ◌∷◌, length, drop, map, refl, ap, sym, ◌∙◌, arith}
 use Rattle.std.specs.declared.boxed.Box.{Box}
 use Rattle.std.specs.declared.alloc.Global.{Global}
 use Rattle.std.specs.declared.vec.Vec.{Vec}
@@ -13,7 +13,7 @@ use Rattle.mid_program.proofs.Views.{view_codes, view_joined}
 use Rattle.mid_rewriting.specs.Rewriting.{code_in, codes_in}
 use Rattle.mid_rewriting.proofs.Joining.{joined_in}
 use Rattle.value_kinds.specs.View.{slots}
-use Rattle.value_kinds.proofs.Views.{CodeDone, OperandDone, codes_done, done_next, operands_of, operands_done, view_call, view_do, view_over, rest_next, view_replace, written_back}
+use Rattle.value_kinds.proofs.Views.{CodeDone, OperandDone, codes_done, done_next, operands_done, operands_of, rest_next, written_back}
 use Rattle.value_kinds.proofs.code.+lanes.Goals as goal
 
 pub lane_operands-loop-operand-preserved : goal.lane_operands-loop-operand-preserved
