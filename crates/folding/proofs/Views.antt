@@ -1,25 +1,30 @@
 -- Lists that are written anew, element by element.
-use Rattle.std.proofs.Common.{◌≡◌, ℕ, zero, suc, ◌+◌, ◌<◌, ◌≤◌, Bool, List, [], ◌∷◌, length, map, get_or, set, take, ◌++◌, Option, Some, None, ℤ, FitsSigned, w64, refl, ap, sym, subst, ◌∙◌, arith}
+use Rattle.std.proofs.Common.{◌≡◌, ℕ, zero, suc, ◌+◌, ◌<◌, ◌≤◌, List, [], ◌∷◌, length, map, get_or, set, take, ◌++◌, Option, Some, None, ℤ, pos, negsuc, FitsSigned, w64, to_z, of_z, to_z-of_z, refl, ap, sym, subst, ◌∙◌, arith}
 use Rattle.std.proofs.Math.Seq.{take-append_seam}
+use Rattle.std.proofs.lemmas.List.{get_or-set_other, length-set}
 use Rattle.std.specs.declared.vec.Vec.{Vec}
-use Rattle.std.specs.declared.boxed.Box.{Box}
 use Rattle.std.specs.declared.alloc.Global.{Global}
-use Rattle.sem_primitives.specs.declared.table.Listed.{Listed}
 use Rattle.mid_program.specs.Mid as plain
 use Rattle.mid_program.specs.ViewCode.{before, view, view_row, view_step, view_step_row, view_steps, views}
 use Rattle.mid_program.specs.declared.mid.Operation.{Operation}
+use Rattle.mid_program.specs.declared.mid.Operation.TheVariants as operation
+use Rattle.sem_primitives.specs.declared.table.Primitive.TheVariants.{Pow}
 use Rattle.mid_program.specs.declared.code.Operand.{Operand}
 use Rattle.mid_program.specs.declared.code.Operand.TheVariants as operand
-use Rattle.mid_program.specs.declared.code.Code.{Code, Do, Over, Call, Replace, Row_of-Operand, end_of-Operand, more_of-Operand, items-the_row-Operand, items_hidden-the_row-Operand-0}
+use Rattle.mid_program.specs.declared.code.Code.{Code, Do, Row_of-Operand, end_of-Operand, more_of-Operand, items-the_row-Operand, items_hidden-the_row-Operand-0}
 use Rattle.mid_program.specs.declared.code.Code.TheBlock.{hidden-the_row-Operand-0}
-use Rattle.mid_program.specs.declared.step.Step.{Step, Block, Row_of-Step, end_of-Step, more_of-Step, items-the_row-Step, items_hidden-the_row-Step-0}
+use Rattle.mid_program.specs.declared.step.Step.{Step, Row_of-Step, end_of-Step, more_of-Step, items-the_row-Step, items_hidden-the_row-Step-0}
 use Rattle.mid_program.specs.declared.step.Step.TheBlock.{hidden-the_row-Step-0}
+use Rattle.std.specs.Prelude.{◌^◌, unsigned_abs}
+use Rattle.std.proofs.lemmas.Int.{ints}
+use Rattle.std.proofs.lemmas.Option.{none-some}
+use Rattle.awk_text.specs.NumberText.{InRange}
 use Rattle.sem_primitives.specs.Numbers.{Number}
 use Rattle.sem_primitives.proofs.Words.{fits, small}
 use Rattle.mid_program.specs.View.{view_routine}
 use Rattle.mid_program.specs.declared.program.Routine.{Routine}
-use Rattle.folding.specs.Folding.{folded, folded_routine, folded_steps, reduced, reduced_to, same, value_of}
-use Rattle.folding.specs.View.{numeral}
+use Rattle.folding.specs.Folding.{constant, folded, folded_routine, folded_steps, of_one, of_two, reduced, reduced_to, same, value_of}
+use Rattle.folding.specs.View.{leading_constant, numeral}
 use Rattle.mid_rewriting.specs.Rewriting.{codes_in, step_in}
 
 row_views : {n : _} (k : Row_of-Operand n) → view_row k ≡ views (items-the_row-Operand n k)
@@ -32,21 +37,12 @@ operands_of v = row_views (hidden-the_row-Operand-0 v) ∙ ap views (items_hidde
 pub view_do : (o : Operation) (v : Vec Operand Global) → view (Do o v) ≡ plain.Do o (views v.items)
 view_do o v = ap (plain.Do o) (operands_of v)
 
-pub view_over : (l : Listed) (v : Vec Operand Global) → view (Over l v) ≡ plain.Over l (views v.items)
-view_over l v = ap (plain.Over l) (operands_of v)
-
-pub view_call : (f : ℕ) (v : Vec Operand Global) → view (Call f v) ≡ plain.Call f (views v.items)
-view_call f v = ap (plain.Call f) (operands_of v)
-
-pub view_replace : (all : Bool) (v : Vec Operand Global) (s : Box Code Global) → view (Replace all v s) ≡ plain.Replace all (views v.items) (view s.value)
-view_replace all v s = ap (λ (es : plain.Codes). plain.Replace all es (view s.value)) (operands_of v)
-
 step_rows : {n : _} (k : Row_of-Step n) → view_step_row k ≡ view_steps (items-the_row-Step n k)
 step_rows end_of-Step = refl
 step_rows (more_of-Step s rest) = ap (plain.Then (view_step s)) (step_rows rest)
 
-pub view_block : (v : Vec Step Global) → view_step (Block v) ≡ plain.Block (view_steps v.items)
-view_block v = ap plain.Block (step_rows (hidden-the_row-Step-0 v) ∙ ap view_steps (items_hidden-the_row-Step-0 v))
+pub steps_of : (v : Vec Step Global) → view_step_row (hidden-the_row-Step-0 v) ≡ view_steps v.items
+steps_of v = step_rows (hidden-the_row-Step-0 v) ∙ ap view_steps (items_hidden-the_row-Step-0 v)
 
 -- the first i are changed as R says, the others are as they were
 module _ {A : Type 0} (R : A → A → Type 0) where
@@ -84,6 +80,11 @@ module _ {A : Type 0} (R : A → A → Type 0) where
   done_all f g more none (suc i) (x ∷ xs) (y ∷ ys) e h = more x y xs ys h.0 (done_all f g more none i xs ys (omega (arith, e)) h.1)
   done_all f g more none (suc i) (x ∷ xs) [] e h = absurd h
   done_all f g more none (suc i) [] ys e h = absurd cc
+
+-- those after the first i are as they were
+pub rest_next : {A : Type 0} (xs ys : List A) (i : ℕ) (x : A) → (length xs ≡ length ys) × ((k : ℕ) (d : A) → i ≤ k → get_or xs k d ≡ get_or ys k d) →
+    (length (set xs i x) ≡ length ys) × ((k : ℕ) (d : A) → i + 1 ≤ k → get_or (set xs i x) k d ≡ get_or ys k d)
+rest_next xs ys i x h = (length-set xs i x ∙ h.0, λ k d le. get_or-set_other xs i k x d (omega arith) ∙ h.1 k d (omega arith))
 
 -- operands
 
@@ -151,7 +152,7 @@ some_reduced o es z r h k = by (value_of o es) (sym k ∙ h)
         or_that : Option ℤ → ℤ
         or_that (Some y) = y
         or_that None = z
-    by None e = absurd cc
+    by None e = absurd (none-some z (sym e))
 
 pub some_fits : (o : Operation) (es : plain.Codes) (z : ℤ) (r : Option ℤ) → r ≡ numeral (value_of o es) → r ≡ Some z → FitsSigned w64 z
 some_fits o es z r h k = by (value_of o es) (sym k ∙ h)
@@ -162,14 +163,123 @@ some_fits o es z r h k = by (value_of o es) (sym k ∙ h)
         or_that : Option ℤ → ℤ
         or_that (Some y) = y
         or_that None = z
-    by None e = absurd cc
+    by None e = absurd (none-some z (sym e))
 
 pub none_reduced : (o : Operation) (es : plain.Codes) (r : Option ℤ) → r ≡ numeral (value_of o es) → r ≡ None → plain.Do o es ≡ reduced o es
 none_reduced o es r h k = by (value_of o es) (sym k ∙ h)
   where
     by : (v : Option Number) → None ≡ numeral v → plain.Do o es ≡ reduced_to v o es
-    by (Some n) e = absurd cc
+    by (Some n) e = absurd (none-some n.number e)
     by None e = refl
+
+-- operands in a slice
+
+pub one_is : (xs : List Operand) (x : Operand) → 1 ≤ length xs → length xs < 2 → x ≡ get_or xs 0 x → views xs ≡ before x plain.End
+one_is [] x l u e = absurd (omega arith)
+one_is (a ∷ []) x l u e = λ i. before (sym e i) plain.End
+one_is (a ∷ b ∷ xs) x l u e = absurd (omega arith)
+
+pub two_are : (xs : List Operand) (x y : Operand) → 2 ≤ length xs → length xs < 3 → x ≡ get_or xs 0 x → y ≡ get_or xs 1 y → views xs ≡ before x (before y plain.End)
+two_are [] x y l u e f = absurd (omega arith)
+two_are (a ∷ []) x y l u e f = absurd (omega arith)
+two_are (a ∷ b ∷ []) x y l u e f = λ i. before (sym e i) (before (sym f i) plain.End)
+two_are (a ∷ b ∷ c ∷ xs) x y l u e f = absurd (omega arith)
+
+-- the number of an operation on operands of which these numbers are known
+
+same_number : (k : ℤ) (n : Number) → Some k ≡ Some n.number → n.number ≡ k
+same_number k n e = λ i. or_that (sym e i)
+  where
+    or_that : Option ℤ → ℤ
+    or_that (Some y) = y
+    or_that None = k
+
+-- a number that was put in a word
+word_number : (k : ℤ) (n : Number) → Some k ≡ Some n.number → n.number ≡ to_z w64 (of_z w64 k)
+word_number k n e = let is = same_number k n e in is ∙ sym (to_z-of_z (subst (FitsSigned w64) is (fits n.number (small n))))
+
+small_range : (z : ℤ) → unsigned_abs z ≤ 2 ^ 53 → InRange z
+small_range (pos k) h = (omega (arith, ints), omega (arith, ints))
+small_range (negsuc k) h = (omega (arith, ints), omega (arith, ints))
+
+pub range_known : (x : Operand) (k : ℤ) → Some k ≡ numeral (leading_constant (before x plain.End)) → InRange (to_z w64 (of_z w64 k))
+range_known (operand.Code a) k h = by (constant (view a)) h
+  where
+    by : (c : Option Number) → Some k ≡ numeral c → InRange (to_z w64 (of_z w64 k))
+    by (Some n) e = subst InRange (word_number k n e) (small_range n.number (small n))
+    by None e = absurd (none-some k (sym e))
+range_known (operand.Constant n) k h = absurd (none-some k (sym h))
+range_known operand.Fresh k h = absurd (none-some k (sym h))
+
+pub one_known : (o : Operation) (r : Option ℤ) (x : Operand) (k : ℤ) → Some k ≡ numeral (leading_constant (before x plain.End)) →
+    ((n : Number) → n.number ≡ to_z w64 (of_z w64 k) → r ≡ numeral (of_one o (Some n))) → r ≡ numeral (value_of o (before x plain.End))
+one_known o r (operand.Code a) k h f = by (constant (view a)) h
+  where
+    by : (c : Option Number) → Some k ≡ numeral c → r ≡ numeral (of_one o c)
+    by (Some n) e = f n (word_number k n e)
+    by None e = absurd (none-some k (sym e))
+one_known o r (operand.Constant n) k h f = absurd (none-some k (sym h))
+one_known o r operand.Fresh k h f = absurd (none-some k (sym h))
+
+pub two_known : (o : Operation) (r : Option ℤ) (x y : Operand) (k m : ℤ) → Some k ≡ numeral (leading_constant (before x plain.End)) → Some m ≡ numeral (leading_constant (before y plain.End)) →
+    ((a b : Number) → a.number ≡ to_z w64 (of_z w64 k) → b.number ≡ to_z w64 (of_z w64 m) → r ≡ numeral (of_two o (Some a) (Some b))) → r ≡ numeral (value_of o (before x (before y plain.End)))
+two_known o r (operand.Code a) (operand.Code b) k m h g f = by (constant (view a)) (constant (view b)) h g
+  where
+    by : (c d : Option Number) → Some k ≡ numeral c → Some m ≡ numeral d → r ≡ numeral (of_two o c d)
+    by (Some p) (Some q) e j = f p q (word_number k p e) (word_number m q j)
+    by (Some p) None e j = absurd (none-some m (sym j))
+    by None d e j = absurd (none-some k (sym e))
+two_known o r (operand.Code a) (operand.Constant n) k m h g f = absurd (none-some m (sym g))
+two_known o r (operand.Code a) operand.Fresh k m h g f = absurd (none-some m (sym g))
+two_known o r (operand.Constant n) y k m h g f = absurd (none-some k (sym h))
+two_known o r operand.Fresh y k m h g f = absurd (none-some k (sym h))
+
+pub one_unknown : (o : Operation) (x : Operand) → None ≡ numeral (leading_constant (before x plain.End)) → None ≡ numeral (value_of o (before x plain.End))
+one_unknown o (operand.Code a) h = by (constant (view a)) h
+  where
+    none : (p : Operation) → None ≡ of_one p None
+    none operation.AsNumber = refl
+    none operation.FieldNumber = refl
+    none _ = refl
+
+    by : (c : Option Number) → None ≡ numeral c → None ≡ numeral (of_one o c)
+    by (Some n) e = absurd (none-some n.number e)
+    by None e = ap numeral (none o)
+one_unknown o (operand.Constant n) h = refl
+one_unknown o operand.Fresh h = refl
+
+left_none : (o : Operation) (d : Option Number) → of_two o None d ≡ None
+left_none (operation.Inline a) d = refl
+left_none (operation.Host Pow) d = refl
+left_none _ d = refl
+
+right_none : (o : Operation) (c : Option Number) → of_two o c None ≡ None
+right_none (operation.Inline a) (Some n) = refl
+right_none (operation.Host Pow) (Some n) = refl
+right_none o None = left_none o None
+right_none _ (Some n) = refl
+
+pub left_unknown : (o : Operation) (x y : Operand) → None ≡ numeral (leading_constant (before x plain.End)) → None ≡ numeral (value_of o (before x (before y plain.End)))
+left_unknown o (operand.Code a) (operand.Code b) h = by (constant (view a)) h
+  where
+    by : (c : Option Number) → None ≡ numeral c → None ≡ numeral (of_two o c (constant (view b)))
+    by (Some n) e = absurd (none-some n.number e)
+    by None e = sym (ap numeral (left_none o (constant (view b))))
+left_unknown o (operand.Code a) (operand.Constant n) h = refl
+left_unknown o (operand.Code a) operand.Fresh h = refl
+left_unknown o (operand.Constant n) y h = refl
+left_unknown o operand.Fresh y h = refl
+
+pub right_unknown : (o : Operation) (x y : Operand) → None ≡ numeral (leading_constant (before y plain.End)) → None ≡ numeral (value_of o (before x (before y plain.End)))
+right_unknown o (operand.Code a) (operand.Code b) h = by (constant (view b)) h
+  where
+    by : (d : Option Number) → None ≡ numeral d → None ≡ numeral (of_two o (constant (view a)) d)
+    by (Some n) e = absurd (none-some n.number e)
+    by None e = sym (ap numeral (right_none o (constant (view a))))
+right_unknown o (operand.Code a) (operand.Constant n) h = refl
+right_unknown o (operand.Code a) operand.Fresh h = refl
+right_unknown o (operand.Constant n) y h = refl
+right_unknown o operand.Fresh y h = refl
 
 third_none : (o : Operation) (a b : plain.Code) (x : Operand) (rest : plain.Codes) → value_of o (plain.At a (plain.At b (before x rest))) ≡ None
 third_none o a b (operand.Code e) rest = refl

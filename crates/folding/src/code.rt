@@ -35,7 +35,7 @@ pub(crate) fn fold_code(code: &mut Code)
             fold_code(last);
         }
         Code::Over(_listed, operands) => fold_operands(operands),
-        Code::Compare(_, left, right) => {
+        Code::Compare(_comparison, left, right) => {
             fold_code(left);
             fold_code(right);
         }
@@ -49,8 +49,8 @@ pub(crate) fn fold_code(code: &mut Code)
             fold_operands(operands);
             fold_code(store);
         }
-        Code::Set(_, value) => fold_code(value),
-        Code::Choose(_, test, yes, no) => {
+        Code::Set(_slot, value) => fold_code(value),
+        Code::Choose(_sort, test, yes, no) => {
             fold_code(test);
             fold_code(yes);
             fold_code(no);

@@ -4,9 +4,10 @@ ghost use Rattle.std.specs.Prelude.{◌≡◌, ◌≤◌, ◌^◌, unsigned_abs}
 ghost use Rattle.awk_text.specs.NumberText.{InRange};
 ghost use Rattle.sem_primitives.specs.Numbers.{Number, number_of};
 ghost use Rattle.folding.specs.Folding.{constant, of_one, of_two, value_of};
-ghost use Rattle.folding.specs.View.{numeral};
+ghost use Rattle.folding.specs.View.{leading_constant, numeral};
+ghost use Rattle.mid_program.specs.Mid.{End};
 ghost use Rattle.mid_program.specs.MidMeaning.{arithmetic_of};
-ghost use Rattle.mid_program.specs.ViewCode.{view, views};
+ghost use Rattle.mid_program.specs.ViewCode.{before, view, views};
 
 use awk_text::MAX_NUMBER;
 use awk_values::{Fault, add, div, int_div, mul, pow, rem, sub};
@@ -106,15 +107,23 @@ fn of_two(operation: Operation, left: i64, right: i64) -> Option<i64>
     }
 }
 
+/// The number of an operand that is a constant.
+fn constant_at(operand: &Operand) -> Option<i64>
+    ensures { result ≡ numeral (leading_constant (before operand.now End)) }
+{
+    match operand {
+        Operand::Code(code) => constant(code),
+        Operand::Constant(_) | Operand::Fresh => None,
+    }
+}
+
 /// The number of an operation on constants, unless it faults.
 pub(crate) fn value_of(operation: Operation, operands: &[Operand]) -> Option<i64>
     ensures { result ≡ numeral (value_of operation (views operands.now)) }
 {
     match operands {
-        [Operand::Code(operand)] => of_one(operation, constant(operand)?),
-        [Operand::Code(left), Operand::Code(right)] => {
-            of_two(operation, constant(left)?, constant(right)?)
-        }
+        [operand] => of_one(operation, constant_at(operand)?),
+        [left, right] => of_two(operation, constant_at(left)?, constant_at(right)?),
         _ => None,
     }
 }

@@ -1,6 +1,7 @@
 -- Lists that are written anew, element by element.
-use Rattle.std.proofs.Common.{◌≡◌, ℕ, zero, suc, false, ◌+◌, ◌<◌, ◌≤◌, Bool, List, [], ◌∷◌, length, map, get_or, set, take, ◌++◌, refl, ap, subst, ◌∙◌, arith}
-use Rattle.std.proofs.Math.Seq.{take-append_seam}
+use Rattle.std.proofs.Common.{◌≡◌, ℕ, zero, suc, false, ◌+◌, ◌<◌, ◌≤◌, Bool, List, [], ◌∷◌, length, map, get_or, set, take, drop, ◌++◌, append_assoc, add-one, refl, sym, ap, subst, ◌∙◌, arith}
+use Rattle.std.proofs.Math.Seq.{drop-cons, take-append_seam}
+use Rattle.std.proofs.lemmas.List.{get_or-set_other, length-set, map-append}
 use Rattle.std.specs.declared.vec.Vec.{Vec}
 use Rattle.std.specs.declared.boxed.Box.{Box}
 use Rattle.std.specs.declared.alloc.Global.{Global}
@@ -46,8 +47,11 @@ step_rows : {n : _} (k : Row_of-Step n) → view_step_row k ≡ view_steps (item
 step_rows end_of-Step = refl
 step_rows (more_of-Step s rest) = ap (plain.Then (view_step s)) (step_rows rest)
 
+pub steps_of : (v : Vec Step Global) → view_step_row (hidden-the_row-Step-0 v) ≡ view_steps v.items
+steps_of v = step_rows (hidden-the_row-Step-0 v) ∙ ap view_steps (items_hidden-the_row-Step-0 v)
+
 pub view_block : (v : Vec Step Global) → view_step (Block v) ≡ plain.Block (view_steps v.items)
-view_block v = ap plain.Block (step_rows (hidden-the_row-Step-0 v) ∙ ap view_steps (items_hidden-the_row-Step-0 v))
+view_block v = ap plain.Block (steps_of v)
 
 abbrev first_code : plain.Code → plain.Codes → plain.Code
 first_code d (plain.At e es) = e
@@ -84,6 +88,11 @@ done_suc R (suc i) [] ys d x lt h r = absurd (omega arith)
 
 pub done_next : {A : Type 0} (R : ℕ → A → A → Type 0) (i : ℕ) (xs ys : List A) (d x : A) → i < length xs → Done R i xs ys → R i x (get_or xs i d) → Done R (i + 1) (set xs i x) ys
 done_next R i xs ys d x lt h r = let s : suc i ≡ i + 1 = omega arith in subst (λ (n : ℕ). Done R n (set xs i x) ys) s (done_suc R i xs ys d x lt h r)
+
+-- those after the first i are as they were
+pub rest_next : {A : Type 0} (xs ys : List A) (i : ℕ) (x : A) → (length xs ≡ length ys) × ((k : ℕ) (d : A) → i ≤ k → get_or xs k d ≡ get_or ys k d) →
+    (length (set xs i x) ≡ length ys) × ((k : ℕ) (d : A) → i + 1 ≤ k → get_or (set xs i x) k d ≡ get_or ys k d)
+rest_next xs ys i x h = (length-set xs i x ∙ h.0, λ k d le. get_or-set_other xs i k x d (omega arith) ∙ h.1 k d (omega arith))
 
 module _ (slots : plain.Slot → plain.Slot) where
   -- operands
@@ -177,6 +186,14 @@ routines_done gs ps (suc i) [] ys e h = absurd cc
 -- what a Vec has once its elements were lent
 pub written_back : {A : Type 0} (n : ℕ) (xs ys : List A) → n ≡ length xs → take n (xs ++ ys) ≡ xs
 written_back n xs ys e = ap (λ (m : ℕ). take m (xs ++ ys)) e ∙ take-append_seam xs ys
+
+-- a list that is made anew, element by element: v of what is made is f of what is read, and F is f of each
+pub pushed_next : {A B K : Type 0} (v : B → K) (f : A → K) (F : List A → List K) → ((x : A) (xs : List A) → f x ∷ F xs ≡ F (x ∷ xs)) →
+    (xs : List A) (i : ℕ) (d : A) (bs cs : List B) (b : B) → i < length xs → cs ≡ bs ++ (b ∷ []) → v b ≡ f (get_or xs i d) → map v cs ++ F (drop (i + 1) xs) ≡ map v bs ++ F (drop i xs)
+pushed_next {A} {B} {K} v f F each xs i d bs cs b lt pushed e =
+    (λ j. map v (pushed j) ++ F (drop (add-one i j) xs)) ∙ ap (λ (ks : List K). ks ++ F (drop (suc i) xs)) (map-append v bs (b ∷ [])) ∙ append_assoc (map v bs) (v b ∷ []) (F (drop (suc i) xs))
+    ∙ ap (λ (k : K). map v bs ++ (k ∷ F (drop (suc i) xs))) e
+    ∙ ap (λ (ks : List K). map v bs ++ ks) (each (get_or xs i d) (drop (suc i) xs) ∙ ap F (sym (drop-cons xs i d lt)))
 
 -- what is found by its place
 

@@ -22,7 +22,7 @@ pub(crate) fn lane_code(names: Names<'_>, code: &mut Code)
             lane_code(names, last);
         }
         Code::Over(_listed, operands) => lane_operands(names, operands),
-        Code::Compare(_, left, right) => {
+        Code::Compare(_comparison, left, right) => {
             lane_code(names, left);
             lane_code(names, right);
         }
@@ -40,7 +40,7 @@ pub(crate) fn lane_code(names: Names<'_>, code: &mut Code)
             *slot = names.slot(*slot);
             lane_code(names, value);
         }
-        Code::Choose(_, test, yes, no) => {
+        Code::Choose(_sort, test, yes, no) => {
             lane_code(names, test);
             lane_code(names, yes);
             lane_code(names, no);
