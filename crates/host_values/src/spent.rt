@@ -5,7 +5,7 @@ ghost use Rattle.host_values.specs.Evaluations.{left_by};
 use host_handles::Handles;
 
 /// The handles that a call spends, once it is carried out.
-#[derive(Clone, Copy, Debug, PartialEq, Eq, Drop)]
+#[derive(Clone, Copy, Drop)]
 pub(crate) enum Spent {
     Nothing,
     One(i32),
