@@ -1,5 +1,6 @@
 //! The handles that a call spends.
 ghost use Rattle.std.specs.Prelude.{◌≡◌};
+ghost use Rattle.std.specs.FinMap as map;
 ghost use Rattle.host_texts.specs.Evaluations.{left_by};
 
 use host_handles::Handles;
@@ -13,6 +14,14 @@ pub(crate) enum Spent {
     Three(i32, i32, i32),
 }
 
+/// Takes a value out.
+#[inline(always)]
+fn spend(handles: &mut Handles, handle: i32)
+    ensures { handles.new ≡ map.remove handles.old handle }
+{
+    handles.take(handle);
+}
+
 impl Spent {
     /// Takes their values out.
     #[inline(always)]
@@ -21,17 +30,15 @@ impl Spent {
     {
         match self {
             Spent::Nothing => {}
-            Spent::One(handle) => {
-                handles.take(handle);
-            }
+            Spent::One(handle) => spend(handles, handle),
             Spent::Two(first, second) => {
-                handles.take(first);
-                handles.take(second);
+                spend(handles, first);
+                spend(handles, second);
             }
             Spent::Three(first, second, third) => {
-                handles.take(first);
-                handles.take(second);
-                handles.take(third);
+                spend(handles, first);
+                spend(handles, second);
+                spend(handles, third);
             }
         }
     }

@@ -34,11 +34,13 @@ impl Texts {
         ensures fields { IfOk result (λ texts. texts.held ≡ no_record) }
         ensures substituted { IfOk result (λ texts. texts.substituted ≡ None) }
     {
+        let specials = Specials::at_start(alloc, operands)?;
+        let expressions = Expressions::new(alloc)?;
         Ok(Texts {
-            specials: Specials::at_start(alloc, operands)?,
+            specials,
             held: Record::new(alloc),
             substituted: None,
-            expressions: Expressions::new(alloc)?,
+            expressions,
         })
     }
 }

@@ -4,3 +4,4 @@ pub mod Matching
 pub mod Spare
 pub mod Steps
 pub mod OneHandle
+mod Taken

@@ -4,3 +4,4 @@ pub mod Evaluations
 pub mod Calls
 pub mod Singles
 pub mod Texts
+pub mod Shapes
