@@ -10,7 +10,7 @@ use ere_match::Auto;
 use std::alloc::Global;
 
 /// What stands between fields (POSIX.1-2017 awk, "Regular Expressions", the use of FS).
-#[derive(Debug, Drop)]
+#[derive(Drop)]
 pub enum Sep {
     /// Runs of spaces, tabs and newlines; at both ends they belong to no field.
     Blanks,
@@ -23,7 +23,7 @@ pub enum Sep {
 }
 
 /// What stands between fields where that is no expression, and some byte is no field.
-#[derive(Clone, Copy, Debug, Drop)]
+#[derive(Clone, Copy, Drop)]
 pub enum Plain {
     /// Runs of spaces, tabs and newlines, as [`Sep::Blanks`].
     Blanks,

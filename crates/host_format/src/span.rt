@@ -5,7 +5,7 @@ ghost use Rattle.host_format.specs.Spans.{IsSoFar};
 use std::alloc::AllocFailed;
 
 /// A part of a text: its bytes from `start` on and before `end`, counted from 0.
-#[derive(Clone, Copy, Debug, PartialEq, Eq)]
+#[derive(Clone, Copy)]
 pub struct Span {
     pub start: usize,
     pub end: usize,
