@@ -7,6 +7,7 @@ pub mod Opens
 pub mod Fielded
 pub mod Replaced
 pub mod Places
+pub mod Grown
 pub mod Left
 pub mod Conversions
 pub mod Numerals

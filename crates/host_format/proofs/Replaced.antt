@@ -19,10 +19,6 @@ pub past_more : (xs more total : List ℕ) (s : Stop) → xs ++ more ≡ total �
 past_more xs more total (stops.Fault f) e p = (p.0, (let size = ap length e in let long = p.1 in omega (arith, long, size, length-append xs more)))
 past_more xs more total stops.NoMemory e p = tt
 
-pub past_by_size : (xs total : List ℕ) (s : Stop) → length xs ≤ length total → IsPast xs s → IsPast total s
-past_by_size xs total (stops.Fault f) le p = (p.0, (let long = p.1 in omega (arith, long, le)))
-past_by_size xs total stops.NoMemory le p = tt
-
 beyond : (k n : ℕ) → n < k → nat_le k n ≡ false
 beyond k n lt = grind (arith, nat_tests)
 
@@ -92,17 +88,3 @@ is_backslash c special other = elim (cases_Bool (c == 92)) [
 pub at_backslash : (matched xs : List ℕ) (at : ℕ) → IsFirstByte (is_byte2 92 38) xs (Some at) → (get_or xs at 0 ≡ 38 → ⊥) → replacement matched xs ≡ take at xs ++ escaped matched (drop (at + 1) xs)
 at_backslash matched xs at h other =
     at_special matched xs at h ∙ ap (λ ys. take at xs ++ ys) (escape_first matched (get_or xs at 0) (drop (at + 1) xs) (is_backslash (get_or xs at 0) h.1 other))
-
--- a step: what was put, and what is left
-pub stepped : (old new part rest after total : List ℕ) → new ≡ old ++ part → rest ≡ part ++ after → old ++ rest ≡ total → new ++ after ≡ total
-stepped old new part rest after total e f g = ap (λ xs. xs ++ after) e ∙ (append_assoc old part after ∙ (ap (λ xs. old ++ xs) (sym f) ∙ g))
-
--- the same where a part was put on the way
-pub err_at : (old part rest after total : List ℕ) (s : Stop) → rest ≡ part ++ after → old ++ rest ≡ total → IsPast (old ++ part) s → IsPast total s
-err_at old part rest after total s f g p = past_more (old ++ part) after total s (append_assoc old part after ∙ (ap (λ xs. old ++ xs) (sym f) ∙ g)) p
-
-pub at_any : (matched xs : List ℕ) (at : ℕ) → IsFirstByte (is_byte2 92 38) xs (Some at) → replacement matched xs ≡ take at xs ++ replacement matched (get_or xs at 0 ∷ drop (at + 1) xs)
-at_any matched xs at h = at_special matched xs at h
-
-pub past_same : (xs total : List ℕ) (s : Stop) → xs ≡ total → IsPast xs s → IsPast total s
-past_same xs total s e p = subst (λ x. IsPast x s) e p

@@ -1,6 +1,6 @@
 -- Formats, a piece at a time.
-use Rattle.std.proofs.Common.{◌≡◌, ℕ, zero, suc, ◌+◌, ◌^◌, ◌<◌, ◌≤◌, Bool, true, false, List, [], ◌∷◌, ◌++◌, length, take, drop, get_or, Some, None, Result, Ok, Err, refl, sym, ap, subst, ◌∙◌, append_assoc, append-nil, arith, eqb-true, inl, inr}
-use Rattle.std.specs.Prelude.{◌==◌, nat_le, if◌then◌else◌, IfErr, OnOk}
+use Rattle.std.proofs.Common.{◌≡◌, ℕ, zero, suc, ◌+◌, ◌^◌, ◌<◌, ◌≤◌, Bool, true, false, List, [], ◌∷◌, ◌++◌, length, take, drop, get_or, Option, Some, None, Result, Ok, Err, refl, sym, ap, subst, ◌∙◌, append_assoc, append-nil, arith, eqb-true, inl, inr}
+use Rattle.std.specs.Prelude.{◌==◌, nat_le, if◌then◌else◌}
 use Rattle.std.proofs.lemmas.Bool.Decides.{nat_tests}
 use Rattle.std.proofs.lemmas.Bool.{cases_lt}
 use Rattle.std.proofs.lemmas.List.{drop_more, get_or-take, length-append, length-take, take-append-drop}
@@ -12,8 +12,9 @@ use Rattle.awk_values.specs.declared.fault.Stop.TheVariants as stops
 use Rattle.awk_values.specs.declared.value.Value.{Value}
 use Rattle.sem_primitives.specs.SharedState.{◌>>=◌}
 use Rattle.sem_primitives.specs.Formats.{Piece, Ordinary, Converts, Malformed, Conversion, conversion_at, converted, formatted, formatted_from, pieces_from, sized, then_text}
-use Rattle.host_format.specs.Outcomes.{IsPast, IsStopAfter, IsStopOf}
-use Rattle.host_format.specs.Steps.{AddsStep, IsLeftOf, behind_text, step, text_of_step}
+use Rattle.host_format.specs.Growing.{IsMade, StandsAfter}
+use Rattle.host_format.specs.Outcomes.{AddsOutcome, IsPast, IsStopAfter, IsStopOf}
+use Rattle.host_format.specs.Steps.{IsLeftBy, IsLeftOf, behind_text, step, text_of_step}
 
 -- a text that is added
 within_limit : (n : ℕ) → n ≤ 2 ^ 26 → nat_le n (2 ^ 26) ≡ true
@@ -122,26 +123,17 @@ percent_step n cs out values p rest e =
 pub percent_malformed : (n : ℕ) (cs out : List ℕ) (values : List Value) → (conversion_at cs).0 ≡ Malformed → left_text (suc n) (37 ∷ cs) values out ≡ Err Format
 percent_malformed n cs out values e = ap (λ p. behind_text out (formatted_from (length out) (p ∷ pieces_from n (conversion_at cs).1) values)) e
 
-pub stepped_on : (n : ℕ) (rest out new : List ℕ) (values : List Value) (x : Result (List ℕ × List Value) Fault) → AddsStep out new values x → step_text n rest x out ≡ left_text n rest values new
-stepped_on n rest out new values (Ok y) a =
-    text_step out y.0 (λ m. formatted_from m (pieces_from n rest) y.1) (subst (λ ys. length ys ≤ 2 ^ 26) a.0.added a.0.within)
-    ∙ (ap (λ ys. left_text n rest y.1 ys) (sym a.0.added) ∙ ap (λ vs. left_text n rest vs new) (sym a.1))
-stepped_on n rest out new values (Err fault) a = absurd a
+stepped_on : (n : ℕ) (rest out new : List ℕ) (values : List Value) (x : Result (List ℕ × List Value) Fault) → AddsOutcome out new (text_of_step x) → IsLeftBy x values → step_text n rest x out ≡ left_text n rest values new
+stepped_on n rest out new values (Ok y) a left =
+    text_step out y.0 (λ m. formatted_from m (pieces_from n rest) y.1) (subst (λ ys. length ys ≤ 2 ^ 26) a.added a.within)
+    ∙ (ap (λ ys. left_text n rest y.1 ys) (sym a.added) ∙ ap (λ vs. left_text n rest vs new) (sym left))
+stepped_on n rest out new values (Err fault) a left = absurd a
 
 pub stopped_at : (n : ℕ) (rest out : List ℕ) (x : Result (List ℕ × List Value) Fault) (s : Stop) → IsStopAfter out (text_of_step x) s → IsStopOf (step_text n rest x out) s
 stopped_at n rest out (Ok y) (stops.Fault fault) h = text_past out y.0 (λ m. formatted_from m (pieces_from n rest) y.1) h.1 ∙ ap (λ f. Err f) (sym h.0)
 stopped_at n rest out (Ok y) stops.NoMemory h = tt
 stopped_at n rest out (Err f) (stops.Fault fault) h = ap (λ x. behind_text out (x >>= λ y. then_text (length out) y (λ m. Ok []))) h
 stopped_at n rest out (Err f) stops.NoMemory h = tt
-
--- a value that stops
-pub stopped_value : (out : List ℕ) (d : Conversion) (values : List Value) (v : Value) (s : Stop) → 1 ≤ length values → v ≡ get_or values 0 v → IsStopAfter out (converted d d.specifier v) s → IsStopAfter out (text_of_step (step (Converts d) values)) s
-stopped_value out d [] v s some e h = absurd (omega arith)
-stopped_value out d (w ∷ ws) v s some e h = by (converted d d.specifier w) (subst (λ x. IsStopAfter out (converted d d.specifier x) s) e h)
-  where
-    by : (x : Result (List ℕ) Fault) → IsStopAfter out x s → IsStopAfter out (text_of_step (x >>= λ text. Ok (text, ws))) s
-    by (Ok text) k = k
-    by (Err fault) k = k
 
 -- What is left, on the way.
 
@@ -160,7 +152,7 @@ none_before xs at h = λ k less same.
 enough_for : (xs ys : List ℕ) (count : ℕ) → xs ≡ ys → length ys ≤ count → length xs ≤ count
 enough_for xs ys count e h = subst (λ zs. length zs ≤ count) (sym e) h
 
-pub after_plain : (format : List ℕ) (values : List Value) (out rest new : List ℕ) (left : List Value) (at : ℕ) → IsLeftOf format values out rest left → IsFirstByte (is_byte 37) rest (Some at) → new ≡ out ++ take at rest → length new ≤ 2 ^ 26 → IsLeftOf format values new (37 ∷ drop (at + 1) rest) left
+after_plain : (format : List ℕ) (values : List Value) (out rest new : List ℕ) (left : List Value) (at : ℕ) → IsLeftOf format values out rest left → IsFirstByte (is_byte 37) rest (Some at) → new ≡ out ++ take at rest → length new ≤ 2 ^ 26 → IsLeftOf format values new (37 ∷ drop (at + 1) rest) left
 after_plain format values out rest new left at l h e low =
     let whole = at_percent rest at h in
     let after = plain_text (take at rest) (37 ∷ drop (at + 1) rest) out left l.count (none_before rest at h) (enough_for _ rest l.count whole l.enough) (subst (λ ys. length ys ≤ 2 ^ 26) e low) in
@@ -171,7 +163,7 @@ after_plain format values out rest new left at l h e low =
           ∙ (sym after.outcome ∙ (ap (λ ys. left_text l.count ys left out) whole ∙ l.outcome));
     }
 
-pub plain_stops : (format : List ℕ) (values : List Value) (out rest : List ℕ) (left : List Value) (at : ℕ) (s : Stop) → IsLeftOf format values out rest left → IsFirstByte (is_byte 37) rest (Some at) → length out ≤ 2 ^ 26 → IsPast (out ++ take at rest) s → IsStopOf (formatted format values) s
+plain_stops : (format : List ℕ) (values : List Value) (out rest : List ℕ) (left : List Value) (at : ℕ) (s : Stop) → IsLeftOf format values out rest left → IsFirstByte (is_byte 37) rest (Some at) → length out ≤ 2 ^ 26 → IsPast (out ++ take at rest) s → IsStopOf (formatted format values) s
 plain_stops format values out rest left at (stops.Fault fault) l h low past =
     let whole = at_percent rest at h in
     sym (ap (λ ys. left_text l.count ys left out) whole ∙ l.outcome)
@@ -179,29 +171,25 @@ plain_stops format values out rest left at (stops.Fault fault) l h low past =
     ∙ ap (λ f. Err f) (sym past.0))
 plain_stops format values out rest left at stops.NoMemory l h low past = tt
 
-added_within : (out new : List ℕ) (next : List Value) (x : Result (List ℕ × List Value) Fault) → AddsStep out new next x → length new ≤ 2 ^ 26
-added_within out new next (Ok y) a = a.0.within
-added_within out new next (Err fault) a = absurd a
-
-pub after_directive : (format : List ℕ) (values : List Value) (out cs : List ℕ) (left : List Value) (p : Piece) (after new : List ℕ) (next : List Value) → IsLeftOf format values out (37 ∷ cs) left → conversion_at cs ≡ (p, after) → length after ≤ length cs → AddsStep out new next (step p left) → (length new ≤ 2 ^ 26) × IsLeftOf format values new after next
-after_directive format values out cs left p after new next l e shorter adds = (added_within out new next (step p left) adds, by l.count l.enough l.outcome)
+after_directive : (format : List ℕ) (values : List Value) (out cs : List ℕ) (left : List Value) (p : Piece) (after new : List ℕ) (next : List Value) → IsLeftOf format values out (37 ∷ cs) left → conversion_at cs ≡ (p, after) → length after ≤ length cs → AddsOutcome out new (text_of_step (step p left)) → IsLeftBy (step p left) next → IsLeftOf format values new after next
+after_directive format values out cs left p after new next l e shorter adds is = by l.count l.enough l.outcome
   where
     by : (count : ℕ) → suc (length cs) ≤ count → left_text count (37 ∷ cs) left out ≡ formatted format values → IsLeftOf format values new after next
     by zero enough outcome = absurd (omega arith)
     by (suc n) enough outcome = record {
       count = n;
       enough = omega arith;
-      outcome = sym (percent_step n cs out left p after e ∙ stepped_on n after out new next (step p left) adds) ∙ outcome;
+      outcome = sym (percent_step n cs out left p after e ∙ stepped_on n after out new next (step p left) adds is) ∙ outcome;
     }
 
-pub directive_stops : (format : List ℕ) (values : List Value) (out cs : List ℕ) (left : List Value) (p : Piece) (after : List ℕ) (s : Stop) → IsLeftOf format values out (37 ∷ cs) left → conversion_at cs ≡ (p, after) → IsStopAfter out (text_of_step (step p left)) s → IsStopOf (formatted format values) s
+directive_stops : (format : List ℕ) (values : List Value) (out cs : List ℕ) (left : List Value) (p : Piece) (after : List ℕ) (s : Stop) → IsLeftOf format values out (37 ∷ cs) left → conversion_at cs ≡ (p, after) → IsStopAfter out (text_of_step (step p left)) s → IsStopOf (formatted format values) s
 directive_stops format values out cs left p after s l e h = by l.count l.enough l.outcome
   where
     by : (count : ℕ) → suc (length cs) ≤ count → left_text count (37 ∷ cs) left out ≡ formatted format values → IsStopOf (formatted format values) s
     by zero enough outcome = absurd (omega arith)
     by (suc n) enough outcome = subst (λ x. IsStopOf x s) (sym (percent_step n cs out left p after e) ∙ outcome) (stopped_at n after out (step p left) s h)
 
-pub malformed_stops : (format : List ℕ) (values : List Value) (out cs : List ℕ) (left : List Value) → IsLeftOf format values out (37 ∷ cs) left → (conversion_at cs).0 ≡ Malformed → formatted format values ≡ Err Format
+malformed_stops : (format : List ℕ) (values : List Value) (out cs : List ℕ) (left : List Value) → IsLeftOf format values out (37 ∷ cs) left → (conversion_at cs).0 ≡ Malformed → formatted format values ≡ Err Format
 malformed_stops format values out cs left l e = by l.count l.enough l.outcome
   where
     by : (count : ℕ) → suc (length cs) ≤ count → left_text count (37 ∷ cs) left out ≡ formatted format values → formatted format values ≡ Err Format
@@ -215,22 +203,46 @@ nothing_left (suc n) left out = ap (λ xs. Ok xs) (append-nil out)
 none_in : (xs : List ℕ) → IsFirstByte (is_byte 37) xs None → NoPercent xs
 none_in xs h = λ k less same. h k (omega arith) less same
 
-pub ends : (format : List ℕ) (values : List Value) (out rest new : List ℕ) (left : List Value) → IsLeftOf format values out rest left → IsFirstByte (is_byte 37) rest None → new ≡ out ++ rest → length new ≤ 2 ^ 26 → formatted format values ≡ Ok new
+ends : (format : List ℕ) (values : List Value) (out rest new : List ℕ) (left : List Value) → IsLeftOf format values out rest left → IsFirstByte (is_byte 37) rest None → new ≡ out ++ rest → length new ≤ 2 ^ 26 → formatted format values ≡ Ok new
 ends format values out rest new left l h e low =
     let after = plain_text rest [] out left l.count (none_in rest h) (enough_for _ rest l.count (append-nil rest) l.enough) (subst (λ ys. length ys ≤ 2 ^ 26) e low) in
     sym l.outcome ∙ (ap (λ ys. left_text l.count ys left out) (sym (append-nil rest)) ∙ (after.outcome ∙ (nothing_left after.left left (out ++ rest) ∙ ap (λ xs. Ok xs) (sym e))))
 
-pub end_stops : (format : List ℕ) (values : List Value) (out rest : List ℕ) (left : List Value) (s : Stop) → IsLeftOf format values out rest left → IsFirstByte (is_byte 37) rest None → length out ≤ 2 ^ 26 → IsPast (out ++ rest) s → IsStopOf (formatted format values) s
+end_stops : (format : List ℕ) (values : List Value) (out rest : List ℕ) (left : List Value) (s : Stop) → IsLeftOf format values out rest left → IsFirstByte (is_byte 37) rest None → length out ≤ 2 ^ 26 → IsPast (out ++ rest) s → IsStopOf (formatted format values) s
 end_stops format values out rest left (stops.Fault fault) l h low past =
     sym l.outcome
     ∙ (ap (λ ys. left_text l.count ys left out) (sym (append-nil rest))
     ∙ (plain_text_past rest [] out left l.count (none_in rest h) (enough_for _ rest l.count (append-nil rest) l.enough) low past.1 ∙ ap (λ f. Err f) (sym past.0)))
 end_stops format values out rest left stops.NoMemory l h low past = tt
 
-pub end_added : {T : Type 0} (r : Result T Stop) (format : List ℕ) (values : List Value) (out rest new : List ℕ) (left : List Value) → IsLeftOf format values out rest left → IsFirstByte (is_byte 37) rest None → OnOk r (new ≡ out ++ rest) → OnOk r (length new ≤ 2 ^ 26) → OnOk r (formatted format values ≡ Ok new)
-end_added (Ok x) format values out rest new left l h e low = ends format values out rest new left l h e low
-end_added (Err s) format values out rest new left l h e low = tt
+-- The text so far: what is left, or why it stopped.
 
-pub end_stopped : {T : Type 0} (r : Result T Stop) (format : List ℕ) (values : List Value) (out rest : List ℕ) (left : List Value) → IsLeftOf format values out rest left → IsFirstByte (is_byte 37) rest None → length out ≤ 2 ^ 26 → IfErr r (IsPast (out ++ rest)) → IfErr r (IsStopOf (formatted format values))
-end_stopped (Ok x) format values out rest left l h low past = tt
-end_stopped (Err s) format values out rest left l h low past = end_stops format values out rest left s l h low past
+abbrev pub GoesOn : Option Stop → List ℕ → List Value → List ℕ → List ℕ → List Value → Type 0
+GoesOn None format values out rest left = (length out ≤ 2 ^ 26) × IsLeftOf format values out rest left
+GoesOn (Some stop) format values out rest left = IsStopOf (formatted format values) stop
+
+pub goes_plain : (p q : Option Stop) (format : List ℕ) (values : List Value) (old new rest : List ℕ) (left : List Value) (at : ℕ) → GoesOn p format values old rest left → IsFirstByte (is_byte 37) rest (Some at) → StandsAfter p q old new (Ok (take at rest)) → GoesOn q format values new (37 ∷ drop (at + 1) rest) left
+goes_plain None None format values old new rest left at i h g = (g.within, after_plain format values old rest new left at i.1 h g.added g.within)
+goes_plain None (Some s) format values old new rest left at i h g = plain_stops format values old rest left at s i.1 h i.0 g
+goes_plain (Some s) q format values old new rest left at i h g = subst (λ k. GoesOn k format values new (37 ∷ drop (at + 1) rest) left) (sym g) i
+
+within_of : (out new : List ℕ) (outcome : Result (List ℕ) Fault) → AddsOutcome out new outcome → length new ≤ 2 ^ 26
+within_of out new (Ok text) a = a.within
+within_of out new (Err fault) a = absurd a
+
+pub goes_directive : (p q : Option Stop) (format : List ℕ) (values : List Value) (old new cs : List ℕ) (left : List Value) (piece : Piece) (after : List ℕ) (next : List Value) → GoesOn p format values old (37 ∷ cs) left → conversion_at cs ≡ (piece, after) → length after ≤ length cs → StandsAfter p q old new (text_of_step (step piece left)) → IsLeftBy (step piece left) next → GoesOn q format values new after next
+goes_directive None None format values old new cs left piece after next i e shorter g is =
+    (within_of old new (text_of_step (step piece left)) g, after_directive format values old cs left piece after new next i.1 e shorter g is)
+goes_directive None (Some s) format values old new cs left piece after next i e shorter g is = directive_stops format values old cs left piece after s i.1 e g
+goes_directive (Some s) q format values old new cs left piece after next i e shorter g is = subst (λ k. GoesOn k format values new after next) (sym g) i
+
+pub goes_malformed : (p q : Option Stop) (format : List ℕ) (values : List Value) (old new cs : List ℕ) (left : List Value) → GoesOn p format values old (37 ∷ cs) left → (conversion_at cs).0 ≡ Malformed → StandsAfter p q old new (Err Format) → IsMade q new (formatted format values)
+goes_malformed None None format values old new cs left i e g = absurd g
+goes_malformed None (Some (stops.Fault fault)) format values old new cs left i e g = malformed_stops format values old cs left i.1 e ∙ g
+goes_malformed None (Some stops.NoMemory) format values old new cs left i e g = tt
+goes_malformed (Some s) q format values old new cs left i e g = subst (λ k. IsMade k new (formatted format values)) (sym g) i
+
+pub goes_end : (p q : Option Stop) (format : List ℕ) (values : List Value) (old new rest : List ℕ) (left : List Value) → GoesOn p format values old rest left → IsFirstByte (is_byte 37) rest None → StandsAfter p q old new (Ok rest) → IsMade q new (formatted format values)
+goes_end None None format values old new rest left i h g = ends format values old rest new left i.1 h g.added g.within
+goes_end None (Some s) format values old new rest left i h g = end_stops format values old rest left s i.1 h i.0 g
+goes_end (Some s) q format values old new rest left i h g = subst (λ k. IsMade k new (formatted format values)) (sym g) i

@@ -1,5 +1,6 @@
 pub mod Parts
 pub mod Outcomes
+pub mod Growing
 pub mod Spans
 pub mod Marks
 pub mod Expressions

@@ -5,7 +5,6 @@ use Rattle.awk_values.specs.declared.fault.Fault.TheVariants.{Format}
 use Rattle.awk_values.specs.declared.value.Value.{Value}
 use Rattle.sem_primitives.specs.SharedState.{◌>>=◌}
 use Rattle.sem_primitives.specs.Formats.{Piece, Ordinary, Converts, Malformed, converted, formatted, formatted_from, pieces_from}
-use Rattle.host_format.specs.Outcomes.{Adds}
 
 -- the text of a piece, and the values after it
 abbrev pub step : Piece → List Value → Result (List ℕ × List Value) Fault
@@ -14,9 +13,10 @@ step (Converts d) [] = Err Format
 step (Converts d) (v ∷ values) = converted d d.specifier v >>= λ text. Ok (text, values)
 step Malformed values = Err Format
 
-abbrev pub AddsStep : List ℕ → List ℕ → List Value → Result (List ℕ × List Value) Fault → Type 0
-AddsStep old new values (Ok x) = Adds old new x.0 × (values ≡ x.1)
-AddsStep old new values (Err fault) = ⊥
+-- these values are left
+abbrev pub IsLeftBy : Result (List ℕ × List Value) Fault → List Value → Type 0
+IsLeftBy (Ok x) values = values ≡ x.1
+IsLeftBy (Err fault) values = Unit {0}
 
 abbrev pub text_of_step : Result (List ℕ × List Value) Fault → Result (List ℕ) Fault
 text_of_step x = x >>= λ y. Ok y.0

@@ -3,9 +3,10 @@ use Rattle.std.specs.Prelude.{◌≡◌, ℕ, ◌+◌, ◌≤◌, Bool, List, []
 use Rattle.awk_values.specs.declared.fault.Fault.{Fault}
 use Rattle.ere_syntax.specs.Tree.{Tree}
 use Rattle.sem_primitives.specs.FirstMatch.{first_match}
-use Rattle.sem_primitives.specs.Limits.{most_text}
 use Rattle.sem_primitives.specs.SharedState.{◌>>=◌}
 use Rattle.sem_primitives.specs.Texts.{limited}
+use Rattle.host_format.specs.Growing.{Grows}
+use Rattle.host_format.specs.declared.growing.Growing.{Growing}
 use Rattle.sem_primitives.specs.TextMeaning.{behind, places, places_of, replaced}
 
 -- how many matches are replaced, and the new text
@@ -18,8 +19,7 @@ IsNextPlace t text at last None = (n : ℕ) → length text + 1 ≤ n + at → p
 IsNextPlace t text at last (Some p) = (n : ℕ) → length text + 1 ≤ n + at → (m : ℕ) × (length text + 1 ≤ m + behind p)
     × (places (first_match t text) n at last ≡ p ∷ places (first_match t text) m (behind p) (Some p.1))
 
--- so many matches were replaced, and this is the new text, which is within the limit
-pub record IsReplaced (t : Tree) (by text : List ℕ) (all : Bool) (count : ℕ) (new : List ℕ) : Type 0 where
+-- so many matches were replaced, and between the two the new text was added
+pub record IsReplaced (t : Tree) (by text : List ℕ) (all : Bool) (count : ℕ) (old new : Growing) : Type 0 where
   pub counted : length (places_of t text all) ≡ count
-  pub text_is : replaced text by 0 (places_of t text all) ≡ new
-  pub within : length new ≤ most_text
+  pub grows : Grows old new (Ok (replaced text by 0 (places_of t text all)))

@@ -1,21 +1,30 @@
 //! Conversions of a format, and how they are read.
-ghost use Rattle.std.specs.Prelude.{◌≡◌, ◌^◌, ◌≤◌, IfSome, MatchOption, Some, false, length, min, option_map, take_while, true, drop};
+ghost use Rattle.std.specs.Prelude.{◌≡◌, ◌≤◌, IfSome, MatchOption, length, option_map, take_while};
 ghost use Rattle.awk_text.specs.Number.{value_after};
 ghost use Rattle.awk_text.specs.Reading.{digits_at, is_digit};
-ghost use Rattle.sem_primitives.specs.Formats.{Converts, Malformed, conversion_at, has_flag, is_flag, is_narrow, precision_at, specifier_of};
-ghost use Rattle.host_format.specs.Conversions.{conversion_is, piece_is, specifier_is, wide_at};
+ghost use Rattle.sem_primitives.specs.Formats.{Converts, Malformed, conversion_at, has_flag, is_flag, precision_at, specifier_of};
+ghost use Rattle.host_format.specs.Conversions.{conversion_is, cut, piece_is, specifier_is, wide_at};
+
+/// A width and a precision are at most this.
+const MOST_WIDTH: usize = 65_535;
 
 /// What the letter of a conversion asks for.
 #[derive(Clone, Copy)]
 pub(crate) enum Specifier {
+    Whole(Whole),
+    Fixed,
+    Text,
+    Char,
+}
+
+/// How a whole number is written.
+#[derive(Clone, Copy)]
+pub(crate) enum Whole {
     Signed,
     Octal,
     Unsigned,
     LowerHex,
     UpperHex,
-    Fixed,
-    Text,
-    Char,
 }
 
 /// A conversion of a format.
@@ -23,8 +32,8 @@ pub(crate) enum Specifier {
 pub(crate) struct Conversion<'a> {
     /// The flags, as they stand in the format.
     pub(crate) flags: &'a [u8],
-    pub(crate) width: u16,
-    pub(crate) precision: Option<u16>,
+    pub(crate) width: usize,
+    pub(crate) precision: Option<usize>,
     pub(crate) specifier: Specifier,
 }
 
@@ -61,54 +70,41 @@ fn count_digits(text: &[u8]) -> usize
         .count()
 }
 
-/// The flags at the front, and what follows.
-fn split_flags(text: &[u8]) -> (&[u8], &[u8])
-    ensures flags { result.0.now ≡ take_while is_flag text.now }
-    ensures rest { result.1.now ≡ drop (length (take_while is_flag text.now)) text.now }
-{
-    text.split_at(count_flags(text))
-}
-
 /// The number that digits stand for, cut to one past the greatest width.
 #[tactic(auto, using(awk_text::proofs::Values::cut_step))]
-fn number_of(digits: &[u8]) -> u32
-    ensures { result ≡ min (value_after 0 digits.now) (2 ^ 16) }
+fn number_of(digits: &[u8]) -> usize
+    ensures { result ≡ cut (value_after 0 digits.now) }
 {
-    let mut number = 0u32;
+    let mut number = 0usize;
     for digit in digits {
-        let next = number * 10 + u32::from(digit.saturating_sub(b'0'));
-        number = next.min(1 << 16);
+        let next = number * 10 + usize::from(digit.saturating_sub(b'0'));
+        number = next.min(MOST_WIDTH + 1);
     }
     number
 }
 
-/// The number of the digits at the front, and what follows, unless it is past 65,535.
-fn split_number(text: &[u8]) -> Option<(u16, &[u8])>
-    ensures value { MatchOption result (is_narrow (Some (value_after 0 (digits_at text.now).0))
-        ≡ false) (λ x. (is_narrow (Some x.0) ≡ true)
-        × ((x.0 ≡ value_after 0 (digits_at text.now).0) × (x.1.now ≡ (digits_at text.now).1))) }
-    ensures shorter { IfSome result (λ x. length x.1.now ≤ length text.now) }
+/// The number of the digits at the front, cut to one past the greatest width, and what follows.
+fn split_number(text: &[u8]) -> (usize, &[u8])
+    ensures value { result.0 ≡ cut (value_after 0 (digits_at text.now).0) }
+    ensures rest { result.1.now ≡ (digits_at text.now).1 }
+    ensures shorter { length result.1.now ≤ length text.now }
 {
     let (digits, rest) = text.split_at(count_digits(text));
-    match u16::try_from(number_of(digits)) {
-        Ok(number) => Some((number, rest)),
-        Err(_) => None,
-    }
+    (number_of(digits), rest)
 }
 
-/// What the point and its digits say, and what follows, unless it is past 65,535.
-fn split_precision(text: &[u8]) -> Option<(Option<u16>, &[u8])>
-    ensures value { MatchOption result (is_narrow (precision_at text.now).0 ≡ false)
-        (λ x. (is_narrow x.0 ≡ true)
-        × ((x.0 ≡ (precision_at text.now).0) × (x.1.now ≡ (precision_at text.now).1))) }
-    ensures shorter { IfSome result (λ x. length x.1.now ≤ length text.now) }
+/// What the point and its digits say, cut to one past the greatest precision, and what follows.
+fn split_precision(text: &[u8]) -> (Option<usize>, &[u8])
+    ensures value { result.0 ≡ option_map cut (precision_at text.now).0 }
+    ensures rest { result.1.now ≡ (precision_at text.now).1 }
+    ensures shorter { length result.1.now ≤ length text.now }
 {
     match text {
         [b'.', rest @ ..] => {
-            let (number, rest) = split_number(rest)?;
-            Some((Some(number), rest))
+            let (number, rest) = split_number(rest);
+            (Some(number), rest)
         }
-        _ => Some((None, text)),
+        _ => (None, text),
     }
 }
 
@@ -117,11 +113,11 @@ fn specifier_of(letter: u8) -> Option<Specifier>
     ensures { option_map specifier_is result ≡ specifier_of letter }
 {
     match letter {
-        b'd' | b'i' => Some(Specifier::Signed),
-        b'o' => Some(Specifier::Octal),
-        b'u' => Some(Specifier::Unsigned),
-        b'x' => Some(Specifier::LowerHex),
-        b'X' => Some(Specifier::UpperHex),
+        b'd' | b'i' => Some(Specifier::Whole(Whole::Signed)),
+        b'o' => Some(Specifier::Whole(Whole::Octal)),
+        b'u' => Some(Specifier::Whole(Whole::Unsigned)),
+        b'x' => Some(Specifier::Whole(Whole::LowerHex)),
+        b'X' => Some(Specifier::Whole(Whole::UpperHex)),
         b'f' => Some(Specifier::Fixed),
         b's' => Some(Specifier::Text),
         b'c' => Some(Specifier::Char),
@@ -135,24 +131,23 @@ fn split_conversion(text: &[u8]) -> Option<(Conversion<'_>, &[u8])>
         (λ x. wide_at text.now ≡ (Converts (conversion_is x.0), x.1.now)) }
     ensures shorter { IfSome result (λ x. length x.1.now ≤ length text.now) }
 {
-    let (flags, rest) = split_flags(text);
-    let (width, rest) = split_number(rest)?;
-    let (precision, rest) = split_precision(rest)?;
-    match rest {
-        [] => None,
-        [letter, rest @ ..] => {
-            let specifier = specifier_of(*letter)?;
-            Some((
-                Conversion {
-                    flags,
-                    width,
-                    precision,
-                    specifier,
-                },
-                rest,
-            ))
-        }
+    let (flags, rest) = text.split_at(count_flags(text));
+    let (width, rest) = split_number(rest);
+    let (precision, rest) = split_precision(rest);
+    let [letter, rest @ ..] = rest else {
+        return None;
+    };
+    let specifier = specifier_of(*letter)?;
+    if width.max(precision.unwrap_or(0)) > MOST_WIDTH {
+        return None;
     }
+    let conversion = Conversion {
+        flags,
+        width,
+        precision,
+        specifier,
+    };
+    Some((conversion, rest))
 }
 
 /// What a percent sign before this text stands for, and what follows that, unless it is malformed.

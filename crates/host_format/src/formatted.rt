@@ -1,60 +1,62 @@
 //! Formatting.
-ghost use Rattle.std.specs.Prelude.{◌≡◌, IfErr, IfOk, Ok, OnOk, []};
+ghost use Rattle.std.specs.Prelude.{◌≡◌, IfErr, IfOk, None, Ok, OnOk, []};
 ghost use Rattle.sem_primitives.specs.Formats.{formatted};
 ghost use Rattle.host_format.specs.Conversions.{piece_is};
-ghost use Rattle.host_format.specs.Outcomes.{IsStopAfter, IsStopOf};
-ghost use Rattle.host_format.specs.Steps.{AddsStep, step, text_of_step};
+ghost use Rattle.host_format.specs.Growing.{Grows, IsMade};
+ghost use Rattle.host_format.specs.Outcomes.{IsStopOf};
+ghost use Rattle.host_format.specs.Steps.{IsLeftBy, step, text_of_step};
 
 use crate::conversion::{Directive, split_directive};
 use crate::converted::put_converted;
-use crate::put::put;
+use crate::growing::Growing;
 use awk_values::{Bytes, Fault, Stop, Value};
 use memchr::memchr;
 use std::alloc::Global;
+use std::mem;
 
 /// Adds what a directive stands for, and gives the values that are left.
 fn put_directive<'a>(
-    out: &mut Vec<u8>,
+    out: &mut Growing,
     directive: Directive<'_>,
     values: &'a [Value],
-) -> Result<&'a [Value], Stop>
-    ensures ok { IfOk result (λ left. AddsStep out.old.items out.new.items left.now
-        (step (piece_is directive.entry) values.now)) }
-    ensures err { IfErr result
-        (IsStopAfter out.old.items (text_of_step (step (piece_is directive.entry) values.now))) }
+) -> &'a [Value]
+    ensures text { Grows out.old out.new (text_of_step (step (piece_is directive.entry) values.now)) }
+    ensures left { IsLeftBy (step (piece_is directive.entry) values.now) result.now }
 {
     match directive {
         Directive::Percent => {
-            put(out, b"%")?;
-            Ok(values)
+            out.put(b"%");
+            values
         }
         Directive::Converts(conversion) => {
             let [value, left @ ..] = values else {
-                return Err(Stop::Fault(Fault::Format));
+                out.refuse(Fault::Format);
+                return values;
             };
-            put_converted(out, conversion, value)?;
-            Ok(left)
+            put_converted(out, conversion, value);
+            left
         }
     }
 }
 
 /// Adds the text of a format and values to an empty text.
-fn put_formatted(out: &mut Vec<u8>, format: &[u8], values: &[Value]) -> Result<(), Stop>
-    requires { out.old.items ≡ [] }
-    ensures ok { OnOk result (formatted format.now values.now ≡ Ok out.new.items) }
-    ensures err { IfErr result (IsStopOf (formatted format.now values.now)) }
+fn put_formatted(out: &mut Growing, format: &[u8], values: &[Value])
+    requires empty { out.old.bytes.items ≡ [] }
+    requires open { out.old.stop ≡ None }
+    ensures { IsMade out.new.stop out.new.bytes.items (formatted format.now values.now) }
 {
     let mut rest = format;
     let mut left = values;
     while let Some(at) = memchr(b'%', rest) {
-        put(out, &rest[..at])?;
+        out.put(&rest[..at]);
         let Some((directive, after)) = split_directive(&rest[at + 1..]) else {
-            return Err(Stop::Fault(Fault::Format));
+            out.refuse(Fault::Format);
+            return;
         };
-        left = put_directive(out, directive, left)?;
+        left = put_directive(out, directive, left);
         rest = after;
     }
-    put(out, rest)
+    out.put(rest);
 }
 
 /// Makes a text that of a format and values, in the room that it has (POSIX.1-2017 awk, "Formatted output"; XBD 5). A conversion is a percent sign,
@@ -69,8 +71,19 @@ pub fn format_into(out: &mut Vec<u8>, format: &[u8], values: &[Value]) -> Result
     ensures ok { OnOk result (formatted format.now values.now ≡ Ok out.new.items) }
     ensures err { IfErr result (IsStopOf (formatted format.now values.now)) }
 {
+    let alloc = *out.allocator();
     out.clear();
-    put_formatted(out, format, values)
+    let mut text = Growing {
+        bytes: mem::replace(out, Vec::new(alloc)),
+        stop: None,
+    };
+    put_formatted(&mut text, format, values);
+    let Growing { bytes, stop } = text;
+    *out = bytes;
+    match stop {
+        None => Ok(()),
+        Some(stop) => Err(stop),
+    }
 }
 
 /// The text of a format and values, as [`format_into`] makes it.

@@ -1,12 +1,11 @@
 //! Texts of conversions, and how they fill their width.
-ghost use Rattle.std.specs.Prelude.{◌≡◌, ◌-◌, ◌++◌, IfErr, OnOk, length};
+ghost use Rattle.std.specs.Prelude.{◌≡◌, ◌-◌, Ok, length};
 ghost use Rattle.sem_primitives.specs.Formats.{filled, number_text, padded, with_precision};
 ghost use Rattle.host_format.specs.Conversions.{body_text, conversion_is, parts_text, places_text};
-ghost use Rattle.host_format.specs.Outcomes.{Adds, IsPast};
+ghost use Rattle.host_format.specs.Growing.{Grows};
 
 use crate::conversion::Conversion;
-use crate::put::{put, put_fill};
-use awk_values::Stop;
+use crate::growing::Growing;
 
 /// The text of a number but for its padding, in parts.
 #[derive(Clone, Copy)]
@@ -24,7 +23,7 @@ impl<'a> Parts<'a> {
     /// A number, with the least count of digits that a precision asks for. A precision of 0 asks for none of the number 0.
     pub(crate) fn whole(
         front: &'a [u8],
-        precision: Option<u16>,
+        precision: Option<usize>,
         number: u64,
         digits: &'a [u8],
     ) -> Parts<'a>
@@ -37,7 +36,7 @@ impl<'a> Parts<'a> {
                 if least == 0 && number == 0 {
                     (0, &digits[..0])
                 } else {
-                    (usize::from(least).saturating_sub(digits.len()), digits)
+                    (least.saturating_sub(digits.len()), digits)
                 }
             }
         };
@@ -50,10 +49,10 @@ impl<'a> Parts<'a> {
     }
 
     /// How far the text is short of a width.
-    fn gap(self, width: u16) -> usize
+    fn gap(self, width: usize) -> usize
         ensures { result ≡ width - length (parts_text self.entry) }
     {
-        let gap = usize::from(width)
+        let gap = width
             .saturating_sub(self.front.len())
             .saturating_sub(self.zeros)
             .saturating_sub(self.digits.len());
@@ -64,7 +63,7 @@ impl<'a> Parts<'a> {
     }
 
     /// The same with zeros before the digits up to a width.
-    fn filled(self, width: u16) -> Parts<'a>
+    fn filled(self, width: usize) -> Parts<'a>
         ensures front { result.front.now ≡ self.entry.front.now }
         ensures body { body_text result
             ≡ filled (width - length self.entry.front.now) (body_text self.entry) }
@@ -75,80 +74,42 @@ impl<'a> Parts<'a> {
     }
 }
 
-/// Adds a point and zeros.
-fn put_places(out: &mut Vec<u8>, places: Option<usize>) -> Result<(), Stop>
-    ensures ok { OnOk result (Adds out.old.items out.new.items (places_text places)) }
-    ensures err { IfErr result (IsPast (out.old.items ++ places_text places)) }
-{
-    match places {
-        None => put(out, &[]),
-        Some(places) => {
-            put(out, b".")?;
-            put_fill(out, b'0', places)
-        }
-    }
-}
-
 /// Adds a text in parts.
-fn put_parts(out: &mut Vec<u8>, parts: Parts<'_>) -> Result<(), Stop>
-    ensures ok { OnOk result (Adds out.old.items out.new.items (parts_text parts.entry)) }
-    ensures err { IfErr result (IsPast (out.old.items ++ parts_text parts.entry)) }
+fn put_parts(out: &mut Growing, parts: Parts<'_>)
+    ensures { Grows out.old out.new (Ok (parts_text parts.entry)) }
 {
-    put(out, parts.front)?;
-    put_fill(out, b'0', parts.zeros)?;
-    put(out, parts.digits)?;
-    put_places(out, parts.places)
+    out.put(parts.front);
+    out.fill(b'0', parts.zeros);
+    out.put(parts.digits);
+    if let Some(places) = parts.places {
+        out.put(b".");
+        out.fill(b'0', places);
+    }
 }
 
 /// Adds a text at the right end of its width, or with the flag `-` at the left end.
-pub(crate) fn put_padded_text(
-    out: &mut Vec<u8>,
-    conversion: Conversion<'_>,
-    text: &[u8],
-) -> Result<(), Stop>
-    ensures ok { OnOk result (Adds out.old.items out.new.items
-        (padded (conversion_is conversion.entry) text.now)) }
-    ensures err { IfErr result
-        (IsPast (out.old.items ++ padded (conversion_is conversion.entry) text.now)) }
+pub(crate) fn put_padded_text(out: &mut Growing, conversion: Conversion<'_>, text: &[u8])
+    ensures { Grows out.old out.new (Ok (padded (conversion_is conversion.entry) text.now)) }
 {
-    let gap = usize::from(conversion.width).saturating_sub(text.len());
+    let gap = conversion.width.saturating_sub(text.len());
     if conversion.has(b'-') {
-        put(out, text)?;
-        put_fill(out, b' ', gap)
+        out.put(text);
+        out.fill(b' ', gap);
     } else {
-        put_fill(out, b' ', gap)?;
-        put(out, text)
+        out.fill(b' ', gap);
+        out.put(text);
     }
 }
 
-/// Adds a text in parts at the right end of its width, or with the flag `-` at the left end.
-fn put_padded(out: &mut Vec<u8>, conversion: Conversion<'_>, parts: Parts<'_>) -> Result<(), Stop>
-    ensures ok { OnOk result (Adds out.old.items out.new.items
-        (padded (conversion_is conversion.entry) (parts_text parts.entry))) }
-    ensures err { IfErr result (IsPast
-        (out.old.items ++ padded (conversion_is conversion.entry) (parts_text parts.entry))) }
-{
-    let gap = parts.gap(conversion.width);
-    if conversion.has(b'-') {
-        put_parts(out, parts)?;
-        put_fill(out, b' ', gap)
-    } else {
-        put_fill(out, b' ', gap)?;
-        put_parts(out, parts)
-    }
-}
-
-/// Adds the text of a number, whose front is its sign or its mark: zeros stand before the digits where the flag `0` counts.
+/// Adds the text of a number, whose front is its sign or its mark, as [`put_padded_text`] does. Zeros stand before the digits where the flag `0` counts.
 pub(crate) fn put_number(
-    out: &mut Vec<u8>,
+    out: &mut Growing,
     conversion: Conversion<'_>,
-    precision: Option<u16>,
+    precision: Option<usize>,
     parts: Parts<'_>,
-) -> Result<(), Stop>
-    ensures ok { OnOk result (Adds out.old.items out.new.items (number_text
-        (conversion_is conversion.entry) precision parts.entry.front.now (body_text parts.entry))) }
-    ensures err { IfErr result (IsPast (out.old.items ++ number_text
-        (conversion_is conversion.entry) precision parts.entry.front.now (body_text parts.entry))) }
+)
+    ensures { Grows out.old out.new (Ok (number_text (conversion_is conversion.entry) precision
+        parts.entry.front.now (body_text parts.entry))) }
 {
     let is_filled = precision.is_none() && conversion.has(b'0') && !conversion.has(b'-');
     let parts = if is_filled {
@@ -156,5 +117,12 @@ pub(crate) fn put_number(
     } else {
         parts
     };
-    put_padded(out, conversion, parts)
+    let gap = parts.gap(conversion.width);
+    if conversion.has(b'-') {
+        put_parts(out, parts);
+        out.fill(b' ', gap);
+    } else {
+        out.fill(b' ', gap);
+        put_parts(out, parts);
+    }
 }

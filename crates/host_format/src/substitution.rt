@@ -1,17 +1,19 @@
 //! Substitution.
-ghost use Rattle.std.specs.Prelude.{◌≡◌, ℕ, ◌+◌, ◌^◌, ◌<◌, ◌≤◌, ◌++◌, [], true, false, Bool, IfErr, IfOk, IfSome, List, None, Ok, OnOk, Option, Some, length, slice_range};
+ghost use Rattle.std.specs.Prelude.{◌≡◌, ℕ, ◌^◌, ◌<◌, ◌≤◌, ◌++◌, true, Bool, IfErr, IfOk, IfSome, List, None, Ok, Some, length, slice_range};
 ghost use Rattle.ere_syntax.specs.Tree.{Tree};
 ghost use Rattle.ere_match.specs.Autos.{IsAutoOf};
-ghost use Rattle.sem_primitives.specs.TextMeaning.{behind, is_empty_at, places_of, replaced, replacement};
+ghost use Rattle.sem_primitives.specs.TextMeaning.{behind, is_empty_at, replacement};
 ghost use Rattle.host_format.specs.Expressions.{IsAuto};
-ghost use Rattle.host_format.specs.Outcomes.{IsPast, IsStopOf};
+ghost use Rattle.host_format.specs.Growing.{Grows};
+ghost use Rattle.host_format.specs.Outcomes.{IsStopOf};
 ghost use Rattle.host_format.specs.Substitutions.{IsNextPlace, IsReplaced, substitution};
 
 use crate::eres::first;
-use crate::put::{put, room};
+use crate::growing::Growing;
 use crate::replacement::put_replacement;
-use awk_values::{Bytes, Stop};
+use awk_values::{Bytes, Fault, Stop};
 use ere_match::Auto;
+use sem_primitives::MAX_TEXT;
 use std::alloc::{AllocError, Global};
 
 /// What a substitution gives.
@@ -77,102 +79,69 @@ fn behind(place: (usize, usize)) -> usize
 }
 
 /// Adds what stands before a match, and what replaces the match.
-fn put_place(
-    out: &mut Vec<u8>,
-    by: &[u8],
-    text: &[u8],
-    from: usize,
-    place: (usize, usize),
-) -> Result<(), Stop>
+fn put_place(out: &mut Growing, by: &[u8], text: &[u8], from: usize, place: (usize, usize))
     requires from { from ≤ place.0 }
     requires start { place.0 ≤ place.1 }
     requires end { place.1 ≤ length text.now }
-    ensures ok { OnOk result (out.new.items ≡ out.old.items ++ (slice_range text.now from place.0
+    ensures { Grows out.old out.new (Ok (slice_range text.now from place.0
         ++ replacement (slice_range text.now place.0 place.1) by.now)) }
-    ensures err { IfErr result (IsPast (out.old.items ++ (slice_range text.now from place.0
-        ++ replacement (slice_range text.now place.0 place.1) by.now))) }
 {
-    put(out, &text[from..place.0])?;
-    put_replacement(out, &text[place.0..place.1], by)
+    out.put(&text[from..place.0]);
+    put_replacement(out, &text[place.0..place.1], by);
 }
 
 /// Adds the text with every match from the first one on replaced, and tells how many there were.
 fn put_all(
-    out: &mut Vec<u8>,
+    out: &mut Growing,
     auto: &mut Auto,
     by: &[u8],
     text: &[u8],
     first: (usize, usize),
-) -> Result<usize, Stop>
+) -> Result<usize, AllocError>
     requires auto { IsAuto auto.old }
-    requires empty { out.old.items ≡ [] }
     requires order { first.0 ≤ first.1 }
     requires inside { first.1 ≤ length text.now }
     ensures ok { (t : Tree) → IsAutoOf auto.old t → IsNextPlace t text.now 0 None (Some first)
-        → IfOk result (λ count. IsReplaced t by.now text.now true count out.new.items) }
+        → IfOk result (λ count. IsReplaced t by.now text.now true count out.old out.new) }
     ensures kept { (t : Tree) → IsAutoOf auto.old t → IsAutoOf auto.new t }
-    ensures err { (t : Tree) → IsAutoOf auto.old t → IsNextPlace t text.now 0 None (Some first)
-        → IfErr result (IsPast (replaced text.now by.now 0 (places_of t text.now true))) }
 {
     let mut count = 0;
     let mut from = 0;
     let mut at = 0;
     let mut found = Some(first);
     while let Some(place) = found {
-        put_place(out, by, text, from, place)?;
+        put_place(out, by, text, from, place);
         count += 1;
         from = place.1;
         at = behind(place);
         found = next_place(auto, text, at, Some(from))?;
     }
-    put(out, &text[from..])?;
+    out.put(&text[from..]);
     Ok(count)
-}
-
-/// Adds the text with this match, the first one, replaced, and tells that it is one.
-fn put_first(
-    out: &mut Vec<u8>,
-    by: &[u8],
-    text: &[u8],
-    first: (usize, usize),
-) -> Result<usize, Stop>
-    requires empty { out.old.items ≡ [] }
-    requires order { first.0 ≤ first.1 }
-    requires inside { first.1 ≤ length text.now }
-    ensures ok { (t : Tree) → IsNextPlace t text.now 0 None (Some first)
-        → IfOk result (λ count. IsReplaced t by.now text.now false count out.new.items) }
-    ensures err { (t : Tree) → IsNextPlace t text.now 0 None (Some first)
-        → IfErr result (IsPast (replaced text.now by.now 0 (places_of t text.now false))) }
-{
-    put_place(out, by, text, 0, first)?;
-    put(out, &text[first.1..])?;
-    Ok(1)
 }
 
 /// Adds the text with this match, the first one, or with every match, replaced, and tells how many these were.
 fn put_replaced(
-    out: &mut Vec<u8>,
+    out: &mut Growing,
     auto: &mut Auto,
     by: &[u8],
     text: &[u8],
     all: bool,
     first: (usize, usize),
-) -> Result<usize, Stop>
+) -> Result<usize, AllocError>
     requires auto { IsAuto auto.old }
-    requires empty { out.old.items ≡ [] }
     requires order { first.0 ≤ first.1 }
     requires inside { first.1 ≤ length text.now }
     ensures ok { (t : Tree) → IsAutoOf auto.old t → IsNextPlace t text.now 0 None (Some first)
-        → IfOk result (λ count. IsReplaced t by.now text.now all count out.new.items) }
+        → IfOk result (λ count. IsReplaced t by.now text.now all count out.old out.new) }
     ensures kept { (t : Tree) → IsAutoOf auto.old t → IsAutoOf auto.new t }
-    ensures err { (t : Tree) → IsAutoOf auto.old t → IsNextPlace t text.now 0 None (Some first)
-        → IfErr result (IsPast (replaced text.now by.now 0 (places_of t text.now all))) }
 {
     if all {
-        put_all(out, auto, by, text, first)
-    } else {
-        put_first(out, by, text, first)
+        return put_all(out, auto, by, text, first);
     }
+    put_place(out, by, text, 0, first);
+    out.put(&text[first.1..]);
+    Ok(1)
 }
 
 /// What a substitution gives where there is no match: the text itself, which is shared.
@@ -182,7 +151,9 @@ fn unchanged(text: &Bytes) -> Result<Substituted, Stop>
     ensures err { (t : Tree) (by : List ℕ) (all : Bool) → IsNextPlace t text.now 0 None None
         → IfErr result (IsStopOf (substitution t by text.now all)) }
 {
-    room(0, text.len())?;
+    if text.len() > MAX_TEXT {
+        return Err(Stop::Fault(Fault::TextLimit));
+    }
     let text = text.clone()?;
     Ok(Substituted { count: 0, text })
 }
@@ -210,8 +181,9 @@ pub fn substitute(
     let Some(first) = next_place(auto, text.as_slice(), 0, None)? else {
         return unchanged(text);
     };
-    let mut out = Vec::with_capacity(alloc, text.len())?;
+    let bytes = Vec::with_capacity(alloc, text.len())?;
+    let mut out = Growing { bytes, stop: None };
     let count = put_replaced(&mut out, auto, by, text.as_slice(), all, first)?;
-    let text = Bytes::from_vec(out)?;
+    let text = Bytes::from_vec(out.all()?)?;
     Ok(Substituted { count, text })
 }

@@ -28,3 +28,21 @@ returns-clause-ok c = λ t a.
     let text = c.args.text.now in
     all_cut t c.args.newlines text c.loop-start.from c.in_ok-line-2.line c.loop-start.spans.items c.push_lines-2.new.spans.items c.push-2.new.spans.items c.in_ok-start.field-0 c.in_default.is
     (c.in_ok-start.ensures.found t (i.kept t a)) (record { within = c.in_ok-line-2.ensures.from; rest = c.in_ok-line-2.ensures.rest; lines = c.in_ok-line-2.ensures.lines }) (c.in_ok-push-2.ensures text) (i.cut t a)
+
+pub returns-in_err-start-clause-kept : goal.returns-in_err-start-clause-kept
+returns-in_err-start-clause-kept c = λ t a. c.first_not_empty.ensures.kept t (c.loop-start.invariant.kept t a)
+
+pub returns-in_err-line-clause-kept : goal.returns-in_err-line-clause-kept
+returns-in_err-line-clause-kept c = λ t a. c.first_not_empty.ensures.kept t (c.loop-start.invariant.kept t a)
+
+pub returns-in_err-push-clause-kept : goal.returns-in_err-push-clause-kept
+returns-in_err-push-clause-kept c = λ t a. c.first_not_empty.ensures.kept t (c.loop-start.invariant.kept t a)
+
+pub returns-in_err-line-2-clause-kept : goal.returns-in_err-line-2-clause-kept
+returns-in_err-line-2-clause-kept c = λ t a. c.first_not_empty.ensures.kept t (c.loop-start.invariant.kept t a)
+
+pub returns-in_err-push-2-clause-kept : goal.returns-in_err-push-2-clause-kept
+returns-in_err-push-2-clause-kept c = λ t a. c.first_not_empty.ensures.kept t (c.loop-start.invariant.kept t a)
+
+pub returns-clause-kept : goal.returns-clause-kept
+returns-clause-kept c = λ t a. c.first_not_empty.ensures.kept t (c.loop-start.invariant.kept t a)

@@ -1,53 +1,41 @@
-use Rattle.std.proofs.Common.{◌+◌, ◌≤◌, ap, drop, length, subst, sym, ◌∙◌}
-use Rattle.std.proofs.lemmas.Result.{err_from_is_err_and}
+use Rattle.std.proofs.Common.{◌+◌, ◌≤◌, List, ap, arith, drop, length, length-drop, subst, sym, ◌∙◌}
 use Rattle.sem_primitives.specs.Formats.{conversion_at}
 use Rattle.host_format.specs.Conversions.{piece_is}
 use Rattle.host_format.proofs.Pieces.{rest_of}
-use Rattle.host_format.proofs.Steps.{after_directive, after_plain, directive_stops, end_added, end_stopped, malformed_stops, plain_stops}
+use Rattle.host_format.proofs.Steps.{goes_directive, goes_end, goes_malformed, goes_plain}
 use Rattle.host_format.proofs.formatted.put_formatted.Goals as goal
 
-pub returns-in_err-put-clause-err : goal.returns-in_err-put-clause-err
-returns-in_err-put-clause-err c =
-    let p = err_from_is_err_and c.from_residual.result c.from_residual.ensures.1 in
-    let i = c.loop-at.invariant in
-    rw (p.1, p.2) (plain_stops c.args.format.now c.args.values.now c.loop-at.out.items c.loop-at.rest.now c.loop-at.left.now c.in-Some.at _ i.left_over c.in-Some.ensures i.within c.in_err-put.ensures.err)
-
-pub returns-in_default-split_directive-clause-err : goal.returns-in_default-split_directive-clause-err
-returns-in_default-split_directive-clause-err c =
-    let i = c.loop-at.invariant in
+pub returns-in_default-split_directive : goal.returns-in_default-split_directive
+returns-in_default-split_directive c =
+    let out = c.loop-at.out in
+    let next = c.put.new.self in
+    let last = c.refuse.new.self in
     let rest = c.loop-at.rest.now in
     let at = c.in-Some.at in
-    let left = after_plain c.args.format.now c.args.values.now c.loop-at.out.items rest c.put.new.out.items c.loop-at.left.now at i.left_over c.in-Some.ensures c.in_ok-put.ensures.ok c.in_ok-put.ensures.within in
-    malformed_stops c.args.format.now c.args.values.now c.put.new.out.items (drop (at + 1) rest) c.loop-at.left.now left (ap (λ xs. (conversion_at xs).0) (sym (rest_of rest (at + 1))) ∙ c.in_default-split_directive.ensures.value)
-
-pub returns-in_err-left-clause-err : goal.returns-in_err-left-clause-err
-returns-in_err-left-clause-err c =
-    let p = err_from_is_err_and c.from_residual-in_err-left.result c.from_residual-in_err-left.ensures.1 in
-    let i = c.loop-at.invariant in
-    let rest = c.loop-at.rest.now in
-    let at = c.in-Some.at in
-    let left = after_plain c.args.format.now c.args.values.now c.loop-at.out.items rest c.put.new.out.items c.loop-at.left.now at i.left_over c.in-Some.ensures c.in_ok-put.ensures.ok c.in_ok-put.ensures.within in
-    rw (p.1, p.2)
-    (directive_stops c.args.format.now c.args.values.now c.put.new.out.items (drop (at + 1) rest) c.loop-at.left.now (piece_is c.in-Some-split_directive.directive) c.in-Some-split_directive.after.now _ left
-    (ap conversion_at (sym (rest_of rest (at + 1))) ∙ c.in-Some-split_directive.ensures.value) c.in_err-left.ensures.err)
+    let left = c.loop-at.left.now in
+    goes_malformed next.stop last.stop c.args.format.now c.args.values.now next.bytes.items last.bytes.items (drop (at + 1) rest) left
+    (goes_plain out.stop next.stop c.args.format.now c.args.values.now out.bytes.items next.bytes.items rest left at c.loop-at.invariant.goes_on c.in-Some.ensures c.put.ensures.stands)
+    (ap (λ xs. (conversion_at xs).0) (sym (rest_of rest (at + 1))) ∙ c.in_default-split_directive.ensures.value) c.refuse.ensures.stands
 
 pub loop-at-preserved : goal.loop-at-preserved
 loop-at-preserved c =
-    let i = c.loop-at.invariant in
+    let out = c.loop-at.out in
+    let next = c.put.new.self in
+    let last = c.put_directive-left.new.out in
     let rest = c.loop-at.rest.now in
     let at = c.in-Some.at in
-    let left = after_plain c.args.format.now c.args.values.now c.loop-at.out.items rest c.put.new.out.items c.loop-at.left.now at i.left_over c.in-Some.ensures c.in_ok-put.ensures.ok c.in_ok-put.ensures.within in
-    let next = after_directive c.args.format.now c.args.values.now c.put.new.out.items (drop (at + 1) rest) c.loop-at.left.now (piece_is c.in-Some-split_directive.directive) c.in-Some-split_directive.after.now c.put_directive.new.out.items c.in_ok-left.left.now left
-    (ap conversion_at (sym (rest_of rest (at + 1))) ∙ c.in-Some-split_directive.ensures.value)
-    (subst (λ xs. length c.in-Some-split_directive.after.now ≤ length xs) (rest_of rest (at + 1)) c.in-Some-split_directive.ensures.shorter) c.in_ok-left.ensures.ok in
-    record { within = next.0; left_over = next.1 }
+    let left = c.loop-at.left.now in
+    let after = c.in-Some-split_directive.after.now in
+    let shorter = subst (λ xs. length after ≤ length xs) (rest_of rest (at + 1)) c.in-Some-split_directive.ensures.shorter in
+    record {
+      short = (let short = c.loop-at.invariant.short in omega (arith, shorter, short, length-drop (at + 1) rest));
+      goes_on = goes_directive next.stop last.stop c.args.format.now c.args.values.now next.bytes.items last.bytes.items (drop (at + 1) rest) left (piece_is c.in-Some-split_directive.directive) after c.put_directive-left.result.now
+          (goes_plain out.stop next.stop c.args.format.now c.args.values.now out.bytes.items next.bytes.items rest left at c.loop-at.invariant.goes_on c.in-Some.ensures c.put.ensures.stands)
+          (ap conversion_at (sym (rest_of rest (at + 1))) ∙ c.in-Some-split_directive.ensures.value) shorter c.put_directive-left.ensures.text.stands c.put_directive-left.ensures.left;
+    }
 
-pub returns-clause-ok : goal.returns-clause-ok
-returns-clause-ok c =
-    let i = c.loop-at.invariant in
-    end_added c.put-2.result c.args.format.now c.args.values.now c.loop-at.out.items c.loop-at.rest.now c.put-2.new.out.items c.loop-at.left.now i.left_over c.in_default.ensures c.put-2.ensures.ok c.put-2.ensures.within
-
-pub returns-clause-err : goal.returns-clause-err
-returns-clause-err c =
-    let i = c.loop-at.invariant in
-    end_stopped c.put-2.result c.args.format.now c.args.values.now c.loop-at.out.items c.loop-at.rest.now c.loop-at.left.now i.left_over c.in_default.ensures i.within c.put-2.ensures.err
+pub returns : goal.returns
+returns c =
+    let out = c.loop-at.out in
+    let last = c.put-2.new.self in
+    goes_end out.stop last.stop c.args.format.now c.args.values.now out.bytes.items last.bytes.items c.loop-at.rest.now c.loop-at.left.now c.loop-at.invariant.goes_on c.in_default.ensures c.put-2.ensures.stands

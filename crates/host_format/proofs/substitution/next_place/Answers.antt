@@ -27,3 +27,9 @@ returns-clause-found c = λ t a.
     let more : place.0 + 1 ≤ length c.args.text.now = search rules in
     next_skipped t c.args.text.now c.args.at c.args.last place c.in_ok-found.found start (omega (arith, more)) (sym (c.in_ok-place.ensures.found t a) ∙ c.in-Some.is) f
     (next_after t c.args.text.now place c.args.last c.in_ok-found.found more f (c.in_ok-found.ensures.found t (c.first.ensures.kept t a)) c.in_ok-found.ensures.inside)
+
+pub returns-clause-kept : goal.returns-clause-kept
+returns-clause-kept c = λ t a. c.in_ok-found.ensures.kept t (c.first.ensures.kept t a)
+
+pub returns-clause-auto : goal.returns-clause-auto
+returns-clause-auto c = c.in_ok-found.ensures.auto

@@ -1,9 +1,7 @@
 use Rattle.std.proofs.Common.{◌+◌, ◌≤◌, ℕ, Option, Some, None, arith, length, rules, subst, sym}
-use Rattle.std.proofs.lemmas.Result.{err_from_is_err_and}
 use Rattle.host_format.specs.Substitutions.{IsNextPlace}
-use Rattle.host_format.proofs.Left.{IsLeft, left_end, left_err, left_start, left_step, left_text}
+use Rattle.host_format.proofs.Left.{IsLeft, left_end, left_start, left_step}
 use Rattle.host_format.proofs.Places.{behind_end, behind_high, behind_more}
-use Rattle.host_format.proofs.Replaced.{past_same}
 use Rattle.host_format.proofs.substitution.put_all.Goals as goal
 
 pub loop-found-init : goal.loop-found-init
@@ -15,15 +13,8 @@ loop-found-init c = record {
   auto = c.requires.auto;
   kept = λ t a. a;
   place = (omega arith, c.requires.order, c.requires.inside);
-  left = λ t a f. (None, f, left_start t c.args.by.now c.args.text.now c.args.out.now.items c.requires.empty);
+  left = λ t a f. (None, f, left_start t c.args.by.now c.args.text.now c.args.out.now);
 }
-
-pub returns-in_err-put_place-clause-err : goal.returns-in_err-put_place-clause-err
-returns-in_err-put_place-clause-err c = λ t a f.
-    let i = c.loop-found.invariant.left t a f in
-    let p = err_from_is_err_and c.from_residual.result c.from_residual.ensures.1 in
-    let next = subst (λ (x : Option (ℕ × ℕ)). IsNextPlace t c.args.text.now c.loop-found.at i.0 x) c.in-Some.is i.1 in
-    rw (p.1, p.2) (left_err t c.args.by.now c.args.text.now c.loop-found.out.items c.loop-found.from c.loop-found.at i.0 c.loop-found.count c.in-Some.place _ i.2 next c.in_err-put_place.ensures.err)
 
 pub loop-found-preserved : goal.loop-found-preserved
 loop-found-preserved c =
@@ -48,20 +39,19 @@ loop-found-preserved c =
           let next = subst (λ (x : Option (ℕ × ℕ)). IsNextPlace t c.args.text.now c.loop-found.at old.0 x) c.in-Some.is old.1 in (
             Some place.1,
             c.in_ok-found.ensures.found t (i.kept t a),
-            subst (λ (n : ℕ). IsLeft t c.args.by.now c.args.text.now c.put_place.new.out.items place.1 n (Some place.1) (c.loop-found.count + 1)) (sym at)
-                (left_step t c.args.by.now c.args.text.now c.loop-found.out.items c.put_place.new.out.items c.loop-found.from c.loop-found.at old.0 c.loop-found.count place old.2 next c.in_ok-put_place.ensures.ok),
+            subst (λ (n : ℕ). IsLeft t c.args.by.now c.args.text.now c.args.out.now c.put_place.new.out place.1 n (Some place.1) (c.loop-found.count + 1)) (sym at)
+                (left_step t c.args.by.now c.args.text.now c.args.out.now c.loop-found.out c.put_place.new.out c.loop-found.from c.loop-found.at old.0 c.loop-found.count place old.2 next c.put_place.ensures),
           );
     }
 
-pub returns-in_err-put-clause-err : goal.returns-in_err-put-clause-err
-returns-in_err-put-clause-err c = λ t a f.
-    let i = c.loop-found.invariant.left t a f in
-    let p = err_from_is_err_and c.from_residual-in_err-put.result c.from_residual-in_err-put.ensures.1 in
-    let next = subst (λ (x : Option (ℕ × ℕ)). IsNextPlace t c.args.text.now c.loop-found.at i.0 x) c.in_default.is i.1 in
-    rw (p.1, p.2) (past_same _ _ _ (left_text t c.args.by.now c.args.text.now c.loop-found.out.items c.loop-found.from c.loop-found.at i.0 c.loop-found.count i.2 next) c.in_err-put.ensures.err)
+pub returns-in_err-found-clause-kept : goal.returns-in_err-found-clause-kept
+returns-in_err-found-clause-kept c = λ t a. c.next_place.ensures.kept t (c.loop-found.invariant.kept t a)
 
 pub returns-clause-ok : goal.returns-clause-ok
 returns-clause-ok c = λ t a f.
     let i = c.loop-found.invariant.left t a f in
     let next = subst (λ (x : Option (ℕ × ℕ)). IsNextPlace t c.args.text.now c.loop-found.at i.0 x) c.in_default.is i.1 in
-    left_end t c.args.by.now c.args.text.now c.loop-found.out.items c.put.new.out.items c.loop-found.from c.loop-found.at i.0 c.loop-found.count i.2 next c.in_ok-put.ensures.ok c.in_ok-put.ensures.within
+    left_end t c.args.by.now c.args.text.now c.args.out.now c.loop-found.out c.put.new.self c.loop-found.from c.loop-found.at i.0 c.loop-found.count i.2 next c.put.ensures
+
+pub returns-clause-kept : goal.returns-clause-kept
+returns-clause-kept c = c.loop-found.invariant.kept

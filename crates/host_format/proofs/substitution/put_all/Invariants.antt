@@ -16,7 +16,7 @@ invariant-loop-found l = record {
   auto : IsAuto l.auto';
   kept : (t : Tree) → IsAutoOf l.fn.auto t → IsAutoOf l.auto' t;
   place : IfSome l.found (λ m. (l.at ≤ m.0) × (m.0 ≤ m.1) × (m.1 ≤ length l.text));
-  left : (t : Tree) → IsAutoOf l.fn.auto t → IsNextPlace t l.text 0 None (Some l.fn.first) → (last : Option ℕ) × IsNextPlace t l.text l.at last l.found × IsLeft t l.by l.text l.out.items l.from l.at last l.count;
+  left : (t : Tree) → IsAutoOf l.fn.auto t → IsNextPlace t l.text 0 None (Some l.fn.first) → (last : Option ℕ) × IsNextPlace t l.text l.at last l.found × IsLeft t l.by l.text l.fn.out l.out l.from l.at last l.count;
 }
 
 abbrev pub decreases-loop-found : goal.decreases-loop-found

@@ -1,0 +1,68 @@
+//! Texts that grow up to the limit.
+ghost use Rattle.std.specs.Prelude.{◌≡◌, ◌+◌, ◌≤◌, ℕ, Err, List, None, Ok, false, length, replicate, true};
+ghost use Rattle.sem_primitives.specs.Limits.{most_text};
+ghost use Rattle.host_format.specs.Growing.{Grows, IsAllOf};
+
+use awk_values::{Fault, Stop};
+use sem_primitives::MAX_TEXT;
+
+/// A text that is written piece by piece, and why it takes no more. From then on it takes nothing: only who asks for all of it learns why.
+#[derive(Drop)]
+pub(crate) struct Growing {
+    pub(crate) bytes: Vec<u8>,
+    pub(crate) stop: Option<Stop>,
+}
+
+impl Growing {
+    /// Takes no more, for this fault unless there was a reason before.
+    pub(crate) fn refuse(&mut self, fault: Fault)
+        ensures { Grows self.old self.new (Err fault) }
+    {
+        if self.stop.is_none() {
+            self.stop = Some(Stop::Fault(fault));
+        }
+    }
+
+    /// Whether it takes so many bytes more, and these are some. It stops where they are past the limit.
+    fn takes(&mut self, count: usize) -> bool
+        ensures yes { result ≡ true → (self.new ≡ self.old) × (self.old.stop ≡ None)
+            × (length self.old.bytes.items + count ≤ most_text) }
+        ensures no { result ≡ false → (text : List ℕ) → length text ≡ count
+            → Grows self.old self.new (Ok text) }
+    {
+        let before = self.bytes.len();
+        if before > MAX_TEXT || count > MAX_TEXT - before {
+            self.refuse(Fault::TextLimit);
+            return false;
+        }
+        self.stop.is_none() && count > 0
+    }
+
+    /// Adds bytes.
+    pub(crate) fn put(&mut self, bytes: &[u8])
+        ensures { Grows self.old self.new (Ok bytes.now) }
+    {
+        if self.takes(bytes.len()) && self.bytes.extend_from_slice(bytes).is_err() {
+            self.stop = Some(Stop::NoMemory);
+        }
+    }
+
+    /// Adds a byte so many times.
+    pub(crate) fn fill(&mut self, byte: u8, count: usize)
+        ensures { Grows self.old self.new (Ok (replicate count byte)) }
+    {
+        if self.takes(count) && self.bytes.resize(self.bytes.len() + count, byte).is_err() {
+            self.stop = Some(Stop::NoMemory);
+        }
+    }
+
+    /// All of it, unless it stopped.
+    pub(crate) fn all(self) -> Result<Vec<u8>, Stop>
+        ensures { IsAllOf self result }
+    {
+        match self.stop {
+            None => Ok(self.bytes),
+            Some(stop) => Err(stop),
+        }
+    }
+}
