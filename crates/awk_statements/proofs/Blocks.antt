@@ -1,16 +1,18 @@
 -- Reading statements in a loop.
-use Rattle.std.proofs.Common.{◌≡◌, ℕ, zero, suc, ◌+◌, ◌-◌, ◌<◌, Option, Some, None, List, [], ◌∷◌, ◌++◌, Result, Ok, Err, refl, sym, ap, arith}
-use Rattle.awk_grammar.specs.Token.{Token, Fault, TooDeep}
-use Rattle.awk_grammar.specs.Tree.{Tree}
-use Rattle.awk_grammar.specs.Reading.{◌>>=◌, Reader, close_at, expr_at}
-use Rattle.awk_grammar.specs.Stmt.{Stmts, NoStmt, And, For, Plain, Stmt as PlainStmt}
-use Rattle.awk_grammar.specs.ReadStmt.{Read, StmtReader, brace_at, semicolon_at, maybe_at, maybe_plain_at, stmts_at, for_by, one_at, stmt_at}
-use Rattle.awk_expressions.specs.declared.fault.Refusal.{Refusal}
-use Rattle.awk_expressions.specs.Seen.{Gives}
-use Rattle.awk_statements.specs.Bodies.{Parts, stmts_then, with_one, head_step_at, head_test_at, head_at}
-use Rattle.awk_expressions.proofs.Binds.{gives_is}
+use Rattle.std.proofs.Common.{◌≡◌, ℕ, suc, ◌+◌, ◌-◌, ◌<◌, Option, Some, None, List, [], ◌∷◌, ◌++◌, length, Ok, Err, refl, sym, ap, subst, ◌∙◌, arith}
+use Rattle.std.specs.declared.boxed.Box.{Box}
+use Rattle.std.specs.declared.alloc.Global.{Global}
+use Rattle.awk_grammar.specs.Token.{Token}
+use Rattle.awk_grammar.specs.Reading.{◌>>=◌}
+use Rattle.awk_grammar.specs.Stmt.{Stmts, NoStmt, And, Stmt as PlainStmt}
+use Rattle.awk_grammar.specs.ReadStmt.{Read, StmtReader, brace_at, stmts_at}
 use Rattle.awk_grammar.specs.ViewStmt.{view_stmt, view_stmts}
 use Rattle.awk_grammar.specs.declared.tree.Stmt.{Stmt}
+use Rattle.awk_expressions.specs.declared.fault.Refusal.{Refusal}
+use Rattle.awk_expressions.specs.declared.fault.Refusal.TheVariants.{Syntax as SyntaxRefusal}
+use Rattle.awk_statements.specs.Bodies.{stmts_then, with_one}
+use Rattle.awk_statements.specs.Went.{At, stands, ended, Went, Held, is_read}
+use Rattle.awk_statements.proofs.Went.{then, stays, came, fails_here, goes_as, none_went}
 
 pub stmts_push : (ss : List Stmt) (s : Stmt) → view_stmts (ss ++ (s ∷ [])) ≡ stmts_then (view_stmts ss) (And (view_stmt s) NoStmt)
 stmts_push [] s = refl
@@ -54,60 +56,29 @@ stmts_more stmt i n front ts lt e =
     by (Ok x) = stmts_step front x.0 (stmts_at stmt (n - (i + 1)) x.1)
     by (Err f) = refl
 
--- ---- one statement
+-- ---- what is still read, from what was read before
 
-pub stmt_none : (limit : ℕ) (ts : List Token) → limit ≡ 0 → stmt_at limit ts ≡ Err TooDeep
-unfolding stmt_at
-stmt_none limit ts e = rw e refl
+abbrev pub left_stmts : StmtReader → Stmts → ℕ → List Token → Read Stmts
+left_stmts stmt front w ts = with_stmts front (stmts_at stmt w ts)
 
-stmt_some : (limit : ℕ) (ts : List Token) → 0 < limit → stmt_at limit ts ≡ one_at (expr_at (limit - 1)) (stmt_at (limit - 1)) ts
-unfolding stmt_at
-stmt_some zero ts h = absurd (omega arith)
-stmt_some (suc d) ts h = let e : suc d - 1 ≡ d = omega arith in rw e refl
+pub stmts_begin : (stmt : StmtReader) (front v : Stmts) (n : ℕ) (ts : List Token) (o : Option Refusal) (s : At) → front ≡ NoStmt → n ≡ length ts → Went v (stands ts o) s (left_stmts stmt front n) → Went v (stands ts o) s (λ us. stmts_at stmt (length us) us)
+stmts_begin stmt front v n ts o s e q w = goes_as ts o (λ us. stmts_at stmt (length us) us) (left_stmts stmt front n) (rw (e, q) (sym (stmts_start (stmts_at stmt (length ts) ts)))) w
 
-pub stmt_gives : {X : Type 0} (f : X → PlainStmt × List Token) (x : Result X Refusal) (limit : ℕ) (ts : List Token) → 0 < limit → Gives f x (one_at (expr_at (limit - 1)) (stmt_at (limit - 1)) ts) → Gives f x (stmt_at limit ts)
-stmt_gives f x limit ts h g = gives_is f x _ _ (stmt_some limit ts h) g
+pub stmts_next : (stmt : StmtReader) (front next v : Stmts) (x : PlainStmt) (i n : ℕ) (ts : List Token) (o : Option Refusal) (s1 s2 s3 : At) → i < n → brace_at ts ≡ None → Went x (stands ts o) s1 stmt → Went next s1 s2 (is_read (stmts_then front (And x NoStmt)))
+    → Went v s2 s3 (left_stmts stmt next (n - (i + 1))) → Went v (stands ts o) s3 (left_stmts stmt front (n - i))
+stmts_next stmt front next v x i n ts o s1 s2 s3 lt e w p h =
+    goes_as ts o (left_stmts stmt front (n - i)) (λ us. with_one stmt front us >>= λ y. left_stmts stmt y.0 (n - (i + 1)) y.1) (stmts_more stmt i n front ts lt e)
+    (then (λ y. left_stmts stmt y.0 (n - (i + 1)) y.1) (then (λ y. Ok (stmts_then front (And y.0 NoStmt), y.1)) w p) h)
 
--- ---- a counted loop: its head, and its body
+pub stmts_added : (new old : List Stmt) (x : Stmt) (s0 s1 : At) → Went new s0 s1 (is_read (old ++ (x ∷ []))) → Went (view_stmts new) s0 s1 (is_read (stmts_then (view_stmts old) (And (view_stmt x) NoStmt)))
+stmts_added new old x s0 s1 w = subst (λ (u : Stmts). Went (view_stmts new) s0 s1 (is_read u)) (stmts_push old x) (then (λ y. is_read (view_stmts y.0) y.1) w (stays (view_stmts new) s1))
 
-abbrev pub for_body : StmtReader → Parts × List Token → Read PlainStmt
-for_body stmt h = stmt h.1 >>= λ x. Ok (For h.0.0 h.0.1 h.0.2 x.0, x.1)
+pub stmts_closed : (stmt : StmtReader) (front : Stmts) (i n : ℕ) (ts us : List Token) (o : Option Refusal) (s : At) → i < n → brace_at ts ≡ Some us → s ≡ stands us o → Went front (stands ts o) s (left_stmts stmt front (n - i))
+stmts_closed stmt front i n ts us o s lt e q = came front ts us o s (left_stmts stmt front (n - i)) q (ap (with_stmts front) (stmts_end stmt i n ts us lt e) ∙ ap (λ (u : Stmts). Ok (u, us)) (stmts_none front))
 
-abbrev for_step : Reader → StmtReader → Option Plain → Option Tree → List Token → Read PlainStmt
-for_step expr stmt i c ts = maybe_plain_at expr ts >>= λ p. close_at p.1 >>= λ us. for_body stmt ((i, c, p.0), us)
+pub stmts_over : (stmt : StmtReader) (front : Stmts) (w : ℕ) (ts : List Token) (o : Option Refusal) (line : Option ℕ) (e : Refusal) (s : At) → w ≡ 0 → e ≡ SyntaxRefusal line → s ≡ ended (stands ts o) e → Went front (stands ts o) s (left_stmts stmt front w)
+stmts_over stmt front w ts o line e s z r q = fails_here front ts o e s (left_stmts stmt front w) q (rw (r, z) refl)
 
-abbrev for_test : Reader → StmtReader → Option Plain → List Token → Read PlainStmt
-for_test expr stmt i ts = maybe_at expr ts >>= λ c. semicolon_at c.1 >>= λ us. for_step expr stmt i c.0 us
-
-step_is : (expr : Reader) (stmt : StmtReader) (i : Option Plain) (c : Option Tree) (ts : List Token) → for_step expr stmt i c ts ≡ (head_step_at expr i c ts >>= for_body stmt)
-step_is expr stmt i c ts = by (maybe_plain_at expr ts)
-  where
-    closed : (p : Option Plain) (r : Result (List Token) Fault) → (r >>= λ us. for_body stmt ((i, c, p), us)) ≡ (r >>= (λ us. Ok ((i, c, p), us)) >>= for_body stmt)
-    closed p (Ok us) = refl
-    closed p (Err f) = refl
-
-    by : (r : Read (Option Plain)) → (r >>= λ p. close_at p.1 >>= λ us. for_body stmt ((i, c, p.0), us)) ≡ (r >>= (λ p. close_at p.1 >>= λ us. Ok ((i, c, p.0), us)) >>= for_body stmt)
-    by (Ok p) = closed p.0 (close_at p.1)
-    by (Err f) = refl
-
-test_is : (expr : Reader) (stmt : StmtReader) (i : Option Plain) (ts : List Token) → for_test expr stmt i ts ≡ (head_test_at expr i ts >>= for_body stmt)
-test_is expr stmt i ts = by (maybe_at expr ts)
-  where
-    behind : (c : Option Tree) (r : Result (List Token) Fault) → (r >>= λ us. for_step expr stmt i c us) ≡ (r >>= (λ us. head_step_at expr i c us) >>= for_body stmt)
-    behind c (Ok us) = step_is expr stmt i c us
-    behind c (Err f) = refl
-
-    by : (r : Read (Option Tree)) → (r >>= λ c. semicolon_at c.1 >>= λ us. for_step expr stmt i c.0 us) ≡ (r >>= (λ c. semicolon_at c.1 >>= λ us. head_step_at expr i c.0 us) >>= for_body stmt)
-    by (Ok c) = behind c.0 (semicolon_at c.1)
-    by (Err f) = refl
-
-pub for_is : (expr : Reader) (stmt : StmtReader) (ts : List Token) → for_by expr stmt ts None ≡ (head_at expr ts >>= for_body stmt)
-for_is expr stmt ts = by (maybe_plain_at expr ts)
-  where
-    behind : (i : Option Plain) (r : Result (List Token) Fault) → (r >>= λ us. for_test expr stmt i us) ≡ (r >>= (λ us. head_test_at expr i us) >>= for_body stmt)
-    behind i (Ok us) = test_is expr stmt i us
-    behind i (Err f) = refl
-
-    by : (r : Read (Option Plain)) → (r >>= λ i. semicolon_at i.1 >>= λ us. for_test expr stmt i.0 us) ≡ (r >>= (λ i. semicolon_at i.1 >>= λ us. head_test_at expr i.0 us) >>= for_body stmt)
-    by (Ok i) = behind i.0 (semicolon_at i.1)
-    by (Err f) = refl
+pub stmts_stopped : (stmt : StmtReader) (front : Stmts) (x : PlainStmt) (i n : ℕ) (ts : List Token) (o : Option Refusal) (s : At) → i < n → brace_at ts ≡ None → Went x (stands ts o) s stmt → Held {A = Box Stmt Global} None s → Went front (stands ts o) s (left_stmts stmt front (n - i))
+stmts_stopped stmt front x i n ts o s lt e w h =
+    stmts_next stmt front front front x i n ts o s s s lt e w (none_went {X = Box Stmt Global} front None s (is_read (stmts_then front (And x NoStmt))) refl h) (none_went {X = Box Stmt Global} front None s (left_stmts stmt front (n - (i + 1))) refl h)

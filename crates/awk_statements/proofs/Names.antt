@@ -1,17 +1,22 @@
--- Reading the parameters of a function, and the items of a script, in a loop.
-use Rattle.std.proofs.Common.{◌≡◌, ℕ, zero, suc, ◌+◌, ◌-◌, ◌<◌, Some, None, List, [], ◌∷◌, ◌++◌, length, Result, Ok, Err, refl, sym, ap, arith, append_assoc}
+-- Reading the parameters of a function in a loop.
+use Rattle.std.proofs.Common.{◌≡◌, ℕ, zero, suc, ◌+◌, ◌-◌, ◌<◌, Option, Some, None, List, [], ◌∷◌, ◌++◌, length, Result, Ok, Err, refl, sym, ap, subst, arith, append_assoc}
 use Rattle.std.proofs.lemmas.List.{append-nil}
+use Rattle.std.specs.declared.vec.Vec.{Vec}
+use Rattle.std.specs.declared.alloc.Global.{Global}
 use Rattle.awk_grammar.specs.Token.{Token, Fault, Syntax, Name}
 use Rattle.awk_grammar.specs.Reading.{◌>>=◌, comma_at, name_at}
 use Rattle.awk_grammar.specs.ReadStmt.{Read}
-use Rattle.awk_grammar.specs.ReadItem.{names_at, params_at, item_at, items_at, script_at}
-use Rattle.awk_grammar.specs.Item.{Item}
+use Rattle.awk_grammar.specs.ReadItem.{names_at, params_at}
+use Rattle.awk_grammar.specs.ViewStmt.{view_names}
 use Rattle.awk_grammar.proofs.Sound.{name_ok}
-use Rattle.std.specs.declared.vec.Vec.{Vec}
-use Rattle.std.specs.declared.alloc.Global.{Global}
-use Rattle.awk_grammar.specs.ViewStmt.{view_names, view_item, view_items}
-use Rattle.awk_grammar.specs.declared.tree.Item.{Item as ScriptItem}
-use Rattle.awk_statements.specs.Names.{with_names, one_name, one_item}
+use Rattle.awk_expressions.specs.declared.fault.Refusal.{Refusal}
+use Rattle.awk_statements.specs.Names.{with_names}
+use Rattle.awk_statements.specs.Went.{At, stands, Went, is_read}
+use Rattle.awk_statements.proofs.Went.{then, stays, came, goes_on, goes_as}
+
+-- names and one more
+abbrev one_name : List (List ℕ) → List Token → Read (List (List ℕ))
+one_name front ts = name_at ts >>= λ x. Ok (front ++ (x.0 ∷ []), x.1)
 
 front_end : (front : List (List ℕ)) (ts : List Token) → with_names front (Ok ([], ts)) ≡ Ok (front, ts)
 front_end front ts = ap (λ (ns : List (List ℕ)). Ok (ns, ts)) (append-nil front)
@@ -22,12 +27,6 @@ names_none front (suc w) ts e = rw e (front_end front ts)
 
 pub names_done : (front : List (List ℕ)) (w : ℕ) (ts : List Token) → w ≡ 0 → with_names front (names_at w ts) ≡ Ok (front, ts)
 names_done front w ts e = rw e (front_end front ts)
-
-abbrev pub IsPair : List (List ℕ) × List Token → Read (List (List ℕ))
-IsPair x = Ok x
-
-pub ok_pair : (x y : List (List ℕ) × List Token) → IsPair x ≡ IsPair y → x ≡ y
-ok_pair x y e = cc
 
 -- one name more
 pub names_more : (front : List (List ℕ)) (i n : ℕ) (ts us : List Token) → i < n → comma_at ts ≡ Some us → with_names front (names_at (n - i) ts) ≡ (one_name front us >>= λ y. with_names y.0 (names_at (n - (i + 1)) y.1))
@@ -57,46 +56,28 @@ pub params_none : (ts : List Token) → name_at ts ≡ Err Syntax → params_at 
 params_none (Name n ∷ ts) e = absurd cc
 params_none _ e = refl
 
--- ---- items
+-- ---- what is still read, from what was read before
 
-abbrev pub Items : Type 0
-Items = Result (List Item) Fault
+abbrev pub left_names : List (List ℕ) → ℕ → List Token → Read (List (List ℕ))
+left_names front w ts = with_names front (names_at w ts)
 
-abbrev pub with_items : List Item → Items → Items
-with_items front read = read >>= λ y. Ok (front ++ y)
+pub names_begin : (front v : List (List ℕ)) (n : ℕ) (ts : List Token) (o : Option Refusal) (s : At) → n ≡ length ts → Went v (stands ts o) s (left_names front n) → Went v (stands ts o) s (λ us. left_names front (length us) us)
+names_begin front v n ts o s q w = goes_as ts o (λ us. left_names front (length us) us) (left_names front n) (rw q refl) w
 
-pub items_end : (d : ℕ) (front : List Item) (i n : ℕ) (ts : List Token) → i < n → length ts ≡ 0 → with_items front (items_at d (n - i) ts) ≡ Ok front
-items_end d front i n (t ∷ ts) lt e = absurd (omega arith)
-items_end d front i n [] lt e =
-    let m : n - i ≡ suc (n - (i + 1)) = omega arith in
-    rw m (ap (λ (is : List Item). Ok is) (append-nil front))
+pub names_next : (front next v : List (List ℕ)) (x : List ℕ) (i n : ℕ) (ts us : List Token) (o : Option Refusal) (s0 s1 s2 s3 : At) → i < n → comma_at ts ≡ Some us → s0 ≡ stands us o → Went x s0 s1 name_at → Went next s1 s2 (is_read (front ++ (x ∷ []))) → Went v s2 s3 (left_names next (n - (i + 1)))
+    → Went v (stands ts o) s3 (left_names front (n - i))
+names_next front next v x i n ts us o s0 s1 s2 s3 lt e q w p h =
+    goes_on ts us o (left_names front (n - i)) (λ vs. one_name front vs >>= λ y. left_names y.0 (n - (i + 1)) y.1) q (names_more front i n ts us lt e)
+    (then (λ y. left_names y.0 (n - (i + 1)) y.1) (then (λ y. is_read (front ++ (y.0 ∷ [])) y.1) w p) h)
 
--- one item more
-pub items_more : (front : List Item) (i n : ℕ) (ts : List Token) → i < n → 0 < length ts → with_items front (items_at 1000 (n - i) ts) ≡ (one_item front ts >>= λ y. with_items y.0 (items_at 1000 (n - (i + 1)) y.1))
-items_more front i n [] lt h = absurd (omega arith)
-items_more front i n (t ∷ ts) lt h =
-    let m : n - i ≡ suc (n - (i + 1)) = omega arith in
-    rw m (by (item_at 1000 (t ∷ ts)))
-  where
-    ahead : Item × List Token → Read (List Item)
-    ahead x = Ok (front ++ (x.0 ∷ []), x.1)
+pub names_added : (new old : List (Vec ℕ Global)) (x : Vec ℕ Global) (s0 s1 : At) → Went new s0 s1 (is_read (old ++ (x ∷ []))) → Went (view_names new) s0 s1 (is_read (view_names old ++ (x.items ∷ [])))
+names_added new old x s0 s1 w = subst (λ (u : List (List ℕ)). Went (view_names new) s0 s1 (is_read u)) (view_names_push old x) (then (λ y. is_read (view_names y.0) y.1) w (stays (view_names new) s1))
 
-    step : (item : Item) (read : Items) → with_items front (read >>= λ is. Ok (item ∷ is)) ≡ with_items (front ++ (item ∷ [])) read
-    step item (Ok is) = ap (λ (js : List Item). Ok js) (sym (append_assoc front (item ∷ []) is))
-    step item (Err f) = refl
+pub first_added : (new old : List (Vec ℕ Global)) (x : Vec ℕ Global) (s0 s1 : At) → old ≡ [] → Went new s0 s1 (is_read (old ++ (x ∷ []))) → Went (view_names new) s0 s1 (is_read (x.items ∷ []))
+first_added new old x s0 s1 e w = subst (λ (u : List (Vec ℕ Global)). Went (view_names new) s0 s1 (is_read (view_names u ++ (x.items ∷ [])))) e (names_added new old x s0 s1 w)
 
-    by : (r : Read Item) → with_items front (r >>= λ x. items_at 1000 (n - (i + 1)) x.1 >>= λ is. Ok (x.0 ∷ is)) ≡ (r >>= ahead >>= λ y. with_items y.0 (items_at 1000 (n - (i + 1)) y.1))
-    by (Ok x) = step x.0 (items_at 1000 (n - (i + 1)) x.1)
-    by (Err f) = refl
+pub names_end : (front : List (List ℕ)) (w : ℕ) (ts : List Token) (o : Option Refusal) → comma_at ts ≡ None → Went front (stands ts o) (stands ts o) (left_names front w)
+names_end front w ts o e = came front ts ts o (stands ts o) (left_names front w) refl (names_none front w ts e)
 
-pub view_items_push : (is : List ScriptItem) (i : ScriptItem) → view_items (is ++ (i ∷ [])) ≡ view_items is ++ (view_item i ∷ [])
-view_items_push [] i = refl
-view_items_push (j ∷ is) i = ap (λ (xs : List Item). view_item j ∷ xs) (view_items_push is i)
-
-pub items_start : (read : Items) → with_items [] read ≡ read
-items_start (Ok is) = refl
-items_start (Err f) = refl
-
-pub script_is : (ts : List Token) → script_at 1000 ts ≡ items_at 1000 (length ts + 1) ts
-unfolding script_at
-script_is ts = refl
+pub names_over : (front : List (List ℕ)) (w : ℕ) (ts : List Token) (o : Option Refusal) → w ≡ 0 → Went front (stands ts o) (stands ts o) (left_names front w)
+names_over front w ts o e = came front ts ts o (stands ts o) (left_names front w) refl (names_done front w ts e)

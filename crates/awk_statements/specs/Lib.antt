@@ -1,3 +1,4 @@
 pub mod Bodies
 pub mod Names
 pub mod Starts
+pub mod Went

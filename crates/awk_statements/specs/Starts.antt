@@ -5,8 +5,8 @@ use Rattle.awk_grammar.specs.Token.{Token, Infix, Compare, Greater, Append, Open
 use Rattle.awk_grammar.specs.Tree.{Tree, AfterCompare}
 use Rattle.awk_grammar.specs.Lexeme.{spoken_after}
 use Rattle.awk_grammar.specs.Reading.{◌>>=◌, Reader, list_at, bracket_at}
-use Rattle.awk_grammar.specs.Stmt.{Printing, Print, Printf, Target, NoTarget, Written, Appended, Plain, Delete, Clear, Jump, Break, Continue, Next, NextFile, Leaving, Exit, Return, Stmt, Stmts}
-use Rattle.awk_grammar.specs.ReadStmt.{Read, StmtReader, put_at, delete_at, eval_at, block_at, if_at, loop_at, do_at, for_at, jump_at, leave_at, simple_at}
+use Rattle.awk_grammar.specs.Stmt.{Printing, Print, Printf, Target, NoTarget, Written, Appended, Plain, Delete, Clear, Jump, Break, Continue, Next, NextFile, Leaving, Exit, Return, Stmt, Empty, Stmts}
+use Rattle.awk_grammar.specs.ReadStmt.{Read, StmtReader, put_at, delete_at, eval_at, block_at, if_at, jump_at, leave_at, simple_at}
 use Rattle.awk_grammar.specs.Item.{Item, Begin, End, Always, Nothing}
 use Rattle.awk_grammar.specs.ReadItem.{body_at, function_at, rule_at}
 use Rattle.awk_grammar.specs.ViewStmt.{view_word, view_jump, view_leaving}
@@ -14,14 +14,22 @@ use Rattle.awk_statements.specs.declared.start.Redirection.{Redirection}
 use Rattle.awk_statements.specs.declared.start.Redirection.TheVariants as redirections
 use Rattle.awk_statements.specs.declared.start.PlainStart.{PlainStart}
 use Rattle.awk_statements.specs.declared.start.PlainStart.TheVariants as starts
+use Rattle.awk_statements.specs.declared.start.LoopWord.{LoopWord}
+use Rattle.awk_statements.specs.declared.start.LoopWord.TheVariants as loops
+use Rattle.awk_statements.specs.declared.start.Short.{Short}
+use Rattle.awk_statements.specs.declared.start.Short.TheVariants as shorts
 use Rattle.awk_statements.specs.declared.start.StmtStart.{StmtStart}
 use Rattle.awk_statements.specs.declared.start.StmtStart.TheVariants as statements
 use Rattle.awk_statements.specs.declared.start.When.{When}
 use Rattle.awk_statements.specs.declared.start.When.TheVariants as times
 use Rattle.awk_statements.specs.declared.start.ItemStart.{ItemStart}
 use Rattle.awk_statements.specs.declared.start.ItemStart.TheVariants as items
-use Rattle.awk_statements.specs.Bodies.{empty_at}
+use Rattle.awk_statements.specs.Bodies.{loop_by}
 use Rattle.awk_expressions.specs.Seen.{seen}
+
+abbrev pub open_brace_at : List Token → Option (List Token)
+open_brace_at (OpenBrace ∷ ts) = Some ts
+open_brace_at _ = None
 
 -- ---- where `print` writes
 
@@ -69,24 +77,22 @@ view_plain_start starts.Value = Evaluating
 
 -- ---- statements
 
-pub data Lead : Type 0 where
-  Braced : List Token → Lead
-  Bare : List Token → Lead
-  Testing : List Token → Lead
-  Looping : List Token → Lead
-  Repeating : List Token → Lead
-  Counting : List Token → Lead
-  JumpingBy : Jump → List Token → Lead
-  LeavingBy : Leaving → List Token → Lead
-  Doing : Lead
+pub data Start : Type 0 where
+  Braced : List Token → Start
+  Testing : List Token → Start
+  Looping : LoopWord → List Token → Start
+  Bare : List Token → Start
+  JumpingBy : Jump → List Token → Start
+  LeavingBy : Leaving → List Token → Start
+  Doing : Start
 
-abbrev pub lead_at : List Token → Lead
+abbrev pub lead_at : List Token → Start
 lead_at (OpenBrace ∷ ts) = Braced ts
 lead_at (Semicolon ∷ ts) = Bare ts
 lead_at (Key IfWord ∷ ts) = Testing ts
-lead_at (Key WhileWord ∷ ts) = Looping ts
-lead_at (Key DoWord ∷ ts) = Repeating ts
-lead_at (Key ForWord ∷ ts) = Counting ts
+lead_at (Key WhileWord ∷ ts) = Looping loops.While ts
+lead_at (Key DoWord ∷ ts) = Looping loops.Do ts
+lead_at (Key ForWord ∷ ts) = Looping loops.For ts
 lead_at (Key BreakWord ∷ ts) = JumpingBy Break ts
 lead_at (Key ContinueWord ∷ ts) = JumpingBy Continue ts
 lead_at (Key NextWord ∷ ts) = JumpingBy Next ts
@@ -95,26 +101,25 @@ lead_at (Key ExitWord ∷ ts) = LeavingBy Exit ts
 lead_at (Key ReturnWord ∷ ts) = LeavingBy Return ts
 lead_at _ = Doing
 
-abbrev pub one_by : Reader → StmtReader → List Token → Lead → Read Stmt
+abbrev pub one_by : Reader → StmtReader → List Token → Start → Read Stmt
 one_by expr stmt ts (Braced us) = block_at stmt us
-one_by expr stmt ts (Bare us) = empty_at us
 one_by expr stmt ts (Testing us) = if_at expr stmt us
-one_by expr stmt ts (Looping us) = loop_at expr stmt us
-one_by expr stmt ts (Repeating us) = do_at expr stmt us
-one_by expr stmt ts (Counting us) = for_at expr stmt us
+one_by expr stmt ts (Looping w us) = loop_by expr stmt w us
+one_by expr stmt ts (Bare us) = Ok (Empty, us)
 one_by expr stmt ts (JumpingBy j us) = jump_at j us
 one_by expr stmt ts (LeavingBy l us) = leave_at expr l us
 one_by expr stmt ts Doing = simple_at expr ts
 
-abbrev pub view_stmt_start : StmtStart → Lead
+abbrev pub view_short : Short → List Token → Start
+view_short shorts.Empty = Bare
+view_short (shorts.Jump j) = JumpingBy (view_jump j)
+view_short (shorts.Leave l) = LeavingBy (view_leaving l)
+
+abbrev pub view_stmt_start : StmtStart → Start
 view_stmt_start (statements.Block rest) = Braced (seen rest.now)
-view_stmt_start (statements.Empty rest) = Bare (seen rest.now)
 view_stmt_start (statements.If rest) = Testing (seen rest.now)
-view_stmt_start (statements.While rest) = Looping (seen rest.now)
-view_stmt_start (statements.Do rest) = Repeating (seen rest.now)
-view_stmt_start (statements.For rest) = Counting (seen rest.now)
-view_stmt_start (statements.Jump j rest) = JumpingBy (view_jump j) (seen rest.now)
-view_stmt_start (statements.Leave l rest) = LeavingBy (view_leaving l) (seen rest.now)
+view_stmt_start (statements.Loop w rest) = Looping w (seen rest.now)
+view_stmt_start (statements.Short s rest) = view_short s (seen rest.now)
 view_stmt_start statements.Simple = Doing
 
 -- ---- items

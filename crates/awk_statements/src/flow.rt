@@ -3,327 +3,149 @@
 //! One call of this file waits within another for each level of a script. So a waiting call holds trees of statements in boxes alone, and what it does beside
 //! reading a statement stands in functions that are not inlined: else their places would be a part of its frame.
 
-ghost use Rattle.std.specs.Prelude.{◌<◌, None, length};
+ghost use Rattle.std.specs.Prelude.{◌≡◌, ◌<◌, length};
 ghost use Rattle.awk_grammar.specs.Reading.{expr_at};
-ghost use Rattle.awk_grammar.specs.ReadStmt.{stmts_at, if_at, else_at, else_by, loop_at, do_at, for_at, for_by, leave_at, jump_at, simple_at, block_at, one_at, stmt_at};
-ghost use Rattle.awk_grammar.specs.View.{view};
-ghost use Rattle.awk_grammar.specs.ViewStmt.{view_stmt, view_stmts, view_jump, view_leaving};
-ghost use Rattle.awk_expressions.specs.Seen.{seen, Gives};
-ghost use Rattle.awk_statements.specs.Bodies.{seen_body, with_one, empty_at, do_test_at, loop_over_at};
+ghost use Rattle.awk_grammar.specs.ReadStmt.{stmts_at, if_at, simple_at, stmt_at};
+ghost use Rattle.awk_grammar.specs.ViewStmt.{view_stmt, view_stmts};
+ghost use Rattle.awk_statements.specs.Bodies.{view_boxed, looped_at, short_at, ended_at};
+ghost use Rattle.awk_statements.specs.Went.{at, Went, Held};
 
-use crate::head::loop_head;
-use crate::held::{beside, pushed_boxed};
-use crate::node::{block_of, do_of, for_in_of, for_of, if_else_of, if_of, on_heap, while_of};
-use crate::peek::{after_brace, after_else, keys, open, semicolon, while_word};
-use crate::start::{StmtStart, stmt_start};
+use crate::head::{Lead, loop_lead};
+use crate::node::{block_of, closed, if_else_of, on_heap};
+use crate::peek::{after_brace, after_else};
+use crate::source::{Mark, Source};
+use crate::start::{LoopWord, Short, StmtStart, stmt_start};
 use crate::stmt::{condition, optional, simple};
 use awk_expressions::{Refusal, line_of, stopped};
-use awk_grammar::{Expr, Jump, Leaving, Stmt};
-use awk_tokens::Token;
-use std::alloc::Global;
+use awk_grammar::Stmt;
 
-/// A statement of at most this depth.
+/// A statement of at most this depth; none where reading stopped.
 #[cycle(flow)]
 #[inline(never)]
-#[tactic(auto, using(crate::proofs::Blocks::stmt_none, crate::proofs::Blocks::stmt_gives))]
-pub(crate) fn statement<'a>(
-    alloc: Global,
-    limit: u32,
-    tokens: &'a [Token<'a>],
-) -> Result<(Box<Stmt>, &'a [Token<'a>]), Refusal>
+pub(crate) fn statement(source: &mut Source<'_>, limit: u32) -> Option<Box<Stmt>>
     requires room { limit < 4294967295 }
-    ensures { Gives (λ x. (view_stmt x.0.value, seen x.1.now)) result
-        (stmt_at limit (seen tokens.now)) }
+    ensures read { Went (view_boxed result) (at source.old) (at source.new) (stmt_at limit) }
+    ensures held { Held result (at source.new) }
 {
     if limit == 0 {
-        return Err(Refusal::TooDeep(line_of(tokens)));
+        source.refuse(Refusal::TooDeep(line_of(source.rest)));
+        return None;
     }
-    one(alloc, limit - 1, tokens)
-}
-
-/// A statement whose parts are of at most this depth.
-#[cycle(flow)]
-#[inline(never)]
-fn one<'a>(
-    alloc: Global,
-    limit: u32,
-    tokens: &'a [Token<'a>],
-) -> Result<(Box<Stmt>, &'a [Token<'a>]), Refusal>
-    requires room { limit < 4294967295 }
-    ensures { Gives (λ x. (view_stmt x.0.value, seen x.1.now)) result
-        (one_at (expr_at limit) (stmt_at limit) (seen tokens.now)) }
-{
-    match stmt_start(tokens) {
-        StmtStart::Block(rest) => block(alloc, limit, rest),
-        StmtStart::Empty(rest) => empty(alloc, rest),
-        StmtStart::If(rest) => if_statement(alloc, limit, rest),
-        StmtStart::While(rest) => while_loop(alloc, limit, rest),
-        StmtStart::Do(rest) => do_loop(alloc, limit, rest),
-        StmtStart::For(rest) => for_loop(alloc, limit, rest),
-        StmtStart::Jump(kind, rest) => jump(alloc, kind, rest),
-        StmtStart::Leave(kind, rest) => leave(alloc, limit, kind, rest),
-        StmtStart::Simple => simple_statement(alloc, limit, tokens),
+    let limit = limit - 1;
+    match stmt_start(source.rest) {
+        StmtStart::Block(rest) => {
+            source.go_on(rest);
+            let inner = statements(source, limit);
+            block_of(source, inner)
+        }
+        StmtStart::If(rest) => {
+            source.go_on(rest);
+            if_statement(source, limit)
+        }
+        StmtStart::Loop(word, rest) => {
+            source.go_on(rest);
+            loop_statement(source, limit, word)
+        }
+        StmtStart::Short(start, rest) => {
+            source.go_on(rest);
+            short(source, limit, start)
+        }
+        StmtStart::Simple => simple_statement(source, limit),
     }
-}
-
-/// Statements that were read, and the tokens after them.
-#[derive(Drop)]
-pub(crate) struct Body<'a> {
-    pub(crate) statements: Vec<Stmt>,
-    pub(crate) rest: &'a [Token<'a>],
 }
 
 /// Statements and the brace that closes them.
 #[cycle(flow)]
 #[inline(never)]
-pub(crate) fn statements<'a>(
-    alloc: Global,
-    limit: u32,
-    tokens: &'a [Token<'a>],
-) -> Result<Body<'a>, Refusal>
+pub(crate) fn statements(source: &mut Source<'_>, limit: u32) -> Vec<Stmt>
     requires room { limit < 4294967295 }
-    ensures { Gives seen_body result
-        (stmts_at (stmt_at limit) (length (seen tokens.now)) (seen tokens.now)) }
+    ensures { Went (view_stmts result.items) (at source.old) (at source.new)
+        (λ ts. stmts_at (stmt_at limit) (length ts) ts) }
 {
-    let turns = tokens.len();
-    let mut read = Body {
-        statements: Vec::new(alloc),
-        rest: tokens,
-    };
+    let mut read = Vec::new(source.alloc);
+    let turns = source.rest.len();
     for _ in 0..turns {
-        if let Some(rest) = after_brace(read.rest) {
-            return Ok(Body {
-                statements: read.statements,
-                rest,
-            });
+        if let Some(rest) = after_brace(source.rest) {
+            source.go_on(rest);
+            return read;
         }
-        read = with_statement(alloc, limit, read)?;
+        let Some(next) = statement(source, limit) else {
+            return read;
+        };
+        source.push_boxed(&mut read, next);
     }
-    Err(stopped(read.rest))
+    source.refuse(stopped(source.rest));
+    read
 }
 
-/// Statements and one more.
+/// What stands after `if`.
 #[cycle(flow)]
 #[inline(never)]
-fn with_statement<'a>(alloc: Global, limit: u32, front: Body<'a>) -> Result<Body<'a>, Refusal>
+fn if_statement(source: &mut Source<'_>, limit: u32) -> Option<Box<Stmt>>
     requires room { limit < 4294967295 }
-    ensures { Gives seen_body result (with_one (stmt_at limit)
-        (view_stmts front.entry.statements.items) (seen front.entry.rest.now)) }
+    ensures read { Went (view_boxed result) (at source.old) (at source.new)
+        (if_at (expr_at limit) (stmt_at limit)) }
+    ensures held { Held result (at source.new) }
 {
-    let (next, rest) = statement(alloc, limit, front.rest)?;
-    let statements = pushed_boxed(front.statements, next)?;
-    Ok(Body { statements, rest })
-}
-
-#[cycle(flow)]
-#[inline(never)]
-fn block<'a>(
-    alloc: Global,
-    limit: u32,
-    tokens: &'a [Token<'a>],
-) -> Result<(Box<Stmt>, &'a [Token<'a>]), Refusal>
-    requires room { limit < 4294967295 }
-    ensures { Gives (λ x. (view_stmt x.0.value, seen x.1.now)) result
-        (block_at (stmt_at limit) (seen tokens.now)) }
-{
-    let body = statements(alloc, limit, tokens)?;
-    block_of(alloc, body.statements, body.rest)
-}
-
-/// What stands behind `if`.
-#[cycle(flow)]
-#[inline(never)]
-fn if_statement<'a>(
-    alloc: Global,
-    limit: u32,
-    tokens: &'a [Token<'a>],
-) -> Result<(Box<Stmt>, &'a [Token<'a>]), Refusal>
-    requires room { limit < 4294967295 }
-    ensures { Gives (λ x. (view_stmt x.0.value, seen x.1.now)) result
-        (if_at (expr_at limit) (stmt_at limit) (seen tokens.now)) }
-{
-    let (test, behind) = condition(alloc, limit, tokens)?;
-    let (test, (then, behind)) = beside(test, statement(alloc, limit, behind))?;
-    else_part(alloc, limit, test, then, behind)
-}
-
-/// A condition, its statement, and the `else` behind that, if there is one.
-#[cycle(flow)]
-#[inline(never)]
-fn else_part<'a>(
-    alloc: Global,
-    limit: u32,
-    test: Expr,
-    then: Box<Stmt>,
-    tokens: &'a [Token<'a>],
-) -> Result<(Box<Stmt>, &'a [Token<'a>]), Refusal>
-    requires room { limit < 4294967295 }
-    ensures { Gives (λ x. (view_stmt x.0.value, seen x.1.now)) result (else_by (stmt_at limit)
-        (view test) (view_stmt then.value) (seen tokens.now) (else_at (seen tokens.now))) }
-{
-    let Some(behind) = after_else(tokens) else {
-        return if_of(alloc, test, then, tokens);
+    let test = condition(source, limit);
+    let then = statement(source, limit);
+    let Some(rest) = after_else(source.rest) else {
+        return closed(source, limit, Lead::If(test), then);
     };
-    let (test, (otherwise, rest)) = beside(test, statement(alloc, limit, behind))?;
-    if_else_of(alloc, test, then, otherwise, rest)
+    source.go_on(rest);
+    let otherwise = statement(source, limit);
+    if_else_of(source, test, then, otherwise)
 }
 
-/// What stands behind `while`.
+/// What stands after `while`, `do` or `for`.
 #[cycle(flow)]
 #[inline(never)]
-fn while_loop<'a>(
-    alloc: Global,
-    limit: u32,
-    tokens: &'a [Token<'a>],
-) -> Result<(Box<Stmt>, &'a [Token<'a>]), Refusal>
+fn loop_statement(source: &mut Source<'_>, limit: u32, word: LoopWord) -> Option<Box<Stmt>>
     requires room { limit < 4294967295 }
-    ensures { Gives (λ x. (view_stmt x.0.value, seen x.1.now)) result
-        (loop_at (expr_at limit) (stmt_at limit) (seen tokens.now)) }
+    ensures read { Went (view_boxed result) (at source.old) (at source.new)
+        (looped_at (expr_at limit) (stmt_at limit) word) }
+    ensures held { Held result (at source.new) }
 {
-    let (test, behind) = condition(alloc, limit, tokens)?;
-    let (test, (body, rest)) = beside(test, statement(alloc, limit, behind))?;
-    while_of(alloc, test, body, rest)
+    let lead = loop_lead(source, limit, word);
+    let body = statement(source, limit);
+    closed(source, limit, lead, body)
 }
 
-/// What stands behind `do`.
-#[cycle(flow)]
+/// What stands after the word of a statement that is only a word and at most an expression.
 #[inline(never)]
-fn do_loop<'a>(
-    alloc: Global,
-    limit: u32,
-    tokens: &'a [Token<'a>],
-) -> Result<(Box<Stmt>, &'a [Token<'a>]), Refusal>
+fn short(source: &mut Source<'_>, limit: u32, start: Short) -> Option<Box<Stmt>>
     requires room { limit < 4294967295 }
-    ensures { Gives (λ x. (view_stmt x.0.value, seen x.1.now)) result
-        (do_at (expr_at limit) (stmt_at limit) (seen tokens.now)) }
+    ensures read { Went (view_boxed result) (at source.old) (at source.new)
+        (short_at (expr_at limit) start) }
+    ensures held { Held result (at source.new) }
 {
-    let (body, behind) = statement(alloc, limit, tokens)?;
-    do_test(alloc, limit, body, behind)
-}
-
-/// The body of a loop, and the `while` and the condition behind it.
-#[inline(never)]
-fn do_test<'a>(
-    alloc: Global,
-    limit: u32,
-    body: Box<Stmt>,
-    tokens: &'a [Token<'a>],
-) -> Result<(Box<Stmt>, &'a [Token<'a>]), Refusal>
-    requires room { limit < 4294967295 }
-    ensures { Gives (λ x. (view_stmt x.0.value, seen x.1.now)) result
-        (do_test_at (expr_at limit) (view_stmt body.value) (seen tokens.now)) }
-{
-    let behind = while_word(tokens)?;
-    let (test, rest) = condition(alloc, limit, behind)?;
-    do_of(alloc, body, test, rest)
-}
-
-/// What stands behind `for`.
-#[cycle(flow)]
-#[inline(never)]
-fn for_loop<'a>(
-    alloc: Global,
-    limit: u32,
-    tokens: &'a [Token<'a>],
-) -> Result<(Box<Stmt>, &'a [Token<'a>]), Refusal>
-    requires room { limit < 4294967295 }
-    ensures { Gives (λ x. (view_stmt x.0.value, seen x.1.now)) result
-        (for_at (expr_at limit) (stmt_at limit) (seen tokens.now)) }
-{
-    let behind = open(tokens)?;
-    match keys(behind) {
-        Some((key, array, rest)) => loop_over(alloc, limit, key, array, rest),
-        None => counted_loop(alloc, limit, behind),
+    match start {
+        Short::Empty => on_heap(source, Stmt::Empty),
+        Short::Jump(kind) => ended(source, Stmt::Jump(kind)),
+        Short::Leave(kind) => {
+            let value = optional(source, limit);
+            ended(source, Stmt::Leave(kind, value))
+        }
     }
 }
 
-/// The loop over the keys of an array, and its body.
-#[cycle(flow)]
 #[inline(never)]
-fn loop_over<'a>(
-    alloc: Global,
-    limit: u32,
-    key: &[u8],
-    array: &[u8],
-    tokens: &'a [Token<'a>],
-) -> Result<(Box<Stmt>, &'a [Token<'a>]), Refusal>
+fn simple_statement(source: &mut Source<'_>, limit: u32) -> Option<Box<Stmt>>
     requires room { limit < 4294967295 }
-    ensures { Gives (λ x. (view_stmt x.0.value, seen x.1.now)) result
-        (loop_over_at (stmt_at limit) key.now array.now (seen tokens.now)) }
+    ensures read { Went (view_boxed result) (at source.old) (at source.new)
+        (simple_at (expr_at limit)) }
+    ensures held { Held result (at source.new) }
 {
-    let (body, rest) = statement(alloc, limit, tokens)?;
-    for_in_of(alloc, key, array, body, rest)
+    let inner = simple(source, limit);
+    ended(source, Stmt::Simple(inner))
 }
 
-/// What stands behind `for (`, where it is no loop over keys.
-#[cycle(flow)]
-#[inline(never)]
-fn counted_loop<'a>(
-    alloc: Global,
-    limit: u32,
-    tokens: &'a [Token<'a>],
-) -> Result<(Box<Stmt>, &'a [Token<'a>]), Refusal>
-    requires room { limit < 4294967295 }
-    ensures { Gives (λ x. (view_stmt x.0.value, seen x.1.now)) result
-        (for_by (expr_at limit) (stmt_at limit) (seen tokens.now) None) }
+/// A statement, and the `;` that ends it.
+fn ended(source: &mut Source<'_>, statement: Stmt) -> Option<Box<Stmt>>
+    ensures read { Went (view_boxed result) (at source.old) (at source.new)
+        (ended_at (view_stmt statement)) }
+    ensures held { Held result (at source.new) }
 {
-    let (head, behind) = loop_head(alloc, limit, tokens)?;
-    let (head, (body, rest)) = beside(head, statement(alloc, limit, behind))?;
-    for_of(alloc, head, body, rest)
-}
-
-/// The statement of a `;` alone.
-#[inline(never)]
-fn empty<'a>(
-    alloc: Global,
-    tokens: &'a [Token<'a>],
-) -> Result<(Box<Stmt>, &'a [Token<'a>]), Refusal>
-    ensures { Gives (λ x. (view_stmt x.0.value, seen x.1.now)) result (empty_at (seen tokens.now)) }
-{
-    on_heap(alloc, Stmt::Empty, tokens)
-}
-
-#[inline(never)]
-fn jump<'a>(
-    alloc: Global,
-    kind: Jump,
-    tokens: &'a [Token<'a>],
-) -> Result<(Box<Stmt>, &'a [Token<'a>]), Refusal>
-    ensures { Gives (λ x. (view_stmt x.0.value, seen x.1.now)) result
-        (jump_at (view_jump kind) (seen tokens.now)) }
-{
-    let rest = semicolon(tokens)?;
-    on_heap(alloc, Stmt::Jump(kind), rest)
-}
-
-/// What stands behind `exit` or `return`.
-#[inline(never)]
-fn leave<'a>(
-    alloc: Global,
-    limit: u32,
-    kind: Leaving,
-    tokens: &'a [Token<'a>],
-) -> Result<(Box<Stmt>, &'a [Token<'a>]), Refusal>
-    requires room { limit < 4294967295 }
-    ensures { Gives (λ x. (view_stmt x.0.value, seen x.1.now)) result
-        (leave_at (expr_at limit) (view_leaving kind) (seen tokens.now)) }
-{
-    let (value, behind) = optional(alloc, limit, tokens)?;
-    let (value, rest) = beside(value, semicolon(behind))?;
-    on_heap(alloc, Stmt::Leave(kind, value), rest)
-}
-
-#[inline(never)]
-fn simple_statement<'a>(
-    alloc: Global,
-    limit: u32,
-    tokens: &'a [Token<'a>],
-) -> Result<(Box<Stmt>, &'a [Token<'a>]), Refusal>
-    requires room { limit < 4294967295 }
-    ensures { Gives (λ x. (view_stmt x.0.value, seen x.1.now)) result
-        (simple_at (expr_at limit) (seen tokens.now)) }
-{
-    let (inner, behind) = simple(alloc, limit, tokens)?;
-    let (inner, rest) = beside(inner, semicolon(behind))?;
-    on_heap(alloc, Stmt::Simple(inner), rest)
+    source.expect(Mark::Semicolon);
+    on_heap(source, statement)
 }

@@ -1,18 +1,15 @@
-//! The head of a counted loop.
+//! What stands before the statement within a loop.
 
 ghost use Rattle.std.specs.Prelude.{◌<◌};
 ghost use Rattle.awk_grammar.specs.Reading.{expr_at};
-ghost use Rattle.awk_grammar.specs.ViewStmt.{view_maybe, view_maybe_simple};
-ghost use Rattle.awk_expressions.specs.Seen.{seen, Gives};
-ghost use Rattle.awk_statements.specs.Bodies.{view_head, head_at, head_test_at, head_step_at};
+ghost use Rattle.awk_statements.specs.Bodies.{view_lead, lead_by, keyed_at, counted_at};
+ghost use Rattle.awk_statements.specs.Went.{at, Went};
 
-use crate::held::{beside, boxed};
-use crate::peek::semicolon;
-use crate::stmt::{optional, optional_simple};
-use awk_expressions::{Refusal, close};
+use crate::peek::keys;
+use crate::source::{Mark, Source};
+use crate::start::LoopWord;
+use crate::stmt::{condition, optional, optional_simple};
 use awk_grammar::{Expr, SimpleStmt};
-use awk_tokens::Token;
-use std::alloc::Global;
 
 /// What a counted loop does first, its condition, and what it does after each turn.
 #[derive(Drop)]
@@ -22,54 +19,61 @@ pub(crate) struct Head {
     pub(crate) step: Option<SimpleStmt>,
 }
 
-/// What stands between `for (` and the body of a counted loop. It is boxed, since it is held while the body is read.
+/// What stands before the statement within another. What a counted loop has there is boxed, since it is held while the statement is read.
+#[derive(Drop)]
+pub(crate) enum Lead {
+    If(Expr),
+    While(Expr),
+    Do,
+    Keys(Vec<u8>, Vec<u8>),
+    Counted(Box<Head>),
+}
+
+/// What stands between the word of a loop and its body.
 #[inline(never)]
-pub(crate) fn loop_head<'a>(
-    alloc: Global,
-    limit: u32,
-    tokens: &'a [Token<'a>],
-) -> Result<(Box<Head>, &'a [Token<'a>]), Refusal>
+pub(crate) fn loop_lead(source: &mut Source<'_>, limit: u32, word: LoopWord) -> Lead
     requires room { limit < 4294967295 }
-    ensures { Gives (λ x. (view_head x.0.value, seen x.1.now)) result
-        (head_at (expr_at limit) (seen tokens.now)) }
+    ensures { Went (view_lead result) (at source.old) (at source.new)
+        (lead_by (expr_at limit) word) }
 {
-    let (first, behind) = optional_simple(alloc, limit, tokens)?;
-    let (first, behind) = beside(first, semicolon(behind))?;
-    head_test(alloc, limit, first, behind)
+    match word {
+        LoopWord::While => Lead::While(condition(source, limit)),
+        LoopWord::Do => Lead::Do,
+        LoopWord::For => {
+            source.expect(Mark::Open);
+            keyed(source, limit)
+        }
+    }
 }
 
-/// What a counted loop does first, and what stands behind that.
-fn head_test<'a>(
-    alloc: Global,
-    limit: u32,
-    first: Option<SimpleStmt>,
-    tokens: &'a [Token<'a>],
-) -> Result<(Box<Head>, &'a [Token<'a>]), Refusal>
+/// What stands between `for (` and the body.
+fn keyed(source: &mut Source<'_>, limit: u32) -> Lead
     requires room { limit < 4294967295 }
-    ensures { Gives (λ x. (view_head x.0.value, seen x.1.now)) result
-        (head_test_at (expr_at limit) (view_maybe_simple first) (seen tokens.now)) }
+    ensures { Went (view_lead result) (at source.old) (at source.new) (keyed_at (expr_at limit)) }
 {
-    let (first, (test, behind)) = beside(first, optional(alloc, limit, tokens))?;
-    let ((first, test), behind) = beside((first, test), semicolon(behind))?;
-    head_step(alloc, limit, first, test, behind)
+    let Some((key, array, rest)) = keys(source.rest) else {
+        return counted(source, limit);
+    };
+    source.go_on(rest);
+    let key = source.copied(key);
+    let array = source.copied(array);
+    Lead::Keys(key, array)
 }
 
-/// What a counted loop does first, its condition, and what stands behind that.
-fn head_step<'a>(
-    alloc: Global,
-    limit: u32,
-    first: Option<SimpleStmt>,
-    test: Option<Expr>,
-    tokens: &'a [Token<'a>],
-) -> Result<(Box<Head>, &'a [Token<'a>]), Refusal>
+/// What stands between `for (` and the body of a counted loop.
+fn counted(source: &mut Source<'_>, limit: u32) -> Lead
     requires room { limit < 4294967295 }
-    ensures { Gives (λ x. (view_head x.0.value, seen x.1.now)) result (head_step_at (expr_at limit)
-        (view_maybe_simple first) (view_maybe test) (seen tokens.now)) }
+    ensures { Went (view_lead result) (at source.old) (at source.new)
+        (counted_at (expr_at limit)) }
 {
-    let ((first, test), (step, behind)) = beside(
-        (first, test),
-        optional_simple(alloc, limit, tokens),
-    )?;
-    let ((first, test, step), behind) = beside((first, test, step), close(behind))?;
-    Ok((boxed(alloc, Head { first, test, step })?, behind))
+    let first = optional_simple(source, limit);
+    source.expect(Mark::Semicolon);
+    let test = optional(source, limit);
+    source.expect(Mark::Semicolon);
+    let step = optional_simple(source, limit);
+    source.expect(Mark::Close);
+    match source.boxed(Head { first, test, step }) {
+        Some(head) => Lead::Counted(head),
+        None => Lead::Do,
+    }
 }

@@ -3,10 +3,10 @@
 
 mod flow;
 mod head;
-mod held;
 mod item;
 mod node;
 mod peek;
+mod source;
 mod start;
 mod stmt;
 

@@ -1,123 +1,82 @@
-//! Statements that hold others, on the heap, and the tokens after them.
+//! Statements that hold others, on the heap.
 
-ghost use Rattle.awk_grammar.specs.Stmt.{Block, If, IfElse, While, Do, For, ForIn};
+ghost use Rattle.std.specs.Prelude.{◌<◌};
+ghost use Rattle.awk_grammar.specs.Reading.{expr_at};
+ghost use Rattle.awk_grammar.specs.Stmt.{Block, IfElse};
 ghost use Rattle.awk_grammar.specs.View.{view};
-ghost use Rattle.awk_grammar.specs.ViewStmt.{view_stmt, view_stmts, view_maybe, view_maybe_simple};
-ghost use Rattle.awk_expressions.specs.Seen.{seen, Gives};
-ghost use Rattle.awk_statements.specs.Bodies.{read_as};
+ghost use Rattle.awk_grammar.specs.ViewStmt.{view_stmt, view_stmts};
+ghost use Rattle.awk_statements.specs.Bodies.{view_boxed, view_lead, closed_at};
+ghost use Rattle.awk_statements.specs.Went.{at, Went, Held, is_read};
 
-use crate::head::Head;
-use crate::held::boxed;
-use awk_expressions::Refusal;
+use crate::head::{Head, Lead};
+use crate::source::{Mark, Source, both};
+use crate::stmt::condition;
 use awk_grammar::{Expr, Stmt};
-use awk_tokens::Token;
-use std::alloc::Global;
 
-/// A statement, and the tokens after it.
+/// A statement on the heap; none where reading stopped.
 #[inline(never)]
-pub(crate) fn on_heap<'a>(
-    alloc: Global,
-    statement: Stmt,
-    rest: &'a [Token<'a>],
-) -> Result<(Box<Stmt>, &'a [Token<'a>]), Refusal>
-    ensures { Gives (λ x. (view_stmt x.0.value, seen x.1.now)) result
-        (read_as (view_stmt statement) (seen rest.now)) }
+pub(crate) fn on_heap(source: &mut Source<'_>, statement: Stmt) -> Option<Box<Stmt>>
+    ensures read { Went (view_boxed result) (at source.old) (at source.new)
+        (is_read (view_stmt statement)) }
+    ensures held { Held result (at source.new) }
 {
-    Ok((boxed(alloc, statement)?, rest))
+    source.boxed(statement)
 }
 
 #[inline(never)]
-pub(crate) fn block_of<'a>(
-    alloc: Global,
-    body: Vec<Stmt>,
-    rest: &'a [Token<'a>],
-) -> Result<(Box<Stmt>, &'a [Token<'a>]), Refusal>
-    ensures { Gives (λ x. (view_stmt x.0.value, seen x.1.now)) result
-        (read_as (Block (view_stmts body.items)) (seen rest.now)) }
+pub(crate) fn block_of(source: &mut Source<'_>, inner: Vec<Stmt>) -> Option<Box<Stmt>>
+    ensures read { Went (view_boxed result) (at source.old) (at source.new)
+        (is_read (Block (view_stmts inner.items))) }
+    ensures held { Held result (at source.new) }
 {
-    on_heap(alloc, Stmt::Block(body), rest)
+    on_heap(source, Stmt::Block(inner))
 }
 
 #[inline(never)]
-pub(crate) fn if_of<'a>(
-    alloc: Global,
+pub(crate) fn if_else_of(
+    source: &mut Source<'_>,
     test: Expr,
-    then: Box<Stmt>,
-    rest: &'a [Token<'a>],
-) -> Result<(Box<Stmt>, &'a [Token<'a>]), Refusal>
-    ensures { Gives (λ x. (view_stmt x.0.value, seen x.1.now)) result
-        (read_as (If (view test) (view_stmt then.value)) (seen rest.now)) }
+    then: Option<Box<Stmt>>,
+    otherwise: Option<Box<Stmt>>,
+) -> Option<Box<Stmt>>
+    requires then { Held then (at source.old) }
+    requires otherwise { Held otherwise (at source.old) }
+    ensures read { Went (view_boxed result) (at source.old) (at source.new)
+        (is_read (IfElse (view test) (view_boxed then) (view_boxed otherwise))) }
+    ensures held { Held result (at source.new) }
 {
-    on_heap(alloc, Stmt::If(test, then), rest)
+    let (test, then) = both(test, then)?;
+    let ((test, then), otherwise) = both((test, then), otherwise)?;
+    on_heap(source, Stmt::IfElse(test, then, otherwise))
 }
 
+/// A statement with another within, from what stands before that one.
 #[inline(never)]
-pub(crate) fn if_else_of<'a>(
-    alloc: Global,
-    test: Expr,
-    then: Box<Stmt>,
-    otherwise: Box<Stmt>,
-    rest: &'a [Token<'a>],
-) -> Result<(Box<Stmt>, &'a [Token<'a>]), Refusal>
-    ensures { Gives (λ x. (view_stmt x.0.value, seen x.1.now)) result (read_as
-        (IfElse (view test) (view_stmt then.value) (view_stmt otherwise.value)) (seen rest.now)) }
+pub(crate) fn closed(
+    source: &mut Source<'_>,
+    limit: u32,
+    lead: Lead,
+    body: Option<Box<Stmt>>,
+) -> Option<Box<Stmt>>
+    requires room { limit < 4294967295 }
+    requires body { Held body (at source.old) }
+    ensures read { Went (view_boxed result) (at source.old) (at source.new)
+        (closed_at (expr_at limit) (view_lead lead) (view_boxed body)) }
+    ensures held { Held result (at source.new) }
 {
-    on_heap(alloc, Stmt::IfElse(test, then, otherwise), rest)
-}
-
-#[inline(never)]
-pub(crate) fn while_of<'a>(
-    alloc: Global,
-    test: Expr,
-    body: Box<Stmt>,
-    rest: &'a [Token<'a>],
-) -> Result<(Box<Stmt>, &'a [Token<'a>]), Refusal>
-    ensures { Gives (λ x. (view_stmt x.0.value, seen x.1.now)) result
-        (read_as (While (view test) (view_stmt body.value)) (seen rest.now)) }
-{
-    on_heap(alloc, Stmt::While(test, body), rest)
-}
-
-#[inline(never)]
-pub(crate) fn do_of<'a>(
-    alloc: Global,
-    body: Box<Stmt>,
-    test: Expr,
-    rest: &'a [Token<'a>],
-) -> Result<(Box<Stmt>, &'a [Token<'a>]), Refusal>
-    ensures { Gives (λ x. (view_stmt x.0.value, seen x.1.now)) result
-        (read_as (Do (view_stmt body.value) (view test)) (seen rest.now)) }
-{
-    on_heap(alloc, Stmt::Do(body, test), rest)
-}
-
-#[inline(never)]
-pub(crate) fn for_of<'a>(
-    alloc: Global,
-    head: Box<Head>,
-    body: Box<Stmt>,
-    rest: &'a [Token<'a>],
-) -> Result<(Box<Stmt>, &'a [Token<'a>]), Refusal>
-    ensures { Gives (λ x. (view_stmt x.0.value, seen x.1.now)) result (read_as
-        (For (view_maybe_simple head.value.first) (view_maybe head.value.test)
-        (view_maybe_simple head.value.step) (view_stmt body.value)) (seen rest.now)) }
-{
-    let Head { first, test, step } = Box::into_inner(head);
-    on_heap(alloc, Stmt::For(first, test, step, body), rest)
-}
-
-#[inline(never)]
-pub(crate) fn for_in_of<'a>(
-    alloc: Global,
-    key: &[u8],
-    array: &[u8],
-    body: Box<Stmt>,
-    rest: &'a [Token<'a>],
-) -> Result<(Box<Stmt>, &'a [Token<'a>]), Refusal>
-    ensures { Gives (λ x. (view_stmt x.0.value, seen x.1.now)) result
-        (read_as (ForIn key.now array.now (view_stmt body.value)) (seen rest.now)) }
-{
-    let key = key.to_vec(alloc)?;
-    let array = array.to_vec(alloc)?;
-    on_heap(alloc, Stmt::ForIn(key, array, body), rest)
+    let (lead, body) = both(lead, body)?;
+    match lead {
+        Lead::If(test) => on_heap(source, Stmt::If(test, body)),
+        Lead::While(test) => on_heap(source, Stmt::While(test, body)),
+        Lead::Do => {
+            source.expect(Mark::While);
+            let test = condition(source, limit);
+            on_heap(source, Stmt::Do(body, test))
+        }
+        Lead::Keys(key, array) => on_heap(source, Stmt::ForIn(key, array, body)),
+        Lead::Counted(head) => {
+            let Head { first, test, step } = Box::into_inner(head);
+            on_heap(source, Stmt::For(first, test, step, body))
+        }
+    }
 }

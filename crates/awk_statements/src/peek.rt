@@ -1,10 +1,13 @@
 //! What the first tokens of a statement are.
 
-ghost use Rattle.std.specs.Prelude.{◌≡◌, MatchOption, None, Some, Ok, Err};
+ghost use Rattle.std.specs.Prelude.{◌≡◌, MatchOption, None, Some, Ok, Err, true, map};
+ghost use Rattle.awk_tokens.specs.Views.{spelled};
+ghost use Rattle.awk_grammar.specs.Lexeme.{spoken_after};
 ghost use Rattle.awk_grammar.specs.Token.{Syntax as SyntaxFault};
 ghost use Rattle.awk_grammar.specs.Reading.{in_at, index_at, name_at};
 ghost use Rattle.awk_grammar.specs.ReadStmt.{open_here, comma_here, semicolon_at, while_at, else_at, brace_at, keys_at, is_in};
 ghost use Rattle.awk_expressions.specs.Seen.{seen, Gives};
+ghost use Rattle.awk_statements.specs.Starts.{open_brace_at};
 
 use awk_expressions::{Refusal, after_close, stopped};
 use awk_tokens::{Keyword, Punctuator, Token, TokenKind};
@@ -101,6 +104,23 @@ pub(crate) fn after_brace<'a>(tokens: &'a [Token<'a>]) -> Option<&'a [Token<'a>]
     }
 }
 
+/// The tokens after `{`.
+pub(crate) fn after_open_brace<'a>(tokens: &'a [Token<'a>]) -> Option<&'a [Token<'a>]>
+    ensures { MatchOption result (open_brace_at (seen tokens.now) ≡ None)
+        (λ r. open_brace_at (seen tokens.now) ≡ Some (seen r.now)) }
+{
+    match tokens {
+        [
+            Token {
+                kind: TokenKind::Punctuator(Punctuator::OpenBrace),
+                ..
+            },
+            rest @ ..,
+        ] => Some(rest),
+        _ => None,
+    }
+}
+
 /// The tokens after `[`.
 pub(crate) fn after_bracket<'a>(tokens: &'a [Token<'a>]) -> Option<&'a [Token<'a>]>
     ensures { MatchOption result (index_at (seen tokens.now) ≡ None)
@@ -161,6 +181,27 @@ pub(crate) fn after_name<'a>(tokens: &'a [Token<'a>]) -> Option<(&'a [u8], &'a [
         [
             Token {
                 kind: TokenKind::Name,
+                text,
+                ..
+            },
+            rest @ ..,
+        ] => Some((text, rest)),
+        _ => None,
+    }
+}
+
+/// A name after `function`, where it may also be one directly before `(`, and the tokens after it.
+pub(crate) fn after_function_name<'a>(
+    tokens: &'a [Token<'a>],
+) -> Option<(&'a [u8], &'a [Token<'a>])>
+    ensures { MatchOption result
+        (name_at (spoken_after true (map spelled tokens.now)) ≡ Err SyntaxFault)
+        (λ n. name_at (spoken_after true (map spelled tokens.now)) ≡ Ok (n.0.now, seen n.1.now)) }
+{
+    match tokens {
+        [
+            Token {
+                kind: TokenKind::Name | TokenKind::FuncName,
                 text,
                 ..
             },

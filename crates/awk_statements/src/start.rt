@@ -76,17 +76,29 @@ pub(crate) fn plain_start<'a>(tokens: &'a [Token<'a>]) -> PlainStart<'a>
     }
 }
 
+/// What a loop begins with.
+#[derive(Clone, Copy)]
+pub(crate) enum LoopWord {
+    While,
+    Do,
+    For,
+}
+
+/// What a statement begins with that holds no other, and is no simple one.
+#[derive(Clone, Copy)]
+pub(crate) enum Short {
+    Empty,
+    Jump(Jump),
+    Leave(Leaving),
+}
+
 /// What a statement begins with, and the tokens after that.
 #[derive(Clone, Copy)]
 pub(crate) enum StmtStart<'a> {
     Block(&'a [Token<'a>]),
-    Empty(&'a [Token<'a>]),
     If(&'a [Token<'a>]),
-    While(&'a [Token<'a>]),
-    Do(&'a [Token<'a>]),
-    For(&'a [Token<'a>]),
-    Jump(Jump, &'a [Token<'a>]),
-    Leave(Leaving, &'a [Token<'a>]),
+    Loop(LoopWord, &'a [Token<'a>]),
+    Short(Short, &'a [Token<'a>]),
     Simple,
 }
 
@@ -97,15 +109,15 @@ fn stmt_by<'a>(word: Keyword, rest: &'a [Token<'a>]) -> StmtStart<'a>
 {
     match word {
         Keyword::If => StmtStart::If(rest),
-        Keyword::While => StmtStart::While(rest),
-        Keyword::Do => StmtStart::Do(rest),
-        Keyword::For => StmtStart::For(rest),
-        Keyword::Break => StmtStart::Jump(Jump::Break, rest),
-        Keyword::Continue => StmtStart::Jump(Jump::Continue, rest),
-        Keyword::Next => StmtStart::Jump(Jump::Next, rest),
-        Keyword::NextFile => StmtStart::Jump(Jump::NextFile, rest),
-        Keyword::Exit => StmtStart::Leave(Leaving::Exit, rest),
-        Keyword::Return => StmtStart::Leave(Leaving::Return, rest),
+        Keyword::While => StmtStart::Loop(LoopWord::While, rest),
+        Keyword::Do => StmtStart::Loop(LoopWord::Do, rest),
+        Keyword::For => StmtStart::Loop(LoopWord::For, rest),
+        Keyword::Break => StmtStart::Short(Short::Jump(Jump::Break), rest),
+        Keyword::Continue => StmtStart::Short(Short::Jump(Jump::Continue), rest),
+        Keyword::Next => StmtStart::Short(Short::Jump(Jump::Next), rest),
+        Keyword::NextFile => StmtStart::Short(Short::Jump(Jump::NextFile), rest),
+        Keyword::Exit => StmtStart::Short(Short::Leave(Leaving::Exit), rest),
+        Keyword::Return => StmtStart::Short(Short::Leave(Leaving::Return), rest),
         _ => StmtStart::Simple,
     }
 }
@@ -120,7 +132,7 @@ pub(crate) fn stmt_start<'a>(tokens: &'a [Token<'a>]) -> StmtStart<'a>
     };
     match first.kind {
         TokenKind::Punctuator(Punctuator::OpenBrace) => StmtStart::Block(rest),
-        TokenKind::Punctuator(Punctuator::Semicolon) => StmtStart::Empty(rest),
+        TokenKind::Punctuator(Punctuator::Semicolon) => StmtStart::Short(Short::Empty, rest),
         TokenKind::Keyword(word) => stmt_by(word, rest),
         _ => StmtStart::Simple,
     }

@@ -1,9 +1,24 @@
-use Rattle.std.proofs.lemmas.Result.{err_from_is_err_and}
-use Rattle.awk_expressions.proofs.Binds.{fails_bind}
+use Rattle.std.proofs.Common.{true, Ok, refl, ap, ◌∙◌}
+use Rattle.awk_grammar.specs.Reading.{◌>>=◌, expr_at, list_at, bracket_at}
+use Rattle.awk_grammar.specs.ReadStmt.{delete_by}
+use Rattle.awk_grammar.specs.Stmt.{Delete}
+use Rattle.awk_expressions.specs.Seen.{seen}
+use Rattle.awk_statements.specs.Starts.{deleted_by}
+use Rattle.awk_statements.proofs.Starts.{delete_is}
+use Rattle.awk_statements.proofs.Went.{stays, then, past, came, goes_on}
 use Rattle.awk_statements.proofs.stmt.deletion.Goals as goal
 
-pub returns-in_err-array : goal.returns-in_err-array
-returns-in_err-array c =
-    let p = err_from_is_err_and c.from_residual.result c.from_residual.ensures.1 in
-    let e = c.in_err-array.field-0.0 in
-    rw (p.1, p.2) (fails_bind e _ _ c.in_err-array.ensures)
+pub returns-in_default : goal.returns-in_default
+returns-in_default c =
+    let expr = expr_at c.args.limit in
+    let n = c.name-array.result.items in
+    let ts = seen c.name-array.new.self.rest.now in
+    then _ c.name-array.ensures (came _ ts ts _ _ (delete_by expr n) refl (delete_is expr n ts ∙ ap (deleted_by expr n ts) c.in_default.ensures))
+
+pub returns : goal.returns
+returns c =
+    let expr = expr_at c.args.limit in
+    let n = c.name-array.result.items in
+    let ts = seen c.name-array.new.self.rest.now in
+    then _ c.name-array.ensures (goes_on ts (seen c.in-Some.rest.now) _ (delete_by expr n) (λ us. list_at expr true us >>= λ x. bracket_at x.1 >>= λ vs. Ok (Delete n x.0, vs)) c.go_on.ensures
+    (delete_is expr n ts ∙ ap (deleted_by expr n ts) c.in-Some.ensures) (then _ c.list-subscripts.ensures (past _ c.expect.ensures (stays _ _))))

@@ -1,16 +1,5 @@
-use Rattle.std.proofs.lemmas.Result.{err_from_is_err_and}
-use Rattle.awk_expressions.proofs.Binds.{fails_bind}
-use Rattle.awk_statements.proofs.Refused.{fails_then}
+use Rattle.awk_statements.proofs.Went.{stays, then, past}
 use Rattle.awk_statements.proofs.stmt.enclosed.Goals as goal
 
-pub returns-in_err-behind : goal.returns-in_err-behind
-returns-in_err-behind c =
-    let p = err_from_is_err_and c.from_residual.result c.from_residual.ensures.1 in
-    let e = c.in_err-behind.field-0.0 in
-    rw (p.1, p.2) (fails_bind e _ _ c.in_err-behind.ensures)
-
-pub returns-in_err-first : goal.returns-in_err-first
-returns-in_err-first c =
-    let p = err_from_is_err_and c.from_residual-in_err-first.result c.from_residual-in_err-first.ensures.1 in
-    let e = c.in_err-first.field-0.0 in
-    rw (p.1, p.2) (fails_then e _ _ _ c.in_ok-behind.ensures (fails_bind e _ _ c.in_err-first.ensures.tree))
+pub returns : goal.returns
+returns c = past _ c.expect.ensures (then _ c.expression-first.ensures (past _ c.expect-2.ensures (then _ c.list-others.ensures (past _ c.expect-3.ensures (past _ c.no_in.ensures (stays _ _))))))

@@ -1,0 +1,11 @@
+use Rattle.awk_statements.specs.Bodies.{view_head}
+use Rattle.awk_statements.proofs.Went.{then, past, kept, not_kept}
+use Rattle.awk_statements.proofs.head.counted.Goals as goal
+
+pub returns-in-Some : goal.returns-in-Some
+returns-in-Some c =
+    then _ c.optional_simple-first.ensures (past _ c.expect.ensures (then _ c.optional-test.ensures (past _ c.expect-2.ensures (then _ c.optional_simple-step.ensures (past _ c.expect-3.ensures (kept view_head _ _ _ _ c.in-Some.ensures))))))
+
+pub returns-in-None : goal.returns-in-None
+returns-in-None c =
+    then _ c.optional_simple-first.ensures (past _ c.expect.ensures (then _ c.optional-test.ensures (past _ c.expect-2.ensures (then _ c.optional_simple-step.ensures (past _ c.expect-3.ensures (not_kept _ _ _ _ c.in-None.ensures))))))
