@@ -1,0 +1,12 @@
+use Rattle.std.proofs.Common.{ℕ, ap, ◌∙◌}
+use Rattle.std.proofs.lemmas.Result.{IfOk-weaker}
+use Rattle.sem_primitives.specs.declared.table.Primitive.TheVariants as row
+use Rattle.mid_program.specs.Mid.{End, Fixed}
+use Rattle.mid_program.specs.Translation.{host}
+use Rattle.mid_program.specs.ViewCode.{views}
+use Rattle.mid_code.proofs.build.reserved.Goals as goal
+
+pub returns : goal.returns
+returns c =
+    IfOk-weaker c.done.result _ _ (λ r h. h ∙ ap (λ (n : ℕ). host row.GetSpecial (Fixed n End)) (c.from.ensures ∙ c.number.ensures))
+    (c.done.ensures _ (IfOk-weaker c.single.result _ _ (λ os h. ap views h) c.single.ensures))
