@@ -1,17 +1,17 @@
 -- What a reader that remembers its first fault has read, one part after the other.
 use Rattle.std.proofs.Common.{◌≡◌, ℕ, suc, ◌+◌, ◌-◌, ◌<◌, ◌≤◌, List, [], ◌∷◌, ◌++◌, Option, Some, None, Result, Ok, Err, Bool, true, false, refl, sym, ap, subst, ◌∙◌, arith}
 use Rattle.std.proofs.Common.{cond, length, nat_eq, map, replicate, take}
-use Rattle.std.proofs.lemmas.Bool.{le-leb}
+use Rattle.std.proofs.lemmas.Bool.{le-leb, lt-leb}
 use Rattle.std.specs.Prelude.{is_ok, IfOk, MatchOption, if◌then◌else◌}
 use Rattle.std.specs.Str.{IsUtf8, is_utf8}
 use Rattle.std.specs.declared.alloc.AllocError.{AllocError}
 use Rattle.std.proofs.lemmas.Str.{is_utf8-from_IsUtf8, IsUtf8-from_is_utf8}
-use Rattle.std.proofs.lemmas.List.{length-append, length-replicate, map-append, take_all}
+use Rattle.std.proofs.lemmas.List.{append-nil, length-append, length-replicate, map-append, take_all}
 use Rattle.std.specs.Borrow.{Bor}
 use Rattle.module_decoder.specs.declared.fault.DecodeFault.{DecodeFault}
 use Rattle.module_decoder.specs.declared.basics.Span.{Span}
 use Rattle.module_decoder.specs.declared.reader.Reader.{Reader}
-use Rattle.module_decoder.specs.declared.fault.DecodeFault.TheVariants.{BadSection}
+use Rattle.module_decoder.specs.declared.fault.DecodeFault.TheVariants.{BadSection, TooLarge}
 use Rattle.module_decoder.specs.Readers.{◌>>=◌, Fails, Gives, Read, both_at, mapped, malformed, index_at, bytes_at, each_at, ended, ended_by, tagged_at, whole}
 use Rattle.module_decoder.specs.Reading.{ReadBody, before, block_type_at, body_at, body_by, by_end, code_at, code_in, code_parts_at, expr_at, if_at, instr_by, locals_at, made_body, name_at, run_by, runs_at, same as itself, second_side, step_at, utf8, val_type_at, with_first}
 use Rattle.wasm_types.specs.ModuleGrammar.{CodeForm}
@@ -177,6 +177,19 @@ one_run {a} {b} {c} {d} {e} {n} {t} {new} front count i left lt small so_far h g
     after so_far (rw (runs_step a.span b.span front count i left b.rest.now lt so_far.span)
     (next_part (index_at b.span b.rest.now) (λ s y. with_items front (run_by a.span (runs_at a.span rest) left y)) h
     (rw step (next_part (val_type_at c.span c.rest.now) (λ s y. go (front ++ replicate n y.0) y.1) g filled))))
+
+pub too_many : {a b c d : Reader} {n : ℕ} {other all : Read (List ValType)} (front : List ValType) (count i left : ℕ) → i < count → left < n
+    → Reads a b (with_items front (runs_at a.span (count - i) left b.rest.now)) all → Reads b c (Ok (n, c.rest.now)) (index_at b.span b.rest.now) → d.span ≡ c.span → FailsBy TooLarge c.fault d.fault → Reads a d other all
+too_many {a} {b} {c} {d} {n} front count i left lt large so_far h kept f =
+    let past : run_by a.span (runs_at a.span (count - (i + 1))) left (n, c.rest.now) ≡ Err TooLarge = rw (lt-leb n left large) refl in
+    after so_far (rw (runs_step a.span b.span front count i left b.rest.now lt so_far.span)
+    (next_part (index_at b.span b.rest.now) (λ s y. with_items front (run_by a.span (runs_at a.span (count - (i + 1))) left y)) h
+    (fails TooLarge _ kept f (ap (with_items front) past))))
+
+pub all_runs : {a b : Reader} {all : Read (List ValType)} (front : List ValType) (count i left : ℕ) → count ≤ i → Reads a b (with_items front (runs_at a.span (count - i) left b.rest.now)) all → Reads a b (Ok (front, b.rest.now)) all
+all_runs {a} {b} front count i left le h =
+    let none : count - i ≡ 0 = omega arith in
+    left_is (rw none (ap (λ (ts : List ValType). Ok (ts, b.rest.now)) (append-nil front))) h
 
 -- ---- instructions
 
