@@ -147,6 +147,11 @@ one_more {A} {T} {a} {b} {c} {d} {x} {new} r form front count i {all} lt so_far 
     rw (← items) (next_part (Ok (front ++ x ∷ [], c.rest.now)) (λ s y. go (map form y.0) y.1) k (still d (go (map form new) d.rest.now))) in
     after so_far (rw step (next_part (r b.span b.rest.now) (λ s y. go (map form front ++ y.0 ∷ []) y.1) h pushed))
 
+pub all_items : {A : Type 0} {a b : Reader} {all : Read (List A)} (r : List ℕ → Read A) (front : List A) (count i : ℕ) → count ≤ i → Reads a b (with_items front (each_at r (count - i) b.rest.now)) all → Reads a b (Ok (front, b.rest.now)) all
+all_items {A} {a} {b} r front count i le h =
+    let none : count - i ≡ 0 = omega arith in
+    left_is (rw none (ap (λ (xs : List A). Ok (xs, b.rest.now)) (append-nil front))) h
+
 -- ---- locals
 
 -- what follows what was read
