@@ -1,4 +1,5 @@
 pub mod Loops
+pub mod Steps
 pub mod Sound
 pub mod SoundBody
 pub mod SoundParts

@@ -1,3 +1,4 @@
 pub mod Readers
 pub mod Reading
 pub mod View
+pub mod Readings

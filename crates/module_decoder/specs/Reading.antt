@@ -27,8 +27,6 @@ use Rattle.module_decoder.specs.declared.body.Opener.{Opener}
 use Rattle.module_decoder.specs.declared.body.Opener.TheVariants as opener
 use Rattle.module_decoder.specs.declared.body.Step.{Step}
 use Rattle.module_decoder.specs.declared.body.Step.TheVariants.{Ends, Opens}
-use Rattle.module_decoder.specs.declared.entry_kinds.Limited.{Limited}
-use Rattle.module_decoder.specs.declared.entry_kinds.Limited.TheVariants as limited
 use Rattle.module_decoder.specs.Readers.{◌>>=◌, Read, both_at, mapped, malformed, place, unfinished, index_at, bits32_at, bits64_at, vec_at, option_at, tagged_at, whole, bytes_at}
 
 -- ---- types
@@ -186,11 +184,6 @@ limits_at c most (b ∷ bytes) = limits_by c most b bytes
 
 abbrev pub table_type_at : Span → List ℕ → Read Limits
 table_type_at c = tagged_at c 0x70 (limits_at c most_elements)
-
--- the type of a table or of a memory
-abbrev pub limited_at : Limited → Span → List ℕ → Read Limits
-limited_at limited.Table c = table_type_at c
-limited_at limited.Memory c = limits_at c most_pages
 
 abbrev pub mut_at : Span → List ℕ → Read Bool
 mut_at c [] = malformed c

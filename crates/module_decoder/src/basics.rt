@@ -1,15 +1,14 @@
 //! What stands at the front: integers, bytes, names, types.
 
 ghost use Rattle.std.specs.Prelude.{◌≡◌, ◌+◌, ◌-◌, ◌≤◌, length};
-ghost use Rattle.std.specs.Prelude.{string_bytes, if◌then◌else◌};
+ghost use Rattle.std.specs.Prelude.{if◌then◌else◌};
 ghost use Rattle.module_decoder.specs.declared.fault.DecodeFault.TheVariants.{BadSection, BadInteger};
 ghost use Rattle.module_decoder.specs.Readers.{Gives, unfinished, place, index_at, bits32_at, bits64_at, bytes_at, cut_at, ended_by};
-ghost use Rattle.module_decoder.specs.Reading.{val_type_at, val_type_by, block_type_at, reserved_at, name_at, mem_arg_at, mut_at};
+ghost use Rattle.module_decoder.specs.Readings.{tag_at};
+ghost use Rattle.module_decoder.specs.Reading.{val_type_at, val_type_by, block_type_at, reserved_at, mut_at};
 
 use crate::fault::DecodeFault;
-use std::alloc::Global;
-use std::str;
-use wasm_types::{BlockType, MemArg, ValType, take_s32, take_s64, take_u32};
+use wasm_types::{BlockType, ValType, take_s32, take_s64, take_u32};
 
 /// Where bytes come from: the place of their section's id, and that of the byte after them.
 #[derive(Clone, Copy)]
@@ -157,17 +156,24 @@ pub(crate) fn reserved(c: Span, bytes: &[u8]) -> Result<((), &[u8]), DecodeFault
     }
 }
 
-/// An alignment and an offset.
-pub(crate) fn mem_arg(c: Span, bytes: &[u8]) -> Result<(MemArg, &[u8]), DecodeFault>
-    ensures { Gives (λ x. (x.0, x.1.now)) result (mem_arg_at c bytes.now) }
+/// The byte that begins a part.
+pub(crate) fn tag(c: Span, code: u8, bytes: &[u8]) -> Result<((), &[u8]), DecodeFault>
+    ensures { Gives (λ x. (x.0, x.1.now)) result (tag_at code c bytes.now) }
 {
-    let (align, rest) = index(c, bytes)?;
-    let (offset, rest) = index(c, rest)?;
-    Ok((MemArg { align, offset }, rest))
+    match bytes {
+        [] => Err(c.malformed()),
+        [b, rest @ ..] => {
+            if *b == code {
+                Ok(((), rest))
+            } else {
+                Err(c.malformed())
+            }
+        }
+    }
 }
 
-/// Whether a global can be written.
-pub(crate) fn mutability(c: Span, bytes: &[u8]) -> Result<(bool, &[u8]), DecodeFault>
+/// A byte that is 0 or 1.
+pub(crate) fn flag(c: Span, bytes: &[u8]) -> Result<(bool, &[u8]), DecodeFault>
     ensures { Gives (λ x. (x.0, x.1.now)) result (mut_at c bytes.now) }
 {
     match bytes {
@@ -190,16 +196,5 @@ pub(crate) fn counted(c: Span, bytes: &[u8]) -> Result<(&[u8], &[u8]), DecodeFau
         Ok((&rest[..n], &rest[n..]))
     } else {
         Err(c.malformed())
-    }
-}
-
-/// A name.
-pub(crate) fn name(alloc: Global, c: Span, bytes: &[u8]) -> Result<(String, &[u8]), DecodeFault>
-    ensures { Gives (λ x. (string_bytes x.0, x.1.now)) result (name_at c bytes.now) }
-{
-    let (text, rest) = counted(c, bytes)?;
-    match str::from_utf8(text) {
-        Ok(s) => Ok((String::from_str(alloc, s)?, rest)),
-        Err(_) => Err(c.malformed()),
     }
 }

@@ -1,19 +1,21 @@
 //! Instructions and their bodies.
 
-ghost use Rattle.std.specs.Prelude.{◌≡◌, ◌+◌, ◌-◌, Some, None, Ok, MatchOption, length};
-ghost use Rattle.wasm_types.specs.declared.instr.Simple.TheVariants as simple;
-ghost use Rattle.wasm_types.specs.Opcodes.{indexed};
-ghost use Rattle.wasm_types.specs.Syntax.{Plain, Block, Loop, If, Done};
+ghost use Rattle.std.specs.Prelude.{◌≡◌, ◌+◌, ◌-◌, Some, None, Ok, MatchOption, IfOk, length};
+ghost use Rattle.wasm_types.specs.Syntax.{Block, Loop, If, Instructions};
 ghost use Rattle.wasm_types.specs.View.{view, views};
-ghost use Rattle.module_decoder.specs.Readers.{Gives, mapped, vec_at, index_at, bits32_at, bits64_at};
-ghost use Rattle.module_decoder.specs.Reading.{step_by, step_at, mem_arg_at, reserved_at, call_indirect_at, made_body, by_end, nested_at, table_at, instr_by, body_at, expr_at};
+ghost use Rattle.module_decoder.specs.Readings.{Reads};
+ghost use Rattle.module_decoder.specs.Reading.{step_by, step_at, made_body, by_end, same, nested_at, instr_by, body_at, expr_at};
 
-use crate::basics::{Span, bits32, bits64, block_type, index, mem_arg, reserved};
-use crate::entries::entries;
+use crate::basics::{Span, bits32, bits64, block_type};
+use crate::entries::{Indices, entries};
 use crate::fault::DecodeFault;
-use crate::held::{push, shared};
-use std::alloc::Global;
-use wasm_types::{BlockType, IndexOp, Instr, Lead, LoadOp, MAX_NESTING, Simple, StoreOp, lead_of};
+use crate::held::shared;
+use crate::reader::Reader;
+use std::alloc::{AllocError, Global};
+use wasm_types::{BlockType, Instr, Lead, MAX_NESTING, Simple, lead_of};
+
+/// What stands for an instruction that is not read.
+const NOTHING: Instr = Instr::Plain(Simple::Nop);
 
 /// What ends instructions.
 #[derive(Clone, Copy)]
@@ -37,12 +39,11 @@ pub enum Step {
     Opens(Lead),
 }
 
-/// Instructions, what ended them, and the bytes after it.
+/// Instructions, and what ended them.
 #[derive(Drop)]
-pub struct Sequence<'a> {
+pub struct Sequence {
     pub instrs: Vec<Instr>,
     pub ending: Ending,
-    pub rest: &'a [u8],
 }
 
 fn step_of(lead: Lead) -> Step
@@ -86,232 +87,174 @@ fn behind(c: Span, bytes: &[u8]) -> usize
     c.end.saturating_sub(bytes.len() + 1)
 }
 
-fn indexed(c: Span, op: IndexOp, bytes: &[u8]) -> Result<(Instr, &[u8]), DecodeFault>
-    ensures { Gives (λ x. (view x.0, x.1.now)) result
-        (mapped (λ n. Plain (indexed op n)) (index_at c) bytes.now) }
+/// Only an end may stand here.
+fn end(reader: &mut Reader, ending: Ending)
+    ensures { (instrs : Instructions) → Reads reader.old reader.new (Ok (instrs, reader.new.rest.now))
+        (by_end reader.old.span same (made_body instrs ending reader.old.rest.now)) }
 {
-    let (n, rest) = index(c, bytes)?;
-    Ok((Instr::Plain(op.with(n)), rest))
-}
-
-fn load(c: Span, op: LoadOp, bytes: &[u8]) -> Result<(Instr, &[u8]), DecodeFault>
-    ensures { Gives (λ x. (view x.0, x.1.now)) result
-        (mapped (λ m. Plain (simple.Load op m)) (mem_arg_at c) bytes.now) }
-{
-    let (arg, rest) = mem_arg(c, bytes)?;
-    Ok((Instr::Plain(Simple::Load(op, arg)), rest))
-}
-
-fn store(c: Span, op: StoreOp, bytes: &[u8]) -> Result<(Instr, &[u8]), DecodeFault>
-    ensures { Gives (λ x. (view x.0, x.1.now)) result
-        (mapped (λ m. Plain (simple.Store op m)) (mem_arg_at c) bytes.now) }
-{
-    let (arg, rest) = mem_arg(c, bytes)?;
-    Ok((Instr::Plain(Simple::Store(op, arg)), rest))
-}
-
-fn i32_const(c: Span, bytes: &[u8]) -> Result<(Instr, &[u8]), DecodeFault>
-    ensures { Gives (λ x. (view x.0, x.1.now)) result
-        (mapped (λ n. Plain (simple.I32Const n)) (bits32_at c) bytes.now) }
-{
-    let (n, rest) = bits32(c, bytes)?;
-    Ok((Instr::Plain(Simple::I32Const(n)), rest))
-}
-
-fn i64_const(c: Span, bytes: &[u8]) -> Result<(Instr, &[u8]), DecodeFault>
-    ensures { Gives (λ x. (view x.0, x.1.now)) result
-        (mapped (λ n. Plain (simple.I64Const n)) (bits64_at c) bytes.now) }
-{
-    let (n, rest) = bits64(c, bytes)?;
-    Ok((Instr::Plain(Simple::I64Const(n)), rest))
-}
-
-fn call_indirect(c: Span, bytes: &[u8]) -> Result<(Instr, &[u8]), DecodeFault>
-    ensures { Gives (λ x. (view x.0, x.1.now)) result (call_indirect_at c bytes.now) }
-{
-    let (n, rest) = index(c, bytes)?;
-    let (_, rest) = reserved(c, rest)?;
-    Ok((Instr::Plain(Simple::CallIndirect(n)), rest))
-}
-
-fn with_reserved(c: Span, instr: Simple, bytes: &[u8]) -> Result<(Instr, &[u8]), DecodeFault>
-    ensures { Gives (λ x. (view x.0, x.1.now)) result
-        (mapped (λ r. Plain instr) (reserved_at c) bytes.now) }
-{
-    let (_, rest) = reserved(c, bytes)?;
-    Ok((Instr::Plain(instr), rest))
-}
-
-fn table(alloc: Global, c: Span, bytes: &[u8]) -> Result<(Instr, &[u8]), DecodeFault>
-    ensures { Gives (λ x. (view x.0, x.1.now)) result (table_at c bytes.now) }
-{
-    let (labels, rest) = entries(alloc, c, bytes)?;
-    let (last, rest) = index(c, rest)?;
-    Ok((Instr::BrTable(labels, last), rest))
-}
-
-/// A block, from what it holds.
-fn blocked<'a>(
-    alloc: Global,
-    c: Span,
-    kind: BlockType,
-    inner: Sequence<'a>,
-) -> Result<(Instr, &'a [u8]), DecodeFault>
-    ensures { Gives (λ x. (view x.0, x.1.now)) result (by_end c (Block kind)
-        (made_body (views inner.entry.instrs.items) inner.entry.ending inner.entry.rest.now)) }
-{
-    match inner.ending {
-        Ending::End => Ok((Instr::Block(kind, shared(alloc, inner.instrs)?), inner.rest)),
-        Ending::Else => Err(DecodeFault::BadOpcode(behind(c, inner.rest))),
+    match ending {
+        Ending::End => {}
+        Ending::Else => reader.fail(DecodeFault::BadOpcode(behind(reader.span, reader.rest))),
     }
 }
 
-/// A loop, from what it holds.
-fn looped<'a>(
-    alloc: Global,
-    c: Span,
-    kind: BlockType,
-    inner: Sequence<'a>,
-) -> Result<(Instr, &'a [u8]), DecodeFault>
-    ensures { Gives (λ x. (view x.0, x.1.now)) result (by_end c (Loop kind)
-        (made_body (views inner.entry.instrs.items) inner.entry.ending inner.entry.rest.now)) }
+fn block(alloc: Global, kind: BlockType, inner: Vec<Instr>) -> Result<Instr, AllocError>
+    ensures { IfOk result (λ instr. view instr ≡ Block kind (views inner.items)) }
 {
-    match inner.ending {
-        Ending::End => Ok((Instr::Loop(kind, shared(alloc, inner.instrs)?), inner.rest)),
-        Ending::Else => Err(DecodeFault::BadOpcode(behind(c, inner.rest))),
-    }
+    Ok(Instr::Block(kind, shared(alloc, inner)?))
 }
 
-/// A choice that has one side.
-fn one_sided(alloc: Global, kind: BlockType, yes: Vec<Instr>) -> Result<Instr, DecodeFault>
-    ensures { Gives view result (Ok (If kind (views yes.items) Done)) }
+fn repeated(alloc: Global, kind: BlockType, inner: Vec<Instr>) -> Result<Instr, AllocError>
+    ensures { IfOk result (λ instr. view instr ≡ Loop kind (views inner.items)) }
 {
-    let yes = shared(alloc, yes)?;
-    let no = shared(alloc, Vec::new(alloc))?;
-    Ok(Instr::If(kind, yes, no))
+    Ok(Instr::Loop(kind, shared(alloc, inner)?))
 }
 
-/// A choice that has two sides.
-fn two_sided<'a>(
+fn choice(
     alloc: Global,
-    c: Span,
     kind: BlockType,
     yes: Vec<Instr>,
-    no: Sequence<'a>,
-) -> Result<(Instr, &'a [u8]), DecodeFault>
-    ensures { Gives (λ x. (view x.0, x.1.now)) result (by_end c (If kind (views yes.items))
-        (made_body (views no.entry.instrs.items) no.entry.ending no.entry.rest.now)) }
+    no: Vec<Instr>,
+) -> Result<Instr, AllocError>
+    ensures { IfOk result (λ instr. view instr ≡ If kind (views yes.items) (views no.items)) }
 {
-    match no.ending {
-        Ending::End => {
-            let yes = shared(alloc, yes)?;
-            Ok((Instr::If(kind, yes, shared(alloc, no.instrs)?), no.rest))
-        }
-        Ending::Else => Err(DecodeFault::BadOpcode(behind(c, no.rest))),
+    let yes = shared(alloc, yes)?;
+    Ok(Instr::If(kind, yes, shared(alloc, no)?))
+}
+
+/// Instructions that nothing ends, since a fault does.
+fn cut(instrs: Vec<Instr>) -> Sequence
+    ensures { result.instrs ≡ instrs }
+{
+    Sequence {
+        instrs,
+        ending: Ending::End,
     }
 }
 
 /// An instruction that holds others, from what follows its opcode.
 #[cycle(body)]
-fn nested(
-    alloc: Global,
-    c: Span,
-    limit: u32,
-    opener: Opener,
-    bytes: &[u8],
-) -> Result<(Instr, &[u8]), DecodeFault>
-    ensures { Gives (λ x. (view x.0, x.1.now)) result
-        (nested_at c (body_at c limit) opener bytes.now) }
+fn nested(reader: &mut Reader, limit: u32, opener: Opener) -> Instr
+    ensures { Reads reader.old reader.new (Ok (view result, reader.new.rest.now))
+        (nested_at reader.old.span (body_at reader.old.span limit) opener reader.old.rest.now) }
 {
-    let (kind, rest) = block_type(c, bytes)?;
-    let inner = body_of(alloc, c, limit, rest)?;
+    let alloc = reader.alloc;
+    let kind = reader.take(block_type(reader.span, reader.rest), None);
+    let first = body_of(reader, limit);
     match opener {
-        Opener::Block => blocked(alloc, c, kind, inner),
-        Opener::Loop => looped(alloc, c, kind, inner),
-        Opener::If => match inner.ending {
-            Ending::End => Ok((one_sided(alloc, kind, inner.instrs)?, inner.rest)),
+        Opener::Block => {
+            end(reader, first.ending);
+            reader.made(block(alloc, kind, first.instrs), NOTHING)
+        }
+        Opener::Loop => {
+            end(reader, first.ending);
+            reader.made(repeated(alloc, kind, first.instrs), NOTHING)
+        }
+        Opener::If => match first.ending {
+            Ending::End => {
+                reader.made(choice(alloc, kind, first.instrs, Vec::new(alloc)), NOTHING)
+            }
             Ending::Else => {
-                let second = body_of(alloc, c, limit, inner.rest)?;
-                two_sided(alloc, c, kind, inner.instrs, second)
+                let second = body_of(reader, limit);
+                end(reader, second.ending);
+                reader.made(choice(alloc, kind, first.instrs, second.instrs), NOTHING)
             }
         },
     }
 }
 
 #[cycle(body)]
-fn instr(
-    alloc: Global,
-    c: Span,
-    limit: u32,
-    lead: Lead,
-    bytes: &[u8],
-) -> Result<(Instr, &[u8]), DecodeFault>
-    ensures { Gives (λ x. (view x.0, x.1.now)) result
-        (instr_by c (body_at c limit) lead bytes.now) }
+fn instr(reader: &mut Reader, limit: u32, lead: Lead) -> Instr
+    ensures { Reads reader.old reader.new (Ok (view result, reader.new.rest.now))
+        (instr_by reader.old.span (body_at reader.old.span limit) lead reader.old.rest.now) }
 {
     match lead {
-        Lead::Bare(p) => Ok((Instr::Plain(p), bytes)),
-        Lead::Index(op) => indexed(c, op, bytes),
-        Lead::Load(op) => load(c, op, bytes),
-        Lead::Store(op) => store(c, op, bytes),
-        Lead::I32Const => i32_const(c, bytes),
-        Lead::I64Const => i64_const(c, bytes),
-        Lead::CallIndirect => call_indirect(c, bytes),
-        Lead::MemorySize => with_reserved(c, Simple::MemorySize, bytes),
-        Lead::MemoryGrow => with_reserved(c, Simple::MemoryGrow, bytes),
-        Lead::BrTable => table(alloc, c, bytes),
-        Lead::Block => nested(alloc, c, limit, Opener::Block, bytes),
-        Lead::Loop => nested(alloc, c, limit, Opener::Loop, bytes),
-        Lead::If => nested(alloc, c, limit, Opener::If, bytes),
-        Lead::Float => Err(DecodeFault::Float(behind(c, bytes))),
-        Lead::Else | Lead::End | Lead::Unknown => Err(DecodeFault::BadOpcode(behind(c, bytes))),
+        Lead::Bare(simple) => Instr::Plain(simple),
+        Lead::Index(op) => Instr::Plain(op.with(reader.index())),
+        Lead::Load(op) => Instr::Plain(Simple::Load(op, reader.mem_arg())),
+        Lead::Store(op) => Instr::Plain(Simple::Store(op, reader.mem_arg())),
+        Lead::I32Const => {
+            let n = reader.take(bits32(reader.span, reader.rest), 0);
+            Instr::Plain(Simple::I32Const(n))
+        }
+        Lead::I64Const => {
+            let n = reader.take(bits64(reader.span, reader.rest), 0);
+            Instr::Plain(Simple::I64Const(n))
+        }
+        Lead::CallIndirect => {
+            let n = reader.index();
+            reader.reserved();
+            Instr::Plain(Simple::CallIndirect(n))
+        }
+        Lead::MemorySize => {
+            reader.reserved();
+            Instr::Plain(Simple::MemorySize)
+        }
+        Lead::MemoryGrow => {
+            reader.reserved();
+            Instr::Plain(Simple::MemoryGrow)
+        }
+        Lead::BrTable => {
+            let labels = entries::<Indices>(reader);
+            Instr::BrTable(labels, reader.index())
+        }
+        Lead::Block => nested(reader, limit, Opener::Block),
+        Lead::Loop => nested(reader, limit, Opener::Loop),
+        Lead::If => nested(reader, limit, Opener::If),
+        Lead::Float => {
+            reader.fail(DecodeFault::Float(behind(reader.span, reader.rest)));
+            NOTHING
+        }
+        Lead::Else | Lead::End | Lead::Unknown => {
+            reader.fail(DecodeFault::BadOpcode(behind(reader.span, reader.rest)));
+            NOTHING
+        }
     }
 }
 
 /// Instructions up to what ends them.
 #[cycle(body)]
-pub(crate) fn body_of(
-    alloc: Global,
-    c: Span,
-    limit: u32,
-    bytes: &[u8],
-) -> Result<Sequence<'_>, DecodeFault>
-    ensures { Gives (λ x. made_body (views x.instrs.items) x.ending x.rest.now) result
-        (body_at c limit bytes.now) }
+fn body_of(reader: &mut Reader, limit: u32) -> Sequence
+    ensures { Reads reader.old reader.new
+        (Ok (made_body (views result.instrs.items) result.ending reader.new.rest.now))
+        (body_at reader.old.span limit reader.old.rest.now) }
 {
+    let mut instrs = Vec::new(reader.alloc);
     if limit == 0 {
-        return Err(DecodeFault::TooLarge);
+        reader.fail(DecodeFault::TooLarge);
+        return cut(instrs);
     }
-    let mut instrs = Vec::new(alloc);
-    let mut rest = bytes;
-    let turns = bytes.len();
+    let turns = reader.rest.len();
     for _ in 0..turns {
-        match next_of(rest) {
-            None => return Err(c.malformed()),
+        if reader.has_failed() {
+            return cut(instrs);
+        }
+        match next_of(reader.rest) {
+            None => {
+                reader.fail(reader.span.malformed());
+                return cut(instrs);
+            }
             Some((Step::Ends(ending), after)) => {
-                return Ok(Sequence {
-                    instrs,
-                    ending,
-                    rest: after,
-                });
+                reader.rest = after;
+                return Sequence { instrs, ending };
             }
             Some((Step::Opens(lead), after)) => {
-                let (next, after_next) = instr(alloc, c, limit - 1, lead, after)?;
-                push(&mut instrs, next)?;
-                rest = after_next;
+                reader.rest = after;
+                let next = instr(reader, limit - 1, lead);
+                reader.push(&mut instrs, next);
             }
         }
     }
-    Err(c.malformed())
+    reader.fail(reader.span.malformed());
+    cut(instrs)
 }
 
 /// Instructions and their end.
-pub(crate) fn expr(alloc: Global, c: Span, bytes: &[u8]) -> Result<(Vec<Instr>, &[u8]), DecodeFault>
-    ensures { Gives (λ x. (views x.0.items, x.1.now)) result (expr_at c bytes.now) }
+pub(crate) fn expr(reader: &mut Reader) -> Vec<Instr>
+    ensures { Reads reader.old reader.new (Ok (views result.items, reader.new.rest.now))
+        (expr_at reader.old.span reader.old.rest.now) }
 {
-    let body = body_of(alloc, c, MAX_NESTING + 1, bytes)?;
-    match body.ending {
-        Ending::End => Ok((body.instrs, body.rest)),
-        Ending::Else => Err(DecodeFault::BadOpcode(behind(c, body.rest))),
-    }
+    let body = body_of(reader, MAX_NESTING + 1);
+    end(reader, body.ending);
+    body.instrs
 }

@@ -8,6 +8,7 @@ mod entry_kinds;
 mod fault;
 mod held;
 pub mod laws;
+mod reader;
 mod sections;
 
 pub use fault::DecodeFault;

@@ -9,14 +9,18 @@ ghost use Rattle.wasm_types.specs.declared.module.SectionId.TheVariants as secti
 ghost use Rattle.wasm_types.specs.ModuleGrammar.{no_parts, joined, module_of, IsModule};
 ghost use Rattle.wasm_types.specs.Profile.{most_nesting};
 ghost use Rattle.module_decoder.specs.View.{view_code, view_parts, view_progress};
-ghost use Rattle.module_decoder.specs.Readers.{Gives, Fails, ended};
-ghost use Rattle.module_decoder.specs.Reading.{made_frame, section_by, part_at, Frame, frame_at, section_at, sections_at, no_progress, custom_at, known_by, finished_by, after_header, module_at};
+ghost use Rattle.module_decoder.specs.Readers.{Gives, Fails};
+ghost use Rattle.module_decoder.specs.Readings.{Reads};
+ghost use Rattle.module_decoder.specs.Reading.{made_frame, section_by, part_at, Frame, frame_at, section_at, sections_at, custom_at, known_by, finished_by, after_header, module_at};
 
-use crate::basics::{Span, ended, index, name, unfinished};
-use crate::entries::fill;
-use crate::entry_kinds::{Code, Limited, fill_limited};
+use crate::basics::{Span, unfinished};
+use crate::entries::{Indices, fill};
+use crate::entry_kinds::{
+    Code, Codes, DataSegments, Elems, Exports, FuncTypes, Globals, Imports, Memories, Tables,
+};
 use crate::fault::DecodeFault;
 use crate::held::{push, shared};
+use crate::reader::Reader;
 use std::alloc::{AllocError, Global};
 use wasm_types::{
     Data, Elem, Export, Func, FuncType, Import, Limits, MAX_MODULE_BYTES, Module, SectionId,
@@ -69,25 +73,6 @@ fn section_by(id: u8) -> Option<SectionId>
     }
 }
 
-// What was read, if nothing is left behind it.
-fn whole<T: Drop>(c: Span, read: Result<(T, &[u8]), DecodeFault>) -> Result<T, DecodeFault>
-    ensures { MatchResult read.entry (λ x. Gives (λ y. y) result (ended c (x.0, x.1.now)))
-        (λ e. result ≡ Err e) }
-{
-    let (value, rest) = read?;
-    ended(c, rest)?;
-    Ok(value)
-}
-
-// Puts the index of the function that starts, if it was read.
-fn put_start(place: &mut Option<u32>, read: Result<u32, DecodeFault>) -> Result<(), DecodeFault>
-    ensures { MatchResult read (λ n. (result ≡ Ok tt) × (place.new ≡ Some n))
-        (λ e. result ≡ Err e) }
-{
-    *place = Some(read?);
-    Ok(())
-}
-
 impl Parts {
     fn new(alloc: Global) -> Parts
         ensures { view_parts result ≡ no_parts }
@@ -108,44 +93,40 @@ impl Parts {
     }
 
     // Takes the codes, of which there are as many as functions. Their number stands before them, so it is told first where it differs.
-    fn take_codes(&mut self, alloc: Global, c: Span, bytes: &[u8]) -> Result<(), DecodeFault>
-        ensures { MatchResult result
-            (λ _. part_at c section_id.Code (view_parts self.old) bytes.now
-            ≡ Ok (view_parts self.new))
-            (λ e. Fails e (part_at c section_id.Code (view_parts self.old) bytes.now)) }
+    fn take_codes(&mut self, reader: &mut Reader)
+        ensures { Reads reader.old reader.new (Ok (view_parts self.new))
+            (part_at reader.old.span section_id.Code (view_parts self.old) reader.old.rest.now) }
     {
-        let (count, _) = index(c, bytes)?;
+        let bytes = reader.rest;
+        let count = reader.index();
         if count as usize != self.type_indices.len() {
-            return Err(c.malformed());
+            reader.fail(reader.span.malformed());
+            return;
         }
-        fill(&mut self.codes, alloc, c, bytes)
+        reader.rest = bytes;
+        fill::<Codes>(&mut self.codes, reader);
     }
 
     // Takes what the contents of a section give.
-    fn take(
-        &mut self,
-        alloc: Global,
-        c: Span,
-        id: SectionId,
-        bytes: &[u8],
-    ) -> Result<(), DecodeFault>
-        ensures { MatchResult result (λ _. part_at c id (view_parts self.old) bytes.now ≡ Ok
-            (view_parts self.new)) (λ e. Fails e (part_at c id (view_parts self.old) bytes.now)) }
+    fn take(&mut self, reader: &mut Reader, id: SectionId)
+        ensures { Reads reader.old reader.new (Ok (view_parts self.new))
+            (part_at reader.old.span id (view_parts self.old) reader.old.rest.now) }
     {
         match id {
-            SectionId::Type => fill(&mut self.types, alloc, c, bytes),
-            SectionId::Import => fill(&mut self.imports, alloc, c, bytes),
-            SectionId::Function => fill(&mut self.type_indices, alloc, c, bytes),
-            SectionId::Table => fill_limited(&mut self.tables, alloc, c, Limited::Table, bytes),
-            SectionId::Memory => {
-                fill_limited(&mut self.memories, alloc, c, Limited::Memory, bytes)
+            SectionId::Type => fill::<FuncTypes>(&mut self.types, reader),
+            SectionId::Import => fill::<Imports>(&mut self.imports, reader),
+            SectionId::Function => fill::<Indices>(&mut self.type_indices, reader),
+            SectionId::Table => fill::<Tables>(&mut self.tables, reader),
+            SectionId::Memory => fill::<Memories>(&mut self.memories, reader),
+            SectionId::Global => fill::<Globals>(&mut self.globals, reader),
+            SectionId::Export => fill::<Exports>(&mut self.exports, reader),
+            SectionId::Start => {
+                self.start = Some(reader.index());
+                reader.ended();
             }
-            SectionId::Global => fill(&mut self.globals, alloc, c, bytes),
-            SectionId::Export => fill(&mut self.exports, alloc, c, bytes),
-            SectionId::Start => put_start(&mut self.start, whole(c, index(c, bytes))),
-            SectionId::Element => fill(&mut self.elems, alloc, c, bytes),
-            SectionId::Code => self.take_codes(alloc, c, bytes),
-            SectionId::Data => fill(&mut self.data, alloc, c, bytes),
+            SectionId::Element => fill::<Elems>(&mut self.elems, reader),
+            SectionId::Code => self.take_codes(reader),
+            SectionId::Data => fill::<DataSegments>(&mut self.data, reader),
         }
     }
 }
@@ -189,7 +170,9 @@ impl Progress {
             section: at,
             end: total.saturating_sub(after.len()),
         };
-        let (_, _) = name(alloc, c, contents)?;
+        let mut reader = Reader::new(alloc, c, contents);
+        reader.name();
+        reader.sound()?;
         Ok(after)
     }
 
@@ -213,7 +196,9 @@ impl Progress {
             section: at,
             end: total.saturating_sub(after.len()),
         };
-        self.parts.take(alloc, c, id, contents)?;
+        let mut reader = Reader::new(alloc, c, contents);
+        self.parts.take(&mut reader, id);
+        reader.sound()?;
         self.last = id.number();
         if id == SectionId::Function {
             self.functions = at;
@@ -241,6 +226,29 @@ impl Progress {
             Some(id) => self.known(alloc, total, at, id, bytes),
         }
     }
+
+    fn sections(&mut self, alloc: Global, total: usize, bytes: &[u8]) -> Result<(), DecodeFault>
+        ensures { MatchResult result
+            (λ _. sections_at total (length bytes.now) (view_progress self.old) bytes.now
+            ≡ Ok (view_progress self.new))
+            (λ e. Fails e
+            (sections_at total (length bytes.now) (view_progress self.old) bytes.now)) }
+    {
+        let mut rest = bytes;
+        let turns = bytes.len();
+        for _ in 0..turns {
+            match first_of(rest) {
+                None => return Ok(()),
+                Some((id, after)) => {
+                    rest = self.section(alloc, total, id, after)?;
+                }
+            }
+        }
+        match first_of(rest) {
+            None => Ok(()),
+            Some(_) => Err(DecodeFault::TooLarge),
+        }
+    }
 }
 
 fn first_of(bytes: &[u8]) -> Option<(u8, &[u8])>
@@ -258,31 +266,6 @@ fn first_index(indices: &[u32]) -> Option<(u32, &[u32])>
     match indices {
         [] => None,
         [n, rest @ ..] => Some((*n, rest)),
-    }
-}
-
-fn sections(alloc: Global, total: usize, bytes: &[u8]) -> Result<Progress, DecodeFault>
-    ensures { Gives view_progress result
-        (sections_at total (length bytes.now) no_progress bytes.now) }
-{
-    let mut progress = Progress {
-        last: 0,
-        functions: 0,
-        parts: Parts::new(alloc),
-    };
-    let mut rest = bytes;
-    let turns = bytes.len();
-    for _ in 0..turns {
-        match first_of(rest) {
-            None => return Ok(progress),
-            Some((id, after)) => {
-                rest = progress.section(alloc, total, id, after)?;
-            }
-        }
-    }
-    match first_of(rest) {
-        None => Ok(progress),
-        Some(_) => Err(DecodeFault::TooLarge),
     }
 }
 
@@ -381,6 +364,11 @@ fn read_module(alloc: Global, bytes: &[u8]) -> Result<Module, DecodeFault>
     if total > MAX_MODULE_BYTES {
         return Err(DecodeFault::TooLarge);
     }
-    let progress = sections(alloc, total, rest)?;
+    let mut progress = Progress {
+        last: 0,
+        functions: 0,
+        parts: Parts::new(alloc),
+    };
+    progress.sections(alloc, total, rest)?;
     finish(alloc, progress.functions, progress.parts)
 }

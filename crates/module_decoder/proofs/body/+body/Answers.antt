@@ -1,39 +1,82 @@
-use Rattle.std.proofs.Common.{◌≡◌, ◌-◌, ◌<◌, ap, sym, ◌∙◌, arith, length, Some}
-use Rattle.std.proofs.lemmas.Result.{err_from_is_err_and}
-use Rattle.wasm_types.specs.Syntax.{Then, Done}
+use Rattle.std.proofs.Common.{◌≡◌, ◌-◌, length, arith, refl, Some}
+use Rattle.wasm_types.specs.declared.instr.Simple.TheVariants as simple
+use Rattle.wasm_types.specs.Opcodes.{indexed}
+use Rattle.wasm_types.specs.Syntax.{Block, Loop, Plain}
 use Rattle.wasm_types.specs.View.{view, views}
-use Rattle.wasm_types.proofs.Views.{followed_by, views_push}
+use Rattle.module_decoder.specs.declared.fault.DecodeFault.TheVariants.{TooLarge}
 use Rattle.module_decoder.specs.declared.body.Step.TheVariants.{Ends, Opens}
-use Rattle.module_decoder.specs.Reading.{body_at, body_by, step_at}
-use Rattle.module_decoder.proofs.Loops.{body_zero, body_some, body_none, body_end, body_next, body_fails, front_nil}
+use Rattle.module_decoder.specs.Readers.{bits32_at, index_at}
+use Rattle.module_decoder.specs.Reading.{block_type_at, body_at, mem_arg_at, reserved_at, step_at}
+use Rattle.module_decoder.proofs.Loops.{body_zero}
+use Rattle.module_decoder.proofs.Steps.{fails, instrs_begun, instrs_end, made_is, mapped_is, one_body, one_instr, one_side, took, two_sides}
 use Rattle.module_decoder.proofs.body.+body.Goals as goal
 
 pub body_of-returns-then-limit-eq0 : goal.body_of-returns-then-limit-eq0
-body_of-returns-then-limit-eq0 t c = body_zero c.args.c c.args.limit c.args.bytes.now c.if-limit-eq0.true
+body_of-returns-then-limit-eq0 t c =
+    let r = c.args.reader.now in
+    fails TooLarge (body_at r.span c.args.limit r.rest.now) c.fail.ensures.span c.fail.ensures.fault (body_zero r.span c.args.limit r.rest.now c.if-limit-eq0.true)
 
 pub body_of-loop-init : goal.body_of-loop-init
-body_of-loop-init t c =
-    let some : 0 < c.args.limit = omega arith in
-    let zero_off : length c.args.bytes.now - 0 ≡ length c.args.bytes.now = omega arith in
-    rw (c.new-instrs.ensures.items, zero_off) (front_nil (body_by c.args.c (body_at c.args.c (c.args.limit - 1)) (length c.args.bytes.now) c.args.bytes.now) ∙ sym (body_some c.args.c c.args.limit c.args.bytes.now some))
-
-pub body_of-returns-in-None : goal.body_of-returns-in-None
-body_of-returns-in-None t c = rw c.malformed.ensures (body_none c.args.c (body_at c.args.c (c.args.limit - 1)) (views c.loop.instrs.items) (length c.args.bytes.now - c.loop.counter) c.loop.rest.now (body_at c.args.c c.args.limit c.args.bytes.now) c.in-None.ensures c.loop.invariant)
+body_of-loop-init t c = rw c.new-instrs.ensures.items (instrs_begun c.args.reader.now c.args.limit (length c.args.reader.now.rest.now - 0) (omega arith) (omega arith))
 
 pub body_of-returns-in-Some-Ends-default : goal.body_of-returns-in-Some-Ends-default
 body_of-returns-in-Some-Ends-default t c =
-    let at : step_at c.loop.rest.now ≡ Some (Ends c.in-Some-Ends-default.ending, c.in-Some-Ends-default.after.now) = rw c.in-Some-Ends-default.field-0-0-is at c.in-Some-Ends-default.ensures in
-    body_end c.args.c (body_at c.args.c (c.args.limit - 1)) (views c.loop.instrs.items) (length c.args.bytes.now) c.loop.counter c.loop.rest.now c.in-Some-Ends-default.ending c.in-Some-Ends-default.after.now (body_at c.args.c c.args.limit c.args.bytes.now) c.loop-test.true at c.loop.invariant
-
-pub body_of-returns-in_err-next-in-Some-Opens-default : goal.body_of-returns-in_err-next-in-Some-Opens-default
-body_of-returns-in_err-next-in-Some-Opens-default t c =
-    let p = err_from_is_err_and c.from_residual.result c.from_residual.ensures.1 in
-    let at : step_at c.loop.rest.now ≡ Some (Opens c.in-Some-Opens-default.lead, c.in-Some-Opens-default.after.now) = rw c.in-Some-Opens-default.field-0-0-is at c.in-Some-Opens-default.ensures in
-    rw (p.1, p.2) (body_fails c.in_err-next-in-Some-Opens-default.field-0.0 c.args.c (body_at c.args.c (c.args.limit - 1)) (views c.loop.instrs.items) (length c.args.bytes.now) c.loop.counter c.loop.rest.now c.in-Some-Opens-default.lead c.in-Some-Opens-default.after.now (body_at c.args.c c.args.limit c.args.bytes.now) c.loop-test.true at c.in_err-next-in-Some-Opens-default.ensures c.loop.invariant)
+    let at : step_at c.loop.reader.rest.now ≡ Some (Ends c.in-Some-Ends-default.ending, c.in-Some-Ends-default.after.now) = rw c.in-Some-Ends-default.field-0-0-is at c.in-Some-Ends-default.ensures in
+    instrs_end (c.args.limit - 1) (views c.loop.instrs.items) (length c.args.reader.now.rest.now) c.loop.counter c.in-Some-Ends-default.ending c.loop.invariant c.loop-test.true at refl refl
 
 pub body_of-loop-preserved : goal.body_of-loop-preserved
 body_of-loop-preserved t c =
-    let next = c.in_ok-next-in-Some-Opens-default.next in
-    let at : step_at c.loop.rest.now ≡ Some (Opens c.in-Some-Opens-default.lead, c.in-Some-Opens-default.after.now) = rw c.in-Some-Opens-default.field-0-0-is at c.in-Some-Opens-default.ensures in
-    let items : views c.push.new.items.items ≡ followed_by (views c.loop.instrs.items) (Then (view next) Done) = ap views c.in_ok-push-in-Some-Opens-default.ensures.items ∙ views_push c.loop.instrs.items next in
-    rw items (body_next c.args.c (body_at c.args.c (c.args.limit - 1)) (views c.loop.instrs.items) (length c.args.bytes.now) c.loop.counter c.loop.rest.now c.in-Some-Opens-default.lead c.in-Some-Opens-default.after.now (view next) c.in_ok-next-in-Some-Opens-default.after_next.now (body_at c.args.c c.args.limit c.args.bytes.now) c.loop-test.true at c.in_ok-next-in-Some-Opens-default.ensures c.loop.invariant)
+    let at : step_at c.loop.reader.rest.now ≡ Some (Opens c.in-Some-Opens-default.lead, c.in-Some-Opens-default.after.now) = rw c.in-Some-Opens-default.field-0-0-is at c.in-Some-Opens-default.ensures in
+    one_instr (c.args.limit - 1) c.loop.instrs.items c.push.new.items.items c.instr-next.result (length c.args.reader.now.rest.now) c.loop.counter c.in-Some-Opens-default.lead c.loop.invariant c.instr-next.ensures c.push.ensures c.loop-test.true at refl refl
+
+pub nested-returns-in-Block : goal.nested-returns-in-Block
+nested-returns-in-Block t c =
+    let kind = took (λ k. k) c.block_type.result (block_type_at c.args.reader.now.span c.args.reader.now.rest.now) c.take-kind.ensures.span c.take-kind.ensures.took c.block_type.ensures in
+    rw c.in-Block.is (one_body Block c.args.limit (views c.body_of-first.result.instrs.items) c.body_of-first.result.ending kind c.body_of-first.ensures c.end.ensures
+    (made_is view c.block.result c.made.ensures.span c.made.ensures.rest c.made.ensures.made c.block.ensures))
+
+pub nested-returns-in-Loop : goal.nested-returns-in-Loop
+nested-returns-in-Loop t c =
+    let kind = took (λ k. k) c.block_type.result (block_type_at c.args.reader.now.span c.args.reader.now.rest.now) c.take-kind.ensures.span c.take-kind.ensures.took c.block_type.ensures in
+    rw c.in-Loop.is (one_body Loop c.args.limit (views c.body_of-first.result.instrs.items) c.body_of-first.result.ending kind c.body_of-first.ensures c.end-in-Loop.ensures
+    (made_is view c.repeated.result c.made-in-Loop.ensures.span c.made-in-Loop.ensures.rest c.made-in-Loop.ensures.made c.repeated.ensures))
+
+pub nested-returns-in-End : goal.nested-returns-in-End
+nested-returns-in-End t c =
+    let kind = took (λ k. k) c.block_type.result (block_type_at c.args.reader.now.span c.args.reader.now.rest.now) c.take-kind.ensures.span c.take-kind.ensures.took c.block_type.ensures in
+    rw c.in-If.is (one_side c.args.limit (views c.body_of-first.result.instrs.items) c.body_of-first.result.ending kind c.body_of-first.ensures c.in-End.is
+    (made_is view c.choice.result c.made-in-End.ensures.span c.made-in-End.ensures.rest c.made-in-End.ensures.made (rw c.new.ensures.items at c.choice.ensures)))
+
+pub nested-returns-in-Else : goal.nested-returns-in-Else
+nested-returns-in-Else t c =
+    let kind = took (λ k. k) c.block_type.result (block_type_at c.args.reader.now.span c.args.reader.now.rest.now) c.take-kind.ensures.span c.take-kind.ensures.took c.block_type.ensures in
+    rw c.in-If.is (two_sides c.args.limit (views c.body_of-first.result.instrs.items) c.body_of-first.result.ending (views c.body_of-second.result.instrs.items) c.body_of-second.result.ending kind c.body_of-first.ensures c.in-Else.is c.body_of-second.ensures c.end-in-Else.ensures
+    (made_is view c.choice-in-Else.result c.made-in-Else.ensures.span c.made-in-Else.ensures.rest c.made-in-Else.ensures.made c.choice-in-Else.ensures))
+
+pub instr-returns-in-Index : goal.instr-returns-in-Index
+instr-returns-in-Index t c = rw (c.in-Index.is, c.with.ensures) (mapped_is (λ n. Plain (indexed c.in-Index.op n)) (index_at c.args.reader.now.span) c.index.ensures)
+
+pub instr-returns-in-Load : goal.instr-returns-in-Load
+instr-returns-in-Load t c = rw c.in-Load.is (mapped_is (λ m. Plain (simple.Load c.in-Load.op m)) (mem_arg_at c.args.reader.now.span) c.mem_arg.ensures)
+
+pub instr-returns-in-Store : goal.instr-returns-in-Store
+instr-returns-in-Store t c = rw c.in-Store.is (mapped_is (λ m. Plain (simple.Store c.in-Store.op m)) (mem_arg_at c.args.reader.now.span) c.mem_arg-in-Store.ensures)
+
+pub instr-returns-in-I32Const : goal.instr-returns-in-I32Const
+instr-returns-in-I32Const t c =
+    rw c.in-I32Const.is (mapped_is (λ n. Plain (simple.I32Const n)) (bits32_at c.args.reader.now.span) (took (λ n. n) c.bits32.result (bits32_at c.args.reader.now.span c.args.reader.now.rest.now) c.take-n.ensures.span c.take-n.ensures.took c.bits32.ensures))
+
+pub instr-returns-in-MemorySize : goal.instr-returns-in-MemorySize
+instr-returns-in-MemorySize t c = rw c.in-MemorySize.is (mapped_is (λ r. Plain simple.MemorySize) (reserved_at c.args.reader.now.span) c.reserved-in-MemorySize.ensures)
+
+pub instr-returns-in-MemoryGrow : goal.instr-returns-in-MemoryGrow
+instr-returns-in-MemoryGrow t c = rw c.in-MemoryGrow.is (mapped_is (λ r. Plain simple.MemoryGrow) (reserved_at c.args.reader.now.span) c.reserved-in-MemoryGrow.ensures)
+
+pub instr-returns-in-Block : goal.instr-returns-in-Block
+instr-returns-in-Block t c = rw c.in-Block.is c.nested.ensures
+
+pub instr-returns-in-Loop : goal.instr-returns-in-Loop
+instr-returns-in-Loop t c = rw c.in-Loop.is c.nested-in-Loop.ensures
+
+pub instr-returns-in-If : goal.instr-returns-in-If
+instr-returns-in-If t c = rw c.in-If.is c.nested-in-If.ensures

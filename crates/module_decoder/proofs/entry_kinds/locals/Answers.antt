@@ -1,22 +1,18 @@
-use Rattle.std.proofs.lemmas.Result.{err_from_is_err_and}
-use Rattle.module_decoder.specs.Reading.{locals_at}
-use Rattle.module_decoder.proofs.Loops.{runs_next, runs_fail_index, runs_fail_type, runs_past}
+use Rattle.std.proofs.Common.{is_ok, arith}
+use Rattle.module_decoder.proofs.Steps.{all_runs, filled, one_run, room_left, too_many}
 use Rattle.module_decoder.proofs.entry_kinds.locals.Goals as goal
-
-pub returns-in_err-n : goal.returns-in_err-n
-returns-in_err-n c =
-    let p = err_from_is_err_and c.from_residual-in_err-n.result c.from_residual-in_err-n.ensures.1 in
-    rw (p.1, p.2) (runs_fail_index c.in_err-n.field-0.0 c.args.c c.loop.all.items c.in_ok-count.count c.loop.counter c.loop.left c.loop.rest.now (locals_at c.args.c c.args.bytes.now) c.loop-test.true c.in_err-n.ensures c.loop.invariant)
-
-pub returns-in_err-t : goal.returns-in_err-t
-returns-in_err-t c =
-    let p = err_from_is_err_and c.from_residual-in_err-t.result c.from_residual-in_err-t.ensures.1 in
-    rw (p.1, p.2) (runs_fail_type c.in_err-t.field-0.0 c.args.c c.loop.all.items c.in_ok-count.count c.loop.counter c.loop.left c.in_ok-n.n c.loop.rest.now c.in_ok-n.after.now (locals_at c.args.c c.args.bytes.now) c.loop-test.true c.in_ok-n.ensures c.if-n-left.false c.in_err-t.ensures c.loop.invariant)
-
-pub returns-then-n-left : goal.returns-then-n-left
-returns-then-n-left c =
-    runs_past c.args.c c.loop.all.items c.in_ok-count.count c.loop.counter c.loop.left c.in_ok-n.n c.loop.rest.now c.in_ok-n.after.now (locals_at c.args.c c.args.bytes.now) c.loop-test.true c.in_ok-n.ensures c.if-n-left.true c.loop.invariant
 
 pub loop-preserved : goal.loop-preserved
 loop-preserved c =
-    rw c.in_ok-add_run.ensures.ok (runs_next c.args.c c.loop.all.items c.in_ok-count.count c.loop.counter c.loop.left c.in_ok-n.n c.in_ok-t.t c.loop.rest.now c.in_ok-n.after.now c.in_ok-t.after.now (locals_at c.args.c c.args.bytes.now) c.loop-test.true c.in_ok-n.ensures c.in_ok-t.ensures c.if-n-left.false c.loop.invariant)
+    record {
+      so_far = one_run c.loop.all.items c.index-count.result c.loop.counter c.loop.left c.loop-test.true c.if-n-left.false c.loop.invariant.so_far c.index-n.ensures c.val_type-t.ensures
+          (filled c.resize.result c.loop.all.items c.index-n.result c.val_type-t.result c.resize.ensures.items (omega (arith, c.len.ensures)) (omega (arith, c.len.ensures)) c.made.ensures.span c.made.ensures.rest c.made.ensures.made);
+      room = room_left (is_ok c.resize.result) c.loop.all.items c.index-n.result c.loop.left c.val_type-t.result c.resize.ensures.items (omega (arith, c.len.ensures)) (omega (arith, c.len.ensures)) c.if-n-left.false c.loop.invariant.room;
+    }
+
+pub returns-then-n-left : goal.returns-then-n-left
+returns-then-n-left c =
+    too_many c.loop.all.items c.index-count.result c.loop.counter c.loop.left c.loop-test.true c.if-n-left.true c.loop.invariant.so_far c.index-n.ensures c.fail.ensures.span c.fail.ensures.fault
+
+pub returns : goal.returns
+returns c = all_runs c.loop.all.items c.index-count.result c.loop.counter c.loop.left c.loop-test.false c.loop.invariant.so_far

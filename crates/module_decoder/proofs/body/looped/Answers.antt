@@ -1,8 +1,0 @@
-use Rattle.std.proofs.Common.{Ok, ap}
-use Rattle.wasm_types.specs.Syntax.{Instruction}
-use Rattle.module_decoder.proofs.Loops.{loop_is}
-use Rattle.module_decoder.proofs.body.looped.Goals as goal
-
-pub returns-in-End : goal.returns-in-End
-returns-in-End c =
-    rw c.in-End.is (ap (λ (i : Instruction). Ok (i, c.args.inner.rest.now)) (loop_is c.args.kind c.args.inner.instrs.items c.in_ok-shared-in-End.field-0 (ap (λ v. v.items) c.in_ok-shared-in-End.ensures.ok)))

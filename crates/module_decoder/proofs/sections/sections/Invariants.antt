@@ -1,7 +1,0 @@
-use Rattle.std.proofs.Common.{◌≡◌, ◌-◌}
-use Rattle.module_decoder.specs.View.{view_progress}
-use Rattle.module_decoder.specs.Reading.{sections_at, no_progress}
-use Rattle.module_decoder.proofs.sections.sections.Given as goal
-
-abbrev pub invariant-loop : goal.invariant-loop
-invariant-loop l = sections_at l.total (l.turns - l.counter) (view_progress l.progress) l.rest ≡ sections_at l.total l.turns no_progress l.bytes
