@@ -11,7 +11,7 @@ use Rattle.awk_values.specs.declared.fault.Stop.{Stop}
 use Rattle.awk_values.specs.declared.fault.Stop.TheVariants as stops
 use Rattle.awk_values.specs.declared.value.Value.{Value}
 use Rattle.sem_primitives.specs.SharedState.{◌>>=◌}
-use Rattle.sem_primitives.specs.Formats.{Piece, Ordinary, Converts, Malformed, Conversion, conversion_at, converted, formatted, formatted_from, pieces_from, sized, then_text}
+use Rattle.sem_primitives.specs.Formats.{Piece, Ordinary, Converts, Malformed, conversion_at, converted, formatted, formatted_from, pieces_from, sized, then_text}
 use Rattle.host_format.specs.Growing.{IsMade, StandsAfter}
 use Rattle.host_format.specs.Outcomes.{AddsOutcome, IsPast, IsStopAfter, IsStopOf}
 use Rattle.host_format.specs.Steps.{IsLeftBy, IsLeftOf, behind_text, step, text_of_step}

@@ -1,5 +1,6 @@
-use Rattle.std.proofs.Common.{◌+◌, arith, drop}
-use Rattle.host_format.proofs.Pieces.{begun, single_at, singles, with_rest}
+use Rattle.std.proofs.Common.{◌+◌, ◌≤◌, [], ap, arith, drop, length}
+use Rattle.std.proofs.lemmas.List.{drop_all}
+use Rattle.host_format.proofs.Pieces.{all_parts, begun, single_at, singles, with_rest}
 use Rattle.host_format.proofs.fields.split_each.Goals as goal
 
 pub loop-at-preserved : goal.loop-at-preserved
@@ -9,3 +10,10 @@ loop-at-preserved c =
 
 pub loop-at-init : goal.loop-at-init
 loop-at-init c = rw (c.reserve.ensures.items, c.requires) (begun c.args.text.now (singles c.args.text.now))
+
+pub returns : goal.returns
+returns c =
+    let text = c.args.text.now in
+    let last : length text ≤ c.loop-at.at = omega arith in
+    all_parts text c.loop-at.spans.items (singles text)
+    (with_rest text c.loop-at.spans.items _ [] (singles text) (ap singles (drop_all c.loop-at.at text last)) c.loop-at.invariant)

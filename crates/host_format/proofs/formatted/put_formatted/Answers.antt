@@ -1,4 +1,4 @@
-use Rattle.std.proofs.Common.{◌+◌, ◌≤◌, List, ap, arith, drop, length, length-drop, subst, sym, ◌∙◌}
+use Rattle.std.proofs.Common.{◌+◌, ◌≤◌, ap, arith, drop, length, length-drop, subst, sym, ◌∙◌}
 use Rattle.sem_primitives.specs.Formats.{conversion_at}
 use Rattle.host_format.specs.Conversions.{piece_is}
 use Rattle.host_format.proofs.Pieces.{rest_of}

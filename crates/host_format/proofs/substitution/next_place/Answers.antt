@@ -33,3 +33,18 @@ returns-clause-kept c = λ t a. c.in_ok-found.ensures.kept t (c.first.ensures.ke
 
 pub returns-clause-auto : goal.returns-clause-auto
 returns-clause-auto c = c.in_ok-found.ensures.auto
+
+pub returns-in_err-place-clause-kept : goal.returns-in_err-place-clause-kept
+returns-in_err-place-clause-kept c = λ t a. c.first.ensures.kept t a
+
+pub returns-in_default-clause-kept : goal.returns-in_default-clause-kept
+returns-in_default-clause-kept c = λ t a. c.first.ensures.kept t a
+
+pub returns-then-not-is_repeated-clause-kept : goal.returns-then-not-is_repeated-clause-kept
+returns-then-not-is_repeated-clause-kept c = λ t a. c.first.ensures.kept t a
+
+pub returns-then-place-text-clause-kept : goal.returns-then-place-text-clause-kept
+returns-then-place-text-clause-kept c = λ t a. c.first.ensures.kept t a
+
+pub returns-in_err-found-clause-kept : goal.returns-in_err-found-clause-kept
+returns-in_err-found-clause-kept c = λ t a. c.first-2.ensures.kept t (c.first.ensures.kept t a)
