@@ -1,7 +1,6 @@
 -- Formatting the last values is a step.
-use Rattle.std.proofs.Common.{◌≡◌, ◌-◌, ℕ, nat_le, Bool, true, false, List, [], length, take, None, Result, Ok, Err, refl, sym, ap, subst, ◌∙◌}
+use Rattle.std.proofs.Common.{◌≡◌, ◌-◌, ℕ, nat_le, Bool, true, false, List, [], length, take, Result, Ok, refl, sym, ap, subst, ◌∙◌}
 use Rattle.std.specs.Prelude.{◌&&◌}
-use Rattle.std.specs.FinMap as map
 use Rattle.awk_values.specs.declared.fault.Stop.{Stop}
 use Rattle.awk_values.specs.declared.value.Value.{Value}
 use Rattle.sem_primitives.specs.InTurn.{listed_in_turn}
@@ -13,13 +12,13 @@ use Rattle.sem_primitives.specs.declared.sorts.Constant.TheVariants as constant
 use Rattle.sem_primitives.specs.declared.sorts.Sort.TheVariants as sort
 use Rattle.sem_primitives.specs.declared.table.Listed.TheVariants as listed
 use Rattle.wasm_store.specs.declared.word.Word.{Word}
-use Rattle.host_step.specs.Arguments.{and_then, constant_front, decode, no_more}
+use Rattle.host_step.specs.Arguments.{and_then, constant_front, decode}
 use Rattle.host_step.specs.HostState.{HostState}
 use Rattle.host_step.specs.HostStep.{before_last_of, carried, last_of, where_fit}
 use Rattle.host_imports.specs.Imports.{spends}
 use Rattle.host_imports.specs.declared.import.Import.TheVariants.{Over}
 use Rattle.host_imports.specs.declared.import.Listing.TheVariants.{Sprintf}
-use Rattle.host_values.specs.Calls.{names_with, spare, with_values}
+use Rattle.host_values.specs.Calls.{names_with, with_values}
 use Rattle.host_values.specs.Evaluations.{Values}
 use Rattle.host_values.specs.Singles.{with_arguments}
 use Rattle.host_texts.specs.Evaluations.{Comes, Evaluation, Outcome, replied}

@@ -1,5 +1,5 @@
 //! Primitives on texts that change nothing but handles, and which function a primitive is.
-ghost use Rattle.std.specs.Prelude.{◌≡◌, Ok};
+ghost use Rattle.std.specs.Prelude.{Ok};
 ghost use Rattle.awk_values.specs.Values.{text_of_value};
 ghost use Rattle.sem_primitives.specs.TextMeaning.{index_row, lower_row, upper_row};
 ghost use Rattle.host_step.specs.HostState.{HostState};

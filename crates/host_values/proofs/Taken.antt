@@ -1,5 +1,5 @@
 -- The handles that a call spends, as its words give them.
-use Rattle.std.proofs.Common.{◌≡◌, ℤ, List, [], Result, Ok, SFits, of_z, to_z, refl, sym, ap, ◌∙◌}
+use Rattle.std.proofs.Common.{◌≡◌, ℤ, List, [], Result, SFits, of_z, to_z, refl, sym, ap, ◌∙◌}
 use Rattle.std.specs.FinMap as map
 use Rattle.std.specs.Int.{w32}
 use Rattle.std.proofs.lemmas.Int.{to_z-of_z}

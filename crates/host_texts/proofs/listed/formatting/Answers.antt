@@ -1,4 +1,4 @@
-use Rattle.std.proofs.Common.{◌∙◌, ℕ, Bool, List, Ok, ap, length, nat_le, subst, sym, ◌-◌}
+use Rattle.std.proofs.Common.{◌∙◌, ℕ, Bool, List, ap, length, nat_le, subst, sym, ◌-◌}
 use Rattle.std.specs.Prelude.{◌&&◌}
 use Rattle.std.proofs.lemmas.Result.{err_from_is_err_and}
 use Rattle.awk_values.specs.declared.value.Value.{Value as AnyValue}

@@ -1,6 +1,5 @@
 use Rattle.std.proofs.Common.{◌∙◌, List, Ok, Result, SFits, ap, refl, rules, sym}
 use Rattle.std.specs.Int.{w32}
-use Rattle.std.specs.FinMap as map
 use Rattle.std.proofs.lemmas.Result.{err_from_is_err_and}
 use Rattle.awk_values.specs.declared.value.Value.{Value as AnyValue}
 use Rattle.sem_primitives.specs.FieldMeaning.{set_special, set_special_row}
@@ -9,7 +8,7 @@ use Rattle.wasm_store.specs.declared.trap.TrapKind.{TrapKind}
 use Rattle.wasm_store.specs.declared.word.Word.{Word}
 use Rattle.host_step.specs.HostState.{HostState}
 use Rattle.host_values.specs.Evaluations.{Values}
-use Rattle.host_texts.specs.Evaluations.{Comes, Evaluation, done_reply, evaluation, front_then, settled}
+use Rattle.host_texts.specs.Evaluations.{Evaluation, done_reply, evaluation, front_then, settled}
 use Rattle.host_texts.specs.Shapes.{one_then}
 use Rattle.host_texts.specs.States.{holding}
 use Rattle.host_texts.specs.declared.primitive.TextPrimitive.TheVariants.{SetSpecial}

@@ -1,4 +1,4 @@
-use Rattle.std.proofs.Common.{◌∙◌, List, Ok, Result, SFits, ap, of_z, rules, sym, to_z}
+use Rattle.std.proofs.Common.{◌∙◌, Ok, Result, SFits, ap, of_z, rules, sym, to_z}
 use Rattle.std.specs.Int.{w32}
 use Rattle.std.specs.FinMap as map
 use Rattle.std.proofs.lemmas.Result.{err_from_is_err_and}

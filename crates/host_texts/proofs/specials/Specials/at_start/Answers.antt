@@ -2,7 +2,7 @@ use Rattle.std.proofs.Common.{◌+◌, ◌+ℤ◌, SFits, [], ◌∷◌, ap, of_
 use Rattle.std.specs.Int.{w64}
 use Rattle.std.proofs.lemmas.Int.{to_z-of_z}
 use Rattle.std.specs.Prelude.{codes}
-use Rattle.sem_primitives.specs.declared.constants.Special.TheVariants.{Convfmt, Fs, Ofmt, Ofs, Ors, Rs, Subsep}
+use Rattle.sem_primitives.specs.declared.constants.Special.TheVariants.{Fs, Ofmt, Ofs, Ors, Rs, Subsep}
 use Rattle.host_texts.specs.Starts.{with_text}
 use Rattle.host_texts.specs.States.{specials_of}
 use Rattle.host_texts.proofs.Starts.{started}
