@@ -21,7 +21,7 @@ impl<T: Drop> Grown<T> {
         }
     }
 
-    /// Puts an item behind the others, if there was memory for it.
+    /// Puts an item after the others, if there was memory for it.
     #[inline(never)]
     pub(crate) fn put(&mut self, item: Result<T, AllocError>)
         ensures { self.new.is_refused ≡ false → (self.old.is_refused ≡ false)

@@ -1,13 +1,15 @@
-use Rattle.std.proofs.Common.{◌≡◌, ◌+◌, ◌++◌, ◌∷◌, [], ℕ, List, None, map, length, sym, ap, ◌∙◌, rules, ◌≤◌, inr, subst, arith}
+use Rattle.std.proofs.Common.{◌≡◌, ◌+◌, ◌++◌, ◌∷◌, [], ℕ, List, None, map, length, length-append, sym, ap, ◌∙◌, rules, ◌≤◌, inr, subst, arith}
 use Rattle.std.proofs.lemmas.List.{length-map}
 use Rattle.std.specs.Vec.{vec_len}
 use Rattle.mid_program.specs.View.{view_mid, view_routine}
 use Rattle.wasm_types.specs.View.{view_elem}
 use Rattle.host_imports.specs.Imports.{imports, import_type}
+use Rattle.lower_model.specs.Functions.{main_callee, routine_callee}
 use Rattle.lower_model.specs.Machine.{Callee}
 use Rattle.lower_model.specs.Modules.{called_from, callee_type, chosen, functions_from, imported_from, memory_for}
 use Rattle.lower_modules.specs.Lengths.{least_among}
 use Rattle.lower_modules.specs.Limits.{most_bytes}
+use Rattle.lower_modules.specs.View.{view_function}
 use Rattle.lower_modules.specs.Parts.{main_form, text_form}
 use Rattle.lower_modules.proofs.Spelled.{spelled_short}
 use Rattle.lower_modules.proofs.module.module_for.Goals as goal
@@ -51,3 +53,16 @@ returns-then-least_among-clause-too_large c = λ e. inr (inr (λ bytes m.
 
 pub returns-clause-small : goal.returns-clause-small
 returns-clause-small c = (subst (λ (b : List ℕ). length b ≤ most_bytes) c.in_ok-bytes.ensures.bytes c.in_ok-bytes.ensures.few, c.in_ok-bytes.ensures.functions)
+
+pub code_parts-requires : goal.code_parts-requires
+code_parts-requires c =
+    let p = view_mid c.args.mid.now in
+    let few = c.in_ok-bytes.ensures.functions in
+    let plain = ap length c.requires in
+    let seen = length-map c.args.functions.now view_function in
+    let routines = length-map p.routines (routine_callee p) in
+    let with_main = length-append (map (routine_callee p) p.routines) (main_callee p ∷ []) in
+    omega (arith, few, plain, seen, routines, with_main)
+
+pub data_parts-requires : goal.data_parts-requires
+data_parts-requires c = c.in_ok-bytes.ensures.few
