@@ -1,5 +1,5 @@
 -- A statement with others within.
-use Rattle.std.proofs.Common.{◌≡◌, Option, Some, sym, ap, subst, ◌∙◌}
+use Rattle.std.proofs.Common.{◌≡◌, Option, Some, sym, subst, ◌∙◌}
 use Rattle.std.specs.declared.boxed.Box.{Box}
 use Rattle.std.specs.declared.alloc.Global.{Global}
 use Rattle.awk_grammar.specs.Reading.{Reader}
@@ -19,8 +19,6 @@ closes expr given held l body b s s0 s1 h e w = rw (sym h.0 ∙ e, h.1) w
 pub closes_counted : (expr : Reader) (taken given : Head) (b s : Stmt) (s0 s1 : At) → taken ≡ given → Went s s0 s1 (closed_at expr (view_head taken) b) → Went s s0 s1 (closed_at expr (view_head given) b)
 closes_counted expr taken given b s s0 s1 e w = subst (λ (h : Head). Went s s0 s1 (closed_at expr (view_head h) b)) e w
 
-pub closes_both : (given test held : Expr) (then otherwise : Option (Box ScriptStmt Global)) (first first' second : Box ScriptStmt Global) (s : Stmt) (s0 s1 : At) → (test ≡ given) × (then ≡ Some first) → (◌≡◌ {A = Expr × Box ScriptStmt Global} (held, first') (test, first)) × (otherwise ≡ Some second)
-    → Went s s0 s1 (is_read (IfElse (view held) (view_stmt first'.value) (view_stmt second.value))) → Went s s0 s1 (is_read (IfElse (view given) (view_boxed then) (view_boxed otherwise)))
-closes_both given test held then otherwise first first' second s s0 s1 h k w =
-    let e : ◌≡◌ {A = Expr × Box ScriptStmt Global} (held, first') (given, first) = k.0 ∙ ap (λ (t : Expr). (t, first)) h.0 in
-    rw (h.1, k.1) (subst (λ (p : Expr × Box ScriptStmt Global). Went s s0 s1 (is_read (IfElse (view p.0) (view_stmt p.1.value) (view_stmt second.value)))) e w)
+pub chooses : (given test : Expr) (then : Option (Box ScriptStmt Global)) (first : Box ScriptStmt Global) (o s : Stmt) (s0 s1 : At) → (test ≡ given) × (then ≡ Some first) → Went s s0 s1 (is_read (IfElse (view test) (view_stmt first.value) o))
+    → Went s s0 s1 (is_read (IfElse (view given) (view_boxed then) o))
+chooses given test then first o s s0 s1 h w = rw (sym h.0, h.1) w

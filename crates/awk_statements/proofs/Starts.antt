@@ -1,9 +1,9 @@
 -- Items, simple statements and statements by what they begin with.
 use Rattle.std.proofs.Common.{◌≡◌, ℕ, zero, suc, ◌-◌, ◌<◌, Option, Some, None, Err, List, ◌∷◌, refl, ap, ◌∙◌, arith}
-use Rattle.awk_grammar.specs.Token.{Token, TooDeep, OpenBrace, OpenBracket, Semicolon, Key, FunctionWord, BeginWord, EndWord, PrintWord, PrintfWord, DeleteWord, IfWord, WhileWord, DoWord, ForWord, BreakWord, ContinueWord, NextWord, NextFileWord, ExitWord, ReturnWord}
+use Rattle.awk_grammar.specs.Token.{Token, TooDeep, Infix, Compare, Greater, Append, OpenBrace, OpenBracket, Semicolon, Key, FunctionWord, BeginWord, EndWord, PrintWord, PrintfWord, DeleteWord, IfWord, WhileWord, DoWord, ForWord, BreakWord, ContinueWord, NextWord, NextFileWord, ExitWord, ReturnWord}
 use Rattle.awk_grammar.specs.Reading.{◌>>=◌, Reader, index_at, close_at, expr_at}
 use Rattle.awk_grammar.specs.Stmt.{Stmt}
-use Rattle.awk_grammar.specs.ReadStmt.{Read, StmtReader, delete_by, plain_at, one_at, stmt_at, for_by, keys_at, open_here, semicolon_at, condition_at, maybe_at, maybe_plain_at}
+use Rattle.awk_grammar.specs.ReadStmt.{Read, StmtReader, target_at, delete_by, plain_at, one_at, stmt_at, for_by, keys_at, open_here, semicolon_at, condition_at, maybe_at, maybe_plain_at}
 use Rattle.awk_grammar.specs.ReadItem.{item_at}
 use Rattle.awk_statements.specs.declared.start.LoopWord.{LoopWord}
 use Rattle.awk_statements.specs.declared.start.LoopWord.TheVariants as loops
@@ -11,7 +11,12 @@ use Rattle.awk_statements.specs.declared.start.Short.{Short}
 use Rattle.awk_statements.specs.declared.start.Short.TheVariants as shorts
 use Rattle.awk_statements.specs.Bodies.{Opened, keyed_by, closed_at, looped_at, loop_by, short_at}
 use Rattle.awk_statements.proofs.Went.{binds}
-use Rattle.awk_statements.specs.Starts.{deleted_by, deed_at, plain_by, Start, lead_at, one_by, view_short, opening_at, item_by}
+use Rattle.awk_statements.specs.Starts.{redirected_at, target_by, deleted_by, deed_at, plain_by, Start, lead_at, one_by, view_short, opening_at, item_by}
+
+pub target_is : (expr : Reader) (ts : List Token) → target_at expr ts ≡ target_by expr ts (redirected_at ts)
+target_is expr (Infix (Compare Greater) ∷ ts) = refl
+target_is expr (Append ∷ ts) = refl
+target_is expr _ = refl
 
 pub delete_is : (expr : Reader) (n : List ℕ) (ts : List Token) → delete_by expr n ts ≡ deleted_by expr n ts (index_at ts)
 delete_is expr n (OpenBracket ∷ ts) = refl

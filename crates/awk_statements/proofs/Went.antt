@@ -112,9 +112,6 @@ pub none_went : {A X : Type 0} (a : A) (o : Option X) (s : At) (r : List Token �
 none_went {A} {X} a o (Ok us) r e h = absurd (subst (λ (x : Option X). Held x (Ok us)) e h)
 none_went a o (Err d) r e h = record { went = refl }
 
-pub none_held : {X : Type 0} (o : Option X) (s : At) → o ≡ None → Held o s → Held {A = X} None s
-none_held {X} o s e h = subst (λ (x : Option X). Held x s) e h
-
 pub ended_held : (X : Type 0) (s0 s1 : At) (e : Refusal) → s1 ≡ ended s0 e → Held {A = X} None s1
 ended_held X (Ok ts) s1 e q = rw q tt
 ended_held X (Err d) s1 e q = rw q tt

@@ -5,7 +5,7 @@ use Rattle.std.specs.declared.alloc.Global.{Global}
 use Rattle.awk_grammar.specs.Token.{Token, Fault, Syntax}
 use Rattle.awk_grammar.specs.Tree.{Tree, Whole}
 use Rattle.awk_grammar.specs.Reading.{◌>>=◌, Reader, close_at, list_at}
-use Rattle.awk_grammar.specs.Stmt.{Stmt, Empty, If, While, Do, For, ForIn, Jumping, Leave, Plain, Args, Enclosed, Stmts, NoStmt, And}
+use Rattle.awk_grammar.specs.Stmt.{Stmt, Empty, If, IfElse, While, Do, For, ForIn, Jumping, Leave, Plain, Args, Enclosed, Stmts, NoStmt, And}
 use Rattle.awk_grammar.specs.ReadStmt.{Read, StmtReader, is_in, open_here, comma_here, while_at, condition_at, semicolon_at, maybe_at, maybe_plain_at, keys_at, loop_at, do_at, for_at}
 use Rattle.awk_grammar.specs.ViewStmt.{view_stmt, view_maybe, view_maybe_simple, view_jump, view_leaving}
 use Rattle.awk_grammar.specs.View.{view}
@@ -53,6 +53,7 @@ short_at expr (shorts.Leave l) ts = maybe_at expr ts >>= λ x. semicolon_at x.1 
 
 pub data Opened : Type 0 where
   Tested : Tree → Opened
+  Chosen : Tree → Stmt → Opened
   Looped : Tree → Opened
   Repeated : Opened
   Keyed : List ℕ → List ℕ → Opened
@@ -63,6 +64,7 @@ view_head h = Counted (view_maybe_simple h.first) (view_maybe h.test) (view_mayb
 
 abbrev pub view_lead : Lead → Opened
 view_lead (leads.If test) = Tested (view test)
+view_lead (leads.Else test first) = Chosen (view test) (view_stmt first.value)
 view_lead (leads.While test) = Looped (view test)
 view_lead leads.Do = Repeated
 view_lead (leads.Keys key array) = Keyed key.items array.items
@@ -88,6 +90,7 @@ lead_by expr loops.For ts = open_here ts >>= keyed_at expr
 
 abbrev pub closed_at : Reader → Opened → Stmt → List Token → Read Stmt
 closed_at expr (Tested t) s ts = Ok (If t s, ts)
+closed_at expr (Chosen t f) s ts = Ok (IfElse t f s, ts)
 closed_at expr (Looped t) s ts = Ok (While t s, ts)
 closed_at expr Repeated s ts = while_at ts >>= λ us. condition_at expr us >>= λ c. Ok (Do s c.0, c.1)
 closed_at expr (Keyed k a) s ts = Ok (ForIn k a s, ts)

@@ -11,9 +11,9 @@ ghost use Rattle.awk_statements.specs.Bodies.{view_boxed, looped_at, short_at, e
 ghost use Rattle.awk_statements.specs.Went.{at, Went, Held};
 
 use crate::head::{Lead, loop_lead};
-use crate::node::{block_of, closed, if_else_of, on_heap};
+use crate::node::{block_of, closed, on_heap};
 use crate::peek::{after_brace, after_else};
-use crate::source::{Mark, Source};
+use crate::source::{Mark, Source, both};
 use crate::start::{LoopWord, Short, StmtStart, stmt_start};
 use crate::stmt::{condition, optional, simple};
 use awk_expressions::{Refusal, line_of, stopped};
@@ -92,9 +92,10 @@ fn if_statement(source: &mut Source<'_>, limit: u32) -> Option<Box<Stmt>>
     let Some(rest) = after_else(source.rest) else {
         return closed(source, limit, Lead::If(test), then);
     };
+    let (test, then) = both(test, then)?;
     source.go_on(rest);
     let otherwise = statement(source, limit);
-    if_else_of(source, test, then, otherwise)
+    closed(source, limit, Lead::Else(test, then), otherwise)
 }
 
 /// What stands after `while`, `do` or `for`.

@@ -1,4 +1,4 @@
-//! What stands before the statement within a loop.
+//! What stands before the statement within another.
 
 ghost use Rattle.std.specs.Prelude.{◌<◌};
 ghost use Rattle.awk_grammar.specs.Reading.{expr_at};
@@ -9,7 +9,7 @@ use crate::peek::keys;
 use crate::source::{Mark, Source};
 use crate::start::LoopWord;
 use crate::stmt::{condition, optional, optional_simple};
-use awk_grammar::{Expr, SimpleStmt};
+use awk_grammar::{Expr, SimpleStmt, Stmt};
 
 /// What a counted loop does first, its condition, and what it does after each turn.
 #[derive(Drop)]
@@ -23,6 +23,8 @@ pub(crate) struct Head {
 #[derive(Drop)]
 pub(crate) enum Lead {
     If(Expr),
+    /// The condition of an `if`, and its first statement.
+    Else(Expr, Box<Stmt>),
     While(Expr),
     Do,
     Keys(Vec<u8>, Vec<u8>),

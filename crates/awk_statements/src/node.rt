@@ -2,8 +2,7 @@
 
 ghost use Rattle.std.specs.Prelude.{◌<◌};
 ghost use Rattle.awk_grammar.specs.Reading.{expr_at};
-ghost use Rattle.awk_grammar.specs.Stmt.{Block, IfElse};
-ghost use Rattle.awk_grammar.specs.View.{view};
+ghost use Rattle.awk_grammar.specs.Stmt.{Block};
 ghost use Rattle.awk_grammar.specs.ViewStmt.{view_stmt, view_stmts};
 ghost use Rattle.awk_statements.specs.Bodies.{view_boxed, view_lead, closed_at};
 ghost use Rattle.awk_statements.specs.Went.{at, Went, Held, is_read};
@@ -11,7 +10,7 @@ ghost use Rattle.awk_statements.specs.Went.{at, Went, Held, is_read};
 use crate::head::{Head, Lead};
 use crate::source::{Mark, Source, both};
 use crate::stmt::condition;
-use awk_grammar::{Expr, Stmt};
+use awk_grammar::Stmt;
 
 /// A statement on the heap; none where reading stopped.
 #[inline(never)]
@@ -32,24 +31,6 @@ pub(crate) fn block_of(source: &mut Source<'_>, inner: Vec<Stmt>) -> Option<Box<
     on_heap(source, Stmt::Block(inner))
 }
 
-#[inline(never)]
-pub(crate) fn if_else_of(
-    source: &mut Source<'_>,
-    test: Expr,
-    then: Option<Box<Stmt>>,
-    otherwise: Option<Box<Stmt>>,
-) -> Option<Box<Stmt>>
-    requires then { Held then (at source.old) }
-    requires otherwise { Held otherwise (at source.old) }
-    ensures read { Went (view_boxed result) (at source.old) (at source.new)
-        (is_read (IfElse (view test) (view_boxed then) (view_boxed otherwise))) }
-    ensures held { Held result (at source.new) }
-{
-    let (test, then) = both(test, then)?;
-    let ((test, then), otherwise) = both((test, then), otherwise)?;
-    on_heap(source, Stmt::IfElse(test, then, otherwise))
-}
-
 /// A statement with another within, from what stands before that one.
 #[inline(never)]
 pub(crate) fn closed(
@@ -67,6 +48,7 @@ pub(crate) fn closed(
     let (lead, body) = both(lead, body)?;
     match lead {
         Lead::If(test) => on_heap(source, Stmt::If(test, body)),
+        Lead::Else(test, then) => on_heap(source, Stmt::IfElse(test, then, body)),
         Lead::While(test) => on_heap(source, Stmt::While(test, body)),
         Lead::Do => {
             source.expect(Mark::While);

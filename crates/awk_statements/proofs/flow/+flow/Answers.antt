@@ -1,15 +1,18 @@
 use Rattle.std.proofs.Common.{◌-◌, length, Ok, sym, ap, ◌∙◌, arith}
-use Rattle.awk_grammar.specs.Reading.{expr_at}
-use Rattle.awk_grammar.specs.ReadStmt.{stmt_at, block_at, if_at, simple_at}
-use Rattle.awk_grammar.specs.Stmt.{Block}
+use Rattle.awk_grammar.specs.View.{view}
+use Rattle.awk_grammar.specs.Reading.{◌>>=◌, expr_at}
+use Rattle.awk_grammar.specs.ReadStmt.{stmt_at, block_at, if_at, else_at, else_by, simple_at}
+use Rattle.awk_grammar.specs.Stmt.{Block, If, IfElse}
 use Rattle.awk_grammar.specs.ViewStmt.{view_stmts}
 use Rattle.awk_expressions.specs.Seen.{seen}
 use Rattle.awk_expressions.proofs.Binds.{seen_length}
-use Rattle.awk_statements.specs.Bodies.{looped_at, short_at}
+use Rattle.awk_statements.specs.Bodies.{view_boxed, looped_at, short_at}
+use Rattle.awk_statements.specs.Went.{is_read}
+use Rattle.awk_statements.proofs.Closed.{chooses}
 use Rattle.awk_statements.specs.Starts.{view_stmt_start}
 use Rattle.awk_statements.proofs.Blocks.{stmts_begin, stmts_next, stmts_added, stmts_closed, stmts_stopped, stmts_over}
 use Rattle.awk_statements.proofs.Starts.{stmt_is, stmt_none, short_is, looped_is}
-use Rattle.awk_statements.proofs.Went.{then, fails_here, goes_on, goes_as}
+use Rattle.awk_statements.proofs.Went.{then, fails_here, goes_on, goes_as, none_went}
 use Rattle.awk_statements.proofs.flow.+flow.Goals as goal
 
 pub statement-returns-then-limit-eq0-clause-read : goal.statement-returns-then-limit-eq0-clause-read
@@ -64,3 +67,28 @@ statements-returns-in_default-statement t c =
 pub statements-returns : goal.statements-returns
 statements-returns t c =
     c.loop.invariant _ _ (stmts_over (stmt_at c.args.limit) (view_stmts c.loop.read.items) (length c.args.source.now.rest.now - c.loop.counter) (seen c.loop.source.rest.now) _ _ _ _ (omega (arith, c.loop-test.false)) c.stopped.ensures c.refuse.ensures)
+
+pub if_statement-returns-in_default-clause-read : goal.if_statement-returns-in_default-clause-read
+if_statement-returns-in_default-clause-read t c =
+    let stmt = stmt_at c.args.limit in
+    let test = view c.condition-test.result in
+    let first = view_boxed c.statement-then.result in
+    let ts = seen c.statement-then.new.source.rest.now in
+    then _ c.condition-test.ensures (then _ c.statement-then.ensures.read (goes_as ts _ (λ us. else_by stmt test first us (else_at us)) (is_read (If test first)) (ap (else_by stmt test first ts) c.in_default.ensures) c.closed.ensures.read))
+
+pub if_statement-returns-in_err-test-clause-read : goal.if_statement-returns-in_err-test-clause-read
+if_statement-returns-in_err-test-clause-read t c =
+    let test = view c.condition-test.result in
+    let first = view_boxed c.statement-then.result in
+    then _ c.condition-test.ensures (then _ c.statement-then.ensures.read (none_went _ c.statement-then.result _ (λ us. else_by (stmt_at c.args.limit) test first us (else_at us)) c.in_err-test.ensures c.statement-then.ensures.held))
+
+pub if_statement-returns-clause-read : goal.if_statement-returns-clause-read
+if_statement-returns-clause-read t c =
+    let stmt = stmt_at c.args.limit in
+    let test = view c.condition-test.result in
+    let first = view_boxed c.statement-then.result in
+    let ts = seen c.statement-then.new.source.rest.now in
+    let us = seen c.in-Some.rest.now in
+    let chosen = chooses _ _ _ _ _ _ _ _ c.in_ok-test.ensures c.closed-2.ensures.read in
+    then _ c.condition-test.ensures (then _ c.statement-then.ensures.read (goes_on ts us _ (λ vs. else_by stmt test first vs (else_at vs)) (λ vs. stmt vs >>= λ y. is_read (IfElse test first y.0) y.1) c.go_on.ensures (ap (else_by stmt test first ts) c.in-Some.ensures)
+    (then (λ y. is_read (IfElse test first y.0) y.1) c.statement-otherwise.ensures.read chosen)))

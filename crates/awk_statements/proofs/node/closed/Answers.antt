@@ -10,6 +10,9 @@ use Rattle.awk_statements.proofs.node.closed.Goals as goal
 pub returns-in-If-clause-read : goal.returns-in-If-clause-read
 returns-in-If-clause-read c = closes (expr_at c.args.limit) _ _ _ _ _ _ _ _ c.in_ok-lead.ensures c.in-If.is c.on_heap.ensures.read
 
+pub returns-in-Else-clause-read : goal.returns-in-Else-clause-read
+returns-in-Else-clause-read c = closes (expr_at c.args.limit) _ _ _ _ _ _ _ _ c.in_ok-lead.ensures c.in-Else.is c.on_heap-in-Else.ensures.read
+
 pub returns-in-While-clause-read : goal.returns-in-While-clause-read
 returns-in-While-clause-read c = closes (expr_at c.args.limit) _ _ _ _ _ _ _ _ c.in_ok-lead.ensures c.in-While.is c.on_heap-in-While.ensures.read
 
