@@ -79,6 +79,10 @@ fn block(
         (within_to limit (λ e. opened_to opcode kind (λ o. and_then (instrs_to e (views inner.now) o)
         (else_to (views other.now) (instrs_to e (views other.now))))) out.old.bytes.items) }
 {
+    // Bodies may be shared: what is left of a refused module may take for ever.
+    if out.is_refused() {
+        return;
+    }
     if limit == 0 {
         out.refuse(WriteFault::TooLarge);
         return;

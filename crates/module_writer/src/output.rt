@@ -1,6 +1,6 @@
 //! Bytes that remember why they are not all.
 
-ghost use Rattle.std.specs.Prelude.{◌≡◌, ◌++◌, []};
+ghost use Rattle.std.specs.Prelude.{◌≡◌, ◌++◌, [], is_some};
 ghost use Rattle.module_writer.specs.Outputs.{Adds};
 ghost use Rattle.module_writer.specs.Writers.{Fails, Gives, Written, byte_to, index_to, bits32_to, bits64_to, bytes_to};
 ghost use Rattle.module_writer.specs.Writing.{fit};
@@ -33,6 +33,13 @@ impl Output {
     /// What its memory comes from.
     pub(crate) fn alloc(&self) -> Global {
         self.alloc
+    }
+
+    /// Whether it takes no more.
+    pub(crate) fn is_refused(&self) -> bool
+        ensures { result ≡ is_some self.now.refused }
+    {
+        self.refused.is_some()
     }
 
     /// Takes no more, for this reason if there was none before.
