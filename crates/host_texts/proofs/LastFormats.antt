@@ -1,7 +1,8 @@
 -- Formatting the last values is a step.
-use Rattle.std.proofs.Common.{◌≡◌, ◌-◌, ℕ, nat_le, Bool, true, false, List, [], length, take, Result, Ok, refl, sym, ap, subst, ◌∙◌}
+use Rattle.std.proofs.Common.{◌≡◌, ◌-◌, ℕ, nat_le, Bool, true, false, List, [], length, take, None, Result, Ok, Err, refl, sym, ap, subst, ◌∙◌}
 use Rattle.std.specs.Prelude.{◌&&◌}
-use Rattle.awk_values.specs.declared.fault.Stop.{Stop}
+use Rattle.std.specs.FinMap as map
+use Rattle.awk_values.specs.declared.fault.Fault.{Fault}
 use Rattle.awk_values.specs.declared.value.Value.{Value}
 use Rattle.sem_primitives.specs.InTurn.{listed_in_turn}
 use Rattle.sem_primitives.specs.OutputMeaning.{sprintf_row}
@@ -12,21 +13,24 @@ use Rattle.sem_primitives.specs.declared.sorts.Constant.TheVariants as constant
 use Rattle.sem_primitives.specs.declared.sorts.Sort.TheVariants as sort
 use Rattle.sem_primitives.specs.declared.table.Listed.TheVariants as listed
 use Rattle.wasm_store.specs.declared.word.Word.{Word}
-use Rattle.host_step.specs.Arguments.{and_then, constant_front, decode}
+use Rattle.host_step.specs.Arguments.{and_then, constant_front, decode, no_more}
 use Rattle.host_step.specs.HostState.{HostState}
 use Rattle.host_step.specs.HostStep.{before_last_of, carried, last_of, where_fit}
 use Rattle.host_imports.specs.Imports.{spends}
 use Rattle.host_imports.specs.declared.import.Import.TheVariants.{Over}
 use Rattle.host_imports.specs.declared.import.Listing.TheVariants.{Sprintf}
-use Rattle.host_values.specs.Calls.{names_with, with_values}
+use Rattle.host_values.specs.Calls.{names_with, spare, with_values}
 use Rattle.host_values.specs.Evaluations.{Values}
 use Rattle.host_values.specs.Singles.{with_arguments}
-use Rattle.host_texts.specs.Evaluations.{Comes, Evaluation, Outcome, replied}
+use Rattle.host_values.specs.declared.reply.Refusal.{Refusal}
+use Rattle.host_values.specs.declared.reply.Refusal.TheVariants as why
+use Rattle.host_texts.specs.Evaluations.{Evaluates, Evaluation, replied}
 use Rattle.host_texts.specs.LastFormatted.{Formats, formatting}
 use Rattle.host_texts.specs.declared.reply.Reply.{Reply}
 use Rattle.host_texts.specs.declared.reply.Reply.TheVariants as reply
 use Rattle.host_texts.proofs.Reading.{Matches, other, stop_at}
 use Rattle.host_texts.proofs.Rows.{fits_replied}
+use Rattle.host_texts.proofs.Spare.{KeepsFree, end_fitting, front}
 use Rattle.host_texts.proofs.Steps.{IsDone}
 
 abbrev text : Answer
@@ -50,10 +54,20 @@ pub matched_last : (s : HostState) (m : Values) (words : List Word) (memory : Li
 matched_last s m words memory e is =
     subst (Matches text s (IsDone text s) (carried (Over Sprintf) words memory (with_values m s))) is (matching_last s m words memory)
 
+pub spare_last : (m : Values) (s : HostState) (words : List Word) → map.get m spare ≡ None → KeepsFree (formatting m s words)
+spare_last m s words free =
+    front (constant_front constant.Count words) _ (λ n rest.
+    end_fitting (no_more rest) (nat_le n (length s.arguments) && listed_in_turn listed.Sprintf (last_of n s.arguments)) m _ free)
+
+pub refused_last : (m : Values) (s : HostState) (r : Refusal) (e : Evaluation) → Formats m s (Err r) e → Evaluates m s (Err r) s e
+refused_last m s (why.Trap k) e is = (is, refl)
+refused_last m s (why.Fault f) e is = is
+refused_last m s why.NoMemory e is = is
+
 -- what the list is after so many of its values are taken
-pub taken_last : (m : Values) (s : HostState) (slice old new : List Value) (size : ℕ) (x : ℕ × Result Reply Stop) (words : List Word)
-    → slice ≡ old → size ≡ length old → new ≡ take (size - x.0) old → Formats m (with_arguments slice s) (Ok x) (formatting m (with_arguments slice s) words)
-    → (o : Outcome) × (formatting m (with_arguments old s) words ≡ Ok (m, o)) × Comes (with_arguments new s) x.1 o
-taken_last m s slice old new size x words same all left f =
-    let g : Formats m (with_arguments old s) (Ok x) (formatting m (with_arguments old s) words) = subst (λ xs. Formats m (with_arguments xs s) (Ok x) (formatting m (with_arguments xs s) words)) same f in
-    (g.0, g.1, subst (λ (xs : List Value). Comes (with_arguments xs s) x.1 g.0) (ap (λ k. take (k - x.0) old) (sym all) ∙ sym left) g.2)
+pub taken_last : (m : Values) (s : HostState) (slice old new : List Value) (size : ℕ) (x : ℕ × Result Reply Fault) (o : Result Reply Fault) (words : List Word)
+    → slice ≡ old → size ≡ length old → new ≡ take (size - x.0) old → x.1 ≡ o → Formats m (with_arguments slice s) (Ok x) (formatting m (with_arguments slice s) words)
+    → formatting m (with_arguments old s) words ≡ Ok (m, (with_arguments new s, o))
+taken_last m s slice old new size x o words same all left is f =
+    subst (λ xs. Formats m (with_arguments xs s) (Ok x) (formatting m (with_arguments xs s) words)) same f
+    ∙ ap (λ xs. Ok (m, (with_arguments xs s, x.1))) (ap (λ k. take (k - x.0) old) (sym all) ∙ sym left) ∙ ap (λ p. Ok (m, (with_arguments new s, p))) is

@@ -1,9 +1,8 @@
 -- The last values of a list.
-use Rattle.std.proofs.Common.{◌≡◌, ◌<◌, ◌≤◌, ◌-◌, ℕ, nat_le, Bool, true, false, List, drop, length, take, refl, sym, ap, ◌∙◌, arith}
+use Rattle.std.proofs.Common.{◌≡◌, ◌<◌, ◌≤◌, ◌-◌, ℕ, nat_le, Bool, true, false, List, length, refl, ap, ◌∙◌, arith}
 use Rattle.std.specs.Prelude.{◌&&◌}
 use Rattle.std.proofs.lemmas.Bool.Decides.{nat_tests}
 use Rattle.std.proofs.lemmas.List.{length-drop}
-use Rattle.std.proofs.Math.Seq.{take-length}
 use Rattle.awk_values.specs.declared.value.Value.{Value}
 use Rattle.sem_primitives.specs.InTurn.{listed_in_turn}
 use Rattle.sem_primitives.specs.declared.table.Listed.TheVariants.{Sprintf}
@@ -14,9 +13,6 @@ less_twice a n le = omega (arith, le)
 
 pub length_last : (n : ℕ) (values : List Value) → n ≤ length values → length (last_of n values) ≡ n
 length_last n values le = length-drop (length values - n) values ∙ less_twice (length values) n le
-
-pub whole_last : (k : ℕ) (values : List Value) → take (length values - k) (drop k values) ≡ drop k values
-whole_last k values = ap (λ n. take n (drop k values)) (sym (length-drop k values)) ∙ take-length (drop k values)
 
 both : (a b : Bool) → a ≡ true → b ≡ true → a && b ≡ true
 both true true e f = refl

@@ -1,5 +1,5 @@
 -- What the rows of the table come to, from what automata and texts give.
-use Rattle.std.proofs.Common.{◌≡◌, ℕ, Bool, true, false, List, Option, Some, Result, Ok, Err, IfErr, OnErr, OnOk, length, refl, sym, ap, subst, ◌∙◌}
+use Rattle.std.proofs.Common.{◌≡◌, ℕ, Bool, true, false, List, Option, Some, Result, Ok, Err, length, refl, sym, ap, subst, ◌∙◌}
 use Rattle.awk_values.specs.Values.{text_of_value}
 use Rattle.awk_values.specs.declared.fault.Fault.{Fault}
 use Rattle.awk_values.specs.declared.fault.Stop.{Stop}
@@ -17,8 +17,8 @@ use Rattle.sem_primitives.specs.Texts.{counted, limited}
 use Rattle.host_format.specs.Outcomes.{IsStopOf}
 use Rattle.sem_primitives.specs.FieldMeaning.{done}
 use Rattle.host_step.specs.HostState.{HostState}
-use Rattle.host_texts.specs.Evaluations.{Comes, Replies, done_reply, done_told, settled}
-use Rattle.host_texts.specs.States.{holding, with_texts}
+use Rattle.host_texts.specs.Evaluations.{settled}
+use Rattle.host_texts.specs.States.{holding}
 use Rattle.host_texts.specs.declared.reply.Reply.{Reply}
 use Rattle.host_texts.specs.declared.texts.Texts.{Texts}
 use Rattle.host_format.specs.Substitutions.{substitution}
@@ -84,23 +84,14 @@ module _ (ere by target : Value) (all : Bool) (t : Tree) (by_text text : List �
   sub_stops stop inner is same_by same e =
       subst (λ (r : Made). IsStopOf r stop) (sym (row_in inner is same_by same)) (stops_by (limited (replaced text by_text 0 (places_of t text all))) (length (places_of t text all)) stop inner e)
 
--- What functions answer.
+-- A fault changes nothing.
 
-pub replies_come : (s : HostState) (r : Result Reply Stop) (x : Result Reply Fault) → Replies r x → Comes s r (s, x)
-replies_come s (Ok r) x is = ap (λ (y : Result Reply Fault). (s, y)) is
-replies_come s (Err (stops.Fault f)) x is = ap (λ (y : Result Reply Fault). (s, y)) is
-replies_come s (Err stops.NoMemory) x is = tt
+pub refused_outcome : {A : Type 0} (t u : Texts) (s : HostState) (f : A → Reply) (r : Result (Inner × A) Fault) (stop : Stop) (fault : Fault) → IsStopOf r stop
+    → stop ≡ stops.Fault fault → u ≡ t → settled (holding t s) f r ≡ (holding u s, Err fault)
+refused_outcome {A} t u s f r stop fault is same kept =
+    let fails : r ≡ Err fault = subst (IsStopOf r) same is in
+    ap (settled (holding t s) f) fails ∙ ap (λ x. (holding x s, Err fault)) (sym kept)
 
--- what stops a row changes nothing
-pub stop_comes : {A : Type 0} (s : HostState) (f : A → Reply) (row : Result (Inner × A) Fault) (stop : Stop) → IsStopOf row stop → Comes s (Err stop) (settled s f row)
-stop_comes s f row (stops.Fault fault) is = ap (settled s f) is
-stop_comes s f row stops.NoMemory is = tt
-
-pub done_comes : (t u : Texts) (s : HostState) (result : Result (Unit {0}) Stop) (row : Inner → Result Inner Fault)
-    → OnOk result ((inner : Inner) → row (with_texts t inner) ≡ Ok (with_texts u inner))
-    → IfErr result (λ stop. (inner : Inner) → IsStopOf (row (with_texts t inner)) stop) → OnErr result (u ≡ t)
-    → Comes (holding u s) (done_told result) (settled (holding t s) done_reply (done (row (with_texts t s.shared.inner))))
-done_comes t u s (Ok tt) row ok err same = ap (λ (r : Result Inner Fault). settled (holding t s) done_reply (done r)) (ok s.shared.inner)
-done_comes t u s (Err (stops.Fault f)) row ok err same =
-    ap (λ (r : Result Inner Fault). settled (holding t s) done_reply (done r)) (err s.shared.inner) ∙ ap (λ (x : Texts). (holding x s, Err f)) (sym same)
-done_comes t u s (Err stops.NoMemory) row ok err same = tt
+pub done_stop : (r : Result Inner Fault) (stop : Stop) → IsStopOf r stop → IsStopOf (done r) stop
+done_stop r (stops.Fault fault) is = ap done is
+done_stop r stops.NoMemory is = tt

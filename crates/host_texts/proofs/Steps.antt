@@ -3,8 +3,6 @@ use Rattle.std.proofs.Common.{◌≡◌, ◌≢◌, ◌<◌, ◌^◌, ℕ, pos, 
 use Rattle.std.specs.Int.{w64, cast_unsigned}
 use Rattle.std.specs.FinMap as map
 use Rattle.awk_values.specs.declared.fault.Fault.{Fault}
-use Rattle.awk_values.specs.declared.fault.Stop.{Stop}
-use Rattle.awk_values.specs.declared.fault.Stop.TheVariants as stops
 use Rattle.awk_values.specs.declared.value.Value.{Value as AnyValue}
 use Rattle.sem_primitives.specs.Constants.{flag_number}
 use Rattle.sem_primitives.specs.SharedState.{Inner}
@@ -31,12 +29,12 @@ use Rattle.host_values.proofs.Entries.{entries_insert, look_entries}
 use Rattle.host_values.proofs.Matching.{Carried}
 use Rattle.host_values.proofs.Steps.{state_by, unshared}
 use Rattle.host_texts.specs.Calls.{Gives, IsStep}
-use Rattle.host_texts.specs.Calls.{Settles as SettlesBy}
-use Rattle.host_texts.specs.Evaluations.{Comes, Evaluation, Outcome}
+use Rattle.host_texts.specs.Evaluations.{Evaluates, Evaluation, NoTrap, Outcome}
 use Rattle.host_texts.specs.States.{with_inner}
 use Rattle.host_texts.specs.declared.reply.Reply.{Reply}
 use Rattle.host_texts.specs.declared.reply.Reply.TheVariants as reply
 use Rattle.host_texts.proofs.Reading.{Matches}
+use Rattle.host_texts.proofs.Spare.{KeepsFree}
 
 -- an answer on plain values, and as the code has it
 abbrev pub SameAnswer : (a : Answer) → InAnswer a → Reply → Type 0
@@ -187,11 +185,11 @@ module _ (i : Import) (s : HostState) (m : Values) (words : List Word) (memory :
       → IsStep i words memory m s (Ok w) m' t
   answer_step t m1 m' r w is g = unrefused i s m words memory (told.Done w) (with_values m' t) none (come_answers (import_answer i) s t m m1 m' _ r w is g)
 
-  fault_step : (t : HostState) (m1 m' : Values) (f : Fault) → Is (Ok (m1, (t, Err f))) → m' ≡ m1 → IsStep i words memory m s (Err (why.Fault f)) m' t
+  pub fault_step : (t : HostState) (m1 m' : Values) (f : Fault) → Is (Ok (m1, (t, Err f))) → m' ≡ m1 → IsStep i words memory m s (Err (why.Fault f)) m' t
   fault_step t m1 m' f is left = unrefused i s m words memory (told.Done (refusal (import_answer i)))
       (record (with_values m' t) { fault = Some f }) none (come_faults (import_answer i) s t m m1 m' _ f is left)
 
-  pub trap_step : (t : HostState) (k : TrapKind) → Is (Err k) → t ≡ s → IsStep i words memory m s (Err (why.Trap k)) m t
+  trap_step : (t : HostState) (k : TrapKind) → Is (Err k) → t ≡ s → IsStep i words memory m s (Err (why.Trap k)) m t
   trap_step t k is same = unrefused i s m words memory (told.Trap k) (with_values m t) none (come_traps (import_answer i) s t m _ k is same)
 
   memory_answer : (t : HostState) (m1 : Values) (o : Result Reply Fault) → map.get m1 spare ≡ None → Is (Ok (m1, (t, o))) → (m' : Values) (after : HostState)
@@ -203,7 +201,7 @@ module _ (i : Import) (s : HostState) (m : Values) (words : List Word) (memory :
       (told.Done (refusal (import_answer i)), done_is_some _, record (with_values m1 t) { fault = Some f }, fault_step t m1 m1 f is refl)
 
   -- what was given
-  given_step : (t : HostState) (m1 m' : Values) (r : Reply) (result : Result (Option Word) Refusal) → map.get m1 spare ≡ None → Is (Ok (m1, (t, Ok r)))
+  pub given_step : (t : HostState) (m1 m' : Values) (r : Reply) (result : Result (Option Word) Refusal) → map.get m1 spare ≡ None → Is (Ok (m1, (t, Ok r)))
       → Gives r m1 result m' → IsStep i words memory m s result m' t
   given_step t m1 m' r (Ok w) free is g = answer_step t m1 m' r w is g
   given_step t m1 m' r (Err why.NoMemory) free is g = memory_answer t m1 (Ok r) free is m' t
@@ -216,11 +214,12 @@ module _ (i : Import) (s : HostState) (m : Values) (words : List Word) (memory :
   given_step t m1 m' (reply.Truth b) (Err (why.Fault f)) free is g = absurd g
   given_step t m1 m' reply.Done (Err (why.Fault f)) free is g = absurd g
 
-  -- what the answer, or what stops it, gives
-  pub settled_step : (t : HostState) (m1 m' : Values) (o : Outcome) (r : Result Reply Stop) (result : Result (Option Word) Refusal) → map.get m1 spare ≡ None
-      → Is (Ok (m1, o)) → Comes t r o → SettlesBy r m1 result m' → IsStep i words memory m s result m' t
-  settled_step t m1 m' o (Ok r) result free is comes g = given_step t m1 m' r result free (subst (λ (x : Outcome). Is (Ok (m1, x))) comes is) g
-  settled_step t m1 m' o (Err (stops.Fault f)) result free is comes (same, left) =
-      subst (λ (x : Result (Option Word) Refusal). IsStep i words memory m s x m' t) (sym same) (fault_step t m1 m' f (subst (λ (x : Outcome). Is (Ok (m1, x))) comes is) left)
-  settled_step t m1 m' o (Err stops.NoMemory) result free is comes (same, left) =
-      subst (λ (x : Result (Option Word) Refusal). IsStep i words memory m s x m' t) (sym same) (memory_answer o.0 m1 o.1 free is m' t)
+  memory_step : (e : Evaluation) (t : HostState) → KeepsFree e → NoTrap e → Is e → IsStep i words memory m s (Err why.NoMemory) m t
+  memory_step (Ok y) t free well is = memory_answer y.1.0 y.0 y.1.1 free is m t
+  memory_step (Err k) t free well is = absurd well
+
+  -- an evaluation that was refused
+  pub refused_step : (e : Evaluation) (t : HostState) (r : Refusal) → KeepsFree e → Is e → Evaluates m s (Err r) t e → IsStep i words memory m s (Err r) m t
+  refused_step e t (why.Trap k) free is (wanted, same) = trap_step t k (subst (λ (x : Evaluation). Is x) wanted is) same
+  refused_step e t (why.Fault f) free is wanted = absurd wanted
+  refused_step e t why.NoMemory free is wanted = memory_step e t free wanted is

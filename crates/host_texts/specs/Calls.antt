@@ -2,8 +2,6 @@
 use Rattle.std.specs.Prelude.{ℕ, ◌≡◌, ◌≢◌, ◌<◌, ◌^◌, pos, List, [], Option, Some, None, Result, Ok, Err}
 use Rattle.std.specs.Int.{w64, cast_unsigned}
 use Rattle.std.specs.FinMap as map
-use Rattle.awk_values.specs.declared.fault.Stop.{Stop}
-use Rattle.awk_values.specs.declared.fault.Stop.TheVariants as stops
 use Rattle.sem_primitives.specs.Constants.{flag_number}
 use Rattle.wasm_model.specs.declared.host.HostAnswer.{HostAnswer}
 use Rattle.wasm_model.specs.declared.host.HostAnswer.TheVariants as told
@@ -31,12 +29,6 @@ Gives reply.Done before (Ok w) after = (w ≡ Some (I32 0)) × (after ≡ before
 Gives r before (Err why.NoMemory) after = after ≡ before
 Gives r before (Err (why.Trap k)) after = ⊥
 Gives r before (Err (why.Fault f)) after = ⊥
-
--- an answer is given, or it is said why there is none
-abbrev pub Settles : Result Reply Stop → Values → Result (Option Word) Refusal → Values → Type 0
-Settles (Ok r) before result after = Gives r before result after
-Settles (Err (stops.Fault f)) before result after = (result ≡ Err (why.Fault f)) × (after ≡ before)
-Settles (Err stops.NoMemory) before result after = (result ≡ Err why.NoMemory) × (after ≡ before)
 
 -- From one state with these values to another with those the call is a step; a fault is kept. Where memory was wanting, there is a step that the
 -- call could have been.

@@ -3,8 +3,6 @@
 use Rattle.std.specs.Prelude.{◌≡◌, ℕ, ℤ, List, Some, None, Result, Ok, Err, is_some}
 use Rattle.std.specs.FinMap as map
 use Rattle.awk_values.specs.declared.fault.Fault.{Fault}
-use Rattle.awk_values.specs.declared.fault.Stop.{Stop}
-use Rattle.awk_values.specs.declared.fault.Stop.TheVariants as stops
 use Rattle.awk_values.specs.Values.{text_of_value}
 use Rattle.awk_values.specs.declared.value.Value.{Value as AnyValue}
 use Rattle.awk_values.specs.declared.value.Value.TheVariants as value
@@ -21,11 +19,12 @@ use Rattle.wasm_store.specs.declared.word.Word.{Word}
 use Rattle.host_step.specs.Arguments.{constant_front, no_more, number_front}
 use Rattle.host_step.specs.HostState.{HostState}
 use Rattle.host_step.specs.HostStep.{where_fit}
-use Rattle.host_format.specs.Outcomes.{IsStopOf}
 use Rattle.host_format.specs.Parts.{part}
 use Rattle.host_fields.specs.Calls.{field_read, field_set}
 use Rattle.host_values.specs.Evaluations.{Values}
 use Rattle.host_values.specs.Fronts.{handle_front, plain_number}
+use Rattle.host_values.specs.declared.reply.Refusal.{Refusal}
+use Rattle.host_values.specs.declared.reply.Refusal.TheVariants as refusal
 use Rattle.host_texts.specs.States.{with_inner}
 use Rattle.host_texts.specs.declared.primitive.TextPrimitive.{TextPrimitive}
 use Rattle.host_texts.specs.declared.primitive.TextPrimitive.TheVariants.{GetSpecial, SetSpecial, Field, SetField, Length, Matches, Match, Sub, SubResult, Substr, SubstrFrom, Index, Lower, Upper, Join}
@@ -159,26 +158,14 @@ left_by (One h) m = map.remove m h
 left_by (Two a b) m = map.remove (map.remove m a) b
 left_by (Three a b c) m = map.remove (map.remove (map.remove m a) b) c
 
--- an answer, or what stops it, is what is to be; memory runs out whatever that is
-abbrev pub Replies : Result Reply Stop → Result Reply Fault → Type 0
-Replies (Ok r) wanted = wanted ≡ Ok r
-Replies (Err stop) wanted = IsStopOf wanted stop
+-- it answers, or faults
+abbrev pub NoTrap : Evaluation → Type 0
+NoTrap (Err k) = ⊥
+NoTrap (Ok x) = Unit {0}
 
--- the same of an answer with the state that was left
-abbrev pub Comes : HostState → Result Reply Stop → Outcome → Type 0
-Comes after (Ok r) wanted = wanted ≡ (after, Ok r)
-Comes after (Err (stops.Fault f)) wanted = wanted ≡ (after, Err f)
-Comes after (Err stops.NoMemory) wanted = Unit {0}
-
--- what is spent, what was answered, and the state that was left, are what is to be; a trap changes nothing
-abbrev pub Evaluates : Values → HostState → Result Evaluated TrapKind → HostState → Evaluation → Type 0
-Evaluates m before (Ok e) after wanted = (o : Outcome) × (wanted ≡ Ok (left_by e.spent m, o)) × Comes after e.outcome o
-Evaluates m before (Err k) after wanted = (wanted ≡ Err k) × (after ≡ before)
-
-abbrev pub text_told : Result (List ℕ) Stop → Result Reply Stop
-text_told (Ok text) = Ok (reply.Value (value.Text text))
-text_told (Err stop) = Err stop
-
-abbrev pub done_told : Result (Unit {0}) Stop → Result Reply Stop
-done_told (Ok u) = Ok reply.Done
-done_told (Err stop) = Err stop
+-- What was answered, and the state that was left, are what is to be; a trap changes nothing; where memory was wanting, that is no trap.
+abbrev pub Evaluates : Values → HostState → Result Evaluated Refusal → HostState → Evaluation → Type 0
+Evaluates m before (Ok e) after wanted = wanted ≡ Ok (left_by e.spent m, (after, e.outcome))
+Evaluates m before (Err (refusal.Trap k)) after wanted = (wanted ≡ Err k) × (after ≡ before)
+Evaluates m before (Err (refusal.Fault f)) after wanted = ⊥
+Evaluates m before (Err refusal.NoMemory) after wanted = NoTrap wanted

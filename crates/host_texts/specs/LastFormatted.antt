@@ -1,18 +1,19 @@
 -- What formatting the last values of the argument list comes to.
 use Rattle.std.specs.Prelude.{◌≡◌, ◌&&◌, ℕ, nat_le, List, length, Result, Ok, Err}
-use Rattle.awk_values.specs.declared.fault.Stop.{Stop}
+use Rattle.awk_values.specs.declared.fault.Fault.{Fault}
 use Rattle.sem_primitives.specs.InTurn.{listed_in_turn}
 use Rattle.sem_primitives.specs.OutputMeaning.{sprintf_row}
 use Rattle.sem_primitives.specs.declared.sorts.Constant.TheVariants as constant
 use Rattle.sem_primitives.specs.declared.table.Listed.TheVariants.{Sprintf}
-use Rattle.wasm_store.specs.declared.trap.TrapKind.{TrapKind}
 use Rattle.wasm_store.specs.declared.word.Word.{Word}
 use Rattle.host_step.specs.Arguments.{no_more}
 use Rattle.host_step.specs.HostState.{HostState}
 use Rattle.host_step.specs.HostStep.{before_last_of, last_of, where_fit}
 use Rattle.host_values.specs.Evaluations.{Values}
 use Rattle.host_values.specs.Singles.{with_arguments}
-use Rattle.host_texts.specs.Evaluations.{Comes, Evaluation, Outcome, constant_then, ends_then, replied}
+use Rattle.host_values.specs.declared.reply.Refusal.{Refusal}
+use Rattle.host_values.specs.declared.reply.Refusal.TheVariants as refusal
+use Rattle.host_texts.specs.Evaluations.{Evaluation, NoTrap, constant_then, ends_then, replied}
 use Rattle.host_texts.specs.declared.reply.Reply.{Reply}
 use Rattle.host_texts.specs.declared.reply.Reply.TheVariants as reply
 
@@ -23,6 +24,8 @@ formatting m s words =
     (m, (with_arguments (before_last_of n s.arguments) s, replied reply.Value (sprintf_row (last_of n s.arguments))))))
 
 -- so many values were taken, and this is what they come to
-abbrev pub Formats : Values → HostState → Result (ℕ × Result Reply Stop) TrapKind → Evaluation → Type 0
-Formats m s (Ok x) wanted = (o : Outcome) × (wanted ≡ Ok (m, o)) × Comes (with_arguments (before_last_of x.0 s.arguments) s) x.1 o
-Formats m s (Err k) wanted = wanted ≡ Err k
+abbrev pub Formats : Values → HostState → Result (ℕ × Result Reply Fault) Refusal → Evaluation → Type 0
+Formats m s (Ok x) wanted = wanted ≡ Ok (m, (with_arguments (before_last_of x.0 s.arguments) s, x.1))
+Formats m s (Err (refusal.Trap k)) wanted = wanted ≡ Err k
+Formats m s (Err (refusal.Fault f)) wanted = ⊥
+Formats m s (Err refusal.NoMemory) wanted = NoTrap wanted

@@ -1,7 +1,7 @@
 -- The host's state with what these imports keep.
-use Rattle.std.specs.Prelude.{ℕ, List, [], Some, get_or}
+use Rattle.std.specs.Prelude.{List, [], get_or}
 use Rattle.awk_values.specs.declared.value.Value.{Value}
-use Rattle.awk_values.specs.declared.value.Value.TheVariants.{Text, Uninit}
+use Rattle.awk_values.specs.declared.value.Value.TheVariants.{Uninit}
 use Rattle.sem_primitives.specs.Constants.{special_number}
 use Rattle.sem_primitives.specs.SharedState.{Inner}
 use Rattle.sem_primitives.specs.declared.constants.Special.{Special}
@@ -19,9 +19,6 @@ no_record = record { whole = Uninit; fields = [] }
 
 abbrev pub with_texts : Texts → Inner → Inner
 with_texts t inner = record inner { specials = specials_of t.specials.values; whole = t.held.whole; fields = t.held.fields; substituted = t.substituted }
-
-abbrev pub with_substituted : List ℕ → Inner → Inner
-with_substituted text inner = record inner { substituted = Some (Text text) }
 
 abbrev pub with_inner : Inner → HostState → HostState
 with_inner inner s = record s { shared = record s.shared { inner = inner } }

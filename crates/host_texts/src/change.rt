@@ -1,26 +1,24 @@
 //! Primitives that change special variables, or the text of a substitution.
-ghost use Rattle.std.specs.Prelude.{◌≡◌, ◌<◌, ◌≤◌, ◌^◌, IfErr, IfOk, IfSome, pos};
+ghost use Rattle.std.specs.Prelude.{◌≡◌, ◌<◌, ◌≤◌, ◌^◌, IfErr, IfOk, IfSome, OnErr, pos};
 ghost use Rattle.sem_primitives.specs.SharedState.{Inner, with_special};
 ghost use Rattle.sem_primitives.specs.declared.constants.Special.{Special as AnySpecial};
 ghost use Rattle.sem_primitives.specs.TextMeaning.{match_length, match_row, match_start, substitute_row, with_match};
 ghost use Rattle.sem_primitives.specs.Texts.{counted};
 ghost use Rattle.host_step.specs.HostState.{HostState};
 ghost use Rattle.host_format.specs.Outcomes.{IsStopOf};
-ghost use Rattle.host_values.specs.Evaluations.{Values};
-ghost use Rattle.host_texts.specs.Evaluations.{Comes, Evaluates, evaluation, number_reply, settled};
-ghost use Rattle.host_texts.specs.States.{holding, with_substituted, with_texts};
+ghost use Rattle.host_texts.specs.Evaluations.{Evaluates, evaluation, number_reply, settled};
+ghost use Rattle.host_texts.specs.States.{holding, with_texts};
 ghost use Rattle.host_texts.specs.declared.primitive.TextPrimitive.{TextPrimitive};
 
 use crate::expressions::{first, matcher};
 use crate::reply::{Evaluated, Reply, counted};
 use crate::spent::Spent;
 use crate::texts::Texts;
-use crate::words::{one_flag, two_front, value_third};
-use awk_values::{Stop, Value};
+use crate::words::{flag_front, two_values, value_third};
+use awk_values::{Fault, Stop, Value};
 use host_expressions::Expressions;
-use host_format::Substituted;
 use host_handles::Handles;
-use host_values::{ends, value_text};
+use host_values::{Refusal, ends, value_after, value_front, value_text};
 use sem_primitives::Special;
 use std::alloc::{AllocError, Global};
 use wasm_store::{TrapKind, Word};
@@ -79,57 +77,98 @@ fn keep_match(texts: &mut Texts, start: Value, length: Value)
 }
 
 /// Matches, and sets RSTART and RLENGTH.
-pub(crate) fn match_in(
-    alloc: Global,
-    texts: &mut Texts,
-    value: &Value,
-    ere: &Value,
-) -> Result<Reply, Stop>
-    ensures { (s : HostState) → Comes (holding texts.new s) result (settled (holding texts.old s)
-        number_reply (match_row value.now ere.now (with_texts texts.old s.shared.inner))) }
+fn matched(alloc: Global, texts: &mut Texts, value: &Value, ere: &Value) -> Result<usize, Stop>
+    ensures ok { IfOk result (λ start. (inner : Inner) → match_row value.now ere.now
+        (with_texts texts.old inner) ≡ Ok (with_texts texts.new inner, counted start)) }
+    ensures err { IfErr result
+        (λ stop. (inner : Inner) → IsStopOf (match_row value.now ere.now inner) stop) }
+    ensures refused { OnErr result (texts.new ≡ texts.old) }
 {
     let found = first_of(alloc, &mut texts.expressions, value, ere)?;
     let (start, length) = numbers_of(found)?;
     keep_match(texts, start, length);
-    Ok(Reply::Number(counted(start_of(found))))
+    Ok(start_of(found))
 }
 
-/// The text of a substitution, and how many there were.
-fn substituted(
+/// What matching comes to.
+fn match_outcome(
     alloc: Global,
-    expressions: &mut Expressions,
+    texts: &mut Texts,
+    value: &Value,
     ere: &Value,
-    by: &Value,
-    target: &Value,
-    all: bool,
-) -> Result<Substituted, Stop>
-    ensures ok { IfOk result (λ new. (inner : Inner) → substitute_row ere.now by.now target.now all
-        inner ≡ Ok (with_substituted new.text inner, counted new.count)) }
-    ensures err { IfErr result (λ stop. (inner : Inner)
-        → IsStopOf (substitute_row ere.now by.now target.now all inner) stop) }
+) -> Result<Result<Reply, Fault>, AllocError>
+    ensures { IfOk result (λ outcome. (s : HostState) → settled (holding texts.old s) number_reply
+        (match_row value.now ere.now (with_texts texts.old s.shared.inner))
+        ≡ (holding texts.new s, outcome)) }
 {
-    let matcher = matcher(alloc, expressions, ere)?;
-    let by = value_text(alloc, by)?;
-    let target = value_text(alloc, target)?;
-    matcher.substitute(alloc, by.as_slice(), target.bytes(), all)
+    match matched(alloc, texts, value, ere) {
+        Ok(start) => Ok(Ok(Reply::Number(counted(start)))),
+        Err(Stop::Fault(fault)) => Ok(Err(fault)),
+        Err(Stop::NoMemory) => Err(AllocError),
+    }
+}
+
+pub(crate) fn match_at(
+    alloc: Global,
+    handles: &Handles,
+    texts: &mut Texts,
+    words: &[Word],
+) -> Result<Evaluated, Refusal>
+    ensures { (s : HostState) → Evaluates handles.now (holding texts.old s) result (holding
+        texts.new s) (evaluation TextPrimitive.Match handles.now (holding texts.old s) words.now) }
+{
+    let (first, value, second, ere) = two_values(handles, words)?;
+    Ok(Evaluated {
+        spent: Spent::Two(first, second),
+        outcome: match_outcome(alloc, texts, value, ere)?,
+    })
 }
 
 /// Substitutes, and keeps the new text.
-fn substitute(
+fn substituted(
     alloc: Global,
     texts: &mut Texts,
     ere: &Value,
     by: &Value,
     target: &Value,
     all: bool,
-) -> Result<Reply, Stop>
-    ensures { (s : HostState) → Comes (holding texts.new s) result (settled (holding texts.old s)
-        number_reply (substitute_row ere.now by.now target.now all
-        (with_texts texts.old s.shared.inner))) }
+) -> Result<usize, Stop>
+    ensures ok { IfOk result (λ count. (inner : Inner) → substitute_row ere.now by.now target.now
+        all (with_texts texts.old inner) ≡ Ok (with_texts texts.new inner, counted count)) }
+    ensures err { IfErr result (λ stop. (inner : Inner)
+        → IsStopOf (substitute_row ere.now by.now target.now all inner) stop) }
+    ensures refused { OnErr result (texts.new ≡ texts.old) }
 {
-    let new = substituted(alloc, &mut texts.expressions, ere, by, target, all)?;
-    texts.substituted = Some(Value::Text(new.text));
-    Ok(Reply::Number(counted(new.count)))
+    let matcher = matcher(alloc, &mut texts.expressions, ere)?;
+    let by = value_text(alloc, by)?;
+    let target = value_text(alloc, target)?;
+    match matcher.substitute(alloc, by.as_slice(), target.bytes(), all) {
+        Ok(new) => {
+            texts.substituted = Some(Value::Text(new.text));
+            Ok(new.count)
+        }
+        Err(stop) => Err(stop),
+    }
+}
+
+/// What a substitution comes to.
+fn sub_outcome(
+    alloc: Global,
+    texts: &mut Texts,
+    ere: &Value,
+    by: &Value,
+    target: &Value,
+    all: bool,
+) -> Result<Result<Reply, Fault>, AllocError>
+    ensures { IfOk result (λ outcome. (s : HostState) → settled (holding texts.old s) number_reply
+        (substitute_row ere.now by.now target.now all (with_texts texts.old s.shared.inner))
+        ≡ (holding texts.new s, outcome)) }
+{
+    match substituted(alloc, texts, ere, by, target, all) {
+        Ok(count) => Ok(Ok(Reply::Number(counted(count)))),
+        Err(Stop::Fault(fault)) => Ok(Err(fault)),
+        Err(Stop::NoMemory) => Err(AllocError),
+    }
 }
 
 pub(crate) fn sub(
@@ -137,23 +176,29 @@ pub(crate) fn sub(
     handles: &Handles,
     texts: &mut Texts,
     words: &[Word],
-) -> Result<Evaluated, TrapKind>
+) -> Result<Evaluated, Refusal>
     ensures { (s : HostState) → Evaluates handles.now (holding texts.old s) result (holding
         texts.new s) (evaluation TextPrimitive.Sub handles.now (holding texts.old s) words.now) }
 {
-    let (first, ere, second, by, behind_by) = two_front(handles, words)?;
+    let (first, ere, behind_ere) = value_front(handles, words)?;
+    let (second, by, behind_by) = value_after(handles, first, behind_ere)?;
     let (third, target, behind) = value_third(handles, first, second, behind_by)?;
-    let all = one_flag(behind)?;
+    let (all, rest) = flag_front(behind)?;
+    ends(rest)?;
     Ok(Evaluated {
         spent: Spent::Three(first, second, third),
-        outcome: substitute(alloc, texts, ere, by, target, all),
+        outcome: sub_outcome(alloc, texts, ere, by, target, all)?,
     })
 }
 
-pub(crate) fn sub_result(texts: &mut Texts, words: &[Word]) -> Result<Evaluated, TrapKind>
-    ensures { (m : Values) (s : HostState)
-        → Evaluates m (holding texts.old s) result (holding texts.new s)
-        (evaluation TextPrimitive.SubResult m (holding texts.old s) words.now) }
+pub(crate) fn sub_result(
+    handles: &Handles,
+    texts: &mut Texts,
+    words: &[Word],
+) -> Result<Evaluated, Refusal>
+    ensures { (s : HostState)
+        → Evaluates handles.now (holding texts.old s) result (holding texts.new s)
+        (evaluation TextPrimitive.SubResult handles.now (holding texts.old s) words.now) }
 {
     ends(words)?;
     match texts.substituted.take() {
@@ -161,6 +206,6 @@ pub(crate) fn sub_result(texts: &mut Texts, words: &[Word]) -> Result<Evaluated,
             spent: Spent::Nothing,
             outcome: Ok(Reply::Value(value)),
         }),
-        None => Err(TrapKind::BadArgument),
+        None => Err(Refusal::Trap(TrapKind::BadArgument)),
     }
 }

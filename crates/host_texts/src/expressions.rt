@@ -5,14 +5,20 @@ ghost use Rattle.awk_values.specs.declared.fault.Stop.TheVariants as stops;
 ghost use Rattle.ere_syntax.specs.Tree.{Tree};
 ghost use Rattle.sem_primitives.specs.FirstMatch.{expression_of, first_match};
 ghost use Rattle.sem_primitives.specs.TextMeaning.{matches_row};
+ghost use Rattle.host_step.specs.HostState.{HostState};
 ghost use Rattle.host_format.specs.Outcomes.{IsStopOf};
-ghost use Rattle.host_texts.specs.Evaluations.{Replies, replied};
+ghost use Rattle.host_texts.specs.Evaluations.{Evaluates, evaluation, replied};
+ghost use Rattle.host_texts.specs.declared.primitive.TextPrimitive.{TextPrimitive};
 
-use crate::reply::Reply;
-use awk_values::{Stop, Value};
+use crate::reply::{Evaluated, Reply};
+use crate::spent::Spent;
+use crate::words::two_values;
+use awk_values::{Fault, Stop, Value};
 use host_expressions::{Expressions, Matcher};
-use host_values::value_text;
-use std::alloc::Global;
+use host_handles::Handles;
+use host_values::{Refusal, value_text};
+use std::alloc::{AllocError, Global};
+use wasm_store::Word;
 
 /// The matcher of the expression that a value's text is.
 pub(crate) fn matcher<'a>(
@@ -41,19 +47,53 @@ pub(crate) fn first(matcher: &mut Matcher, text: &[u8]) -> Result<Option<(usize,
 }
 
 /// Whether the expression matches somewhere in the text.
-#[inline(always)]
-pub(crate) fn matches(
+fn matched(
     alloc: Global,
     expressions: &mut Expressions,
     value: &Value,
     ere: &Value,
-) -> Result<Reply, Stop>
-    ensures { Replies result (replied Reply.Truth (matches_row value.now ere.now)) }
+) -> Result<bool, Stop>
+    ensures ok { IfOk result (λ found. matches_row value.now ere.now ≡ Ok found) }
+    ensures err { IfErr result (IsStopOf (matches_row value.now ere.now)) }
 {
     let matcher = matcher(alloc, expressions, ere)?;
     let text = value_text(alloc, value)?;
     match matcher.is_match(text.as_slice()) {
-        Ok(found) => Ok(Reply::Truth(found)),
+        Ok(found) => Ok(found),
         Err(_) => Err(Stop::NoMemory),
     }
+}
+
+/// What matching comes to.
+fn truth_outcome(
+    alloc: Global,
+    expressions: &mut Expressions,
+    value: &Value,
+    ere: &Value,
+) -> Result<Result<Reply, Fault>, AllocError>
+    ensures { IfOk result
+        (λ outcome. replied Reply.Truth (matches_row value.now ere.now) ≡ outcome) }
+{
+    match matched(alloc, expressions, value, ere) {
+        Ok(found) => Ok(Ok(Reply::Truth(found))),
+        Err(Stop::Fault(fault)) => Ok(Err(fault)),
+        Err(Stop::NoMemory) => Err(AllocError),
+    }
+}
+
+#[inline(always)]
+pub(crate) fn matches(
+    alloc: Global,
+    handles: &Handles,
+    expressions: &mut Expressions,
+    words: &[Word],
+) -> Result<Evaluated, Refusal>
+    ensures { (s : HostState) → Evaluates handles.now s result s
+        (evaluation TextPrimitive.Matches handles.now s words.now) }
+{
+    let (first, value, second, ere) = two_values(handles, words)?;
+    Ok(Evaluated {
+        spent: Spent::Two(first, second),
+        outcome: truth_outcome(alloc, expressions, value, ere)?,
+    })
 }

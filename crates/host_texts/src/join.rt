@@ -4,15 +4,21 @@ ghost use Rattle.sem_primitives.specs.Limits.{most_text};
 ghost use Rattle.sem_primitives.specs.ValueMeaning.{within_limit};
 ghost use Rattle.sem_primitives.specs.declared.constants.Special.{Special as AnySpecial};
 ghost use Rattle.awk_values.specs.Values.{text_of_value};
-ghost use Rattle.host_texts.specs.Evaluations.{Replies, replied};
-ghost use Rattle.host_texts.specs.States.{specials_of};
+ghost use Rattle.host_step.specs.HostState.{HostState};
+ghost use Rattle.host_texts.specs.Evaluations.{Evaluates, evaluation, replied};
+ghost use Rattle.host_texts.specs.States.{holding, specials_of};
+ghost use Rattle.host_texts.specs.declared.primitive.TextPrimitive.{TextPrimitive};
 
-use crate::reply::Reply;
+use crate::reply::{Evaluated, Reply};
+use crate::spent::Spent;
 use crate::texts::Texts;
-use awk_values::{Bytes, Fault, Stop, Value};
-use host_values::{push_text, text_len};
+use crate::words::two_values;
+use awk_values::{Bytes, Fault, Value};
+use host_handles::Handles;
+use host_values::{Refusal, push_text, text_len};
 use sem_primitives::{MAX_TEXT, Special};
 use std::alloc::{AllocError, Global};
+use wasm_store::Word;
 
 /// Whether three texts are within the limit together.
 fn fits(left: usize, between: usize, right: usize) -> bool
@@ -37,14 +43,35 @@ fn joined(alloc: Global, left: &Value, between: &Value, right: &Value) -> Result
 }
 
 /// The texts of two values with SUBSEP between them, where that is within the limit.
-pub(crate) fn join(alloc: Global, texts: &Texts, left: &Value, right: &Value) -> Result<Reply, Stop>
-    ensures { Replies result (replied Reply.Value (within_limit (text_of_value left.now
-        ++ (text_of_value (specials_of texts.now.specials.values AnySpecial.Subsep)
-        ++ text_of_value right.now)))) }
+fn join_outcome(
+    alloc: Global,
+    texts: &Texts,
+    left: &Value,
+    right: &Value,
+) -> Result<Result<Reply, Fault>, AllocError>
+    ensures { IfOk result (λ outcome. replied Reply.Value
+        (within_limit (text_of_value left.now ++ (text_of_value (specials_of
+        texts.now.specials.values AnySpecial.Subsep) ++ text_of_value right.now))) ≡ outcome) }
 {
     let between = texts.specials.get(Special::Subsep);
     if !fits(text_len(left), text_len(between), text_len(right)) {
-        return Err(Stop::Fault(Fault::TextLimit));
+        return Ok(Err(Fault::TextLimit));
     }
-    Ok(Reply::Value(Value::Text(joined(alloc, left, between, right)?)))
+    Ok(Ok(Reply::Value(Value::Text(joined(alloc, left, between, right)?))))
+}
+
+pub(crate) fn join(
+    alloc: Global,
+    handles: &Handles,
+    texts: &Texts,
+    words: &[Word],
+) -> Result<Evaluated, Refusal>
+    ensures { (s : HostState) → Evaluates handles.now (holding texts.now s) result (holding
+        texts.now s) (evaluation TextPrimitive.Join handles.now (holding texts.now s) words.now) }
+{
+    let (first, left, second, right) = two_values(handles, words)?;
+    Ok(Evaluated {
+        spent: Spent::Two(first, second),
+        outcome: join_outcome(alloc, texts, left, right)?,
+    })
 }

@@ -1,30 +1,42 @@
 //! The formatted text of the last values of the argument list.
-ghost use Rattle.std.specs.Prelude.{◌≡◌, ◌≤◌, ◌&&◌, IfOk, List, ℕ, None, length, nat_le};
+ghost use Rattle.std.specs.Prelude.{◌≡◌, ◌≤◌, ◌&&◌, IfErr, IfOk, List, ℕ, None, length, nat_le};
 ghost use Rattle.std.specs.FinMap as map;
 ghost use Rattle.sem_primitives.specs.InTurn.{listed_in_turn};
 ghost use Rattle.sem_primitives.specs.OutputMeaning.{sprintf_row};
+ghost use Rattle.sem_primitives.specs.declared.sorts.Constant.{Constant};
 ghost use Rattle.sem_primitives.specs.declared.table.Listed.{Listed as AnyListed};
+ghost use Rattle.host_step.specs.Arguments.{constant_front};
 ghost use Rattle.host_step.specs.HostState.{HostState};
 ghost use Rattle.host_step.specs.HostStep.{last_of};
 ghost use Rattle.host_imports.specs.declared.import.Import.{Import};
 ghost use Rattle.host_imports.specs.declared.import.Listing.{Listing};
+ghost use Rattle.host_format.specs.Outcomes.{IsStopOf};
 ghost use Rattle.host_values.specs.Calls.{spare};
 ghost use Rattle.host_values.specs.Evaluations.{Values};
+ghost use Rattle.host_values.specs.Fronts.{owned};
 ghost use Rattle.host_values.specs.Singles.{with_arguments};
 ghost use Rattle.host_texts.specs.Calls.{IsStep};
-ghost use Rattle.host_texts.specs.Evaluations.{Replies, replied};
 ghost use Rattle.host_texts.specs.LastFormatted.{Formats, formatting};
 
 use crate::calls::give;
-use crate::reply::{Reply, text_reply};
-use crate::words::one_count;
-use awk_values::{Stop, Value};
+use crate::reply::Reply;
+use awk_values::{Fault, Stop, Value};
 use host_format::format;
 use host_handles::Handles;
-use host_values::{Refusal, value_text};
+use host_values::{Refusal, ends, value_text};
 use smallvec::SmallVec;
 use std::alloc::Global;
 use wasm_store::{TrapKind, Word};
+
+/// A count.
+fn count_front(words: &[Word]) -> Result<(usize, &[Word]), TrapKind>
+    ensures { owned result ≡ constant_front Constant.Count words.now }
+{
+    let Some((Word::I32(number), rest)) = words.split_first() else {
+        return Err(TrapKind::BadArgument);
+    };
+    Ok((*number as usize, rest))
+}
 
 /// Whether so many values are there, and a format among them.
 #[tactic(auto, using(crate::proofs::LastOnes::enough, crate::proofs::LastOnes::no_format, crate::proofs::LastOnes::too_many))]
@@ -39,15 +51,16 @@ fn suffices(arguments: &[Value], count: usize) -> bool
 }
 
 /// The formatted text of values, the first of which is the format.
-fn formatted(alloc: Global, values: &[Value]) -> Result<Reply, Stop>
+fn formatted(alloc: Global, values: &[Value]) -> Result<Value, Stop>
     requires { 1 ≤ length values.now }
-    ensures { Replies result (replied Reply.Value (sprintf_row values.now)) }
+    ensures ok { IfOk result (λ value. sprintf_row values.now ≡ Ok value) }
+    ensures err { IfErr result (IsStopOf (sprintf_row values.now)) }
 {
     let Some((first, operands)) = values.split_first() else {
         unreachable!()
     };
     let text = value_text(alloc, first)?;
-    text_reply(format(alloc, text.as_slice(), operands))
+    Ok(Value::Text(format(alloc, text.as_slice(), operands)?))
 }
 
 /// How many values are taken, and what they come to.
@@ -55,19 +68,21 @@ fn formatting(
     alloc: Global,
     arguments: &[Value],
     words: &[Word],
-) -> Result<(usize, Result<Reply, Stop>), TrapKind>
+) -> Result<(usize, Result<Reply, Fault>), Refusal>
     ensures step { (m : Values) (s : HostState) → Formats m (with_arguments arguments.now s) result
         (formatting m (with_arguments arguments.now s) words.now) }
     ensures within { IfOk result (λ x. x.0 ≤ length arguments.now) }
 {
-    let count = one_count(words)?;
+    let (count, rest) = count_front(words)?;
+    ends(rest)?;
     if !suffices(arguments, count) {
-        return Err(TrapKind::BadArgument);
+        return Err(Refusal::Trap(TrapKind::BadArgument));
     }
-    Ok((
-        count,
-        formatted(alloc, &arguments[arguments.len() - count..]),
-    ))
+    match formatted(alloc, &arguments[arguments.len() - count..]) {
+        Ok(value) => Ok((count, Ok(Reply::Value(value)))),
+        Err(Stop::Fault(fault)) => Ok((count, Err(fault))),
+        Err(Stop::NoMemory) => Err(Refusal::NoMemory),
+    }
 }
 
 /// The formatted text of the last values of the argument list, where no fault is kept: the values are taken, also at a fault, and the text gets a
@@ -88,8 +103,14 @@ pub fn sprintf(
         arguments.old.items s) result handles.new (with_arguments arguments.new.items s) }
     ensures spare { map.get handles.new spare ≡ None }
 {
-    let (count, outcome) = formatting(alloc, arguments.as_slice(), words)?;
+    let (count, outcome) = match formatting(alloc, arguments.as_slice(), words) {
+        Ok(evaluated) => evaluated,
+        Err(refusal) => return Err(refusal),
+    };
     let left = arguments.len() - count;
     arguments.truncate(left);
-    give(handles, outcome)
+    match outcome {
+        Ok(reply) => give(handles, reply),
+        Err(fault) => Err(Refusal::Fault(fault)),
+    }
 }

@@ -1,55 +1,57 @@
 //! Primitives on special variables, the record and its fields.
 ghost use Rattle.std.specs.Prelude.{◌≡◌, ◌≢◌, pos, IfErr, IfOk, IfSome, OnErr, OnOk};
 ghost use Rattle.awk_values.specs.Values.{text_of_value};
-ghost use Rattle.sem_primitives.specs.FieldMeaning.{set_special, with_record};
+ghost use Rattle.sem_primitives.specs.FieldMeaning.{done, set_special, set_special_row, with_record};
 ghost use Rattle.sem_primitives.specs.SharedState.{Inner, special_of};
 ghost use Rattle.host_step.specs.HostState.{HostState};
 ghost use Rattle.host_format.specs.Outcomes.{IsStopOf};
 ghost use Rattle.host_fields.specs.Calls.{count_set, field_read, field_set};
-ghost use Rattle.host_values.specs.Evaluations.{Values};
-ghost use Rattle.host_texts.specs.Evaluations.{Comes, Evaluates, Replies, evaluation, replied};
+ghost use Rattle.host_texts.specs.Evaluations.{Evaluates, done_reply, evaluation, replied, settled};
 ghost use Rattle.host_texts.specs.States.{holding, with_texts};
 ghost use Rattle.host_texts.specs.declared.primitive.TextPrimitive.{TextPrimitive};
 
-use crate::reply::{Evaluated, Reply, done_reply};
+use crate::reply::{Evaluated, Reply};
 use crate::spent::Spent;
 use crate::texts::Texts;
-use crate::words::{one_number, one_value, special_front};
-use awk_values::{Bytes, Stop, Value, to_number};
+use crate::words::special_front;
+use awk_values::{Bytes, Fault, Stop, Value, to_number};
 use host_handles::Handles;
-use host_values::{ends, number_front, shared_text, value_text};
+use host_values::{Refusal, ends, number_front, shared_text, value_front, value_text};
 use sem_primitives::Special;
 use std::alloc::{AllocError, Global};
-use wasm_store::{TrapKind, Word};
+use wasm_store::Word;
 
 /// The value of a special variable.
 #[inline(always)]
-fn special_value(texts: &mut Texts, special: Special) -> Result<Reply, Stop>
-    ensures { (s : HostState) → Comes (holding texts.new s) result (
-      holding texts.old s,
-      Ok (Reply.Value (special_of (with_texts texts.old s.shared.inner) special)),
-    ) }
+fn special_value(texts: &mut Texts, special: Special) -> Result<Value, AllocError>
+    ensures value { IfOk result
+        (λ value. (inner : Inner) → value ≡ special_of (with_texts texts.old inner) special) }
+    ensures same { texts.new ≡ texts.old }
 {
     if special != Special::Nf {
-        return Ok(Reply::Value(texts.specials.get(special).clone()?));
+        return texts.specials.get(special).clone();
     }
     match i64::try_from(texts.held.count()) {
-        Ok(count) => Ok(Reply::Value(Value::Num(count))),
-        Err(_) => Err(Stop::NoMemory),
+        Ok(count) => Ok(Value::Num(count)),
+        Err(_) => Err(AllocError),
     }
 }
 
 #[inline(always)]
-pub(crate) fn get_special(texts: &mut Texts, words: &[Word]) -> Result<Evaluated, TrapKind>
-    ensures { (m : Values) (s : HostState)
-        → Evaluates m (holding texts.old s) result (holding texts.new s)
-        (evaluation TextPrimitive.GetSpecial m (holding texts.old s) words.now) }
+pub(crate) fn get_special(
+    handles: &Handles,
+    texts: &mut Texts,
+    words: &[Word],
+) -> Result<Evaluated, Refusal>
+    ensures { (s : HostState)
+        → Evaluates handles.now (holding texts.old s) result (holding texts.new s)
+        (evaluation TextPrimitive.GetSpecial handles.now (holding texts.old s) words.now) }
 {
     let (special, rest) = special_front(words)?;
     ends(rest)?;
     Ok(Evaluated {
         spent: Spent::Nothing,
-        outcome: special_value(texts, special),
+        outcome: Ok(Reply::Value(special_value(texts, special)?)),
     })
 }
 
@@ -92,21 +94,40 @@ pub fn put_special(
     Ok(())
 }
 
+/// What setting a special variable comes to.
+fn special_outcome(
+    alloc: Global,
+    texts: &mut Texts,
+    special: Special,
+    value: &Value,
+) -> Result<Result<Reply, Fault>, AllocError>
+    ensures { IfOk result (λ outcome. (s : HostState) → settled (holding texts.old s) done_reply
+        (set_special_row special value.now (with_texts texts.old s.shared.inner))
+        ≡ (holding texts.new s, outcome)) }
+{
+    match put_special(alloc, texts, special, value) {
+        Ok(()) => Ok(Ok(Reply::Done)),
+        Err(Stop::Fault(fault)) => Ok(Err(fault)),
+        Err(Stop::NoMemory) => Err(AllocError),
+    }
+}
+
 pub(crate) fn set_special(
     alloc: Global,
     handles: &Handles,
     texts: &mut Texts,
     words: &[Word],
-) -> Result<Evaluated, TrapKind>
+) -> Result<Evaluated, Refusal>
     ensures { (s : HostState)
         → Evaluates handles.now (holding texts.old s) result (holding texts.new s)
         (evaluation TextPrimitive.SetSpecial handles.now (holding texts.old s) words.now) }
 {
     let (special, behind) = special_front(words)?;
-    let (handle, value) = one_value(handles, behind)?;
+    let (handle, value, rest) = value_front(handles, behind)?;
+    ends(rest)?;
     Ok(Evaluated {
         spent: Spent::One(handle),
-        outcome: done_reply(put_special(alloc, texts, special, value)),
+        outcome: special_outcome(alloc, texts, special, value)?,
     })
 }
 
@@ -117,28 +138,34 @@ fn copied(value: &Value) -> Result<Value, AllocError>
     value.clone()
 }
 
-/// The value of a field.
+/// What reading a field comes to.
 #[inline(always)]
-fn field_value(texts: &mut Texts, number: i64) -> Result<Reply, Stop>
-    ensures answer { (inner : Inner)
-        → Replies result (replied Reply.Value (field_read number (with_texts texts.old inner))) }
+fn read_outcome(texts: &mut Texts, number: i64) -> Result<Result<Reply, Fault>, AllocError>
+    ensures outcome { IfOk result (λ outcome. (inner : Inner)
+        → replied Reply.Value (field_read number (with_texts texts.old inner)) ≡ outcome) }
     ensures same { texts.new ≡ texts.old }
 {
     match texts.held.field(number) {
-        Ok(value) => Ok(Reply::Value(value)),
-        Err(stop) => Err(stop),
+        Ok(value) => Ok(Ok(Reply::Value(value))),
+        Err(Stop::Fault(fault)) => Ok(Err(fault)),
+        Err(Stop::NoMemory) => Err(AllocError),
     }
 }
 
 #[inline(always)]
-pub(crate) fn field(texts: &mut Texts, words: &[Word]) -> Result<Evaluated, TrapKind>
-    ensures { (m : Values) (s : HostState) → Evaluates m (holding texts.old s) result (holding
-        texts.new s) (evaluation TextPrimitive.Field m (holding texts.old s) words.now) }
+pub(crate) fn field(
+    handles: &Handles,
+    texts: &mut Texts,
+    words: &[Word],
+) -> Result<Evaluated, Refusal>
+    ensures { (s : HostState) → Evaluates handles.now (holding texts.old s) result (holding
+        texts.new s) (evaluation TextPrimitive.Field handles.now (holding texts.old s) words.now) }
 {
-    let number = one_number(words)?;
+    let (number, rest) = number_front(words)?;
+    ends(rest)?;
     Ok(Evaluated {
         spent: Spent::Nothing,
-        outcome: field_value(texts, number),
+        outcome: read_outcome(texts, number)?,
     })
 }
 
@@ -235,21 +262,40 @@ fn store_field(alloc: Global, texts: &mut Texts, number: i64, value: &Value) -> 
     put_field(alloc, texts, number, value)
 }
 
+/// What setting a field, or `$0`, comes to.
+fn field_outcome(
+    alloc: Global,
+    texts: &mut Texts,
+    number: i64,
+    value: &Value,
+) -> Result<Result<Reply, Fault>, AllocError>
+    ensures { IfOk result (λ outcome. (s : HostState) → settled (holding texts.old s) done_reply
+        (done (field_set number value.now (with_texts texts.old s.shared.inner)))
+        ≡ (holding texts.new s, outcome)) }
+{
+    match store_field(alloc, texts, number, value) {
+        Ok(()) => Ok(Ok(Reply::Done)),
+        Err(Stop::Fault(fault)) => Ok(Err(fault)),
+        Err(Stop::NoMemory) => Err(AllocError),
+    }
+}
+
 #[inline(always)]
 pub(crate) fn set_field(
     alloc: Global,
     handles: &Handles,
     texts: &mut Texts,
     words: &[Word],
-) -> Result<Evaluated, TrapKind>
+) -> Result<Evaluated, Refusal>
     ensures { (s : HostState)
         → Evaluates handles.now (holding texts.old s) result (holding texts.new s)
         (evaluation TextPrimitive.SetField handles.now (holding texts.old s) words.now) }
 {
     let (number, behind) = number_front(words)?;
-    let (handle, value) = one_value(handles, behind)?;
+    let (handle, value, rest) = value_front(handles, behind)?;
+    ends(rest)?;
     Ok(Evaluated {
         spent: Spent::One(handle),
-        outcome: done_reply(store_field(alloc, texts, number, value)),
+        outcome: field_outcome(alloc, texts, number, value)?,
     })
 }

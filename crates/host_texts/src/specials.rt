@@ -1,9 +1,9 @@
 //! The special variables.
-ghost use Rattle.std.specs.Prelude.{◌≡◌, ◌<◌, ◌^◌, IfOk, false, slice_set};
+ghost use Rattle.std.specs.Prelude.{◌≡◌, ◌<◌, ◌^◌, IfOk, OnOk, slice_set};
 ghost use Rattle.sem_primitives.specs.Constants.{special_number};
 ghost use Rattle.sem_primitives.specs.SharedState.{specials_at_start};
 ghost use Rattle.sem_primitives.specs.declared.constants.Special.{Special as AnySpecial};
-ghost use Rattle.host_texts.specs.Starts.{with_text};
+ghost use Rattle.host_texts.specs.Starts.{with_blanks, with_ends, with_formats, with_text};
 ghost use Rattle.host_texts.specs.States.{specials_of};
 
 use awk_values::{Bytes, Value};
@@ -15,6 +15,12 @@ use std::alloc::{AllocError, Global};
 #[derive(Drop)]
 pub struct Specials {
     pub values: [Value; 14],
+}
+
+fn text(alloc: Global, bytes: &[u8]) -> Result<Value, AllocError>
+    ensures { IfOk result (λ value. value ≡ Value.Text bytes.now) }
+{
+    Ok(Value::Text(Bytes::from_slice(alloc, bytes)?))
 }
 
 /// The place of a special variable among them.
@@ -32,42 +38,71 @@ impl Specials {
     /// # Errors
     ///
     /// There is no memory.
+    #[tactic(auto, using(crate::proofs::Starts::started))]
     pub fn at_start(alloc: Global, operands: u32) -> Result<Specials, AllocError>
         ensures { IfOk result (λ specials. (t : AnySpecial) → specials_of specials.values t
             ≡ specials_at_start operands t) }
     {
-        let mut starting = Starting {
-            specials: Specials {
-                values: [
-                    Value::Num(i64::from(operands) + 1),
-                    Value::Uninit,
-                    Value::Uninit,
-                    Value::Num(0),
-                    Value::Uninit,
-                    Value::Num(0),
-                    Value::Num(0),
-                    Value::Uninit,
-                    Value::Uninit,
-                    Value::Uninit,
-                    Value::Num(-1),
-                    Value::Uninit,
-                    Value::Num(0),
-                    Value::Uninit,
-                ],
-            },
-            refused: false,
+        let mut specials = Specials {
+            values: [
+                Value::Num(i64::from(operands) + 1),
+                Value::Uninit,
+                Value::Uninit,
+                Value::Num(0),
+                Value::Uninit,
+                Value::Num(0),
+                Value::Num(0),
+                Value::Uninit,
+                Value::Uninit,
+                Value::Uninit,
+                Value::Num(-1),
+                Value::Uninit,
+                Value::Num(0),
+                Value::Uninit,
+            ],
         };
-        starting.set_text(alloc, Special::Convfmt, b"%.6g");
-        starting.set_text(alloc, Special::Ofmt, b"%.6g");
-        starting.set_text(alloc, Special::Fs, b" ");
-        starting.set_text(alloc, Special::Ofs, b" ");
-        starting.set_text(alloc, Special::Ors, b"\n");
-        starting.set_text(alloc, Special::Rs, b"\n");
-        starting.set_text(alloc, Special::Subsep, b"\x1c");
-        if starting.refused {
-            return Err(AllocError);
-        }
-        Ok(starting.specials)
+        specials.set_texts(alloc)?;
+        Ok(specials)
+    }
+
+    /// Gives those that are texts theirs.
+    fn set_texts(&mut self, alloc: Global) -> Result<(), AllocError>
+        ensures { OnOk result
+            (self.new.values ≡ with_ends (with_blanks (with_formats self.old.values))) }
+    {
+        self.set_formats(alloc)?;
+        self.set_blanks(alloc)?;
+        self.set_ends(alloc)
+    }
+
+    fn set_formats(&mut self, alloc: Global) -> Result<(), AllocError>
+        ensures { OnOk result (self.new.values ≡ with_formats self.old.values) }
+    {
+        self.set_text(alloc, Special::Convfmt, b"%.6g")?;
+        self.set_text(alloc, Special::Ofmt, b"%.6g")
+    }
+
+    fn set_blanks(&mut self, alloc: Global) -> Result<(), AllocError>
+        ensures { OnOk result (self.new.values ≡ with_blanks self.old.values) }
+    {
+        self.set_text(alloc, Special::Fs, b" ")?;
+        self.set_text(alloc, Special::Ofs, b" ")
+    }
+
+    fn set_ends(&mut self, alloc: Global) -> Result<(), AllocError>
+        ensures { OnOk result (self.new.values ≡ with_ends self.old.values) }
+    {
+        self.set_text(alloc, Special::Ors, b"\n")?;
+        self.set_text(alloc, Special::Rs, b"\n")?;
+        self.set_text(alloc, Special::Subsep, b"\x1c")
+    }
+
+    /// Gives one a text.
+    fn set_text(&mut self, alloc: Global, special: Special, bytes: &[u8]) -> Result<(), AllocError>
+        ensures { OnOk result (self.new.values ≡ with_text special bytes.now self.old.values) }
+    {
+        self.set(special, text(alloc, bytes)?);
+        Ok(())
     }
 
     /// The value of one; of NF, which is the number of fields, it is no use.
@@ -82,25 +117,5 @@ impl Specials {
         ensures { self.new.values ≡ slice_set self.old.values (special_number special) value }
     {
         self.values[place_of(special)] = value;
-    }
-}
-
-/// The special variables while those that are texts get theirs, and whether memory ran out.
-#[derive(Drop)]
-struct Starting {
-    specials: Specials,
-    refused: bool,
-}
-
-impl Starting {
-    /// Gives one a text.
-    fn set_text(&mut self, alloc: Global, special: Special, bytes: &[u8])
-        ensures { self.new.refused ≡ false → (self.old.refused ≡ false) × (self.new.specials.values
-            ≡ with_text special bytes.now self.old.specials.values) }
-    {
-        match Bytes::from_slice(alloc, bytes) {
-            Ok(text) => self.specials.set(special, Value::Text(text)),
-            Err(_) => self.refused = true,
-        }
     }
 }

@@ -1,6 +1,5 @@
 //! The handles that a call spends.
 ghost use Rattle.std.specs.Prelude.{◌≡◌};
-ghost use Rattle.std.specs.FinMap as map;
 ghost use Rattle.host_texts.specs.Evaluations.{left_by};
 
 use host_handles::Handles;
@@ -14,14 +13,6 @@ pub(crate) enum Spent {
     Three(i32, i32, i32),
 }
 
-/// Takes a value out.
-#[inline(always)]
-fn spend(handles: &mut Handles, handle: i32)
-    ensures { handles.new ≡ map.remove handles.old handle }
-{
-    handles.take(handle);
-}
-
 impl Spent {
     /// Takes their values out.
     #[inline(always)]
@@ -30,15 +21,17 @@ impl Spent {
     {
         match self {
             Spent::Nothing => {}
-            Spent::One(handle) => spend(handles, handle),
+            Spent::One(handle) => {
+                handles.take(handle);
+            }
             Spent::Two(first, second) => {
-                spend(handles, first);
-                spend(handles, second);
+                handles.take(first);
+                handles.take(second);
             }
             Spent::Three(first, second, third) => {
-                spend(handles, first);
-                spend(handles, second);
-                spend(handles, third);
+                handles.take(first);
+                handles.take(second);
+                handles.take(third);
             }
         }
     }

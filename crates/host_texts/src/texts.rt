@@ -34,13 +34,11 @@ impl Texts {
         ensures fields { IfOk result (λ texts. texts.held ≡ no_record) }
         ensures substituted { IfOk result (λ texts. texts.substituted ≡ None) }
     {
-        let specials = Specials::at_start(alloc, operands)?;
-        let expressions = Expressions::new(alloc)?;
         Ok(Texts {
-            specials,
+            specials: Specials::at_start(alloc, operands)?,
             held: Record::new(alloc),
             substituted: None,
-            expressions,
+            expressions: Expressions::new(alloc)?,
         })
     }
 }

@@ -1,5 +1,5 @@
 //! What the words of a call say, beside what `host_values` reads.
-ghost use Rattle.std.specs.Prelude.{◌≡◌, ℕ, ℤ, Bool, List};
+ghost use Rattle.std.specs.Prelude.{◌≡◌};
 ghost use Rattle.std.specs.FinMap as map;
 ghost use Rattle.sem_primitives.specs.Constants.{flag_at};
 ghost use Rattle.sem_primitives.specs.declared.sorts.Constant.{Constant};
@@ -7,12 +7,12 @@ ghost use Rattle.host_step.specs.Arguments.{constant_front};
 ghost use Rattle.host_values.specs.Evaluations.{Values};
 ghost use Rattle.host_values.specs.Fronts.{handle_front, lent_handle, owned};
 ghost use Rattle.host_texts.specs.Evaluations.{Evaluation};
-ghost use Rattle.host_texts.specs.Shapes.{alone, constant_alone, number_alone, one_given, one_then, two_before, two_given, two_read, two_then};
+ghost use Rattle.host_texts.specs.Shapes.{one_given, one_then, two_given, two_then};
 ghost use Rattle.awk_values.specs.declared.value.Value.{Value as AnyValue};
 
 use awk_values::Value;
 use host_handles::Handles;
-use host_values::{ends, number_front, value_after, value_front};
+use host_values::{ends, value_after, value_front};
 use sem_primitives::Special;
 use wasm_store::{TrapKind, Word};
 
@@ -32,20 +32,6 @@ pub(crate) fn one_value<'a>(
     Ok((handle, value))
 }
 
-/// Two values, each with its handle, and the words after them.
-#[inline(always)]
-pub(crate) fn two_front<'a, 'b>(
-    handles: &'a Handles,
-    words: &'b [Word],
-) -> Result<(i32, &'a Value, i32, &'a Value, &'b [Word]), TrapKind>
-    ensures { (f : AnyValue → AnyValue → Values → List Word → Evaluation)
-        → two_before handles.now words.now f ≡ two_read handles.now f result }
-{
-    let (first, value, behind) = value_front(handles, words)?;
-    let (second, other, rest) = value_after(handles, first, behind)?;
-    Ok((first, value, second, other, rest))
-}
-
 /// The two values that the words name, each with its handle.
 #[inline(always)]
 pub(crate) fn two_values<'a>(
@@ -55,39 +41,10 @@ pub(crate) fn two_values<'a>(
     ensures { (f : AnyValue → AnyValue → Values → Evaluation) → two_then handles.now words.now f
         ≡ two_given handles.now f result }
 {
-    let (first, value, second, other, rest) = two_front(handles, words)?;
+    let (first, value, behind) = value_front(handles, words)?;
+    let (second, other, rest) = value_after(handles, first, behind)?;
     ends(rest)?;
     Ok((first, value, second, other))
-}
-
-/// The number that the words are.
-#[inline(always)]
-pub(crate) fn one_number(words: &[Word]) -> Result<i64, TrapKind>
-    ensures { (f : ℤ → Evaluation) → number_alone words.now f ≡ alone f result }
-{
-    let (number, rest) = number_front(words)?;
-    ends(rest)?;
-    Ok(number)
-}
-
-/// The flag that the words are.
-pub(crate) fn one_flag(words: &[Word]) -> Result<bool, TrapKind>
-    ensures { (f : Bool → Evaluation) → constant_alone Constant.Flag words.now f ≡ alone f result }
-{
-    let (flag, rest) = flag_front(words)?;
-    ends(rest)?;
-    Ok(flag)
-}
-
-/// The count that the words are.
-pub(crate) fn one_count(words: &[Word]) -> Result<usize, TrapKind>
-    ensures { (f : ℕ → Evaluation) → constant_alone Constant.Count words.now f ≡ alone f result }
-{
-    let Some((Word::I32(number), rest)) = words.split_first() else {
-        return Err(UNFIT);
-    };
-    ends(rest)?;
-    Ok(*number as usize)
 }
 
 /// A handle, with its value, where two handles before it are spent.

@@ -4,4 +4,3 @@ pub mod Matching
 pub mod Spare
 pub mod Steps
 pub mod OneHandle
-mod Taken

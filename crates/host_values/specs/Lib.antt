@@ -4,4 +4,3 @@ pub mod Evaluations
 pub mod Calls
 pub mod Singles
 pub mod Texts
-pub mod Shapes

@@ -8,14 +8,13 @@ ghost use Rattle.awk_values.specs.Comparison.{comparison, holds};
 ghost use Rattle.awk_values.specs.Values.{number_of_value, text_of_value};
 ghost use Rattle.host_values.specs.declared.spent.Spent.{Spent};
 ghost use Rattle.host_values.specs.Evaluations.{Evaluates, Values, evaluation, value_reply};
-ghost use Rattle.host_values.specs.Shapes.{of_one, reply_to_one};
 
 use crate::literals::Literals;
 use crate::primitive::ValuePrimitive;
 use crate::reply::{Evaluated, Refusal, Reply, number_reply, truth_reply};
 use crate::spent::Spent;
 use crate::words::{
-    comparison_front, ends, fault_front, number_front, place_front, two_values, value_front,
+    comparison_front, ends, fault_front, number_front, place_front, value_after, value_front,
 };
 use awk_text::text_of;
 use awk_values::{Bytes, CompareOp, Fault, Value, compare, pow, to_number, truncated, truth};
@@ -99,36 +98,42 @@ fn number_of(value: &Value) -> Result<i64, Fault>
     }
 }
 
-/// A primitive on one value, which it spends.
-#[derive(Clone, Copy, Drop)]
-enum OnOne {
-    ToNum,
-    IntOf,
-    Truth,
-}
-
-/// What a primitive answers to one value.
 #[inline(always)]
-fn answer_to_one(primitive: OnOne, value: &Value) -> Result<Reply, Fault>
-    ensures { result ≡ reply_to_one primitive value.now }
-{
-    match primitive {
-        OnOne::ToNum => number_reply(number_of(value)),
-        OnOne::IntOf => number_reply(truncated(value)),
-        OnOne::Truth => Ok(Reply::Truth(truth(value))),
-    }
-}
-
-#[inline(always)]
-fn on_one(primitive: OnOne, handles: &Handles, words: &[Word]) -> Result<Evaluated, Refusal>
+fn to_num(handles: &Handles, words: &[Word]) -> Result<Evaluated, Refusal>
     ensures { Evaluates handles.now result
-        (evaluation (of_one primitive) handles.now [] words.now) }
+        (evaluation ValuePrimitive.ToNum handles.now [] words.now) }
 {
     let (handle, value, rest) = value_front(handles, words)?;
     ends(rest)?;
     Ok(Evaluated {
         spent: Spent::One(handle),
-        outcome: answer_to_one(primitive, value),
+        outcome: number_reply(number_of(value)),
+    })
+}
+
+#[inline(always)]
+fn int_of(handles: &Handles, words: &[Word]) -> Result<Evaluated, Refusal>
+    ensures { Evaluates handles.now result
+        (evaluation ValuePrimitive.IntOf handles.now [] words.now) }
+{
+    let (handle, value, rest) = value_front(handles, words)?;
+    ends(rest)?;
+    Ok(Evaluated {
+        spent: Spent::One(handle),
+        outcome: number_reply(truncated(value)),
+    })
+}
+
+#[inline(always)]
+fn truth_of(handles: &Handles, words: &[Word]) -> Result<Evaluated, Refusal>
+    ensures { Evaluates handles.now result
+        (evaluation ValuePrimitive.Truth handles.now [] words.now) }
+{
+    let (handle, value, rest) = value_front(handles, words)?;
+    ends(rest)?;
+    Ok(Evaluated {
+        spent: Spent::One(handle),
+        outcome: Ok(Reply::Truth(truth(value))),
     })
 }
 
@@ -163,8 +168,10 @@ fn comparison(handles: &Handles, words: &[Word]) -> Result<Evaluated, Refusal>
     ensures { Evaluates handles.now result
         (evaluation ValuePrimitive.Compare handles.now [] words.now) }
 {
-    let (op, behind) = comparison_front(words)?;
-    let (first, left, second, right) = two_values(handles, behind)?;
+    let (op, behind_op) = comparison_front(words)?;
+    let (first, left, behind_left) = value_front(handles, behind_op)?;
+    let (second, right, rest) = value_after(handles, first, behind_left)?;
+    ends(rest)?;
     Ok(Evaluated {
         spent: Spent::Two(first, second),
         outcome: truth_reply(compared(left, right, op)),
@@ -238,7 +245,9 @@ fn concat(alloc: Global, handles: &Handles, words: &[Word]) -> Result<Evaluated,
     ensures { Evaluates handles.now result
         (evaluation ValuePrimitive.Concat handles.now [] words.now) }
 {
-    let (first, left, second, right) = two_values(handles, words)?;
+    let (first, left, behind_left) = value_front(handles, words)?;
+    let (second, right, rest) = value_after(handles, first, behind_left)?;
+    ends(rest)?;
     Ok(Evaluated {
         spent: Spent::Two(first, second),
         outcome: concatenation(alloc, left, right)?,
@@ -281,9 +290,9 @@ pub(crate) fn evaluate(
         ValuePrimitive::Lit => lit(alloc, literals, words, memory),
         ValuePrimitive::Uninit => uninit(words),
         ValuePrimitive::Dup => dup(handles, words),
-        ValuePrimitive::ToNum => on_one(OnOne::ToNum, handles, words),
-        ValuePrimitive::IntOf => on_one(OnOne::IntOf, handles, words),
-        ValuePrimitive::Truth => on_one(OnOne::Truth, handles, words),
+        ValuePrimitive::ToNum => to_num(handles, words),
+        ValuePrimitive::IntOf => int_of(handles, words),
+        ValuePrimitive::Truth => truth_of(handles, words),
         ValuePrimitive::Compare => comparison(handles, words),
         ValuePrimitive::Concat => concat(alloc, handles, words),
         ValuePrimitive::Pow => power(words),

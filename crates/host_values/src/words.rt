@@ -1,15 +1,10 @@
 //! What the words of a call say: each function takes one argument from their front, and gives the words behind it.
-ghost use Rattle.std.specs.Prelude.{◌≡◌, ◌<◌, ◌≤◌, ◌^◌, IfOk, IsOk, IfSome, List, Result, option_copied, slice_get, unsigned_abs};
+ghost use Rattle.std.specs.Prelude.{◌≡◌, ◌<◌, ◌≤◌, ◌^◌, IfOk, IsOk, IfSome, option_copied, slice_get, unsigned_abs};
 ghost use Rattle.sem_primitives.specs.Constants.{comparison_at, fault_at, faults};
 ghost use Rattle.sem_primitives.specs.declared.sorts.Constant.{Constant};
 ghost use Rattle.std.specs.FinMap as map;
 ghost use Rattle.awk_text.specs.NumberText.{InRange};
 ghost use Rattle.host_step.specs.Arguments.{constant_front, no_more, number_front, place_front, text_at};
-ghost use Rattle.awk_values.specs.declared.fault.Fault.{Fault as AnyFault};
-ghost use Rattle.awk_values.specs.declared.value.Value.{Value as AnyValue};
-ghost use Rattle.host_values.specs.Evaluations.{Evaluation, Values};
-ghost use Rattle.host_values.specs.Shapes.{two_before, two_given, two_read, two_then};
-ghost use Rattle.host_values.specs.declared.reply.Reply.{Reply};
 ghost use Rattle.host_values.specs.Fronts.{handle_front, lent, lent_handle, owned, plain_number};
 
 use awk_text::MAX_NUMBER;
@@ -132,34 +127,6 @@ pub fn value_after<'a, 'b>(
         Some(value) => Ok((handle, value, rest)),
         None => Err(TrapKind::BadHandle),
     }
-}
-
-/// Two values, each with its handle, and the words behind them.
-#[inline(always)]
-fn two_front<'a, 'b>(
-    handles: &'a Handles,
-    words: &'b [Word],
-) -> Result<(i32, &'a Value, i32, &'a Value, &'b [Word]), TrapKind>
-    ensures { (f : AnyValue → AnyValue → Values → List Word → Evaluation)
-        → two_before handles.now words.now f ≡ two_read handles.now f result }
-{
-    let (first, value, behind) = value_front(handles, words)?;
-    let (second, other, rest) = value_after(handles, first, behind)?;
-    Ok((first, value, second, other, rest))
-}
-
-/// The two values that the words name, each with its handle.
-#[inline(always)]
-pub(crate) fn two_values<'a>(
-    handles: &'a Handles,
-    words: &[Word],
-) -> Result<(i32, &'a Value, i32, &'a Value), TrapKind>
-    ensures { (f : AnyValue → AnyValue → Result Reply AnyFault) → two_then handles.now words.now f
-        ≡ two_given handles.now f result }
-{
-    let (first, value, second, other, rest) = two_front(handles, words)?;
-    ends(rest)?;
-    Ok((first, value, second, other))
 }
 
 /// A number in range.

@@ -1,32 +1,42 @@
-use Rattle.std.proofs.Common.{Err, Ok, sym, ap, ◌∙◌}
+use Rattle.std.proofs.Common.{Ok, Err, sym, ap, ◌∙◌}
 use Rattle.std.specs.FinMap as map
-use Rattle.std.proofs.lemmas.Result.{err_from_is_err_and}
 use Rattle.host_imports.specs.declared.import.Import.TheVariants.{Of}
 use Rattle.host_values.specs.Calls.{spare}
+use Rattle.host_texts.specs.Evaluations.{evaluation, left_by}
 use Rattle.host_texts.specs.Primitives.{row_of}
 use Rattle.host_texts.specs.States.{holding}
-use Rattle.host_texts.proofs.Rows.{matched}
-use Rattle.host_texts.proofs.Spare.{spare_left}
-use Rattle.host_texts.proofs.Steps.{settled_step, trap_step}
+use Rattle.host_texts.proofs.Rows.{matched, matching}
+use Rattle.host_texts.proofs.Spare.{spare_evaluated, spare_left}
+use Rattle.host_texts.proofs.Steps.{fault_step, given_step, refused_step}
 use Rattle.host_texts.proofs.calls.call.Goals as goal
 
-pub returns-in_err-evaluated-clause-step : goal.returns-in_err-evaluated-clause-step
-returns-in_err-evaluated-clause-step c =
-    let p = err_from_is_err_and c.from_residual.result c.from_residual.ensures.1 in
-    rw (p.1, p.2) (λ s memory none.
+pub returns-in-Err-clause-step : goal.returns-in-Err-clause-step
+returns-in-Err-clause-step c = λ s memory none.
     let t = holding c.args.texts.now s in
-    let e = c.in_err-evaluated.ensures s in
-    trap_step (Of (row_of c.args.primitive)) t c.args.handles.now c.args.words.now memory none (holding c.evaluate.new.texts s) c.in_err-evaluated.field-0.0
-    (matched c.args.primitive t c.args.handles.now c.args.words.now memory (Err c.in_err-evaluated.field-0.0) e.0) e.1)
+    refused_step (Of (row_of c.args.primitive)) t c.args.handles.now c.args.words.now memory none (evaluation c.args.primitive c.args.handles.now t c.args.words.now) (holding c.evaluate.new.texts s) c.in-Err.refusal
+    (spare_evaluated c.args.primitive c.args.handles.now t c.args.words.now c.requires) (matching c.args.primitive t c.args.handles.now c.args.words.now memory) (c.in-Err.ensures s)
 
 pub give-requires : goal.give-requires
-give-requires c = ap (λ m. map.get m spare) c.leave.ensures ∙ spare_left c.in_ok-evaluated.evaluated.spent c.args.handles.now c.requires
+give-requires c = ap (λ m. map.get m spare) c.leave.ensures ∙ spare_left c.in-Ok.evaluated.spent c.args.handles.now c.requires
 
-pub returns-clause-step : goal.returns-clause-step
-returns-clause-step c = λ s memory none.
+pub returns-in-Ok-outcome-clause-step : goal.returns-in-Ok-outcome-clause-step
+returns-in-Ok-outcome-clause-step c = λ s memory none.
     let t = holding c.args.texts.now s in
-    let e = c.in_ok-evaluated.ensures s in
-    settled_step (Of (row_of c.args.primitive)) t c.args.handles.now c.args.words.now memory none (holding c.evaluate.new.texts s) c.leave.new.handles _ e.0 c.in_ok-evaluated.evaluated.outcome c.give.result
-    (ap (λ m. map.get m spare) c.leave.ensures ∙ spare_left c.in_ok-evaluated.evaluated.spent c.args.handles.now c.requires)
-    (matched c.args.primitive t c.args.handles.now c.args.words.now memory (Ok (c.leave.new.handles, e.0)) (e.1 ∙ ap (λ m. Ok (m, e.0)) (sym c.leave.ensures)))
-    e.2 c.give.ensures.answer
+    let u = holding c.evaluate.new.texts s in
+    given_step (Of (row_of c.args.primitive)) t c.args.handles.now c.args.words.now memory none u c.leave.new.handles _ c.in-Ok-outcome.reply c.give.result
+    (ap (λ m. map.get m spare) c.leave.ensures ∙ spare_left c.in-Ok.evaluated.spent c.args.handles.now c.requires)
+    (matched c.args.primitive t c.args.handles.now c.args.words.now memory (Ok (c.leave.new.handles, (u, Ok c.in-Ok-outcome.reply)))
+    (c.in-Ok.ensures s ∙ ap (λ o. Ok (left_by c.in-Ok.evaluated.spent c.args.handles.now, (u, o))) c.in-Ok-outcome.is ∙ ap (λ m. Ok (m, (u, Ok c.in-Ok-outcome.reply))) (sym c.leave.ensures)))
+    (rw c.in-Ok-outcome.reply-is at c.give.ensures.answer)
+
+pub returns-in-Err-outcome-clause-step : goal.returns-in-Err-outcome-clause-step
+returns-in-Err-outcome-clause-step c = λ s memory none.
+    let t = holding c.args.texts.now s in
+    let u = holding c.evaluate.new.texts s in
+    fault_step (Of (row_of c.args.primitive)) t c.args.handles.now c.args.words.now memory none u (left_by c.in-Ok.evaluated.spent c.args.handles.now) c.leave.new.handles c.in-Err-outcome.fault
+    (matched c.args.primitive t c.args.handles.now c.args.words.now memory (Ok (left_by c.in-Ok.evaluated.spent c.args.handles.now, (u, Err c.in-Err-outcome.fault)))
+    (c.in-Ok.ensures s ∙ ap (λ o. Ok (left_by c.in-Ok.evaluated.spent c.args.handles.now, (u, o))) c.in-Err-outcome.is))
+    c.leave.ensures
+
+pub returns-in-Err-outcome-clause-spare : goal.returns-in-Err-outcome-clause-spare
+returns-in-Err-outcome-clause-spare c = ap (λ m. map.get m spare) c.leave.ensures ∙ spare_left c.in-Ok.evaluated.spent c.args.handles.now c.requires

@@ -1,27 +1,33 @@
-use Rattle.std.proofs.Common.{Err, Ok, refl, subst}
-use Rattle.std.proofs.lemmas.Result.{err_from_is_err_and}
+use Rattle.std.proofs.Common.{Ok, Err, refl, subst}
 use Rattle.host_imports.specs.declared.import.Import.TheVariants.{Over}
 use Rattle.host_imports.specs.declared.import.Listing.TheVariants.{Sprintf}
 use Rattle.host_values.specs.Singles.{with_arguments}
 use Rattle.host_texts.specs.LastFormatted.{Formats, formatting}
-use Rattle.host_texts.proofs.LastFormats.{matched_last, taken_last}
-use Rattle.host_texts.proofs.Steps.{settled_step, trap_step}
+use Rattle.host_texts.proofs.LastFormats.{matched_last, matching_last, refused_last, spare_last, taken_last}
+use Rattle.host_texts.proofs.Steps.{fault_step, given_step, refused_step}
 use Rattle.host_texts.proofs.listed.sprintf.Goals as goal
 
-pub returns-in_err-count-clause-step : goal.returns-in_err-count-clause-step
-returns-in_err-count-clause-step c =
-    let p = err_from_is_err_and c.from_residual.result c.from_residual.ensures.1 in
-    rw (p.1, p.2) (λ s memory none.
+pub returns-in-Err-clause-step : goal.returns-in-Err-clause-step
+returns-in-Err-clause-step c = λ s memory none.
     let t = with_arguments c.args.arguments.now.items s in
-    trap_step (Over Sprintf) t c.args.handles.now c.args.words.now memory none t c.in_err-count.field-0.0
-    (matched_last t c.args.handles.now c.args.words.now memory (Err c.in_err-count.field-0.0)
-    (subst (λ xs. Formats c.args.handles.now (with_arguments xs s) (Err c.in_err-count.field-0.0) (formatting c.args.handles.now (with_arguments xs s) c.args.words.now)) c.as_slice.ensures (c.in_err-count.ensures.step c.args.handles.now s)))
-    refl)
+    refused_step (Over Sprintf) t c.args.handles.now c.args.words.now memory none (formatting c.args.handles.now t c.args.words.now) t c.in-Err.refusal
+    (spare_last c.args.handles.now t c.args.words.now c.requires) (matching_last t c.args.handles.now c.args.words.now memory)
+    (refused_last c.args.handles.now t c.in-Err.refusal (formatting c.args.handles.now t c.args.words.now) (subst (λ xs. Formats c.args.handles.now (with_arguments xs s) (Err c.in-Err.refusal) (formatting c.args.handles.now (with_arguments xs s) c.args.words.now)) c.as_slice.ensures (c.in-Err.ensures.step c.args.handles.now s)))
 
-pub returns-clause-step : goal.returns-clause-step
-returns-clause-step c = λ s memory none.
+pub returns-in-Ok-outcome-clause-step : goal.returns-in-Ok-outcome-clause-step
+returns-in-Ok-outcome-clause-step c = λ s memory none.
     let t = with_arguments c.args.arguments.now.items s in
-    let e = taken_last c.args.handles.now s c.as_slice.result.now c.args.arguments.now.items c.truncate.new.self.items c.len.result (c.in_ok-count.count, c.in_ok-count.outcome) c.args.words.now
-    c.as_slice.ensures c.len.ensures.value c.truncate.ensures.items (c.in_ok-count.ensures.step c.args.handles.now s) in
-    settled_step (Over Sprintf) t c.args.handles.now c.args.words.now memory none (with_arguments c.truncate.new.self.items s) c.args.handles.now _ e.0 c.in_ok-count.outcome c.give.result c.requires
-    (matched_last t c.args.handles.now c.args.words.now memory (Ok (c.args.handles.now, e.0)) e.1) e.2 c.give.ensures.answer
+    let u = with_arguments c.truncate.new.self.items s in
+    given_step (Over Sprintf) t c.args.handles.now c.args.words.now memory none u c.args.handles.now _ c.in-Ok-outcome.reply c.give.result c.requires
+    (matched_last t c.args.handles.now c.args.words.now memory (Ok (c.args.handles.now, (u, Ok c.in-Ok-outcome.reply)))
+    (taken_last c.args.handles.now s c.as_slice.result.now c.args.arguments.now.items c.truncate.new.self.items c.len.result c.in-Ok.evaluated (Ok c.in-Ok-outcome.reply) c.args.words.now c.as_slice.ensures c.len.ensures.value c.truncate.ensures.items c.in-Ok-outcome.is (c.in-Ok.ensures.step c.args.handles.now s)))
+    c.give.ensures.answer
+
+pub returns-in-Err-outcome-clause-step : goal.returns-in-Err-outcome-clause-step
+returns-in-Err-outcome-clause-step c = λ s memory none.
+    let t = with_arguments c.args.arguments.now.items s in
+    let u = with_arguments c.truncate.new.self.items s in
+    fault_step (Over Sprintf) t c.args.handles.now c.args.words.now memory none u c.args.handles.now c.args.handles.now c.in-Err-outcome.fault
+    (matched_last t c.args.handles.now c.args.words.now memory (Ok (c.args.handles.now, (u, Err c.in-Err-outcome.fault)))
+    (taken_last c.args.handles.now s c.as_slice.result.now c.args.arguments.now.items c.truncate.new.self.items c.len.result c.in-Ok.evaluated (Err c.in-Err-outcome.fault) c.args.words.now c.as_slice.ensures c.len.ensures.value c.truncate.ensures.items c.in-Err-outcome.is (c.in-Ok.ensures.step c.args.handles.now s)))
+    refl
