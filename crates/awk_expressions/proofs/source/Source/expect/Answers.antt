@@ -1,5 +1,5 @@
-use Rattle.awk_statements.proofs.Went.{passes, fails_to_pass}
-use Rattle.awk_statements.proofs.source.Source.expect.Goals as goal
+use Rattle.awk_expressions.proofs.Went.{passes, fails_to_pass}
+use Rattle.awk_expressions.proofs.source.Source.expect.Goals as goal
 
 pub returns-in-Ok : goal.returns-in-Ok
 returns-in-Ok c = passes _ _ _ _ _ c.go_on.ensures c.in-Ok.ensures

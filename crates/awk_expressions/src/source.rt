@@ -1,34 +1,37 @@
 //! What is left of the tokens, and why reading stopped.
 
-ghost use Rattle.std.specs.Prelude.{◌≡◌, ◌<◌, ◌++◌, ◌∷◌, [], MatchOption, None, Some, true};
-ghost use Rattle.awk_grammar.specs.Reading.{expr_at, list_at, name_at};
-ghost use Rattle.awk_grammar.specs.View.{view, views};
-ghost use Rattle.awk_expressions.specs.Seen.{seen, view_mode, Gives};
+ghost use Rattle.std.specs.Prelude.{◌≡◌, ◌++◌, ◌∷◌, [], MatchOption, None, Some};
+ghost use Rattle.awk_grammar.specs.Reading.{name_at};
+ghost use Rattle.awk_expressions.specs.Seen.{seen, Gives};
 ghost use Rattle.awk_expressions.specs.declared.fault.Refusal.TheVariants.{NoMemory};
-ghost use Rattle.awk_statements.specs.Went.{stands, at, ended, Went, Passed, is_read, IsSyntax, IsNoSyntax, mark_at};
+ghost use Rattle.awk_expressions.specs.Went.{stands, at, ended, Went, Passed, is_read, IsSyntax, IsNoSyntax, mark_at};
 
-use crate::peek::{comma, open, semicolon, while_word};
-use awk_expressions::{Mode, Refusal, close, close_bracket, expression, list, name};
-use awk_grammar::Expr;
+use crate::fault::Refusal;
+use crate::held::push;
+use crate::peek::{
+    after_name, close, close_bracket, colon, comma, in_word, open, semicolon, stopped, while_word,
+};
 use awk_tokens::Token;
 use std::alloc::Global;
 
 /// What is left of the tokens. Once reading stopped nothing is left: what is read from then on stands for nothing, and who asks at the end learns why.
 #[derive(Clone, Copy)]
-pub(crate) struct Source<'a> {
-    pub(crate) alloc: Global,
-    pub(crate) rest: &'a [Token<'a>],
-    pub(crate) refused: Option<Refusal>,
+pub struct Source<'a> {
+    pub alloc: Global,
+    pub rest: &'a [Token<'a>],
+    pub refused: Option<Refusal>,
 }
 
 /// A token that must come next.
 #[derive(Clone, Copy)]
-pub(crate) enum Mark {
+pub enum Mark {
     Open,
     Close,
     CloseBracket,
     Comma,
+    Colon,
     Semicolon,
+    In,
     While,
 }
 
@@ -41,7 +44,9 @@ fn after<'a>(mark: Mark, tokens: &'a [Token<'a>]) -> Result<&'a [Token<'a>], Ref
         Mark::Close => close(tokens),
         Mark::CloseBracket => close_bracket(tokens),
         Mark::Comma => comma(tokens),
+        Mark::Colon => colon(tokens),
         Mark::Semicolon => semicolon(tokens),
+        Mark::In => in_word(tokens),
         Mark::While => while_word(tokens),
     }
 }
@@ -49,7 +54,7 @@ fn after<'a>(mark: Mark, tokens: &'a [Token<'a>]) -> Result<&'a [Token<'a>], Ref
 impl<'a> Source<'a> {
     /// Reading stops here, if it did not stop before.
     #[inline(never)]
-    pub(crate) fn refuse(&mut self, refusal: Refusal)
+    pub fn refuse(&mut self, refusal: Refusal)
         ensures { at self.new ≡ ended (at self.old) refusal }
     {
         if self.refused.is_none() {
@@ -59,7 +64,7 @@ impl<'a> Source<'a> {
     }
 
     /// Goes on here.
-    pub(crate) fn go_on(&mut self, rest: &'a [Token<'a>])
+    pub fn go_on(&mut self, rest: &'a [Token<'a>])
         ensures { at self.new ≡ stands (seen rest.now) self.old.refused }
     {
         self.rest = rest;
@@ -67,7 +72,7 @@ impl<'a> Source<'a> {
 
     /// Goes on after what must come next.
     #[inline(never)]
-    pub(crate) fn expect(&mut self, mark: Mark)
+    pub fn expect(&mut self, mark: Mark)
         ensures { Passed (at self.old) (at self.new) (mark_at mark) }
     {
         match after(mark, self.rest) {
@@ -76,61 +81,21 @@ impl<'a> Source<'a> {
         }
     }
 
-    /// An expression.
-    #[inline(never)]
-    pub(crate) fn expression(&mut self, limit: u32, mode: Mode) -> Expr
-        requires room { limit < 4294967295 }
-        ensures { Went (view result) (at self.old) (at self.new)
-            (expr_at limit true (view_mode mode)) }
-    {
-        match expression(self.alloc, limit, true, mode, self.rest) {
-            Ok(read) => {
-                self.go_on(read.rest);
-                read.tree
-            }
-            Err(refusal) => {
-                self.refuse(refusal);
-                Expr::Length
-            }
-        }
-    }
-
-    /// One expression or more, with commas between them.
-    pub(crate) fn list(&mut self, limit: u32, greater: bool) -> Vec<Expr>
-        requires room { limit < 4294967295 }
-        ensures { Went (views result.items) (at self.old) (at self.new)
-            (list_at (expr_at limit) greater) }
-    {
-        match list(self.alloc, limit, greater, self.rest) {
-            Ok(read) => {
-                self.go_on(read.rest);
-                read.trees
-            }
-            Err(refusal) => {
-                self.refuse(refusal);
-                Vec::new(self.alloc)
-            }
-        }
-    }
-
     /// A name.
-    pub(crate) fn name(&mut self) -> Vec<u8>
+    #[inline(never)]
+    pub fn name(&mut self) -> Vec<u8>
         ensures { Went result.items (at self.old) (at self.new) name_at }
     {
-        match name(self.alloc, self.rest) {
-            Ok((text, rest)) => {
-                self.go_on(rest);
-                text
-            }
-            Err(refusal) => {
-                self.refuse(refusal);
-                Vec::new(self.alloc)
-            }
-        }
+        let Some((text, rest)) = after_name(self.rest) else {
+            self.refuse(stopped(self.rest));
+            return Vec::new(self.alloc);
+        };
+        self.go_on(rest);
+        self.copied(text)
     }
 
     /// A text that was read, on the heap.
-    pub(crate) fn copied(&mut self, text: &[u8]) -> Vec<u8>
+    pub fn copied(&mut self, text: &[u8]) -> Vec<u8>
         ensures { Went result.items (at self.old) (at self.new) (is_read text.now) }
     {
         match text.to_vec(self.alloc) {
@@ -144,7 +109,7 @@ impl<'a> Source<'a> {
 
     /// Goes on where an attempt ended, and gives what it read; where the tokens do not go on so, none, and reading goes on from where it stood.
     #[inline(never)]
-    pub(crate) fn settled<T: Drop>(&mut self, attempt: Source<'a>, read: T) -> Option<T>
+    pub fn settled<T: Drop>(&mut self, attempt: Source<'a>, read: T) -> Option<T>
         ensures { MatchOption result (IsSyntax attempt.entry.refused × (at self.new ≡ at self.old))
             (λ x. (x ≡ read) × (IsNoSyntax attempt.entry.refused × (at self.new ≡ at attempt.entry))) }
     {
@@ -157,7 +122,7 @@ impl<'a> Source<'a> {
 
     /// A value on the heap; none where reading stopped.
     #[inline(never)]
-    pub(crate) fn boxed<T: Drop>(&mut self, value: T) -> Option<Box<T>>
+    pub fn boxed<T: Drop>(&mut self, value: T) -> Option<Box<T>>
         ensures { MatchOption result (at self.new ≡ ended (at self.old) NoMemory)
             (λ b. (b.value ≡ value) × (at self.new ≡ at self.old)) }
     {
@@ -175,31 +140,21 @@ impl<'a> Source<'a> {
 
     /// Adds an item to a list.
     #[inline(never)]
-    pub(crate) fn push<T: Drop>(&mut self, items: &mut Vec<T>, item: T)
+    pub fn push<T: Drop>(&mut self, items: &mut Vec<T>, item: T)
         ensures { Went items.new.items (at self.old) (at self.new)
             (is_read (items.old.items ++ item ∷ [])) }
     {
-        if items.push(item).is_err() {
+        if !push(items, item) {
             self.refuse(Refusal::NoMemory);
         }
     }
 
     /// Adds an item to a list, which comes boxed.
     #[inline(never)]
-    pub(crate) fn push_boxed<T: Drop>(&mut self, items: &mut Vec<T>, item: Box<T>)
+    pub fn push_boxed<T: Drop>(&mut self, items: &mut Vec<T>, item: Box<T>)
         ensures { Went items.new.items (at self.old) (at self.new)
             (is_read (items.old.items ++ item.value ∷ [])) }
     {
         self.push(items, Box::into_inner(item));
-    }
-}
-
-/// What is held, and what was read after it; none where reading stopped, and what is held is let go.
-pub(crate) fn both<T: Drop, U>(held: T, read: Option<U>) -> Option<(T, U)>
-    ensures { MatchOption result (read ≡ None) (λ x. (x.0 ≡ held) × (read ≡ Some x.1)) }
-{
-    match read {
-        Some(read) => Some((held, read)),
-        None => None,
     }
 }
