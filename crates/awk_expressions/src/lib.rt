@@ -18,7 +18,7 @@ pub use expr::{expression, list};
 pub use fault::Refusal;
 pub use mode::Mode;
 pub use peek::{
-    after_bracket, after_close, after_comma, after_name, after_semicolon, begins_expr, line_of,
-    stopped,
+    after_bracket, after_close, after_comma, after_in, after_name, after_semicolon, begins_expr,
+    line_of, stopped,
 };
 pub use source::{Mark, Source};

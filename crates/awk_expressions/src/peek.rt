@@ -5,12 +5,12 @@ ghost use Rattle.awk_grammar.specs.Token.{Syntax as SyntaxFault};
 ghost use Rattle.awk_tokens.specs.Views.{spelled};
 ghost use Rattle.awk_grammar.specs.Lexeme.{mark_lexeme};
 ghost use Rattle.awk_grammar.specs.Reading.{comma_at, open_at, index_at, less_at, step_at, link_at, link_level, link_left, stops, close_at, bracket_at, colon_at, in_at, name_at};
-ghost use Rattle.awk_grammar.specs.ReadStmt.{starts_expr, open_here, comma_here, semicolon_at, while_at};
+ghost use Rattle.awk_grammar.specs.ReadStmt.{starts_expr, semicolon_at, while_at};
 ghost use Rattle.awk_grammar.specs.Shape.{view_next};
 ghost use Rattle.awk_grammar.specs.Tree.{class_at, is_start};
 ghost use Rattle.awk_grammar.specs.View.{view, view_step};
 ghost use Rattle.awk_expressions.specs.Operands.{joining_at};
-ghost use Rattle.awk_expressions.specs.Seen.{seen, first_line, lexeme_of, begins_operand, view_link, infix_link, Gives};
+ghost use Rattle.awk_expressions.specs.Seen.{seen, first_line, lexeme_of, begins_operand, view_link, infix_link};
 ghost use Rattle.awk_expressions.specs.declared.fault.Refusal.TheVariants.{Syntax};
 
 use crate::fault::Refusal;
@@ -121,67 +121,10 @@ pub fn after_close<'a>(tokens: &'a [Token<'a>]) -> Option<&'a [Token<'a>]>
     }
 }
 
-/// The tokens after `)`, which must come first.
-pub(crate) fn close<'a>(tokens: &'a [Token<'a>]) -> Result<&'a [Token<'a>], Refusal>
-    ensures { Gives (λ r. seen r.now) result (close_at (seen tokens.now)) }
-{
-    match tokens {
-        [
-            Token {
-                kind: TokenKind::Punctuator(Punctuator::CloseParen),
-                ..
-            },
-            rest @ ..,
-        ] => Ok(rest),
-        _ => Err(stopped(tokens)),
-    }
-}
-
-/// The tokens after `(`, which must come first.
-pub(crate) fn open<'a>(tokens: &'a [Token<'a>]) -> Result<&'a [Token<'a>], Refusal>
-    ensures { Gives (λ r. seen r.now) result (open_here (seen tokens.now)) }
-{
-    match tokens {
-        [
-            Token {
-                kind: TokenKind::Punctuator(Punctuator::OpenParen),
-                ..
-            },
-            rest @ ..,
-        ] => Ok(rest),
-        _ => Err(stopped(tokens)),
-    }
-}
-
-/// The tokens after `,`, which must come first.
-pub(crate) fn comma<'a>(tokens: &'a [Token<'a>]) -> Result<&'a [Token<'a>], Refusal>
-    ensures { Gives (λ r. seen r.now) result (comma_here (seen tokens.now)) }
-{
-    match tokens {
-        [
-            Token {
-                kind: TokenKind::Punctuator(Punctuator::Comma),
-                ..
-            },
-            rest @ ..,
-        ] => Ok(rest),
-        _ => Err(stopped(tokens)),
-    }
-}
-
-/// The tokens after `;`, which must come first.
-pub(crate) fn semicolon<'a>(tokens: &'a [Token<'a>]) -> Result<&'a [Token<'a>], Refusal>
-    ensures { Gives (λ r. seen r.now) result (semicolon_at (seen tokens.now)) }
-{
-    match after_semicolon(tokens) {
-        Some(rest) => Ok(rest),
-        None => Err(stopped(tokens)),
-    }
-}
-
-/// The tokens after `while`, which must come first.
-pub(crate) fn while_word<'a>(tokens: &'a [Token<'a>]) -> Result<&'a [Token<'a>], Refusal>
-    ensures { Gives (λ r. seen r.now) result (while_at (seen tokens.now)) }
+/// The tokens after `while`.
+pub(crate) fn after_while<'a>(tokens: &'a [Token<'a>]) -> Option<&'a [Token<'a>]>
+    ensures { MatchOption result (while_at (seen tokens.now) ≡ Err SyntaxFault)
+        (λ r. while_at (seen tokens.now) ≡ Ok (seen r.now)) }
 {
     match tokens {
         [
@@ -190,8 +133,8 @@ pub(crate) fn while_word<'a>(tokens: &'a [Token<'a>]) -> Result<&'a [Token<'a>],
                 ..
             },
             rest @ ..,
-        ] => Ok(rest),
-        _ => Err(stopped(tokens)),
+        ] => Some(rest),
+        _ => None,
     }
 }
 
@@ -212,9 +155,10 @@ pub fn after_semicolon<'a>(tokens: &'a [Token<'a>]) -> Option<&'a [Token<'a>]>
     }
 }
 
-/// The tokens after `]`, which must come first.
-pub(crate) fn close_bracket<'a>(tokens: &'a [Token<'a>]) -> Result<&'a [Token<'a>], Refusal>
-    ensures { Gives (λ r. seen r.now) result (bracket_at (seen tokens.now)) }
+/// The tokens after `]`.
+pub(crate) fn after_close_bracket<'a>(tokens: &'a [Token<'a>]) -> Option<&'a [Token<'a>]>
+    ensures { MatchOption result (bracket_at (seen tokens.now) ≡ Err SyntaxFault)
+        (λ r. bracket_at (seen tokens.now) ≡ Ok (seen r.now)) }
 {
     match tokens {
         [
@@ -223,14 +167,15 @@ pub(crate) fn close_bracket<'a>(tokens: &'a [Token<'a>]) -> Result<&'a [Token<'a
                 ..
             },
             rest @ ..,
-        ] => Ok(rest),
-        _ => Err(stopped(tokens)),
+        ] => Some(rest),
+        _ => None,
     }
 }
 
-/// The tokens after `:`, which must come first.
-pub(crate) fn colon<'a>(tokens: &'a [Token<'a>]) -> Result<&'a [Token<'a>], Refusal>
-    ensures { Gives (λ r. seen r.now) result (colon_at (seen tokens.now)) }
+/// The tokens after `:`.
+pub(crate) fn after_colon<'a>(tokens: &'a [Token<'a>]) -> Option<&'a [Token<'a>]>
+    ensures { MatchOption result (colon_at (seen tokens.now) ≡ Err SyntaxFault)
+        (λ r. colon_at (seen tokens.now) ≡ Ok (seen r.now)) }
 {
     match tokens {
         [
@@ -239,14 +184,15 @@ pub(crate) fn colon<'a>(tokens: &'a [Token<'a>]) -> Result<&'a [Token<'a>], Refu
                 ..
             },
             rest @ ..,
-        ] => Ok(rest),
-        _ => Err(stopped(tokens)),
+        ] => Some(rest),
+        _ => None,
     }
 }
 
-/// The tokens after `in`, which must come first.
-pub(crate) fn in_word<'a>(tokens: &'a [Token<'a>]) -> Result<&'a [Token<'a>], Refusal>
-    ensures { Gives (λ r. seen r.now) result (in_at (seen tokens.now)) }
+/// The tokens after `in`.
+pub fn after_in<'a>(tokens: &'a [Token<'a>]) -> Option<&'a [Token<'a>]>
+    ensures { MatchOption result (in_at (seen tokens.now) ≡ Err SyntaxFault)
+        (λ r. in_at (seen tokens.now) ≡ Ok (seen r.now)) }
 {
     match tokens {
         [
@@ -255,8 +201,8 @@ pub(crate) fn in_word<'a>(tokens: &'a [Token<'a>]) -> Result<&'a [Token<'a>], Re
                 ..
             },
             rest @ ..,
-        ] => Ok(rest),
-        _ => Err(stopped(tokens)),
+        ] => Some(rest),
+        _ => None,
     }
 }
 

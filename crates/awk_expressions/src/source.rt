@@ -1,15 +1,17 @@
 //! What is left of the tokens, and why reading stopped.
 
-ghost use Rattle.std.specs.Prelude.{◌≡◌, ◌++◌, ◌∷◌, [], MatchOption, None, Some};
+ghost use Rattle.std.specs.Prelude.{◌≡◌, ◌++◌, ◌∷◌, [], MatchOption, None, Some, Ok, Err};
 ghost use Rattle.awk_grammar.specs.Reading.{name_at};
-ghost use Rattle.awk_expressions.specs.Seen.{seen, Gives};
+ghost use Rattle.awk_grammar.specs.Token.{Syntax as SyntaxFault};
+ghost use Rattle.awk_expressions.specs.Seen.{seen};
 ghost use Rattle.awk_expressions.specs.declared.fault.Refusal.TheVariants.{NoMemory};
 ghost use Rattle.awk_expressions.specs.Went.{stands, at, ended, Went, Passed, is_read, IsSyntax, IsNoSyntax, mark_at};
 
 use crate::fault::Refusal;
 use crate::held::push;
 use crate::peek::{
-    after_name, close, close_bracket, colon, comma, in_word, open, semicolon, stopped, while_word,
+    after_close, after_close_bracket, after_colon, after_comma, after_in, after_name, after_open,
+    after_semicolon, after_while, stopped,
 };
 use awk_tokens::Token;
 use std::alloc::Global;
@@ -35,19 +37,20 @@ pub enum Mark {
     While,
 }
 
-/// The tokens after one that must come first.
-fn after<'a>(mark: Mark, tokens: &'a [Token<'a>]) -> Result<&'a [Token<'a>], Refusal>
-    ensures { Gives (λ r. seen r.now) result (mark_at mark (seen tokens.now)) }
+/// The tokens after a mark, if that comes first.
+fn after<'a>(mark: Mark, tokens: &'a [Token<'a>]) -> Option<&'a [Token<'a>]>
+    ensures { MatchOption result (mark_at mark (seen tokens.now) ≡ Err SyntaxFault)
+        (λ r. mark_at mark (seen tokens.now) ≡ Ok (seen r.now)) }
 {
     match mark {
-        Mark::Open => open(tokens),
-        Mark::Close => close(tokens),
-        Mark::CloseBracket => close_bracket(tokens),
-        Mark::Comma => comma(tokens),
-        Mark::Colon => colon(tokens),
-        Mark::Semicolon => semicolon(tokens),
-        Mark::In => in_word(tokens),
-        Mark::While => while_word(tokens),
+        Mark::Open => after_open(tokens),
+        Mark::Close => after_close(tokens),
+        Mark::CloseBracket => after_close_bracket(tokens),
+        Mark::Comma => after_comma(tokens),
+        Mark::Colon => after_colon(tokens),
+        Mark::Semicolon => after_semicolon(tokens),
+        Mark::In => after_in(tokens),
+        Mark::While => after_while(tokens),
     }
 }
 
@@ -76,8 +79,8 @@ impl<'a> Source<'a> {
         ensures { Passed (at self.old) (at self.new) (mark_at mark) }
     {
         match after(mark, self.rest) {
-            Ok(rest) => self.go_on(rest),
-            Err(refusal) => self.refuse(refusal),
+            Some(rest) => self.go_on(rest),
+            None => self.refuse(stopped(self.rest)),
         }
     }
 

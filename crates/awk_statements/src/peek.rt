@@ -4,12 +4,12 @@ ghost use Rattle.std.specs.Prelude.{◌≡◌, MatchOption, None, Some, Ok, Err,
 ghost use Rattle.awk_tokens.specs.Views.{spelled};
 ghost use Rattle.awk_grammar.specs.Lexeme.{spoken_after};
 ghost use Rattle.awk_grammar.specs.Token.{Syntax as SyntaxFault};
-ghost use Rattle.awk_grammar.specs.Reading.{in_at, name_at};
+ghost use Rattle.awk_grammar.specs.Reading.{name_at};
 ghost use Rattle.awk_grammar.specs.ReadStmt.{else_at, brace_at, keys_at, is_in};
 ghost use Rattle.awk_expressions.specs.Seen.{seen};
 ghost use Rattle.awk_statements.specs.Starts.{open_brace_at};
 
-use awk_expressions::{after_close, after_name};
+use awk_expressions::{after_close, after_in, after_name};
 use awk_tokens::{Keyword, Punctuator, Token, TokenKind};
 
 /// The tokens after `else`.
@@ -55,23 +55,6 @@ pub(crate) fn after_open_brace<'a>(tokens: &'a [Token<'a>]) -> Option<&'a [Token
         [
             Token {
                 kind: TokenKind::Punctuator(Punctuator::OpenBrace),
-                ..
-            },
-            rest @ ..,
-        ] => Some(rest),
-        _ => None,
-    }
-}
-
-/// The tokens after `in`.
-pub(crate) fn after_in<'a>(tokens: &'a [Token<'a>]) -> Option<&'a [Token<'a>]>
-    ensures { MatchOption result (in_at (seen tokens.now) ≡ Err SyntaxFault)
-        (λ r. in_at (seen tokens.now) ≡ Ok (seen r.now)) }
-{
-    match tokens {
-        [
-            Token {
-                kind: TokenKind::Keyword(Keyword::In),
                 ..
             },
             rest @ ..,
