@@ -1,36 +1,17 @@
 -- What an operand and its surroundings ask of one another.
-use Rattle.std.proofs.Common.{◌≡◌, ℕ, Bool, true, false, cond, Option, Some, None, List, ◌∷◌, refl, ap, subst}
-use Rattle.std.specs.Prelude.{MatchOption, ◌&&◌}
-use Rattle.awk_grammar.specs.Token.{Token, Step, Open}
-use Rattle.awk_grammar.specs.Tree.{Tree, Mode, LValue, Post, normal, fits}
-use Rattle.awk_grammar.specs.Reading.{◌>>=◌, Reader, Link, after, step_at, posted_by, posted, open_at, call_by, from_by, less_at}
+use Rattle.std.proofs.Common.{◌≡◌, ℕ, Bool, Option, Some, None, List, ◌∷◌, refl, subst}
+use Rattle.std.specs.Prelude.{MatchOption}
+use Rattle.awk_grammar.specs.Token.{Token, Open}
+use Rattle.awk_grammar.specs.Tree.{Tree, Mode}
+use Rattle.awk_grammar.specs.Reading.{◌>>=◌, Reader, Link, after, open_at, call_by, from_by, less_at}
 use Rattle.awk_grammar.specs.ReadStmt.{open_here}
 use Rattle.awk_grammar.specs.View.{view}
 use Rattle.awk_grammar.specs.declared.tree.Expr.{Expr}
-use Rattle.awk_grammar.proofs.Sound.{that_is}
 use Rattle.awk_expressions.specs.declared.deep.Part.{Part}
 use Rattle.awk_expressions.specs.declared.fault.Refusal.TheVariants as refusals
-use Rattle.awk_expressions.specs.Operands.{post_at, view_variable}
+use Rattle.awk_expressions.specs.Operands.{view_variable}
 use Rattle.awk_expressions.specs.Went.{At, ended, Went}
 use Rattle.awk_expressions.proofs.Went.{no_memory_then, kept_then}
-
--- ---- the step after an operand
-
-pub posted_none : (m : Mode) (t : Tree) (ts : List Token) → post_at m t ts ≡ None → posted m (t, ts) ≡ (t, ts)
-posted_none m t ts e = by (normal m && fits LValue t) (step_at ts) e
-  where
-    by : (b : Bool) (o : Option (Step × List Token)) → cond {A = Option (Step × List Token)} b o None ≡ None → posted_by b t ts o ≡ (t, ts)
-    by true None e = refl
-    by true (Some s) e = absurd cc
-    by false o e = refl
-
-pub posted_some : (m : Mode) (t : Tree) (ts : List Token) (s : Step × List Token) → post_at m t ts ≡ Some s → posted m (t, ts) ≡ (Post s.0 t, s.1)
-posted_some m t ts s e = by (normal m && fits LValue t) (step_at ts) e
-  where
-    by : (b : Bool) (o : Option (Step × List Token)) → cond {A = Option (Step × List Token)} b o None ≡ Some s → posted_by b t ts o ≡ (Post s.0 t, s.1)
-    by true None e = absurd cc
-    by true (Some p) e = ap (λ (q : Step × List Token). (Post q.0 t, q.1)) (that_is p s e)
-    by false o e = absurd cc
 
 -- ---- a call
 

@@ -4,7 +4,7 @@ use Rattle.awk_grammar.specs.Tree.{depth, depths}
 use Rattle.awk_grammar.specs.View.{view, views}
 use Rattle.awk_grammar.specs.declared.tree.Expr.{Expr}
 
--- no deeper tree is told from the deepest that the count tells
+-- depths past the greatest number of 64 bits are not told apart
 abbrev pub capped : ℕ → ℕ
 capped n = min n 18446744073709551615
 

@@ -399,7 +399,6 @@ fn infix_at(greater: bool, token: &Token<'_>) -> Option<Link>
 }
 
 /// What joins an expression to the tokens, and those after it; juxtaposition has no token.
-#[tactic(auto, using(crate::proofs::Peeks::link_joins, crate::proofs::Peeks::link_none, crate::proofs::Peeks::link_some))]
 fn next_link<'a>(greater: bool, tokens: &'a [Token<'a>]) -> Option<(Link, &'a [Token<'a>])>
     ensures { MatchOption result (link_at greater (seen tokens.now) ≡ None)
         (λ o. link_at greater (seen tokens.now) ≡ Some (view_link o.0, seen o.1.now)) }
