@@ -1,3 +1,6 @@
-pub mod Peeks
-pub mod Binds
+pub mod Climbs
+pub mod Fits
+pub mod Lists
+pub mod Marks
 pub mod Starts
+pub mod Went

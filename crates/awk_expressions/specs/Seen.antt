@@ -4,21 +4,20 @@ use Rattle.awk_tokens.specs.declared.token.Token.{Token}
 use Rattle.awk_tokens.specs.Views.{spelled}
 use Rattle.awk_tokens.specs.Cutting.{Spelled}
 use Rattle.awk_grammar.specs.Token.{Token as Lexeme, Fault, Syntax, TooDeep, Lit, Name, FuncName, Word, GetlineWord, InWord, Dollar, Open, NotMark, StepMark, SignMark, Infix, Question, Assign}
-use Rattle.awk_grammar.specs.Tree.{Tree, Trees, Join, Add, Other, Mode, Whole, AfterOr, AfterAnd, AfterMatch, AfterCompare, AfterJoin, AfterAdd, Factor, Plain, LValue, InField, allowed}
+use Rattle.awk_grammar.specs.Tree.{Op, Add, Other, Mode, Whole, AfterOr, AfterAnd, AfterMatch, AfterCompare, AfterJoin, AfterAdd, Factor, Plain, LValue, InField, allowed}
 use Rattle.awk_grammar.specs.Lexeme.{spoken, spoken_as}
 use Rattle.awk_grammar.specs.Reading.{Link, Joined, Within, Chosen}
-use Rattle.awk_grammar.specs.View.{view, views, view_binary, view_assign}
+use Rattle.awk_grammar.specs.View.{view_binary, view_assign}
 use Rattle.awk_expressions.specs.declared.fault.Refusal.{Refusal}
 use Rattle.awk_expressions.specs.declared.fault.Refusal.TheVariants as refusals
-use Rattle.awk_expressions.specs.declared.parsed.Parsed.{Parsed}
-use Rattle.awk_expressions.specs.declared.parsed.Part.{Part}
-use Rattle.awk_expressions.specs.declared.parsed.ParsedList.{ParsedList}
 use Rattle.awk_expressions.specs.declared.mode.Mode.{Mode as Mode'}
 use Rattle.awk_expressions.specs.declared.mode.Mode.TheVariants as modes
+use Rattle.awk_expressions.specs.declared.peek.Infix.{Infix as Infix'}
+use Rattle.awk_expressions.specs.declared.peek.Infix.TheVariants as infixes
 use Rattle.awk_expressions.specs.declared.peek.Link.{Link as Link'}
 use Rattle.awk_expressions.specs.declared.peek.Link.TheVariants as links
 
--- tokens as the grammar sees them, where they do not stand directly behind `function`
+-- tokens as the grammar sees them, where they do not stand directly after `function`
 abbrev pub seen : List Token → List Lexeme
 seen ts = spoken (map spelled ts)
 
@@ -46,9 +45,12 @@ view_mode modes.Plain = Plain
 view_mode modes.LValue = LValue
 view_mode modes.InField = InField
 
+abbrev pub view_infix : Infix' → Op
+view_infix (infixes.Binary op) = view_binary op
+view_infix (infixes.Assign op) = Other (Assign (view_assign op))
+
 abbrev pub view_link : Link' → Link
-view_link (links.Binary op) = Joined (view_binary op)
-view_link (links.Assign op) = Joined (Other (Assign (view_assign op)))
+view_link (links.Joined op) = Joined (view_infix op)
 view_link links.In = Within
 view_link links.Question = Chosen
 
@@ -60,7 +62,7 @@ abbrev pub first_line : List Spelled → Option ℕ
 first_line [] = None
 first_line (t ∷ ts) = Some t.line
 
--- whether an expression that may stand directly behind another begins with this token
+-- whether an expression that may stand directly after another begins with this token
 abbrev pub begins_operand : Lexeme → Bool
 begins_operand (Lit c) = true
 begins_operand (Name n) = true
@@ -80,13 +82,3 @@ infix_link g (SignMark s) = Some (Joined (Add s))
 infix_link g (Infix s) = if allowed g s then Some (Joined (Other s)) else None
 infix_link g Question = Some Chosen
 infix_link g _ = None
-
--- what was read, and the tokens behind it
-abbrev pub seen_tree : Parsed → Tree × List Lexeme
-seen_tree x = (view x.tree, seen x.rest.now)
-
-abbrev pub seen_part : Part → Tree × List Lexeme
-seen_part x = (view x.tree.value, seen x.rest.now)
-
-abbrev pub seen_trees : ParsedList → Trees × List Lexeme
-seen_trees x = (views x.trees.items, seen x.rest.now)

@@ -1,20 +1,10 @@
-//! Boxes and lists of what owns much: what finds no room is let go here, for every type at once.
+//! Lists of what owns much: what finds no room is let go here, for every type at once.
 
-ghost use Rattle.std.specs.Prelude.{◌≡◌, [], ◌∷◌, ◌++◌, IfOk, OnOk};
+ghost use Rattle.std.specs.Prelude.{◌≡◌, [], ◌∷◌, ◌++◌, if◌then◌else◌};
 
-use std::alloc::{AllocError, Global};
-
-/// A value on the heap.
-pub(crate) fn on_heap<T: Drop>(alloc: Global, value: T) -> Result<Box<T>, AllocError>
-    ensures value { IfOk result (λ held. held.value ≡ value) }
+/// Adds an item to others, and says whether there was room.
+pub(crate) fn push<T: Drop>(items: &mut Vec<T>, item: T) -> bool
+    ensures { items.new.items ≡ (if result then items.old.items ++ item ∷ [] else items.old.items) }
 {
-    Ok(Box::new(alloc, value)?)
-}
-
-/// Adds an item to others.
-pub(crate) fn push<T: Drop>(items: &mut Vec<T>, item: T) -> Result<(), AllocError>
-    ensures items { OnOk result (items.new.items ≡ items.old.items ++ item ∷ []) }
-{
-    items.push(item)?;
-    Ok(())
+    items.push(item).is_ok()
 }

@@ -1,20 +1,24 @@
 //! Expressions from tokens (POSIX.1-2017 awk, "Grammar", in the profile of this project), and what else a reader asks of the next tokens.
 #![tactic(auto)]
 
+mod checks;
 mod contains;
+mod deep;
+mod depth;
 mod expr;
 mod fault;
 mod held;
 mod mode;
 mod node;
-mod parsed;
 mod peek;
+mod source;
 mod start;
 
 pub use expr::{expression, list};
 pub use fault::Refusal;
 pub use mode::Mode;
-pub use parsed::{Parsed, ParsedList};
 pub use peek::{
-    after_close, after_comma, begins_expr, close, close_bracket, line_of, name, stopped,
+    after_bracket, after_close, after_comma, after_in, after_name, after_semicolon, begins_expr,
+    line_of, stopped,
 };
+pub use source::{Mark, Source};

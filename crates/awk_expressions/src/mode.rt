@@ -4,8 +4,9 @@ ghost use Rattle.std.specs.Prelude.{◌≡◌};
 ghost use Rattle.awk_grammar.specs.Tree.{floor, normal, fits, op_right};
 ghost use Rattle.awk_grammar.specs.Reading.{under};
 ghost use Rattle.awk_grammar.specs.View.{view, view_binary};
-ghost use Rattle.awk_expressions.specs.Seen.{view_mode};
+ghost use Rattle.awk_expressions.specs.Seen.{view_mode, view_infix};
 
+use crate::peek::Infix;
 use awk_grammar::{BinaryOp, Expr, is_field, level};
 
 /// What an expression must be where it stands: any, or only what binds tighter than what is before it.
@@ -19,10 +20,10 @@ pub enum Mode {
     AfterConcat,
     AfterSum,
     Factor,
-    /// Behind `<`: no operator, no step, no `getline`.
+    /// After `<`: no operator, no step, no `getline`.
     Plain,
     LValue,
-    /// Behind `$`.
+    /// After `$`.
     InField,
 }
 
@@ -44,7 +45,7 @@ pub(crate) fn floor(mode: Mode) -> u8
     }
 }
 
-/// Whether a step may stand behind an expression there.
+/// Whether a step may stand after an expression there.
 pub(crate) fn is_normal(mode: Mode) -> bool
     ensures { result ≡ normal (view_mode mode) }
 {
@@ -61,7 +62,7 @@ pub(crate) fn fits(mode: Mode, e: &Expr) -> bool
     }
 }
 
-/// What is read behind a sign there.
+/// What is read after a sign there.
 pub(crate) fn under(mode: Mode) -> Mode
     ensures { view_mode result ≡ under (view_mode mode) }
 {
@@ -71,8 +72,8 @@ pub(crate) fn under(mode: Mode) -> Mode
     }
 }
 
-/// What is read behind an operator.
-pub(crate) fn right_of(op: BinaryOp) -> Mode
+/// What is read after an operator that is none of assignment.
+fn after_operator(op: BinaryOp) -> Mode
     ensures { view_mode result ≡ op_right (view_binary op) }
 {
     match op {
@@ -88,5 +89,15 @@ pub(crate) fn right_of(op: BinaryOp) -> Mode
         BinaryOp::Concat => Mode::AfterConcat,
         BinaryOp::Add | BinaryOp::Subtract => Mode::AfterSum,
         BinaryOp::Multiply | BinaryOp::Divide | BinaryOp::Modulo | BinaryOp::Power => Mode::Factor,
+    }
+}
+
+/// What is read after what stands between two sides.
+pub(crate) fn right_of(op: Infix) -> Mode
+    ensures { view_mode result ≡ op_right (view_infix op) }
+{
+    match op {
+        Infix::Binary(op) => after_operator(op),
+        Infix::Assign(_) => Mode::Whole,
     }
 }

@@ -4,18 +4,20 @@ ghost use Rattle.std.specs.Prelude.{◌≡◌, MatchOption, None, Some, Ok, Err,
 ghost use Rattle.awk_grammar.specs.Token.{Syntax as SyntaxFault};
 ghost use Rattle.awk_tokens.specs.Views.{spelled};
 ghost use Rattle.awk_grammar.specs.Lexeme.{mark_lexeme};
-ghost use Rattle.awk_grammar.specs.Reading.{comma_at, open_at, index_at, less_at, step_at, link_at, link_level, link_left, close_at, bracket_at, colon_at, in_at, name_at};
-ghost use Rattle.awk_grammar.specs.ReadStmt.{starts_expr};
+ghost use Rattle.awk_grammar.specs.Reading.{comma_at, open_at, index_at, less_at, step_at, link_at, link_level, link_left, stops, close_at, bracket_at, colon_at, in_at, name_at};
+ghost use Rattle.awk_grammar.specs.ReadStmt.{starts_expr, semicolon_at, while_at};
 ghost use Rattle.awk_grammar.specs.Shape.{view_next};
-ghost use Rattle.awk_grammar.specs.Tree.{class_at};
-ghost use Rattle.awk_grammar.specs.View.{view_step};
-ghost use Rattle.awk_expressions.specs.Seen.{seen, first_line, lexeme_of, begins_operand, view_link, infix_link, Gives};
+ghost use Rattle.awk_grammar.specs.Tree.{class_at, is_start};
+ghost use Rattle.awk_grammar.specs.View.{view, view_step};
+ghost use Rattle.awk_expressions.specs.Operands.{joining_at};
+ghost use Rattle.awk_expressions.specs.Seen.{seen, first_line, lexeme_of, begins_operand, view_link, infix_link};
 ghost use Rattle.awk_expressions.specs.declared.fault.Refusal.TheVariants.{Syntax};
 
 use crate::fault::Refusal;
-use awk_grammar::{AssignOp, BinaryOp, Next, StepOp, binary_level, left_floor};
+use awk_grammar::{
+    AssignOp, BinaryOp, Expr, Next, StepOp, binary_level, has_edge, left_floor, takes,
+};
 use awk_tokens::{Keyword, Punctuator, Token, TokenKind};
-use std::alloc::Global;
 
 /// The line of the first token, if there is one.
 pub fn line_of(tokens: &[Token<'_>]) -> Option<usize>
@@ -34,7 +36,7 @@ pub fn stopped(tokens: &[Token<'_>]) -> Refusal
     Refusal::Syntax(line_of(tokens))
 }
 
-/// The tokens behind `,`.
+/// The tokens after `,`.
 pub fn after_comma<'a>(tokens: &'a [Token<'a>]) -> Option<&'a [Token<'a>]>
     ensures { MatchOption result (comma_at (seen tokens.now) ≡ None)
         (λ r. comma_at (seen tokens.now) ≡ Some (seen r.now)) }
@@ -51,7 +53,7 @@ pub fn after_comma<'a>(tokens: &'a [Token<'a>]) -> Option<&'a [Token<'a>]>
     }
 }
 
-/// The tokens behind `(`.
+/// The tokens after `(`.
 pub(crate) fn after_open<'a>(tokens: &'a [Token<'a>]) -> Option<&'a [Token<'a>]>
     ensures { MatchOption result (open_at (seen tokens.now) ≡ None)
         (λ r. open_at (seen tokens.now) ≡ Some (seen r.now)) }
@@ -69,7 +71,7 @@ pub(crate) fn after_open<'a>(tokens: &'a [Token<'a>]) -> Option<&'a [Token<'a>]>
 }
 
 /// The tokens after `[`.
-pub(crate) fn after_bracket<'a>(tokens: &'a [Token<'a>]) -> Option<&'a [Token<'a>]>
+pub fn after_bracket<'a>(tokens: &'a [Token<'a>]) -> Option<&'a [Token<'a>]>
     ensures { MatchOption result (index_at (seen tokens.now) ≡ None)
         (λ r. index_at (seen tokens.now) ≡ Some (seen r.now)) }
 {
@@ -85,7 +87,7 @@ pub(crate) fn after_bracket<'a>(tokens: &'a [Token<'a>]) -> Option<&'a [Token<'a
     }
 }
 
-/// The tokens behind `<`.
+/// The tokens after `<`.
 pub(crate) fn after_less<'a>(tokens: &'a [Token<'a>]) -> Option<&'a [Token<'a>]>
     ensures { MatchOption result (less_at (seen tokens.now) ≡ None)
         (λ r. less_at (seen tokens.now) ≡ Some (seen r.now)) }
@@ -102,7 +104,7 @@ pub(crate) fn after_less<'a>(tokens: &'a [Token<'a>]) -> Option<&'a [Token<'a>]>
     }
 }
 
-/// The tokens behind `)`.
+/// The tokens after `)`.
 pub fn after_close<'a>(tokens: &'a [Token<'a>]) -> Option<&'a [Token<'a>]>
     ensures { MatchOption result (close_at (seen tokens.now) ≡ Err SyntaxFault)
         (λ r. close_at (seen tokens.now) ≡ Ok (seen r.now)) }
@@ -119,25 +121,44 @@ pub fn after_close<'a>(tokens: &'a [Token<'a>]) -> Option<&'a [Token<'a>]>
     }
 }
 
-/// The tokens behind `)`, which must come first.
-pub fn close<'a>(tokens: &'a [Token<'a>]) -> Result<&'a [Token<'a>], Refusal>
-    ensures { Gives (λ r. seen r.now) result (close_at (seen tokens.now)) }
+/// The tokens after `while`.
+pub(crate) fn after_while<'a>(tokens: &'a [Token<'a>]) -> Option<&'a [Token<'a>]>
+    ensures { MatchOption result (while_at (seen tokens.now) ≡ Err SyntaxFault)
+        (λ r. while_at (seen tokens.now) ≡ Ok (seen r.now)) }
 {
     match tokens {
         [
             Token {
-                kind: TokenKind::Punctuator(Punctuator::CloseParen),
+                kind: TokenKind::Keyword(Keyword::While),
                 ..
             },
             rest @ ..,
-        ] => Ok(rest),
-        _ => Err(stopped(tokens)),
+        ] => Some(rest),
+        _ => None,
     }
 }
 
-/// The tokens behind `]`, which must come first.
-pub fn close_bracket<'a>(tokens: &'a [Token<'a>]) -> Result<&'a [Token<'a>], Refusal>
-    ensures { Gives (λ r. seen r.now) result (bracket_at (seen tokens.now)) }
+/// The tokens after `;`.
+pub fn after_semicolon<'a>(tokens: &'a [Token<'a>]) -> Option<&'a [Token<'a>]>
+    ensures { MatchOption result (semicolon_at (seen tokens.now) ≡ Err SyntaxFault)
+        (λ r. semicolon_at (seen tokens.now) ≡ Ok (seen r.now)) }
+{
+    match tokens {
+        [
+            Token {
+                kind: TokenKind::Punctuator(Punctuator::Semicolon),
+                ..
+            },
+            rest @ ..,
+        ] => Some(rest),
+        _ => None,
+    }
+}
+
+/// The tokens after `]`.
+pub(crate) fn after_close_bracket<'a>(tokens: &'a [Token<'a>]) -> Option<&'a [Token<'a>]>
+    ensures { MatchOption result (bracket_at (seen tokens.now) ≡ Err SyntaxFault)
+        (λ r. bracket_at (seen tokens.now) ≡ Ok (seen r.now)) }
 {
     match tokens {
         [
@@ -146,14 +167,15 @@ pub fn close_bracket<'a>(tokens: &'a [Token<'a>]) -> Result<&'a [Token<'a>], Ref
                 ..
             },
             rest @ ..,
-        ] => Ok(rest),
-        _ => Err(stopped(tokens)),
+        ] => Some(rest),
+        _ => None,
     }
 }
 
-/// The tokens behind `:`, which must come first.
-pub(crate) fn colon<'a>(tokens: &'a [Token<'a>]) -> Result<&'a [Token<'a>], Refusal>
-    ensures { Gives (λ r. seen r.now) result (colon_at (seen tokens.now)) }
+/// The tokens after `:`.
+pub(crate) fn after_colon<'a>(tokens: &'a [Token<'a>]) -> Option<&'a [Token<'a>]>
+    ensures { MatchOption result (colon_at (seen tokens.now) ≡ Err SyntaxFault)
+        (λ r. colon_at (seen tokens.now) ≡ Ok (seen r.now)) }
 {
     match tokens {
         [
@@ -162,14 +184,15 @@ pub(crate) fn colon<'a>(tokens: &'a [Token<'a>]) -> Result<&'a [Token<'a>], Refu
                 ..
             },
             rest @ ..,
-        ] => Ok(rest),
-        _ => Err(stopped(tokens)),
+        ] => Some(rest),
+        _ => None,
     }
 }
 
-/// The tokens behind `in`, which must come first.
-pub(crate) fn in_word<'a>(tokens: &'a [Token<'a>]) -> Result<&'a [Token<'a>], Refusal>
-    ensures { Gives (λ r. seen r.now) result (in_at (seen tokens.now)) }
+/// The tokens after `in`.
+pub fn after_in<'a>(tokens: &'a [Token<'a>]) -> Option<&'a [Token<'a>]>
+    ensures { MatchOption result (in_at (seen tokens.now) ≡ Err SyntaxFault)
+        (λ r. in_at (seen tokens.now) ≡ Ok (seen r.now)) }
 {
     match tokens {
         [
@@ -178,17 +201,15 @@ pub(crate) fn in_word<'a>(tokens: &'a [Token<'a>]) -> Result<&'a [Token<'a>], Re
                 ..
             },
             rest @ ..,
-        ] => Ok(rest),
-        _ => Err(stopped(tokens)),
+        ] => Some(rest),
+        _ => None,
     }
 }
 
-/// A name, which must come first, and the tokens after it.
-pub fn name<'a>(
-    alloc: Global,
-    tokens: &'a [Token<'a>],
-) -> Result<(Vec<u8>, &'a [Token<'a>]), Refusal>
-    ensures { Gives (λ n. (n.0.items, seen n.1.now)) result (name_at (seen tokens.now)) }
+/// A name, and the tokens after it.
+pub fn after_name<'a>(tokens: &'a [Token<'a>]) -> Option<(&'a [u8], &'a [Token<'a>])>
+    ensures { MatchOption result (name_at (seen tokens.now) ≡ Err SyntaxFault)
+        (λ n. name_at (seen tokens.now) ≡ Ok (n.0.now, seen n.1.now)) }
 {
     match tokens {
         [
@@ -198,8 +219,8 @@ pub fn name<'a>(
                 ..
             },
             rest @ ..,
-        ] => Ok((text.to_vec(alloc)?, rest)),
-        _ => Err(stopped(tokens)),
+        ] => Some((text, rest)),
+        _ => None,
     }
 }
 
@@ -241,7 +262,7 @@ pub fn begins_expr(tokens: &[Token<'_>]) -> bool
 }
 
 /// What the first token is to the end of the expression before it.
-pub(crate) fn next_of(tokens: &[Token<'_>]) -> Next
+fn next_of(tokens: &[Token<'_>]) -> Next
     ensures { view_next result ≡ class_at (seen tokens.now) }
 {
     let [first, ..] = tokens else {
@@ -257,33 +278,46 @@ pub(crate) fn next_of(tokens: &[Token<'_>]) -> Next
     }
 }
 
+/// Whether an LValue may begin here.
+pub(crate) fn begins_lvalue(tokens: &[Token<'_>]) -> bool
+    ensures { result ≡ is_start (class_at (seen tokens.now)) }
+{
+    matches!(next_of(tokens), Next::LValue)
+}
+
+/// What stands between two sides.
+#[derive(Clone, Copy)]
+pub(crate) enum Infix {
+    Binary(BinaryOp),
+    Assign(AssignOp),
+}
+
 /// What joins an expression to what follows it.
 #[derive(Clone, Copy)]
 pub(crate) enum Link {
-    Binary(BinaryOp),
-    Assign(AssignOp),
+    Joined(Infix),
     In,
     Question,
 }
 
 /// The level of the expression that a link makes.
-pub(crate) fn link_level(link: Link) -> u8
+fn link_level(link: Link) -> u8
     ensures { result ≡ link_level (view_link link) }
 {
     match link {
-        Link::Binary(op) => binary_level(op),
-        Link::Assign(_) | Link::In => 3,
+        Link::Joined(Infix::Binary(op)) => binary_level(op),
+        Link::Joined(Infix::Assign(_)) | Link::In => 3,
         Link::Question => 0,
     }
 }
 
 /// The least level of what stands before a link.
-pub(crate) fn link_left(link: Link) -> u8
+fn link_left(link: Link) -> u8
     ensures { result ≡ link_left (view_link link) }
 {
     match link {
-        Link::Binary(op) => left_floor(op),
-        Link::Assign(_) => 13,
+        Link::Joined(Infix::Binary(op)) => left_floor(op),
+        Link::Joined(Infix::Assign(_)) => 13,
         Link::In => 3,
         Link::Question => 1,
     }
@@ -295,41 +329,41 @@ fn infix_of(greater: bool, mark: Punctuator) -> Option<Link>
         (λ l. infix_link greater (mark_lexeme mark) ≡ Some (view_link l)) }
 {
     let link = match mark {
-        Punctuator::Plus => Link::Binary(BinaryOp::Add),
-        Punctuator::Minus => Link::Binary(BinaryOp::Subtract),
-        Punctuator::Star => Link::Binary(BinaryOp::Multiply),
-        Punctuator::Slash => Link::Binary(BinaryOp::Divide),
-        Punctuator::Percent => Link::Binary(BinaryOp::Modulo),
-        Punctuator::Caret => Link::Binary(BinaryOp::Power),
-        Punctuator::Less => Link::Binary(BinaryOp::Less),
-        Punctuator::LessEqual => Link::Binary(BinaryOp::LessEqual),
-        Punctuator::Equal => Link::Binary(BinaryOp::Equal),
-        Punctuator::NotEqual => Link::Binary(BinaryOp::NotEqual),
-        Punctuator::GreaterEqual => Link::Binary(BinaryOp::GreaterEqual),
-        Punctuator::Tilde => Link::Binary(BinaryOp::Match),
-        Punctuator::NotTilde => Link::Binary(BinaryOp::NoMatch),
-        Punctuator::And => Link::Binary(BinaryOp::And),
-        Punctuator::Or => Link::Binary(BinaryOp::Or),
-        Punctuator::Assign => Link::Assign(AssignOp::Set),
-        Punctuator::PlusAssign => Link::Assign(AssignOp::Add),
-        Punctuator::MinusAssign => Link::Assign(AssignOp::Subtract),
-        Punctuator::StarAssign => Link::Assign(AssignOp::Multiply),
-        Punctuator::SlashAssign => Link::Assign(AssignOp::Divide),
-        Punctuator::PercentAssign => Link::Assign(AssignOp::Modulo),
-        Punctuator::CaretAssign => Link::Assign(AssignOp::Power),
+        Punctuator::Plus => Link::Joined(Infix::Binary(BinaryOp::Add)),
+        Punctuator::Minus => Link::Joined(Infix::Binary(BinaryOp::Subtract)),
+        Punctuator::Star => Link::Joined(Infix::Binary(BinaryOp::Multiply)),
+        Punctuator::Slash => Link::Joined(Infix::Binary(BinaryOp::Divide)),
+        Punctuator::Percent => Link::Joined(Infix::Binary(BinaryOp::Modulo)),
+        Punctuator::Caret => Link::Joined(Infix::Binary(BinaryOp::Power)),
+        Punctuator::Less => Link::Joined(Infix::Binary(BinaryOp::Less)),
+        Punctuator::LessEqual => Link::Joined(Infix::Binary(BinaryOp::LessEqual)),
+        Punctuator::Equal => Link::Joined(Infix::Binary(BinaryOp::Equal)),
+        Punctuator::NotEqual => Link::Joined(Infix::Binary(BinaryOp::NotEqual)),
+        Punctuator::GreaterEqual => Link::Joined(Infix::Binary(BinaryOp::GreaterEqual)),
+        Punctuator::Tilde => Link::Joined(Infix::Binary(BinaryOp::Match)),
+        Punctuator::NotTilde => Link::Joined(Infix::Binary(BinaryOp::NoMatch)),
+        Punctuator::And => Link::Joined(Infix::Binary(BinaryOp::And)),
+        Punctuator::Or => Link::Joined(Infix::Binary(BinaryOp::Or)),
+        Punctuator::Assign => Link::Joined(Infix::Assign(AssignOp::Set)),
+        Punctuator::PlusAssign => Link::Joined(Infix::Assign(AssignOp::Add)),
+        Punctuator::MinusAssign => Link::Joined(Infix::Assign(AssignOp::Subtract)),
+        Punctuator::StarAssign => Link::Joined(Infix::Assign(AssignOp::Multiply)),
+        Punctuator::SlashAssign => Link::Joined(Infix::Assign(AssignOp::Divide)),
+        Punctuator::PercentAssign => Link::Joined(Infix::Assign(AssignOp::Modulo)),
+        Punctuator::CaretAssign => Link::Joined(Infix::Assign(AssignOp::Power)),
         Punctuator::Question => Link::Question,
         Punctuator::Greater => {
             if !greater {
                 return None;
             }
-            Link::Binary(BinaryOp::Greater)
+            Link::Joined(Infix::Binary(BinaryOp::Greater))
         }
         _ => return None,
     };
     Some(link)
 }
 
-/// Whether an expression may begin with this token and stand directly behind another.
+/// Whether an expression may begin with this token and stand directly after another.
 fn begins_operand(token: &Token<'_>) -> bool
     ensures { result ≡ begins_operand (lexeme_of (spelled token.now)) }
 {
@@ -364,12 +398,8 @@ fn infix_at(greater: bool, token: &Token<'_>) -> Option<Link>
     }
 }
 
-/// What joins an expression to the tokens, and those behind it; juxtaposition has no token.
-#[tactic(auto, using(crate::proofs::Peeks::link_joins, crate::proofs::Peeks::link_none, crate::proofs::Peeks::link_some))]
-pub(crate) fn next_link<'a>(
-    greater: bool,
-    tokens: &'a [Token<'a>],
-) -> Option<(Link, &'a [Token<'a>])>
+/// What joins an expression to the tokens, and those after it; juxtaposition has no token.
+fn next_link<'a>(greater: bool, tokens: &'a [Token<'a>]) -> Option<(Link, &'a [Token<'a>])>
     ensures { MatchOption result (link_at greater (seen tokens.now) ≡ None)
         (λ o. link_at greater (seen tokens.now) ≡ Some (view_link o.0, seen o.1.now)) }
 {
@@ -377,8 +407,36 @@ pub(crate) fn next_link<'a>(
         return None;
     };
     if begins_operand(first) {
-        return Some((Link::Binary(BinaryOp::Concat), tokens));
+        return Some((Link::Joined(Infix::Binary(BinaryOp::Concat)), tokens));
     }
     let link = infix_at(greater, first)?;
+    Some((link, rest))
+}
+
+/// Whether a link does not take the expression as its left side where this level is the least.
+fn stops(least: u8, left: &Expr, tokens: &[Token<'_>], link: Link) -> bool
+    ensures { result ≡ stops least (view left.now) (seen tokens.now) (view_link link) }
+{
+    link_level(link) < least
+        || !has_edge(link_left(link), left)
+        || takes(true, left, next_of(tokens))
+}
+
+/// What joins an expression to the tokens where this level is the least, and those after it.
+#[inline(never)]
+pub(crate) fn joining<'a>(
+    greater: bool,
+    least: u8,
+    left: &Expr,
+    tokens: &'a [Token<'a>],
+) -> Option<(Link, &'a [Token<'a>])>
+    ensures { MatchOption result (joining_at greater least (view left.now) (seen tokens.now) ≡ None)
+        (λ o. joining_at greater least (view left.now) (seen tokens.now)
+        ≡ Some (view_link o.0, seen o.1.now)) }
+{
+    let (link, rest) = next_link(greater, tokens)?;
+    if stops(least, left, tokens, link) {
+        return None;
+    }
     Some((link, rest))
 }

@@ -11,8 +11,10 @@ use Rattle.awk_grammar.specs.declared.tree.Stmt.{Stmt}
 use Rattle.awk_expressions.specs.declared.fault.Refusal.{Refusal}
 use Rattle.awk_expressions.specs.declared.fault.Refusal.TheVariants.{Syntax as SyntaxRefusal}
 use Rattle.awk_statements.specs.Bodies.{stmts_then, with_one}
-use Rattle.awk_statements.specs.Went.{At, stands, ended, Went, Held, is_read}
-use Rattle.awk_statements.proofs.Went.{then, stays, came, fails_here, goes_as, none_went}
+use Rattle.awk_expressions.specs.Went.{At, stands, ended, Went, is_read}
+use Rattle.awk_statements.specs.Bodies.{Held}
+use Rattle.awk_expressions.proofs.Went.{then, stays, came, fails_here, goes_as}
+use Rattle.awk_statements.proofs.Held.{none_went}
 
 pub stmts_push : (ss : List Stmt) (s : Stmt) → view_stmts (ss ++ (s ∷ [])) ≡ stmts_then (view_stmts ss) (And (view_stmt s) NoStmt)
 stmts_push [] s = refl

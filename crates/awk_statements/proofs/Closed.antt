@@ -11,7 +11,7 @@ use Rattle.awk_grammar.specs.declared.tree.Stmt.{Stmt as ScriptStmt}
 use Rattle.awk_statements.specs.declared.head.Head.{Head}
 use Rattle.awk_statements.specs.declared.head.Lead.{Lead}
 use Rattle.awk_statements.specs.Bodies.{view_boxed, view_head, view_lead, closed_at}
-use Rattle.awk_statements.specs.Went.{At, Went, is_read}
+use Rattle.awk_expressions.specs.Went.{At, Went, is_read}
 
 pub closes : (expr : Reader) (given held l : Lead) (body : Option (Box ScriptStmt Global)) (b : Box ScriptStmt Global) (s : Stmt) (s0 s1 : At) → (held ≡ given) × (body ≡ Some b) → held ≡ l → Went s s0 s1 (closed_at expr (view_lead l) (view_stmt b.value)) → Went s s0 s1 (closed_at expr (view_lead given) (view_boxed body))
 closes expr given held l body b s s0 s1 h e w = rw (sym h.0 ∙ e, h.1) w

@@ -11,8 +11,8 @@ use Rattle.awk_grammar.specs.ViewStmt.{view_names}
 use Rattle.awk_grammar.proofs.Sound.{name_ok}
 use Rattle.awk_expressions.specs.declared.fault.Refusal.{Refusal}
 use Rattle.awk_statements.specs.Names.{with_names}
-use Rattle.awk_statements.specs.Went.{At, stands, Went, is_read}
-use Rattle.awk_statements.proofs.Went.{then, stays, came, goes_on, goes_as}
+use Rattle.awk_expressions.specs.Went.{At, stands, Went, is_read}
+use Rattle.awk_expressions.proofs.Went.{then, stays, came, goes_on, goes_as}
 
 -- names and one more
 abbrev one_name : List (List ℕ) → List Token → Read (List (List ℕ))

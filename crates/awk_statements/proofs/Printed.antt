@@ -9,8 +9,8 @@ use Rattle.awk_grammar.specs.ReadStmt.{Read, starts_expr, open_here, comma_here,
 use Rattle.awk_expressions.specs.declared.fault.Refusal.{Refusal}
 use Rattle.awk_expressions.specs.declared.fault.Refusal.TheVariants as refusals
 use Rattle.awk_statements.specs.Bodies.{enclosed_args_at}
-use Rattle.awk_statements.specs.Went.{At, stands, Went, IsSyntax, IsNoSyntax}
-use Rattle.awk_statements.proofs.Went.{binds, goes_as, goes_nowhere}
+use Rattle.awk_expressions.specs.Went.{At, stands, Went, IsSyntax, IsNoSyntax}
+use Rattle.awk_expressions.proofs.Went.{binds, goes_as, goes_nowhere}
 
 abbrev enclosing : (Tree × Trees) × List Token → Read Args
 enclosing x = Ok (Enclosed x.0.0 x.0.1, x.1)

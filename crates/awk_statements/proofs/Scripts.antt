@@ -13,8 +13,8 @@ use Rattle.awk_expressions.specs.declared.fault.Refusal.{Refusal}
 use Rattle.awk_expressions.specs.declared.fault.Refusal.TheVariants.{Syntax as SyntaxRefusal}
 use Rattle.awk_expressions.specs.Seen.{Fails}
 use Rattle.awk_statements.specs.Starts.{open_brace_at}
-use Rattle.awk_statements.specs.Went.{At, stands, ended, Went, Ends, is_read}
-use Rattle.awk_statements.proofs.Went.{then, then_ends, stays, all_came, fails_all, ends_as}
+use Rattle.awk_expressions.specs.Went.{At, stands, ended, Went, Ends, is_read}
+use Rattle.awk_expressions.proofs.Went.{then, then_ends, stays, all_came, fails_all, ends_as}
 
 pub body_some : (d : ℕ) (ts us : List Token) → open_brace_at ts ≡ Some us → body_at d ts ≡ stmts_at (stmt_at d) (length us) us
 body_some d (OpenBrace ∷ ts) us e = let q : ts ≡ us = cc in rw q refl

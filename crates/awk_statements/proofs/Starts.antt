@@ -10,7 +10,7 @@ use Rattle.awk_statements.specs.declared.start.LoopWord.TheVariants as loops
 use Rattle.awk_statements.specs.declared.start.Short.{Short}
 use Rattle.awk_statements.specs.declared.start.Short.TheVariants as shorts
 use Rattle.awk_statements.specs.Bodies.{Opened, keyed_by, closed_at, looped_at, loop_by, short_at}
-use Rattle.awk_statements.proofs.Went.{binds}
+use Rattle.awk_expressions.proofs.Went.{binds}
 use Rattle.awk_statements.specs.Starts.{redirected_at, target_by, deleted_by, deed_at, plain_by, Start, lead_at, one_by, view_short, opening_at, item_by}
 
 pub target_is : (expr : Reader) (ts : List Token) → target_at expr ts ≡ target_by expr ts (redirected_at ts)

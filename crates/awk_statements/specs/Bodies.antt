@@ -1,4 +1,4 @@
--- Statements from behind what was read of them.
+-- Statements from after what was read of them.
 use Rattle.std.specs.Prelude.{ℕ, true, List, Option, Some, None, Result, Ok, Err, if◌then◌else◌}
 use Rattle.std.specs.declared.boxed.Box.{Box}
 use Rattle.std.specs.declared.alloc.Global.{Global}
@@ -10,6 +10,7 @@ use Rattle.awk_grammar.specs.ReadStmt.{Read, StmtReader, is_in, open_here, comma
 use Rattle.awk_grammar.specs.ViewStmt.{view_stmt, view_maybe, view_maybe_simple, view_jump, view_leaving}
 use Rattle.awk_grammar.specs.View.{view}
 use Rattle.awk_grammar.specs.declared.tree.Stmt.{Stmt as ScriptStmt}
+use Rattle.awk_expressions.specs.Went.{At}
 use Rattle.awk_statements.specs.declared.head.Head.{Head}
 use Rattle.awk_statements.specs.declared.head.Lead.{Lead}
 use Rattle.awk_statements.specs.declared.head.Lead.TheVariants as leads
@@ -22,6 +23,11 @@ use Rattle.awk_statements.specs.declared.start.Short.TheVariants as shorts
 abbrev pub view_boxed : Option (Box ScriptStmt Global) → Stmt
 view_boxed (Some b) = view_stmt b.value
 view_boxed None = Empty
+
+-- there is something, unless reading stopped
+abbrev pub Held : {A : Type 0} → Option A → At → Type 0
+Held None (Ok us) = ⊥
+Held _ _ = Unit {0}
 
 abbrev pub stmts_then : Stmts → Stmts → Stmts
 stmts_then NoStmt us = us
@@ -86,7 +92,7 @@ lead_by expr loops.While ts = condition_at expr ts >>= λ c. Ok (Looped c.0, c.1
 lead_by expr loops.Do ts = Ok (Repeated, ts)
 lead_by expr loops.For ts = open_here ts >>= keyed_at expr
 
--- ---- the statement, from behind the one within it
+-- ---- the statement, from after the one within it
 
 abbrev pub closed_at : Reader → Opened → Stmt → List Token → Read Stmt
 closed_at expr (Tested t) s ts = Ok (If t s, ts)

@@ -1,4 +1,3 @@
 pub mod Bodies
 pub mod Names
 pub mod Starts
-pub mod Went

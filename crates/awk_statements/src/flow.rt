@@ -3,27 +3,25 @@
 //! One call of this file waits within another for each level of a script. So a waiting call holds trees of statements in boxes alone, and what it does beside
 //! reading a statement stands in functions that are not inlined: else their places would be a part of its frame.
 
-ghost use Rattle.std.specs.Prelude.{◌≡◌, ◌<◌, length};
+ghost use Rattle.std.specs.Prelude.{length};
 ghost use Rattle.awk_grammar.specs.Reading.{expr_at};
 ghost use Rattle.awk_grammar.specs.ReadStmt.{stmts_at, if_at, simple_at, stmt_at};
 ghost use Rattle.awk_grammar.specs.ViewStmt.{view_stmt, view_stmts};
-ghost use Rattle.awk_statements.specs.Bodies.{view_boxed, looped_at, short_at, ended_at};
-ghost use Rattle.awk_statements.specs.Went.{at, Went, Held};
+ghost use Rattle.awk_expressions.specs.Went.{at, Went};
+ghost use Rattle.awk_statements.specs.Bodies.{Held, view_boxed, looped_at, short_at, ended_at};
 
 use crate::head::{Lead, loop_lead};
-use crate::node::{block_of, closed, on_heap};
+use crate::node::{block_of, both, closed, on_heap};
 use crate::peek::{after_brace, after_else};
-use crate::source::{Mark, Source, both};
 use crate::start::{LoopWord, Short, StmtStart, stmt_start};
 use crate::stmt::{condition, optional, simple};
-use awk_expressions::{Refusal, line_of, stopped};
+use awk_expressions::{Mark, Refusal, Source, line_of, stopped};
 use awk_grammar::Stmt;
 
 /// A statement of at most this depth; none where reading stopped.
 #[cycle(flow)]
 #[inline(never)]
 pub(crate) fn statement(source: &mut Source<'_>, limit: u32) -> Option<Box<Stmt>>
-    requires room { limit < 4294967295 }
     ensures read { Went (view_boxed result) (at source.old) (at source.new) (stmt_at limit) }
     ensures held { Held result (at source.new) }
 {
@@ -58,7 +56,6 @@ pub(crate) fn statement(source: &mut Source<'_>, limit: u32) -> Option<Box<Stmt>
 #[cycle(flow)]
 #[inline(never)]
 pub(crate) fn statements(source: &mut Source<'_>, limit: u32) -> Vec<Stmt>
-    requires room { limit < 4294967295 }
     ensures { Went (view_stmts result.items) (at source.old) (at source.new)
         (λ ts. stmts_at (stmt_at limit) (length ts) ts) }
 {
@@ -82,7 +79,6 @@ pub(crate) fn statements(source: &mut Source<'_>, limit: u32) -> Vec<Stmt>
 #[cycle(flow)]
 #[inline(never)]
 fn if_statement(source: &mut Source<'_>, limit: u32) -> Option<Box<Stmt>>
-    requires room { limit < 4294967295 }
     ensures read { Went (view_boxed result) (at source.old) (at source.new)
         (if_at (expr_at limit) (stmt_at limit)) }
     ensures held { Held result (at source.new) }
@@ -102,7 +98,6 @@ fn if_statement(source: &mut Source<'_>, limit: u32) -> Option<Box<Stmt>>
 #[cycle(flow)]
 #[inline(never)]
 fn loop_statement(source: &mut Source<'_>, limit: u32, word: LoopWord) -> Option<Box<Stmt>>
-    requires room { limit < 4294967295 }
     ensures read { Went (view_boxed result) (at source.old) (at source.new)
         (looped_at (expr_at limit) (stmt_at limit) word) }
     ensures held { Held result (at source.new) }
@@ -115,7 +110,6 @@ fn loop_statement(source: &mut Source<'_>, limit: u32, word: LoopWord) -> Option
 /// What stands after the word of a statement that is only a word and at most an expression.
 #[inline(never)]
 fn short(source: &mut Source<'_>, limit: u32, start: Short) -> Option<Box<Stmt>>
-    requires room { limit < 4294967295 }
     ensures read { Went (view_boxed result) (at source.old) (at source.new)
         (short_at (expr_at limit) start) }
     ensures held { Held result (at source.new) }
@@ -132,7 +126,6 @@ fn short(source: &mut Source<'_>, limit: u32, start: Short) -> Option<Box<Stmt>>
 
 #[inline(never)]
 fn simple_statement(source: &mut Source<'_>, limit: u32) -> Option<Box<Stmt>>
-    requires room { limit < 4294967295 }
     ensures read { Went (view_boxed result) (at source.old) (at source.new)
         (simple_at (expr_at limit)) }
     ensures held { Held result (at source.new) }

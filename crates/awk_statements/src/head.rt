@@ -1,14 +1,13 @@
 //! What stands before the statement within another.
 
-ghost use Rattle.std.specs.Prelude.{◌<◌};
 ghost use Rattle.awk_grammar.specs.Reading.{expr_at};
+ghost use Rattle.awk_expressions.specs.Went.{at, Went};
 ghost use Rattle.awk_statements.specs.Bodies.{view_lead, lead_by, keyed_at, counted_at};
-ghost use Rattle.awk_statements.specs.Went.{at, Went};
 
 use crate::peek::keys;
-use crate::source::{Mark, Source};
 use crate::start::LoopWord;
 use crate::stmt::{condition, optional, optional_simple};
+use awk_expressions::{Mark, Source};
 use awk_grammar::{Expr, SimpleStmt, Stmt};
 
 /// What a counted loop does first, its condition, and what it does after each turn.
@@ -34,7 +33,6 @@ pub(crate) enum Lead {
 /// What stands between the word of a loop and its body.
 #[inline(never)]
 pub(crate) fn loop_lead(source: &mut Source<'_>, limit: u32, word: LoopWord) -> Lead
-    requires room { limit < 4294967295 }
     ensures { Went (view_lead result) (at source.old) (at source.new)
         (lead_by (expr_at limit) word) }
 {
@@ -50,7 +48,6 @@ pub(crate) fn loop_lead(source: &mut Source<'_>, limit: u32, word: LoopWord) -> 
 
 /// What stands between `for (` and the body.
 fn keyed(source: &mut Source<'_>, limit: u32) -> Lead
-    requires room { limit < 4294967295 }
     ensures { Went (view_lead result) (at source.old) (at source.new) (keyed_at (expr_at limit)) }
 {
     let Some((key, array, rest)) = keys(source.rest) else {
@@ -64,7 +61,6 @@ fn keyed(source: &mut Source<'_>, limit: u32) -> Lead
 
 /// What stands between `for (` and the body of a counted loop.
 fn counted(source: &mut Source<'_>, limit: u32) -> Lead
-    requires room { limit < 4294967295 }
     ensures { Went (view_lead result) (at source.old) (at source.new)
         (counted_at (expr_at limit)) }
 {

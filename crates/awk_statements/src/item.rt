@@ -7,14 +7,15 @@ ghost use Rattle.awk_grammar.specs.Lexeme.{spoken_after};
 ghost use Rattle.awk_grammar.specs.ReadItem.{body_at, names_at, params_at, function_at, pattern_at, rule_at, item_at, script_at};
 ghost use Rattle.awk_grammar.specs.ViewStmt.{view_names, view_pattern, view_item, view_items, view_stmts};
 ghost use Rattle.awk_expressions.specs.Seen.{seen, Gives};
+ghost use Rattle.awk_expressions.specs.Went.{stands, at, Went, Ends};
 ghost use Rattle.awk_statements.specs.Names.{with_names};
-ghost use Rattle.awk_statements.specs.Went.{stands, at, Went, Ends};
 
 use crate::flow::statements;
-use crate::peek::{after_function_name, after_name, after_open_brace, after_semicolon};
-use crate::source::{Mark, Source};
+use crate::peek::{after_function_name, after_open_brace};
 use crate::start::{ItemStart, item_start, taken};
-use awk_expressions::{Mode, Refusal, after_comma, stopped};
+use awk_expressions::{
+    Mark, Mode, Refusal, Source, after_comma, after_name, after_semicolon, expression, stopped,
+};
 use awk_grammar::{Item, MAX_DEPTH, Pattern, Stmt};
 use awk_tokens::Token;
 use std::alloc::Global;
@@ -88,12 +89,12 @@ fn pattern(source: &mut Source<'_>) -> Pattern
     ensures { Went (view_pattern result) (at source.old) (at source.new)
         (pattern_at most_depth) }
 {
-    let first = source.expression(MAX_DEPTH, Mode::Whole);
+    let first = expression(source, MAX_DEPTH, true, Mode::Whole);
     let Some(rest) = after_comma(source.rest) else {
         return Pattern::One(first);
     };
     source.go_on(rest);
-    let last = source.expression(MAX_DEPTH, Mode::Whole);
+    let last = expression(source, MAX_DEPTH, true, Mode::Whole);
     Pattern::Range(first, last)
 }
 

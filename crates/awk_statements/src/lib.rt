@@ -6,7 +6,6 @@ mod head;
 mod item;
 mod node;
 mod peek;
-mod source;
 mod start;
 mod stmt;
 

@@ -1,15 +1,15 @@
 //! Statements that hold others, on the heap.
 
-ghost use Rattle.std.specs.Prelude.{◌<◌};
+ghost use Rattle.std.specs.Prelude.{◌≡◌, MatchOption, None, Some};
 ghost use Rattle.awk_grammar.specs.Reading.{expr_at};
 ghost use Rattle.awk_grammar.specs.Stmt.{Block};
 ghost use Rattle.awk_grammar.specs.ViewStmt.{view_stmt, view_stmts};
-ghost use Rattle.awk_statements.specs.Bodies.{view_boxed, view_lead, closed_at};
-ghost use Rattle.awk_statements.specs.Went.{at, Went, Held, is_read};
+ghost use Rattle.awk_expressions.specs.Went.{at, Went, is_read};
+ghost use Rattle.awk_statements.specs.Bodies.{Held, view_boxed, view_lead, closed_at};
 
 use crate::head::{Head, Lead};
-use crate::source::{Mark, Source, both};
 use crate::stmt::condition;
+use awk_expressions::{Mark, Source};
 use awk_grammar::Stmt;
 
 /// A statement on the heap; none where reading stopped.
@@ -31,6 +31,16 @@ pub(crate) fn block_of(source: &mut Source<'_>, inner: Vec<Stmt>) -> Option<Box<
     on_heap(source, Stmt::Block(inner))
 }
 
+/// What is held, and what was read after it; none where reading stopped, and what is held is let go.
+pub(crate) fn both<T: Drop, U>(held: T, read: Option<U>) -> Option<(T, U)>
+    ensures { MatchOption result (read ≡ None) (λ x. (x.0 ≡ held) × (read ≡ Some x.1)) }
+{
+    match read {
+        Some(read) => Some((held, read)),
+        None => None,
+    }
+}
+
 /// A statement with another within, from what stands before that one.
 #[inline(never)]
 pub(crate) fn closed(
@@ -39,8 +49,7 @@ pub(crate) fn closed(
     lead: Lead,
     body: Option<Box<Stmt>>,
 ) -> Option<Box<Stmt>>
-    requires room { limit < 4294967295 }
-    requires body { Held body (at source.old) }
+    requires { Held body (at source.old) }
     ensures read { Went (view_boxed result) (at source.old) (at source.new)
         (closed_at (expr_at limit) (view_lead lead) (view_boxed body)) }
     ensures held { Held result (at source.new) }

@@ -4,73 +4,15 @@ ghost use Rattle.std.specs.Prelude.{◌≡◌, MatchOption, None, Some, Ok, Err,
 ghost use Rattle.awk_tokens.specs.Views.{spelled};
 ghost use Rattle.awk_grammar.specs.Lexeme.{spoken_after};
 ghost use Rattle.awk_grammar.specs.Token.{Syntax as SyntaxFault};
-ghost use Rattle.awk_grammar.specs.Reading.{in_at, index_at, name_at};
-ghost use Rattle.awk_grammar.specs.ReadStmt.{open_here, comma_here, semicolon_at, while_at, else_at, brace_at, keys_at, is_in};
-ghost use Rattle.awk_expressions.specs.Seen.{seen, Gives};
+ghost use Rattle.awk_grammar.specs.Reading.{name_at};
+ghost use Rattle.awk_grammar.specs.ReadStmt.{else_at, brace_at, keys_at, is_in};
+ghost use Rattle.awk_expressions.specs.Seen.{seen};
 ghost use Rattle.awk_statements.specs.Starts.{open_brace_at};
 
-use awk_expressions::{Refusal, after_close, stopped};
+use awk_expressions::{after_close, after_in, after_name};
 use awk_tokens::{Keyword, Punctuator, Token, TokenKind};
 
-/// The tokens behind `(`, which must come first.
-pub(crate) fn open<'a>(tokens: &'a [Token<'a>]) -> Result<&'a [Token<'a>], Refusal>
-    ensures { Gives (λ r. seen r.now) result (open_here (seen tokens.now)) }
-{
-    match tokens {
-        [
-            Token {
-                kind: TokenKind::Punctuator(Punctuator::OpenParen),
-                ..
-            },
-            rest @ ..,
-        ] => Ok(rest),
-        _ => Err(stopped(tokens)),
-    }
-}
-
-/// The tokens behind `,`, which must come first.
-pub(crate) fn comma<'a>(tokens: &'a [Token<'a>]) -> Result<&'a [Token<'a>], Refusal>
-    ensures { Gives (λ r. seen r.now) result (comma_here (seen tokens.now)) }
-{
-    match tokens {
-        [
-            Token {
-                kind: TokenKind::Punctuator(Punctuator::Comma),
-                ..
-            },
-            rest @ ..,
-        ] => Ok(rest),
-        _ => Err(stopped(tokens)),
-    }
-}
-
-/// The tokens behind `;`, which must come first.
-pub(crate) fn semicolon<'a>(tokens: &'a [Token<'a>]) -> Result<&'a [Token<'a>], Refusal>
-    ensures { Gives (λ r. seen r.now) result (semicolon_at (seen tokens.now)) }
-{
-    match after_semicolon(tokens) {
-        Some(rest) => Ok(rest),
-        None => Err(stopped(tokens)),
-    }
-}
-
-/// The tokens behind `while`, which must come first.
-pub(crate) fn while_word<'a>(tokens: &'a [Token<'a>]) -> Result<&'a [Token<'a>], Refusal>
-    ensures { Gives (λ r. seen r.now) result (while_at (seen tokens.now)) }
-{
-    match tokens {
-        [
-            Token {
-                kind: TokenKind::Keyword(Keyword::While),
-                ..
-            },
-            rest @ ..,
-        ] => Ok(rest),
-        _ => Err(stopped(tokens)),
-    }
-}
-
-/// The tokens behind `else`.
+/// The tokens after `else`.
 pub(crate) fn after_else<'a>(tokens: &'a [Token<'a>]) -> Option<&'a [Token<'a>]>
     ensures { MatchOption result (else_at (seen tokens.now) ≡ None)
         (λ r. else_at (seen tokens.now) ≡ Some (seen r.now)) }
@@ -87,7 +29,7 @@ pub(crate) fn after_else<'a>(tokens: &'a [Token<'a>]) -> Option<&'a [Token<'a>]>
     }
 }
 
-/// The tokens behind `}`.
+/// The tokens after `}`.
 pub(crate) fn after_brace<'a>(tokens: &'a [Token<'a>]) -> Option<&'a [Token<'a>]>
     ensures { MatchOption result (brace_at (seen tokens.now) ≡ None)
         (λ r. brace_at (seen tokens.now) ≡ Some (seen r.now)) }
@@ -121,75 +63,6 @@ pub(crate) fn after_open_brace<'a>(tokens: &'a [Token<'a>]) -> Option<&'a [Token
     }
 }
 
-/// The tokens after `[`.
-pub(crate) fn after_bracket<'a>(tokens: &'a [Token<'a>]) -> Option<&'a [Token<'a>]>
-    ensures { MatchOption result (index_at (seen tokens.now) ≡ None)
-        (λ r. index_at (seen tokens.now) ≡ Some (seen r.now)) }
-{
-    match tokens {
-        [
-            Token {
-                kind: TokenKind::Punctuator(Punctuator::OpenBracket),
-                ..
-            },
-            rest @ ..,
-        ] => Some(rest),
-        _ => None,
-    }
-}
-
-/// The tokens behind `in`.
-pub(crate) fn after_in<'a>(tokens: &'a [Token<'a>]) -> Option<&'a [Token<'a>]>
-    ensures { MatchOption result (in_at (seen tokens.now) ≡ Err SyntaxFault)
-        (λ r. in_at (seen tokens.now) ≡ Ok (seen r.now)) }
-{
-    match tokens {
-        [
-            Token {
-                kind: TokenKind::Keyword(Keyword::In),
-                ..
-            },
-            rest @ ..,
-        ] => Some(rest),
-        _ => None,
-    }
-}
-
-/// The tokens behind `;`.
-pub(crate) fn after_semicolon<'a>(tokens: &'a [Token<'a>]) -> Option<&'a [Token<'a>]>
-    ensures { MatchOption result (semicolon_at (seen tokens.now) ≡ Err SyntaxFault)
-        (λ r. semicolon_at (seen tokens.now) ≡ Ok (seen r.now)) }
-{
-    match tokens {
-        [
-            Token {
-                kind: TokenKind::Punctuator(Punctuator::Semicolon),
-                ..
-            },
-            rest @ ..,
-        ] => Some(rest),
-        _ => None,
-    }
-}
-
-/// A name, and the tokens after it.
-pub(crate) fn after_name<'a>(tokens: &'a [Token<'a>]) -> Option<(&'a [u8], &'a [Token<'a>])>
-    ensures { MatchOption result (name_at (seen tokens.now) ≡ Err SyntaxFault)
-        (λ n. name_at (seen tokens.now) ≡ Ok (n.0.now, seen n.1.now)) }
-{
-    match tokens {
-        [
-            Token {
-                kind: TokenKind::Name,
-                text,
-                ..
-            },
-            rest @ ..,
-        ] => Some((text, rest)),
-        _ => None,
-    }
-}
-
 /// A name after `function`, where it may also be one directly before `(`, and the tokens after it.
 pub(crate) fn after_function_name<'a>(
     tokens: &'a [Token<'a>],
@@ -211,15 +84,15 @@ pub(crate) fn after_function_name<'a>(
     }
 }
 
-/// The key, the array and what is behind them, where the tokens are those of `key in array )`.
+/// The key, the array and what is after them, where the tokens are those of `key in array )`.
 pub(crate) fn keys<'a>(tokens: &'a [Token<'a>]) -> Option<(&'a [u8], &'a [u8], &'a [Token<'a>])>
     ensures { MatchOption result (keys_at (seen tokens.now) ≡ None)
         (λ o. keys_at (seen tokens.now) ≡ Some (o.0.now, o.1.now, seen o.2.now)) }
 {
-    let (key, behind) = after_name(tokens)?;
-    let behind = after_in(behind)?;
-    let (array, behind) = after_name(behind)?;
-    let rest = after_close(behind)?;
+    let (key, after) = after_name(tokens)?;
+    let after = after_in(after)?;
+    let (array, after) = after_name(after)?;
+    let rest = after_close(after)?;
     Some((key, array, rest))
 }
 

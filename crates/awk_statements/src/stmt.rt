@@ -1,18 +1,17 @@
 //! Simple statements: expressions, `print`, `printf` and `delete`.
 
-ghost use Rattle.std.specs.Prelude.{◌≡◌, ◌<◌};
+ghost use Rattle.std.specs.Prelude.{◌≡◌};
 ghost use Rattle.awk_grammar.specs.Reading.{expr_at};
 ghost use Rattle.awk_grammar.specs.ReadStmt.{args_at, target_at, put_at, delete_at, plain_at, maybe_at, maybe_plain_at, condition_at, starts_plain};
 ghost use Rattle.awk_grammar.specs.View.{view};
 ghost use Rattle.awk_grammar.specs.ViewStmt.{view_word, view_args, view_target, view_simple, view_maybe, view_maybe_simple};
 ghost use Rattle.awk_expressions.specs.Seen.{seen};
+ghost use Rattle.awk_expressions.specs.Went.{at, Went, Passed};
 ghost use Rattle.awk_statements.specs.Bodies.{no_in, enclosed_args_at};
-ghost use Rattle.awk_statements.specs.Went.{at, Went, Passed};
 
-use crate::peek::{after_bracket, is_in};
-use crate::source::{Mark, Source};
+use crate::peek::is_in;
 use crate::start::{PlainStart, plain_start, redirected, target_of};
-use awk_expressions::{Mode, begins_expr, stopped};
+use awk_expressions::{Mark, Mode, Source, after_bracket, begins_expr, expression, list, stopped};
 use awk_grammar::{Expr, PrintArgs, PrintTarget, PrintWord, SimpleStmt};
 use awk_tokens::{Keyword, Token, TokenKind};
 
@@ -27,14 +26,13 @@ fn no_in(source: &mut Source<'_>)
 
 /// Two expressions or more in parentheses that no `in` follows.
 fn enclosed(source: &mut Source<'_>, limit: u32) -> PrintArgs
-    requires room { limit < 4294967295 }
     ensures { Went (view_args result) (at source.old) (at source.new)
         (enclosed_args_at (expr_at limit)) }
 {
     source.expect(Mark::Open);
-    let first = source.expression(limit, Mode::Whole);
+    let first = expression(source, limit, true, Mode::Whole);
     source.expect(Mark::Comma);
-    let others = source.list(limit, true);
+    let others = list(source, limit, true);
     source.expect(Mark::Close);
     no_in(source);
     PrintArgs::Enclosed(first, others)
@@ -42,7 +40,6 @@ fn enclosed(source: &mut Source<'_>, limit: u32) -> PrintArgs
 
 /// What is printed. The form in parentheses is tried first; where there is none, the list is read from the same place.
 fn print_args(source: &mut Source<'_>, limit: u32, word: PrintWord) -> PrintArgs
-    requires room { limit < 4294967295 }
     ensures { Went (view_args result) (at source.old) (at source.new)
         (args_at (expr_at limit) (view_word word)) }
 {
@@ -56,13 +53,12 @@ fn print_args(source: &mut Source<'_>, limit: u32, word: PrintWord) -> PrintArgs
     let args = enclosed(&mut attempt, limit);
     match source.settled(attempt, args) {
         Some(args) => args,
-        None => PrintArgs::Listed(source.list(limit, false)),
+        None => PrintArgs::Listed(list(source, limit, false)),
     }
 }
 
 /// Where it is printed.
 fn print_target(source: &mut Source<'_>, limit: u32) -> PrintTarget
-    requires room { limit < 4294967295 }
     ensures { Went (view_target result) (at source.old) (at source.new)
         (target_at (expr_at limit)) }
 {
@@ -70,12 +66,11 @@ fn print_target(source: &mut Source<'_>, limit: u32) -> PrintTarget
         return PrintTarget::Output;
     };
     source.go_on(rest);
-    target_of(way, source.expression(limit, Mode::AfterCompare))
+    target_of(way, expression(source, limit, true, Mode::AfterCompare))
 }
 
 /// What stands after `delete`: a name and the subscripts of an element, or the name alone where all elements are deleted.
 fn deletion(source: &mut Source<'_>, limit: u32) -> SimpleStmt
-    requires room { limit < 4294967295 }
     ensures { Went (view_simple result) (at source.old) (at source.new)
         (delete_at (expr_at limit)) }
 {
@@ -84,14 +79,13 @@ fn deletion(source: &mut Source<'_>, limit: u32) -> SimpleStmt
         return SimpleStmt::Clear(array);
     };
     source.go_on(rest);
-    let subscripts = source.list(limit, true);
+    let subscripts = list(source, limit, true);
     source.expect(Mark::CloseBracket);
     SimpleStmt::Delete(array, subscripts)
 }
 
 /// A simple statement.
 pub(crate) fn simple(source: &mut Source<'_>, limit: u32) -> SimpleStmt
-    requires room { limit < 4294967295 }
     ensures { Went (view_simple result) (at source.old) (at source.new)
         (plain_at (expr_at limit)) }
 {
@@ -106,20 +100,19 @@ pub(crate) fn simple(source: &mut Source<'_>, limit: u32) -> SimpleStmt
             source.go_on(rest);
             deletion(source, limit)
         }
-        PlainStart::Value => SimpleStmt::Eval(source.expression(limit, Mode::Whole)),
+        PlainStart::Value => SimpleStmt::Eval(expression(source, limit, true, Mode::Whole)),
     }
 }
 
 /// An expression, if one may begin here.
 pub(crate) fn optional(source: &mut Source<'_>, limit: u32) -> Option<Expr>
-    requires room { limit < 4294967295 }
     ensures { Went (view_maybe result) (at source.old) (at source.new)
         (maybe_at (expr_at limit)) }
 {
     if !begins_expr(source.rest) {
         return None;
     }
-    Some(source.expression(limit, Mode::Whole))
+    Some(expression(source, limit, true, Mode::Whole))
 }
 
 /// Whether a simple statement may begin here.
@@ -137,7 +130,6 @@ fn begins_simple(tokens: &[Token<'_>]) -> bool
 
 /// A simple statement, if one may begin here.
 pub(crate) fn optional_simple(source: &mut Source<'_>, limit: u32) -> Option<SimpleStmt>
-    requires room { limit < 4294967295 }
     ensures { Went (view_maybe_simple result) (at source.old) (at source.new)
         (maybe_plain_at (expr_at limit)) }
 {
@@ -149,11 +141,10 @@ pub(crate) fn optional_simple(source: &mut Source<'_>, limit: u32) -> Option<Sim
 
 /// A condition in parentheses.
 pub(crate) fn condition(source: &mut Source<'_>, limit: u32) -> Expr
-    requires room { limit < 4294967295 }
     ensures { Went (view result) (at source.old) (at source.new) (condition_at (expr_at limit)) }
 {
     source.expect(Mark::Open);
-    let test = source.expression(limit, Mode::Whole);
+    let test = expression(source, limit, true, Mode::Whole);
     source.expect(Mark::Close);
     test
 }

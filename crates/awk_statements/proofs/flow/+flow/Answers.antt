@@ -5,14 +5,15 @@ use Rattle.awk_grammar.specs.ReadStmt.{stmt_at, block_at, if_at, else_at, else_b
 use Rattle.awk_grammar.specs.Stmt.{Block, If, IfElse}
 use Rattle.awk_grammar.specs.ViewStmt.{view_stmts}
 use Rattle.awk_expressions.specs.Seen.{seen}
-use Rattle.awk_expressions.proofs.Binds.{seen_length}
+use Rattle.awk_expressions.proofs.Went.{seen_length}
 use Rattle.awk_statements.specs.Bodies.{view_boxed, looped_at, short_at}
-use Rattle.awk_statements.specs.Went.{is_read}
+use Rattle.awk_expressions.specs.Went.{is_read}
 use Rattle.awk_statements.proofs.Closed.{chooses}
 use Rattle.awk_statements.specs.Starts.{view_stmt_start}
 use Rattle.awk_statements.proofs.Blocks.{stmts_begin, stmts_next, stmts_added, stmts_closed, stmts_stopped, stmts_over}
 use Rattle.awk_statements.proofs.Starts.{stmt_is, stmt_none, short_is, looped_is}
-use Rattle.awk_statements.proofs.Went.{then, fails_here, goes_on, goes_as, none_went}
+use Rattle.awk_expressions.proofs.Went.{then, fails_here, goes_on, goes_as}
+use Rattle.awk_statements.proofs.Held.{none_went}
 use Rattle.awk_statements.proofs.flow.+flow.Goals as goal
 
 pub statement-returns-then-limit-eq0-clause-read : goal.statement-returns-then-limit-eq0-clause-read

@@ -2,7 +2,7 @@ use Rattle.std.proofs.Common.{◌*◌, ◌+◌, ◌-◌, length}
 use Rattle.awk_grammar.specs.Stmt.{Stmts}
 use Rattle.awk_grammar.specs.ReadStmt.{stmts_at, stmt_at}
 use Rattle.awk_grammar.specs.ViewStmt.{view_stmts}
-use Rattle.awk_statements.specs.Went.{At, at, Went}
+use Rattle.awk_expressions.specs.Went.{At, at, Went}
 use Rattle.awk_statements.proofs.Blocks.{left_stmts}
 use Rattle.awk_statements.proofs.flow.+flow.Given as goal
 

@@ -1,4 +1,4 @@
-use Rattle.awk_statements.proofs.Went.{past}
+use Rattle.awk_expressions.proofs.Went.{past}
 use Rattle.awk_statements.proofs.flow.ended.Goals as goal
 
 pub returns-clause-read : goal.returns-clause-read

@@ -1,4 +1,4 @@
-use Rattle.awk_statements.proofs.Went.{then}
+use Rattle.awk_expressions.proofs.Went.{then}
 use Rattle.awk_statements.proofs.flow.short.Goals as goal
 
 pub returns-in-Leave-clause-read : goal.returns-in-Leave-clause-read

@@ -1,4 +1,4 @@
-use Rattle.awk_statements.proofs.Went.{then}
+use Rattle.awk_expressions.proofs.Went.{then}
 use Rattle.awk_statements.proofs.flow.simple_statement.Goals as goal
 
 pub returns-clause-read : goal.returns-clause-read

@@ -1,5 +1,6 @@
 use Rattle.awk_statements.specs.Bodies.{view_head}
-use Rattle.awk_statements.proofs.Went.{then, past, kept, not_kept}
+use Rattle.awk_expressions.proofs.Went.{no_memory, then, past}
+use Rattle.awk_statements.proofs.Held.{kept}
 use Rattle.awk_statements.proofs.head.counted.Goals as goal
 
 pub returns-in-Some : goal.returns-in-Some
@@ -8,4 +9,4 @@ returns-in-Some c =
 
 pub returns-in-None : goal.returns-in-None
 returns-in-None c =
-    then _ c.optional_simple-first.ensures (past _ c.expect.ensures (then _ c.optional-test.ensures (past _ c.expect-2.ensures (then _ c.optional_simple-step.ensures (past _ c.expect-3.ensures (not_kept _ _ _ _ c.in-None.ensures))))))
+    then _ c.optional_simple-first.ensures (past _ c.expect.ensures (then _ c.optional-test.ensures (past _ c.expect-2.ensures (then _ c.optional_simple-step.ensures (past _ c.expect-3.ensures (no_memory _ _ _ _ c.in-None.ensures))))))

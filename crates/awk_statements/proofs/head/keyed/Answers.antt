@@ -2,8 +2,8 @@ use Rattle.std.proofs.Common.{ap}
 use Rattle.awk_grammar.specs.Reading.{expr_at}
 use Rattle.awk_expressions.specs.Seen.{seen}
 use Rattle.awk_statements.specs.Bodies.{Keyed, keyed_by, keyed_at, counted_at}
-use Rattle.awk_statements.specs.Went.{is_read}
-use Rattle.awk_statements.proofs.Went.{stays, then, goes_on, goes_as}
+use Rattle.awk_expressions.specs.Went.{is_read}
+use Rattle.awk_expressions.proofs.Went.{stays, then, goes_on, goes_as}
 use Rattle.awk_statements.proofs.head.keyed.Goals as goal
 
 pub returns-in_default : goal.returns-in_default

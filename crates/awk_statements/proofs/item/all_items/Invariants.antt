@@ -2,7 +2,7 @@ use Rattle.std.proofs.Common.{◌-◌, List}
 use Rattle.awk_grammar.specs.Item.{Item}
 use Rattle.awk_grammar.specs.ReadItem.{script_at}
 use Rattle.awk_grammar.specs.ViewStmt.{view_items}
-use Rattle.awk_statements.specs.Went.{At, at, Ends}
+use Rattle.awk_expressions.specs.Went.{At, at, Ends}
 use Rattle.awk_statements.proofs.Scripts.{left_items}
 use Rattle.awk_statements.proofs.item.all_items.Given as goal
 

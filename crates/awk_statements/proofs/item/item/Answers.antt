@@ -6,7 +6,7 @@ use Rattle.awk_grammar.specs.ReadItem.{body_at, function_at, rule_at, item_at}
 use Rattle.awk_expressions.specs.Seen.{seen}
 use Rattle.awk_statements.specs.Starts.{acting, item_by, view_item_start}
 use Rattle.awk_statements.proofs.Starts.{item_is}
-use Rattle.awk_statements.proofs.Went.{stays, then, came, goes_on, goes_as}
+use Rattle.awk_expressions.proofs.Went.{stays, then, came, goes_on, goes_as}
 use Rattle.awk_statements.proofs.item.item.Goals as goal
 
 pub returns-in-Function : goal.returns-in-Function

@@ -1,7 +1,7 @@
 use Rattle.std.proofs.Common.{◌-◌, length, arith}
 use Rattle.awk_grammar.specs.ViewStmt.{view_names}
 use Rattle.awk_expressions.specs.Seen.{seen}
-use Rattle.awk_expressions.proofs.Binds.{seen_length}
+use Rattle.awk_expressions.proofs.Went.{seen_length}
 use Rattle.awk_statements.proofs.Names.{names_begin, names_next, names_added, names_end, names_over}
 use Rattle.awk_statements.proofs.item.others.Goals as goal
 

@@ -1,6 +1,6 @@
 use Rattle.std.proofs.Common.{ℕ, ◌-◌, List, length}
 use Rattle.awk_grammar.specs.ViewStmt.{view_names}
-use Rattle.awk_statements.specs.Went.{At, at, Went}
+use Rattle.awk_expressions.specs.Went.{At, at, Went}
 use Rattle.awk_statements.proofs.Names.{left_names}
 use Rattle.awk_statements.proofs.item.others.Given as goal
 

@@ -5,7 +5,7 @@ use Rattle.awk_grammar.specs.ReadItem.{body_at, action_at}
 use Rattle.awk_grammar.specs.ViewStmt.{view_pattern}
 use Rattle.awk_expressions.specs.Seen.{seen}
 use Rattle.awk_statements.proofs.Scripts.{action_lone, action_when}
-use Rattle.awk_statements.proofs.Went.{stays, then, came, goes_as}
+use Rattle.awk_expressions.proofs.Went.{stays, then, came, goes_as}
 use Rattle.awk_statements.proofs.item.rule.Goals as goal
 
 pub returns-in_default : goal.returns-in_default

@@ -1,4 +1,4 @@
-use Rattle.awk_statements.proofs.Went.{boxed_went, boxed_held}
+use Rattle.awk_statements.proofs.Held.{boxed_went, boxed_held}
 use Rattle.awk_statements.proofs.node.on_heap.Goals as goal
 
 pub returns-clause-read : goal.returns-clause-read

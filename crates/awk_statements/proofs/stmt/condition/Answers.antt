@@ -1,4 +1,4 @@
-use Rattle.awk_statements.proofs.Went.{stays, then, past}
+use Rattle.awk_expressions.proofs.Went.{stays, then, past}
 use Rattle.awk_statements.proofs.stmt.condition.Goals as goal
 
 pub returns : goal.returns

@@ -5,7 +5,7 @@ use Rattle.awk_grammar.specs.Stmt.{Delete}
 use Rattle.awk_expressions.specs.Seen.{seen}
 use Rattle.awk_statements.specs.Starts.{deleted_by}
 use Rattle.awk_statements.proofs.Starts.{delete_is}
-use Rattle.awk_statements.proofs.Went.{stays, then, past, came, goes_on}
+use Rattle.awk_expressions.proofs.Went.{stays, then, past, came, goes_on}
 use Rattle.awk_statements.proofs.stmt.deletion.Goals as goal
 
 pub returns-in_default : goal.returns-in_default

@@ -3,7 +3,7 @@ use Rattle.awk_grammar.specs.Reading.{◌>>=◌, expr_at}
 use Rattle.awk_grammar.specs.ReadStmt.{starts_expr, maybe_at}
 use Rattle.awk_grammar.specs.Tree.{Whole}
 use Rattle.awk_expressions.specs.Seen.{seen}
-use Rattle.awk_statements.proofs.Went.{stays, then, goes_as}
+use Rattle.awk_expressions.proofs.Went.{stays, then, goes_as}
 use Rattle.awk_statements.proofs.stmt.optional.Goals as goal
 
 pub returns : goal.returns

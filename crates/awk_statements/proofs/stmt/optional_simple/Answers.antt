@@ -2,7 +2,7 @@ use Rattle.std.proofs.Common.{◌≡◌, true, Some, Ok, refl, sym, ◌∙◌}
 use Rattle.awk_grammar.specs.Reading.{◌>>=◌, expr_at}
 use Rattle.awk_grammar.specs.ReadStmt.{starts_plain, plain_at, maybe_plain_at}
 use Rattle.awk_expressions.specs.Seen.{seen}
-use Rattle.awk_statements.proofs.Went.{stays, then, goes_as}
+use Rattle.awk_expressions.proofs.Went.{stays, then, goes_as}
 use Rattle.awk_statements.proofs.stmt.optional_simple.Goals as goal
 
 pub returns : goal.returns

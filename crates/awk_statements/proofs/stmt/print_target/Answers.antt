@@ -5,7 +5,7 @@ use Rattle.awk_grammar.specs.Tree.{AfterCompare}
 use Rattle.awk_expressions.specs.Seen.{seen}
 use Rattle.awk_statements.specs.Starts.{target_by, target_of}
 use Rattle.awk_statements.proofs.Starts.{target_is}
-use Rattle.awk_statements.proofs.Went.{stays, then, came, goes_on}
+use Rattle.awk_expressions.proofs.Went.{stays, then, came, goes_on}
 use Rattle.awk_statements.proofs.stmt.print_target.Goals as goal
 
 pub returns-in_default : goal.returns-in_default

@@ -5,7 +5,7 @@ use Rattle.awk_grammar.specs.ViewStmt.{view_word}
 use Rattle.awk_expressions.specs.Seen.{seen}
 use Rattle.awk_statements.specs.Starts.{plain_by, view_plain_start}
 use Rattle.awk_statements.proofs.Starts.{plain_is}
-use Rattle.awk_statements.proofs.Went.{stays, then, goes_on, goes_as}
+use Rattle.awk_expressions.proofs.Went.{stays, then, goes_on, goes_as}
 use Rattle.awk_statements.proofs.stmt.simple.Goals as goal
 
 pub returns-in-Print : goal.returns-in-Print

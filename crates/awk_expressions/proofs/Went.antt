@@ -1,22 +1,36 @@
 -- Reading one thing after another, where only who asks at the end learns that reading stopped.
-use Rattle.std.proofs.Common.{◌≡◌, Option, Some, None, List, Result, Ok, Err, refl, subst, ◌∙◌}
-use Rattle.std.specs.Prelude.{MatchOption}
-use Rattle.std.specs.declared.boxed.Box.{Box}
-use Rattle.std.specs.declared.alloc.Global.{Global}
+use Rattle.std.proofs.Common.{◌≡◌, Bool, false, Option, Some, None, List, [], ◌∷◌, length, map, Result, Ok, Err, refl, sym, subst, ◌∙◌, arith}
+use Rattle.std.proofs.lemmas.List.{length-map}
+use Rattle.awk_tokens.specs.Cutting.{Spelled}
+use Rattle.awk_tokens.specs.Views.{spelled}
+use Rattle.awk_tokens.specs.declared.token.Token.{Token as ScriptToken}
+use Rattle.awk_grammar.specs.Lexeme.{spoken_after, is_function}
 use Rattle.awk_grammar.specs.Token.{Token, Fault}
 use Rattle.awk_grammar.specs.Reading.{◌>>=◌}
-use Rattle.awk_grammar.specs.Stmt.{Empty}
 use Rattle.awk_grammar.specs.ReadStmt.{Read}
-use Rattle.awk_grammar.specs.ViewStmt.{view_stmt}
-use Rattle.awk_grammar.specs.declared.tree.Stmt.{Stmt}
 use Rattle.awk_expressions.specs.declared.fault.Refusal.{Refusal}
-use Rattle.awk_expressions.specs.declared.fault.Refusal.TheVariants.{NoMemory}
-use Rattle.awk_expressions.specs.Seen.{Fails}
-use Rattle.awk_expressions.proofs.Binds.{fails_bind, fails_is}
-use Rattle.awk_statements.specs.Bodies.{view_boxed}
-use Rattle.awk_statements.specs.Went.{At, stands, ended, Reaches, Went, Passed, Ends, Held, is_read}
+use Rattle.awk_expressions.specs.declared.fault.Refusal.TheVariants as refusals
+use Rattle.awk_expressions.specs.Seen.{Fails, seen}
+use Rattle.awk_expressions.specs.Went.{At, stands, ended, Reaches, Went, Passed, Ends, is_read}
+
+-- ---- tokens as the grammar sees them
+
+spoken_length : (b : Bool) (ts : List Spelled) → length (spoken_after b ts) ≡ length ts
+spoken_length b [] = refl
+spoken_length b (t ∷ ts) = omega (arith, spoken_length (is_function t.kind) ts)
+
+pub seen_length : (ts : List ScriptToken) → length (seen ts) ≡ length ts
+seen_length ts = spoken_length false (map spelled ts) ∙ length-map ts spelled
 
 -- ---- one thing after another
+
+fails_bind : {A B : Type 0} (e : Refusal) (r : Result A Fault) (f : A → Result B Fault) → Fails e r → Fails e (r >>= f)
+fails_bind refusals.NoMemory r f h = tt
+fails_bind (refusals.Syntax line) r f h = rw h refl
+fails_bind (refusals.TooDeep line) r f h = rw h refl
+
+fails_is : {A : Type 0} (e : Refusal) (r s : Result A Fault) → r ≡ s → Fails e s → Fails e r
+fails_is e r s q h = subst (Fails e) (sym q) h
 
 fails_then : {A B : Type 0} (e : Refusal) (r : Result A Fault) (x : A) (f : A → Result B Fault) → r ≡ Ok x → Fails e (f x) → Fails e (r >>= f)
 fails_then e r x f q h = rw q h
@@ -105,28 +119,28 @@ pub goes_nowhere : {A : Type 0} {a : A} {d : Refusal} {s : At} (r r' : List Toke
 goes_nowhere {A} {a} {d} {s = Ok us} r r' h = absurd h.went
 goes_nowhere {A} {a} {d} {s = Err e} r r' h = record { went = h.went }
 
--- ---- what is held
+-- reading as another reading does
+pub reads_as : {A : Type 0} {a : A} {s0 s1 : At} (r r' : List Token → Read A) → ((ts : List Token) → r ts ≡ r' ts) → Went a s0 s1 r' → Went a s0 s1 r
+reads_as {A} {a} {s0 = Ok ts} {s1} r r' q h = goes_as ts None r r' (q ts) h
+reads_as {A} {a} {s0 = Err d} {s1} r r' q h = goes_nowhere r r' h
 
--- where nothing is held reading stopped before
-pub none_went : {A X : Type 0} (a : A) (o : Option X) (s : At) (r : List Token → Read A) → o ≡ None → Held o s → Went a s s r
-none_went {A} {X} a o (Ok us) r e h = absurd (subst (λ (x : Option X). Held x (Ok us)) e h)
-none_went a o (Err d) r e h = record { went = refl }
+-- ---- what finds no memory, and what does
 
-pub ended_held : (X : Type 0) (s0 s1 : At) (e : Refusal) → s1 ≡ ended s0 e → Held {A = X} None s1
-ended_held X (Ok ts) s1 e q = rw q tt
-ended_held X (Err d) s1 e q = rw q tt
+pub is_here : {A : Type 0} (a x : A) (s : At) → a ≡ x → Went a s s (is_read x)
+is_here a x s e = rw e (stays x s)
 
-pub kept : {A X : Type 0} (f : X → A) (x y : X) (s0 s1 : At) → (x ≡ y) × (s1 ≡ s0) → Went (f x) s0 s1 (is_read (f y))
-kept f x y s0 s1 h = rw (h.1, h.0) (stays (f y) s0)
+pub no_memory : {A : Type 0} (a : A) (s0 s1 : At) (r : List Token → Read A) → s1 ≡ ended s0 refusals.NoMemory → Went a s0 s1 r
+no_memory a (Ok ts) s1 r h = rw h (record { went = tt })
+no_memory a (Err d) s1 r h = rw h (record { went = refl })
 
-pub not_kept : {A : Type 0} (a x : A) (s0 s1 : At) → s1 ≡ ended s0 NoMemory → Went a s0 s1 (is_read x)
-not_kept a x (Ok ts) s1 h = rw h (record { went = tt })
-not_kept a x (Err d) s1 h = rw h (record { went = refl })
+-- what is read after it does not matter
+pub no_memory_then : {A : Type 0} {a : A} (s0 s1 s2 : At) (r r' : List Token → Read A) → s1 ≡ ended s0 refusals.NoMemory → Went a s1 s2 r' → Went a s0 s2 r
+no_memory_then {A} {a} (Ok ts) s1 s2 r r' e h = stopped s2 (subst (λ (s : At). Went a s s2 r') e h)
+  where
+    stopped : (s : At) → Went a (Err refusals.NoMemory) s r' → Went a (Ok ts) s r
+    stopped (Ok us) w = absurd w.went
+    stopped (Err k) w = rw (sym w.went) (record { went = tt })
+no_memory_then {A} {a} (Err d) s1 s2 r r' e h = goes_nowhere r r' (subst (λ (s : At). Went a s s2 r') e h)
 
-pub boxed_went : (o : Option (Box Stmt Global)) (v : Stmt) (s0 s1 : At) → MatchOption o (s1 ≡ ended s0 NoMemory) (λ b. (b.value ≡ v) × (s1 ≡ s0)) → Went (view_boxed o) s0 s1 (is_read (view_stmt v))
-boxed_went (Some b) v s0 s1 h = kept view_stmt b.value v s0 s1 h
-boxed_went None v s0 s1 h = not_kept Empty (view_stmt v) s0 s1 h
-
-pub boxed_held : {X : Type 0} (o : Option (Box X Global)) (v : X) (s0 s1 : At) → MatchOption o (s1 ≡ ended s0 NoMemory) (λ b. (b.value ≡ v) × (s1 ≡ s0)) → Held o s1
-boxed_held (Some b) v s0 s1 h = tt
-boxed_held {X} None v s0 s1 h = ended_held X s0 s1 NoMemory h
+pub kept_then : {A X : Type 0} {a : A} (f : X → List Token → Read A) (x y : X) (s0 s1 s2 : At) → (x ≡ y) × (s1 ≡ s0) → Went a s1 s2 (f x) → Went a s0 s2 (f y)
+kept_then {A} {X} {a} f x y s0 s1 s2 h w = subst (λ (z : X). Went a s0 s2 (f z)) h.0 (subst (λ (s : At). Went a s s2 (f x)) h.1 w)
