@@ -323,6 +323,26 @@ key-evaluated-form-requires t c = (omega (arith, c.decreases), c.requires.1.0)
 pub key-next-place-requires : goal.key-next-place-requires
 key-next-place-requires t c = c.requires.0
 
+pub key-evaluated-form-requires-in-Some : goal.key-evaluated-form-requires-in-Some
+key-evaluated-form-requires-in-Some t c =
+    let last = view c.args.last.now in
+    let left = c.loop-other.left.now in
+    let rest = c.in-Some.rest.now in
+    let x = c.in-Some.other.now in
+    let place = c.loop-other.place in
+    let is = c.in-Some.ensures.cases.0 in
+    let here = c.loop-other.invariant in
+    let n = key_weighs left rest x last is in (
+      omega (arith, c.decreases, n.0, here.lighter),
+      (key_fits (view_layout c.args.layout.now) left rest x last place.temporary place.arrays place.exit is here.fit).0.1,
+    )
+
+pub key-next-place-requires-in-Some : goal.key-next-place-requires-in-Some
+key-next-place-requires-in-Some t c =
+    let place = c.loop-other.place in
+    (key_fits (view_layout c.args.layout.now) c.loop-other.left.now c.in-Some.rest.now c.in-Some.other.now (view c.args.last.now) place.temporary place.arrays
+    place.exit c.in-Some.ensures.cases.0 c.loop-other.invariant.fit).0.0
+
 pub key-loop-other-init : goal.key-loop-other-init
 key-loop-other-init t c =
     let y = view_layout c.args.layout.now in
