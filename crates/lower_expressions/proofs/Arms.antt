@@ -1,5 +1,5 @@
 -- The code of an expression, from that of its parts.
-use Rattle.std.proofs.Common.{◌≡◌, ℕ, suc, Bool, true, false, List, [], ◌∷◌, ◌++◌, length, map, Option, Some, None, ℤ, sym, ap, ◌∙◌}
+use Rattle.std.proofs.Common.{◌≡◌, inl, inr, ℕ, suc, Bool, true, false, List, [], ◌∷◌, ◌++◌, length, map, Option, Some, None, ℤ, sym, ap, ◌∙◌}
 use Rattle.std.proofs.lemmas.List.{append_assoc, append-nil, map-append}
 use Rattle.sem_primitives.specs.declared.table.Listed.{Listed}
 use Rattle.sem_primitives.specs.declared.sorts.Sort.{Sort}
@@ -25,10 +25,11 @@ use Rattle.lower_pieces.specs.Forms.{view_form}
 use Rattle.lower_pieces.specs.declared.emitted.Emitted.{Emitted}
 use Rattle.lower_pieces.specs.declared.form.Form.{Form}
 use Rattle.lower_pieces.proofs.Appended.{◌⨟◌, same}
+use Rattle.lower_expressions.specs.CodeAt.{Unrefused}
 use Rattle.lower_expressions.specs.Fits.{AllCode, IsGiven}
-use Rattle.lower_expressions.specs.Keeping.{Keeping, kept_more}
 use Rattle.lower_expressions.specs.Parts.{anyway_with, appended_with, branch_with, called_with, entered, file_asked, forms_in, freed_with, listed_with, operated, replaced_with, stored_when, stored_with, sum_with}
 use Rattle.lower_expressions.proofs.FormLemmas.{appended_are, boxed_are, converted_are, forms_counted, freed_are, given_are, pushed_are}
+use Rattle.lower_expressions.proofs.Refusals.{still_refused, told}
 use Rattle.lower_expressions.proofs.WalkLemmas.{no_items}
 
 -- Operands.
@@ -36,10 +37,10 @@ use Rattle.lower_expressions.proofs.WalkLemmas.{no_items}
 pub next_operand : (es rest : List Operand) (o p : Operand) → es ≡ o ∷ rest → o ≡ p → before p (views rest) ≡ views es
 next_operand es rest o p e is = sym (ap views e ∙ ap (λ (x : Operand). before x (views rest)) is)
 
-pub code_emitted : (y : Layout) (fs : List plain.Form) (ts : List ℕ) (c : Code) (es all : Codes) (t w d : ℕ) (a b z : Emitted) → At c es ≡ all
-    → Emits a b (emitted y false fs ts c t w d) → Emits b z (all_emitted y fs ts es (suc t) w d) → Emits a z (all_emitted y fs ts all t w d)
+pub code_emitted : (y : Layout) (fs : List plain.Form) (ts : List ℕ) (c : Code) (es all : Codes) (t w d : ℕ) (a b i z : Emitted) → At c es ≡ all
+    → Emits a b (emitted y false fs ts c t w d) → Emits b i (λ k. k) → Emits i z (all_emitted y fs ts es (suc t) w d) → Emits a z (all_emitted y fs ts all t w d)
 unfolding emitted all_emitted
-code_emitted y fs ts c es all t w d a b z e p q k = q k ⨟ p (all_emitted y fs ts es (suc t) w d k) ⨟ same (ap (λ (x : Codes). all_emitted y fs ts x t w d k) e)
+code_emitted y fs ts c es all t w d a b i z e p n q k = q k ⨟ n _ ⨟ p (all_emitted y fs ts es (suc t) w d k) ⨟ same (ap (λ (x : Codes). all_emitted y fs ts x t w d k) e)
 
 pub fixed_emitted : (y : Layout) (fs : List plain.Form) (ts : List ℕ) (m : ℕ) (es all : Codes) (t w d : ℕ) (a z : Emitted) → Fixed m es ≡ all
     → Emits a z (all_emitted y fs ts es t w d) → Emits a z (all_emitted y fs ts all t w d)
@@ -58,14 +59,16 @@ none_emitted y fs ts es t w d a e k = same (ap (λ (x : List Operand). all_emitt
 pub no_form : (fs gs : List plain.Form) (es : List Operand) → length es ≡ 0 → gs ≡ gs ++ forms_in fs (views es)
 no_form fs gs es e = sym (append-nil gs) ∙ ap (λ (x : List Operand). gs ++ forms_in fs (views x)) (no_items es e)
 
-pub form_added : (fs : List plain.Form) (c : Code) (es all : Codes) (f : Form) (old mid new : List Form) → At c es ≡ all → mid ≡ old ++ f ∷ [] → view_form f ≡ form_of fs c
-    → map view_form new ≡ map view_form mid ++ forms_in fs es → map view_form new ≡ map view_form old ++ forms_in fs all
-form_added fs c es all f old mid new e added is q =
-    q ∙ ap (λ (x : List Form). map view_form x ++ forms_in fs es) added
+pub form_added : (fs : List plain.Form) (c : Code) (es all : Codes) (f : Form) (old mid new : List Form) (b z : Emitted) (code : Instructions → Instructions) → At c es ≡ all → view_form f ≡ form_of fs c
+    → Unrefused b (mid ≡ old ++ f ∷ []) → Emits b z code → Unrefused z (map view_form new ≡ map view_form mid ++ forms_in fs es) → Unrefused z (map view_form new ≡ map view_form old ++ forms_in fs all)
+form_added fs c es all f old mid new b z code e is (inl refused) p q = inl (still_refused p refused)
+form_added fs c es all f old mid new b z code e is (inr added) p (inl refused) = inl refused
+form_added fs c es all f old mid new b z code e is (inr added) p (inr q) =
+    inr (q ∙ ap (λ (x : List Form). map view_form x ++ forms_in fs es) added
     ∙ ap (λ (x : List plain.Form). x ++ forms_in fs es) (map-append view_form old (f ∷ []))
     ∙ append_assoc (map view_form old) (view_form f ∷ []) (forms_in fs es)
     ∙ ap (λ (x : plain.Form). map view_form old ++ x ∷ forms_in fs es) is
-    ∙ ap (λ (x : Codes). map view_form old ++ forms_in fs x) e
+    ∙ ap (λ (x : Codes). map view_form old ++ forms_in fs x) e)
 
 -- Expressions with operands, of forms gs.
 
@@ -77,10 +80,10 @@ field_emitted y v fs ts o es m n t w d a z e h p k =
     p k ⨟ same (ap (λ (i : ℤ). field_read y i t k) h) ⨟ same (ap (λ (x : Option ℤ). field_or y x t k rest) (sym e))
 
 -- an operation as it is in all cases
-pub anyway_emitted : (y : Layout) (fs gs : List plain.Form) (ts : List ℕ) (o : Operation) (es : Codes) (t w d : ℕ) (a b z : Emitted) → gs ≡ forms_in fs es
+pub anyway_emitted : (y : Layout) (fs gs : List plain.Form) (ts : List ℕ) (o : Operation) (es : Codes) (t w d : ℕ) (a b z : Emitted) → Unrefused b (gs ≡ forms_in fs es)
     → Emits a b (all_emitted y fs ts es t w d) → Emits b z (operated y gs o es t d) → Emits a z (anyway_with y fs ts o es t w d)
 anyway_emitted y fs gs ts o es t w d a b z e p q k =
-    q k ⨟ same (ap (λ (x : List plain.Form). operated y x o es t d k) e)
+    q k ⨟ told (λ (x : List plain.Form). operated y x o es t d k) e
     ⨟ same (converted_are y fs (plain.arguments o) es t d (performed y o es t d k)) ⨟ p _
 
 pub operation_emitted : (y : Layout) (v : Bool) (fs : List plain.Form) (ts : List ℕ) (o : Operation) (es : Codes) (t w d : ℕ) (a z : Emitted) → field_in o es ≡ None → addition_in o es ≡ None
@@ -104,11 +107,11 @@ listed_are y fs l es t d k q =
     ∙ ap (all_boxed y fs es t) (appended_are y fs es t (listed_asked y l (length (forms_in fs es)) t d k) q
     ∙ ap (λ (n : ℕ). all_appended y es t (listed_asked y l n t d k)) (forms_counted fs es q))
 
-pub listing_emitted : (y : Layout) (v : Bool) (fs gs : List plain.Form) (ts : List ℕ) (l : Listed) (es : Codes) (t w d : ℕ) (a b z : Emitted) → AllCode es → gs ≡ forms_in fs es
+pub listing_emitted : (y : Layout) (v : Bool) (fs gs : List plain.Form) (ts : List ℕ) (l : Listed) (es : Codes) (t w d : ℕ) (a b z : Emitted) → AllCode es → Unrefused b (gs ≡ forms_in fs es)
     → Emits a b (all_emitted y fs ts es t w d) → Emits b z (listed_with y gs l t d) → Emits a z (emitted y v fs ts (plain.Over l es) t w d)
 unfolding emitted all_emitted
 listing_emitted y v fs gs ts l es t w d a b z all e p q k =
-    q k ⨟ same (ap (λ (x : List plain.Form). listed_with y x l t d k) e) ⨟ same (listed_are y fs l es t d k all) ⨟ p _
+    q k ⨟ told (λ (x : List plain.Form). listed_with y x l t d k) e ⨟ same (listed_are y fs l es t d k all) ⨟ p _
 
 called_are : (y : Layout) (fs : List plain.Form) (f : ℕ) (es : Codes) (t w d : ℕ) (k : Instructions) → IsGiven (parameters_at y.calls f) es
     → called_with y (forms_in fs es) f es t w d k
@@ -119,18 +122,18 @@ called_are y fs f es t w d k q =
     ∙ ap (all_given y fs ks es t) (pushed_are y ks es t w (entered y.bases f t d (freed_with y.bases w (made_in es) k)) q
     ∙ ap (λ (x : Instructions). all_given_pushed y ks es t w (entered y.bases f t d x)) (freed_are y w (made_in es) k))
 
-pub call_emitted : (y : Layout) (v : Bool) (fs gs : List plain.Form) (ts : List ℕ) (f : ℕ) (es : Codes) (t w d : ℕ) (a b z : Emitted) → IsGiven (parameters_at y.calls f) es → gs ≡ forms_in fs es
+pub call_emitted : (y : Layout) (v : Bool) (fs gs : List plain.Form) (ts : List ℕ) (f : ℕ) (es : Codes) (t w d : ℕ) (a b z : Emitted) → IsGiven (parameters_at y.calls f) es → Unrefused b (gs ≡ forms_in fs es)
     → Emits a b (all_emitted y fs ts es t w d) → Emits b z (called_with y gs f es t w d) → Emits a z (emitted y v fs ts (plain.Call f es) t w d)
 unfolding emitted all_emitted
 call_emitted y v fs gs ts f es t w d a b z given e p q k =
-    q k ⨟ same (ap (λ (x : List plain.Form). called_with y x f es t w d k) e) ⨟ same (called_are y fs f es t w d k given) ⨟ p _
+    q k ⨟ told (λ (x : List plain.Form). called_with y x f es t w d k) e ⨟ same (called_are y fs f es t w d k given) ⨟ p _
 
-pub replace_emitted : (y : Layout) (v : Bool) (fs gs : List plain.Form) (ts : List ℕ) (every : Bool) (es : Codes) (s : Code) (t w d : ℕ) (a b c z : Emitted) → gs ≡ forms_in fs es
+pub replace_emitted : (y : Layout) (v : Bool) (fs gs : List plain.Form) (ts : List ℕ) (every : Bool) (es : Codes) (s : Code) (t w d : ℕ) (a b c z : Emitted) → Unrefused b (gs ≡ forms_in fs es)
     → Emits a b (all_emitted y fs ts es t w d) → Emits b c (replaced_with y gs every es t d)
     → Emits c z (either Done (stored_with y fs ts row.SubResult s t w d Done)) → Emits a z (emitted y v fs ts (plain.Replace every es s) t w d)
 unfolding emitted all_emitted
 replace_emitted y v fs gs ts every es s t w d a b c z e p q r k =
-    r k ⨟ q _ ⨟ same (ap (λ (x : List plain.Form). replaced_with y x every es t d (either Done (stored_with y fs ts row.SubResult s t w d Done) k)) e)
+    r k ⨟ q _ ⨟ told (λ (x : List plain.Form). replaced_with y x every es t d (either Done (stored_with y fs ts row.SubResult s t w d Done) k)) e
     ⨟ same (converted_are y fs _ es t d _) ⨟ p _
 
 -- Expressions of other ones.
@@ -182,29 +185,29 @@ sequence_emitted y v fs ts l r f g t w d a b c i z h j p q u x k =
     let whole : plain.Form → plain.Form → Instructions = λ f1 g1. left_over y l f1 t (emitted y v fs ts r t w d (sequence_closed y v r g1 t k)) in
     x k ⨟ u _ ⨟ q _ ⨟ same (ap (λ (g1 : plain.Form). whole f g1) j) ⨟ same (ap (λ (f1 : plain.Form). whole f1 (form_of fs r)) h) ⨟ p _
 
-pub kept_form : (fs : List plain.Form) (l r : Code) (f g : plain.Form) (m : Keeping) (t : ℕ) (ts : List ℕ) → f ≡ form_of fs l → m ≡ kept_more f t (record { forms = fs; temporaries = ts }) → g ≡ form_of m.forms r → g ≡ form_of fs (plain.Let l r)
-kept_form fs l r f g m t ts h e q = q ∙ ap (λ (x : Keeping). form_of x.forms r) e ∙ ap (λ (x : plain.Form). form_of (x ∷ fs) r) h
+pub kept_form : (fs : List plain.Form) (l r : Code) (f g : plain.Form) → f ≡ form_of fs l → g ≡ form_of (f ∷ fs) r → g ≡ form_of fs (plain.Let l r)
+kept_form fs l r f g h q = q ∙ ap (λ (x : plain.Form). form_of (x ∷ fs) r) h
 
-pub keeping_emitted : (y : Layout) (v : Bool) (o m : Keeping) (l r : Code) (f g : plain.Form) (t w d : ℕ) (a b c z : Emitted) → f ≡ form_of o.forms l → m ≡ kept_more f t o → g ≡ form_of m.forms r
-    → Emits a b (emitted y false o.forms o.temporaries l t w d) → Emits b c (emitted y v m.forms m.temporaries r (suc t) w d)
-    → Emits c z (keeping_closed y v r f g t) → Emits a z (emitted y v o.forms o.temporaries (plain.Let l r) t w d)
+pub keeping_emitted : (y : Layout) (v : Bool) (fs : List plain.Form) (ts : List ℕ) (l r : Code) (f g : plain.Form) (t w d : ℕ) (a b c z : Emitted) → f ≡ form_of fs l → g ≡ form_of (f ∷ fs) r
+    → Emits a b (emitted y false fs ts l t w d) → Emits b c (emitted y v (f ∷ fs) (t ∷ ts) r (suc t) w d)
+    → Emits c z (keeping_closed y v r f g t) → Emits a z (emitted y v fs ts (plain.Let l r) t w d)
 unfolding emitted all_emitted
-keeping_emitted y v o m l r f g t w d a b c z h e j p q u k =
-    let whole : plain.Form → plain.Form → Instructions = λ x1 x2. emitted y v (x1 ∷ o.forms) (t ∷ o.temporaries) r (suc t) w d (keeping_closed y v r x1 x2 t k) in
+keeping_emitted y v fs ts l r f g t w d a b c z h j p q u k =
+    let whole : plain.Form → plain.Form → Instructions = λ x1 x2. emitted y v (x1 ∷ fs) (t ∷ ts) r (suc t) w d (keeping_closed y v r x1 x2 t k) in
     u k ⨟ q _
-    ⨟ same (ap (λ (n : Keeping). emitted y v n.forms n.temporaries r (suc t) w d (keeping_closed y v r f g t k)) e)
-    ⨟ same (ap (λ (x2 : plain.Form). whole f x2) (j ∙ ap (λ (n : Keeping). form_of n.forms r) e))
-    ⨟ same (ap (λ (x1 : plain.Form). whole x1 (form_of (x1 ∷ o.forms) r)) h) ⨟ p _
+    ⨟ same (ap (λ (x2 : plain.Form). whole f x2) j)
+    ⨟ same (ap (λ (x1 : plain.Form). whole x1 (form_of (x1 ∷ fs) r)) h) ⨟ p _
 
 -- Lists of their own.
 
-pub stored_emitted : (y : Layout) (o m : Keeping) (p : Primitive) (s : Code) (f : plain.Form) (t w d : ℕ) (a b c z : Emitted) → m ≡ kept_more plain.a_value (suc t) o → f ≡ form_of m.forms s
-    → Emits a b (λ k. ask_row p (does (LocalSet (handle_local y.bases (suc t))) k)) → Emits b c (emitted y true m.forms m.temporaries s (suc (suc t)) w (suc d))
-    → Emits c z (λ k. left_over y s f (suc (suc t)) (let_go Drop (handle_local y.bases (suc t)) k)) → Emits a z (stored_with y o.forms o.temporaries p s t w d)
-stored_emitted y o m p s f t w d a b c z e j q u x k =
+pub stored_emitted : (y : Layout) (fs : List plain.Form) (ts : List ℕ) (p : Primitive) (s : Code) (f : plain.Form) (t n w d : ℕ) (a b c z : Emitted) → n ≡ suc t → f ≡ form_of (plain.a_value ∷ fs) s
+    → Emits a b (λ k. ask_row p (does (LocalSet (handle_local y.bases (suc t))) k)) → Emits b c (emitted y true (plain.a_value ∷ fs) (n ∷ ts) s (suc (suc t)) w (suc d))
+    → Emits c z (λ k. left_over y s f (suc (suc t)) (let_go Drop (handle_local y.bases (suc t)) k)) → Emits a z (stored_with y fs ts p s t w d)
+stored_emitted y fs ts p s f t n w d a b c z e j q u x k =
+    let rest : plain.Form → Instructions = λ g. left_over y s g (suc (suc t)) (let_go Drop (handle_local y.bases (suc t)) k) in
     x k ⨟ u _
-    ⨟ same (ap (λ (n : Keeping). emitted y true n.forms n.temporaries s (suc (suc t)) w (suc d) (left_over y s f (suc (suc t)) (let_go Drop (handle_local y.bases (suc t)) k))) e)
-    ⨟ same (ap (λ (g : plain.Form). emitted y true (plain.a_value ∷ o.forms) (suc t ∷ o.temporaries) s (suc (suc t)) w (suc d) (left_over y s g (suc (suc t)) (let_go Drop (handle_local y.bases (suc t)) k))) (j ∙ ap (λ (n : Keeping). form_of n.forms s) e))
+    ⨟ same (ap (λ (m : ℕ). emitted y true (plain.a_value ∷ fs) (m ∷ ts) s (suc (suc t)) w (suc d) (rest f)) e)
+    ⨟ same (ap (λ (g : plain.Form). emitted y true (plain.a_value ∷ fs) (suc t ∷ ts) s (suc (suc t)) w (suc d) (rest g)) j)
     ⨟ q _
 
 pub branch_emitted : (y : Layout) (fs : List plain.Form) (ts : List ℕ) (s : Sort) (e : Code) (f : plain.Form) (t w d : ℕ) (a b z : Emitted) → f ≡ form_of fs e

@@ -5,7 +5,7 @@ use Rattle.sem_primitives.specs.declared.sorts.Answer.TheVariants.{Nothing}
 use Rattle.mid_program.specs.Mid.{Answered, form_at}
 use Rattle.lower_pieces.specs.Forms.{view_form}
 use Rattle.lower_expressions.specs.Keeping.{Keeping, keeping_of}
-use Rattle.lower_expressions.specs.declared.kept.Entry.{Entry}
+use Rattle.lower_expressions.specs.declared.entry.Entry.{Entry}
 
 form_there : (es : List Entry) (i : ℕ) (d : Entry) → i < length es → form_at (keeping_of es).forms i ≡ view_form (get_or es i d).form
 form_there [] i d lt = absurd (omega arith)

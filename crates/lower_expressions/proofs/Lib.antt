@@ -3,6 +3,7 @@ mod FitLemmas
 mod FormLemmas
 mod Keepings
 mod Keys
+mod Refusals
 mod RoutineLemmas
 pub mod SourceLemmas
 mod Views

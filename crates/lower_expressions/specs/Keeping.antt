@@ -2,7 +2,7 @@
 use Rattle.std.specs.Prelude.{ℕ, List, [], ◌∷◌}
 use Rattle.mid_program.specs.Mid as plain
 use Rattle.lower_pieces.specs.Forms.{view_form}
-use Rattle.lower_expressions.specs.declared.kept.Entry.{Entry}
+use Rattle.lower_expressions.specs.declared.entry.Entry.{Entry}
 
 -- the forms of what is kept, and the temporaries that it stands in
 pub record Keeping : Type 0 where
@@ -14,13 +14,6 @@ kept_none = record { forms = []; temporaries = [] }
 
 abbrev pub kept_more : plain.Form → ℕ → Keeping → Keeping
 kept_more form temporary keeping = record { forms = form ∷ keeping.forms; temporaries = temporary ∷ keeping.temporaries }
-
-abbrev pub rest_of : {A : Type 0} → List A → List A
-rest_of [] = []
-rest_of (first ∷ rest) = rest
-
-abbrev pub kept_but_one : Keeping → Keeping
-kept_but_one keeping = record { forms = rest_of keeping.forms; temporaries = rest_of keeping.temporaries }
 
 abbrev pub keeping_of : List Entry → Keeping
 keeping_of [] = kept_none

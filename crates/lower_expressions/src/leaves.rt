@@ -12,11 +12,12 @@ ghost use Rattle.lower_pieces.specs.Bounds.{most_places};
 ghost use Rattle.lower_pieces.specs.Emits.{Emits};
 ghost use Rattle.lower_pieces.specs.Forms.{view_form};
 ghost use Rattle.lower_expressions.specs.Fits.{SlotFits, Within};
+ghost use Rattle.lower_expressions.specs.Keeps.{keeping_in};
 ghost use Rattle.lower_expressions.specs.View.{view_layout};
 
 use crate::at::At;
 use crate::function_layout::FunctionLayout;
-use crate::kept::Kept;
+use crate::kept::{Keeps, kept_at};
 use crate::pending::asked;
 use crate::places::text_pushed;
 use crate::slots::{slot_form, slot_read};
@@ -107,9 +108,9 @@ pub(crate) fn is_open(layout: &FunctionLayout<'_>, out: &mut Emitted, item: usiz
 }
 
 /// Adds what was kept. Where `only` what is done counts, that is nothing.
-pub(crate) fn bound(
+pub(crate) fn bound<'a>(
     layout: &FunctionLayout<'_>,
-    kept: &Kept,
+    keeps: &'a Keeps<'a>,
     out: &mut Emitted,
     only: bool,
     moves: bool,
@@ -117,11 +118,12 @@ pub(crate) fn bound(
     at: At,
 ) -> Form
     requires { Within at.temporary at.arrays at.exit }
-    ensures form { view_form result ≡ form_at kept.now.forms after }
+    ensures form { view_form result ≡ form_at (keeping_in keeps.now).forms after }
     ensures emits { Emits out.old out.new (bound_read (view_layout layout.now) only moves
-        (form_at kept.now.forms after) (get_or kept.now.temporaries after 0) at.temporary) }
+        (form_at (keeping_in keeps.now).forms after)
+        (get_or (keeping_in keeps.now).temporaries after 0) at.temporary) }
 {
-    let entry = kept.at(after);
+    let entry = kept_at(keeps, after);
     if only {
         return entry.form;
     }

@@ -3,6 +3,7 @@
 
 mod at;
 mod calls;
+mod entry;
 mod expressions;
 mod fields;
 mod function_layout;

@@ -1,7 +1,7 @@
 //! Unboxed names and parameters, and constants: how their numbers are read, and tested together.
-ghost use Rattle.std.specs.Prelude.{◌≡◌, ◌≤◌, map, pos};
+ghost use Rattle.std.specs.Prelude.{◌≡◌, ◌^◌, ◌≤◌, map, pos};
 ghost use Rattle.lower_model.specs.Emission.{added, name_read};
-ghost use Rattle.lower_model.specs.Quick.{all_unsure, joined, sum_op};
+ghost use Rattle.lower_model.specs.Quick.{addition_names, all_unsure, joined, sum_op};
 ghost use Rattle.lower_pieces.specs.Bounds.{most_places};
 ghost use Rattle.lower_pieces.specs.Emits.{Emits, Holds};
 ghost use Rattle.lower_expressions.specs.Sources.{AdditionFits, HolderFits, NamesFit, SourceFits, source_read};
@@ -11,9 +11,12 @@ ghost use Rattle.lower_quick.specs.View.{view_addition, view_holder, view_source
 use crate::function_layout::FunctionLayout;
 use crate::places::global_number;
 use lower_pieces::{Emitted, code_of, does, does_all};
-use lower_quick::{Addition, Holder, Source};
+use lower_quick::{Addition, Holder, Source, addition_names};
 use mid_program::Arithmetic;
 use wasm_types::{IBinOp, IRelOp, Simple, ValType};
+
+/// Two numbers of at most this magnitude have a sum in range.
+const MOST: u64 = 1 << 52;
 
 /// What reads the number of an unboxed name or parameter.
 pub fn name_read(layout: &FunctionLayout<'_>, name: Holder) -> Simple
@@ -83,6 +86,18 @@ pub fn all_unsure(
         Simple::Compare(ValType::I64, IRelOp::GtU),
     ];
     does_all(out, &past);
+}
+
+/// Adds the test whether a name of a sum has no number, or one that is not near 0.
+pub(crate) fn addition_unsure(layout: &FunctionLayout<'_>, out: &mut Emitted, addition: Addition)
+    requires { AdditionFits (view_addition addition) }
+    ensures { Emits out.old out.new (all_unsure (name_read (view_layout layout.now))
+        (addition_names (view_addition addition)) (pos (2 ^ 52)) (2 ^ 53)) }
+{
+    match addition_names(layout.alloc, addition) {
+        Ok(names) => all_unsure(layout, out, &names, MOST, MOST + MOST),
+        Err(_) => out.refuse(),
+    }
 }
 
 /// The instruction of a sum or a difference.

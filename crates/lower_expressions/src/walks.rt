@@ -1,5 +1,5 @@
 //! Operands that are evaluated, one after the other.
-ghost use Rattle.std.specs.Prelude.{◌≡◌, ◌+◌, ◌≤◌, length, map};
+ghost use Rattle.std.specs.Prelude.{[], ◌∷◌, ◌++◌, ◌≡◌, ◌+◌, suc, ◌≤◌, length, map};
 ghost use Rattle.mid_program.specs.Sorted.{count_of};
 ghost use Rattle.mid_program.specs.View.{view_kind};
 ghost use Rattle.mid_program.specs.ViewCode.{views};
@@ -7,6 +7,7 @@ ghost use Rattle.lower_model.specs.Places.{made_in};
 ghost use Rattle.lower_pieces.specs.Bounds.{most_labels, most_places};
 ghost use Rattle.lower_pieces.specs.Emits.{Emits};
 ghost use Rattle.lower_pieces.specs.Forms.{view_form};
+ghost use Rattle.lower_expressions.specs.CodeAt.{Unrefused};
 ghost use Rattle.lower_expressions.specs.Parts.{appended_with, boxed_with, converted_with, freed_with, given_one, given_with};
 
 use host_imports::Import;
@@ -14,6 +15,17 @@ use lower_pieces::{Bases, Emitted, Form, ask, converted, moved_out, to_value};
 use mid_program::{Kind, Operand};
 use sem_primitives::Argument;
 use std::alloc::Global;
+
+/// Notes the form of an operand. Where memory runs out for it nothing more is emitted.
+pub(crate) fn noted(out: &mut Emitted, forms: &mut Vec<Form>, form: Form)
+    ensures emits { Emits out.old out.new (λ after. after) }
+    ensures forms { Unrefused out.new (forms.new.items ≡ forms.old.items ++ form ∷ []) }
+    ensures few { length forms.new.items ≤ suc (length forms.old.items) }
+{
+    if forms.push(form).is_err() {
+        out.refuse();
+    }
+}
 
 /// Converts operands to what is wanted.
 pub(crate) fn all_converted(

@@ -6,14 +6,16 @@ use Rattle.mid_program.specs.ViewCode.{joined, view, views}
 use Rattle.lower_model.specs.Emission.{emitted}
 use Rattle.lower_pieces.specs.Forms.{view_form}
 use Rattle.lower_pieces.proofs.Appended.{Follows}
+use Rattle.lower_expressions.specs.CodeAt.{Unrefused}
 use Rattle.lower_expressions.specs.Fits.{AllFit}
+use Rattle.lower_expressions.specs.Keeps.{keeping_in}
 use Rattle.lower_expressions.specs.Parts.{all_joined}
 use Rattle.lower_expressions.specs.View.{view_layout}
 use Rattle.lower_expressions.proofs.Weights.{weight, weights}
 use Rattle.lower_expressions.proofs.expressions.+expressions.Given as goal
 
-abbrev pub decreases-expression : goal.decreases-expression
-decreases-expression l = 4 * weight (view l.code.now)
+abbrev pub decreases-evaluated : goal.decreases-evaluated
+decreases-evaluated l = 4 * weight (view l.code.now)
 
 abbrev pub decreases-all_operands : goal.decreases-all_operands
 decreases-all_operands l = 4 * weights (views l.operands.now)
@@ -72,13 +74,13 @@ decreases-key-loop-other l = length l.left
 abbrev pub invariant-key-loop-other : goal.invariant-key-loop-other
 invariant-key-loop-other l = record {
   fit : AllFit (view_layout l.layout) (plain.At (joined (map view l.left) (view l.last)) plain.End) l.place.temporary l.place.arrays l.place.exit;
-  temporary : l.place.temporary ≡ l.at.temporary + length l.forms.items;
   arrays : l.place.arrays ≡ l.at.arrays;
   exit : l.place.exit ≡ l.at.exit;
+  few : l.at.temporary + length l.forms.items ≤ l.place.temporary;
+  counted : Unrefused l.out (l.place.temporary ≡ l.at.temporary + length l.forms.items);
   emits : (v : Bool) (k : Instructions) →
-      Follows l.out (emitted (view_layout l.layout) false l.fn.kept.forms l.fn.kept.temporaries (joined (map view l.left) (view l.last)) l.place.temporary l.at.arrays l.at.exit
-      (all_joined (view_layout l.layout) (map view_form l.forms.items) (form_of l.fn.kept.forms (joined (map view l.left) (view l.last))) l.at.temporary l.at.exit k))
-      l.fn.out (emitted (view_layout l.layout) v l.fn.kept.forms l.fn.kept.temporaries (joined (view l.first ∷ map view l.others) (view l.last)) l.at.temporary l.at.arrays l.at.exit k);
-  kept : l.kept ≡ l.fn.kept;
+      Follows l.out (emitted (view_layout l.layout) false (keeping_in l.keeps).forms (keeping_in l.keeps).temporaries (joined (map view l.left) (view l.last)) l.place.temporary l.at.arrays l.at.exit
+      (all_joined (view_layout l.layout) (map view_form l.forms.items) (form_of (keeping_in l.keeps).forms (joined (map view l.left) (view l.last))) l.at.temporary l.at.exit k))
+      l.fn.out (emitted (view_layout l.layout) v (keeping_in l.keeps).forms (keeping_in l.keeps).temporaries (joined (view l.first ∷ map view l.others) (view l.last)) l.at.temporary l.at.arrays l.at.exit k);
   lighter : weight (joined (map view l.left) (view l.last)) ≤ weight (joined (map view l.others) (view l.last));
 }
