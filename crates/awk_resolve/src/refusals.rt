@@ -147,9 +147,10 @@ pub(crate) fn first_duplicate<'a>(
     };
     let found = first_taken(&mut seen, scopes, marks);
     if seen.is_refused {
-        return Err(AllocError);
+        Err(AllocError)
+    } else {
+        Ok(found)
     }
-    Ok(found)
 }
 
 /// The function of a call, if the script lacks it.
