@@ -1,20 +1,8 @@
--- Refusals one after another.
+-- The refusal for a name of both kinds.
 use Rattle.std.proofs.Common.{◌≡◌, List, Bool, Option, None, ap, sym, ◌∙◌}
 use Rattle.std.specs.Option.{option_map}
 use Rattle.awk_kinds.specs.Marks.{Mark, Array, Scalar}
 use Rattle.awk_kinds.specs.Kinds.{Key, Head, Refusal, KindClash, or_else, first, clash, is_used_as, name_refusal, refusal_by}
-use Rattle.awk_resolve.specs.ViewResolved.{IsCause}
-use Rattle.awk_resolve.specs.declared.fault.ResolveFault.{ResolveFault}
-use Rattle.awk_resolve.specs.declared.fault.ResolveFault.TheVariants.{TooMany, DuplicateName, UnknownFunction, ArgCount, KindClash as KindClashFault, NoMemory}
-
--- the first of two
-pub cause_first : (f : ResolveFault) (r o : Option Refusal) → IsCause f r → IsCause f (or_else r o)
-cause_first (TooMany x) r o h = ap (λ (u : Option Refusal). or_else u o) h
-cause_first (DuplicateName x) r o h = ap (λ (u : Option Refusal). or_else u o) h
-cause_first (UnknownFunction x) r o h = ap (λ (u : Option Refusal). or_else u o) h
-cause_first (ArgCount x) r o h = ap (λ (u : Option Refusal). or_else u o) h
-cause_first (KindClashFault x) r o h = ap (λ (u : Option Refusal). or_else u o) h
-cause_first NoMemory r o h = tt
 
 abbrev pub clash_of : (Key → Bool) → (Key → Bool) → List Head → List Mark → Option Refusal
 clash_of arrays scalars hs ms = option_map KindClash (first (clash arrays scalars hs) ms)

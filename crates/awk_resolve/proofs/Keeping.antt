@@ -1,27 +1,11 @@
--- What is held while more is done, and marks that are found one after the other.
+-- Marks that are found one after the other.
 use Rattle.std.proofs.Common.{◌≡◌, false, List, [], ◌++◌, Result, Ok, Err, refl, ap, sym, subst, ◌∙◌, append_assoc, append-nil}
 use Rattle.std.specs.Global.{Vec}
-use Rattle.std.specs.Result.{IfErr, IfOk, OnOk}
+use Rattle.std.specs.Result.{IfOk}
 use Rattle.awk_kinds.specs.Marks.{Mark}
 use Rattle.awk_resolve.specs.View.{view_marks, AddsMarks}
 use Rattle.awk_resolve.specs.declared.mark.Mark.{Mark as Found}
 use Rattle.awk_resolve.specs.declared.mark_list.Marks.{Marks}
-
-pub held_so : {T E : Type 0} (r : Result T E) (d : Result (Unit {0}) E) (v : T) (P : T → Type 0) → IfOk r (λ x. (x ≡ v) × (d ≡ Ok tt)) → OnOk d (P v) → IfOk r P
-held_so {T} {E} (Ok x) d v P h g = subst P (sym h.0) (subst (λ (u : Result (Unit {0}) E). OnOk u (P v)) h.1 g)
-held_so (Err e) d v P h g = tt
-
-pub held_done : {T E : Type 0} (Q : Type 0) (r : Result T E) (d : Result (Unit {0}) E) (v : T) → IfOk r (λ x. (x ≡ v) × (d ≡ Ok tt)) → OnOk d Q → OnOk r Q
-held_done {T} {E} Q (Ok x) d v h g = subst (λ (u : Result (Unit {0}) E). OnOk u Q) h.1 g
-held_done Q (Err e) d v h g = tt
-
-pub held_is : {T E : Type 0} (r : Result T E) (d : Result (Unit {0}) E) (v : T) (P : T → Type 0) → IfOk r (λ x. (x ≡ v) × (d ≡ Ok tt)) → P v → IfOk r P
-held_is (Ok x) d v P h p = subst P (sym h.0) p
-held_is (Err e) d v P h p = tt
-
-pub not_held : {T E : Type 0} (r : Result T E) (d : Result (Unit {0}) E) (P : E → Type 0) → IfErr r (λ e. d ≡ Err e) → IfErr d P → IfErr r P
-not_held (Ok x) d P h g = tt
-not_held {T} {E} (Err e) d P h g = subst (λ (u : Result (Unit {0}) E). IfErr u P) h g
 
 pub adds_none : (a : Marks) → AddsMarks a a []
 adds_none a = record { adds = λ h. (h, sym (append-nil (view_marks a.found.items))) }

@@ -8,4 +8,6 @@ pub mod Transfer
 pub mod Places
 pub mod Causes
 pub mod Tables
+pub mod Noted
+pub mod Listed
 pub mod Keeping

@@ -1,16 +1,13 @@
 -- Names and variables of the code, as the definitions see them.
-use Rattle.std.proofs.Common.{◌≡◌, ℕ, ◌+◌, ◌<◌, length, drop, get_or, drop-cons, add-one, Bool, true, false, ◌||◌, ◌&&◌, List, [], ◌∷◌, ◌++◌, Option, Some, None, refl, ap, sym, ◌∙◌, subst, cond, not, if◌then◌else◌, is_some, true≢false}
+use Rattle.std.proofs.Common.{◌≡◌, ℕ, ◌+◌, ◌<◌, length, drop, get_or, drop-cons, add-one, Bool, true, false, ◌||◌, ◌&&◌, List, [], ◌∷◌, ◌++◌, Option, Some, None, refl, ap, sym, ◌∙◌, subst, not, if◌then◌else◌, is_some, true≢false}
 use Rattle.std.specs.Borrow.{Bor}
-use Rattle.std.specs.Global.{Vec}
 use Rattle.std.specs.Cmp.Lexicographic.{bytes_decides}
 use Rattle.std.specs.List.{list_any}
-use Rattle.std.specs.Map.{lookup}
 use Rattle.std.proofs.Math.Bool.{or-true, or-false, or_assoc}
 use Rattle.std.proofs.lemmas.List.Folds.{list_any-append}
 use Rattle.indexmap.specs.IndexSet.{insert_key}
-use Rattle.awk_grammar.specs.ViewStmt.{view_names}
-use Rattle.awk_kinds.specs.Kinds.{special_arrays, special_scalars, specials, has_name, Key, Whole as WholeKey, Inside as InsideKey, or_else, same_name, same_key, with_key, with_keys}
-use Rattle.awk_resolve.specs.ViewNames.{names, view_variable, view_variables, view_parameters, parameters_in}
+use Rattle.awk_kinds.specs.Kinds.{special_arrays, special_scalars, specials, has_name, Key, Whole as WholeKey, Inside as InsideKey, same_name, same_key, with_key, with_keys}
+use Rattle.awk_resolve.specs.ViewNames.{names, view_variable, view_variables}
 use Rattle.awk_resolve.specs.declared.scopes.Variable.{Variable}
 use Rattle.awk_resolve.specs.declared.scopes.Variable.TheVariants.{Whole, Inside}
 use Rattle.awk_resolve.specs.contracts.scopes.VariablePartialEq.TheImpl.{eq-value}
@@ -80,53 +77,8 @@ pub with_keys_append : (ks ls ms : List Key) → with_keys ks (ls ++ ms) ≡ wit
 with_keys_append ks [] ms = refl
 with_keys_append ks (l ∷ ls) ms = with_keys_append (with_key ks l) ls ms
 
--- The table of functions.
-
-abbrev pub Entry : Type 0
-Entry = Bor (List ℕ) × Bor (List (Vec ℕ))
-
 abbrev pub is_for : List ℕ → Bor (List ℕ) → Bool
 is_for f k = same_name f k.now
-
-lookup_by : (b : Bool) (p : Bor (List (Vec ℕ))) (o : Option (Bor (List (Vec ℕ)))) → view_parameters (cond b (Some p) o) ≡ (if b then Some (view_names p.now) else view_parameters o)
-lookup_by true p o = refl
-lookup_by false p o = refl
-
-pub lookup_is : (es : List Entry) (f : List ℕ) → view_parameters (lookup (is_for f) es) ≡ parameters_in es f
-lookup_is [] f = refl
-lookup_is (e ∷ es) f = lookup_by (same_name f e.0.now) e.1 (lookup (is_for f) es) ∙ ap (λ (o : Option (List (List ℕ))). if same_name f e.0.now then Some (view_names e.1.now) else o) (lookup_is es f)
-
-or_else_if : (b : Bool) (x : List (List ℕ)) (o p : Option (List (List ℕ))) → or_else (if b then Some x else o) p ≡ (if b then Some x else or_else o p)
-or_else_if true x o p = refl
-or_else_if false x o p = refl
-
--- a function at the end of the table
-pub one_more : (es : List Entry) (e : Entry) (f : List ℕ) (o : Option (List (List ℕ))) → or_else (parameters_in (es ++ e ∷ []) f) o ≡ or_else (parameters_in es f) (if same_name f e.0.now then Some (view_names e.1.now) else o)
-one_more [] e f o = or_else_if (same_name f e.0.now) (view_names e.1.now) None o
-one_more (d ∷ es) e f o =
-    or_else_if (same_name f d.0.now) (view_names d.1.now) (parameters_in (es ++ e ∷ []) f) o
-    ∙ ap (λ (u : Option (List (List ℕ))). if same_name f d.0.now then Some (view_names d.1.now) else u) (one_more es e f o)
-    ∙ sym (or_else_if (same_name f d.0.now) (view_names d.1.now) (parameters_in es f) (if same_name f e.0.now then Some (view_names e.1.now) else o))
-
-some_view : (o : Option (Bor (List (Vec ℕ)))) → is_some (view_parameters o) ≡ is_some o
-some_view None = refl
-some_view (Some p) = refl
-
--- whether a function is in the table
-pub present : (es : List Entry) (f : List ℕ) → is_some (parameters_in es f) ≡ is_some (lookup (is_for f) es)
-present es f = ap is_some (sym (lookup_is es f)) ∙ some_view (lookup (is_for f) es)
-
-some_or_else : (o p : Option (List (List ℕ))) → is_some o ≡ true → or_else o p ≡ o
-some_or_else None p h = absurd (true≢false (sym h))
-some_or_else (Some x) p h = refl
-
--- a function that is in the table already adds nothing
-repeated_by : (b : Bool) (o : Option (List (List ℕ))) (x : List (List ℕ)) (p : Option (List (List ℕ))) → (b ≡ true → is_some o ≡ true) → or_else o p ≡ or_else o (if b then Some x else p)
-repeated_by true o x p h = some_or_else o p (h refl) ∙ sym (some_or_else o (Some x) (h refl))
-repeated_by false o x p h = refl
-
-pub repeated : (es : List Entry) (g : List ℕ) (x : List (List ℕ)) (f : List ℕ) (o : Option (List (List ℕ))) → is_some (parameters_in es g) ≡ true → or_else (parameters_in es f) o ≡ or_else (parameters_in es f) (if same_name f g then Some x else o)
-repeated es g x f o there = repeated_by (same_name f g) (parameters_in es f) x o (λ h. subst (λ (u : List ℕ). is_some (parameters_in es u) ≡ true) (sym (same_sound f g h)) there)
 
 pub absent : {A : Type 0} (o : Option A) → is_some o ≡ false → o ≡ None
 absent None h = refl

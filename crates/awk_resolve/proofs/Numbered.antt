@@ -1,12 +1,10 @@
 -- Numbers of variables, as variables are added.
-use Rattle.std.proofs.Common.{◌≡◌, ℕ, zero, suc, Bool, true, false, List, [], ◌∷◌, ◌++◌, map, Option, Some, None, refl, ap, sym, subst, ◌∙◌, append_assoc, append-nil, if◌then◌else◌}
+use Rattle.std.proofs.Common.{◌≡◌, ℕ, zero, suc, Bool, true, false, List, [], ◌∷◌, ◌++◌, map, Option, Some, refl, ap, sym, ◌∙◌, append_assoc, if◌then◌else◌}
 use Rattle.std.specs.List.{slice_get, list_any}
 use Rattle.std.proofs.lemmas.List.{map-append}
 use Rattle.awk_kinds.specs.Marks.{Kind, Mark, Defined, Parameter, Used, Called, Computed, Given}
-use Rattle.awk_kinds.specs.Kinds.{Key, Head, same_key, same_kind, with_key, with_maybe, used, members, specials_of, Whole, pairs, key_in, parameter_at, pair_of}
-use Rattle.std.specs.Borrow.{Bor}
-use Rattle.awk_resolve.specs.ViewNames.{names}
-use Rattle.awk_resolve.specs.Numbered.{AreNumbers, ArePairs, both_at, both_some, one_if, all_if}
+use Rattle.awk_kinds.specs.Kinds.{Key, Head, same_key, same_kind, with_key, used, members, specials_of, Whole, pairs, key_in, parameter_at, pair_of}
+use Rattle.awk_resolve.specs.Numbered.{AreNumbers, ArePairs, both_at, both_some}
 
 get_append : (ks ls : List Key) (n : ℕ) (k : Key) → slice_get ks n ≡ Some k → slice_get (ks ++ ls) n ≡ Some k
 get_append [] ls n k h = absurd (cc)
@@ -17,14 +15,14 @@ get_by : (b : Bool) (ks : List Key) (l : Key) (n : ℕ) (k : Key) → slice_get 
 get_by true ks l n k h = h
 get_by false ks l n k h = get_append ks (l ∷ []) n k h
 
-get_with_key : (ks : List Key) (l : Key) (n : ℕ) (k : Key) → slice_get ks n ≡ Some k → slice_get (with_key ks l) n ≡ Some k
+pub get_with_key : (ks : List Key) (l : Key) (n : ℕ) (k : Key) → slice_get ks n ≡ Some k → slice_get (with_key ks l) n ≡ Some k
 get_with_key ks l n k h = get_by (list_any (same_key l) ks) ks l n k h
 
 cons_both : {A : Type 0} (x y : A) (xs ys : List A) → x ≡ y → xs ≡ ys → (x ∷ xs) ≡ (y ∷ ys)
 cons_both x y xs ys e f = cc
 
 -- numbers stay those of their variables as others are added
-pub numbers_stay : (keys : List Key) (l : Key) (ns : List ℕ) (ks : List Key) → AreNumbers keys ns ks → AreNumbers (with_key keys l) ns ks
+numbers_stay : (keys : List Key) (l : Key) (ns : List ℕ) (ks : List Key) → AreNumbers keys ns ks → AreNumbers (with_key keys l) ns ks
 numbers_stay keys l [] [] h = refl
 numbers_stay keys l [] (k ∷ ks) h = absurd (cc)
 numbers_stay keys l (n ∷ ns) [] h = absurd (cc)
@@ -33,7 +31,7 @@ numbers_stay keys l (n ∷ ns) (k ∷ ks) h =
     let tail : map (slice_get keys) ns ≡ map Some ks = cc in
     cons_both (slice_get (with_key keys l) n) (Some k) (map (slice_get (with_key keys l)) ns) (map Some ks) (get_with_key keys l n k head) (numbers_stay keys l ns ks tail)
 
-pub one_more_number : (keys : List Key) (ns : List ℕ) (n : ℕ) (ks : List Key) (k : Key) → slice_get keys n ≡ Some k → AreNumbers keys ns ks → AreNumbers keys (ns ++ n ∷ []) (ks ++ k ∷ [])
+one_more_number : (keys : List Key) (ns : List ℕ) (n : ℕ) (ks : List Key) (k : Key) → slice_get keys n ≡ Some k → AreNumbers keys ns ks → AreNumbers keys (ns ++ n ∷ []) (ks ++ k ∷ [])
 one_more_number keys ns n ks k at h =
     map-append (slice_get keys) ns (n ∷ []) ∙ ap (λ (u : List (Option Key)). u ++ slice_get keys n ∷ []) h ∙ ap (λ (u : Option Key). map Some ks ++ u ∷ []) at ∙ sym (map-append Some ks (k ∷ []))
 
@@ -54,7 +52,7 @@ one_more_pair keys ps n m qs k l f g h =
 
 -- Marks, one after another.
 
-pub used_append : (kind : Kind) (hs : List Head) (ms ns : List Mark) → used kind hs (ms ++ ns) ≡ used kind hs ms ++ used kind hs ns
+used_append : (kind : Kind) (hs : List Head) (ms ns : List Mark) → used kind hs (ms ++ ns) ≡ used kind hs ms ++ used kind hs ns
 used_append kind hs [] ns = refl
 used_append kind hs (Defined f ∷ ms) ns = used_append kind hs ms ns
 used_append kind hs (Parameter f x ∷ ms) ns = used_append kind hs ms ns
@@ -79,41 +77,13 @@ pairs_append hs (Called f n ∷ ms) ns = pairs_append hs ms ns
 pairs_append hs (Computed f i ∷ ms) ns = pairs_append hs ms ns
 pairs_append hs (Given f i place x ∷ ms) ns = let q = pair_of (key_in hs place x) (parameter_at hs f i) in ap (λ (u : List (Key × Key)). q ++ u) (pairs_append hs ms ns) ∙ sym (append_assoc q (pairs hs ms) (pairs hs ns))
 
--- The steps of the code.
+-- What one variable more does to the numbers.
 
-pub number_noted : (old new : List Key) (k : Key) (n : ℕ) (ns ms : List ℕ) (ks : List Key) → new ≡ with_key old k → slice_get new n ≡ Some k → ms ≡ ns ++ n ∷ [] → AreNumbers old ns ks → AreNumbers new ms (ks ++ k ∷ [])
-number_noted old new k n ns ms ks e at f h =
-    let h' : AreNumbers new ns ks = subst (λ (u : List Key). AreNumbers u ns ks) (sym e) (numbers_stay old k ns ks h) in
-    subst (λ (u : List ℕ). AreNumbers new u (ks ++ k ∷ [])) (sym f) (one_more_number new ns n ks k at h')
+pub numbers_same : (keys : List Key) (k : Key) (ns ms : List ℕ) (ks : List Key) → ms ≡ ns → AreNumbers keys ns ks → AreNumbers (with_key keys k) ms ks
+numbers_same keys k ns ms ks e h = ap (map (slice_get (with_key keys k))) e ∙ numbers_stay keys k ns ks h
 
-pub numbers_kept : (old new : List Key) (k : Key) (ns ms : List ℕ) (ks : List Key) → new ≡ with_key old k → ms ≡ ns → AreNumbers old ns ks → AreNumbers new ms (ks ++ [])
-numbers_kept old new k ns ms ks e f h =
-    let h' : AreNumbers new ns ks = subst (λ (u : List Key). AreNumbers u ns ks) (sym e) (numbers_stay old k ns ks h) in
-    ap (map (slice_get new)) f ∙ h' ∙ ap (map Some) (sym (append-nil ks))
+pub numbers_more : (keys : List Key) (k : Key) (n : ℕ) (ns ms : List ℕ) (ks : List Key) → slice_get (with_key keys k) n ≡ Some k → ms ≡ ns ++ n ∷ [] → AreNumbers keys ns ks → AreNumbers (with_key keys k) ms (ks ++ k ∷ [])
+numbers_more keys k n ns ms ks at e h = ap (map (slice_get (with_key keys k))) e ∙ one_more_number (with_key keys k) ns n ks k at (numbers_stay keys k ns ks h)
 
-pub pairs_kept : (old new : List Key) (k : Key) (ps rs : List (ℕ × ℕ)) (qs : List (Key × Key)) → new ≡ with_key old k → rs ≡ ps → ArePairs old ps qs → ArePairs new rs (qs ++ [])
-pairs_kept old new k ps rs qs e f h =
-    let h' : ArePairs new ps qs = subst (λ (u : List Key). ArePairs u ps qs) (sym e) (pairs_stay old k ps qs h) in
-    ap (map (both_at new)) f ∙ h' ∙ ap (map both_some) (sym (append-nil qs))
-
-pub numbers_given : (old new : List Key) (k : Key) (p : Option Key) (ns ms : List ℕ) (ks : List Key) → new ≡ with_maybe (with_key old k) p → ms ≡ ns → AreNumbers old ns ks → AreNumbers new ms (ks ++ [])
-numbers_given old new k None ns ms ks e f h = numbers_kept old new k ns ms ks e f h
-numbers_given old new k (Some p) ns ms ks e f h = numbers_kept (with_key old k) new p ns ms ks e f (numbers_stay old k ns ks h)
-
-pub pair_noted : (old mid new : List Key) (k l : Key) (n m : ℕ) (ps rs : List (ℕ × ℕ)) (qs : List (Key × Key)) → mid ≡ with_key old k → slice_get mid n ≡ Some k → new ≡ with_key mid l → slice_get new m ≡ Some l → rs ≡ ps ++ (n, m) ∷ []
-    → ArePairs old ps qs → ArePairs new rs (qs ++ (k, l) ∷ [])
-pair_noted old mid new k l n m ps rs qs e at f there g h =
-    let h1 : ArePairs mid ps qs = subst (λ (u : List Key). ArePairs u ps qs) (sym e) (pairs_stay old k ps qs h) in
-    let h2 : ArePairs new ps qs = subst (λ (u : List Key). ArePairs u ps qs) (sym f) (pairs_stay mid l ps qs h1) in
-    let at' : slice_get new n ≡ Some k = subst (λ (u : List Key). slice_get u n ≡ Some k) (sym f) (get_with_key mid l n k at) in
-    ap (map (both_at new)) g ∙ one_more_pair new ps n m qs k l at' there h2
-
-all_more : (b : Bool) (xs : List Key) (x : Key) → all_if b (xs ++ x ∷ []) ≡ all_if b xs ++ one_if b x
-all_more true xs x = refl
-all_more false xs x = refl
-
--- one more name of those that are noted
-pub all_noted : (b : Bool) (ks : List Key) (xs ys : List (Bor (List ℕ))) (x : Bor (List ℕ)) → ys ≡ xs ++ x ∷ [] → (ks ++ all_if b (map Whole (names xs))) ++ one_if b (Whole x.now) ≡ ks ++ all_if b (map Whole (names ys))
-all_noted b ks xs ys x e =
-    append_assoc ks (all_if b (map Whole (names xs))) (one_if b (Whole x.now))
-    ∙ ap (λ (u : List Key). ks ++ u) (sym (all_more b (map Whole (names xs)) (Whole x.now)) ∙ ap (all_if b) (sym (ap (λ (u : List (Bor (List ℕ))). map Whole (names u)) e ∙ ap (map Whole) (map-append (λ (n : Bor (List ℕ)). n.now) xs (x ∷ [])) ∙ map-append Whole (names xs) (x.now ∷ []))))
+pub pairs_same : (keys : List Key) (k : Key) (ps rs : List (ℕ × ℕ)) (qs : List (Key × Key)) → rs ≡ ps → ArePairs keys ps qs → ArePairs (with_key keys k) rs qs
+pairs_same keys k ps rs qs e h = ap (map (both_at (with_key keys k))) e ∙ pairs_stay keys k ps qs h

@@ -1,78 +1,111 @@
 -- A set of numbers as it grows.
-use Rattle.std.proofs.Common.{◌≡◌, ℕ, zero, suc, ◌+◌, ◌<◌, ◌==◌, Bool, true, false, IsTrue, if◌then◌else◌, List, [], ◌∷◌, ◌++◌, All, length, length-set, get_or, replicate, refl, ap, sym, subst, ◌∙◌, ◌⊎◌, inl, inr, true≢false, append_assoc, eqb-true, eq-eqb, arith}
+use Rattle.std.proofs.Common.{◌≡◌, ℕ, zero, suc, ◌+◌, ◌<◌, ◌≤◌, ◌==◌, Bool, true, false, not, ◌||◌, IsTrue, if◌then◌else◌, List, [], ◌∷◌, ◌++◌, All, Result, Ok, Err, length, length-set, get_or, replicate, refl, ap, sym, subst, ◌∙◌, ◌⊎◌, inl, inr, true≢false, append_assoc, eqb-true, eq-eqb, arith}
 use Rattle.std.proofs.lemmas.Bool.{eqb-false}
 use Rattle.std.proofs.Math.ListN.{set}
 use Rattle.std.specs.Global.{Vec}
 use Rattle.std.specs.List.{Contains}
+use Rattle.std.specs.Result.{IfOk}
 use Rattle.std.proofs.lemmas.List.Elements.{All-nil, All-cons, All-head, All-tail, All-append, All-push, All-weaker, Contains-append_left, Contains-push, Contains-push_cases}
-use Rattle.awk_resolve.specs.Marked.{is_marked}
-use Rattle.awk_resolve.specs.Waiting.{Adds, given_for, numbers_at}
+use Rattle.std.proofs.Math.Bool.{or-true}
+use Rattle.awk_resolve.specs.Marked.{is_marked, unmarked}
+use Rattle.awk_resolve.specs.ViewFound.{Adds, IsIn, left}
+use Rattle.awk_resolve.specs.Waiting.{given_for, numbers_at}
+use Rattle.awk_resolve.specs.declared.closure.Found.{Found}
+use Rattle.awk_resolve.specs.declared.held.Grown.{Grown}
 use Rattle.awk_resolve.proofs.Marked.{unmarked_set, marked_set, marked_grows, marked_at, none_marked}
 
-pub length_push : {A : Type 0} (xs : List A) (x : A) → length (xs ++ x ∷ []) ≡ length xs + 1
+length_push : {A : Type 0} (xs : List A) (x : A) → length (xs ++ x ∷ []) ≡ length xs + 1
 length_push [] x = refl
 length_push (y ∷ xs) x = let e = length_push xs x in omega (arith, e)
 
 -- Adding numbers one after another.
 
-abbrev IsIn : List Bool → ℕ → Type 0
-IsIn ms n = IsTrue (is_marked ms n)
-
-pub adds_none : (ms : List Bool) (ws : List ℕ) → Adds [] ms ws ms ws
-adds_none ms ws = record {
+pub adds_none : (f : Found) → Adds [] f f
+adds_none f = record {
   size = refl;
-  has = All-nil (IsIn ms);
+  has = All-nil (IsIn f);
   grows = λ n h. h;
   within = λ other has base n h. base n h;
-  waits = λ n h. inl h;
+  whole = λ h. h;
+  waits = λ fine n h. inl h;
   kept = λ n h. h;
   marked = λ h. h;
-  left = refl;
+  less = omega arith;
 }
 
-adds_by : (b : Bool) (ms : List Bool) (ws : List ℕ) (n : ℕ) → n < length ms → is_marked ms n ≡ b → Adds (n ∷ []) ms ws (if b then ms else set ms n true) (if b then ws else ws ++ n ∷ [])
-adds_by true ms ws n lt is = record {
+pub adds_known : (f : Found) (n : ℕ) → IsIn f n → Adds (n ∷ []) f f
+adds_known f n is = record {
   size = refl;
-  has = All-cons (IsIn ms) n [] is (All-nil (IsIn ms));
+  has = All-cons (IsIn f) n [] is (All-nil (IsIn f));
   grows = λ k h. h;
   within = λ other has base k h. base k h;
-  waits = λ k h. inl h;
+  whole = λ h. h;
+  waits = λ fine k h. inl h;
   kept = λ k h. h;
   marked = λ h. h;
-  left = refl;
+  less = omega arith;
 }
-adds_by false ms ws n lt is = record {
-  size = length-set ms n true;
-  has = All-cons (IsIn (set ms n true)) n [] (marked_at ms n lt) (All-nil (IsIn (set ms n true)));
-  grows = λ k h. marked_grows ms n k h;
-  within = λ other has base k h. within other (All-head (λ k. IsTrue (other k)) n [] has) base k (marked_set ms n k h);
-  waits = λ k h. waits k (marked_set ms n k h);
-  kept = λ k h. Contains-append_left ws (n ∷ []) k h;
-  marked = λ h. All-push (IsIn (set ms n true)) ws n (All-weaker (IsIn ms) (IsIn (set ms n true)) (λ k i. marked_grows ms n k i) ws h) (marked_at ms n lt);
-  left = let e = unmarked_set ms n lt is in let f = length_push ws n in omega (arith, e, f);
+
+-- a new number, which waits if there is memory for it
+pub adds_new : (old new : Found) (n : ℕ) (put : Bool) → n < length old.marked.items → is_marked old.marked.items n ≡ false → new.marked.items ≡ set old.marked.items n true
+    → new.waiting.items ≡ (if put then old.waiting.items ++ n ∷ [] else old.waiting.items) → new.is_refused ≡ (old.is_refused || not put) → Adds (n ∷ []) old new
+adds_new old new n put lt is e f g = record {
+  size = ap length e ∙ length-set old.marked.items n true;
+  has = All-cons (IsIn new) n [] here (All-nil (IsIn new));
+  grows = grows;
+  within = λ other has base k h. within other (All-head (λ k. IsTrue (other k)) n [] has) base k (cases k h);
+  whole = λ fine. whole put old.is_refused (sym g ∙ fine);
+  waits = λ fine k h. waits put f (sym g ∙ fine) k (cases k h);
+  kept = λ k h. kept put f k h;
+  marked = λ h. marked put f (All-weaker (IsIn old) (IsIn new) grows old.waiting.items h);
+  less = less put f;
 }
   where
-    within : (other : ℕ → Bool) → IsTrue (other n) → ((k : ℕ) → IsIn ms k → IsTrue (other k)) → (k : ℕ) → (k ≡ n) ⊎ IsIn ms k → IsTrue (other k)
+    here : IsIn new n
+    here = subst (λ (bs : List Bool). IsTrue (is_marked bs n)) (sym e) (marked_at old.marked.items n lt)
+
+    grows : (k : ℕ) → IsIn old k → IsIn new k
+    grows k h = subst (λ (bs : List Bool). IsTrue (is_marked bs k)) (sym e) (marked_grows old.marked.items n k h)
+
+    cases : (k : ℕ) → IsIn new k → (k ≡ n) ⊎ IsIn old k
+    cases k h = marked_set old.marked.items n k (subst (λ (bs : List Bool). IsTrue (is_marked bs k)) e h)
+
+    within : (other : ℕ → Bool) → IsTrue (other n) → ((k : ℕ) → IsIn old k → IsTrue (other k)) → (k : ℕ) → (k ≡ n) ⊎ IsIn old k → IsTrue (other k)
     within other has base k (inl e) = subst (λ (u : ℕ). IsTrue (other u)) (sym e) has
     within other has base k (inr i) = base k i
 
-    waits : (k : ℕ) → (k ≡ n) ⊎ IsIn ms k → IsIn ms k ⊎ Contains (ws ++ n ∷ []) k
-    waits k (inl e) = inr (subst (Contains (ws ++ n ∷ [])) (sym e) (Contains-push ws n))
-    waits k (inr i) = inl i
+    whole : (put b : Bool) → (b || not put) ≡ false → b ≡ false
+    whole put false h = refl
+    whole put true h = absurd (true≢false h)
 
-pub adds_one : (ms : List Bool) (ws : List ℕ) (n : ℕ) (new : List Bool) (still : List ℕ) → n < length ms → new ≡ (if is_marked ms n then ms else set ms n true) → still ≡ (if is_marked ms n then ws else ws ++ n ∷ []) → Adds (n ∷ []) ms ws new still
-adds_one ms ws n new still lt e f = rw (e, f) (adds_by (is_marked ms n) ms ws n lt refl)
+    waits : (put : Bool) → new.waiting.items ≡ (if put then old.waiting.items ++ n ∷ [] else old.waiting.items) → (old.is_refused || not put) ≡ false → (k : ℕ) → (k ≡ n) ⊎ IsIn old k → IsIn old k ⊎ Contains new.waiting.items k
+    waits put f h k (inr i) = inl i
+    waits true f h k (inl e) = inr (subst (λ (u : ℕ). Contains new.waiting.items u) (sym e) (subst (λ (us : List ℕ). Contains us n) (sym f) (Contains-push old.waiting.items n)))
+    waits false f h k (inl e) = absurd (true≢false (sym (or-true old.is_refused) ∙ h))
 
-pub adds_both : (xs ys : List ℕ) (a b c : List Bool) (u v w : List ℕ) → Adds xs a u b v → Adds ys b v c w → Adds (xs ++ ys) a u c w
-adds_both xs ys a b c u v w f s = record {
+    kept : (put : Bool) → new.waiting.items ≡ (if put then old.waiting.items ++ n ∷ [] else old.waiting.items) → (k : ℕ) → Contains old.waiting.items k → Contains new.waiting.items k
+    kept true f k h = subst (λ (us : List ℕ). Contains us k) (sym f) (Contains-append_left old.waiting.items (n ∷ []) k h)
+    kept false f k h = subst (λ (us : List ℕ). Contains us k) (sym f) h
+
+    marked : (put : Bool) → new.waiting.items ≡ (if put then old.waiting.items ++ n ∷ [] else old.waiting.items) → All (IsIn new) old.waiting.items → All (IsIn new) new.waiting.items
+    marked true f all = subst (All (IsIn new)) (sym f) (All-push (IsIn new) old.waiting.items n all here)
+    marked false f all = subst (All (IsIn new)) (sym f) all
+
+    less : (put : Bool) → new.waiting.items ≡ (if put then old.waiting.items ++ n ∷ [] else old.waiting.items) → left new ≤ left old
+    less true f = let a = ap unmarked e in let b = unmarked_set old.marked.items n lt is in let c = ap length f in let d = length_push old.waiting.items n in omega (arith, a, b, c, d)
+    less false f = let a = ap unmarked e in let b = unmarked_set old.marked.items n lt is in let c = ap length f in omega (arith, a, b, c)
+
+pub adds_both : (xs ys : List ℕ) {a b c : Found} → Adds xs a b → Adds ys b c → Adds (xs ++ ys) a c
+adds_both xs ys {a} {b} {c} f s = record {
   size = s.size ∙ f.size;
   has = All-append (IsIn c) xs ys (All-weaker (IsIn b) (IsIn c) s.grows xs f.has) s.has;
   grows = λ n h. s.grows n (f.grows n h);
   within = λ other has base n h. s.within other (after other xs has) (λ k i. f.within other (before other xs has) base k i) n h;
-  waits = λ n h. either n (s.waits n h);
+  whole = λ fine. f.whole (s.whole fine);
+  waits = λ fine n h. either (s.whole fine) n (s.waits fine n h);
   kept = λ n h. s.kept n (f.kept n h);
   marked = λ h. s.marked (f.marked h);
-  left = s.left ∙ f.left;
+  less = let p = f.less in let q = s.less in omega (arith, p, q);
 }
   where
     before : (other : ℕ → Bool) (zs : List ℕ) → All (λ n. IsTrue (other n)) (zs ++ ys) → All (λ n. IsTrue (other n)) zs
@@ -83,13 +116,13 @@ adds_both xs ys a b c u v w f s = record {
     after other [] h = h
     after other (z ∷ zs) h = after other zs (All-tail (λ n. IsTrue (other n)) z (zs ++ ys) h)
 
-    old : (n : ℕ) → IsIn a n ⊎ Contains v n → IsIn a n ⊎ Contains w n
+    old : (n : ℕ) → IsIn a n ⊎ Contains b.waiting.items n → IsIn a n ⊎ Contains c.waiting.items n
     old n (inl i) = inl i
     old n (inr i) = inr (s.kept n i)
 
-    either : (n : ℕ) → IsIn b n ⊎ Contains w n → IsIn a n ⊎ Contains w n
-    either n (inl i) = old n (f.waits n i)
-    either n (inr i) = inr i
+    either : b.is_refused ≡ false → (n : ℕ) → IsIn b n ⊎ Contains c.waiting.items n → IsIn a n ⊎ Contains c.waiting.items n
+    either fine n (inl i) = old n (f.waits fine n i)
+    either fine n (inr i) = inr i
 
 -- What is paired with a number.
 
@@ -125,11 +158,33 @@ follows_given other (p ∷ ps) h = All-cons (λ p. IsTrue (other p.1) → IsTrue
 
 -- Lists by number.
 
-pub none_given : (vs : List (Vec ℕ)) (v : Vec ℕ) (n : ℕ) → v.items ≡ [] → numbers_at vs n ≡ [] → numbers_at (vs ++ v ∷ []) n ≡ []
+none_given : (vs : List (Vec ℕ)) (v : Vec ℕ) (n : ℕ) → v.items ≡ [] → numbers_at vs n ≡ [] → numbers_at (vs ++ v ∷ []) n ≡ []
 none_given [] v zero e h = e
 none_given [] v (suc n) e h = refl
 none_given (u ∷ vs) v zero e h = h
 none_given (u ∷ vs) v (suc n) e h = none_given vs v n e h
+
+-- so many lists of no numbers, unless memory was wanting
+pub record NoNumbers (lists : Grown (Vec ℕ)) (count : ℕ) : Type 0 where
+  pub size : lists.is_refused ≡ false → length lists.items.items ≡ count
+  pub empty : lists.is_refused ≡ false → (n : ℕ) → numbers_at lists.items.items n ≡ []
+
+pub no_first : (lists : Grown (Vec ℕ)) → lists.items.items ≡ [] → NoNumbers lists 0
+no_first lists e = record { size = λ fine. ap length e; empty = λ fine n. ap (λ (vs : List (Vec ℕ)). numbers_at vs n) e }
+
+pub no_next : {old new : Grown (Vec ℕ)} {count : ℕ} (v : Vec ℕ) → v.items ≡ [] → (new.is_refused ≡ false → (old.is_refused ≡ false) × (new.items.items ≡ old.items.items ++ v ∷ [])) → NoNumbers old count → NoNumbers new (count + 1)
+no_next {old} {new} {count} v none put h = record {
+  size = λ fine. let p = put fine in ap length p.1 ∙ length_push old.items.items v ∙ ap (λ (n : ℕ). n + 1) (h.size p.0);
+  empty = λ fine n. let p = put fine in ap (λ (vs : List (Vec ℕ)). numbers_at vs n) p.1 ∙ none_given old.items.items v n none (h.empty p.0 n);
+}
+
+pub no_size : {E : Type 0} (lists : Grown (Vec ℕ)) (count : ℕ) (r : Result (Vec (Vec ℕ)) E) → NoNumbers lists count → IfOk r (λ all. (lists.is_refused ≡ false) × (all.items ≡ lists.items.items)) → IfOk r (λ all. length all.items ≡ count)
+no_size lists count (Ok all) h is = ap length is.1 ∙ h.size is.0
+no_size lists count (Err e) h is = tt
+
+pub no_numbers : {E : Type 0} (lists : Grown (Vec ℕ)) (count : ℕ) (r : Result (Vec (Vec ℕ)) E) → NoNumbers lists count → IfOk r (λ all. (lists.is_refused ≡ false) × (all.items ≡ lists.items.items)) → IfOk r (λ all. (n : ℕ) → numbers_at all.items n ≡ [])
+no_numbers lists count (Ok all) h is = λ n. ap (λ (vs : List (Vec ℕ)). numbers_at vs n) is.1 ∙ h.empty is.0 n
+no_numbers lists count (Err e) h is = tt
 
 at_set : (vs : List (Vec ℕ)) (k : ℕ) (v : Vec ℕ) → k < length vs → numbers_at (set vs k v) k ≡ v.items
 at_set [] k v lt = absurd (omega arith)
@@ -160,41 +215,43 @@ numbers_set vs k g v rest n lt e = by (k == n) refl
 
 -- The set is closed when nothing waits.
 
--- each number of the set waits, or what is given for it is in the set
-abbrev pub IsFollowed : List Bool → List ℕ → List (ℕ × ℕ) → Type 0
-IsFollowed ms ws ps = (n : ℕ) → IsIn ms n → Contains ws n ⊎ All (IsIn ms) (given_for ps n)
+-- each number of the set waits, or what is given for it is in the set, unless memory was wanting
+pub record IsFollowed (found : Found) (ps : List (ℕ × ℕ)) : Type 0 where
+  pub followed : found.is_refused ≡ false → (n : ℕ) → IsIn found n → Contains found.waiting.items n ⊎ All (IsIn found) (given_for ps n)
 
-pub followed_first : (ps : List (ℕ × ℕ)) (ms : List ℕ) (count : ℕ) (old new : List Bool) (ws still : List ℕ) → old ≡ replicate count false → Adds ms old ws new still → IsFollowed new still ps
-followed_first ps ms count old new ws still e adds n h = by (adds.waits n h)
+pub followed_first : (ps : List (ℕ × ℕ)) {ms : List ℕ} (count : ℕ) {old new : Found} → old.marked.items ≡ replicate count false → Adds ms old new → IsFollowed new ps
+followed_first ps count {old} {new} e adds = record { followed = λ fine n h. by n (adds.waits fine n h) }
   where
-    by : IsIn old n ⊎ Contains still n → Contains still n ⊎ All (IsIn new) (given_for ps n)
-    by (inl i) = absurd (none_marked count n (subst (λ (bs : List Bool). IsIn bs n) e i))
-    by (inr i) = inl i
+    by : (n : ℕ) → IsIn old n ⊎ Contains new.waiting.items n → Contains new.waiting.items n ⊎ All (IsIn new) (given_for ps n)
+    by n (inl i) = absurd (none_marked count n (subst (λ (bs : List Bool). IsTrue (is_marked bs n)) e i))
+    by n (inr i) = inl i
 
-pub followed_more : (ps : List (ℕ × ℕ)) (ms new : List Bool) (ws rest still : List ℕ) (n : ℕ) → ws ≡ rest ++ n ∷ [] → IsFollowed ms ws ps → Adds (given_for ps n) ms rest new still → IsFollowed new still ps
-followed_more ps ms new ws rest still n e before adds k h = by (adds.waits k h)
+-- one that waited is followed; `taken` is what there was before without it
+pub followed_more : (ps : List (ℕ × ℕ)) {before taken new : Found} (n : ℕ) → taken.marked.items ≡ before.marked.items → taken.is_refused ≡ before.is_refused → before.waiting.items ≡ taken.waiting.items ++ n ∷ []
+    → IsFollowed before ps → Adds (given_for ps n) taken new → IsFollowed new ps
+followed_more ps {before} {taken} {new} n same whole e is adds = record { followed = λ fine k h. by fine k (adds.waits fine k h) }
   where
-    grown : (j : ℕ) → All (IsIn ms) (given_for ps j) → All (IsIn new) (given_for ps j)
-    grown j all = All-weaker (IsIn ms) (IsIn new) adds.grows (given_for ps j) all
+    grows : (k : ℕ) → IsIn before k → IsIn new k
+    grows k h = adds.grows k (subst (λ (bs : List Bool). IsTrue (is_marked bs k)) (sym same) h)
 
-    popped : Contains rest k ⊎ (n ≡ k) → Contains still k ⊎ All (IsIn new) (given_for ps k)
-    popped (inl i) = inl (adds.kept k i)
-    popped (inr same) = inr (subst (λ (u : ℕ). All (IsIn new) (given_for ps u)) same adds.has)
+    popped : (k : ℕ) → Contains taken.waiting.items k ⊎ (n ≡ k) → Contains new.waiting.items k ⊎ All (IsIn new) (given_for ps k)
+    popped k (inl i) = inl (adds.kept k i)
+    popped k (inr same) = inr (subst (λ (u : ℕ). All (IsIn new) (given_for ps u)) same adds.has)
 
-    old : Contains ws k ⊎ All (IsIn ms) (given_for ps k) → Contains still k ⊎ All (IsIn new) (given_for ps k)
-    old (inl i) = popped (Contains-push_cases rest n k (subst (λ (xs : List ℕ). Contains xs k) e i))
-    old (inr all) = inr (grown k all)
+    old : (k : ℕ) → Contains before.waiting.items k ⊎ All (IsIn before) (given_for ps k) → Contains new.waiting.items k ⊎ All (IsIn new) (given_for ps k)
+    old k (inl i) = popped k (Contains-push_cases taken.waiting.items n k (subst (λ (xs : List ℕ). Contains xs k) e i))
+    old k (inr all) = inr (All-weaker (IsIn before) (IsIn new) grows (given_for ps k) all)
 
-    by : IsIn ms k ⊎ Contains still k → Contains still k ⊎ All (IsIn new) (given_for ps k)
-    by (inl i) = old (before k i)
-    by (inr i) = inl i
+    by : new.is_refused ≡ false → (k : ℕ) → IsIn taken k ⊎ Contains new.waiting.items k → Contains new.waiting.items k ⊎ All (IsIn new) (given_for ps k)
+    by fine k (inl i) = old k (is.followed (sym whole ∙ adds.whole fine) k (subst (λ (bs : List Bool). IsTrue (is_marked bs k)) same i))
+    by fine k (inr i) = inl i
 
-pub followed_all : (ps : List (ℕ × ℕ)) (ms : List Bool) (ws : List ℕ) → ws ≡ [] → IsFollowed ms ws ps → All (λ p. IsIn ms p.1 → IsIn ms p.0) ps
-followed_all ps ms ws e h = follows_given (is_marked ms) ps (λ n i. by n (h n i))
+pub followed_all : (ps : List (ℕ × ℕ)) (found : Found) → found.waiting.items ≡ [] → found.is_refused ≡ false → IsFollowed found ps → All (λ p. IsIn found p.1 → IsIn found p.0) ps
+followed_all ps found e fine is = follows_given (is_marked found.marked.items) ps (λ n i. by n (is.followed fine n i))
   where
-    by : (n : ℕ) → Contains ws n ⊎ All (IsIn ms) (given_for ps n) → All (IsIn ms) (given_for ps n)
+    none : (n : ℕ) → Contains [] n → ⊥
+    none n h = omega (arith, h.1)
+
+    by : (n : ℕ) → Contains found.waiting.items n ⊎ All (IsIn found) (given_for ps n) → All (IsIn found) (given_for ps n)
     by n (inl i) = absurd (none n (subst (λ (xs : List ℕ). Contains xs n) e i))
-      where
-        none : (n : ℕ) → Contains [] n → ⊥
-        none n h = omega (arith, h.1)
     by n (inr all) = all

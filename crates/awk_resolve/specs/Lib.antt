@@ -1,12 +1,16 @@
 pub mod View
 pub mod ViewNames
+pub mod ViewVariables
 pub mod Marked
 pub mod Waiting
+pub mod ViewFound
 pub mod Numbered
 pub mod Places
+pub mod Placed
 pub mod PlaceExamples
 pub mod ViewKinds
 pub mod ViewFunctions
+pub mod ViewRefused
 pub mod ViewResolved
 pub mod ViewScopes
 pub mod ViewUses

@@ -1,5 +1,5 @@
 -- Variables by their numbers: places in a list of variables.
-use Rattle.std.specs.Prelude.{◌≡◌, ℕ, Bool, if◌then◌else◌, List, [], ◌∷◌, map, Option, Some}
+use Rattle.std.specs.Prelude.{◌≡◌, ℕ, Bool, if◌then◌else◌, List, [], map, Option, Some}
 use Rattle.std.specs.List.{slice_get}
 use Rattle.awk_kinds.specs.Kinds.{Key}
 
@@ -16,9 +16,6 @@ both_some p = (Some p.0, Some p.1)
 -- the pairs of numbers are those of the variables
 abbrev pub ArePairs : List Key → List (ℕ × ℕ) → List (Key × Key) → Type 0
 ArePairs keys ps qs = map (both_at keys) ps ≡ map both_some qs
-
-abbrev pub one_if : Bool → Key → List Key
-one_if b k = if b then k ∷ [] else []
 
 abbrev pub all_if : Bool → List Key → List Key
 all_if b ks = if b then ks else []

@@ -1,10 +1,10 @@
 -- What variables and functions of the code stand for.
-use Rattle.std.specs.Prelude.{◌≡◌, ℕ, List, [], ◌∷◌, map, Option, Some, None, if◌then◌else◌}
+use Rattle.std.specs.Prelude.{ℕ, List, map, Option}
 use Rattle.std.specs.Borrow.{Bor}
 use Rattle.std.specs.Global.{Vec}
 use Rattle.std.specs.Option.{option_map}
 use Rattle.awk_grammar.specs.ViewStmt.{view_names}
-use Rattle.awk_kinds.specs.Kinds.{Key, Whole as WholeKey, Inside as InsideKey, Head as PlainHead, same_name, parameters_of}
+use Rattle.awk_kinds.specs.Kinds.{Key, Whole as WholeKey, Inside as InsideKey, Head as PlainHead}
 use Rattle.awk_resolve.specs.declared.scopes.Variable.{Variable}
 use Rattle.awk_resolve.specs.declared.scopes.Variable.TheVariants.{Whole, Inside}
 use Rattle.awk_resolve.specs.declared.scopes.Head.{Head}
@@ -31,11 +31,6 @@ view_heads hs = map view_head hs
 abbrev pub view_parameters : Option (Bor (List (Vec ℕ))) → Option (List (List ℕ))
 view_parameters ps = option_map (λ p. view_names p.now) ps
 
--- the parameters that stand with a name
-abbrev pub parameters_in : List (Bor (List ℕ) × Bor (List (Vec ℕ))) → List ℕ → Option (List (List ℕ))
-parameters_in [] f = None
-parameters_in (e ∷ es) f = if same_name f e.0.now then Some (view_names e.1.now) else parameters_in es f
-
--- the table has the parameters of each function
-abbrev pub HasParameters : List (Bor (List ℕ) × Bor (List (Vec ℕ))) → List PlainHead → Type 0
-HasParameters es hs = (f : List ℕ) → parameters_in es f ≡ parameters_of hs f
+-- the names of functions
+abbrev pub head_names : List PlainHead → List (List ℕ)
+head_names hs = map (λ h. h.name) hs

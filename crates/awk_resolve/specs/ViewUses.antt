@@ -1,34 +1,47 @@
 -- What numbered variables and their uses stand for.
-use Rattle.std.specs.Prelude.{List, ◌++◌}
-use Rattle.awk_kinds.specs.Kinds.{Key}
+use Rattle.std.specs.Prelude.{◌≡◌, false, List, [], ◌∷◌, ◌++◌, Option}
+use Rattle.awk_kinds.specs.Marks.{Kind, Array, Scalar, Mark}
+use Rattle.awk_kinds.specs.Kinds.{Key, Head, same_kind, with_keys, with_key, with_maybe, pair_of, variables, members, pairs}
 use Rattle.awk_resolve.specs.ViewNames.{view_variables}
-use Rattle.awk_resolve.specs.Numbered.{AreNumbers, ArePairs}
+use Rattle.awk_resolve.specs.Numbered.{AreNumbers, ArePairs, all_if}
 use Rattle.awk_resolve.specs.declared.uses.Uses.{Uses}
 
 -- the variables that have numbers, in their order
 abbrev pub numbered : Uses → List Key
-numbered uses = view_variables uses.variables.keys
+numbered uses = view_variables uses.variables.found.keys
 
--- the numbers of what is used as an array are those of these variables
-abbrev pub AreArrays : Uses → List Key → Type 0
-AreArrays uses ks = AreNumbers (numbered uses) uses.arrays.items ks
+-- the numbers are those of these variables in their order, of those used as arrays, of those used as scalars, and of names with their parameters
+pub record Stand (uses : Uses) (keys used_arrays used_scalars : List Key) (given : List (Key × Key)) : Type 0 where
+  pub variables : numbered uses ≡ keys
+  pub arrays : AreNumbers keys uses.arrays.items.items used_arrays
+  pub scalars : AreNumbers keys uses.scalars.items.items used_scalars
+  pub pairs : ArePairs keys uses.pairs.items.items given
 
--- the numbers of what is used as a scalar are those of these variables
-abbrev pub AreScalars : Uses → List Key → Type 0
-AreScalars uses ks = AreNumbers (numbered uses) uses.scalars.items ks
+-- memory was wanting for none of them
+pub record IsWhole (uses : Uses) : Type 0 where
+  pub variables : uses.variables.is_refused ≡ false
+  pub arrays : uses.arrays.is_refused ≡ false
+  pub scalars : uses.scalars.is_refused ≡ false
+  pub pairs : uses.pairs.is_refused ≡ false
 
--- the pairs of numbers are those of these names and parameters
-abbrev pub AreGiven : Uses → List (Key × Key) → Type 0
-AreGiven uses qs = ArePairs (numbered uses) uses.pairs.items qs
+-- they stand for these, unless memory was wanting
+pub record Notes (uses : Uses) (keys arrays scalars : List Key) (given : List (Key × Key)) : Type 0 where
+  pub notes : IsWhole uses → Stand uses keys arrays scalars given
 
--- these variables more are used as arrays
-abbrev pub AddsArrays : Uses → Uses → List Key → Type 0
-AddsArrays old new more = (ks : List Key) → AreArrays old ks → AreArrays new (ks ++ more)
+-- these variables more are used so
+pub record NotesUses (old new : Uses) (kind : Kind) (more : List Key) : Type 0 where
+  pub uses : (keys arrays scalars : List Key) (given : List (Key × Key)) → Notes old keys arrays scalars given
+      → Notes new (with_keys keys more) (arrays ++ all_if (same_kind Array kind) more) (scalars ++ all_if (same_kind Scalar kind) more) given
 
--- these variables more are used as scalars
-abbrev pub AddsScalars : Uses → Uses → List Key → Type 0
-AddsScalars old new more = (ks : List Key) → AreScalars old ks → AreScalars new (ks ++ more)
+-- a name more is given for a parameter, if there is one
+pub record NotesGiven (old new : Uses) (name : Key) (parameter : Option Key) : Type 0 where
+  pub given : (keys arrays scalars : List Key) (given : List (Key × Key)) → Notes old keys arrays scalars given
+      → Notes new (with_maybe (with_key keys name) parameter) arrays scalars (given ++ pair_of name parameter)
 
--- these names more are given for these parameters
-abbrev pub AddsGiven : Uses → Uses → List (Key × Key) → Type 0
-AddsGiven old new more = (qs : List (Key × Key)) → AreGiven old qs → AreGiven new (qs ++ more)
+-- they are those of these marks
+pub record AreUses (hs : List Head) (uses : Uses) (ms : List Mark) : Type 0 where
+  pub all : Notes uses (variables hs ms) (members Array hs ms) (members Scalar hs ms) (pairs hs ms)
+
+-- what one mark more says is noted
+pub record NotesMark (hs : List Head) (old new : Uses) (m : Mark) : Type 0 where
+  pub next : (ms : List Mark) → AreUses hs old ms → AreUses hs new (ms ++ m ∷ [])

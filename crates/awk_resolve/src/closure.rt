@@ -1,11 +1,12 @@
 //! The least set of numbers that has given members and follows given pairs, by a work list.
 
-ghost use Rattle.std.specs.Prelude.{◌≡◌, ℕ, ◌<◌, [], All, length, IfOk, OnOk};
+ghost use Rattle.std.specs.Prelude.{◌≡◌, ℕ, ◌<◌, [], ◌∷◌, All, length, IfOk};
 ghost use Rattle.awk_kinds.specs.Least.{IsLeast};
 ghost use Rattle.awk_resolve.specs.Marked.{is_marked};
-ghost use Rattle.awk_resolve.specs.Waiting.{Adds, given_for, numbers_at, marked_with, waiting_with};
+ghost use Rattle.awk_resolve.specs.ViewFound.{Adds};
+ghost use Rattle.awk_resolve.specs.Waiting.{given_for, numbers_at};
 
-use crate::held::push;
+use crate::held::Grown;
 use std::alloc::{AllocError, Global};
 
 /// So many lists of no numbers.
@@ -13,11 +14,11 @@ fn no_numbers(alloc: Global, count: usize) -> Result<Vec<Vec<usize>>, AllocError
     ensures length { IfOk result (λ lists. length lists.items ≡ count) }
     ensures empty { IfOk result (λ lists. (n : ℕ) → numbers_at lists.items n ≡ []) }
 {
-    let mut lists = Vec::new(alloc);
-    for i in 0..count {
-        push(&mut lists, Vec::new(alloc))?;
+    let mut lists = Grown::new(alloc);
+    for _done in 0..count {
+        lists.put(Vec::new(alloc));
     }
-    Ok(lists)
+    lists.all()
 }
 
 /// For each number below `count` the firsts of the pairs that have it as their second.
@@ -38,39 +39,36 @@ fn givers_of(
     Ok(givers)
 }
 
-/// The numbers that are found, and those of them whose pairs wait to be followed.
+/// The numbers that are found, and those of them whose pairs wait to be followed; all of those, unless memory was wanting for one.
 #[derive(Drop)]
 struct Found {
     marked: Vec<bool>,
     waiting: Vec<usize>,
+    is_refused: bool,
 }
 
 impl Found {
     /// Marks a number, which waits from then on if it is new.
-    fn mark(&mut self, n: usize) -> Result<(), AllocError>
+    fn mark(&mut self, n: usize)
         requires { n < length self.old.marked.items }
-        ensures marked { OnOk result (self.new.marked.items ≡ marked_with self.old.marked.items n) }
-        ensures waiting { OnOk result
-            (self.new.waiting.items ≡ waiting_with self.old.marked.items self.old.waiting.items n) }
+        ensures { Adds (n ∷ []) self.old self.new }
     {
-        if !self.marked[n] {
-            self.marked[n] = true;
-            self.waiting.push(n)?;
+        if self.marked[n] {
+            return;
         }
-        Ok(())
+        self.marked[n] = true;
+        let is_put = self.waiting.push(n).is_ok();
+        self.is_refused = self.is_refused || !is_put;
     }
 
     /// Marks each of some numbers.
-    fn mark_all(&mut self, numbers: &[usize]) -> Result<(), AllocError>
+    fn mark_all(&mut self, numbers: &[usize])
         requires { All (λ n. n < length self.old.marked.items) numbers.now }
-        ensures { OnOk result
-            (Adds numbers.now self.old.marked.items self.old.waiting.items
-            self.new.marked.items self.new.waiting.items) }
+        ensures { Adds numbers.now self.old self.new }
     {
         for n in numbers {
-            self.mark(*n)?;
+            self.mark(*n);
         }
-        Ok(())
     }
 }
 
@@ -90,10 +88,14 @@ pub(crate) fn closure(
     let mut found = Found {
         marked: vec![in alloc; false; count]?,
         waiting: Vec::new(alloc),
+        is_refused: false,
     };
-    found.mark_all(members)?;
+    found.mark_all(members);
     while let Some(n) = found.waiting.pop() {
-        found.mark_all(&givers[n])?;
+        found.mark_all(&givers[n]);
+    }
+    if found.is_refused {
+        return Err(AllocError);
     }
     Ok(found.marked)
 }

@@ -1,6 +1,8 @@
 //! Names that stand by themselves, and the refusals that carry them.
 
-ghost use Rattle.std.specs.Prelude.{◌≡◌, IfOk};
+ghost use Rattle.std.specs.Prelude.{◌≡◌, Some, IfOk};
+ghost use Rattle.awk_resolve.specs.ViewRefused.{view_refused};
+ghost use Rattle.awk_resolve.specs.ViewResolved.{IsCause};
 
 use std::alloc::{AllocError, Global};
 use std::fmt;
@@ -85,5 +87,40 @@ impl From<AllocError> for ResolveFault {
 
     fn from(_error: AllocError) -> Self {
         ResolveFault::NoMemory
+    }
+}
+
+/// Which refusal it is.
+#[derive(Clone, Copy)]
+pub(crate) enum Reason {
+    TooMany,
+    DuplicateName,
+    UnknownFunction,
+    ArgCount,
+    KindClash,
+}
+
+/// A refusal, with the name as it stands in the script.
+#[derive(Clone, Copy)]
+pub(crate) struct Refused<'a> {
+    pub reason: Reason,
+    pub name: &'a [u8],
+}
+
+impl Refused<'_> {
+    /// It with a name of its own.
+    pub(crate) fn fault(self, alloc: Global) -> ResolveFault
+        ensures { IsCause result (Some (view_refused self.entry)) }
+    {
+        let Ok(name) = Name::new(alloc, self.name) else {
+            return ResolveFault::NoMemory;
+        };
+        match self.reason {
+            Reason::TooMany => ResolveFault::TooMany(name),
+            Reason::DuplicateName => ResolveFault::DuplicateName(name),
+            Reason::UnknownFunction => ResolveFault::UnknownFunction(name),
+            Reason::ArgCount => ResolveFault::ArgCount(name),
+            Reason::KindClash => ResolveFault::KindClash(name),
+        }
     }
 }

@@ -4,7 +4,7 @@ ghost use Rattle.std.specs.Prelude.{◌≡◌, ◌<◌, length, IfSome};
 ghost use Rattle.awk_resolve.specs.Places.{place_in, ArePlaces};
 ghost use Rattle.awk_resolve.specs.ViewKinds.{view_name_kinds};
 
-use crate::index::place_at;
+use crate::placed::place_at;
 use indexmap::IndexMap;
 
 /// A name and its kind.

@@ -36,20 +36,20 @@ fn is_marked_in<'a>(
 
 /// The marks of what is used as an array, and of what is used as a scalar.
 fn marked<'a>(alloc: Global, uses: &Uses<'a>) -> Result<(Vec<bool>, Vec<bool>), AllocError>
-    requires arrays { All (λ n. n < length uses.now.variables.keys) uses.now.arrays.items }
-    requires scalars { All (λ n. n < length uses.now.variables.keys) uses.now.scalars.items }
-    requires pairs { All (λ p. (p.0 < length uses.now.variables.keys)
-        × (p.1 < length uses.now.variables.keys)) uses.now.pairs.items }
-    ensures lengths { IfOk result (λ found. (length found.0.items ≡ length uses.now.variables.keys)
-        × (length found.1.items ≡ length uses.now.variables.keys)) }
+    requires arrays { All (λ n. n < length uses.now.variables.found.keys) uses.now.arrays.items.items }
+    requires scalars { All (λ n. n < length uses.now.variables.found.keys) uses.now.scalars.items.items }
+    requires pairs { All (λ p. (p.0 < length uses.now.variables.found.keys)
+        × (p.1 < length uses.now.variables.found.keys)) uses.now.pairs.items.items }
+    ensures lengths { IfOk result (λ found. (length found.0.items ≡ length uses.now.variables.found.keys)
+        × (length found.1.items ≡ length uses.now.variables.found.keys)) }
     ensures arrays { IfOk result
-        (λ found. IsLeast (is_marked found.0.items) uses.now.arrays.items uses.now.pairs.items) }
+        (λ found. IsLeast (is_marked found.0.items) uses.now.arrays.items.items uses.now.pairs.items.items) }
     ensures scalars { IfOk result
-        (λ found. IsLeast (is_marked found.1.items) uses.now.scalars.items uses.now.pairs.items) }
+        (λ found. IsLeast (is_marked found.1.items) uses.now.scalars.items.items uses.now.pairs.items.items) }
 {
-    let count = uses.variables.len();
-    let arrays = closure(alloc, count, &uses.arrays, &uses.pairs)?;
-    let scalars = closure(alloc, count, &uses.scalars, &uses.pairs)?;
+    let count = uses.variables.found.len();
+    let arrays = closure(alloc, count, &uses.arrays.items, &uses.pairs.items)?;
+    let scalars = closure(alloc, count, &uses.scalars.items, &uses.pairs.items)?;
     Ok((arrays, scalars))
 }
 
@@ -69,7 +69,7 @@ pub(crate) fn kinds_of<'a>(
     let uses = uses_of(alloc, scopes, marks)?;
     let found = marked(alloc, &uses)?;
     Ok(Kinds {
-        variables: uses.variables,
+        variables: uses.variables.found,
         arrays: found.0,
         scalars: found.1,
     })

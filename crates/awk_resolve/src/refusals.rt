@@ -32,48 +32,58 @@ pub(crate) fn too_many<'a>(heads: &[Head<'a>]) -> Option<&'a [u8]>
     None
 }
 
-/// The functions and parameters that were named so far.
+/// The functions and parameters that were named so far; all of them, unless memory was wanting for one.
 #[derive(Drop)]
 struct Seen<'a> {
     functions: IndexSet<&'a [u8]>,
     parameters: IndexSet<Variable<'a>>,
+    is_refused: bool,
 }
 
-/// Notes a function's name, and says whether it is taken.
-fn note_function<'a>(seen: &mut Seen<'a>, name: &'a [u8]) -> Result<bool, AllocError>
-    ensures taken { IfOk result
-        (λ b. b ≡ (has_name specials name.now || has_name (functions_named seen.old) name.now)) }
-    ensures noted { IfOk result
-        (λ b. b ≡ false → functions_named seen.new ≡ functions_named seen.old ++ name.now ∷ []) }
+/// Notes a function's name, and says whether it is taken. It counts as taken where memory was wanting.
+fn note_function<'a>(seen: &mut Seen<'a>, name: &'a [u8]) -> bool
+    ensures taken { seen.new.is_refused ≡ false → (seen.old.is_refused ≡ false) × (result
+        ≡ (has_name specials name.now || has_name (functions_named seen.old) name.now)) }
+    ensures noted { seen.new.is_refused ≡ false → result ≡ false
+        → functions_named seen.new ≡ functions_named seen.old ++ name.now ∷ [] }
     ensures parameters { seen.new.parameters.keys ≡ seen.old.parameters.keys }
 {
     if is_special(name) {
-        return Ok(true);
+        return true;
     }
-    let added = seen.functions.insert(name)?;
-    Ok(!added)
+    match seen.functions.insert(name) {
+        Ok(added) => !added,
+        Err(_) => {
+            seen.is_refused = true;
+            true
+        }
+    }
 }
 
-/// Notes a parameter, and says whether its name is taken.
+/// Notes a parameter, and says whether its name is taken. It counts as taken where memory was wanting.
 fn note_parameter<'a>(
     seen: &mut Seen<'a>,
     scopes: &Scopes<'a>,
     function: &'a [u8],
     name: &'a [u8],
-) -> Result<bool, AllocError>
-    ensures taken { IfOk result
-        (λ b. b
+) -> bool
+    ensures taken { seen.new.is_refused ≡ false → (seen.old.is_refused ≡ false) × (result
         ≡ (has_name specials name.now || (is_function (functions_in scopes.now) name.now || list_any
         (same_key (Inside function.now name.now)) (parameters_named seen.old)))) }
-    ensures noted { IfOk result (λ b. b ≡ false → parameters_named seen.new
-        ≡ parameters_named seen.old ++ Inside function.now name.now ∷ []) }
+    ensures noted { seen.new.is_refused ≡ false → result ≡ false → parameters_named seen.new
+        ≡ parameters_named seen.old ++ Inside function.now name.now ∷ [] }
     ensures functions { seen.new.functions.keys ≡ seen.old.functions.keys }
 {
     if is_special(name) || scopes.is_function(name) {
-        return Ok(true);
+        return true;
     }
-    let added = seen.parameters.insert(Variable::Inside(function, name))?;
-    Ok(!added)
+    match seen.parameters.insert(Variable::Inside(function, name)) {
+        Ok(added) => !added,
+        Err(_) => {
+            seen.is_refused = true;
+            true
+        }
+    }
 }
 
 /// A name, if it is refused.
@@ -84,52 +94,41 @@ fn only_if(refused: bool, name: &[u8]) -> Option<&[u8]>
 }
 
 /// Notes what a mark names, and gives the name if it is taken.
-fn note<'a>(
-    seen: &mut Seen<'a>,
-    scopes: &Scopes<'a>,
-    mark: Mark<'a>,
-) -> Result<Option<&'a [u8]>, AllocError>
-    ensures taken { IfOk result (λ found. view_place found ≡ duplicate (functions_in scopes.now)
-        (functions_named seen.old) (parameters_named seen.old) (view_mark mark.entry)) }
-    ensures functions { IfOk result (λ found. found ≡ None → functions_named seen.new
-        ≡ functions_named seen.old ++ defined (view_mark mark.entry ∷ [])) }
-    ensures parameters { IfOk result (λ found. found ≡ None → parameters_named seen.new
-        ≡ parameters_named seen.old ++ declared (view_mark mark.entry ∷ [])) }
+fn note<'a>(seen: &mut Seen<'a>, scopes: &Scopes<'a>, mark: Mark<'a>) -> Option<&'a [u8]>
+    ensures taken { seen.new.is_refused ≡ false → (seen.old.is_refused ≡ false)
+        × (view_place result ≡ duplicate (functions_in scopes.now) (functions_named seen.old)
+        (parameters_named seen.old) (view_mark mark.entry)) }
+    ensures functions { seen.new.is_refused ≡ false → result ≡ None → functions_named seen.new
+        ≡ functions_named seen.old ++ defined (view_mark mark.entry ∷ []) }
+    ensures parameters { seen.new.is_refused ≡ false → result ≡ None → parameters_named seen.new
+        ≡ parameters_named seen.old ++ declared (view_mark mark.entry ∷ []) }
 {
     match mark {
-        Mark::Defined(name) => {
-            let taken = note_function(seen, name)?;
-            Ok(only_if(taken, name))
-        }
+        Mark::Defined(name) => only_if(note_function(seen, name), name),
         Mark::Parameter(function, name) => {
-            let taken = note_parameter(seen, scopes, function, name)?;
-            Ok(only_if(taken, name))
+            only_if(note_parameter(seen, scopes, function, name), name)
         }
         Mark::Used(_, _, name) | Mark::Given(_, _, _, name) => {
-            Ok(only_if(scopes.is_function(name), name))
+            only_if(scopes.is_function(name), name)
         }
-        Mark::Called(_, _) | Mark::Computed(_, _) => Ok(None),
+        Mark::Called(_, _) | Mark::Computed(_, _) => None,
     }
 }
 
 /// The first name that stands for two things, where nothing is seen yet.
-fn first_taken<'a>(
-    seen: &mut Seen<'a>,
-    scopes: &Scopes<'a>,
-    marks: &[Mark<'a>],
-) -> Result<Option<&'a [u8]>, AllocError>
+fn first_taken<'a>(seen: &mut Seen<'a>, scopes: &Scopes<'a>, marks: &[Mark<'a>]) -> Option<&'a [u8]>
     requires functions { seen.old.functions.keys ≡ [] }
     requires parameters { seen.old.parameters.keys ≡ [] }
-    ensures { IfOk result (λ found. view_place found
-        ≡ first_duplicate (functions_in scopes.now) [] (view_marks marks.now)) }
+    ensures { seen.new.is_refused ≡ false
+        → view_place result ≡ first_duplicate (functions_in scopes.now) [] (view_marks marks.now) }
 {
     for mark in marks {
-        let taken = note(seen, scopes, *mark)?;
+        let taken = note(seen, scopes, *mark);
         if taken.is_some() {
-            return Ok(taken);
+            return taken;
         }
     }
-    Ok(None)
+    None
 }
 
 /// The first name that stands for two things.
@@ -144,8 +143,14 @@ pub(crate) fn first_duplicate<'a>(
     let mut seen = Seen {
         functions: IndexSet::new(alloc),
         parameters: IndexSet::new(alloc),
+        is_refused: false,
     };
-    first_taken(&mut seen, scopes, marks)
+    let found = first_taken(&mut seen, scopes, marks);
+    if seen.is_refused {
+        Err(AllocError)
+    } else {
+        Ok(found)
+    }
 }
 
 /// The function of a call, if the script lacks it.

@@ -6,7 +6,7 @@ ghost use Rattle.awk_resolve.specs.ViewFunctions.{view_functions};
 ghost use Rattle.awk_resolve.specs.ViewKinds.{view_name_kinds};
 
 use crate::function_names::{FunctionNames, NameKind};
-use crate::index::place_at;
+use crate::placed::place_at;
 use awk_grammar::Script;
 use indexmap::IndexMap;
 

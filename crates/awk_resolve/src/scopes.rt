@@ -1,12 +1,15 @@
 //! The functions of a script, and what a name stands for in each.
 
-ghost use Rattle.std.specs.Prelude.{◌≡◌, IfOk, OnOk};
+ghost use Rattle.std.specs.Prelude.{◌≡◌, [], ◌∷◌, false, IfOk};
 ghost use Rattle.std.specs.List.{list_any};
 ghost use Rattle.awk_grammar.specs.ViewStmt.{view_names, view_script};
-ghost use Rattle.awk_kinds.specs.Kinds.{Inside, same_key, heads, head_keys, is_function, parameters_of, parameter_keys, with_keys, key_in, parameter_at, distinct_parameters};
+ghost use Rattle.awk_kinds.specs.Kinds.{Inside, same_key, heads, head_keys, is_function, parameters_of, parameter_keys, key_in, parameter_at, distinct_parameters};
 ghost use Rattle.awk_resolve.specs.View.{view_place};
-ghost use Rattle.awk_resolve.specs.ViewNames.{view_heads, view_variable, view_variables, view_parameters, view_maybe_variable, HasParameters};
+ghost use Rattle.awk_resolve.specs.ViewNames.{head_names, view_heads, view_variable, view_variables, view_parameters, view_maybe_variable};
+ghost use Rattle.awk_resolve.specs.Places.{place_of, ArePlaces};
+ghost use Rattle.awk_resolve.specs.ViewVariables.{AddsKeys, AreKeys, HasNumber};
 
+use crate::placed::{Placed, place_at};
 use awk_grammar::{Item, Script};
 use indexmap::{IndexMap, IndexSet};
 use std::alloc::{AllocError, Global};
@@ -26,76 +29,90 @@ pub(crate) struct Head<'a> {
     pub parameters: &'a [Vec<u8>],
 }
 
+/// Variables, each with its number, which is its place. Once memory was wanting for one none of them counts: only who asks for all of them learns it.
+#[derive(Drop)]
+pub(crate) struct Variables<'a> {
+    pub found: IndexSet<Variable<'a>>,
+    pub is_refused: bool,
+}
+
+impl<'a> Variables<'a> {
+    /// The number of a variable, which is added if it is new. Where memory was wanting it is that of nothing.
+    pub(crate) fn number_of(&mut self, variable: Variable<'a>) -> usize
+        ensures added { AddsKeys self.old self.new (view_variable variable.entry ∷ []) }
+        ensures number { HasNumber self.new result (view_variable variable.entry) }
+    {
+        match self.found.insert_full(variable) {
+            Ok((number, _)) => number,
+            Err(_) => {
+                self.is_refused = true;
+                0
+            }
+        }
+    }
+
+    /// Adds the parameters of a function.
+    fn add_parameters(&mut self, function: &'a [u8], parameters: &'a [Vec<u8>])
+        ensures { AddsKeys self.old self.new (head_keys function.now (view_names parameters.now)) }
+    {
+        for name in parameters {
+            self.number_of(Variable::Inside(function, name));
+        }
+    }
+
+    /// The parameters of all functions.
+    pub(crate) fn of_parameters(alloc: Global, heads: &[Head<'a>]) -> Self
+        ensures { AreKeys result (distinct_parameters (view_heads heads.now)) }
+    {
+        let mut all = Variables {
+            found: IndexSet::new(alloc),
+            is_refused: false,
+        };
+        for head in heads {
+            all.add_parameters(head.name, head.parameters);
+        }
+        all
+    }
+
+    /// All of them, unless memory was wanting for one.
+    fn all(self) -> Result<IndexSet<Variable<'a>>, AllocError>
+        ensures { IfOk result
+            (λ all. (self.entry.is_refused ≡ false) × (all.keys ≡ self.entry.found.keys)) }
+    {
+        if self.is_refused {
+            return Err(AllocError);
+        }
+        Ok(self.found)
+    }
+}
+
 /// The functions of a script.
 #[derive(Drop)]
 pub(crate) struct Scopes<'a> {
     pub heads: Vec<Head<'a>>,
-    functions: IndexMap<&'a [u8], &'a [Vec<u8>]>,
+    functions: IndexMap<&'a [u8], usize>,
     parameters: IndexSet<Variable<'a>>,
-    ghost functions_found: { HasParameters functions.entries (view_heads heads.items) },
+    ghost functions_found: { ArePlaces functions.entries (place_of (head_names (view_heads heads.items))) },
     ghost parameters_found: { view_variables parameters.keys
         ≡ distinct_parameters (view_heads heads.items) },
 }
 
-/// The functions of a script, in order.
-fn heads_of(alloc: Global, script: &Script) -> Result<Vec<Head<'_>>, AllocError>
-    ensures { IfOk result (λ found. view_heads found.items ≡ heads (view_script script.now)) }
+/// The functions of a script in order, and the places of their names.
+fn heads_of(
+    alloc: Global,
+    script: &Script,
+) -> Result<(Vec<Head<'_>>, IndexMap<&'_ [u8], usize>), AllocError>
+    ensures heads { IfOk result (λ all. view_heads all.0.items ≡ heads (view_script script.now)) }
+    ensures places { IfOk result
+        (λ all. ArePlaces all.1.entries (place_of (head_names (view_heads all.0.items)))) }
 {
-    let mut found = Vec::new(alloc);
+    let mut all = Placed::new(alloc);
     for item in &script.items {
         if let Item::Function(name, parameters, _) = item {
-            found.push(Head { name, parameters })?;
+            all.put(name, Ok(Head { name, parameters }));
         }
     }
-    Ok(found)
-}
-
-/// The functions by their names; of two of one name the first.
-fn functions_of<'a>(
-    alloc: Global,
-    heads: &[Head<'a>],
-) -> Result<IndexMap<&'a [u8], &'a [Vec<u8>]>, AllocError>
-    ensures { IfOk result (λ found. HasParameters found.entries (view_heads heads.now)) }
-{
-    let mut found = IndexMap::new(alloc);
-    for head in heads {
-        if !found.contains_key(&head.name) {
-            found.insert(head.name, head.parameters)?;
-        }
-    }
-    Ok(found)
-}
-
-/// Adds the parameters of a function.
-#[tactic(auto, using(crate::proofs::Names::insert_is))]
-fn add_parameters<'a>(
-    found: &mut IndexSet<Variable<'a>>,
-    function: &'a [u8],
-    parameters: &'a [Vec<u8>],
-) -> Result<(), AllocError>
-    ensures { OnOk result (view_variables found.new.keys ≡ with_keys (view_variables found.old.keys)
-        (head_keys function.now (view_names parameters.now))) }
-{
-    for name in parameters {
-        found.insert(Variable::Inside(function, name))?;
-    }
-    Ok(())
-}
-
-/// The parameters of all functions.
-#[tactic(auto, using(crate::proofs::Names::with_keys_append))]
-pub(crate) fn all_parameters<'a>(
-    alloc: Global,
-    heads: &[Head<'a>],
-) -> Result<IndexSet<Variable<'a>>, AllocError>
-    ensures { IfOk result
-        (λ found. view_variables found.keys ≡ distinct_parameters (view_heads heads.now)) }
-{
-    let mut found = IndexSet::new(alloc);
-    for head in heads {
-        add_parameters(&mut found, head.name, head.parameters)?;
-    }
-    Ok(found)
+    all.all()
 }
 
 impl<'a> Scopes<'a> {
@@ -104,9 +121,8 @@ impl<'a> Scopes<'a> {
         ensures { IfOk result
             (λ scopes. view_heads scopes.heads.items ≡ heads (view_script script.now)) }
     {
-        let heads = heads_of(alloc, script)?;
-        let functions = functions_of(alloc, &heads)?;
-        let parameters = all_parameters(alloc, &heads)?;
+        let (heads, functions) = heads_of(alloc, script)?;
+        let parameters = Variables::of_parameters(alloc, &heads).all()?;
         Ok(Scopes {
             heads,
             functions,
@@ -119,7 +135,10 @@ impl<'a> Scopes<'a> {
         ensures { view_parameters result
             ≡ parameters_of (view_heads self.now.heads.items) function.now }
     {
-        self.functions.get(&function).copied()
+        match place_at(&self.functions, function) {
+            Some(place) => Some(self.heads[place].parameters),
+            None => None,
+        }
     }
 
     /// Whether the script has this function.

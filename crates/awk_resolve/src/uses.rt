@@ -1,172 +1,105 @@
 //! The variables of a script by number, and their uses.
 
-ghost use Rattle.std.specs.Prelude.{◌≡◌, ◌∷◌, [], Some, map, IfOk, OnOk};
-ghost use Rattle.std.specs.List.{slice_get};
+ghost use Rattle.std.specs.Prelude.{◌≡◌, ◌∷◌, [], true, map, IfOk};
 ghost use Rattle.awk_kinds.specs.Marks.{Array, Scalar};
-ghost use Rattle.awk_kinds.specs.Kinds.{Whole, same_kind, with_key, with_keys, with_maybe, with_mark, variables, used, members, pair_of, pairs, distinct_parameters};
+ghost use Rattle.awk_kinds.specs.Kinds.{Whole, variables, members, pairs};
 ghost use Rattle.awk_resolve.specs.View.{view_kind, view_mark, view_marks};
-ghost use Rattle.awk_resolve.specs.ViewNames.{names, view_heads, view_variable, view_variables, view_maybe_variable};
-ghost use Rattle.awk_resolve.specs.Numbered.{one_if, all_if};
+ghost use Rattle.awk_resolve.specs.ViewNames.{names, view_variable, view_maybe_variable};
 ghost use Rattle.awk_resolve.specs.ViewScopes.{functions_in};
-ghost use Rattle.awk_resolve.specs.ViewUses.{numbered, AreArrays, AreScalars, AreGiven, AddsArrays, AddsScalars, AddsGiven};
+ghost use Rattle.awk_resolve.specs.ViewUses.{AreUses, IsWhole, NotesGiven, NotesMark, NotesUses, Stand};
 
-use crate::held::after;
+use crate::held::Grown;
 use crate::mark::{Kind, Mark};
-use crate::scopes::{Head, Scopes, Variable, all_parameters};
+use crate::scopes::{Scopes, Variable, Variables};
 use crate::special::{special_arrays, special_scalars};
-use indexmap::IndexSet;
 use std::alloc::{AllocError, Global};
 
-/// The variables of a script, whose numbers are their places, and their uses.
+/// The variables of a script and their uses. Once memory was wanting they are not all.
 #[derive(Drop)]
 pub(crate) struct Uses<'a> {
-    pub variables: IndexSet<Variable<'a>>,
+    pub variables: Variables<'a>,
     /// The variables that are used as arrays where they stand.
-    pub arrays: Vec<usize>,
+    pub arrays: Grown<usize>,
     /// The variables that are used as scalars where they stand.
-    pub scalars: Vec<usize>,
+    pub scalars: Grown<usize>,
     /// Bare names, each with the parameter for which it is given.
-    pub pairs: Vec<(usize, usize)>,
-}
-
-/// The number of a variable, which is added if it is new.
-fn number_of<'a>(
-    variables: &mut IndexSet<Variable<'a>>,
-    variable: Variable<'a>,
-) -> Result<usize, AllocError>
-    ensures variables { OnOk result (view_variables variables.new.keys
-        ≡ with_key (view_variables variables.old.keys) (view_variable variable.entry)) }
-    ensures number { IfOk result (λ n. slice_get (view_variables variables.new.keys) n
-        ≡ Some (view_variable variable.entry)) }
-{
-    let (number, _) = variables.insert_full(variable)?;
-    Ok(number)
+    pub pairs: Grown<(usize, usize)>,
 }
 
 /// Notes that a variable is used so.
-fn note_use<'a>(uses: &mut Uses<'a>, kind: Kind, variable: Variable<'a>) -> Result<(), AllocError>
-    ensures variables { OnOk result
-        (numbered uses.new ≡ with_key (numbered uses.old) (view_variable variable.entry)) }
-    ensures arrays { OnOk result (AddsArrays uses.old uses.new
-        (one_if (same_kind Array (view_kind kind)) (view_variable variable.entry))) }
-    ensures scalars { OnOk result (AddsScalars uses.old uses.new
-        (one_if (same_kind Scalar (view_kind kind)) (view_variable variable.entry))) }
-    ensures pairs { uses.new.pairs.items ≡ uses.old.pairs.items }
+fn note_use<'a>(uses: &mut Uses<'a>, kind: Kind, variable: Variable<'a>)
+    ensures { NotesUses uses.old uses.new (view_kind kind) (view_variable variable.entry ∷ []) }
 {
-    let number = number_of(&mut uses.variables, variable)?;
+    let number = uses.variables.number_of(variable);
     match kind {
-        Kind::Array => uses.arrays.push(number)?,
-        Kind::Scalar => uses.scalars.push(number)?,
+        Kind::Array => uses.arrays.put(number),
+        Kind::Scalar => uses.scalars.put(number),
     }
-    Ok(())
 }
 
 /// Notes that a bare name is given for a parameter, if the function has one there.
-fn note_given<'a>(
-    uses: &mut Uses<'a>,
-    given: Variable<'a>,
-    parameter: Option<Variable<'a>>,
-) -> Result<(), AllocError>
-    ensures variables { OnOk result (numbered uses.new ≡ with_maybe (with_key (numbered uses.old)
-        (view_variable given.entry)) (view_maybe_variable parameter.entry)) }
-    ensures pairs { OnOk result (AddsGiven uses.old uses.new
-        (pair_of (view_variable given.entry) (view_maybe_variable parameter.entry))) }
-    ensures arrays { uses.new.arrays.items ≡ uses.old.arrays.items }
-    ensures scalars { uses.new.scalars.items ≡ uses.old.scalars.items }
+fn note_given<'a>(uses: &mut Uses<'a>, given: Variable<'a>, parameter: Option<Variable<'a>>)
+    ensures { NotesGiven uses.old uses.new (view_variable given.entry)
+        (view_maybe_variable parameter.entry) }
 {
-    let given = number_of(&mut uses.variables, given)?;
+    let given = uses.variables.number_of(given);
     match parameter {
-        None => Ok(()),
+        None => {}
         Some(parameter) => {
-            let parameter = number_of(&mut uses.variables, parameter)?;
-            uses.pairs.push((given, parameter))?;
-            Ok(())
+            let parameter = uses.variables.number_of(parameter);
+            uses.pairs.put((given, parameter));
         }
     }
 }
 
 /// Notes what a mark says.
-fn note<'a>(uses: &mut Uses<'a>, scopes: &Scopes<'a>, mark: Mark<'a>) -> Result<(), AllocError>
-    ensures variables { OnOk result (numbered uses.new
-        ≡ with_mark (functions_in scopes.now) (numbered uses.old) (view_mark mark.entry)) }
-    ensures arrays { OnOk result (AddsArrays uses.old uses.new
-        (used Array (functions_in scopes.now) (view_mark mark.entry ∷ []))) }
-    ensures scalars { OnOk result (AddsScalars uses.old uses.new
-        (used Scalar (functions_in scopes.now) (view_mark mark.entry ∷ []))) }
-    ensures pairs { OnOk result (AddsGiven uses.old uses.new
-        (pairs (functions_in scopes.now) (view_mark mark.entry ∷ []))) }
+fn note<'a>(uses: &mut Uses<'a>, scopes: &Scopes<'a>, mark: Mark<'a>)
+    ensures { NotesMark (functions_in scopes.now) uses.old uses.new (view_mark mark.entry) }
 {
     match mark {
         Mark::Used(kind, place, name) => note_use(uses, kind, scopes.variable_in(place, name)),
         Mark::Given(function, argument, place, name) => {
             let parameter = scopes.parameter_at(function, argument);
-            note_given(uses, scopes.variable_in(place, name), parameter)
+            note_given(uses, scopes.variable_in(place, name), parameter);
         }
-        _ => Ok(()),
+        _ => {}
     }
 }
 
 /// Notes the special variables of a kind.
-fn note_specials<'a>(
-    uses: &mut Uses<'a>,
-    kind: Kind,
-    specials: &[&'a [u8]],
-) -> Result<(), AllocError>
-    ensures variables { OnOk result
-        (numbered uses.new ≡ with_keys (numbered uses.old) (map Whole (names specials.now))) }
-    ensures arrays { OnOk result (AddsArrays uses.old uses.new
-        (all_if (same_kind Array (view_kind kind)) (map Whole (names specials.now)))) }
-    ensures scalars { OnOk result (AddsScalars uses.old uses.new
-        (all_if (same_kind Scalar (view_kind kind)) (map Whole (names specials.now)))) }
-    ensures pairs { uses.new.pairs.items ≡ uses.old.pairs.items }
+fn note_specials<'a>(uses: &mut Uses<'a>, kind: Kind, specials: &[&'a [u8]])
+    ensures { NotesUses uses.old uses.new (view_kind kind) (map Whole (names specials.now)) }
 {
     for name in specials {
-        note_use(uses, kind, Variable::Whole(*name))?;
+        note_use(uses, kind, Variable::Whole(*name));
     }
-    Ok(())
 }
 
-/// The parameters of all functions, and no uses.
-fn no_uses<'a>(alloc: Global, heads: &[Head<'a>]) -> Result<Uses<'a>, AllocError>
-    ensures variables { IfOk result
-        (λ uses. numbered uses ≡ distinct_parameters (view_heads heads.now)) }
-    ensures arrays { IfOk result (λ uses. uses.arrays.items ≡ []) }
-    ensures scalars { IfOk result (λ uses. uses.scalars.items ≡ []) }
-    ensures pairs { IfOk result (λ uses. uses.pairs.items ≡ []) }
+/// The parameters of all functions and the special variables, with their uses.
+fn first_uses<'a>(alloc: Global, scopes: &Scopes<'a>) -> Uses<'a>
+    ensures { AreUses (functions_in scopes.now) result [] }
 {
-    Ok(Uses {
-        variables: all_parameters(alloc, heads)?,
-        arrays: Vec::new(alloc),
-        scalars: Vec::new(alloc),
-        pairs: Vec::new(alloc),
-    })
+    let mut uses = Uses {
+        variables: Variables::of_parameters(alloc, &scopes.heads),
+        arrays: Grown::new(alloc),
+        scalars: Grown::new(alloc),
+        pairs: Grown::new(alloc),
+    };
+    note_specials(&mut uses, Kind::Array, &special_arrays());
+    note_specials(&mut uses, Kind::Scalar, &special_scalars());
+    uses
 }
 
-/// Notes the special variables and then what the marks say.
-fn note_all<'a>(
-    uses: &mut Uses<'a>,
-    scopes: &Scopes<'a>,
-    marks: &[Mark<'a>],
-) -> Result<(), AllocError>
-    requires variables { numbered uses.old ≡ distinct_parameters (functions_in scopes.now) }
-    requires arrays { uses.old.arrays.items ≡ [] }
-    requires scalars { uses.old.scalars.items ≡ [] }
-    requires pairs { uses.old.pairs.items ≡ [] }
-    ensures variables { OnOk result
-        (numbered uses.new ≡ variables (functions_in scopes.now) (view_marks marks.now)) }
-    ensures arrays { OnOk result
-        (AreArrays uses.new (members Array (functions_in scopes.now) (view_marks marks.now))) }
-    ensures scalars { OnOk result
-        (AreScalars uses.new (members Scalar (functions_in scopes.now) (view_marks marks.now))) }
-    ensures pairs { OnOk result
-        (AreGiven uses.new (pairs (functions_in scopes.now) (view_marks marks.now))) }
-{
-    note_specials(uses, Kind::Array, &special_arrays())?;
-    note_specials(uses, Kind::Scalar, &special_scalars())?;
-    for mark in marks {
-        note(uses, scopes, *mark)?;
+impl Uses<'_> {
+    /// Whether memory was wanting for none of them.
+    fn is_whole(&self) -> bool
+        ensures { result ≡ true → IsWhole self.now }
+    {
+        !(self.variables.is_refused
+            || self.arrays.is_refused
+            || self.scalars.is_refused
+            || self.pairs.is_refused)
     }
-    Ok(())
 }
 
 /// The variables of a script and their uses.
@@ -175,16 +108,19 @@ pub(crate) fn uses_of<'a>(
     scopes: &Scopes<'a>,
     marks: &[Mark<'a>],
 ) -> Result<Uses<'a>, AllocError>
-    ensures variables { IfOk result
-        (λ uses. numbered uses ≡ variables (functions_in scopes.now) (view_marks marks.now)) }
-    ensures arrays { IfOk result
-        (λ uses. AreArrays uses (members Array (functions_in scopes.now) (view_marks marks.now))) }
-    ensures scalars { IfOk result (λ uses. AreScalars uses
-        (members Scalar (functions_in scopes.now) (view_marks marks.now))) }
-    ensures pairs { IfOk result
-        (λ uses. AreGiven uses (pairs (functions_in scopes.now) (view_marks marks.now))) }
+    ensures { IfOk result (λ uses. Stand uses
+        (variables (functions_in scopes.now) (view_marks marks.now))
+        (members Array (functions_in scopes.now) (view_marks marks.now))
+        (members Scalar (functions_in scopes.now) (view_marks marks.now))
+        (pairs (functions_in scopes.now) (view_marks marks.now))) }
 {
-    let mut uses = no_uses(alloc, &scopes.heads)?;
-    let noted = note_all(&mut uses, scopes, marks);
-    after(noted, uses)
+    let mut uses = first_uses(alloc, scopes);
+    for mark in marks {
+        note(&mut uses, scopes, *mark);
+    }
+    if uses.is_whole() {
+        Ok(uses)
+    } else {
+        Err(AllocError)
+    }
 }

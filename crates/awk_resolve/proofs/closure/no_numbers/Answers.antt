@@ -1,15 +1,19 @@
-use Rattle.std.proofs.Common.{ℕ, ◌+◌, List, length, ap, ◌∙◌}
-use Rattle.std.specs.Global.{Vec}
-use Rattle.awk_resolve.specs.Waiting.{numbers_at}
-use Rattle.awk_resolve.proofs.Waiting.{length_push, none_given}
+use Rattle.std.proofs.Common.{◌≡◌, subst, arith}
+use Rattle.awk_resolve.proofs.Waiting.{NoNumbers, no_first, no_next, no_size, no_numbers}
 use Rattle.awk_resolve.proofs.closure.no_numbers.Goals as goal
 
-pub loop-i-preserved : goal.loop-i-preserved
-loop-i-preserved c =
-    let vs = c.loop-i.lists.items in
-    let v = c.new.result in
-    let made = c.in_ok-push.ensures.items in
-    record {
-      length = ap length made ∙ length_push vs v ∙ ap (λ (n : ℕ). n + 1) c.loop-i.invariant.length;
-      empty = λ n. ap (λ (us : List (Vec ℕ)). numbers_at us n) made ∙ none_given vs v n c.new.ensures.items (c.loop-i.invariant.empty n);
-    }
+pub loop-done-init : goal.loop-done-init
+loop-done-init c = no_first c.new-lists.result c.new-lists.ensures.items
+
+pub loop-done-preserved : goal.loop-done-preserved
+loop-done-preserved c = no_next c.new.result c.new.ensures.items c.put.ensures c.loop-done.invariant
+
+pub returns-clause-length : goal.returns-clause-length
+returns-clause-length c =
+    let all : c.loop-done._done ≡ c.args.count = omega arith in
+    no_size c.loop-done.lists c.args.count c.all.result (subst (NoNumbers c.loop-done.lists) all c.loop-done.invariant) c.all.ensures
+
+pub returns-clause-empty : goal.returns-clause-empty
+returns-clause-empty c =
+    let all : c.loop-done._done ≡ c.args.count = omega arith in
+    no_numbers c.loop-done.lists c.args.count c.all.result (subst (NoNumbers c.loop-done.lists) all c.loop-done.invariant) c.all.ensures

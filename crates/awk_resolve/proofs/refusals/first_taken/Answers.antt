@@ -14,11 +14,13 @@ loop-mark-preserved c =
     let before = c.loop-mark.invariant in
     let lt = c.loop-mark-test.true in
     let old = c.loop-mark.seen in
-    let new = c.note.new.seen in
+    let new = c.note-taken.new.seen in
     let none = sym c.is_some.ensures ∙ c.if-is_some.false in
-    let nothing = absent c.in_ok-taken.taken none in
+    let nothing = absent c.note-taken.result none in
     record {
-      functions = more_defined ms i d (names old.functions.keys) (names new.functions.keys) lt before.functions (c.in_ok-taken.ensures.functions nothing);
-      parameters = more_declared ms i d (view_variables old.parameters.keys) (view_variables new.parameters.keys) lt before.parameters (c.in_ok-taken.ensures.parameters nothing);
-      rest = no_duplicate (view_heads c.args.scopes.now.heads.items) ms i d c.in_ok-taken.taken (names old.functions.keys) (view_variables old.parameters.keys) lt before.functions before.parameters none c.in_ok-taken.ensures.taken ∙ before.rest;
+      functions = λ fine. more_defined ms i d (names old.functions.keys) (names new.functions.keys) lt (before.functions (c.note-taken.ensures.taken fine).0) (c.note-taken.ensures.functions fine nothing);
+      parameters = λ fine. more_declared ms i d (view_variables old.parameters.keys) (view_variables new.parameters.keys) lt (before.parameters (c.note-taken.ensures.taken fine).0) (c.note-taken.ensures.parameters fine nothing);
+      rest = λ fine.
+          let was = (c.note-taken.ensures.taken fine).0 in
+          no_duplicate (view_heads c.args.scopes.now.heads.items) ms i d c.note-taken.result (names old.functions.keys) (view_variables old.parameters.keys) lt (before.functions was) (before.parameters was) none (c.note-taken.ensures.taken fine).1 ∙ before.rest was;
     }

@@ -1,4 +1,4 @@
-use Rattle.std.proofs.Common.{ℕ, List, ◌∷◌, ◌++◌, drop, ap, sym, arith}
+use Rattle.std.proofs.Common.{ℕ, List, ◌∷◌, ◌++◌, ap, sym, arith}
 use Rattle.std.proofs.lemmas.List.{drop_all}
 use Rattle.awk_grammar.specs.View.{views}
 use Rattle.awk_grammar.specs.declared.tree.Expr.{Expr}

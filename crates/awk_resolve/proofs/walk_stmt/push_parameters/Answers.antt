@@ -1,4 +1,4 @@
-use Rattle.std.proofs.Common.{ℕ, List, [], ◌∷◌, drop, ap, arith}
+use Rattle.std.proofs.Common.{ℕ, List, [], ◌∷◌, ap, arith}
 use Rattle.std.proofs.lemmas.List.{drop_all}
 use Rattle.std.specs.Global.{Vec}
 use Rattle.awk_grammar.specs.ViewStmt.{view_names}
