@@ -1,4 +1,4 @@
-use Rattle.std.proofs.Common.{◌+◌, ◌<◌, List, ◌∷◌, ◌++◌, drop, length, map, ap, sym, ◌∙◌, arith}
+use Rattle.std.proofs.Common.{◌+◌, ◌<◌, List, ◌∷◌, drop, length, map, ap, sym, ◌∙◌, arith}
 use Rattle.awk_resolve.specs.ViewFunctions.{view_functions}
 use Rattle.awk_resolve.specs.ViewKinds.{view_name_kinds}
 use Rattle.awk_resolve.specs.declared.function_names.FunctionNames.{FunctionNames}
@@ -8,12 +8,10 @@ use Rattle.awk_grammar.specs.Stmt.{Stmts}
 use Rattle.awk_grammar.specs.ViewStmt.{view_stmts}
 use Rattle.sem_scripts.specs.Kinds.{with_bodies}
 use Rattle.mid_program.specs.Mid.{Routine as PlainRoutine}
-use Rattle.sem_scripts.specs.Names.{Function}
 use Rattle.mid_program.specs.Translation.{routine_code}
 use Rattle.mid_program.specs.View.{view_routine, view_texts}
 use Rattle.mid_code.specs.ViewNames.{script_of, view_bodies}
 use Rattle.mid_code.specs.ViewScope.{scope_of, texts_of}
-use Rattle.mid_program.specs.declared.program.Routine.{Routine}
 use Rattle.mid_code.proofs.BodyParts.{first_body, pushed}
 use Rattle.mid_code.proofs.translate.routines.Goals as goal
 
