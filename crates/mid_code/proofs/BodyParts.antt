@@ -1,5 +1,6 @@
 -- The functions of a script with their bodies, one at a time.
 use Rattle.std.proofs.Common.{◌≡◌, ℕ, zero, suc, ◌+◌, ◌<◌, ◌≤◌, length, drop, get_or, map, List, [], ◌∷◌, ◌++◌, refl, ap, sym, ◌∙◌, add-one, arith}
+use Rattle.std.proofs.lemmas.List.{append-nil}
 use Rattle.std.specs.Borrow.{Bor}
 use Rattle.awk_grammar.specs.Stmt.{NoStmt}
 use Rattle.awk_grammar.specs.ViewStmt.{view_stmts}
@@ -54,3 +55,12 @@ texts_at fs bs i lt =
 pub map_push : {A B : Type 0} (f : A → B) (xs : List A) (x : A) (rest : List B) → map f (xs ++ x ∷ []) ++ rest ≡ map f xs ++ (f x ∷ rest)
 map_push f [] x rest = refl
 map_push {A} {B} f (y ∷ ys) x rest = ap (λ (zs : List B). f y ∷ zs) (map_push f ys x rest)
+
+-- a list that is made by pushing what stands for the first of what is left
+pub pushed : {A B : Type 0} (v : A → B) (old new : List A) (x : A) (rest all total : List B) → new ≡ old ++ x ∷ [] → v x ∷ rest ≡ all → map v old ++ all ≡ total → map v new ++ rest ≡ total
+pushed {A} {B} v old new x rest all total more so is =
+    ap (λ (xs : List A). map v xs ++ rest) more ∙ map_push v old x rest ∙ ap (λ (ks : List B). map v old ++ ks) so ∙ is
+
+-- where nothing is left it is all there
+pub all_pushed : {B : Type 0} (found rest total : List B) → rest ≡ [] → found ++ rest ≡ total → found ≡ total
+all_pushed {B} found rest total none is = sym (append-nil found) ∙ sym (ap (λ (ks : List B). found ++ ks) none) ∙ is

@@ -2,6 +2,7 @@
 use Rattle.std.proofs.Common.{◌≡◌, ℕ, zero, suc, drop, drop-cons, add-one, sym, ◌+◌, ◌<◌, ◌≤◌, length, get_or, Bool, true, false, not, List, [], ◌∷◌, Option, Some, None, refl, ap, ◌∙◌, cond, if◌then◌else◌, arith}
 use Rattle.std.specs.Borrow.{Bor}
 use Rattle.std.specs.Cmp.Lexicographic.{nat_list_eq_equiv}
+use Rattle.std.specs.Int.{from_bool}
 use Rattle.std.specs.Global.{Vec}
 use Rattle.std.specs.List.{position_or_len}
 use Rattle.std.proofs.lemmas.Map.Text.{hash_map_updates_str}
@@ -179,3 +180,12 @@ some_place false p n h = absurd (cc)
 pub none_place : (b : Bool) (p : ℕ) → cond b (Some p) None ≡ None → b ≡ false
 none_place true p h = absurd (cc)
 none_place false p h = refl
+
+-- the number that the next array would have
+pub next_number : (n : ℕ) (b : Bool) (m : ℕ) → m ≡ from_bool b → n + m ≡ (if b then suc n else n)
+next_number n true m e = omega (arith, e)
+next_number n false m e = omega (arith, e)
+
+pub next_within : (b : Bool) (m : ℕ) → m ≡ from_bool b → m ≤ 1
+next_within true m e = omega (arith, e)
+next_within false m e = omega (arith, e)

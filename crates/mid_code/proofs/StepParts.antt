@@ -1,5 +1,5 @@
 -- The code of statements, a step at a time.
-use Rattle.std.proofs.Common.{◌≡◌, ◌⊎◌, inl, inr, ℕ, ◌+◌, ◌<◌, ◌≤◌, length, drop, get_or, true, false, List, [], ◌∷◌, ◌++◌, Option, Some, Result, Ok, Err, refl, ap, sym, ◌∙◌, arith}
+use Rattle.std.proofs.Common.{◌≡◌, ◌⊎◌, inl, inr, ℕ, ◌+◌, ◌<◌, ◌≤◌, length, drop, get_or, Bool, true, false, true≢false, zero-add, List, [], ◌∷◌, ◌++◌, Option, Some, Result, Ok, Err, refl, ap, sym, ◌∙◌}
 use Rattle.std.specs.Prelude.{IsOkAnd}
 use Rattle.std.specs.Global.{Vec}
 use Rattle.std.specs.declared.alloc.Global.{Global}
@@ -37,6 +37,22 @@ use Rattle.mid_code.specs.Leaving.{left_with}
 use Rattle.mid_code.specs.Made.{MakesStep}
 use Rattle.mid_code.specs.ViewSteps.{chain}
 use Rattle.mid_code.proofs.Views.{chain_push}
+
+-- in which list of the code an item stands
+
+abbrev pub is_begin : Item → Bool
+is_begin (entry.Begin v) = true
+is_begin _ = false
+
+abbrev pub is_end : Item → Bool
+is_end (entry.End v) = true
+is_end _ = false
+
+abbrev pub is_each : Item → Bool
+is_each (entry.Action v) = true
+is_each (entry.Rule p v) = true
+is_each (entry.PatternOnly p) = true
+is_each _ = false
 
 module _ (texts : List (List ℕ)) (scope : Scope) where
   with_last_is : (ts : Trees) (t : Tree) → followed (codes_of texts scope ts) (At (code_of texts scope t) End) ≡ codes_of texts scope (with_last ts t)
@@ -132,8 +148,7 @@ module _ (texts : List (List ℕ)) (scope : Scope) where
       Then (Block (steps_code texts scope (view_stmts b))) (items_code texts scope (item_ranges (view_item item) + n) items)
       ≡ items_code texts scope n (view_item item ∷ items)
   action_item item v b n items is hb =
-      let none : 0 + n ≡ n = omega arith in
-      rw (hb, is) (ap (λ (m : ℕ). Then (Block (steps_code texts scope (view_stmts v.items))) (items_code texts scope m items)) none)
+      rw (hb, is) (ap (λ (m : ℕ). Then (Block (steps_code texts scope (view_stmts v.items))) (items_code texts scope m items)) (zero-add n))
 
   pub rule_item : (item : Item) (p : Pattern) (v : Vec Stmt) (b : List Stmt) (n : ℕ) (items : List PlainItem) → item ≡ entry.Rule p v → b ≡ v.items →
       Then (where_code texts scope n (view_pattern p) (Block (steps_code texts scope (view_stmts b)))) (items_code texts scope (item_ranges (view_item item) + n) items)
@@ -144,3 +159,36 @@ module _ (texts : List (List ℕ)) (scope : Scope) where
       Then (where_code texts scope n (view_pattern p) (Block (steps_code texts scope print_record))) (items_code texts scope (item_ranges (view_item item) + n) items)
       ≡ items_code texts scope n (view_item item ∷ items)
   lone_item item p n items is = rw is refl
+
+  -- items that are of no list
+
+  pub not_begin : (item : Item) → is_begin item ≡ false → (items : List PlainItem) → begin_code texts scope items ≡ begin_code texts scope (view_item item ∷ items)
+  not_begin (entry.Begin v) e items = absurd (true≢false e)
+  not_begin (entry.End v) e items = refl
+  not_begin (entry.Action v) e items = refl
+  not_begin (entry.Rule p v) e items = refl
+  not_begin (entry.PatternOnly p) e items = refl
+  not_begin (entry.Function n ps v) e items = refl
+  not_begin entry.Empty e items = refl
+
+  pub not_end : (item : Item) → is_end item ≡ false → (items : List PlainItem) → end_code texts scope items ≡ end_code texts scope (view_item item ∷ items)
+  not_end (entry.End v) e items = absurd (true≢false e)
+  not_end (entry.Begin v) e items = refl
+  not_end (entry.Action v) e items = refl
+  not_end (entry.Rule p v) e items = refl
+  not_end (entry.PatternOnly p) e items = refl
+  not_end (entry.Function n ps v) e items = refl
+  not_end entry.Empty e items = refl
+
+  none_more : (n : ℕ) (items : List PlainItem) → items_code texts scope (0 + n) items ≡ items_code texts scope n items
+  none_more n items = ap (λ (m : ℕ). items_code texts scope m items) (zero-add n)
+
+  pub not_each : (item : Item) → is_each item ≡ false → (n : ℕ) (items : List PlainItem) →
+      items_code texts scope (item_ranges (view_item item) + n) items ≡ items_code texts scope n (view_item item ∷ items)
+  not_each (entry.Action v) e n items = absurd (true≢false e)
+  not_each (entry.Rule p v) e n items = absurd (true≢false e)
+  not_each (entry.PatternOnly p) e n items = absurd (true≢false e)
+  not_each (entry.Begin v) e n items = none_more n items
+  not_each (entry.End v) e n items = none_more n items
+  not_each (entry.Function f ps v) e n items = none_more n items
+  not_each entry.Empty e n items = none_more n items

@@ -2,6 +2,7 @@ pub mod Applied
 pub mod Keys
 pub mod Leaving
 pub mod Made
+pub mod ViewActions
 pub mod ViewNames
 pub mod ViewBodies
 pub mod ViewScope

@@ -8,7 +8,7 @@ ghost use Rattle.mid_program.specs.ViewCode.{view, view_slot, views};
 ghost use Rattle.mid_code.specs.Made.{Makes, MakesBoxed, MakesOperands};
 ghost use Rattle.mid_code.specs.ViewNames.{view_variable};
 
-use crate::held::{both, boxed, in_box, pair, single, triple};
+use crate::held::{all_three, both, boxed, in_box, pair, single, triple};
 use crate::names::Variable;
 use mid_program::{Code, Operand, Operation, Slot};
 use sem_primitives::{Listed, Primitive, Sort, Special};
@@ -192,8 +192,8 @@ fn one_of(alloc: Global, code: Code, yes: i64, no: i64) -> Result<Code, AllocErr
     ensures { IfOk result (λ chosen. view chosen ≡ plain.Choose sort.Number (view code)
         (plain.Number yes) (plain.Number no)) }
 {
-    let numbers = both(number(alloc, yes), number(alloc, no));
-    let (test, (yes, no)) = both(boxed(alloc, code), numbers)?;
+    let (yes, no) = (number(alloc, yes), number(alloc, no));
+    let (test, yes, no) = all_three(boxed(alloc, code), yes, no)?;
     Ok(chosen(Sort::Number, test, yes, no))
 }
 

@@ -24,7 +24,7 @@ use crate::build::{
     applied, binary_on, kept_while, number, record, reserved, ternary, three, unary, unary_on,
     variable,
 };
-use crate::held::{both, boxed, in_box, push};
+use crate::held::{all_three, both, boxed, in_box, push};
 use crate::peek::ere_text;
 use crate::scope::Scope;
 use crate::target::{
@@ -370,17 +370,7 @@ pub(crate) fn apply_none(alloc: Global, function: Builtin) -> Result<Code, Alloc
     match function {
         Builtin::Length => record_length(alloc),
         Builtin::Fflush => Ok(Code::Number(0)),
-        Builtin::Substr
-        | Builtin::Index
-        | Builtin::Split
-        | Builtin::Sub
-        | Builtin::Gsub
-        | Builtin::Match
-        | Builtin::Sprintf
-        | Builtin::ToLower
-        | Builtin::ToUpper
-        | Builtin::Int
-        | Builtin::Close => Ok(Code::Unset),
+        _ => Ok(Code::Unset),
     }
 }
 
@@ -398,14 +388,7 @@ pub(crate) fn applied_to(
         Builtin::ToUpper => host_one(alloc, Primitive::Upper, operand),
         Builtin::Close => host_number(alloc, Primitive::Close, operand),
         Builtin::Fflush => host_number(alloc, Primitive::Flush, operand),
-        Builtin::Substr
-        | Builtin::Index
-        | Builtin::Split
-        | Builtin::Sub
-        | Builtin::Gsub
-        | Builtin::Match
-        | Builtin::Sprintf
-        | Builtin::Int => {
+        _ => {
             operand?;
             Ok(Code::Unset)
         }
@@ -422,7 +405,7 @@ pub(crate) fn part_of(
     ensures { (a b c : plain.Code) → Makes text a → Makes from b → Makes count c
         → Makes result (plain.Do (Operation.Host row.Substr) (plain.At a (two b c))) }
 {
-    let (text, (from, count)) = both(text, both(from, count))?;
+    let (text, from, count) = all_three(text, from, count)?;
     ternary(alloc, Primitive::Substr, text, from, count)
 }
 

@@ -138,25 +138,7 @@ pub(crate) fn kept(scope: &Scope<'_>, place: &Expr) -> Result<Option<Box<Code>>,
         Expr::Var(_) => Ok(None),
         Expr::Element(_, subscripts) => kept_key(scope.alloc, key(scope, subscripts)),
         Expr::Field(number) => kept_number(scope.alloc, code(scope, number)),
-        Expr::Number(_)
-        | Expr::Str(_)
-        | Expr::Ere(_)
-        | Expr::Length
-        | Expr::Group(_)
-        | Expr::Call(_, _)
-        | Expr::Apply(_, _)
-        | Expr::Unary(_, _)
-        | Expr::PreStep(_, _)
-        | Expr::PostStep(_, _)
-        | Expr::Binary(_, _, _)
-        | Expr::Assign(_, _, _)
-        | Expr::In(_, _)
-        | Expr::InList(_, _, _)
-        | Expr::Conditional(_, _, _)
-        | Expr::Getline
-        | Expr::GetlineInto(_)
-        | Expr::GetlineFrom(_)
-        | Expr::GetlineIntoFrom(_, _) => kept_zero(scope.alloc),
+        _ => kept_zero(scope.alloc),
     }
 }
 
@@ -307,26 +289,7 @@ fn truncated(scope: &Scope<'_>, e: &Expr) -> Result<Code, AllocError>
             }
             truncated_quotient(scope.alloc, code(scope, left), code(scope, right))
         }
-        Expr::Number(_)
-        | Expr::Str(_)
-        | Expr::Ere(_)
-        | Expr::Length
-        | Expr::Var(_)
-        | Expr::Element(_, _)
-        | Expr::Field(_)
-        | Expr::Call(_, _)
-        | Expr::Apply(_, _)
-        | Expr::Unary(_, _)
-        | Expr::PreStep(_, _)
-        | Expr::PostStep(_, _)
-        | Expr::Assign(_, _, _)
-        | Expr::In(_, _)
-        | Expr::InList(_, _, _)
-        | Expr::Conditional(_, _, _)
-        | Expr::Getline
-        | Expr::GetlineInto(_)
-        | Expr::GetlineFrom(_)
-        | Expr::GetlineIntoFrom(_, _) => host_of(scope, Primitive::IntOf, e),
+        _ => host_of(scope, Primitive::IntOf, e),
     }
 }
 

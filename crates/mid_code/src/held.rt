@@ -51,6 +51,19 @@ pub(crate) fn both<T: Drop, U: Drop>(
     Ok((first, second?))
 }
 
+/// Three values, if all were made.
+pub(crate) fn all_three<T: Drop, U: Drop, V: Drop>(
+    first: Result<T, AllocError>,
+    second: Result<U, AllocError>,
+    third: Result<V, AllocError>,
+) -> Result<(T, U, V), AllocError>
+    ensures { IfOk result (λ all. (first ≡ Ok all.0) × (second ≡ Ok all.1)
+        × (third ≡ Ok all.2)) }
+{
+    let (first, second) = both(first, second)?;
+    Ok((first, second, third?))
+}
+
 /// A list of one item.
 pub(crate) fn single<T: Drop>(alloc: Global, item: T) -> Result<Vec<T>, AllocError>
     ensures { IfOk result (λ list. list.items ≡ item ∷ []) }

@@ -10,7 +10,7 @@ ghost use Rattle.mid_program.specs.Translation.{begin_code, code_of, end_code, i
 ghost use Rattle.mid_program.specs.ViewCode.{view_steps};
 ghost use Rattle.mid_code.specs.ViewScope.{scope_of, texts_of};
 ghost use Rattle.mid_code.specs.Made.{MakesStep};
-ghost use Rattle.mid_code.specs.ViewSteps.{chain};
+ghost use Rattle.mid_code.specs.ViewActions.{AddsItem};
 
 use crate::build::{over, record};
 use crate::expression::code;
@@ -102,63 +102,37 @@ fn where_met(
     }
 }
 
-/// Adds the code of an item that is done for each record, by the number of its range.
-fn push_record_item(
-    steps: &mut Vec<Step>,
-    scope: &Scope<'_>,
-    number: usize,
-    item: &Item,
-) -> Result<(), AllocError>
-    ensures { OnOk result ((items : List PlainItem) → chain steps.new.items (items_code (texts_of
-        scope.now) (scope_of scope.now) (item_ranges (view_item item.now) + number) items)
-        ≡ chain steps.old.items (items_code (texts_of scope.now) (scope_of scope.now) number
-        (view_item item.now ∷ items))) }
+/// The code of items.
+#[derive(Drop)]
+pub(crate) struct Actions {
+    pub begin: Vec<Step>,
+    /// What is done for each record.
+    pub each: Vec<Step>,
+    pub end: Vec<Step>,
+    /// How many ranges the items have.
+    pub ranges: usize,
+}
+
+/// Adds the code of an item; its range, if it has one, has the next number.
+fn push_item(found: &mut Actions, scope: &Scope<'_>, item: &Item) -> Result<(), AllocError>
+    ensures { OnOk result (AddsItem (texts_of scope.now) (scope_of scope.now) found.old found.new
+        (view_item item.now)) }
 {
     match item {
-        Item::Action(body) => push_made(steps, action(scope, body)),
+        Item::Begin(body) => push_made(&mut found.begin, action(scope, body)),
+        Item::End(body) => push_made(&mut found.end, action(scope, body)),
+        Item::Action(body) => push_made(&mut found.each, action(scope, body)),
         Item::Rule(pattern, body) => {
             let action = action(scope, body);
-            push_made(steps, where_met(scope, number, pattern, action))
+            let met = where_met(scope, found.ranges, pattern, action);
+            push_made(&mut found.each, met)
         }
         Item::PatternOnly(pattern) => {
             let action = print_record(scope);
-            push_made(steps, where_met(scope, number, pattern, action))
+            let met = where_met(scope, found.ranges, pattern, action);
+            push_made(&mut found.each, met)
         }
-        Item::Function(_, _, _) | Item::Begin(_) | Item::End(_) | Item::Empty => Ok(()),
-    }
-}
-
-/// Adds the code of an item that is an action of BEGIN.
-fn push_begin_item(steps: &mut Vec<Step>, scope: &Scope<'_>, item: &Item) -> Result<(), AllocError>
-    ensures { OnOk result ((items : List PlainItem) → chain steps.new.items (begin_code (texts_of
-        scope.now) (scope_of scope.now) items) ≡ chain steps.old.items (begin_code (texts_of
-        scope.now) (scope_of scope.now) (view_item item.now ∷ items))) }
-{
-    match item {
-        Item::Begin(body) => push_made(steps, action(scope, body)),
-        Item::Function(_, _, _)
-        | Item::End(_)
-        | Item::Action(_)
-        | Item::Rule(_, _)
-        | Item::PatternOnly(_)
-        | Item::Empty => Ok(()),
-    }
-}
-
-/// Adds the code of an item that is an action of END.
-fn push_end_item(steps: &mut Vec<Step>, scope: &Scope<'_>, item: &Item) -> Result<(), AllocError>
-    ensures { OnOk result ((items : List PlainItem) → chain steps.new.items (end_code (texts_of
-        scope.now) (scope_of scope.now) items) ≡ chain steps.old.items (end_code (texts_of
-        scope.now) (scope_of scope.now) (view_item item.now ∷ items))) }
-{
-    match item {
-        Item::End(body) => push_made(steps, action(scope, body)),
-        Item::Function(_, _, _)
-        | Item::Begin(_)
-        | Item::Action(_)
-        | Item::Rule(_, _)
-        | Item::PatternOnly(_)
-        | Item::Empty => Ok(()),
+        Item::Function(_, _, _) | Item::Empty => Ok(()),
     }
 }
 
@@ -169,61 +143,30 @@ fn ranges_of(item: &Item) -> usize
 {
     match item {
         Item::Rule(Pattern::Range(_, _), _) | Item::PatternOnly(Pattern::Range(_, _)) => 1,
-        Item::Rule(Pattern::One(_), _)
-        | Item::PatternOnly(Pattern::One(_))
-        | Item::Function(_, _, _)
-        | Item::Begin(_)
-        | Item::End(_)
-        | Item::Action(_)
-        | Item::Empty => 0,
+        _ => 0,
     }
 }
 
-/// How many ranges items have.
-pub(crate) fn range_count(items: &[Item]) -> usize
-    ensures { result ≡ range_count (view_items items.now) }
-{
-    let mut count = 0;
-    for item in items {
-        count += ranges_of(item);
-    }
-    count
-}
-
-/// The code of the items that are done for each record.
-pub(crate) fn record_items(scope: &Scope<'_>, items: &[Item]) -> Result<Vec<Step>, AllocError>
-    ensures { IfOk result (λ steps. view_steps steps.items
-        ≡ items_code (texts_of scope.now) (scope_of scope.now) 0 (view_items items.now)) }
-{
-    let mut found = Vec::new(scope.alloc);
-    let mut number = 0;
-    for item in items {
-        push_record_item(&mut found, scope, number, item)?;
-        number += ranges_of(item);
-    }
-    Ok(found)
-}
-
-/// The code of the actions of BEGIN.
-pub(crate) fn begin(scope: &Scope<'_>, items: &[Item]) -> Result<Vec<Step>, AllocError>
-    ensures { IfOk result (λ steps. view_steps steps.items
+/// The code of all items.
+pub(crate) fn code_of_items(scope: &Scope<'_>, items: &[Item]) -> Result<Actions, AllocError>
+    ensures begin { IfOk result (λ found. view_steps found.begin.items
         ≡ begin_code (texts_of scope.now) (scope_of scope.now) (view_items items.now)) }
-{
-    let mut found = Vec::new(scope.alloc);
-    for item in items {
-        push_begin_item(&mut found, scope, item)?;
-    }
-    Ok(found)
-}
-
-/// The code of the actions of END.
-pub(crate) fn end(scope: &Scope<'_>, items: &[Item]) -> Result<Vec<Step>, AllocError>
-    ensures { IfOk result (λ steps. view_steps steps.items
+    ensures each { IfOk result (λ found. view_steps found.each.items
+        ≡ items_code (texts_of scope.now) (scope_of scope.now) 0 (view_items items.now)) }
+    ensures end { IfOk result (λ found. view_steps found.end.items
         ≡ end_code (texts_of scope.now) (scope_of scope.now) (view_items items.now)) }
+    ensures ranges { IfOk result (λ found. found.ranges ≡ range_count (view_items items.now)) }
 {
-    let mut found = Vec::new(scope.alloc);
+    let alloc = scope.alloc;
+    let mut found = Actions {
+        begin: Vec::new(alloc),
+        each: Vec::new(alloc),
+        end: Vec::new(alloc),
+        ranges: 0,
+    };
     for item in items {
-        push_end_item(&mut found, scope, item)?;
+        push_item(&mut found, scope, item)?;
+        found.ranges += ranges_of(item);
     }
     Ok(found)
 }

@@ -6,6 +6,7 @@ ghost use Rattle.awk_resolve.specs.ViewKinds.{view_name_kinds};
 ghost use Rattle.sem_scripts.specs.Names.{arrays_before, function_number, kind_at, special_array, special_in, special_named, special_names};
 ghost use Rattle.mid_code.specs.ViewNames.{array_numbers, function_from, global_number, place_found, place_from, plain_special, script_of};
 
+use crate::held::{all_three, push};
 use awk_resolve::{FunctionNames, NameKind, Resolved};
 use indexmap::IndexMap;
 use sem_primitives::Special;
@@ -136,12 +137,10 @@ fn array_numbers(alloc: Global, names: &[NameKind<'_>]) -> Result<Vec<usize>, Al
     let mut numbers = Vec::new(alloc);
     let mut next = 2;
     for name in names {
-        numbers.push(next)?;
-        if name.is_array {
-            next += 1;
-        }
+        push(&mut numbers, next)?;
+        next += usize::from(name.is_array);
     }
-    numbers.push(next)?;
+    push(&mut numbers, next)?;
     Ok(numbers)
 }
 
@@ -165,9 +164,10 @@ impl<'a> Names<'a> {
     pub fn new(alloc: Global, resolved: &'a Resolved<'a>) -> Result<Self, AllocError>
         ensures { IfOk result (λ names. names.resolved.now ≡ resolved.now) }
     {
-        let numbers = array_numbers(alloc, &resolved.globals)?;
-        let globals = places_of_globals(alloc, &resolved.globals)?;
-        let functions = places_of_functions(alloc, &resolved.functions)?;
+        let numbers = array_numbers(alloc, &resolved.globals);
+        let globals = places_of_globals(alloc, &resolved.globals);
+        let functions = places_of_functions(alloc, &resolved.functions);
+        let (globals, functions, numbers) = all_three(globals, functions, numbers)?;
         Ok(Names {
             resolved,
             globals,

@@ -10,7 +10,7 @@ ghost use Rattle.mid_program.specs.ViewCode.{view};
 ghost use Rattle.mid_code.specs.Made.{Makes};
 
 use crate::build::{binary, chosen, number, truth, unary, untruth};
-use crate::held::{both, in_box};
+use crate::held::{all_three, both, in_box};
 use awk_grammar::{BinaryOp, UnaryOp};
 use awk_text::number_of;
 use awk_values::CompareOp;
@@ -89,7 +89,7 @@ fn both_true(alloc: Global, left: Box<Code>, right: Box<Code>) -> Result<Code, A
         (truth_code (view right.value)) zero_code) }
 {
     let right = in_box(alloc, truth(alloc, Box::into_inner(right)));
-    let (left, (right, zero)) = both(Ok(left), both(right, number(alloc, 0)))?;
+    let (left, right, zero) = all_three(Ok(left), right, number(alloc, 0))?;
     Ok(chosen(Sort::Number, left, right, zero))
 }
 
@@ -99,7 +99,7 @@ fn one_true(alloc: Global, left: Box<Code>, right: Box<Code>) -> Result<Code, Al
         (truth_code (view right.value))) }
 {
     let right = in_box(alloc, truth(alloc, Box::into_inner(right)));
-    let (left, (right, one)) = both(Ok(left), both(right, number(alloc, 1)))?;
+    let (left, right, one) = all_three(Ok(left), right, number(alloc, 1))?;
     Ok(chosen(Sort::Number, left, one, right))
 }
 
@@ -161,7 +161,7 @@ pub(crate) fn conditional(
     ensures { (a b c : plain.Code) → Makes test a → Makes yes b → Makes no c
         → Makes result (plain.Choose sort.Value a b c) }
 {
-    let choices = both(in_box(alloc, yes), in_box(alloc, no));
-    let (test, (yes, no)) = both(in_box(alloc, test), choices)?;
+    let (yes, no) = (in_box(alloc, yes), in_box(alloc, no));
+    let (test, yes, no) = all_three(in_box(alloc, test), yes, no)?;
     Ok(chosen(Sort::Value, test, yes, no))
 }

@@ -22,27 +22,7 @@ pub(crate) fn bare_name(e: &Expr) -> Option<&[u8]>
 {
     match e {
         Expr::Var(name) => Some(name),
-        Expr::Number(_)
-        | Expr::Str(_)
-        | Expr::Ere(_)
-        | Expr::Length
-        | Expr::Element(_, _)
-        | Expr::Field(_)
-        | Expr::Group(_)
-        | Expr::Call(_, _)
-        | Expr::Apply(_, _)
-        | Expr::Unary(_, _)
-        | Expr::PreStep(_, _)
-        | Expr::PostStep(_, _)
-        | Expr::Binary(_, _, _)
-        | Expr::Assign(_, _, _)
-        | Expr::In(_, _)
-        | Expr::InList(_, _, _)
-        | Expr::Conditional(_, _, _)
-        | Expr::Getline
-        | Expr::GetlineInto(_)
-        | Expr::GetlineFrom(_)
-        | Expr::GetlineIntoFrom(_, _) => None,
+        _ => None,
     }
 }
 
@@ -64,26 +44,7 @@ pub(crate) fn ere_in(e: &Expr) -> Option<&[u8]>
     match e {
         Expr::Ere(token) => Some(ere_text(token)),
         Expr::Group(inner) => ere_in(inner),
-        Expr::Number(_)
-        | Expr::Str(_)
-        | Expr::Length
-        | Expr::Var(_)
-        | Expr::Element(_, _)
-        | Expr::Field(_)
-        | Expr::Call(_, _)
-        | Expr::Apply(_, _)
-        | Expr::Unary(_, _)
-        | Expr::PreStep(_, _)
-        | Expr::PostStep(_, _)
-        | Expr::Binary(_, _, _)
-        | Expr::Assign(_, _, _)
-        | Expr::In(_, _)
-        | Expr::InList(_, _, _)
-        | Expr::Conditional(_, _, _)
-        | Expr::Getline
-        | Expr::GetlineInto(_)
-        | Expr::GetlineFrom(_)
-        | Expr::GetlineIntoFrom(_, _) => None,
+        _ => None,
     }
 }
 
@@ -98,24 +59,7 @@ pub(crate) fn is_ere(e: &Expr) -> bool
 pub(crate) fn is_match(op: BinaryOp) -> bool
     ensures { (t : Tree) → ere_for (view_binary op) t ≡ (if result then ere_in t else []) }
 {
-    match op {
-        BinaryOp::Match | BinaryOp::NoMatch => true,
-        BinaryOp::Or
-        | BinaryOp::And
-        | BinaryOp::Less
-        | BinaryOp::LessEqual
-        | BinaryOp::Equal
-        | BinaryOp::NotEqual
-        | BinaryOp::Greater
-        | BinaryOp::GreaterEqual
-        | BinaryOp::Concat
-        | BinaryOp::Add
-        | BinaryOp::Subtract
-        | BinaryOp::Multiply
-        | BinaryOp::Divide
-        | BinaryOp::Modulo
-        | BinaryOp::Power => false,
-    }
+    matches!(op, BinaryOp::Match | BinaryOp::NoMatch)
 }
 
 /// Whether an operator divides.
@@ -126,23 +70,5 @@ pub(crate) fn is_quotient(op: BinaryOp) -> bool
         ≡ (if result then Do (Operation.Inline Arithmetic.Truncated) (two (code_of texts scope a)
         (code_of texts scope b)) else Do (Operation.Host row.IntOf) (one whole)) }
 {
-    match op {
-        BinaryOp::Divide => true,
-        BinaryOp::Or
-        | BinaryOp::And
-        | BinaryOp::Match
-        | BinaryOp::NoMatch
-        | BinaryOp::Less
-        | BinaryOp::LessEqual
-        | BinaryOp::Equal
-        | BinaryOp::NotEqual
-        | BinaryOp::Greater
-        | BinaryOp::GreaterEqual
-        | BinaryOp::Concat
-        | BinaryOp::Add
-        | BinaryOp::Subtract
-        | BinaryOp::Multiply
-        | BinaryOp::Modulo
-        | BinaryOp::Power => false,
-    }
+    matches!(op, BinaryOp::Divide)
 }

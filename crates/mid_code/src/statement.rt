@@ -18,7 +18,7 @@ ghost use Rattle.mid_code.specs.ViewScope.{scope_of, texts_of};
 use crate::build::{applied, over, record, store_variable};
 use crate::compound::{host_array, host_whole};
 use crate::expression::{code, key, push_operands};
-use crate::held::{both, in_box, pair, push, push_made, single};
+use crate::held::{all_three, both, in_box, pair, push, push_made, single};
 use crate::scope::Scope;
 use awk_grammar::{Expr, Jump, Leaving, PrintArgs, PrintTarget, PrintWord, SimpleStmt, Stmt};
 use mid_program::{Code, Operand, Operation, Step};
@@ -210,8 +210,8 @@ pub(crate) fn branches(
     ensures { (e : plain.Code) (s t : plain.Step) → Makes test e → MakesStep yes s
         → MakesStep no t → MakesStep result (plain.If e s t) }
 {
-    let branches = both(in_box(alloc, yes), in_box(alloc, no));
-    let (test, (yes, no)) = both(test, branches)?;
+    let (yes, no) = (in_box(alloc, yes), in_box(alloc, no));
+    let (test, yes, no) = all_three(test, yes, no)?;
     Ok(Step::If(test, yes, no))
 }
 
@@ -238,8 +238,8 @@ fn rounds(
     ensures { (e : plain.Code) (s t : plain.Step) → Makes test e → MakesStep body s
         → MakesStep next t → MakesStep result (plain.Loop first e s t) }
 {
-    let turn = both(in_box(alloc, body), in_box(alloc, next));
-    let (test, (body, next)) = both(test, turn)?;
+    let (body, next) = (in_box(alloc, body), in_box(alloc, next));
+    let (test, body, next) = all_three(test, body, next)?;
     Ok(Step::Loop(first, test, body, next))
 }
 

@@ -37,26 +37,7 @@ pub(crate) fn target_in(scope: &Scope<'_>, place: &Expr) -> Target
     match place {
         Expr::Element(name, _) => Target::Element(scope.array(name)),
         Expr::Var(name) => Target::Name(scope.variable(name)),
-        Expr::Number(_)
-        | Expr::Str(_)
-        | Expr::Ere(_)
-        | Expr::Length
-        | Expr::Field(_)
-        | Expr::Group(_)
-        | Expr::Call(_, _)
-        | Expr::Apply(_, _)
-        | Expr::Unary(_, _)
-        | Expr::PreStep(_, _)
-        | Expr::PostStep(_, _)
-        | Expr::Binary(_, _, _)
-        | Expr::Assign(_, _, _)
-        | Expr::In(_, _)
-        | Expr::InList(_, _, _)
-        | Expr::Conditional(_, _, _)
-        | Expr::Getline
-        | Expr::GetlineInto(_)
-        | Expr::GetlineFrom(_)
-        | Expr::GetlineIntoFrom(_, _) => Target::Field,
+        _ => Target::Field,
     }
 }
 

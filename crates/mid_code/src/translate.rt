@@ -2,26 +2,26 @@
 
 ghost use Rattle.std.specs.Prelude.{◌≡◌, List, map, IfOk};
 ghost use Rattle.awk_resolve.specs.ViewKinds.{view_name, view_name_kinds};
-ghost use Rattle.awk_grammar.specs.ViewStmt.{view_items, view_script, view_stmts};
+ghost use Rattle.awk_grammar.specs.ViewStmt.{view_script, view_stmts};
 ghost use Rattle.sem_scripts.specs.Kinds.{bodies as bodies_of};
 ghost use Rattle.mid_program.specs.MidMeaning.{EndsAs};
-ghost use Rattle.mid_program.specs.Translation.{begin_code, declared_code, end_code, items_code, kind_of, program_of, program_with, routine_code};
-ghost use Rattle.mid_program.specs.View.{view_declared, view_kind, view_mid, view_routine, view_steps, view_texts};
+ghost use Rattle.mid_program.specs.Translation.{declared_code, kind_of, program_of, program_with, routine_code};
+ghost use Rattle.mid_program.specs.View.{view_declared, view_kind, view_mid, view_routine, view_texts};
 ghost use Rattle.mid_code.specs.ViewNames.{script_of, view_bodies};
 ghost use Rattle.mid_code.specs.ViewScope.{scope_of, texts_of as texts_in};
 ghost use Rattle.mid_code.specs.ViewScript.{view_script_code};
 
 use crate::bodies::{bodies, body_at};
-use crate::held::push;
-use crate::item::{begin, end, range_count, reads_records, record_items};
+use crate::held::{all_three, push, push_made};
+use crate::item::{Actions, code_of_items, reads_records};
 use crate::names::Names;
 use crate::scope::Scope;
 use crate::statement::steps;
 use crate::texts::texts_of;
-use awk_grammar::{Item, Stmt};
+use awk_grammar::Stmt;
 use awk_resolve::{NameKind, Resolved};
 use indexmap::IndexSet;
-use mid_program::{Declared, Kind, Mid, Routine, Step};
+use mid_program::{Declared, Kind, Mid, Routine};
 use std::alloc::{AllocError, Global};
 
 /// What a name of the program is; all scalars are boxed.
@@ -41,9 +41,18 @@ fn kinds_of(alloc: Global, names: &[NameKind<'_>]) -> Result<Vec<Kind>, AllocErr
 {
     let mut kinds = Vec::new(alloc);
     for name in names {
-        kinds.push(kind_of(name))?;
+        push(&mut kinds, kind_of(name))?;
     }
     Ok(kinds)
+}
+
+/// What is announced of a global name.
+fn announced(alloc: Global, name: &NameKind<'_>) -> Result<Declared, AllocError>
+    ensures { IfOk result (λ found. view_declared found ≡ declared_code (view_name name.now)) }
+{
+    let kind = kind_of(name);
+    let name = name.name.to_vec(alloc)?;
+    Ok(Declared { name, kind })
 }
 
 /// What is announced of the global names.
@@ -53,9 +62,7 @@ fn declared(alloc: Global, names: &[NameKind<'_>]) -> Result<Vec<Declared>, Allo
 {
     let mut found = Vec::new(alloc);
     for name in names {
-        let kind = kind_of(name);
-        let name = name.name.to_vec(alloc)?;
-        push(&mut found, Declared { name, kind })?;
+        push_made(&mut found, announced(alloc, name))?;
     }
     Ok(found)
 }
@@ -70,10 +77,13 @@ fn routine(scope: &Scope<'_>, name: &[u8], body: &[Stmt]) -> Result<Routine, All
           body = view_stmts body.now;
         })) }
 {
+    let parameters = kinds_of(scope.alloc, scope.parameters);
+    let name = name.to_vec(scope.alloc);
+    let (name, parameters, body) = all_three(name, parameters, steps(scope, body))?;
     Ok(Routine {
-        name: name.to_vec(scope.alloc)?,
-        parameters: kinds_of(scope.alloc, scope.parameters)?,
-        body: steps(scope, body)?,
+        name,
+        parameters,
+        body,
     })
 }
 
@@ -107,36 +117,11 @@ fn routines(
     Ok(found)
 }
 
-/// The code of the items.
-#[derive(Drop)]
-struct Actions {
-    begin: Vec<Step>,
-    /// What is done for each record.
-    each: Vec<Step>,
-    end: Vec<Step>,
-}
-
-/// The code of all items.
-fn code_of_items(scope: &Scope<'_>, items: &[Item]) -> Result<Actions, AllocError>
-    ensures begin { IfOk result (λ found. view_steps found.begin.items
-        ≡ begin_code (texts_in scope.now) (scope_of scope.now) (view_items items.now)) }
-    ensures each { IfOk result (λ found. view_steps found.each.items
-        ≡ items_code (texts_in scope.now) (scope_of scope.now) 0 (view_items items.now)) }
-    ensures end { IfOk result (λ found. view_steps found.end.items
-        ≡ end_code (texts_in scope.now) (scope_of scope.now) (view_items items.now)) }
-{
-    let begin = begin(scope, items)?;
-    let each = record_items(scope, items)?;
-    let end = end(scope, items)?;
-    Ok(Actions { begin, each, end })
-}
-
 /// A script's code without its texts.
 #[derive(Drop)]
 struct ScriptCode {
     globals: Vec<Declared>,
     routines: Vec<Routine>,
-    ranges: usize,
     reads: bool,
     actions: Actions,
 }
@@ -152,8 +137,8 @@ fn code_by_names(
     ensures { IfOk result (λ found. view_script_code (view_texts texts.now.keys) found
         ≡ program_with (view_texts texts.now.keys) (script_of names.now.resolved.now)) }
 {
-    let globals = declared(alloc, &names.resolved.globals)?;
-    let routines = routines(alloc, names, texts, bodies)?;
+    let globals = declared(alloc, &names.resolved.globals);
+    let routines = routines(alloc, names, texts, bodies);
     let items = names.resolved.script.items.as_slice();
     let scope = Scope {
         alloc,
@@ -161,11 +146,11 @@ fn code_by_names(
         texts,
         parameters: &[],
     };
-    let actions = code_of_items(&scope, items)?;
+    let actions = code_of_items(&scope, items);
+    let (globals, routines, actions) = all_three(globals, routines, actions)?;
     Ok(ScriptCode {
         globals,
         routines,
-        ranges: range_count(items),
         reads: reads_records(items),
         actions,
     })
@@ -189,15 +174,27 @@ fn script_code(
 fn with_texts(texts: IndexSet<Vec<u8>>, code: ScriptCode) -> Mid
     ensures { view_mid result ≡ view_script_code (view_texts texts.keys) code }
 {
+    let ScriptCode {
+        globals,
+        routines,
+        reads,
+        actions,
+    } = code;
+    let Actions {
+        begin,
+        each,
+        end,
+        ranges,
+    } = actions;
     Mid {
         texts,
-        globals: code.globals,
-        routines: code.routines,
-        ranges: code.ranges,
-        begin: code.actions.begin,
-        reads: code.reads,
-        items: code.actions.each,
-        end: code.actions.end,
+        globals,
+        routines,
+        ranges,
+        begin,
+        reads,
+        items: each,
+        end,
     }
 }
 

@@ -1,4 +1,7 @@
 use Rattle.std.proofs.Common.{◌≡◌, ℕ, List, map, ap, ◌∙◌}
+use Rattle.std.proofs.lemmas.Result.{IfOk-at_ok}
+use Rattle.std.specs.declared.alloc.Global.{Global}
+use Rattle.std.specs.declared.vec.Vec.{Vec}
 use Rattle.awk_grammar.specs.ViewStmt.{view_items}
 use Rattle.awk_grammar.specs.declared.tree.Item.{Item}
 use Rattle.awk_resolve.specs.ViewKinds.{view_name_kinds}
@@ -6,10 +9,13 @@ use Rattle.awk_resolve.specs.declared.function_names.NameKind.{NameKind}
 use Rattle.awk_resolve.specs.declared.resolved.Resolved.{Resolved}
 use Rattle.sem_scripts.specs.Items.{range_count, reads_records, top}
 use Rattle.mid_program.specs.Translation.{begin_code, declared_code, end_code, items_code, program_with, routine_code}
+use Rattle.mid_program.specs.declared.program.Declared.{Declared}
+use Rattle.mid_program.specs.declared.program.Routine.{Routine}
 use Rattle.mid_program.specs.View.{view_declared, view_routine, view_steps, view_texts}
 use Rattle.mid_code.specs.ViewNames.{script_of}
 use Rattle.mid_code.specs.ViewScope.{scope_of, texts_of}
 use Rattle.mid_code.specs.ViewScript.{view_script_code}
+use Rattle.mid_code.specs.declared.item.Actions.{Actions}
 use Rattle.mid_code.specs.declared.translate.ScriptCode.{ScriptCode}
 use Rattle.mid_code.proofs.translate.code_by_names.Goals as goal
 
@@ -17,7 +23,7 @@ use Rattle.mid_code.proofs.translate.code_by_names.Goals as goal
 code_of_parts : (c : ScriptCode) (r : Resolved) (items : List Item) (texts : List (List ℕ)) → items ≡ r.script.now.items.items →
     map view_declared c.globals.items ≡ map declared_code (view_name_kinds r.globals.items) →
     map view_routine c.routines.items ≡ map (routine_code texts (script_of r)) (script_of r).functions →
-    c.ranges ≡ range_count (view_items items) →
+    c.actions.ranges ≡ range_count (view_items items) →
     view_steps c.actions.begin.items ≡ begin_code texts (top (script_of r)) (view_items items) →
     c.reads ≡ reads_records (view_items items) →
     view_steps c.actions.each.items ≡ items_code texts (top (script_of r)) 0 (view_items items) →
@@ -39,7 +45,18 @@ code_of_parts c r items texts all globals routines ranges begin reads each end =
 pub returns : goal.returns
 unfolding scope_of texts_of
 returns c =
-    code_of_parts (record { globals = c.in_ok-globals.globals; routines = c.in_ok-routines.routines; ranges = c.range_count.result; reads = c.reads_records.result; actions = c.in_ok-actions.actions })
-    c.args.names.now.resolved.now c.as_slice-items.result.now (view_texts c.args.texts.now.keys) c.as_slice-items.ensures.value
-    (c.in_ok-globals.ensures ∙ ap (λ (ns : List NameKind). map declared_code (view_name_kinds ns)) c.deref.ensures.value)
-    c.in_ok-routines.ensures c.range_count.ensures c.in_ok-actions.ensures.begin c.reads_records.ensures c.in_ok-actions.ensures.each c.in_ok-actions.ensures.end
+    let texts = view_texts c.args.texts.now.keys in
+    let r = c.args.names.now.resolved.now in
+    let items = c.as_slice-items.result.now in
+    let scope = top (script_of r) in
+    let made = c.in_ok-globals.ensures in
+    code_of_parts (record { globals = c.in_ok-globals.globals; routines = c.in_ok-globals.routines; reads = c.reads_records.result; actions = c.in_ok-globals.actions })
+    r items texts c.as_slice-items.ensures.value
+    (IfOk-at_ok (λ (ds : Vec Declared Global). map view_declared ds.items ≡ map declared_code (view_name_kinds c.deref.result.now)) made.0 c.declared-globals.ensures
+    ∙ ap (λ (ns : List NameKind). map declared_code (view_name_kinds ns)) c.deref.ensures.value)
+    (IfOk-at_ok (λ (rs : Vec Routine Global). map view_routine rs.items ≡ map (routine_code texts (script_of r)) (script_of r).functions) made.1 c.routines-routines.ensures)
+    (IfOk-at_ok (λ (a : Actions). a.ranges ≡ range_count (view_items items)) made.2 c.code_of_items-actions.ensures.ranges)
+    (IfOk-at_ok (λ (a : Actions). view_steps a.begin.items ≡ begin_code texts scope (view_items items)) made.2 c.code_of_items-actions.ensures.begin)
+    c.reads_records.ensures
+    (IfOk-at_ok (λ (a : Actions). view_steps a.each.items ≡ items_code texts scope 0 (view_items items)) made.2 c.code_of_items-actions.ensures.each)
+    (IfOk-at_ok (λ (a : Actions). view_steps a.end.items ≡ end_code texts scope (view_items items)) made.2 c.code_of_items-actions.ensures.end)

@@ -1,4 +1,4 @@
-use Rattle.std.proofs.Common.{◌+◌, ◌<◌, List, ◌∷◌, ◌++◌, drop, length, map, ap, sym, ◌∙◌, arith}
+use Rattle.std.proofs.Common.{◌+◌, ◌<◌, List, ◌∷◌, drop, length, map, ap, sym, ◌∙◌, arith}
 use Rattle.awk_resolve.specs.ViewFunctions.{view_functions}
 use Rattle.awk_resolve.specs.ViewKinds.{view_name_kinds}
 use Rattle.awk_resolve.specs.declared.function_names.FunctionNames.{FunctionNames}
@@ -8,13 +8,11 @@ use Rattle.awk_grammar.specs.Stmt.{Stmts}
 use Rattle.awk_grammar.specs.ViewStmt.{view_stmts}
 use Rattle.sem_scripts.specs.Kinds.{with_bodies}
 use Rattle.mid_program.specs.Mid.{Routine as PlainRoutine}
-use Rattle.sem_scripts.specs.Names.{Function}
 use Rattle.mid_program.specs.Translation.{routine_code}
 use Rattle.mid_program.specs.View.{view_routine, view_texts}
 use Rattle.mid_code.specs.ViewNames.{script_of, view_bodies}
 use Rattle.mid_code.specs.ViewScope.{scope_of, texts_of}
-use Rattle.mid_program.specs.declared.program.Routine.{Routine}
-use Rattle.mid_code.proofs.BodyParts.{first_body, map_push}
+use Rattle.mid_code.proofs.BodyParts.{first_body, pushed}
 use Rattle.mid_code.proofs.translate.routines.Goals as goal
 
 pub loop-i-preserved : goal.loop-i-preserved
@@ -28,12 +26,11 @@ loop-i-preserved c =
     let found = c.loop-i.found.items in
     let code = routine_code (view_texts c.args.texts.now.keys) (script_of c.args.names.now.resolved.now) in
     let left = with_bodies (view_functions (drop (i + 1) fs)) (view_bodies (drop (i + 1) bs)) in
-    ap (λ (rs : List Routine). map view_routine rs ++ map code left) c.in_ok-push.ensures.items
-    ∙ map_push view_routine found c.in_ok-routine.field-0 (map code left)
-    ∙ ap (λ (r : PlainRoutine). map view_routine found ++ (r ∷ map code left))
+    pushed view_routine found _ c.in_ok-routine.field-0 (map code left) _ _ c.in_ok-push.ensures.items
+    (ap (λ (q : PlainRoutine). q ∷ map code left)
     (c.in_ok-routine.ensures
     ∙ ap (λ (ps : List NameKind). code (record { name = f.name.now; parameters = view_name_kinds ps; body = view_stmts c.body_at.result.now })) c.deref.ensures.value
     ∙ ap (λ (ss : Stmts). code (record { name = f.name.now; parameters = view_name_kinds f.parameters.items; body = ss })) c.body_at.ensures)
-    ∙ sym (ap (λ (gs : List Function). map view_routine found ++ map code gs)
-    (ap (λ (xs : List FunctionNames). with_bodies (view_functions xs) (view_bodies (drop i bs))) (drop_at fs i f lt c.index-function.ensures) ∙ first_body f (drop (i + 1) fs) bs i))
-    ∙ c.loop-i.invariant
+    ∙ sym (ap (map code)
+    (ap (λ (xs : List FunctionNames). with_bodies (view_functions xs) (view_bodies (drop i bs))) (drop_at fs i f lt c.index-function.ensures) ∙ first_body f (drop (i + 1) fs) bs i)))
+    c.loop-i.invariant
