@@ -11,6 +11,7 @@ ghost use Rattle.awk_tokens.specs.Views.{spelled};
 use crate::before::Before;
 use crate::endings::{with_inserted, without_dropped};
 use crate::front::front;
+use crate::held::push;
 use crate::token::{Piece, Punctuator, Token, TokenFault, TokenKind};
 use std::alloc::{AllocError, AllocFailed, Global};
 
@@ -94,7 +95,7 @@ pub(crate) fn cut<'a>(alloc: Global, script: &'a [u8]) -> Result<Vec<Token<'a>>,
         let kept = kind_kept(&before, piece, after);
         if let Some(kind) = kept {
             before.push(kind)?;
-            tokens.push(Token { kind, line, text })?;
+            push(&mut tokens, Token { kind, line, text })?;
         }
         line += count_newlines(text);
         rest = after;

@@ -4,6 +4,7 @@ ghost use Rattle.std.specs.Prelude.{◌≡◌, List, IfOk, map, option_map, fals
 ghost use Rattle.awk_tokens.specs.Cutting.{is_semicolon, is_open_brace, is_close_brace, is_lead, leads, without, inserted, is_open_end, is_unended, with_ends};
 ghost use Rattle.awk_tokens.specs.Views.{spelled};
 
+use crate::held::push;
 use crate::token::{Punctuator, Token, TokenKind};
 use crate::words::Keyword;
 use std::alloc::{AllocError, Global};
@@ -52,7 +53,7 @@ pub(crate) fn without_dropped<'a>(
     while let [token, after @ ..] = rest {
         let dropped = brace && ends_statement(token.kind) && continues(after);
         if !dropped {
-            kept.push(*token)?;
+            push(&mut kept, *token)?;
         }
         brace = closes_brace(token.kind);
         rest = after;
@@ -63,9 +64,13 @@ pub(crate) fn without_dropped<'a>(
 fn inserted_after<'a>(former: Option<Token<'a>>) -> Token<'a>
     ensures { spelled result ≡ inserted (option_map spelled former.entry) }
 {
+    let line = match former {
+        None => 1,
+        Some(token) => token.line,
+    };
     Token {
         kind: TokenKind::Punctuator(Punctuator::Semicolon),
-        line: former.map_or(1, |token| token.line),
+        line,
         text: &[],
     }
 }
@@ -102,14 +107,14 @@ pub(crate) fn with_inserted<'a>(
     let mut rest = tokens;
     while let [token, after @ ..] = rest {
         if closes_brace(token.kind) && needs_end(former) {
-            ended.push(inserted_after(former))?;
+            push(&mut ended, inserted_after(former))?;
         }
-        ended.push(*token)?;
+        push(&mut ended, *token)?;
         former = Some(*token);
         rest = after;
     }
     if stays_open(former) {
-        ended.push(inserted_after(former))?;
+        push(&mut ended, inserted_after(former))?;
     }
     Ok(ended)
 }

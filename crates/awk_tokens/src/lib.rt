@@ -5,6 +5,7 @@ mod before;
 mod cut;
 mod endings;
 mod front;
+mod held;
 mod laws;
 mod number;
 mod token;

@@ -164,5 +164,8 @@ pub fn reserved_word(text: &[u8]) -> Option<ReservedWord>
     if let Some(function) = builtin_of(text) {
         return Some(ReservedWord::Builtin(function));
     }
-    left_out_of(text).map(ReservedWord::LeftOut)
+    if let Some(word) = left_out_of(text) {
+        return Some(ReservedWord::LeftOut(word));
+    }
+    None
 }

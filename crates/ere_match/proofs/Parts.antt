@@ -14,7 +14,7 @@ use Rattle.ere_match.specs.declared.node.Node.TheVariants as nodes
 use Rattle.ere_match.specs.Runs.{filter_set}
 use Rattle.ere_match.specs.Means.{IsLonger, IsBuilt}
 use Rattle.ere_match.proofs.Paths.{means_take, means_start, means_end}
-use Rattle.ere_match.proofs.Builds.{built_as, built_one}
+use Rattle.ere_match.proofs.Builds.{built_as, built_one, repeat_never}
 
 abbrev pub IsPlaced : List Node → List Node → Node → ℕ → Type 0
 IsPlaced old new node place = (place ≡ length old) × (slice_get new place ≡ Some node)
@@ -30,6 +30,10 @@ ok_start old new t next (Ok p) is h l o = subst (λ t. IsBuilt old new t p next)
 pub ok_end : {E : Type 0} (old new : List Node) (t : Tree) (next : ℕ) (r : Result ℕ E) → t ≡ End → IfOk r (IsPlaced old new (nodes.End next)) → OnOk r (IsLonger old new) → OnOk r (length new ≡ length old + 1) → IfOk r (λ entry. IsBuilt old new t entry next)
 ok_end old new t next (Err e) is h l o = tt
 ok_end old new t next (Ok p) is h l o = subst (λ t. IsBuilt old new t p next) (sym is) (built_one old new (Matches End) p next (nodes.End next) h.0 h.1 l o (λ final text at. means_end final text p next at))
+
+pub ok_never : {E : Type 0} (old new : List Node) (t : Tree) (low high next : ℕ) (r : Result ℕ E) → high < low → IfOk r (IsPlaced old new nodes.Never) → OnOk r (IsLonger old new) → OnOk r (length new ≡ length old + 1) → IfOk r (λ entry. IsBuilt old new (Repeat t low (Some high)) entry next)
+ok_never old new t low high next (Err e) less h l o = tt
+ok_never old new t low high next (Ok p) less h l o = repeat_never old new t low high p next less h.0 h.1 l o
 
 -- the same tree under another name
 pub ok_same : {E : Type 0} (old new : List Node) (t u : Tree) (next : ℕ) (r : Result ℕ E) → t ≡ u → IfOk r (λ entry. IsBuilt old new u entry next) → IfOk r (λ entry. IsBuilt old new t entry next)

@@ -116,8 +116,7 @@ fn repeat(
         }
         Some(high) => {
             if high < times.low {
-                let entry = add(nodes, Node::Never)?;
-                Ok(entry)
+                add(nodes, Node::Never)
             } else {
                 let rest = up_to(alloc, nodes, inner, high - times.low, next)?;
                 copies(alloc, nodes, inner, times.low, rest)

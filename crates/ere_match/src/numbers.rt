@@ -96,15 +96,14 @@ fn rank(thread: Option<usize>, used: &[u32]) -> u32
 }
 
 /// The ranks of the threads.
-fn ranks_of(alloc: Global, set: &[Option<usize>], used: &[u32]) -> Result<Vec<u32>, AllocError>
-    requires { (id s : ℕ) → Holds set.now id s → s < length used.now }
-    ensures { IfOk result (λ ranks. AreRanked used.now set.now ranks.items) }
+fn rank_all(set: &[Option<usize>], used: &[u32], ranks: &mut [u32])
+    requires len { length ranks.old ≡ length set.now }
+    requires few { (id s : ℕ) → Holds set.now id s → s < length used.now }
+    ensures { AreRanked used.now set.now ranks.new }
 {
-    let mut ranks = vec![in alloc; 0; set.len()]?;
     for id in 0..set.len() {
         ranks[id] = rank(set[id], used);
     }
-    Ok(ranks)
 }
 
 /// The ranks of the threads, and how many there are; the numbers in use go behind the sources.
@@ -122,7 +121,8 @@ pub(crate) fn rank_threads(
 {
     mark_numbers(set, used);
     let count = rank_numbers(used, sources)?;
-    let ranks = ranks_of(alloc, set, used)?;
+    let mut ranks = vec![in alloc; 0; set.len()]?;
+    rank_all(set, used, &mut ranks);
     Ok((ranks, count))
 }
 

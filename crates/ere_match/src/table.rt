@@ -208,6 +208,5 @@ pub(crate) fn make(
         return Err(AllocError);
     }
     settle(nodes, entry, &mut table.next, found, first, count);
-    let to = place(nodes, table, first, count + 1)?;
-    Ok(to)
+    place(nodes, table, first, count + 1)
 }

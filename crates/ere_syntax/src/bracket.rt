@@ -160,7 +160,6 @@ fn begun(text: &[u8]) -> Result<(Item, &[u8]), &[u8]>
 }
 
 /// The member at the front, and what follows; or what was left where reading stopped.
-#[tactic(auto, using(crate::proofs::Members::begun_is, crate::proofs::Members::named_is))]
 fn member(text: &[u8], front: Front) -> Result<(Item, &[u8]), &[u8]>
     ensures { option_map (λ x. item_and x.0 x.1.now) (kept result)
         ≡ option_map (λ x. item_and (item_of x.0) x.1) (member_at text.now front) }

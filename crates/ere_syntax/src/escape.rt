@@ -1,5 +1,5 @@
 //! Escapes: those of awk's strings, and any other escaped byte is that byte.
-ghost use Rattle.std.specs.Prelude.{◌≡◌, ◌∷◌, true, option_map};
+ghost use Rattle.std.specs.Prelude.{◌≡◌, ◌≤◌, ◌-◌, ◌∷◌, true, option_map};
 ghost use Rattle.ere_syntax.specs.Bracket.{byte_and, escape_at, escape_value, is_octal, letter_value, octal_value, octals_at};
 ghost use Rattle.ere_syntax.specs.Reads.{kept};
 
@@ -26,19 +26,28 @@ pub(crate) fn escape(text: &[u8]) -> Result<(u8, &[u8]), &[u8]>
     }
 }
 
+/// What an octal digit counts.
+fn count_of(digit: u8) -> u16
+    requires { is_octal digit ≡ true }
+    ensures small { result ≤ 7 }
+    ensures value { result ≡ digit - 48 }
+{
+    u16::from(digit - b'0')
+}
+
 /// The byte of the octal digit and at most two further ones, and what follows.
 fn octal(first: u8, text: &[u8]) -> (u8, &[u8])
     requires { is_octal first ≡ true }
     ensures { byte_and result.0 result.1.now
         ≡ byte_and (octal_value 0 (first ∷ (octals_at 2 text.now).0)) (octals_at 2 text.now).1 }
 {
-    let one = u16::from(first - b'0');
+    let one = count_of(first);
     match text {
         [a, b, rest @ ..] if is_octal(*a) && is_octal(*b) => {
-            let number = (one * 8 + u16::from(*a - b'0')) * 8 + u16::from(*b - b'0');
+            let number = (one * 8 + count_of(*a)) * 8 + count_of(*b);
             ((number % 256) as u8, rest)
         }
-        [a, rest @ ..] if is_octal(*a) => ((one * 8 + u16::from(*a - b'0')) as u8, rest),
+        [a, rest @ ..] if is_octal(*a) => ((one * 8 + count_of(*a)) as u8, rest),
         _ => (one as u8, text),
     }
 }

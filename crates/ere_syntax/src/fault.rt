@@ -21,8 +21,8 @@ impl fmt::Display for EreFault {
     fn fmt<W: fmt::Write>(&self, f: &mut fmt::Formatter<W>) -> fmt::Result {
         match self {
             EreFault::BadEre(place) => write!(f, "BadEre {place}"),
-            EreFault::EreTooLarge => write!(f, "EreTooLarge"),
-            EreFault::NoMemory => write!(f, "NoMemory"),
+            EreFault::EreTooLarge => f.write_str("EreTooLarge"),
+            EreFault::NoMemory => f.write_str("NoMemory"),
         }
     }
 }

@@ -12,19 +12,22 @@ use Rattle.module_decoder.specs.declared.fault.DecodeFault.{DecodeFault}
 use Rattle.module_decoder.specs.declared.basics.Span.{Span}
 use Rattle.module_decoder.specs.declared.reader.Reader.{Reader}
 use Rattle.module_decoder.specs.declared.fault.DecodeFault.TheVariants.{BadSection, TooLarge}
-use Rattle.module_decoder.specs.Readers.{◌>>=◌, Fails, Gives, Read, both_at, mapped, malformed, index_at, bytes_at, each_at, ended, ended_by, tagged_at, whole}
-use Rattle.module_decoder.specs.Reading.{ReadBody, before, block_type_at, body_at, body_by, by_end, code_at, code_in, code_parts_at, expr_at, if_at, instr_by, locals_at, made_body, name_at, run_by, runs_at, same as itself, second_side, step_at, utf8, val_type_at, with_first}
-use Rattle.wasm_types.specs.ModuleGrammar.{CodeForm}
+use Rattle.module_decoder.specs.Readers.{◌>>=◌, Fails, Gives, Read, both_at, mapped, malformed, index_at, bytes_at, each_at, ended, ended_by, tagged_at, vec_at, whole}
+use Rattle.module_decoder.specs.Reading.{ReadBody, before, block_type_at, body_at, body_by, by_end, code_at, code_in, code_parts_at, expr_at, if_at, instr_by, locals_at, made_body, name_at, nested_at, run_by, runs_at, same as itself, second_side, step_at, utf8, val_type_at, with_first}
+use Rattle.wasm_types.specs.ModuleGrammar.{CodeForm, Parts}
 use Rattle.wasm_types.specs.declared.types.ValType.{ValType}
 use Rattle.wasm_types.specs.declared.instr.Instr.{Instr}
 use Rattle.wasm_types.specs.declared.opcodes.Lead.{Lead}
+use Rattle.wasm_types.specs.declared.opcodes.Lead.TheVariants as lead
 use Rattle.wasm_types.specs.Syntax.{Instruction, Instructions, If, Done, Then}
 use Rattle.wasm_types.specs.View.{view, views}
 use Rattle.wasm_types.proofs.Views.{followed_by, views_push}
 use Rattle.module_decoder.specs.declared.body.Step.TheVariants.{Ends, Opens}
+use Rattle.module_decoder.specs.declared.body.Opener.{Opener}
+use Rattle.module_decoder.specs.declared.body.Opener.TheVariants as opener
 use Rattle.module_decoder.specs.declared.body.Ending.{Ending}
 use Rattle.module_decoder.specs.declared.body.Ending.TheVariants as ending
-use Rattle.module_decoder.specs.Readings.{Checked, FailsBy, Made, Reads, Stands, StandsAfter, Took, tag_at}
+use Rattle.module_decoder.specs.Readings.{Checked, FailsBy, Made, Reads, Stands, StandsAfter, Took, opener_by, tag_at}
 use Rattle.module_decoder.proofs.Loops.{fails_bind, with_items, items_step, run_front, with_front, front_step, body_some, body_end, front_nil}
 
 -- nothing is read
@@ -229,6 +232,13 @@ pub instrs_end : {a b c : Reader} (limit : ℕ) (front : Instructions) (n i : �
 instrs_end {a} {b} {c} limit front n i e so_far lt at same sound =
     after so_far (rw (body_end a.span (body_at a.span limit) front n i b.rest.now e c.rest.now _ lt at refl) (moved same sound (still c (Ok (made_body front e c.rest.now)))))
 
+-- an instruction that holds others
+pub opened : (c : Span) (body : List ℕ → ReadBody) (l : Lead) (o : Opener) (bytes : List ℕ) → opener_by l ≡ Some o → instr_by c body l bytes ≡ nested_at c body o bytes
+opened c body lead.Block o bytes e = let q : opener.Block ≡ o = cc in rw (← q) refl
+opened c body lead.Loop o bytes e = let q : opener.Loop ≡ o = cc in rw (← q) refl
+opened c body lead.If o bytes e = let q : opener.If ≡ o = cc in rw (← q) refl
+opened c body l o bytes e = cc
+
 -- ---- instructions that hold others
 
 by_end_by : {A : Type 0} (c : Span) (f : Instructions → A) (is : Instructions) (e : Ending) (rest : List ℕ) → by_end c f (made_body is e rest) ≡ (by_end c itself (made_body is e rest) >>= λ x. Ok (f x.0, x.1))
@@ -284,6 +294,11 @@ room_left false front n left t q long short small room = omega (arith, ap length
 
 pub whole_is : {A : Type 0} {a b c : Reader} {x : A} (r : Span → List ℕ → Read A) → Reads a b (Ok (x, b.rest.now)) (r a.span a.rest.now) → Reads b c (Ok tt) (ended_by b.span b.rest.now) → Reads a c (Ok x) (whole a.span (r a.span) a.rest.now)
 whole_is {A} {a} {b} {c} {x} r h k = next_part (r a.span a.rest.now) ended h (next_part (ended_by b.span b.rest.now) (λ p u. Ok x) k (still c (Ok x)))
+
+-- the entries of a section, and the parts with them
+pub part_is : {A : Type 0} {a b : Reader} {xs : List A} (r : Span → List ℕ → Read A) (with : List A → Parts) → Reads a b (Ok xs) (whole a.span (vec_at a.span (r a.span)) a.rest.now)
+    → Reads a b (Ok (with xs)) (whole a.span (vec_at a.span (r a.span)) a.rest.now >>= λ ys. Ok (with ys))
+part_is {A} {a} {b} {xs} r with h = next_part (whole a.span (vec_at a.span (r a.span)) a.rest.now) (λ c ys. Ok (with ys)) h (still b (Ok (with xs)))
 
 -- what a reader of a part has read
 ends : {A : Type 0} {a b : Reader} {x : A} (r : Result A DecodeFault) (part : Result Unit DecodeFault) → a.fault ≡ None → Reads a b (Ok x) r → MatchOption b.fault (part ≡ Ok tt) (λ fault. part ≡ Err fault) → Gives (λ u. x) part r

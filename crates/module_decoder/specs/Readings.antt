@@ -6,6 +6,10 @@ use Rattle.module_decoder.specs.declared.reader.Reader.{Reader}
 use Rattle.module_decoder.specs.declared.fault.DecodeFault.TheVariants.{NoMemory}
 use Rattle.module_decoder.specs.declared.basics.Span.{Span}
 use Rattle.std.specs.declared.alloc.AllocError.{AllocError}
+use Rattle.wasm_types.specs.declared.opcodes.Lead.{Lead}
+use Rattle.wasm_types.specs.declared.opcodes.Lead.TheVariants as lead
+use Rattle.module_decoder.specs.declared.body.Opener.{Opener}
+use Rattle.module_decoder.specs.declared.body.Opener.TheVariants as opener
 use Rattle.module_decoder.specs.Readers.{Fails, Read, tagged_at}
 
 -- the first fault, or what is left of what is to be read
@@ -49,3 +53,10 @@ Checked (Some e) now part = now ≡ Some e
 -- the byte that begins a part
 abbrev pub tag_at : ℕ → Span → List ℕ → Read Unit
 tag_at k c = tagged_at c k (λ rest. Ok (tt, rest))
+
+-- what a byte begins that holds instructions of its own
+abbrev pub opener_by : Lead → Option Opener
+opener_by lead.Block = Some opener.Block
+opener_by lead.Loop = Some opener.Loop
+opener_by lead.If = Some opener.If
+opener_by l = None

@@ -1,10 +1,10 @@
 //! Instructions and their bodies.
 
-ghost use Rattle.std.specs.Prelude.{◌≡◌, ◌+◌, ◌-◌, Some, None, Ok, MatchOption, IfOk, length};
+ghost use Rattle.std.specs.Prelude.{◌≡◌, ◌+◌, ◌-◌, ℕ, List, Some, None, Ok, MatchOption, IfOk, length};
 ghost use Rattle.wasm_types.specs.Syntax.{Block, Loop, If, Instructions};
 ghost use Rattle.wasm_types.specs.View.{view, views};
-ghost use Rattle.module_decoder.specs.Readings.{Reads};
-ghost use Rattle.module_decoder.specs.Reading.{step_by, step_at, made_body, by_end, same, nested_at, instr_by, body_at, expr_at};
+ghost use Rattle.module_decoder.specs.Readings.{Reads, opener_by};
+ghost use Rattle.module_decoder.specs.Reading.{ReadBody, step_by, step_at, made_body, by_end, same, nested_at, instr_by, body_at, expr_at};
 
 use crate::basics::{Span, bits32, bits64, block_type};
 use crate::entries::{Indices, entries};
@@ -132,6 +132,66 @@ fn cut(instrs: Vec<Instr>) -> Sequence
     }
 }
 
+/// What a byte begins that holds instructions of its own.
+fn opener_of(lead: Lead) -> Option<Opener>
+    ensures { result ≡ opener_by lead }
+{
+    match lead {
+        Lead::Block => Some(Opener::Block),
+        Lead::Loop => Some(Opener::Loop),
+        Lead::If => Some(Opener::If),
+        _ => None,
+    }
+}
+
+/// An instruction that holds no others, from what follows its opcode.
+fn plain(reader: &mut Reader, lead: Lead) -> Instr
+    requires { opener_by lead ≡ None }
+    ensures { (body : List ℕ → ReadBody) → Reads reader.old reader.new
+        (Ok (view result, reader.new.rest.now))
+        (instr_by reader.old.span body lead reader.old.rest.now) }
+{
+    match lead {
+        Lead::Bare(simple) => Instr::Plain(simple),
+        Lead::Index(op) => Instr::Plain(op.with(reader.index())),
+        Lead::Load(op) => Instr::Plain(Simple::Load(op, reader.mem_arg())),
+        Lead::Store(op) => Instr::Plain(Simple::Store(op, reader.mem_arg())),
+        Lead::I32Const => {
+            let n = reader.take(bits32(reader.span, reader.rest), 0);
+            Instr::Plain(Simple::I32Const(n))
+        }
+        Lead::I64Const => {
+            let n = reader.take(bits64(reader.span, reader.rest), 0);
+            Instr::Plain(Simple::I64Const(n))
+        }
+        Lead::CallIndirect => {
+            let n = reader.index();
+            reader.reserved();
+            Instr::Plain(Simple::CallIndirect(n))
+        }
+        Lead::MemorySize => {
+            reader.reserved();
+            Instr::Plain(Simple::MemorySize)
+        }
+        Lead::MemoryGrow => {
+            reader.reserved();
+            Instr::Plain(Simple::MemoryGrow)
+        }
+        Lead::BrTable => {
+            let labels = entries::<Indices>(reader);
+            Instr::BrTable(labels, reader.index())
+        }
+        Lead::Float => {
+            reader.fail(DecodeFault::Float(behind(reader.span, reader.rest)));
+            NOTHING
+        }
+        _ => {
+            reader.fail(DecodeFault::BadOpcode(behind(reader.span, reader.rest)));
+            NOTHING
+        }
+    }
+}
+
 /// An instruction that holds others, from what follows its opcode.
 #[cycle(body)]
 fn nested(reader: &mut Reader, limit: u32, opener: Opener) -> Instr
@@ -168,47 +228,9 @@ fn instr(reader: &mut Reader, limit: u32, lead: Lead) -> Instr
     ensures { Reads reader.old reader.new (Ok (view result, reader.new.rest.now))
         (instr_by reader.old.span (body_at reader.old.span limit) lead reader.old.rest.now) }
 {
-    match lead {
-        Lead::Bare(simple) => Instr::Plain(simple),
-        Lead::Index(op) => Instr::Plain(op.with(reader.index())),
-        Lead::Load(op) => Instr::Plain(Simple::Load(op, reader.mem_arg())),
-        Lead::Store(op) => Instr::Plain(Simple::Store(op, reader.mem_arg())),
-        Lead::I32Const => {
-            let n = reader.take(bits32(reader.span, reader.rest), 0);
-            Instr::Plain(Simple::I32Const(n))
-        }
-        Lead::I64Const => {
-            let n = reader.take(bits64(reader.span, reader.rest), 0);
-            Instr::Plain(Simple::I64Const(n))
-        }
-        Lead::CallIndirect => {
-            let n = reader.index();
-            reader.reserved();
-            Instr::Plain(Simple::CallIndirect(n))
-        }
-        Lead::MemorySize => {
-            reader.reserved();
-            Instr::Plain(Simple::MemorySize)
-        }
-        Lead::MemoryGrow => {
-            reader.reserved();
-            Instr::Plain(Simple::MemoryGrow)
-        }
-        Lead::BrTable => {
-            let labels = entries::<Indices>(reader);
-            Instr::BrTable(labels, reader.index())
-        }
-        Lead::Block => nested(reader, limit, Opener::Block),
-        Lead::Loop => nested(reader, limit, Opener::Loop),
-        Lead::If => nested(reader, limit, Opener::If),
-        Lead::Float => {
-            reader.fail(DecodeFault::Float(behind(reader.span, reader.rest)));
-            NOTHING
-        }
-        Lead::Else | Lead::End | Lead::Unknown => {
-            reader.fail(DecodeFault::BadOpcode(behind(reader.span, reader.rest)));
-            NOTHING
-        }
+    match opener_of(lead) {
+        Some(opener) => nested(reader, limit, opener),
+        None => plain(reader, lead),
     }
 }
 

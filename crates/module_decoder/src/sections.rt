@@ -269,6 +269,20 @@ fn first_index(indices: &[u32]) -> Option<(u32, &[u32])>
     }
 }
 
+/// A function from the index of its type and its code.
+fn func_of(alloc: Global, ty: u32, code: Code) -> Result<Func, AllocError>
+    ensures ty { IfOk result (λ func. func.ty ≡ ty) }
+    ensures locals { IfOk result (λ func. func.locals ≡ code.locals) }
+    ensures body { IfOk result (λ func. func.body.value ≡ code.body) }
+{
+    let body = shared(alloc, code.body)?;
+    Ok(Func {
+        ty,
+        locals: code.locals,
+        body,
+    })
+}
+
 /// The functions from the indices of their types and their codes, of which there are as many.
 fn joined(alloc: Global, type_indices: Vec<u32>, codes: Vec<Code>) -> Result<Vec<Func>, AllocError>
     ensures { IfOk result
@@ -280,12 +294,7 @@ fn joined(alloc: Global, type_indices: Vec<u32>, codes: Vec<Code>) -> Result<Vec
         match first_index(rest) {
             None => return Ok(funcs),
             Some((ty, after)) => {
-                let func = Func {
-                    ty,
-                    locals: code.locals,
-                    body: shared(alloc, code.body)?,
-                };
-                push(&mut funcs, func)?;
+                push(&mut funcs, func_of(alloc, ty, code)?)?;
                 rest = after;
             }
         }

@@ -2,7 +2,7 @@
 ghost use Rattle.std.specs.Prelude.{◌≡◌, List, ◌∷◌, [], true, false, Some, None, reverse, OnOk, MatchOption, ◌↔◌, IsTrue, slice_get, MatchResult, drop};
 ghost use Rattle.module_validator.specs.Forms.{pop, pop_any, push, push_one, pops, after, Fits, Sees, SeesAny, Judges};
 ghost use Rattle.std.specs.List.{All};
-ghost use Rattle.wasm_types.specs.Typing.{one, Drops, Selects, Fixed};
+ghost use Rattle.wasm_types.specs.Typing.{one, Drops, Leaves, Selects, Fixed};
 
 use std::alloc::{AllocError, Global};
 use std::marker::Model;
@@ -134,6 +134,15 @@ impl Stack {
     {
         self.items.clear();
         self.unreached = true;
+    }
+
+    /// Takes a result, if there is one; the code that follows is not reached.
+    pub(crate) fn leave(&mut self, kind: Option<ValType>) -> Result<(), Refusal>
+        ensures { Sees result self.new (after (Leaves (one kind)) self.old) }
+    {
+        self.take_one(kind)?;
+        self.cut();
+        Ok(())
     }
 
     /// Takes one operand and gives a result.

@@ -8,7 +8,7 @@ use Rattle.ere_syntax.specs.Matches.{Matches}
 use Rattle.ere_match.specs.declared.node.Node.{Node}
 use Rattle.ere_match.specs.Means.{AreBuilt, InTurn, Power, Turns}
 use Rattle.ere_match.proofs.Builds.{endless_none, endless_any, endless_some, power_next, power_stop, upto_next, upto_stop, repeat_any, repeat_least, repeat_most, parts_built, parts_next, branch_first, branch_both, branch_split}
-use Rattle.ere_match.proofs.Parts.{ok_take, ok_start, ok_end, ok_same, ok_like, views_drop, views_take, views_take_length, built_at, built_from, repeat_high}
+use Rattle.ere_match.proofs.Parts.{ok_take, ok_start, ok_end, ok_same, ok_never, ok_like, views_drop, views_take, views_take_length, built_at, built_from, repeat_high}
 use Rattle.ere_match.proofs.assemble.+build.Goals as goal
 use Rattle.ere_match.proofs.assemble.+build.Goals.{any_of-then-place-eq0, any_of-else-place-eq0+then-len-before, any_of-else-place-eq0+else-len-before+in_ok-entry}
 
@@ -50,6 +50,15 @@ pub build-returns-in-Or : goal.build-returns-in-Or
 build-returns-in-Or t c =
     let is : view c.args.ere.now ≡ or_all (views c.deref-in-Or.result.now) = ap view c.in-Or.is ∙ view_or c.in-Or.parts ∙ sym (ap (λ es. or_all (views es)) c.deref-in-Or.ensures.value) in
     ok_same c.args.nodes.now.items c.any_of.new.nodes.items (view c.args.ere.now) (or_all (views c.deref-in-Or.result.now)) c.args.next c.any_of.result is c.any_of.ensures
+
+pub all_of-overflow_sub-parts : goal.all_of-overflow_sub-parts
+all_of-overflow_sub-parts t c = omega arith
+
+pub all_of-overflow_sub-parts-in-loop-done : goal.all_of-overflow_sub-parts-in-loop-done
+all_of-overflow_sub-parts-in-loop-done t c = omega arith
+
+pub all_of-bounds-parts-parts : goal.all_of-bounds-parts-parts
+all_of-bounds-parts-parts t c = omega arith
 
 pub all_of-loop-done-preserved : goal.all_of-loop-done-preserved
 all_of-loop-done-preserved t c =
@@ -123,6 +132,10 @@ repeat-returns-else-times-eq0 t c =
     IfOk-weaker c.copies.result _ _ (λ entry built.
     repeat_high c.args.nodes.now.items c.copies.new.nodes.items (view c.args.inner.now) c.args.times.low c.args.times.high None entry c.args.next c.in-None.is
     (repeat_least c.args.nodes.now.items c.endless.new.nodes.items c.copies.new.nodes.items (view c.args.inner.now) c.args.times.low entry c.in_ok-none-in-None.one c.args.next (omega (arith, c.if-times-eq0.false)) c.in_ok-none-in-None.ensures.some built)) c.copies.ensures
+
+pub repeat-returns-then-high-times : goal.repeat-returns-then-high-times
+repeat-returns-then-high-times t c =
+    rw c.in-Some.is (ok_never c.args.nodes.now.items c.add.new.nodes.items (view c.args.inner.now) c.args.times.low c.in-Some.high c.args.next c.add.result c.if-high-times.true c.add.ensures.place c.add.ensures.longer c.add.ensures.one)
 
 pub repeat-returns-in_ok-rest-in-Some : goal.repeat-returns-in_ok-rest-in-Some
 repeat-returns-in_ok-rest-in-Some t c =

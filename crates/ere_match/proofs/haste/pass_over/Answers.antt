@@ -22,3 +22,9 @@ loop-place-preserved c =
           loop_on c.args.nodes.now c.args.text.now c.args.entry from c.loop-place.place c.args.byte c.args.state c.enter.result c.index.result.now.count c.args.classes.now c.loop-place.table c.enter.new.table c.args.to (omega (arith, above, c.loop-place.auto.place)) c.loop-place-test.true (search rules)
           (ap (λ i. get_or c.args.classes.now i 0) (sym c.from-in-loop-place.ensures) ∙ c.if-classes-from.false ∙ ap (λ i. get_or c.args.classes.now i 0) c.from.ensures) l (c.loop-place.invariant.counts l.row l.is) t (c.enter.ensures.table c.args.nodes.now c.args.entry c.args.classes.now t) e x));
     }
+
+pub bounds-text-place : goal.bounds-text-place
+bounds-text-place c = omega arith
+
+pub overflow_add-place : goal.overflow_add-place
+overflow_add-place c = omega arith

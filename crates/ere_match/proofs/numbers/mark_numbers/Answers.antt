@@ -12,3 +12,8 @@ loop-thread-preserved c =
           marks_on c.args.set.now i w.in-Some.number c.loop-thread.used c.match-thread.used w.in-Some.is room w.used-is c.loop-thread.invariant)
       | in-None w ↦ marks_past c.args.set.now i c.loop-thread.used c.match-thread.used w.in-None.is w.used-is c.loop-thread.invariant
     ]
+
+pub bounds-used-number : goal.bounds-used-number
+bounds-used-number c =
+    let i = c.loop-thread.thread-index in
+    omega (arith, c.requires i c.in-Some.number (holds_read c.args.set.now i c.in-Some.number c.loop-thread-test.true c.in-Some.is), c.loop-thread.auto.used)

@@ -1,4 +1,4 @@
-use Rattle.std.proofs.Common.{ap, Vec, Global, ℕ, ◌+◌, set}
+use Rattle.std.proofs.Common.{arith, ap, Vec, Global, ℕ, ◌+◌, set}
 use Rattle.ere_match.specs.Rows.{IsRankedTo}
 use Rattle.ere_match.proofs.Ranks.{at_equals, ranked_skip, ranked_on}
 use Rattle.ere_match.proofs.numbers.rank_numbers.Goals as goal
@@ -13,3 +13,12 @@ loop-number-preserved c =
       | else-used-number-eq1 w ↦ at_equals (IsRankedTo (s.number + 1) c.args.sources.now.items c.args.used.now) (set s.used s.number 0) c.if-used-number-eq1.used s.sources.items c.if-used-number-eq1.sources.items s.count c.if-used-number-eq1.count w.used-is (ap (λ (v : Vec ℕ Global). v.items) w.sources-is) w.count-is
           (ranked_skip s.number c.args.sources.now.items c.args.used.now s.used s.sources.items s.count w.if-used-number-eq1.false s.invariant)
     ]
+
+pub bounds-used-number : goal.bounds-used-number
+bounds-used-number c = omega arith
+
+pub overflow_cast-number : goal.overflow_cast-number
+overflow_cast-number c = omega arith
+
+pub bounds-used-number-else-used-number-eq1 : goal.bounds-used-number-else-used-number-eq1
+bounds-used-number-else-used-number-eq1 c = omega arith

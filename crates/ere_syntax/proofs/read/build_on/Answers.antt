@@ -1,7 +1,7 @@
 use Rattle.std.proofs.Common.{rules}
 use Rattle.ere_syntax.specs.Lexing.{token_view}
 use Rattle.ere_syntax.proofs.Texts.{code_less}
-use Rattle.ere_syntax.proofs.Wholes.{reading_start, reading_no_token, reading_step, reading_next, reading_fault, reading_open}
+use Rattle.ere_syntax.proofs.Wholes.{reading_start, reading_no_token, reading_step, reading_next, reading_fault, reading_open, reading_end, reading_none}
 use Rattle.ere_syntax.proofs.read.build_on.Goals as goal
 
 pub loop-rest-init : goal.loop-rest-init
@@ -33,3 +33,9 @@ loop-rest-preserved c =
 
 pub returns-then-not-is_empty : goal.returns-then-not-is_empty
 returns-then-not-is_empty c = let s = c.loop-rest in reading_open c.args.text.now s.rest.now s.stack.items s.frame s.invariant c.requires.some (search rules) (search rules)
+
+pub returns-in-None : goal.returns-in-None
+returns-in-None c =
+    let s = c.loop-rest in
+    let whole = reading_end c.args.text.now s.rest.now s.stack.items s.frame s.invariant (search rules) (search rules) in
+    reading_none c.args.text.now s.frame c.requires.some whole (rw c.in-None.is at c.in_ok-finish.ensures.same)

@@ -1,14 +1,11 @@
-use Rattle.std.proofs.Common.{◌≡◌, ◌-◌, length, arith, refl, Some}
-use Rattle.wasm_types.specs.declared.instr.Simple.TheVariants as simple
-use Rattle.wasm_types.specs.Opcodes.{indexed}
-use Rattle.wasm_types.specs.Syntax.{Block, Loop, Plain}
+use Rattle.std.proofs.Common.{◌≡◌, ◌-◌, ◌∙◌, length, arith, refl, sym, Some}
+use Rattle.wasm_types.specs.Syntax.{Block, Loop}
 use Rattle.wasm_types.specs.View.{view, views}
 use Rattle.module_decoder.specs.declared.fault.DecodeFault.TheVariants.{TooLarge}
 use Rattle.module_decoder.specs.declared.body.Step.TheVariants.{Ends, Opens}
-use Rattle.module_decoder.specs.Readers.{bits32_at, index_at}
-use Rattle.module_decoder.specs.Reading.{block_type_at, body_at, mem_arg_at, reserved_at, step_at}
+use Rattle.module_decoder.specs.Reading.{block_type_at, body_at, step_at}
 use Rattle.module_decoder.proofs.Loops.{body_zero}
-use Rattle.module_decoder.proofs.Steps.{fails, instrs_begun, instrs_end, made_is, mapped_is, one_body, one_instr, one_side, took, two_sides}
+use Rattle.module_decoder.proofs.Steps.{fails, instrs_begun, instrs_end, made_is, one_body, one_instr, one_side, opened, took, two_sides}
 use Rattle.module_decoder.proofs.body.+body.Goals as goal
 
 pub body_of-returns-then-limit-eq0 : goal.body_of-returns-then-limit-eq0
@@ -53,30 +50,8 @@ nested-returns-in-Else t c =
     rw c.in-If.is (two_sides c.args.limit (views c.body_of-first.result.instrs.items) c.body_of-first.result.ending (views c.body_of-second.result.instrs.items) c.body_of-second.result.ending kind c.body_of-first.ensures c.in-Else.is c.body_of-second.ensures c.end-in-Else.ensures
     (made_is view c.choice-in-Else.result c.made-in-Else.ensures.span c.made-in-Else.ensures.rest c.made-in-Else.ensures.made c.choice-in-Else.ensures))
 
-pub instr-returns-in-Index : goal.instr-returns-in-Index
-instr-returns-in-Index t c = rw (c.in-Index.is, c.with.ensures) (mapped_is (λ n. Plain (indexed c.in-Index.op n)) (index_at c.args.reader.now.span) c.index.ensures)
+pub instr-returns-in-Some : goal.instr-returns-in-Some
+instr-returns-in-Some t c = rw (opened c.args.reader.now.span (body_at c.args.reader.now.span c.args.limit) c.args.lead c.in-Some.opener c.args.reader.now.rest.now (sym c.opener_of.ensures ∙ c.in-Some.is)) c.nested.ensures
 
-pub instr-returns-in-Load : goal.instr-returns-in-Load
-instr-returns-in-Load t c = rw c.in-Load.is (mapped_is (λ m. Plain (simple.Load c.in-Load.op m)) (mem_arg_at c.args.reader.now.span) c.mem_arg.ensures)
-
-pub instr-returns-in-Store : goal.instr-returns-in-Store
-instr-returns-in-Store t c = rw c.in-Store.is (mapped_is (λ m. Plain (simple.Store c.in-Store.op m)) (mem_arg_at c.args.reader.now.span) c.mem_arg-in-Store.ensures)
-
-pub instr-returns-in-I32Const : goal.instr-returns-in-I32Const
-instr-returns-in-I32Const t c =
-    rw c.in-I32Const.is (mapped_is (λ n. Plain (simple.I32Const n)) (bits32_at c.args.reader.now.span) (took (λ n. n) c.bits32.result (bits32_at c.args.reader.now.span c.args.reader.now.rest.now) c.take-n.ensures.span c.take-n.ensures.took c.bits32.ensures))
-
-pub instr-returns-in-MemorySize : goal.instr-returns-in-MemorySize
-instr-returns-in-MemorySize t c = rw c.in-MemorySize.is (mapped_is (λ r. Plain simple.MemorySize) (reserved_at c.args.reader.now.span) c.reserved-in-MemorySize.ensures)
-
-pub instr-returns-in-MemoryGrow : goal.instr-returns-in-MemoryGrow
-instr-returns-in-MemoryGrow t c = rw c.in-MemoryGrow.is (mapped_is (λ r. Plain simple.MemoryGrow) (reserved_at c.args.reader.now.span) c.reserved-in-MemoryGrow.ensures)
-
-pub instr-returns-in-Block : goal.instr-returns-in-Block
-instr-returns-in-Block t c = rw c.in-Block.is c.nested.ensures
-
-pub instr-returns-in-Loop : goal.instr-returns-in-Loop
-instr-returns-in-Loop t c = rw c.in-Loop.is c.nested-in-Loop.ensures
-
-pub instr-returns-in-If : goal.instr-returns-in-If
-instr-returns-in-If t c = rw c.in-If.is c.nested-in-If.ensures
+pub instr-returns-in-None : goal.instr-returns-in-None
+instr-returns-in-None t c = c.plain.ensures (body_at c.args.reader.now.span c.args.limit)

@@ -8,7 +8,7 @@ use Rattle.module_validator.specs.Checks.{context_of}
 use Rattle.module_validator.specs.Forms.{push_one}
 use Rattle.wasm_types.specs.Typing.{one, CodeOk}
 use Rattle.wasm_types.proofs.Views.{view_block, view_loop, view_if}
-use Rattle.module_validator.proofs.Steps.{simple_follows, block_exact, block_not, loop_exact, loop_not, choice_exact, choice_first, choice_second, put_follows, follows_err, judges_err, so_far_step, so_far_stuck, so_far_end}
+use Rattle.module_validator.proofs.Steps.{simple_follows, block_exact, block_not, loop_exact, loop_not, choice_exact, choice_not, choice_first, choice_second, put_follows, follows_err, judges_err, so_far_step, so_far_stuck, so_far_end}
 use Rattle.module_validator.proofs.checker.Scope.+walk.Goals as goal
 
 pub step-returns-in-Plain-clause-follows : goal.step-returns-in-Plain-clause-follows
@@ -40,6 +40,11 @@ step-returns-in_ok-body-in-Loop-clause-follows t c =
     let within = c.deref-in-Loop-2.ensures.value ∙ ap (λ (v : Vec Instr Global). v.items) c.deref-in-Loop.ensures in
     rw (ap view c.in-Loop.is ∙ view_loop c.in-Loop.kind c.in-Loop.inner) (put_follows (context_of c.args.self.now) c.args.labels.now (Loop c.in-Loop.kind (views c.in-Loop.inner.value.items)) c.args.stack.now c.put_one-in-Loop.new.self (push_one c.in-Loop.kind c.args.stack.now) c.put_one-in-Loop.result
     (λ e. loop_exact (context_of c.args.self.now) c.args.labels.now c.in-Loop.kind (views c.in-Loop.inner.value.items) c.args.stack.now c.put_one-in-Loop.new.self (rw (← within) c.in_ok-body-in-Loop.ensures.judges) e) c.put_one-in-Loop.ensures)
+
+pub step-returns-in_err-take-in-If-clause-follows : goal.step-returns-in_err-take-in-If-clause-follows
+step-returns-in_err-take-in-If-clause-follows t c =
+    rw (ap view c.in-If.is ∙ view_if c.in-If.kind c.in-If.inner c.in-If.other) (follows_err (context_of c.args.self.now) c.args.labels.now _ c.args.stack.now _ _ c.in_err-take-in-If.field-0.0 c.from_residual-in_err-take-in-If.ensures
+    (choice_not (context_of c.args.self.now) c.args.labels.now c.in-If.kind (views c.in-If.inner.value.items) (views c.in-If.other.value.items) c.args.stack.now c.in_err-take-in-If.field-0.0 c.in_err-take-in-If.ensures))
 
 pub step-returns-in_err-body-in-If-clause-follows : goal.step-returns-in_err-body-in-If-clause-follows
 step-returns-in_err-body-in-If-clause-follows t c =
