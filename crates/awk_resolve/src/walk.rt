@@ -16,27 +16,7 @@ fn bare_name(e: &Expr) -> Option<&[u8]>
 {
     match e {
         Expr::Var(name) => Some(name),
-        Expr::Number(_)
-        | Expr::Str(_)
-        | Expr::Ere(_)
-        | Expr::Length
-        | Expr::Element(_, _)
-        | Expr::Field(_)
-        | Expr::Group(_)
-        | Expr::Call(_, _)
-        | Expr::Apply(_, _)
-        | Expr::Unary(_, _)
-        | Expr::PreStep(_, _)
-        | Expr::PostStep(_, _)
-        | Expr::Binary(_, _, _)
-        | Expr::Assign(_, _, _)
-        | Expr::In(_, _)
-        | Expr::InList(_, _, _)
-        | Expr::Conditional(_, _, _)
-        | Expr::Getline
-        | Expr::GetlineInto(_)
-        | Expr::GetlineFrom(_)
-        | Expr::GetlineIntoFrom(_, _) => None,
+        _ => None,
     }
 }
 
