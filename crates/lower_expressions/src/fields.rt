@@ -29,25 +29,7 @@ fn constant_field(code: &Code) -> Option<i64>
                 None
             }
         }
-        Code::Do(_, _)
-        | Code::Joined(_, _, _)
-        | Code::Over(_, _)
-        | Code::Compare(_, _, _)
-        | Code::Call(_, _)
-        | Code::Ask
-        | Code::AskLine(_)
-        | Code::FileLine(_, _)
-        | Code::Replace(_, _, _)
-        | Code::Text(_)
-        | Code::Unset
-        | Code::Get(_)
-        | Code::Set(_, _)
-        | Code::Array(_)
-        | Code::IsOpen(_)
-        | Code::Choose(_, _, _, _)
-        | Code::Seq(_, _)
-        | Code::Let(_, _)
-        | Code::Bound(_, _) => None,
+        _ => None,
     }
 }
 

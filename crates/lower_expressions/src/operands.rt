@@ -28,23 +28,7 @@ pub(crate) fn array_meant(code: &Code) -> ArrayName
     match code {
         Code::Array(name) => *name,
         Code::Seq(_, second) | Code::Let(_, second) => array_meant(second),
-        Code::Do(_, _)
-        | Code::Over(_, _)
-        | Code::Compare(_, _, _)
-        | Code::Joined(_, _, _)
-        | Code::Call(_, _)
-        | Code::Ask
-        | Code::AskLine(_)
-        | Code::FileLine(_, _)
-        | Code::Replace(_, _, _)
-        | Code::Number(_)
-        | Code::Text(_)
-        | Code::Unset
-        | Code::Get(_)
-        | Code::Set(_, _)
-        | Code::IsOpen(_)
-        | Code::Choose(_, _, _, _)
-        | Code::Bound(_, _) => ArrayName::Numbered(0),
+        _ => ArrayName::Numbered(0),
     }
 }
 

@@ -63,22 +63,7 @@ pub fn left_over(
 {
     match code {
         Code::Set(_, _) | Code::Seq(_, _) | Code::Let(_, _) | Code::Bound(_, _) => {}
-        Code::Do(_, _)
-        | Code::Over(_, _)
-        | Code::Compare(_, _, _)
-        | Code::Joined(_, _, _)
-        | Code::Call(_, _)
-        | Code::Ask
-        | Code::AskLine(_)
-        | Code::FileLine(_, _)
-        | Code::Replace(_, _, _)
-        | Code::Number(_)
-        | Code::Text(_)
-        | Code::Unset
-        | Code::Get(_)
-        | Code::Array(_)
-        | Code::IsOpen(_)
-        | Code::Choose(_, _, _, _) => unused(layout.alloc, layout.bases, out, form, temporary),
+        _ => unused(layout.alloc, layout.bases, out, form, temporary),
     }
 }
 
