@@ -1,11 +1,13 @@
-use Rattle.std.proofs.Common.{◌≡◌, ◌+◌, ℕ, List, inl, refl, subst, sym}
-use Rattle.sem_primitives.specs.InputMeaning.{reader_of}
+use Rattle.std.proofs.Common.{◌≡◌, ◌+◌, ℕ, List, ap, arith, inl, refl, subst, sym}
+use Rattle.sem_primitives.specs.InputMeaning.{main_input, reader_of}
 use Rattle.host_streams.specs.MainFinds.{entry_of_reading, reading_found}
-use Rattle.host_streams.specs.Mains.{reading_of}
+use Rattle.host_streams.specs.Mains.{main_in, reading_of}
 use Rattle.host_streams.specs.declared.main_input.Found.TheVariants.{SomeFile}
+use Rattle.std.proofs.lemmas.Result.{err_from_is_err_and}
+use Rattle.world_core.specs.WorldState.{State}
 use Rattle.host_streams.proofs.MainFound.{no_file_finds, open_finds}
 use Rattle.host_streams.proofs.MainSteps.{open_given, unopened_given}
-use Rattle.host_streams.proofs.Passed.{one_taken}
+use Rattle.host_streams.proofs.Passed.{none_skipped, one_taken}
 use Rattle.host_streams.proofs.main_input.MainInput.open.Goals as goal
 
 pub returns-clause-passes : goal.returns-clause-passes
@@ -56,8 +58,29 @@ returns-in-Nothing-clause-standard g c = refl
 pub returns-in-Nothing-clause-outside : goal.returns-in-Nothing-clause-outside
 returns-in-Nothing-clause-outside g c = λ tells. c.open_operand.ensures.outside tells
 
-pub returns-in_err-opened-clause-standard : goal.returns-in_err-opened-clause-standard
-returns-in_err-opened-clause-standard g c = refl
-
-pub returns-in_err-opened-clause-outside : goal.returns-in_err-opened-clause-outside
-returns-in_err-opened-clause-outside g c = λ tells. c.open_operand.ensures.outside tells
+pub returns-in_err-opened : goal.returns-in_err-opened
+returns-in_err-opened g c =
+    let w = g.W.World in
+    let call = c.in_err-opened.ensures in
+    let p = err_from_is_err_and c.from_residual.result c.from_residual.ensures.1 in
+    rw (p.1, p.2, call.memory, call.not_opened) (record {
+      held = c.requires.held;
+      told = λ tells inner. ap (λ (t : State). main_input (w.state c.args.world.now).outside (main_in c.args.self.now t inner)) (sym (call.refused tells));
+      spares = λ k apart was. (refl, apart);
+      no_others = λ k apart was. (refl, apart);
+      places = λ tells k own apart was. (ap (λ (t : State). t.readers k) (call.refused tells), ap (λ (t : State). t.writers k) (call.refused tells));
+      outside = λ tells. ap (λ (t : State). t.outside) (call.refused tells);
+      goes_on = tt;
+      count = call.count;
+      phase = (λ is. cc is, rw (c.requires.live, c.requires.idle) (λ is. cc is));
+      ends = (c.requires.live, c.requires.live);
+      passes = λ texts e. (none_skipped texts c.args.self.now.next, refl);
+      standard = refl;
+      one = (omega arith, omega arith);
+      answers = tt;
+      idle = tt;
+      rests = tt;
+      named = c.requires.left;
+      more = λ count. tt;
+      finds = λ later outside inner. tt;
+    })

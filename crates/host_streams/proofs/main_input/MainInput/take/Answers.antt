@@ -1,9 +1,10 @@
-use Rattle.std.proofs.Common.{◌+◌, List, ℕ, refl, subst, sym}
+use Rattle.std.proofs.Common.{◌+◌, List, ℕ, arith, refl, subst, sym}
 use Rattle.host_streams.specs.Mains.{GivesOperand}
 use Rattle.host_streams.specs.MainFinds.{FindsOperand}
 use Rattle.host_streams.proofs.MainFound.{skip_finds}
 use Rattle.host_streams.proofs.MainSteps.{no_bytes, skip_given}
-use Rattle.host_streams.proofs.Passed.{one_skipped}
+use Rattle.host_streams.proofs.Passed.{none_skipped, one_skipped}
+use Rattle.host_streams.proofs.Refused.{is_stop}
 use Rattle.host_streams.proofs.main_input.MainInput.take.Goals as goal
 
 pub returns-then-is_empty-clause-told : goal.returns-then-is_empty-clause-told
@@ -104,20 +105,31 @@ returns-then-is_empty-clause-rests g c = tt
 pub returns-then-is_empty-clause-places : goal.returns-then-is_empty-clause-places
 returns-then-is_empty-clause-places g c = λ tells k own apart was. (refl, refl)
 
-pub returns-in_err-text-clause-standard : goal.returns-in_err-text-clause-standard
-returns-in_err-text-clause-standard g c = refl
-
-pub returns-in_err-text-clause-held : goal.returns-in_err-text-clause-held
-returns-in_err-text-clause-held g c = c.requires.held
-
-pub returns-in_err-text-clause-outside : goal.returns-in_err-text-clause-outside
-returns-in_err-text-clause-outside g c = λ tells. refl
-
-pub returns-in_err-text-clause-named : goal.returns-in_err-text-clause-named
-returns-in_err-text-clause-named g c = c.requires.left
-
 pub returns-in-Some-clause-outside : goal.returns-in-Some-clause-outside
 returns-in-Some-clause-outside g c = λ tells. refl
 
 pub returns-in-Some-clause-places : goal.returns-in-Some-clause-places
 returns-in-Some-clause-places g c = λ tells k own apart was. (refl, refl)
+
+pub returns-in_err-text : goal.returns-in_err-text
+returns-in_err-text g c = rw (is_stop c.from_residual.result c.from_residual.ensures.1) (record {
+  held = c.requires.held;
+  told = λ tells inner. refl;
+  goes_on = tt;
+  count = refl;
+  phase = (λ is. cc is, rw (c.requires.live, c.requires.idle) (λ is. cc is));
+  ends = (c.requires.live, c.requires.live);
+  spares = λ k apart was. (refl, apart);
+  no_others = λ k apart was. (refl, apart);
+  places = λ tells k own apart was. (refl, refl);
+  outside = λ tells. refl;
+  passes = (none_skipped (g.O.Operands.text c.args.operands.now) c.args.self.now.next, refl);
+  standard = refl;
+  one = (omega arith, omega arith);
+  answers = tt;
+  idle = tt;
+  rests = tt;
+  named = c.requires.left;
+  more = λ count. tt;
+  finds = λ later outside inner. tt;
+})

@@ -1,4 +1,4 @@
-use Rattle.std.proofs.Common.{◌≡◌, ◌∙◌, ◌++◌, ◌∷◌, ◌+◌, ◌<◌, [], ℕ, Bool, Err, Ok, true, false, length, sym, subst, ap, arith}
+use Rattle.std.proofs.Common.{◌≡◌, ◌∙◌, ◌++◌, ◌∷◌, ◌+◌, ◌<◌, [], ℕ, Bool, Err, Ok, true, false, length, refl, sym, subst, ap, arith}
 use Rattle.std.proofs.lemmas.Result.{err_from_is_err_and}
 use Rattle.sem_primitives.specs.Finds.{seen}
 use Rattle.sem_primitives.specs.OutputMeaning.{opened_if, written_by}
@@ -9,8 +9,10 @@ use Rattle.host_streams.specs.Outputs.{IsOf}
 use Rattle.awk_values.specs.declared.fault.Fault.TheVariants.{TooManyStreams}
 use Rattle.awk_values.specs.declared.fault.Stop.TheVariants.{Fault as IsFault}
 use Rattle.host_streams.specs.Puts.{EndsPut, IsOver}
-use Rattle.host_streams.proofs.Begun.{begins_first, few_streams, many_streams, may_by, may_not, nothing_begun, nothing_ends, nothing_put, put_refused, put_room, room_is}
+use Rattle.host_streams.proofs.Begun.{begins_first, few_streams, many_streams, may_by, may_not, nothing_ends, put_refused, put_room, room_is}
 use Rattle.host_streams.proofs.Outputs.{go_last, go_spared, none_but_last, was_kind, held_written, kind_stays, names_last, none_more, other_number, with_missing, writer_missing}
+use Rattle.std.proofs.lemmas.List.{take_all}
+use Rattle.host_streams.proofs.Refused.{is_stop}
 use Rattle.host_streams.proofs.streams.Streams.put_first.Goals as goal
 
 pub returns-in_err-id-clause-goes : goal.returns-in_err-id-clause-goes
@@ -86,20 +88,48 @@ pub returns-clause-ends : goal.returns-clause-ends
 returns-clause-ends g c =
     subst (λ (b : Bool). EndsPut false b c.args.text.now (Ok tt)) (sym (may_by c.args.self.now (few_streams c.args.self.now (length c.as_slice.result.now) (length c.as_slice-2.result.now) (ap length c.as_slice.ensures.value) (ap length c.as_slice-2.ensures.value) c.if-as_slice-ge-MAX_STREAMS.false))) tt
 
-pub returns-in_err-own-clause-told : goal.returns-in_err-own-clause-told
-returns-in_err-own-clause-told g c = λ tells shared is. nothing_put c.from_residual.result c.from_residual.ensures.1 (written_by false c.args.name.now c.args.append c.args.text.now shared) (g.W.World.state c.args.world.now)
+pub returns-in_err-own : goal.returns-in_err-own
+returns-in_err-own g c = rw (is_stop c.from_residual.result c.from_residual.ensures.1) (record {
+  held = c.requires.held;
+  goes = c.requires.goes;
+  readers = refl;
+  stay = take_all c.args.self.now.writers.len c.args.self.now.writers.items (omega (arith, c.args.self.now.writers.ok.0));
+  opened = tt;
+  refused = refl;
+  count = refl;
+  others = λ k none was. (refl, none);
+  no_others = λ k none was. (refl, none);
+  spares = λ tells. record { readers = λ k was. refl; writers = λ k was. refl };
+  ends = nothing_ends (Unit {0}) (has_room c.args.self.now) c.args.text.now;
+  begun = (0, λ tells shared is. refl);
+  told = λ tells shared is. (0, refl);
+})
 
-pub returns-in_err-own-clause-begun : goal.returns-in_err-own-clause-begun
-returns-in_err-own-clause-begun g c = nothing_begun c.from_residual.result c.from_residual.ensures.1 g.W.World.tells (IsOf c.args.self.now (g.W.World.state c.args.world.now)) (written_by false c.args.name.now c.args.append c.args.text.now) (g.W.World.state c.args.world.now)
+pub returns-in_err-reserve : goal.returns-in_err-reserve
+returns-in_err-reserve g c = rw (is_stop c.from_residual-in_err-reserve.result c.from_residual-in_err-reserve.ensures.1, c.reserve.ensures.items) (record {
+  held = c.requires.held;
+  goes = c.requires.goes;
+  readers = refl;
+  stay = take_all c.args.self.now.writers.len c.args.self.now.writers.items (omega (arith, c.args.self.now.writers.ok.0));
+  opened = tt;
+  refused = refl;
+  count = refl;
+  others = λ k none was. (refl, none);
+  no_others = λ k none was. (refl, none);
+  spares = λ tells. record { readers = λ k was. refl; writers = λ k was. refl };
+  ends = nothing_ends (Unit {0}) (has_room c.args.self.now) c.args.text.now;
+  begun = (0, λ tells shared is. refl);
+  told = λ tells shared is. (0, refl);
+})
 
-pub returns-in_err-own-clause-ends : goal.returns-in_err-own-clause-ends
-returns-in_err-own-clause-ends g c = nothing_ends c.from_residual.result c.from_residual.ensures.1 (has_room c.args.self.now) c.args.text.now
+pub returns-in_err-id-clause-held : goal.returns-in_err-id-clause-held
+returns-in_err-id-clause-held g c = rw (c.reserve.ensures.items, c.in_err-id.ensures.closed) c.requires.held
 
-pub returns-in_err-reserve-clause-told : goal.returns-in_err-reserve-clause-told
-returns-in_err-reserve-clause-told g c = λ tells shared is. nothing_put c.from_residual-in_err-reserve.result c.from_residual-in_err-reserve.ensures.1 (written_by false c.args.name.now c.args.append c.args.text.now shared) (g.W.World.state c.args.world.now)
+pub returns-in_err-id-clause-stay : goal.returns-in_err-id-clause-stay
+returns-in_err-id-clause-stay g c = rw c.reserve.ensures.items (take_all c.args.self.now.writers.len c.args.self.now.writers.items (omega (arith, c.args.self.now.writers.ok.0)))
 
-pub returns-in_err-reserve-clause-begun : goal.returns-in_err-reserve-clause-begun
-returns-in_err-reserve-clause-begun g c = nothing_begun c.from_residual-in_err-reserve.result c.from_residual-in_err-reserve.ensures.1 g.W.World.tells (IsOf c.args.self.now (g.W.World.state c.args.world.now)) (written_by false c.args.name.now c.args.append c.args.text.now) (g.W.World.state c.args.world.now)
+pub returns-in_err-id-clause-others : goal.returns-in_err-id-clause-others
+returns-in_err-id-clause-others g c = rw (c.reserve.ensures.items, c.in_err-id.ensures.closed) (λ k none was. (refl, none))
 
-pub returns-in_err-reserve-clause-ends : goal.returns-in_err-reserve-clause-ends
-returns-in_err-reserve-clause-ends g c = nothing_ends c.from_residual-in_err-reserve.result c.from_residual-in_err-reserve.ensures.1 (has_room c.args.self.now) c.args.text.now
+pub returns-in_err-id-clause-no_others : goal.returns-in_err-id-clause-no_others
+returns-in_err-id-clause-no_others g c = rw (c.reserve.ensures.items, c.in_err-id.ensures.closed) (λ k none was. (refl, none))
