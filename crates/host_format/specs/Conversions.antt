@@ -1,5 +1,5 @@
 -- What conversions stand for, and their text in parts.
-use Rattle.std.specs.Prelude.{ℕ, ◌^◌, ℤ, min, List, [], ◌∷◌, ◌++◌, length, drop, take_while, Option, Some, None, false, true, codes, decimal, unsigned_abs}
+use Rattle.std.specs.Prelude.{Bool, ◌==◌, ℕ, ◌^◌, ℤ, min, List, [], ◌∷◌, ◌++◌, length, drop, take_while, Option, Some, None, false, true, codes, decimal, unsigned_abs}
 use Rattle.std.specs.Fmt.{digits}
 use Rattle.awk_text.specs.Reading.{digits_at}
 use Rattle.sem_primitives.specs.Formats.{Conversion, Specifier, Signed, Octal, Unsigned, LowerHex, UpperHex, Fixed, String, Char, Piece, Ordinary, Converts, hex_mark, integer_text, is_flag, number_text, octal_mark, sign_of, unsigned, wide, with_precision, zeros}
@@ -44,6 +44,10 @@ wide_at text = wide (take_while is_flag text) (digits_at (drop (length (take_whi
 abbrev pub piece_is : Directive → Piece
 piece_is directives.Percent = Ordinary 37
 piece_is (directives.Converts d) = Converts (conversion_is d)
+
+abbrev pub begins_with_zero : List ℕ → Bool
+begins_with_zero [] = false
+begins_with_zero (c ∷ cs) = c == 48
 
 -- a point and zeros, or nothing
 abbrev pub places_text : Option ℕ → List ℕ

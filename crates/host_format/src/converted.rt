@@ -3,7 +3,7 @@ ghost use Rattle.std.specs.Prelude.{◌≡◌, ◌%◌, ◌++◌, [], Err, IfErr
 ghost use Rattle.std.specs.Fmt.{digits};
 ghost use Rattle.awk_values.specs.Values.{text_of_value};
 ghost use Rattle.sem_primitives.specs.Formats.{Char, char_of, converted, first_bytes, fraction_text, hex_mark, integer_text, number_text, octal_mark, padded, sign_of, unsigned, with_precision};
-ghost use Rattle.host_format.specs.Conversions.{body_text, conversion_is, places_text, whole_text};
+ghost use Rattle.host_format.specs.Conversions.{begins_with_zero, body_text, conversion_is, places_text, whole_text};
 ghost use Rattle.host_format.specs.Growing.{Grows};
 
 use crate::conversion::{Conversion, Specifier, Whole};
@@ -43,13 +43,23 @@ fn put_integer(
     put_number(out, conversion, conversion.precision, parts);
 }
 
+/// Whether digits begin with a 0.
+fn begins_with_zero(digits: &[u8]) -> bool
+    ensures { result ≡ begins_with_zero digits.now }
+{
+    match digits {
+        [first, ..] => *first == b'0',
+        [] => false,
+    }
+}
+
 /// The parts of an octal number: with the flag `#` a 0 before digits that do not begin with one.
 fn marked_octal<'a>(conversion: Conversion<'_>, parts: Parts<'a>) -> Parts<'a>
     ensures front { result.front.now ≡ parts.entry.front.now }
     ensures body { body_text result
         ≡ octal_mark (conversion_is conversion.entry) (body_text parts.entry) }
 {
-    let has_zero = parts.zeros > 0 || matches!(parts.digits, [b'0', ..]);
+    let has_zero = parts.zeros > 0 || begins_with_zero(parts.digits);
     if conversion.has(b'#') && !has_zero {
         Parts { zeros: 1, ..parts }
     } else {

@@ -1,5 +1,5 @@
 -- How putting a text ends in every world, and how much was put out where memory was wanting.
-use Rattle.std.proofs.Common.{◌≡◌, ℕ, suc, ◌<◌, ◌≤◌, ◌+◌, Bool, true, false, List, [], ◌∷◌, length, take, drop, Result, Ok, Err, IsErrAnd, OnErr, refl, sym, ap, ◌∙◌, subst, arith}
+use Rattle.std.proofs.Common.{◌≡◌, ℕ, suc, ◌<◌, ◌≤◌, ◌+◌, Bool, true, false, List, [], ◌∷◌, length, take, drop, Result, Ok, Err, OnErr, refl, sym, ap, ◌∙◌, subst, arith}
 use Rattle.std.proofs.lemmas.List.{length-map}
 use Rattle.std.proofs.lemmas.Bool.Decides.{nat_tests}
 use Rattle.awk_values.specs.declared.fault.Fault.{Fault}
@@ -128,24 +128,7 @@ put_refused name text append s state shared is many =
     subst (λ (b : Bool). PutsBy {A = Unit {0}} (opened_if b (seen shared.inner shared.outside (Named name)).opens name append text shared) (Err (IsFault TooManyStreams)) state state)
     (sym (no_room s state shared is many)) (record { answer_is = refl; outside = refl })
 
--- Without memory nothing was done.
-module _ {A : Type 0} (r : Result A Stop) (refused : IsErrAnd r (λ stop. stop ≡ OutOfMemory)) where
-  pub is_refused : r ≡ Err OutOfMemory
-  is_refused = by r refused
-    where
-      by : (x : Result A Stop) → IsErrAnd x (λ stop. stop ≡ OutOfMemory) → x ≡ Err OutOfMemory
-      by (Ok x) h = absurd h
-      by (Err stop) h = ap (λ y. Err y) h
-
-  pub nothing_put : (d : Doing (Result (Unit {0}) Fault)) (s : State) → PutsBy d r s s
-  nothing_put d s = subst (λ (x : Result A Stop). PutsBy d x s s) (sym is_refused) (0, refl)
-
-  pub nothing_begun : (tells : Type 0) (is : Shared → Type 0) (does : Shared → Doing (Result (Unit {0}) Fault)) (s : State) → BeginsBy tells is does r s s
-  nothing_begun tells is does s = subst (λ (x : Result A Stop). BeginsBy tells is does x s s) (sym is_refused) (0, λ w shared i. refl)
-
-  pub nothing_ends : (room : Bool) (text : List ℕ) → EndsPut false room text r
-  nothing_ends room text = subst (λ (x : Result A Stop). EndsPut false room text x) (sym is_refused) (by room)
-    where
-      by : (b : Bool) → EndsPut {A = A} false b text (Err OutOfMemory)
-      by true = tt
-      by false = tt
+-- without memory nothing was done
+pub nothing_ends : (A : Type 0) (room : Bool) (text : List ℕ) → EndsPut {A = A} false room text (Err OutOfMemory)
+nothing_ends A true text = tt
+nothing_ends A false text = tt

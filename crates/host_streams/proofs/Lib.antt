@@ -6,6 +6,7 @@ pub mod Held
 pub mod Opened
 pub mod Writing
 pub mod Outputs
+pub mod Refused
 pub mod Begun
 pub mod Closed
 pub mod MainSteps

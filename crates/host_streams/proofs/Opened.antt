@@ -1,5 +1,5 @@
 -- Which files are open for reading after a call that reads one.
-use Rattle.std.proofs.Common.{◌≡◌, ◌≢◌, ℕ, List, [], ◌∷◌, ◌++◌, map, not, set, get_or, IsErrAnd, Option, Result, Some, None, Ok, Err, cond, subst, Bool, true, false, refl, sym, ap, ◌∙◌}
+use Rattle.std.proofs.Common.{◌≡◌, ◌≢◌, ℕ, List, [], ◌∷◌, ◌++◌, map, not, set, get_or, Option, Some, None, Ok, Err, cond, subst, Bool, true, false, refl, sym, ap, ◌∙◌}
 use Rattle.std.proofs.lemmas.Bool.{false≢true}
 use Rattle.std.proofs.lemmas.List.{map-append}
 use Rattle.awk_values.specs.declared.fault.Fault.TheVariants.{TooManyStreams}
@@ -12,7 +12,6 @@ use Rattle.host_streams.specs.declared.streams.NamedReader.{NamedReader}
 use Rattle.host_streams.specs.OpenFiles.{IsAdded, IsNone, OpensFile, OpensReader, is_reader, reader_handle, reader_names, reader_place, readers_beside}
 use Rattle.host_streams.proofs.Places.{AllFail, First, all_fail, first, first_item, first_set}
 use Rattle.host_streams.proofs.Held.{name_itself}
-use Rattle.host_streams.proofs.Begun.{is_refused}
 
 names_pass : (name : List ℕ) (front : List NamedReader) (item : NamedReader) (back : List NamedReader) → AllFail (is_reader name) front → is_reader name item ≡ true → is_writing name (reader_names (front ++ item ∷ back)) ≡ true
 names_pass name [] item back none is = ap (λ b. cond b true (is_writing name (reader_names back))) is
@@ -82,10 +81,3 @@ none_opened name room old e = (e, refl, refl)
 
 pub none_told : (name : List ℕ) (room : Bool) (state : State) (old : List (List ℕ × Source)) → room ≡ false → OpensFile name room state old (Err (IsFault TooManyStreams)) old
 none_told name room state old e = (e, refl, refl)
-
-module _ (r : Result (Option ℕ) Stop) (refused : IsErrAnd r (λ stop. stop ≡ NoMemory)) where
-  pub nothing_opened : (name : List ℕ) (room : Bool) (old new : List NamedReader) → room ≡ true → new ≡ old → OpensReader room name old r new
-  nothing_opened name room old new e same = subst (λ (x : Result (Option ℕ) Stop). OpensReader room name old x new) (sym (is_refused r refused)) (e, same)
-
-  pub nothing_told : (name : List ℕ) (room : Bool) (state : State) (old new : List (List ℕ × Source)) → room ≡ true → new ≡ old → OpensFile name room state old r new
-  nothing_told name room state old new e same = subst (λ (x : Result (Option ℕ) Stop). OpensFile name room state old x new) (sym (is_refused r refused)) (e, same)

@@ -16,7 +16,7 @@ use Rattle.host_streams.specs.declared.reader.Reader.{Reader}
 use Rattle.host_streams.specs.Mains.{IsOfNumber, has_operand}
 use Rattle.host_streams.specs.declared.reader.FileNext.{FileNext}
 use Rattle.host_streams.specs.Readers.{OnlyLimit}
-use Rattle.host_streams.specs.Passing.{AreThere, FollowsAll, HandsMain, HandsStep, IdleAfter, IsAtEnd, IsNotRead, IsOfOperands, NoRecord, NoneMore, Passes, ReadsAt, Skips, StandardStays, StepNoneMore, StepPasses, Takes, TakesFile}
+use Rattle.host_streams.specs.Passing.{AreThere, FollowsAll, HandsMain, HandsStep, IdleAfter, IsAtEnd, IsNotRead, IsOfOperands, IsOfReader, NoRecord, NoneMore, Passes, ReadsAt, Skips, StandardStays, StepNoneMore, StepPasses, Takes, TakesFile}
 
 pub none_skipped : (texts : ℕ → List ℕ) (n : ℕ) → Skips texts n n
 none_skipped texts n = record { order = omega arith; empty = λ k low high. absurd (omega arith) }
@@ -135,6 +135,33 @@ hands_idle rs first now then (Err (IsFault ReadFailed)) not h = absurd not
 hands_idle rs first now then (Err (IsFault TextLimit)) not h = absurd not
 hands_idle rs first now then (Err NoMemory) not h = inr h
 hands_idle rs first now then (Err (IsFault fault)) not h = h
+
+-- a step that reads nothing, by what it answers of operands
+pub reach_hands : (rs : Option ℕ) (old new : Mains) (answer : Result (Option MainNext) Stop) → IsOfOperands answer → IdleAfter answer new.reading → NoRecord rs old new → HandsStep rs old answer new
+reach_hands rs old new (Ok None) of_operands idle none = (idle, none)
+reach_hands rs old new (Ok (Some answer)) of_operands idle none = hands_idle rs old new new (Ok answer) of_operands none
+reach_hands rs old new (Err stop) of_operands idle none = hands_idle rs old new new (Err stop) of_operands none
+
+-- a step of the reader at hand passes no operand
+pub read_passes : (texts : ℕ → List ℕ) (n m : ℕ) (f g : Found) (answer : Result (Option MainNext) Stop) → m ≡ n → g ≡ f → IsOfReader answer → StepPasses texts n f answer m g
+read_passes texts n m f g (Ok None) same still h = (subst (Skips texts n) (sym same) (none_skipped texts n), still)
+read_passes texts n m f g (Ok (Some (Record text))) same still h = (same, still)
+read_passes texts n m f g (Ok (Some (Assign name text))) same still h = absurd h
+read_passes texts n m f g (Ok (Some (Opened name))) same still h = absurd h
+read_passes texts n m f g (Ok (Some End)) same still h = absurd h
+read_passes texts n m f g (Err (IsFault fault)) same still (inl e) = subst (λ (x : Fault). StepPasses texts n f (Err (IsFault x)) m g) (sym e) (same, still)
+read_passes texts n m f g (Err (IsFault fault)) same still (inr e) = subst (λ (x : Fault). StepPasses texts n f (Err (IsFault x)) m g) (sym e) (same, still)
+read_passes texts n m f g (Err NoMemory) same still h = (subst (Skips texts n) (sym same) (none_skipped texts n), still)
+
+pub read_more : (count : Result ℤ Fault) (ended : Bool) (f g : Found) (m : ℕ) (answer : Result (Option MainNext) Stop) → IsOfReader answer → StepNoneMore count ended f answer m g
+read_more count ended f g m (Ok None) h = tt
+read_more count ended f g m (Ok (Some (Record text))) h = tt
+read_more count ended f g m (Ok (Some (Assign name text))) h = absurd h
+read_more count ended f g m (Ok (Some (Opened name))) h = absurd h
+read_more count ended f g m (Ok (Some End)) h = absurd h
+read_more count ended f g m (Err (IsFault fault)) (inl e) = subst (λ (x : Fault). StepNoneMore count ended f (Err (IsFault x)) m g) (sym e) tt
+read_more count ended f g m (Err (IsFault fault)) (inr e) = subst (λ (x : Fault). StepNoneMore count ended f (Err (IsFault x)) m g) (sym e) tt
+read_more count ended f g m (Err NoMemory) h = tt
 
 pub hands_since : (rs : Option ℕ) (first now then : Mains) (answer : Result MainNext Stop) → SoFarMain rs first now → StandardStays now.reading now.standard then.standard → HandsMain rs now answer then → HandsMain rs first answer then
 hands_since rs first now then answer (inl e) stays h = subst (λ (m : Mains). HandsMain rs m answer then) e h

@@ -1,20 +1,22 @@
 -- What a turn of a reader answers, told of all that it has left.
-use Rattle.std.proofs.Common.{◌≡◌, ℕ, List, [], ◌++◌, take, drop, length, Bool, true, Option, Ok, Err, subst, append_assoc, refl, sym, ◌∙◌, ap, append-nil, slice_range}
+use Rattle.std.proofs.Common.{◌≡◌, ◌≢◌, ◌<◌, ◌≤◌, ◌+◌, ℕ, List, [], ◌∷◌, ◌++◌, take, drop, length, Bool, true, false, Option, Result, Ok, Err, arith, subst, append_assoc, refl, sym, ◌∙◌, ap, append-nil, slice_range}
 use Rattle.std.proofs.lemmas.List.{take-append-drop}
 use Rattle.awk_values.specs.declared.fault.Fault.TheVariants.{TextLimit}
-use Rattle.world_core.specs.declared.world.Ending.TheVariants.{End as IsEnd}
+use Rattle.world_core.specs.declared.world.Ending.TheVariants.{End as IsEnd, Fails as IsFailure}
 use Rattle.world_core.specs.WorldState.{Source, State}
-use Rattle.sem_primitives.specs.Records.{first_record}
-use Rattle.sem_primitives.specs.Records.{Record as GotRecord}
+use Rattle.sem_primitives.specs.Limits.{most_text}
+use Rattle.sem_primitives.specs.Records.{first_record, of_rest}
+use Rattle.sem_primitives.specs.Records.{Record as GotRecord, AtEnd as GotEnd, Broken as GotFailure}
 use Rattle.host_streams.specs.declared.reader.Phase.{Phase}
 use Rattle.host_streams.specs.declared.reader.Phase.TheVariants.{Open, Ended, Broken}
 use Rattle.host_streams.specs.Looks.{IsThere, IsLong}
-use Rattle.host_streams.specs.Readers.{left_in, handed, Answers, EndStays, OnlyReads, HandsMore, HandsOver, HandsTurn}
-use Rattle.awk_values.specs.declared.fault.Stop.TheVariants.{Fault as IsFault}
+use Rattle.host_streams.specs.Readers.{left, left_in, handed, unread, work, work_in, Answers, EndStays, GoesOn, IsLast, MoreIs, OnlyLimit, OnlyReads, HandsMore, HandsOver, HandsTurn, ScannedAgain, TurnCounts, TurnPhase, Turns}
+use Rattle.host_streams.specs.declared.reader.Reader.{Reader}
+use Rattle.awk_values.specs.declared.fault.Stop.TheVariants.{Fault as IsFault, NoMemory as OutOfMemory}
 use Rattle.host_streams.specs.declared.look.Known.{Known}
 use Rattle.awk_values.specs.declared.fault.Stop.{Stop}
 use Rattle.host_streams.specs.declared.reader.FileNext.{FileNext}
-use Rattle.host_streams.specs.declared.reader.FileNext.TheVariants.{Record}
+use Rattle.host_streams.specs.declared.reader.FileNext.TheVariants.{End, Failed, Record}
 use Rattle.host_streams.specs.declared.reader.Turn.{Turn}
 use Rattle.host_streams.specs.declared.reader.Turn.TheVariants.{Answer, Again}
 
@@ -45,6 +47,10 @@ none_handed Open kept later = refl
 none_handed Ended kept later = refl
 none_handed Broken kept later = refl
 
+pub none_since : (p q : Phase) (kept now : List ℕ) (later : Source) → q ≡ p → now ≡ kept → left_in q now later ≡ left_in p kept (handed [] q later)
+none_since p q kept now later same whole =
+    ap (λ xs. left_in q xs later) whole ∙ subst (λ (x : Phase). left_in x kept later ≡ left_in p kept (handed [] x later)) (sym same) (sym (none_handed p kept later))
+
 -- a piece more is kept
 pub some_handed : (kept now bytes : List ℕ) (later : Source) → now ≡ kept ++ bytes → left_in Open now later ≡ left_in Open kept (handed bytes Open later)
 some_handed kept now bytes later e = ap (λ b. record { rest = b; ending = later.ending }) (ap (λ b. b ++ later.rest) e ∙ append_assoc kept bytes later.rest)
@@ -63,6 +69,29 @@ more_handed p q kept before now start live same whole zero front =
       is = λ later. some_handed kept (drop start now) rest later (ap (λ n. drop n now) zero ∙ split);
     }))
 
+-- the same of what is left
+pub left_more : (p q : Phase) (kept before now rest : List ℕ) (source later : Source) → p ≡ Open → q ≡ p → rest ≡ now → before ≡ kept → now ++ later.rest ≡ before ++ source.rest → later.ending ≡ source.ending →
+    left_in q rest later ≡ left_in p kept source
+left_more p q kept before now rest source later live same all whole bytes ending =
+    ap (λ x. left_in x rest later) (same ∙ live) ∙ ap (λ xs. left_in Open xs later) all ∙ ap (λ xs. record { rest = xs; ending = later.ending }) (bytes ∙ ap (λ xs. xs ++ source.rest) whole)
+    ∙ ap (λ x. record { rest = kept ++ source.rest; ending = x }) ending ∙ sym (ap (λ x. left_in x kept source) live)
+
+pub left_end : (p : Phase) (kept rest : List ℕ) (source : Source) → p ≡ Open → rest ≡ kept → source.rest ≡ [] → source.ending ≡ IsEnd → record { rest = rest; ending = IsEnd } ≡ left_in p kept source
+left_end p kept rest source live all none ends =
+    ap (λ xs. record { rest = xs; ending = IsEnd }) (all ∙ sym (append-nil kept)) ∙ ap (λ xs. record { rest = kept ++ xs; ending = IsEnd }) (sym none)
+    ∙ ap (λ x. record { rest = kept ++ source.rest; ending = x }) (sym ends) ∙ sym (ap (λ x. left_in x kept source) live)
+
+pub left_lost : (p : Phase) (kept : List ℕ) (source : Source) → p ≡ Open → source.rest ≡ [] → source.ending ≡ IsFailure → left_in p kept source ≡ record { rest = kept; ending = IsFailure }
+left_lost p kept source live none fails =
+    ap (λ x. left_in x kept source) live ∙ ap (λ xs. record { rest = kept ++ xs; ending = source.ending }) none ∙ ap (λ x. record { rest = kept ++ []; ending = x }) fails
+    ∙ ap (λ xs. record { rest = xs; ending = IsFailure }) (append-nil kept)
+
+pub less_work : (p q : Phase) (n m : ℕ) → p ≡ Open → q ≡ p → n < m → n ≤ most_text + 1 → work_in q m < work_in p n
+less_work p q n m live same grows short = subst (λ (x : Phase). work_in x m < work_in p n) (sym (same ∙ live)) (subst (λ (x : Phase). work_in Open m < work_in x n) (sym live) (omega arith))
+
+pub some_work : (p : Phase) (n : ℕ) → p ≡ Open → n ≤ most_text + 1 → 0 < work_in p n
+some_work p n live short = subst (λ (x : Phase). 0 < work_in x n) (sym live) (omega arith)
+
 -- turns: a piece more is read; a record among what is kept; one that is too long
 pub again_handed : (rs : Option ℕ) (p q : Phase) (kept now : List ℕ) (known : Known) {b : Bool} → b ≡ true → HandsMore p kept (Ok b) q now → HandsTurn rs p kept (Ok (Again known)) q now
 again_handed rs p q kept now known {b} e h =
@@ -80,6 +109,66 @@ long_handed p rs kept live h = record {
   bytes = [];
   answers = λ later. (left_long p rs kept (handed [] p later) live h, sym (none_handed p kept later));
 }
+
+-- reading failed, or memory ran out
+pub lost : (rs : Option ℕ) (kept text : List ℕ) (source later : Source) → first_record rs (record { rest = kept; ending = IsFailure }) ≡ Ok (of_rest IsFailure text) → MoreIs kept source (Ok false) later →
+    first_record rs source ≡ Ok (GotFailure, later)
+lost rs kept text source later none h = ap (first_record rs) h.0 ∙ none ∙ ap (λ s. Ok (GotFailure, s)) (sym h.1)
+
+pub lost_handed : (rs : Option ℕ) (p q : Phase) (kept now text : List ℕ) {b : Bool} → b ≡ false → first_record rs (record { rest = kept; ending = IsFailure }) ≡ Ok (of_rest IsFailure text) → HandsMore p kept (Ok b) q now →
+    HandsTurn rs p kept (Ok (Answer Failed)) q now
+lost_handed rs p q kept now text {b} e none h =
+    let m : HandsMore p kept (Ok false) q now = subst (λ (c : Bool). HandsMore p kept (Ok c) q now) e h in record { bytes = m.bytes; answers = λ later. lost rs kept text _ _ none (m.is later) }
+
+pub refused_handed : (rs : Option ℕ) (p q : Phase) (kept now : List ℕ) (stop : Stop) → stop ≡ OutOfMemory → HandsMore p kept (Err stop) q now → HandsTurn rs p kept (Err stop) q now
+refused_handed rs p q kept now stop e h = subst (λ (x : Stop). HandsTurn rs p kept (Err x) q now) (sym e) (record { bytes = h.bytes; answers = h.is })
+
+-- At the end of the stream what is left is given.
+
+rest_record : (text : List ℕ) → 0 < length text → of_rest IsEnd text ≡ (GotRecord text, record { rest = []; ending = IsEnd })
+rest_record [] some = absurd (omega arith)
+rest_record (c ∷ cs) some = refl
+
+module _ (rs : Option ℕ) (text : List ℕ) (old : Reader) where
+  none_left : (new : Reader) → old.phase ≡ Ended → new.phase ≡ old.phase → unread new ≡ [] → (later : Source) → left new later ≡ record { rest = []; ending = IsEnd }
+  none_left new ended same none later = ap (λ p. left_in p (unread new) later) (same ∙ ended) ∙ ap (λ xs. record { rest = xs; ending = IsEnd }) none
+
+  at_end : old.phase ≡ Ended → first_record rs (record { rest = unread old; ending = IsEnd }) ≡ Ok (of_rest IsEnd text) → (source : Source) → first_record rs (left old source) ≡ Ok (of_rest IsEnd text)
+  at_end ended last source = ap (λ p. first_record rs (left_in p (unread old) source)) ended ∙ last
+
+  pub last_answers : (r : Result Turn Stop) (new : Reader) → old.phase ≡ Ended → first_record rs (record { rest = unread old; ending = IsEnd }) ≡ Ok (of_rest IsEnd text) → new.phase ≡ old.phase → IsLast text r old new →
+      (source later : Source) → Turns rs (left old source) r (left new later)
+  last_answers (Ok (Answer (Record t))) new ended last same h source later =
+      at_end ended last source ∙ ap (λ x. Ok x) (rest_record text h.1) ∙ ap (λ t. Ok (GotRecord t, record { rest = []; ending = IsEnd })) (sym h.0) ∙ ap (λ s. Ok (GotRecord t, s)) (sym (none_left new ended same h.2 later))
+  last_answers (Ok (Answer End)) new ended last same h source later =
+      at_end ended last source ∙ ap (λ t. Ok (of_rest IsEnd t)) h.0 ∙ ap (λ s. Ok (GotEnd, s)) (sym (none_left new ended same h.1 later))
+  last_answers (Ok (Answer Failed)) new ended last same h source later = absurd h
+  last_answers (Ok (Again known)) new ended last same h source later = absurd h
+  last_answers (Err (IsFault fault)) new ended last same h source later = absurd (cc h.0)
+  last_answers (Err OutOfMemory) new ended last same h source later =
+      ap (λ (x : Reader). left x later) h.1 ∙ ap (λ p. left_in p (unread old) later) ended ∙ sym (ap (λ p. left_in p (unread old) source) ended)
+
+  pub last_counts : (r : Result Turn Stop) (new : Reader) (n : ℕ) → IsLast text r old new → TurnCounts r n n
+  last_counts (Ok (Answer (Record t))) new n h = refl
+  last_counts (Ok (Answer End)) new n h = refl
+  last_counts (Ok (Answer Failed)) new n h = absurd h
+  last_counts (Ok (Again known)) new n h = refl
+  last_counts (Err stop) new n h = refl
+
+  pub last_phase : (r : Result Turn Stop) (new : Reader) → new.phase ≢ Broken → IsLast text r old new → TurnPhase r new.phase
+  last_phase (Ok (Answer (Record t))) new live h = live
+  last_phase (Ok (Answer End)) new live h = live
+  last_phase (Ok (Answer Failed)) new live h = absurd h
+  last_phase (Ok (Again known)) new live h = live
+  last_phase (Err stop) new live h = live
+
+  pub last_rest : (r : Result Turn Stop) (new : Reader) → IsLast text r old new → OnlyLimit r × ScannedAgain rs r new × GoesOn r (work old) (work new)
+  last_rest (Ok (Answer (Record t))) new h = (tt, tt, tt)
+  last_rest (Ok (Answer End)) new h = (tt, tt, tt)
+  last_rest (Ok (Answer Failed)) new h = absurd h
+  last_rest (Ok (Again known)) new h = absurd h
+  last_rest (Err (IsFault fault)) new h = absurd (cc h.0)
+  last_rest (Err OutOfMemory) new h = (tt, tt, tt)
 
 -- the bytes of two calls, one after the other
 abbrev pub joined : Phase → List ℕ → List ℕ → List ℕ

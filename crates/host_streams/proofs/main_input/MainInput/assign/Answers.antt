@@ -1,7 +1,8 @@
-use Rattle.std.proofs.Common.{◌+◌, ◌∙◌, Some, ap, drop, refl, sym}
+use Rattle.std.proofs.Common.{◌+◌, ◌∙◌, Some, ap, arith, drop, refl, sym}
 use Rattle.host_streams.proofs.Finding.{rest_is}
 use Rattle.host_streams.proofs.MainSteps.{assigns_at}
-use Rattle.host_streams.proofs.Passed.{one_taken}
+use Rattle.host_streams.proofs.Passed.{none_skipped, one_taken}
+use Rattle.host_streams.proofs.Refused.{is_stop}
 use Rattle.host_streams.proofs.main_input.MainInput.assign.Goals as goal
 
 pub returns-clause-told : goal.returns-clause-told
@@ -24,3 +25,41 @@ returns-clause-passes c = λ texts e.
       c.requires.name.1 ∙ ap (λ n. Some (n, drop (c.args.len + 1) c.args.text.now)) (sym c.in_ok-name.ensures) ∙ ap (λ v. Some (c.in_ok-name.name, v)) (sym value),
       refl,
     )
+
+pub returns-in_err-name : goal.returns-in_err-name
+returns-in_err-name c = rw (is_stop c.from_residual.result c.from_residual.ensures.1) (record {
+  standard = refl;
+  reading = refl;
+  told = λ state inner. refl;
+  goes_on = tt;
+  count = λ n. refl;
+  phase = (λ is. cc is, rw (c.requires.live, c.requires.idle) (λ is. cc is));
+  ends = (c.requires.live, c.requires.live);
+  passes = λ texts e. (none_skipped texts c.args.self.now.next, refl);
+  one = (omega arith, omega arith);
+  answers = tt;
+  idle = tt;
+  rests = tt;
+  named = c.requires.left;
+  more = λ count. tt;
+  finds = λ later outside inner. tt;
+})
+
+pub returns-in_err-value : goal.returns-in_err-value
+returns-in_err-value c = rw (is_stop c.from_residual-in_err-value.result c.from_residual-in_err-value.ensures.1) (record {
+  standard = refl;
+  reading = refl;
+  told = λ state inner. refl;
+  goes_on = tt;
+  count = λ n. refl;
+  phase = (λ is. cc is, rw (c.requires.live, c.requires.idle) (λ is. cc is));
+  ends = (c.requires.live, c.requires.live);
+  passes = λ texts e. (none_skipped texts c.args.self.now.next, refl);
+  one = (omega arith, omega arith);
+  answers = tt;
+  idle = tt;
+  rests = tt;
+  named = c.requires.left;
+  more = λ count. tt;
+  finds = λ later outside inner. tt;
+})

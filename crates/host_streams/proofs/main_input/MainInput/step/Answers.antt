@@ -1,80 +1,63 @@
+use Rattle.std.proofs.Common.{◌≡◌, ◌∙◌, Bool, ap, arith, inr, subst, sym}
+use Rattle.awk_values.specs.Values.{number_of_value}
 use Rattle.host_streams.specs.MainFinds.{found_by_operand}
+use Rattle.host_streams.specs.Mains.{MainCounts, MainPhase, main_phase, phase_at, phase_by}
+use Rattle.host_streams.specs.Passing.{IsAtEnd, StandardStays, StepNoneMore}
+use Rattle.host_streams.specs.declared.main_input.Reading.{Reading}
+use Rattle.host_streams.specs.declared.reader.Phase.{Phase}
+use Rattle.host_streams.specs.declared.reader.Phase.TheVariants.{Open}
+use Rattle.host_streams.proofs.Passed.{none_there, reach_hands, read_more, read_passes}
 use Rattle.host_streams.proofs.main_input.MainInput.step.Goals as goal
 
-pub returns-in-Nothing-clause-finds : goal.returns-in-Nothing-clause-finds
-returns-in-Nothing-clause-finds g c = (
-  found_by_operand c.reach.result c.reach.new.self.reading,
-  λ later outside inner asked offered. c.reach.ensures.finds later outside inner offered,
-)
+pub returns-in-Nothing : goal.returns-in-Nothing
+returns-in-Nothing g c =
+    let w = g.W.World in
+    let old = c.args.self.now in
+    let new = c.reach.new.self in
+    let reach = c.reach.ensures in
+    let count = number_of_value c.args.argc.now in
+    let is = c.in-Nothing.is in
+    let open_now : main_phase old ≡ Open = ap (λ b. phase_by b old.reading old.standard) c.if-self.false ∙ ap (λ r. phase_at r old.standard) is in record {
+      held = reach.held;
+      told = λ tells inner asked offered. reach.told tells inner offered;
+      goes_on = reach.goes_on;
+      count = subst (λ (p : Phase). MainCounts p c.reach.result (w.count c.args.world.now) (w.count c.reach.new.world)) (sym open_now) reach.count;
+      phase = subst (λ (p : Phase). MainPhase p c.reach.result (main_phase new)) (sym open_now) reach.phase;
+      ends = reach.ends;
+      spares = reach.spares;
+      no_others = reach.no_others;
+      places = reach.places;
+      outside = reach.outside;
+      handed = reach_hands c.args.rs old new c.reach.result reach.answers reach.idle (inr (subst (λ (r : Reading). IsAtEnd c.args.rs r old.standard new.standard) (sym is) tt));
+      passes = reach.passes;
+      there = reach.there;
+      more = subst (λ (b : Bool). StepNoneMore count b old.found c.reach.result new.next new.found) (sym c.if-self.false) reach.more;
+      rests = reach.rests;
+      standard = subst (λ (r : Reading). StandardStays r old.standard new.standard) (sym is) reach.standard;
+      finds = (found_by_operand c.reach.result new.reading, λ later outside inner asked offered. reach.finds later outside inner offered);
+    }
 
-pub returns-in-Nothing-clause-held : goal.returns-in-Nothing-clause-held
-returns-in-Nothing-clause-held g c = c.reach.ensures.held
-
-pub returns-in-Nothing-clause-goes_on : goal.returns-in-Nothing-clause-goes_on
-returns-in-Nothing-clause-goes_on g c = c.reach.ensures.goes_on
-
-pub returns-in-Nothing-clause-ends : goal.returns-in-Nothing-clause-ends
-returns-in-Nothing-clause-ends g c = c.reach.ensures.ends
-
-pub returns-in-Nothing-clause-spares : goal.returns-in-Nothing-clause-spares
-returns-in-Nothing-clause-spares g c = c.reach.ensures.spares
-
-pub returns-in-Nothing-clause-no_others : goal.returns-in-Nothing-clause-no_others
-returns-in-Nothing-clause-no_others g c = c.reach.ensures.no_others
-
-pub returns-in-Nothing-clause-places : goal.returns-in-Nothing-clause-places
-returns-in-Nothing-clause-places g c = c.reach.ensures.places
-
-pub returns-in-Nothing-clause-outside : goal.returns-in-Nothing-clause-outside
-returns-in-Nothing-clause-outside g c = c.reach.ensures.outside
-
-pub returns-in-Nothing-clause-passes : goal.returns-in-Nothing-clause-passes
-returns-in-Nothing-clause-passes g c = c.reach.ensures.passes
-
-pub returns-in-Nothing-clause-there : goal.returns-in-Nothing-clause-there
-returns-in-Nothing-clause-there g c = c.reach.ensures.there
-
-pub returns-in-Nothing-clause-rests : goal.returns-in-Nothing-clause-rests
-returns-in-Nothing-clause-rests g c = c.reach.ensures.rests
-
-pub returns-clause-held : goal.returns-clause-held
-returns-clause-held g c = c.read_on.ensures.held
-
-pub returns-clause-goes_on : goal.returns-clause-goes_on
-returns-clause-goes_on g c = c.read_on.ensures.goes_on
-
-pub returns-clause-count : goal.returns-clause-count
-returns-clause-count g c = c.read_on.ensures.count
-
-pub returns-clause-phase : goal.returns-clause-phase
-returns-clause-phase g c = c.read_on.ensures.phase
-
-pub returns-clause-ends : goal.returns-clause-ends
-returns-clause-ends g c = c.read_on.ensures.ends
-
-pub returns-clause-spares : goal.returns-clause-spares
-returns-clause-spares g c = c.read_on.ensures.spares
-
-pub returns-clause-no_others : goal.returns-clause-no_others
-returns-clause-no_others g c = c.read_on.ensures.no_others
-
-pub returns-clause-places : goal.returns-clause-places
-returns-clause-places g c = c.read_on.ensures.places
-
-pub returns-clause-outside : goal.returns-clause-outside
-returns-clause-outside g c = c.read_on.ensures.outside
-
-pub returns-clause-rests : goal.returns-clause-rests
-returns-clause-rests g c = c.read_on.ensures.rests
-
-pub returns-clause-standard : goal.returns-clause-standard
-returns-clause-standard g c = c.read_on.ensures.standard
-
-pub returns-clause-handed : goal.returns-clause-handed
-returns-clause-handed g c = c.read_on.ensures.handed
-
-pub returns-in-Nothing-clause-told : goal.returns-in-Nothing-clause-told
-returns-in-Nothing-clause-told g c = λ tells inner asked offered. c.reach.ensures.told tells inner offered
-
-pub returns-clause-told : goal.returns-clause-told
-returns-clause-told g c = λ tells inner asked offered. c.read_on.ensures.told tells inner asked
+pub returns : goal.returns
+returns g c =
+    let old = c.args.self.now in
+    let new = c.read_on.new.self in
+    let read = c.read_on.ensures in
+    let count = number_of_value c.args.argc.now in record {
+      held = read.held;
+      told = λ tells inner asked offered. read.told tells inner asked;
+      goes_on = read.goes_on;
+      count = read.count;
+      phase = read.phase;
+      ends = read.ends;
+      spares = read.spares;
+      no_others = read.no_others;
+      places = read.places;
+      outside = read.outside;
+      handed = read.handed;
+      passes = read_passes (g.O.Operands.text c.args.operands.now) old.next new.next old.found new.found c.read_on.result read.next read.found read.answers;
+      there = none_there count old.next new.next (let same = read.next in omega arith);
+      more = read_more count old.ended old.found new.found new.next c.read_on.result read.answers;
+      rests = read.rests;
+      standard = read.standard;
+      finds = (read.finds.0, λ later outside inner asked offered. read.finds.1 later outside inner asked);
+    }

@@ -1,4 +1,4 @@
-use Rattle.std.proofs.Common.{◌≡◌, ◌∙◌, ◌++◌, ◌∷◌, [], ◌<◌, ◌+◌, refl, sym, ap, subst, List, Some, length, arith}
+use Rattle.std.proofs.Common.{◌≡◌, ◌∙◌, ◌++◌, ◌∷◌, [], ◌<◌, ◌+◌, refl, sym, ap, subst, ℕ, Bool, List, Option, None, Some, Err, true, false, length, arith}
 use Rattle.std.proofs.lemmas.Bool.{lt-ltb}
 use Rattle.sem_primitives.specs.InputMeaning.{with_reader}
 use Rattle.host_streams.specs.declared.streams.NamedReader.{NamedReader}
@@ -8,9 +8,25 @@ use Rattle.host_streams.specs.Readers.{unread}
 use Rattle.host_streams.proofs.Places.{all_fail}
 use Rattle.host_streams.proofs.Held.{held_open, go_on, opened_last, source_opened, named_last, none_last, shown_last}
 use Rattle.host_streams.proofs.Begun.{few_streams, many_streams, may_by, may_not}
-use Rattle.host_streams.proofs.Opened.{added_last, beside_last, none_but_last, none_opened, none_told, nothing_opened, nothing_told}
+use Rattle.host_streams.proofs.Opened.{added_last, beside_last, none_but_last, none_opened, none_told}
 use Rattle.host_streams.proofs.Outputs.{kind_stays, other_number, was_kind}
+use Rattle.world_core.specs.Calls.{IsShut, OpensToRead, next_count}
+use Rattle.world_core.specs.WorldState.{Entry, Named, State}
+use Rattle.world_core.specs.declared.world.WorldFault.{WorldFault}
+use Rattle.sem_primitives.specs.InputMeaning.{source_if, source_of}
+use Rattle.host_streams.specs.OpenFiles.{WritersGo}
+use Rattle.host_streams.proofs.Refused.{is_stop}
 use Rattle.host_streams.proofs.streams.Streams.open_reader.Goals as goal
+
+shut_named : (name : List ℕ) (state : State) → IsShut (state.outside (Named name)) → source_of (state.outside (Named name)) ≡ None
+shut_named name state h =
+    let entry = state.outside (Named name) in
+    by entry.opens entry.bytes entry h
+  where
+    by : (opens : Bool) (bytes : Option (List ℕ)) (entry : Entry) → (opens ≡ true → bytes ≡ None) → source_if opens bytes entry ≡ None
+    by true None entry h = refl
+    by true (Some bytes) entry h = absurd (cc (h refl))
+    by false bytes entry h = refl
 
 pub returns-in-Ok-clause-held : goal.returns-in-Ok-clause-held
 returns-in-Ok-clause-held g c =
@@ -99,21 +115,6 @@ returns-then-as_slice-ge-MAX_STREAMS-clause-readers g c = none_opened c.args.nam
 pub returns-then-as_slice-ge-MAX_STREAMS-clause-told : goal.returns-then-as_slice-ge-MAX_STREAMS-clause-told
 returns-then-as_slice-ge-MAX_STREAMS-clause-told g c = λ tells. none_told c.args.name.now (has_room c.args.self.now) (g.W.World.state c.args.world.now) (readers_in c.args.self.now.readers.items (g.W.World.state c.args.world.now)) (may_not c.args.self.now (many_streams c.args.self.now (length c.as_slice.result.now) (length c.as_slice-2.result.now) (ap length c.as_slice.ensures.value) (ap length c.as_slice-2.ensures.value) c.if-as_slice-ge-MAX_STREAMS.true))
 
-pub returns-in_err-own-clause-readers : goal.returns-in_err-own-clause-readers
-returns-in_err-own-clause-readers g c = nothing_opened c.from_residual.result c.from_residual.ensures.1 c.args.name.now (has_room c.args.self.now) c.args.self.now.readers.items c.args.self.now.readers.items (may_by c.args.self.now (few_streams c.args.self.now (length c.as_slice.result.now) (length c.as_slice-2.result.now) (ap length c.as_slice.ensures.value) (ap length c.as_slice-2.ensures.value) c.if-as_slice-ge-MAX_STREAMS.false)) refl
-
-pub returns-in_err-own-clause-told : goal.returns-in_err-own-clause-told
-returns-in_err-own-clause-told g c = λ tells. nothing_told c.from_residual.result c.from_residual.ensures.1 c.args.name.now (has_room c.args.self.now) (g.W.World.state c.args.world.now) (readers_in c.args.self.now.readers.items (g.W.World.state c.args.world.now)) (readers_in c.args.self.now.readers.items (g.W.World.state c.args.world.now)) (may_by c.args.self.now (few_streams c.args.self.now (length c.as_slice.result.now) (length c.as_slice-2.result.now) (ap length c.as_slice.ensures.value) (ap length c.as_slice-2.ensures.value) c.if-as_slice-ge-MAX_STREAMS.false)) refl
-
-pub returns-in_err-reserve-clause-readers : goal.returns-in_err-reserve-clause-readers
-returns-in_err-reserve-clause-readers g c = nothing_opened c.from_residual-in_err-reserve.result c.from_residual-in_err-reserve.ensures.1 c.args.name.now (has_room c.args.self.now) c.args.self.now.readers.items c.reserve.new.self.items (may_by c.args.self.now (few_streams c.args.self.now (length c.as_slice.result.now) (length c.as_slice-2.result.now) (ap length c.as_slice.ensures.value) (ap length c.as_slice-2.ensures.value) c.if-as_slice-ge-MAX_STREAMS.false)) c.reserve.ensures.items
-
-pub returns-in_err-reserve-clause-told : goal.returns-in_err-reserve-clause-told
-returns-in_err-reserve-clause-told g c = λ tells. nothing_told c.from_residual-in_err-reserve.result c.from_residual-in_err-reserve.ensures.1 c.args.name.now (has_room c.args.self.now) (g.W.World.state c.args.world.now) (readers_in c.args.self.now.readers.items (g.W.World.state c.args.world.now)) (readers_in c.reserve.new.self.items (g.W.World.state c.args.world.now)) (may_by c.args.self.now (few_streams c.args.self.now (length c.as_slice.result.now) (length c.as_slice-2.result.now) (ap length c.as_slice.ensures.value) (ap length c.as_slice-2.ensures.value) c.if-as_slice-ge-MAX_STREAMS.false)) (ap (λ xs. readers_in xs (g.W.World.state c.args.world.now)) c.reserve.ensures.items)
-
-pub returns-in-Err-Failed-clause-readers : goal.returns-in-Err-Failed-clause-readers
-returns-in-Err-Failed-clause-readers g c = (may_by c.args.self.now (few_streams c.args.self.now (length c.as_slice.result.now) (length c.as_slice-2.result.now) (ap length c.as_slice.ensures.value) (ap length c.as_slice-2.ensures.value) c.if-as_slice-ge-MAX_STREAMS.false), c.reserve.ensures.items)
-
 pub returns-then-as_slice-ge-MAX_STREAMS-clause-writers : goal.returns-then-as_slice-ge-MAX_STREAMS-clause-writers
 returns-then-as_slice-ge-MAX_STREAMS-clause-writers g c = refl
 
@@ -138,35 +139,93 @@ returns-then-as_slice-ge-MAX_STREAMS-clause-no_others g c = λ k none was. (refl
 pub returns-then-as_slice-ge-MAX_STREAMS-clause-places : goal.returns-then-as_slice-ge-MAX_STREAMS-clause-places
 returns-then-as_slice-ge-MAX_STREAMS-clause-places g c = λ tells k none was. (refl, refl)
 
-pub returns-in_err-own-clause-writers : goal.returns-in_err-own-clause-writers
-returns-in_err-own-clause-writers g c = refl
-
-pub returns-in_err-own-clause-kept : goal.returns-in_err-own-clause-kept
-returns-in_err-own-clause-kept g c = refl
-
-pub returns-in_err-own-clause-held : goal.returns-in_err-own-clause-held
-returns-in_err-own-clause-held g c = c.requires.held
-
-pub returns-in_err-own-clause-goes : goal.returns-in_err-own-clause-goes
-returns-in_err-own-clause-goes g c = c.requires.goes
-
-pub returns-in_err-own-clause-outside : goal.returns-in_err-own-clause-outside
-returns-in_err-own-clause-outside g c = λ tells. refl
-
-pub returns-in_err-own-clause-others : goal.returns-in_err-own-clause-others
-returns-in_err-own-clause-others g c = λ k none was. (refl, none)
-
-pub returns-in_err-own-clause-no_others : goal.returns-in_err-own-clause-no_others
-returns-in_err-own-clause-no_others g c = λ k none was. (refl, none)
-
-pub returns-in_err-own-clause-places : goal.returns-in_err-own-clause-places
-returns-in_err-own-clause-places g c = λ tells k none was. (refl, refl)
-
-pub returns-in_err-reserve-clause-writers : goal.returns-in_err-reserve-clause-writers
-returns-in_err-reserve-clause-writers g c = refl
-
 pub returns-in-Ok-clause-writers : goal.returns-in-Ok-clause-writers
 returns-in-Ok-clause-writers g c = refl
 
-pub returns-in-Err-Failed-clause-writers : goal.returns-in-Err-Failed-clause-writers
-returns-in-Err-Failed-clause-writers g c = refl
+pub returns-in_err-own : goal.returns-in_err-own
+returns-in_err-own g c =
+    let room = may_by c.args.self.now (few_streams c.args.self.now (length c.as_slice.result.now) (length c.as_slice-2.result.now) (ap length c.as_slice.ensures.value) (ap length c.as_slice-2.ensures.value) c.if-as_slice-ge-MAX_STREAMS.false) in
+    rw (is_stop c.from_residual.result c.from_residual.ensures.1) (record {
+      held = c.requires.held;
+      writers = refl;
+      count = refl;
+      readers = (room, refl);
+      kept = refl;
+      place = tt;
+      phase = tt;
+      nothing = tt;
+      goes = c.requires.goes;
+      told = λ tells. (room, refl);
+      outside = λ tells. refl;
+      others = λ k none was. (refl, none);
+      no_others = λ k none was. (refl, none);
+      places = λ tells k none was. (refl, refl);
+    })
+
+pub returns-in_err-reserve : goal.returns-in_err-reserve
+returns-in_err-reserve g c =
+    let room = may_by c.args.self.now (few_streams c.args.self.now (length c.as_slice.result.now) (length c.as_slice-2.result.now) (ap length c.as_slice.ensures.value) (ap length c.as_slice-2.ensures.value) c.if-as_slice-ge-MAX_STREAMS.false) in
+    rw (is_stop c.from_residual-in_err-reserve.result c.from_residual-in_err-reserve.ensures.1, c.reserve.ensures.items) (record {
+      held = c.requires.held;
+      writers = refl;
+      count = refl;
+      readers = (room, refl);
+      kept = refl;
+      place = tt;
+      phase = tt;
+      nothing = tt;
+      goes = c.requires.goes;
+      told = λ tells. (room, refl);
+      outside = λ tells. refl;
+      others = λ k none was. (refl, none);
+      no_others = λ k none was. (refl, none);
+      places = λ tells k none was. (refl, refl);
+    })
+
+pub returns-in-Err-Failed : goal.returns-in-Err-Failed
+returns-in-Err-Failed g c =
+    let w = g.W.World in
+    let before = w.state c.args.world.now in
+    let room = may_by c.args.self.now (few_streams c.args.self.now (length c.as_slice.result.now) (length c.as_slice-2.result.now) (ap length c.as_slice.ensures.value) (ap length c.as_slice-2.ensures.value) c.if-as_slice-ge-MAX_STREAMS.false) in
+    let call = c.in-Err-Failed.ensures in
+    let shut = λ (tells : w.tells). subst (λ (x : WorldFault). OpensToRead c.args.name.now before (Err x) (w.state c.open_read.new.self)) c.in-Err-Failed.field-0-is (call.told tells) in
+    rw (c.reserve.ensures.items, call.not_opened) (record {
+      held = c.requires.held;
+      writers = refl;
+      count = call.count ∙ ap (λ (x : WorldFault). next_count {T = ℕ} (Err x) (w.count c.args.world.now)) c.in-Err-Failed.field-0-is;
+      readers = (room, refl);
+      kept = refl;
+      place = tt;
+      phase = tt;
+      nothing = tt;
+      goes = λ tells. subst (λ (t : State). WritersGo c.args.self.now.writers.items t) (sym ((shut tells).0)) (c.requires.goes tells);
+      told = λ tells. (room, shut_named c.args.name.now before (shut tells).1, ap (readers_in c.args.self.now.readers.items) (shut tells).0);
+      outside = λ tells. ap (λ (t : State). t.outside) ((shut tells).0);
+      others = λ k none was. (refl, none);
+      no_others = λ k none was. (refl, none);
+      places = λ tells k none was. (ap (λ (t : State). t.readers k) ((shut tells).0), ap (λ (t : State). t.writers k) ((shut tells).0));
+    })
+
+pub returns : goal.returns
+returns g c =
+    let w = g.W.World in
+    let before = w.state c.args.world.now in
+    let room = may_by c.args.self.now (few_streams c.args.self.now (length c.as_slice.result.now) (length c.as_slice-2.result.now) (ap length c.as_slice.ensures.value) (ap length c.as_slice-2.ensures.value) c.if-as_slice-ge-MAX_STREAMS.false) in
+    let call = c.in-Err-NoMemory.ensures in
+    let shut = λ (tells : w.tells). subst (λ (x : WorldFault). OpensToRead c.args.name.now before (Err x) (w.state c.open_read.new.self)) c.in-Err-NoMemory.field-0-is (call.told tells) in
+    rw (c.reserve.ensures.items, call.not_opened) (record {
+      held = c.requires.held;
+      writers = refl;
+      count = call.count ∙ ap (λ (x : WorldFault). next_count {T = ℕ} (Err x) (w.count c.args.world.now)) c.in-Err-NoMemory.field-0-is;
+      readers = (room, refl);
+      kept = refl;
+      place = tt;
+      phase = tt;
+      nothing = tt;
+      goes = λ tells. subst (λ (t : State). WritersGo c.args.self.now.writers.items t) (sym (shut tells)) (c.requires.goes tells);
+      told = λ tells. (room, ap (readers_in c.args.self.now.readers.items) (shut tells));
+      outside = λ tells. ap (λ (t : State). t.outside) (shut tells);
+      others = λ k none was. (refl, none);
+      no_others = λ k none was. (refl, none);
+      places = λ tells k none was. (ap (λ (t : State). t.readers k) (shut tells), ap (λ (t : State). t.writers k) (shut tells));
+    })

@@ -1,4 +1,4 @@
-use Rattle.std.proofs.Common.{◌≡◌, ◌∙◌, ◌++◌, ◌∷◌, ◌+◌, ◌<◌, [], ℕ, Bool, Err, Ok, true, false, length, sym, subst, ap, arith}
+use Rattle.std.proofs.Common.{◌≡◌, ◌∙◌, ◌++◌, ◌∷◌, ◌+◌, ◌<◌, [], ℕ, List, Bool, Result, Err, take, Ok, true, false, length, refl, sym, subst, ap, arith}
 use Rattle.std.proofs.lemmas.Result.{err_from_is_err_and}
 use Rattle.sem_primitives.specs.Finds.{seen}
 use Rattle.sem_primitives.specs.OutputMeaning.{opened_if, written_by}
@@ -7,11 +7,32 @@ use Rattle.host_streams.specs.declared.streams.NamedWriter.{NamedWriter}
 use Rattle.host_streams.specs.OpenFiles.{has_room, names_of, writer_place}
 use Rattle.host_streams.specs.Outputs.{IsOf}
 use Rattle.awk_values.specs.declared.fault.Fault.TheVariants.{TooManyStreams}
-use Rattle.awk_values.specs.declared.fault.Stop.TheVariants.{Fault as IsFault}
+use Rattle.awk_values.specs.declared.fault.Stop.TheVariants.{Fault as IsFault, NoMemory}
 use Rattle.host_streams.specs.Puts.{EndsPut, IsOver}
-use Rattle.host_streams.proofs.Begun.{begins_first, few_streams, many_streams, may_by, may_not, nothing_begun, nothing_ends, nothing_put, put_refused, put_room, room_is}
+use Rattle.host_streams.proofs.Begun.{begins_first, few_streams, many_streams, may_by, may_not, nothing_ends, put_refused, put_room, room_is}
 use Rattle.host_streams.proofs.Outputs.{go_last, go_spared, none_but_last, was_kind, held_written, kind_stays, names_last, none_more, other_number, with_missing, writer_missing}
+use Rattle.std.proofs.lemmas.List.{take_all}
+use Rattle.host_streams.proofs.Refused.{is_stop}
+use Rattle.std.proofs.Math.Seq.{take-append_seam}
+use Rattle.awk_values.specs.declared.fault.Fault.{Fault as AnyFault}
+use Rattle.awk_values.specs.declared.fault.Stop.{Stop}
+use Rattle.world_core.specs.WorldState.{State}
+use Rattle.sem_primitives.specs.SharedState.{Does}
+use Rattle.host_streams.specs.Puts.{PutCounts, PutsBy}
 use Rattle.host_streams.proofs.streams.Streams.put_first.Goals as goal
+
+-- a refusal is the same whatever would be answered else
+counts_as : (stop : Stop) (n m : ℕ) → PutCounts {A = ℕ} (Err stop) n m → PutCounts {A = Unit {0}} (Err stop) n m
+counts_as (IsFault fault) n m h = h
+counts_as NoMemory n m h = h
+
+ends_as : (text : List ℕ) (stop : Stop) → EndsPut {A = ℕ} false true text (Err stop) → EndsPut {A = Unit {0}} false true text (Err stop)
+ends_as text (IsFault fault) h = h
+ends_as text NoMemory h = h
+
+puts_as : (does : Does (Result (Unit {0}) AnyFault)) (stop : Stop) (old new : State) → PutsBy {A = ℕ} does (Err stop) old new → PutsBy {A = Unit {0}} does (Err stop) old new
+puts_as does (IsFault fault) old new h = record { answer_is = h.answer_is; outside = h.outside }
+puts_as does NoMemory old new h = h
 
 pub returns-in_err-id-clause-goes : goal.returns-in_err-id-clause-goes
 returns-in_err-id-clause-goes g c = λ tells.
@@ -86,20 +107,125 @@ pub returns-clause-ends : goal.returns-clause-ends
 returns-clause-ends g c =
     subst (λ (b : Bool). EndsPut false b c.args.text.now (Ok tt)) (sym (may_by c.args.self.now (few_streams c.args.self.now (length c.as_slice.result.now) (length c.as_slice-2.result.now) (ap length c.as_slice.ensures.value) (ap length c.as_slice-2.ensures.value) c.if-as_slice-ge-MAX_STREAMS.false))) tt
 
-pub returns-in_err-own-clause-told : goal.returns-in_err-own-clause-told
-returns-in_err-own-clause-told g c = λ tells shared is. nothing_put c.from_residual.result c.from_residual.ensures.1 (written_by false c.args.name.now c.args.append c.args.text.now shared) (g.W.World.state c.args.world.now)
+pub returns-in_err-own : goal.returns-in_err-own
+returns-in_err-own g c = rw (is_stop c.from_residual.result c.from_residual.ensures.1) (record {
+  held = c.requires.held;
+  goes = c.requires.goes;
+  readers = refl;
+  stay = take_all c.args.self.now.writers.len c.args.self.now.writers.items (omega (arith, c.args.self.now.writers.ok.0));
+  opened = tt;
+  refused = refl;
+  count = refl;
+  others = λ k none was. (refl, none);
+  no_others = λ k none was. (refl, none);
+  spares = λ tells. record { readers = λ k was. refl; writers = λ k was. refl };
+  ends = nothing_ends (Unit {0}) (has_room c.args.self.now) c.args.text.now;
+  begun = (0, λ tells shared is. refl);
+  told = λ tells shared is. (0, refl);
+})
 
-pub returns-in_err-own-clause-begun : goal.returns-in_err-own-clause-begun
-returns-in_err-own-clause-begun g c = nothing_begun c.from_residual.result c.from_residual.ensures.1 g.W.World.tells (IsOf c.args.self.now (g.W.World.state c.args.world.now)) (written_by false c.args.name.now c.args.append c.args.text.now) (g.W.World.state c.args.world.now)
+pub returns-in_err-reserve : goal.returns-in_err-reserve
+returns-in_err-reserve g c = rw (is_stop c.from_residual-in_err-reserve.result c.from_residual-in_err-reserve.ensures.1, c.reserve.ensures.items) (record {
+  held = c.requires.held;
+  goes = c.requires.goes;
+  readers = refl;
+  stay = take_all c.args.self.now.writers.len c.args.self.now.writers.items (omega (arith, c.args.self.now.writers.ok.0));
+  opened = tt;
+  refused = refl;
+  count = refl;
+  others = λ k none was. (refl, none);
+  no_others = λ k none was. (refl, none);
+  spares = λ tells. record { readers = λ k was. refl; writers = λ k was. refl };
+  ends = nothing_ends (Unit {0}) (has_room c.args.self.now) c.args.text.now;
+  begun = (0, λ tells shared is. refl);
+  told = λ tells shared is. (0, refl);
+})
 
-pub returns-in_err-own-clause-ends : goal.returns-in_err-own-clause-ends
-returns-in_err-own-clause-ends g c = nothing_ends c.from_residual.result c.from_residual.ensures.1 (has_room c.args.self.now) c.args.text.now
+pub returns-in_err-id-clause-held : goal.returns-in_err-id-clause-held
+returns-in_err-id-clause-held g c = rw (c.reserve.ensures.items, c.in_err-id.ensures.closed) c.requires.held
 
-pub returns-in_err-reserve-clause-told : goal.returns-in_err-reserve-clause-told
-returns-in_err-reserve-clause-told g c = λ tells shared is. nothing_put c.from_residual-in_err-reserve.result c.from_residual-in_err-reserve.ensures.1 (written_by false c.args.name.now c.args.append c.args.text.now shared) (g.W.World.state c.args.world.now)
+pub returns-in_err-id-clause-stay : goal.returns-in_err-id-clause-stay
+returns-in_err-id-clause-stay g c = rw c.reserve.ensures.items (take_all c.args.self.now.writers.len c.args.self.now.writers.items (omega (arith, c.args.self.now.writers.ok.0)))
 
-pub returns-in_err-reserve-clause-begun : goal.returns-in_err-reserve-clause-begun
-returns-in_err-reserve-clause-begun g c = nothing_begun c.from_residual-in_err-reserve.result c.from_residual-in_err-reserve.ensures.1 g.W.World.tells (IsOf c.args.self.now (g.W.World.state c.args.world.now)) (written_by false c.args.name.now c.args.append c.args.text.now) (g.W.World.state c.args.world.now)
+pub returns-in_err-id-clause-others : goal.returns-in_err-id-clause-others
+returns-in_err-id-clause-others g c = rw (c.reserve.ensures.items, c.in_err-id.ensures.closed) (λ k none was. (refl, none))
 
-pub returns-in_err-reserve-clause-ends : goal.returns-in_err-reserve-clause-ends
-returns-in_err-reserve-clause-ends g c = nothing_ends c.from_residual-in_err-reserve.result c.from_residual-in_err-reserve.ensures.1 (has_room c.args.self.now) c.args.text.now
+pub returns-in_err-id-clause-no_others : goal.returns-in_err-id-clause-no_others
+returns-in_err-id-clause-no_others g c = rw (c.reserve.ensures.items, c.in_err-id.ensures.closed) (λ k none was. (refl, none))
+
+pub returns-in_err-id-clause-count : goal.returns-in_err-id-clause-count
+returns-in_err-id-clause-count g c =
+    let p = err_from_is_err_and c.from_residual-in_err-id.result c.from_residual-in_err-id.ensures.1 in
+    rw (p.1, p.2) (counts_as c.in_err-id.field-0.0 _ _ c.in_err-id.ensures.count)
+
+pub returns-in_err-id-clause-ends : goal.returns-in_err-id-clause-ends
+returns-in_err-id-clause-ends g c =
+    let p = err_from_is_err_and c.from_residual-in_err-id.result c.from_residual-in_err-id.ensures.1 in
+    rw (p.1, p.2) (subst (λ (b : Bool). EndsPut {A = Unit {0}} false b c.args.text.now (Err c.in_err-id.field-0.0)) (sym (may_by c.args.self.now (few_streams c.args.self.now (length c.as_slice.result.now) (length c.as_slice-2.result.now) (ap length c.as_slice.ensures.value) (ap length c.as_slice-2.ensures.value) c.if-as_slice-ge-MAX_STREAMS.false))) (ends_as c.args.text.now c.in_err-id.field-0.0 c.in_err-id.ensures.ends))
+
+pub returns-in_err-id-clause-told : goal.returns-in_err-id-clause-told
+returns-in_err-id-clause-told g c = λ tells shared is.
+    let p = err_from_is_err_and c.from_residual-in_err-id.result c.from_residual-in_err-id.ensures.1 in
+    rw (p.1, p.2) (put_room {A = Unit {0}} c.args.name.now c.args.text.now c.args.append c.args.self.now (g.W.World.state c.args.world.now) (g.W.World.state c.put_new.new.world) shared (Err c.in_err-id.field-0.0) is
+    (few_streams c.args.self.now (length c.as_slice.result.now) (length c.as_slice-2.result.now) (ap length c.as_slice.ensures.value) (ap length c.as_slice-2.ensures.value) c.if-as_slice-ge-MAX_STREAMS.false)
+    (puts_as _ c.in_err-id.field-0.0 _ _ (c.in_err-id.ensures.told tells shared (record { kept = is.kept; outside = is.outside }))))
+
+pub returns-in_err-id-clause-spares : goal.returns-in_err-id-clause-spares
+returns-in_err-id-clause-spares g c = c.put_new.ensures.spares
+
+pub returns-in_err-id-clause-readers : goal.returns-in_err-id-clause-readers
+returns-in_err-id-clause-readers g c = refl
+
+pub returns-clause-readers : goal.returns-clause-readers
+returns-clause-readers g c = refl
+
+pub returns-clause-stay : goal.returns-clause-stay
+returns-clause-stay g c =
+    let w : NamedWriter = record { name = c.in_ok-own.own; id = c.in_ok-id.id } in
+    let were = c.args.self.now.writers in
+    ap (take were.len) (c.push_reserved.ensures.items ∙ ap (λ xs. xs ++ w ∷ []) c.reserve.ensures.items) ∙ ap (λ n. take n (were.items ++ w ∷ [])) were.ok.0 ∙ take-append_seam were.items (w ∷ [])
+
+pub returns-clause-refused : goal.returns-clause-refused
+returns-clause-refused g c = tt
+
+pub returns-clause-count : goal.returns-clause-count
+returns-clause-count g c = c.in_ok-id.ensures.count
+
+pub returns-clause-spares : goal.returns-clause-spares
+returns-clause-spares g c = c.put_new.ensures.spares
+
+pub returns-clause-begun : goal.returns-clause-begun
+returns-clause-begun g c = tt
+
+pub returns-then-as_slice-ge-MAX_STREAMS-clause-held : goal.returns-then-as_slice-ge-MAX_STREAMS-clause-held
+returns-then-as_slice-ge-MAX_STREAMS-clause-held g c = c.requires.held
+
+pub returns-then-as_slice-ge-MAX_STREAMS-clause-goes : goal.returns-then-as_slice-ge-MAX_STREAMS-clause-goes
+returns-then-as_slice-ge-MAX_STREAMS-clause-goes g c = c.requires.goes
+
+pub returns-then-as_slice-ge-MAX_STREAMS-clause-readers : goal.returns-then-as_slice-ge-MAX_STREAMS-clause-readers
+returns-then-as_slice-ge-MAX_STREAMS-clause-readers g c = refl
+
+pub returns-then-as_slice-ge-MAX_STREAMS-clause-stay : goal.returns-then-as_slice-ge-MAX_STREAMS-clause-stay
+returns-then-as_slice-ge-MAX_STREAMS-clause-stay g c = take_all c.args.self.now.writers.len c.args.self.now.writers.items (omega (arith, c.args.self.now.writers.ok.0))
+
+pub returns-then-as_slice-ge-MAX_STREAMS-clause-opened : goal.returns-then-as_slice-ge-MAX_STREAMS-clause-opened
+returns-then-as_slice-ge-MAX_STREAMS-clause-opened g c = tt
+
+pub returns-then-as_slice-ge-MAX_STREAMS-clause-refused : goal.returns-then-as_slice-ge-MAX_STREAMS-clause-refused
+returns-then-as_slice-ge-MAX_STREAMS-clause-refused g c = refl
+
+pub returns-then-as_slice-ge-MAX_STREAMS-clause-count : goal.returns-then-as_slice-ge-MAX_STREAMS-clause-count
+returns-then-as_slice-ge-MAX_STREAMS-clause-count g c = (refl, refl)
+
+pub returns-then-as_slice-ge-MAX_STREAMS-clause-others : goal.returns-then-as_slice-ge-MAX_STREAMS-clause-others
+returns-then-as_slice-ge-MAX_STREAMS-clause-others g c = λ k none was. (refl, none)
+
+pub returns-then-as_slice-ge-MAX_STREAMS-clause-no_others : goal.returns-then-as_slice-ge-MAX_STREAMS-clause-no_others
+returns-then-as_slice-ge-MAX_STREAMS-clause-no_others g c = λ k none was. (refl, none)
+
+pub returns-then-as_slice-ge-MAX_STREAMS-clause-spares : goal.returns-then-as_slice-ge-MAX_STREAMS-clause-spares
+returns-then-as_slice-ge-MAX_STREAMS-clause-spares g c = λ tells. record { readers = λ k was. refl; writers = λ k was. refl }
+
+pub returns-then-as_slice-ge-MAX_STREAMS-clause-begun : goal.returns-then-as_slice-ge-MAX_STREAMS-clause-begun
+returns-then-as_slice-ge-MAX_STREAMS-clause-begun g c = tt
