@@ -56,7 +56,7 @@ pub enum IRelOp {
 }
 
 /// A conversion of one integer; `Extend8S` and the like take its low bits as two's complement (Core 2.0, section 2.4.1).
-#[derive(Clone, Copy, Debug, PartialEq, Eq)]
+#[derive(Clone, Copy, PartialEq, Eq)]
 pub enum CvtOp {
     I32WrapI64,
     I64ExtendI32S,
@@ -98,14 +98,14 @@ pub enum StoreOp {
 }
 
 /// Where a load or a store takes place: the alignment hint, as a power of two, and what is added to the address.
-#[derive(Clone, Copy, Debug, PartialEq, Eq)]
+#[derive(Clone, Copy, PartialEq, Eq)]
 pub struct MemArg {
     pub align: u32,
     pub offset: u32,
 }
 
 /// An instruction without a body and without a list. Constants are bit patterns.
-#[derive(Clone, Copy, Debug, PartialEq, Eq)]
+#[derive(Clone, Copy)]
 pub enum Simple {
     Unreachable,
     Nop,

@@ -38,7 +38,7 @@ pub struct Data {
 }
 
 /// What an export gives access to.
-#[derive(Clone, Copy, Debug, PartialEq, Eq)]
+#[derive(Clone, Copy)]
 pub enum ExportDesc {
     Func(u32),
     Table(u32),
