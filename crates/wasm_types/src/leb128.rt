@@ -1,6 +1,6 @@
 //! Integers in groups of seven bits, LEB128 (Core 1.0, section 5.2.2).
 
-ghost use Rattle.std.specs.Prelude.{◌≡◌, ℕ, ◌+◌, ◌*◌, ◌%◌, ◌^◌, ◌<◌, ◌≤◌, [], ◌∷◌, ◌++◌, List, length, take, Some, None, MatchOption, IfSome, IfOk, OnOk, OnErr};
+ghost use Rattle.std.specs.Prelude.{◌≡◌, ℕ, ◌+◌, ◌*◌, ◌%◌, ◌^◌, ◌<◌, ◌≤◌, ◌++◌, List, length, take, Some, None, MatchOption, IfSome, IfOk, OnOk, OnErr};
 ghost use Rattle.std.specs.Int.{cast_unsigned, w32, w64};
 ghost use Rattle.wasm_types.specs.Leb128.{IsU32, IsS32, IsS64, u32_at, s32_at, s64_at, u32_text, s32_text, s64_text, IsRead, IsReadAs, raw_at, unsigned_at, signed_at, unsigned_text, signed_text};
 
@@ -24,9 +24,7 @@ fn raw_at(bytes: &[u8], most: u8) -> Option<(u128, u128, &[u8])>
             if *b < 128 {
                 return Some((*b as u128, 128, rest));
             }
-            let Some((high, weight, after)) = raw_at(rest, most - 1) else {
-                return None;
-            };
+            let (high, weight, after) = raw_at(rest, most - 1)?;
             Some(((*b - 128) as u128 + 128 * high, 128 * weight, after))
         }
     }
@@ -39,9 +37,7 @@ fn unsigned_at(bytes: &[u8], most: u8, limit: u128) -> Option<(u128, &[u8])>
     ensures small { IfSome result (λ x. x.0 < limit) }
     ensures shorter { IfSome result (λ x. length x.1.now < length bytes.now) }
 {
-    let Some((n, _, rest)) = raw_at(bytes, most) else {
-        return None;
-    };
+    let (n, _, rest) = raw_at(bytes, most)?;
     if n < limit { Some((n, rest)) } else { None }
 }
 
@@ -54,9 +50,7 @@ fn signed_at(bytes: &[u8], most: u8, half: u128) -> Option<(u128, &[u8])>
     ensures small { IfSome result (λ x. x.0 < 2 * half) }
     ensures shorter { IfSome result (λ x. length x.1.now < length bytes.now) }
 {
-    let Some((n, weight, rest)) = raw_at(bytes, most) else {
-        return None;
-    };
+    let (n, weight, rest) = raw_at(bytes, most)?;
     if 2 * n < weight {
         if n < half { Some((n, rest)) } else { None }
     } else if weight + half <= n + 2 * half && n < weight {
@@ -73,9 +67,7 @@ pub fn take_u32(bytes: &[u8]) -> Option<(u32, &[u8])>
         (λ x. u32_at bytes.now ≡ Some (x.0, x.1.now)) }
     ensures shorter { IfSome result (λ x. length x.1.now < length bytes.now) }
 {
-    let Some((n, rest)) = unsigned_at(bytes, 5, 4294967296) else {
-        return None;
-    };
+    let (n, rest) = unsigned_at(bytes, 5, 4294967296)?;
     Some((n as u32, rest))
 }
 
@@ -86,9 +78,7 @@ pub fn take_s32(bytes: &[u8]) -> Option<(u32, &[u8])>
         (λ x. s32_at bytes.now ≡ Some (x.0, x.1.now)) }
     ensures shorter { IfSome result (λ x. length x.1.now < length bytes.now) }
 {
-    let Some((n, rest)) = signed_at(bytes, 5, 2147483648) else {
-        return None;
-    };
+    let (n, rest) = signed_at(bytes, 5, 2147483648)?;
     Some((n as u32, rest))
 }
 
@@ -99,9 +89,7 @@ pub fn take_s64(bytes: &[u8]) -> Option<(u64, &[u8])>
         (λ x. s64_at bytes.now ≡ Some (x.0, x.1.now)) }
     ensures shorter { IfSome result (λ x. length x.1.now < length bytes.now) }
 {
-    let Some((n, rest)) = signed_at(bytes, 10, 9223372036854775808) else {
-        return None;
-    };
+    let (n, rest) = signed_at(bytes, 10, 9223372036854775808)?;
     Some((n as u64, rest))
 }
 
@@ -112,9 +100,7 @@ pub fn read_u32(bytes: &[u8]) -> Option<(u32, usize)>
     ensures again { (n : ℕ) (text rest : List ℕ) → IsU32 text n → bytes.now ≡ text ++ rest
         → IsRead result n (length text) }
 {
-    let Some((n, rest)) = take_u32(bytes) else {
-        return None;
-    };
+    let (n, rest) = take_u32(bytes)?;
     Some((n, bytes.len() - rest.len()))
 }
 
@@ -125,9 +111,7 @@ pub fn read_s32(bytes: &[u8]) -> Option<(i32, usize)>
     ensures again { (n : ℕ) (text rest : List ℕ) → IsS32 text n → bytes.now ≡ text ++ rest
         → IsReadAs w32 result n (length text) }
 {
-    let Some((n, rest)) = take_s32(bytes) else {
-        return None;
-    };
+    let (n, rest) = take_s32(bytes)?;
     Some((n.cast_signed(), bytes.len() - rest.len()))
 }
 
@@ -138,20 +122,8 @@ pub fn read_s64(bytes: &[u8]) -> Option<(i64, usize)>
     ensures again { (n : ℕ) (text rest : List ℕ) → IsS64 text n → bytes.now ≡ text ++ rest
         → IsReadAs w64 result n (length text) }
 {
-    let Some((n, rest)) = take_s64(bytes) else {
-        return None;
-    };
+    let (n, rest) = take_s64(bytes)?;
     Some((n.cast_signed(), bytes.len() - rest.len()))
-}
-
-fn push_byte(out: &mut Vec<u8>, byte: u8) -> Result<(), AllocError>
-    ensures done { OnOk result (out.new.items ≡ out.old.items ++ byte ∷ []) }
-    ensures undone { OnErr result (out.new.items ≡ out.old.items) }
-{
-    match out.push(byte) {
-        Ok(()) => Ok(()),
-        Err(_) => Err(AllocError),
-    }
 }
 
 fn push_unsigned(out: &mut Vec<u8>, most: u8, n: u128) -> Result<(), AllocError>
@@ -162,11 +134,10 @@ fn push_unsigned(out: &mut Vec<u8>, most: u8, n: u128) -> Result<(), AllocError>
         return Ok(());
     }
     if n < 128 {
-        return push_byte(out, n as u8);
+        out.push(n as u8)?;
+        return Ok(());
     }
-    let Ok(()) = push_byte(out, (n % 128) as u8 + 128) else {
-        return Err(AllocError);
-    };
+    out.push((n % 128) as u8 + 128)?;
     match push_unsigned(out, most - 1, n / 128) {
         Ok(()) => Ok(()),
         Err(fault) => {
@@ -187,11 +158,10 @@ fn push_signed(out: &mut Vec<u8>, most: u8, half: u128, n: u128) -> Result<(), A
         return Ok(());
     }
     if n < 64 || 2 * half <= n + 64 {
-        return push_byte(out, (n % 128) as u8);
+        out.push((n % 128) as u8)?;
+        return Ok(());
     }
-    let Ok(()) = push_byte(out, (n % 128) as u8 + 128) else {
-        return Err(AllocError);
-    };
+    out.push((n % 128) as u8 + 128)?;
     let next = if n < half {
         n / 128
     } else {
@@ -240,10 +210,8 @@ pub fn write_u32(alloc: Global, n: u32) -> Result<Vec<u8>, AllocError>
         (λ v. (other : List ℕ) → IsU32 other n → length v.items ≤ length other) }
 {
     let mut out = Vec::new(alloc);
-    match push_u32(&mut out, n) {
-        Ok(()) => Ok(out),
-        Err(fault) => Err(fault),
-    }
+    push_u32(&mut out, n)?;
+    Ok(out)
 }
 
 /// The shortest form of a signed integer.
@@ -253,10 +221,8 @@ pub fn write_s32(alloc: Global, n: i32) -> Result<Vec<u8>, AllocError>
         → length v.items ≤ length other) }
 {
     let mut out = Vec::new(alloc);
-    match push_s32(&mut out, n.cast_unsigned()) {
-        Ok(()) => Ok(out),
-        Err(fault) => Err(fault),
-    }
+    push_s32(&mut out, n.cast_unsigned())?;
+    Ok(out)
 }
 
 /// The shortest form of a signed integer.
@@ -266,8 +232,6 @@ pub fn write_s64(alloc: Global, n: i64) -> Result<Vec<u8>, AllocError>
         → length v.items ≤ length other) }
 {
     let mut out = Vec::new(alloc);
-    match push_s64(&mut out, n.cast_unsigned()) {
-        Ok(()) => Ok(out),
-        Err(fault) => Err(fault),
-    }
+    push_s64(&mut out, n.cast_unsigned())?;
+    Ok(out)
 }
