@@ -34,23 +34,23 @@ pub(crate) fn fold_code(code: &mut Code)
             fold_codes(others);
             fold_code(last);
         }
-        Code::Over(_listed, operands) => fold_operands(operands),
-        Code::Compare(_comparison, left, right) => {
+        Code::Over(_, operands) => fold_operands(operands),
+        Code::Compare(_, left, right) => {
             fold_code(left);
             fold_code(right);
         }
-        Code::Call(_function, operands) => fold_operands(operands),
+        Code::Call(_, operands) => fold_operands(operands),
         Code::AskLine(store) => fold_code(store),
         Code::FileLine(file, store) => {
             fold_code(file);
             fold_code(store);
         }
-        Code::Replace(_all, operands, store) => {
+        Code::Replace(_, operands, store) => {
             fold_operands(operands);
             fold_code(store);
         }
-        Code::Set(_slot, value) => fold_code(value),
-        Code::Choose(_sort, test, yes, no) => {
+        Code::Set(_, value) => fold_code(value),
+        Code::Choose(_, test, yes, no) => {
             fold_code(test);
             fold_code(yes);
             fold_code(no);

@@ -21,12 +21,12 @@ fn fold_step(step: &mut Step)
             fold_step(yes);
             fold_step(no);
         }
-        Step::Loop(_first, test, body, between) => {
+        Step::Loop(_, test, body, between) => {
             fold_code(test);
             fold_step(body);
             fold_step(between);
         }
-        Step::Each(_array, store, body) => {
+        Step::Each(_, store, body) => {
             fold_code(store);
             fold_step(body);
         }

@@ -15,24 +15,24 @@ pub(crate) fn lane_code(names: Names<'_>, code: &mut Code)
     ensures { view code.new ≡ code_in (slots names.entry) Do (view code.old) }
 {
     match code {
-        Code::Do(_operation, operands) => lane_operands(names, operands),
+        Code::Do(_, operands) => lane_operands(names, operands),
         Code::Joined(first, others, last) => {
             lane_code(names, first);
             lane_codes(names, others);
             lane_code(names, last);
         }
-        Code::Over(_listed, operands) => lane_operands(names, operands),
-        Code::Compare(_comparison, left, right) => {
+        Code::Over(_, operands) => lane_operands(names, operands),
+        Code::Compare(_, left, right) => {
             lane_code(names, left);
             lane_code(names, right);
         }
-        Code::Call(_function, operands) => lane_operands(names, operands),
+        Code::Call(_, operands) => lane_operands(names, operands),
         Code::AskLine(store) => lane_code(names, store),
         Code::FileLine(file, store) => {
             lane_code(names, file);
             lane_code(names, store);
         }
-        Code::Replace(_all, operands, store) => {
+        Code::Replace(_, operands, store) => {
             lane_operands(names, operands);
             lane_code(names, store);
         }
@@ -40,7 +40,7 @@ pub(crate) fn lane_code(names: Names<'_>, code: &mut Code)
             *slot = names.slot(*slot);
             lane_code(names, value);
         }
-        Code::Choose(_sort, test, yes, no) => {
+        Code::Choose(_, test, yes, no) => {
             lane_code(names, test);
             lane_code(names, yes);
             lane_code(names, no);

@@ -23,12 +23,12 @@ fn lane_step(names: Names<'_>, step: &mut Step)
             lane_step(names, yes);
             lane_step(names, no);
         }
-        Step::Loop(_first, test, body, between) => {
+        Step::Loop(_, test, body, between) => {
             lane_code(names, test);
             lane_step(names, body);
             lane_step(names, between);
         }
-        Step::Each(_array, store, body) => {
+        Step::Each(_, store, body) => {
             lane_code(names, store);
             lane_step(names, body);
         }

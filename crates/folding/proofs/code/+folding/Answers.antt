@@ -74,39 +74,39 @@ fold_code-returns-in-None t c =
 abbrev again : Vec Operand Global → Vec Operand Global
 again v = shown-the_row-Operand-0 (shape-the_row-Operand-0 v) (hidden-the_row-Operand-0 v)
 
-done_again : (new old : Vec Operand Global) → views new.items ≡ codes_in same reduced (views (again (again old)).items) →
+done_again : (new old : Vec Operand Global) → views new.items ≡ codes_in same reduced (views (again old).items) →
     view_row (hidden-the_row-Operand-0 new) ≡ codes_in same reduced (view_row (hidden-the_row-Operand-0 old))
 done_again new old e =
-    operands_of new ∙ e ∙ ap (λ (v : Vec Operand Global). codes_in same reduced (views v.items)) (seen-the_row-Operand-0 (again old) ∙ seen-the_row-Operand-0 old) ∙ ap (codes_in same reduced) (sym (operands_of old))
+    operands_of new ∙ e ∙ ap (λ (v : Vec Operand Global). codes_in same reduced (views v.items)) (seen-the_row-Operand-0 old) ∙ ap (codes_in same reduced) (sym (operands_of old))
 
 pub fold_code-returns-in-Over : goal.fold_code-returns-in-Over
 unfolding out-Code out
 fold_code-returns-in-Over t c =
-    let done : views c.fold_operands-in-Over.new.operands.items ≡ codes_in same reduced (views (again (again c.in-Over.operands)).items) = rw c.in-Over.is at c.fold_operands-in-Over.ensures in
+    let done : views c.fold_operands-in-Over.new.operands.items ≡ codes_in same reduced (views (again c.in-Over.operands).items) = rw c.in-Over.is at c.fold_operands-in-Over.ensures in
     let operands = done_again c.fold_operands-in-Over.new.operands c.in-Over.operands done in
-    rw c.in-Over.is (λ i. plain.Over c.in-Over._listed (operands i))
+    rw c.in-Over.is (λ i. plain.Over c.in-Over.field-0 (operands i))
 
 pub fold_code-returns-in-Call : goal.fold_code-returns-in-Call
 unfolding out-Code out
 fold_code-returns-in-Call t c =
-    let done : views c.fold_operands-in-Call.new.operands.items ≡ codes_in same reduced (views (again (again c.in-Call.operands)).items) = rw c.in-Call.is at c.fold_operands-in-Call.ensures in
+    let done : views c.fold_operands-in-Call.new.operands.items ≡ codes_in same reduced (views (again c.in-Call.operands).items) = rw c.in-Call.is at c.fold_operands-in-Call.ensures in
     let operands = done_again c.fold_operands-in-Call.new.operands c.in-Call.operands done in
-    rw c.in-Call.is (λ i. plain.Call c.in-Call._function (operands i))
+    rw c.in-Call.is (λ i. plain.Call c.in-Call.field-0 (operands i))
 
 pub fold_code-returns-in-Replace : goal.fold_code-returns-in-Replace
 unfolding out-Code out
 fold_code-returns-in-Replace t c =
-    let done : views c.fold_operands-in-Replace.new.operands.items ≡ codes_in same reduced (views (again (again c.in-Replace.operands)).items) = rw c.in-Replace.is at c.fold_operands-in-Replace.ensures in
+    let done : views c.fold_operands-in-Replace.new.operands.items ≡ codes_in same reduced (views (again c.in-Replace.operands).items) = rw c.in-Replace.is at c.fold_operands-in-Replace.ensures in
     let operands = done_again c.fold_operands-in-Replace.new.operands c.in-Replace.operands done in
     let store : view c.fold_code-in-Replace.new.code ≡ folded (view c.in-Replace.store.value) = rw c.in-Replace.is at (c.fold_code-in-Replace.ensures ∙ ap (λ (e : Code). folded (view e)) c.deref_mut-in-Replace.ensures.value) in
-    rw c.in-Replace.is (λ i. plain.Replace c.in-Replace._all (operands i) (store i))
+    rw c.in-Replace.is (λ i. plain.Replace c.in-Replace.field-0 (operands i) (store i))
 
 pub fold_code-returns-in-Compare : goal.fold_code-returns-in-Compare
 unfolding out-Code out
 fold_code-returns-in-Compare t c =
     let left : view c.fold_code-in-Compare.new.code ≡ folded (view c.in-Compare.left.value) = rw c.in-Compare.is at (c.fold_code-in-Compare.ensures ∙ ap (λ (e : Code). folded (view e)) c.deref_mut-in-Compare.ensures.value) in
     let right : view c.fold_code-in-Compare-2.new.code ≡ folded (view c.in-Compare.right.value) = rw c.in-Compare.is at (c.fold_code-in-Compare-2.ensures ∙ ap (λ (e : Code). folded (view e)) c.deref_mut-in-Compare-2.ensures.value) in
-    rw c.in-Compare.is (λ i. plain.Compare c.in-Compare._comparison (left i) (right i))
+    rw c.in-Compare.is (λ i. plain.Compare c.in-Compare.field-0 (left i) (right i))
 
 pub fold_code-returns-in-AskLine : goal.fold_code-returns-in-AskLine
 unfolding out-Code out
@@ -124,7 +124,7 @@ pub fold_code-returns-in-Set : goal.fold_code-returns-in-Set
 unfolding out-Code out
 fold_code-returns-in-Set t c =
     let value : view c.fold_code-in-Set.new.code ≡ folded (view c.in-Set.value.value) = rw c.in-Set.is at (c.fold_code-in-Set.ensures ∙ ap (λ (e : Code). folded (view e)) c.deref_mut-in-Set.ensures.value) in
-    rw c.in-Set.is (λ i. plain.Set (view_slot c.in-Set._slot) (value i))
+    rw c.in-Set.is (λ i. plain.Set (view_slot c.in-Set.field-0) (value i))
 
 pub fold_code-returns-in-Choose : goal.fold_code-returns-in-Choose
 unfolding out-Code out
@@ -132,7 +132,7 @@ fold_code-returns-in-Choose t c =
     let test : view c.fold_code-in-Choose.new.code ≡ folded (view c.in-Choose.test.value) = rw c.in-Choose.is at (c.fold_code-in-Choose.ensures ∙ ap (λ (e : Code). folded (view e)) c.deref_mut-in-Choose.ensures.value) in
     let yes : view c.fold_code-in-Choose-2.new.code ≡ folded (view c.in-Choose.yes.value) = rw c.in-Choose.is at (c.fold_code-in-Choose-2.ensures ∙ ap (λ (e : Code). folded (view e)) c.deref_mut-in-Choose-2.ensures.value) in
     let no : view c.fold_code-in-Choose-3.new.code ≡ folded (view c.in-Choose.no.value) = rw c.in-Choose.is at (c.fold_code-in-Choose-3.ensures ∙ ap (λ (e : Code). folded (view e)) c.deref_mut-in-Choose-3.ensures.value) in
-    rw c.in-Choose.is (λ i. plain.Choose c.in-Choose._sort (test i) (yes i) (no i))
+    rw c.in-Choose.is (λ i. plain.Choose c.in-Choose.field-0 (test i) (yes i) (no i))
 
 pub fold_code-returns-in-Seq : goal.fold_code-returns-in-Seq
 fold_code-returns-in-Seq t c =

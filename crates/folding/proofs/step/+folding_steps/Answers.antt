@@ -69,11 +69,11 @@ fold_step-returns-in-Loop t c =
     let test : view c.fold_code-in-Loop.new.code ≡ folded (view c.in-Loop.test) = rw c.in-Loop.is at c.fold_code-in-Loop.ensures in
     let body : view_step c.fold_step-in-Loop.new.step ≡ step_in same reduced (view_step c.in-Loop.body.value) = rw c.in-Loop.is at (c.fold_step-in-Loop.ensures ∙ ap (λ (s : Step). step_in same reduced (view_step s)) c.deref_mut-in-Loop.ensures.value) in
     let between : view_step c.fold_step-in-Loop-2.new.step ≡ step_in same reduced (view_step c.in-Loop.between.value) = rw c.in-Loop.is at (c.fold_step-in-Loop-2.ensures ∙ ap (λ (s : Step). step_in same reduced (view_step s)) c.deref_mut-in-Loop-2.ensures.value) in
-    rw c.in-Loop.is (λ i. plain.Loop c.in-Loop._first (test i) (body i) (between i))
+    rw c.in-Loop.is (λ i. plain.Loop c.in-Loop.field-0 (test i) (body i) (between i))
 
 pub fold_step-returns-in-Each : goal.fold_step-returns-in-Each
 unfolding out-Step out
 fold_step-returns-in-Each t c =
     let store : view c.fold_code-in-Each.new.code ≡ folded (view c.in-Each.store) = rw c.in-Each.is at c.fold_code-in-Each.ensures in
     let body : view_step c.fold_step-in-Each.new.step ≡ step_in same reduced (view_step c.in-Each.body.value) = rw c.in-Each.is at (c.fold_step-in-Each.ensures ∙ ap (λ (s : Step). step_in same reduced (view_step s)) c.deref_mut-in-Each.ensures.value) in
-    rw c.in-Each.is (λ i. plain.Each (view_array c.in-Each._array) (store i) (body i))
+    rw c.in-Each.is (λ i. plain.Each (view_array c.in-Each.field-0) (store i) (body i))

@@ -57,44 +57,43 @@ lane_code-returns-in-Joined t c =
 abbrev again : Vec Operand Global → Vec Operand Global
 again v = shown-the_row-Operand-0 (shape-the_row-Operand-0 v) (hidden-the_row-Operand-0 v)
 
-done_again : (names : plain.Slot → plain.Slot) (new old : Vec Operand Global) → views new.items ≡ codes_in names plain.Do (views (again (again old)).items) →
+done_again : (names : plain.Slot → plain.Slot) (new old : Vec Operand Global) → views new.items ≡ codes_in names plain.Do (views (again old).items) →
     view_row (hidden-the_row-Operand-0 new) ≡ codes_in names plain.Do (view_row (hidden-the_row-Operand-0 old))
-done_again names new old e =
-    operands_of new ∙ e ∙ ap (λ (v : Vec Operand Global). codes_in names plain.Do (views v.items)) (seen-the_row-Operand-0 (again old) ∙ seen-the_row-Operand-0 old) ∙ ap (codes_in names plain.Do) (sym (operands_of old))
+done_again names new old e = operands_of new ∙ e ∙ ap (λ (v : Vec Operand Global). codes_in names plain.Do (views v.items)) (seen-the_row-Operand-0 old) ∙ ap (codes_in names plain.Do) (sym (operands_of old))
 
 pub lane_code-returns-in-Do : goal.lane_code-returns-in-Do
 unfolding out-Code out
 lane_code-returns-in-Do t c =
     let laned_all : plain.Codes → plain.Codes = codes_in (slots c.args.names) plain.Do in
-    let done : views c.lane_operands.new.operands.items ≡ laned_all (views (again (again c.in-Do.operands)).items) = rw c.in-Do.is at c.lane_operands.ensures in
+    let done : views c.lane_operands.new.operands.items ≡ laned_all (views (again c.in-Do.operands).items) = rw c.in-Do.is at c.lane_operands.ensures in
     let operands = done_again (slots c.args.names) c.lane_operands.new.operands c.in-Do.operands done in
-    rw c.in-Do.is (λ i. plain.Do c.in-Do._operation (operands i))
+    rw c.in-Do.is (λ i. plain.Do c.in-Do.field-0 (operands i))
 
 pub lane_code-returns-in-Over : goal.lane_code-returns-in-Over
 unfolding out-Code out
 lane_code-returns-in-Over t c =
     let laned_all : plain.Codes → plain.Codes = codes_in (slots c.args.names) plain.Do in
-    let done : views c.lane_operands-in-Over.new.operands.items ≡ laned_all (views (again (again c.in-Over.operands)).items) = rw c.in-Over.is at c.lane_operands-in-Over.ensures in
+    let done : views c.lane_operands-in-Over.new.operands.items ≡ laned_all (views (again c.in-Over.operands).items) = rw c.in-Over.is at c.lane_operands-in-Over.ensures in
     let operands = done_again (slots c.args.names) c.lane_operands-in-Over.new.operands c.in-Over.operands done in
-    rw c.in-Over.is (λ i. plain.Over c.in-Over._listed (operands i))
+    rw c.in-Over.is (λ i. plain.Over c.in-Over.field-0 (operands i))
 
 pub lane_code-returns-in-Call : goal.lane_code-returns-in-Call
 unfolding out-Code out
 lane_code-returns-in-Call t c =
     let laned_all : plain.Codes → plain.Codes = codes_in (slots c.args.names) plain.Do in
-    let done : views c.lane_operands-in-Call.new.operands.items ≡ laned_all (views (again (again c.in-Call.operands)).items) = rw c.in-Call.is at c.lane_operands-in-Call.ensures in
+    let done : views c.lane_operands-in-Call.new.operands.items ≡ laned_all (views (again c.in-Call.operands).items) = rw c.in-Call.is at c.lane_operands-in-Call.ensures in
     let operands = done_again (slots c.args.names) c.lane_operands-in-Call.new.operands c.in-Call.operands done in
-    rw c.in-Call.is (λ i. plain.Call c.in-Call._function (operands i))
+    rw c.in-Call.is (λ i. plain.Call c.in-Call.field-0 (operands i))
 
 pub lane_code-returns-in-Replace : goal.lane_code-returns-in-Replace
 unfolding out-Code out
 lane_code-returns-in-Replace t c =
     let laned : plain.Code → plain.Code = code_in (slots c.args.names) plain.Do in
     let laned_all : plain.Codes → plain.Codes = codes_in (slots c.args.names) plain.Do in
-    let done : views c.lane_operands-in-Replace.new.operands.items ≡ laned_all (views (again (again c.in-Replace.operands)).items) = rw c.in-Replace.is at c.lane_operands-in-Replace.ensures in
+    let done : views c.lane_operands-in-Replace.new.operands.items ≡ laned_all (views (again c.in-Replace.operands).items) = rw c.in-Replace.is at c.lane_operands-in-Replace.ensures in
     let operands = done_again (slots c.args.names) c.lane_operands-in-Replace.new.operands c.in-Replace.operands done in
     let store : view c.lane_code-in-Replace.new.code ≡ laned (view c.in-Replace.store.value) = rw c.in-Replace.is at (c.lane_code-in-Replace.ensures ∙ ap (λ (e : Code). laned (view e)) c.deref_mut-in-Replace.ensures.value) in
-    rw c.in-Replace.is (λ i. plain.Replace c.in-Replace._all (operands i) (store i))
+    rw c.in-Replace.is (λ i. plain.Replace c.in-Replace.field-0 (operands i) (store i))
 
 pub lane_code-returns-in-Compare : goal.lane_code-returns-in-Compare
 unfolding out-Code out
@@ -102,7 +101,7 @@ lane_code-returns-in-Compare t c =
     let laned : plain.Code → plain.Code = code_in (slots c.args.names) plain.Do in
     let left : view c.lane_code-in-Compare.new.code ≡ laned (view c.in-Compare.left.value) = rw c.in-Compare.is at (c.lane_code-in-Compare.ensures ∙ ap (λ (e : Code). laned (view e)) c.deref_mut-in-Compare.ensures.value) in
     let right : view c.lane_code-in-Compare-2.new.code ≡ laned (view c.in-Compare.right.value) = rw c.in-Compare.is at (c.lane_code-in-Compare-2.ensures ∙ ap (λ (e : Code). laned (view e)) c.deref_mut-in-Compare-2.ensures.value) in
-    rw c.in-Compare.is (λ i. plain.Compare c.in-Compare._comparison (left i) (right i))
+    rw c.in-Compare.is (λ i. plain.Compare c.in-Compare.field-0 (left i) (right i))
 
 pub lane_code-returns-in-AskLine : goal.lane_code-returns-in-AskLine
 unfolding out-Code out
@@ -132,7 +131,7 @@ lane_code-returns-in-Choose t c =
     let test : view c.lane_code-in-Choose.new.code ≡ laned (view c.in-Choose.test.value) = rw c.in-Choose.is at (c.lane_code-in-Choose.ensures ∙ ap (λ (e : Code). laned (view e)) c.deref_mut-in-Choose.ensures.value) in
     let yes : view c.lane_code-in-Choose-2.new.code ≡ laned (view c.in-Choose.yes.value) = rw c.in-Choose.is at (c.lane_code-in-Choose-2.ensures ∙ ap (λ (e : Code). laned (view e)) c.deref_mut-in-Choose-2.ensures.value) in
     let no : view c.lane_code-in-Choose-3.new.code ≡ laned (view c.in-Choose.no.value) = rw c.in-Choose.is at (c.lane_code-in-Choose-3.ensures ∙ ap (λ (e : Code). laned (view e)) c.deref_mut-in-Choose-3.ensures.value) in
-    rw c.in-Choose.is (λ i. plain.Choose c.in-Choose._sort (test i) (yes i) (no i))
+    rw c.in-Choose.is (λ i. plain.Choose c.in-Choose.field-0 (test i) (yes i) (no i))
 
 pub lane_code-returns-in-Seq : goal.lane_code-returns-in-Seq
 lane_code-returns-in-Seq t c =
