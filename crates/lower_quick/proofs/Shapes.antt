@@ -285,13 +285,25 @@ product_multiple e h = refl
 
 -- elements of arrays
 
-pub elem_is : (p : Primitive) (i : ℕ) (es : plain.Codes) → cond (is_elem p) (element_at i es) None ≡ element_read i (plain.Do (Host p) es)
+elem_is : (p : Primitive) (i : ℕ) (es : plain.Codes) → cond (is_elem p) (element_at i es) None ≡ element_read i (plain.Do (Host p) es)
 elem_is row.Elem i es = refl
 elem_is _ i es = refl
 
-pub set_elem_is : (p : Primitive) (m : Bool) (i : ℕ) (es : plain.Codes) → cond (is_set_elem p) (taker_at m i es) None ≡ element_set m i (plain.Do (Host p) es)
+pub elem_here : (p : Primitive) (i : ℕ) (es : plain.Codes) → is_elem p ≡ true → element_at i es ≡ element_read i (plain.Do (Host p) es)
+elem_here p i es h = sym (ap (λ (so : Bool). cond so (element_at i es) None) h) ∙ elem_is p i es
+
+pub no_elem : (p : Primitive) (i : ℕ) (es : plain.Codes) → is_elem p ≡ false → None ≡ element_read i (plain.Do (Host p) es)
+no_elem p i es h = sym (ap (λ (so : Bool). cond so (element_at i es) None) h) ∙ elem_is p i es
+
+set_elem_is : (p : Primitive) (m : Bool) (i : ℕ) (es : plain.Codes) → cond (is_set_elem p) (taker_at m i es) None ≡ element_set m i (plain.Do (Host p) es)
 set_elem_is row.SetElem m i es = refl
 set_elem_is _ m i es = refl
+
+pub set_elem_here : (p : Primitive) (m : Bool) (i : ℕ) (es : plain.Codes) → is_set_elem p ≡ true → taker_at m i es ≡ element_set m i (plain.Do (Host p) es)
+set_elem_here p m i es h = sym (ap (λ (so : Bool). cond so (taker_at m i es) None) h) ∙ set_elem_is p m i es
+
+pub no_set_elem : (p : Primitive) (m : Bool) (i : ℕ) (es : plain.Codes) → is_set_elem p ≡ false → None ≡ element_set m i (plain.Do (Host p) es)
+no_set_elem p m i es h = sym (ap (λ (so : Bool). cond so (taker_at m i es) None) h) ∙ set_elem_is p m i es
 
 -- names
 
@@ -300,9 +312,15 @@ same_test a b = grind (arith, nat_tests)
 
 -- how many fields there are
 
-pub count_is : (p : Primitive) (es : plain.Codes) → cond (reads_special p) (is_count es) false ≡ field_count (plain.Do (Host p) es)
+count_is : (p : Primitive) (es : plain.Codes) → cond (reads_special p) (is_count es) false ≡ field_count (plain.Do (Host p) es)
 count_is row.GetSpecial es = refl
 count_is _ es = refl
+
+pub count_here : (p : Primitive) (es : plain.Codes) → reads_special p ≡ true → is_count es ≡ field_count (plain.Do (Host p) es)
+count_here p es h = sym (ap (λ (so : Bool). cond so (is_count es) false) h) ∙ count_is p es
+
+pub not_count : (p : Primitive) (es : plain.Codes) → reads_special p ≡ false → false ≡ field_count (plain.Do (Host p) es)
+not_count p es h = sym (ap (λ (so : Bool). cond so (is_count es) false) h) ∙ count_is p es
 
 -- steps
 

@@ -1,6 +1,6 @@
 //! Counters in arrays: an element takes the sum of its number and what is added.
 ghost use Rattle.std.specs.Option.{option_map};
-ghost use Rattle.std.specs.Prelude.{◌≡◌, None, cond, false, zero};
+ghost use Rattle.std.specs.Prelude.{◌≡◌, false, zero};
 ghost use Rattle.mid_program.specs.ViewCode.{view, view_array, views};
 ghost use Rattle.lower_quick.specs.Operands.{is_elem, is_set_elem};
 ghost use Rattle.lower_quick.specs.View.{view_tally};
@@ -50,18 +50,6 @@ fn is_elem(primitive: Primitive) -> bool
     matches!(primitive, Primitive::Elem)
 }
 
-/// The same, where a primitive reads an element.
-fn element_of(primitive: Primitive, operands: &[Operand], after: usize) -> Option<ArrayName>
-    ensures { option_map view_array result
-        ≡ cond (is_elem primitive) (element_at after (views operands.now)) None }
-{
-    if is_elem(primitive) {
-        element_at(operands, after)
-    } else {
-        None
-    }
-}
-
 /// The array of `a[k]`, if code is one.
 fn element_read(code: &Code, after: usize) -> Option<ArrayName>
     ensures { option_map view_array result ≡ element_read after (view code.now) }
@@ -70,7 +58,13 @@ fn element_read(code: &Code, after: usize) -> Option<ArrayName>
         return None;
     };
     match operation {
-        Operation::Host(primitive) => element_of(*primitive, operands, after),
+        Operation::Host(primitive) => {
+            if is_elem(*primitive) {
+                element_at(operands, after)
+            } else {
+                None
+            }
+        }
         Operation::Inline(_) | Operation::AsNumber | Operation::FieldNumber => None,
     }
 }
@@ -101,23 +95,6 @@ fn is_set_elem(primitive: Primitive) -> bool
     matches!(primitive, Primitive::SetElem)
 }
 
-/// The same, where a primitive writes an element.
-fn taker_of(
-    primitive: Primitive,
-    operands: &[Operand],
-    moves: bool,
-    after: usize,
-) -> Option<ArrayName>
-    ensures { option_map view_array result
-        ≡ cond (is_set_elem primitive) (taker_at moves after (views operands.now)) None }
-{
-    if is_set_elem(primitive) {
-        taker_at(operands, moves, after)
-    } else {
-        None
-    }
-}
-
 /// The array of `a[k] = v`, if code is one.
 fn element_set(code: &Code, moves: bool, after: usize) -> Option<ArrayName>
     ensures { option_map view_array result ≡ element_set moves after (view code.now) }
@@ -126,7 +103,13 @@ fn element_set(code: &Code, moves: bool, after: usize) -> Option<ArrayName>
         return None;
     };
     match operation {
-        Operation::Host(primitive) => taker_of(*primitive, operands, moves, after),
+        Operation::Host(primitive) => {
+            if is_set_elem(*primitive) {
+                taker_at(operands, moves, after)
+            } else {
+                None
+            }
+        }
         Operation::Inline(_) | Operation::AsNumber | Operation::FieldNumber => None,
     }
 }
