@@ -2,14 +2,14 @@ use Rattle.std.proofs.Common.{◌≡◌, ◌-◌, ℕ, suc, Bool, max, List, map
 use Rattle.std.specs.Prelude.{is_some}
 use Rattle.lower_model.specs.Quick.{addition_in}
 use Rattle.mid_program.specs.Mid as plain
-use Rattle.mid_program.specs.ViewCode.{joined, view, views}
+use Rattle.mid_program.specs.ViewCode.{before, joined, view, views}
 use Rattle.mid_program.specs.declared.code.Code.{Code}
 use Rattle.mid_program.specs.declared.code.Operand.{Operand}
 use Rattle.lower_model.specs.Places.{arrays_among, arrays_in, room, rooms}
 use Rattle.lower_needs.specs.Counted.{counted}
 use Rattle.lower_needs.specs.Labels.{labels_among, labels_in, more_if}
 use Rattle.mid_program.proofs.Views.{view_joined}
-use Rattle.lower_needs.proofs.Keys.{arrays_joined, labels_joined, one_more, room_joined}
+use Rattle.lower_needs.proofs.Keys.{arrays_joined, labels_joined, one_before, one_more, room_joined}
 use Rattle.lower_quick.proofs.Views.{view_call, view_do, view_over, view_replace}
 use Rattle.lower_needs.proofs.code.+counts.Goals as goal
 
@@ -421,3 +421,38 @@ counts_in-returns-in-Joined-clause-iterators t c =
     let l = c.later.ensures.iterators in
     let m = c.both.ensures.iterators in
     omega (arith, a, j, l, m)
+
+pub operand_counts-returns-in-Code-clause-temporaries : goal.operand_counts-returns-in-Code-clause-temporaries
+operand_counts-returns-in-Code-clause-temporaries t c = λ rest h.
+    let a = c.counts_in.ensures.temporaries in
+    let l = c.later.ensures.temporaries in
+    let m = c.both.ensures.temporaries in
+    let whole = ap (λ (o : Operand). rooms (before o rest)) c.in-Code.is in
+    omega (arith, h, a, l, m, whole)
+
+pub operand_counts-returns-in-Code-clause-arrays : goal.operand_counts-returns-in-Code-clause-arrays
+operand_counts-returns-in-Code-clause-arrays t c = λ rest h.
+    let a = c.counts_in.ensures.arrays in
+    let l = c.later.ensures.arrays in
+    let m = c.both.ensures.arrays in
+    let whole = ap (λ (o : Operand). arrays_among (before o rest)) c.in-Code.is in
+    omega (arith, h, a, l, m, whole)
+
+pub operand_counts-returns-in-Code-clause-labels : goal.operand_counts-returns-in-Code-clause-labels
+operand_counts-returns-in-Code-clause-labels t c = λ rest h.
+    let a = c.counts_in.ensures.labels in
+    let l = c.later.ensures.labels in
+    let m = c.both.ensures.labels in
+    let whole = ap (λ (o : Operand). labels_among (before o rest)) c.in-Code.is in
+    omega (arith, h, a, l, m, whole)
+
+pub counts_among-loop-left-preserved : goal.counts_among-loop-left-preserved
+counts_among-loop-left-preserved t c =
+    let more = one_before c.args.operands.now c.loop-left.left (c.loop-left.left - 1) c.index-operands-left.result (omega arith) c.loop-left.invariant.inside c.index-operands-left.is in
+    record {
+      temporaries = c.operand_counts-needed.ensures.temporaries (views (drop c.loop-left.left c.args.operands.now)) c.loop-left.invariant.temporaries ∙ ap (λ (es : plain.Codes). counted (rooms es)) more;
+      arrays = c.operand_counts-needed.ensures.arrays (views (drop c.loop-left.left c.args.operands.now)) c.loop-left.invariant.arrays ∙ ap (λ (es : plain.Codes). counted (arrays_among es)) more;
+      iterators = c.operand_counts-needed.ensures.iterators ∙ c.loop-left.invariant.iterators;
+      labels = c.operand_counts-needed.ensures.labels (views (drop c.loop-left.left c.args.operands.now)) c.loop-left.invariant.labels ∙ ap (λ (es : plain.Codes). counted (labels_among es)) more;
+      inside = omega arith;
+    }
