@@ -40,11 +40,6 @@ no_count (operand.Constant n ∷ operand.Constant m ∷ xs) h = refl
 no_count (operand.Constant n ∷ operand.Fresh ∷ xs) h = refl
 no_count (operand.Fresh ∷ y ∷ xs) h = refl
 
-pub count_of : (xs : List Operand) (a : Operand) → length xs ≡ 1 → a ≡ get_or xs 0 a → is_count (before a plain.End) ≡ is_count (views xs)
-count_of [] a n h = absurd cc
-count_of (x ∷ []) a n h = ap (λ (y : Operand). is_count (before y plain.End)) h
-count_of (x ∷ y ∷ xs) a n h = absurd cc
-
 pub not_one : (xs : List Operand) → length xs ≢ 1 → None ≡ one_code (views xs)
 not_one [] h = refl
 not_one (x ∷ []) h = absurd (h refl)
@@ -304,11 +299,6 @@ set_elem_here p m i es h = sym (ap (λ (so : Bool). cond so (taker_at m i es) No
 
 pub no_set_elem : (p : Primitive) (m : Bool) (i : ℕ) (es : plain.Codes) → is_set_elem p ≡ false → None ≡ element_set m i (plain.Do (Host p) es)
 no_set_elem p m i es h = sym (ap (λ (so : Bool). cond so (taker_at m i es) None) h) ∙ set_elem_is p m i es
-
--- names
-
-same_test : (a b : ℕ) → nat_eq a b ≡ nat_eq b a
-same_test a b = grind (arith, nat_tests)
 
 -- how many fields there are
 
