@@ -1,12 +1,13 @@
--- What the key of subscripts needs, from what each of them needs.
+-- What the key of subscripts needs, from what each of them needs, and operands one more.
 use Rattle.std.proofs.Common.{◌≡◌, ℕ, suc, ◌≤◌, List, ◌∷◌, max, map, drop, get_or, length, sym, ap, ◌∙◌, arith}
 use Rattle.std.proofs.Math.Seq.{drop-cons}
 use Rattle.mid_program.specs.declared.mid.Arithmetic.{Arithmetic}
 use Rattle.mid_program.specs.declared.mid.Arithmetic.TheVariants.{Times}
 use Rattle.mid_program.specs.declared.mid.Operation.TheVariants.{Host, Inline, AsNumber, FieldNumber}
 use Rattle.mid_program.specs.Mid.{Code, Do, Over, Compare, Call, Ask, AskLine, FileLine, Replace, Number, Text, Unset, Get, Set, Array, IsOpen, Choose, Seq, Let, Bound}
-use Rattle.mid_program.specs.ViewCode.{joined, view}
+use Rattle.mid_program.specs.ViewCode.{before, joined, view, views}
 use Rattle.mid_program.specs.declared.code.Code.{Code as Owned}
+use Rattle.mid_program.specs.declared.code.Operand.{Operand}
 use Rattle.lower_model.specs.Places.{arrays_in, calculated_room, room}
 use Rattle.lower_needs.specs.Counted.{counted}
 use Rattle.lower_needs.specs.Labels.{labels_in}
@@ -56,3 +57,10 @@ one_more xs i j x last next few is =
     ap (λ (n : ℕ). joined (view x ∷ map view (drop n xs)) last) next
     ∙ ap (λ (e : Owned). joined (view e ∷ map view (drop (suc j) xs)) last) is
     ∙ sym (ap (λ (es : List Owned). joined (map view es) last) (drop-cons xs j x (omega arith)))
+
+-- the operands from j on, i being the place after j
+pub one_before : (xs : List Operand) (i j : ℕ) (x : Operand) → i ≡ suc j → i ≤ length xs → x ≡ get_or xs j x → before x (views (drop i xs)) ≡ views (drop j xs)
+one_before xs i j x next few is =
+    ap (λ (n : ℕ). before x (views (drop n xs))) next
+    ∙ ap (λ (o : Operand). before o (views (drop (suc j) xs))) is
+    ∙ sym (ap views (drop-cons xs j x (omega arith)))

@@ -13,14 +13,14 @@ use Rattle.mid_program.specs.declared.mid.Arithmetic.TheVariants as inline
 use Rattle.sem_primitives.specs.declared.table.Primitive.{Primitive}
 use Rattle.sem_primitives.specs.declared.table.Primitive.TheVariants as row
 use Rattle.mid_program.specs.declared.mid.Operation.{Operation}
-use Rattle.mid_program.specs.declared.mid.Operation.TheVariants.{Host, Inline}
+use Rattle.mid_program.specs.declared.mid.Operation.TheVariants.{AsNumber, Host, Inline}
 use Rattle.mid_program.specs.declared.code.Operand.{Operand}
 use Rattle.mid_program.specs.declared.code.Operand.TheVariants as operand
 use Rattle.mid_program.specs.declared.code.Code.{Code, Do}
 use Rattle.mid_program.specs.declared.step.Step.{Step, Block}
-use Rattle.lower_model.specs.Quick.{array_here, array_where, element_at, element_read, element_set, field_count, is_bound, is_count, is_nothing, kept_sum, kept_update, multiple_in, name_in, source_in, addition_of, constant_in, is_near, is_sum, new_sum, sum_of, taker_at, two_product, two_remainder, update_of, Addition, Constant, Holder, Source, Sum, multiple_of}
+use Rattle.lower_model.specs.Quick.{array_here, array_where, element_at, element_read, element_set, factor_in, field_count, first_sum, is_bound, is_count, is_nothing, kept_sum, kept_update, multiple_in, name_in, number_read, old_source, addition_of, constant_in, is_near, is_sum, new_sum, product_of, remainder_of, set_remainder, set_sum, set_update, sum_of, taker_at, tally_sum, two_product, two_remainder, update_sum, Addition, Constant, Holder, Source, Sum, multiple_of}
 use Rattle.lower_model.proofs.Tallies.{bound_is}
-use Rattle.lower_quick.specs.Operands.{calculated_in, divided_by, is_elem, is_modulo, is_set_elem, is_times, one_code, product_in, reads_special, three_codes, two_codes, two_factors}
+use Rattle.lower_quick.specs.Operands.{binary_in, is_elem, is_modulo, is_set_elem, is_times, number_of, one_code, product_in, reads_special, three_codes, two_codes}
 use Rattle.lower_quick.proofs.Views.{view_block, view_do}
 
 pub do_view : (c : Code) (o : Operation) (v : Vec Operand Global) (es : List Operand) → c ≡ Do o v → es ≡ v.items → plain.Do o (views es) ≡ view c
@@ -39,11 +39,6 @@ no_count (operand.Constant n ∷ operand.Code e ∷ xs) h = refl
 no_count (operand.Constant n ∷ operand.Constant m ∷ xs) h = refl
 no_count (operand.Constant n ∷ operand.Fresh ∷ xs) h = refl
 no_count (operand.Fresh ∷ y ∷ xs) h = refl
-
-pub count_of : (xs : List Operand) (a : Operand) → length xs ≡ 1 → a ≡ get_or xs 0 a → is_count (before a plain.End) ≡ is_count (views xs)
-count_of [] a n h = absurd cc
-count_of (x ∷ []) a n h = ap (λ (y : Operand). is_count (before y plain.End)) h
-count_of (x ∷ y ∷ xs) a n h = absurd cc
 
 pub not_one : (xs : List Operand) → length xs ≢ 1 → None ≡ one_code (views xs)
 not_one [] h = refl
@@ -107,37 +102,81 @@ three_of (x ∷ y ∷ []) a b c n h k l = absurd cc
 three_of (x ∷ y ∷ z ∷ []) a b c n h k l = λ i. three_codes (before (h i) (before (k i) (before (l i) plain.End)))
 three_of (x ∷ y ∷ z ∷ w ∷ xs) a b c n h k l = absurd cc
 
--- two operands that are code are all of them
-two_are : (es : plain.Codes) (x y : plain.Code) → Some (x, y) ≡ two_codes es → es ≡ plain.At x (plain.At y plain.End)
-two_are (plain.At a (plain.At b plain.End)) x y h = λ i. plain.At (first (sym h i)) (plain.At (second (sym h i)) plain.End)
+-- arithmetic with two operands
+
+pub binary_of : (o : Arithmetic) (es : plain.Codes) → option_map (λ both. (o, both.0, both.1)) (two_codes es) ≡ binary_in (plain.Do (Inline o) es)
+binary_of o (plain.At x (plain.At y plain.End)) = refl
+binary_of o es = refl
+
+pub binary_are : (e : plain.Code) (o : Arithmetic) (x y : plain.Code) → Some (o, x, y) ≡ binary_in e → plain.Do (Inline o) (plain.At x (plain.At y plain.End)) ≡ e
+binary_are (plain.Do (Inline p) (plain.At a (plain.At b plain.End))) o x y h =
+    λ i. plain.Do (Inline (part p (λ q. q.0) (h i))) (plain.At (part a (λ q. q.1) (h i)) (plain.At (part b (λ q. q.2) (h i)) plain.End))
   where
-    first : Option (plain.Code × plain.Code) → plain.Code
-    first (Some p) = p.0
-    first None = a
+    part : {A : Type 0} → A → (Arithmetic × plain.Code × plain.Code → A) → Option (Arithmetic × plain.Code × plain.Code) → A
+    part d f (Some q) = f q
+    part d f None = d
+binary_are _ o x y h = absurd cc
 
-    second : Option (plain.Code × plain.Code) → plain.Code
-    second (Some p) = p.1
-    second None = b
-two_are _ x y h = absurd cc
+-- the same, where the second was kept last
+pub moved_are : (e : plain.Code) (o : Arithmetic) (x y : plain.Code) → Some (o, x, y) ≡ binary_in e → is_bound true zero y ≡ true →
+    plain.Do (Inline o) (plain.At x (plain.At (plain.Bound true zero) plain.End)) ≡ e
+moved_are e o x y h k = ap (λ (z : plain.Code). plain.Do (Inline o) (plain.At x (plain.At z plain.End))) (sym (bound_is true zero y k)) ∙ binary_are e o x y h
 
--- a sum of two operands
+pub number_are : (e x : plain.Code) → Some x ≡ number_of e → plain.Do AsNumber (plain.At x plain.End) ≡ e
+number_are (plain.Do AsNumber (plain.At a plain.End)) x h = cc
+number_are _ x h = absurd cc
 
-calculated_are : (e : plain.Code) (o : Arithmetic) (es : plain.Codes) → Some (o, es) ≡ calculated_in e → plain.Do (Inline o) es ≡ e
-calculated_are (plain.Do (Inline p) fs) o es h = λ i. plain.Do (Inline (operator (h i))) (operands (h i))
-  where
-    operator : Option (Arithmetic × plain.Codes) → Arithmetic
-    operator (Some q) = q.0
-    operator None = p
+-- what is no number of an operand
 
-    operands : Option (Arithmetic × plain.Codes) → plain.Codes
-    operands (Some q) = q.1
-    operands None = fs
-calculated_are _ o es h = absurd cc
+pub no_old : (e : plain.Code) → None ≡ number_of e → None ≡ old_source e
+no_old (plain.Do AsNumber (plain.At x plain.End)) h = absurd cc
+no_old e h = refl
 
--- two operands of arithmetic
-two_done : (s : Option Source) (i : Option Holder) (o : Arithmetic) (es : plain.Codes) (e x y : plain.Code) → Some (o, es) ≡ calculated_in e → Some (x, y) ≡ two_codes es →
-    new_sum s i (plain.Do (Inline o) (plain.At x (plain.At y plain.End))) ≡ new_sum s i e
-two_done s i o es e x y h g = ap (λ (fs : plain.Codes). new_sum s i (plain.Do (Inline o) fs)) (sym (two_are es x y g)) ∙ ap (new_sum s i) (calculated_are e o es h)
+pub no_number : (e : plain.Code) → None ≡ number_of e → None ≡ number_read e
+no_number (plain.Do AsNumber (plain.At x plain.End)) h = absurd cc
+no_number e h = refl
+
+-- what is no arithmetic with two operands
+
+pub no_set : (i : Holder) (e : plain.Code) → None ≡ binary_in e → None ≡ set_sum i e
+no_set i (plain.Do (Inline o) (plain.At x (plain.At y plain.End))) h = absurd cc
+no_set i e h = refl
+
+pub no_kept : (i : Holder) (a e : plain.Code) → None ≡ binary_in e → None ≡ update_sum i a e
+no_kept i a (plain.Do (Inline o) (plain.At x (plain.At (plain.Bound true zero) plain.End))) h = absurd cc
+no_kept i a e h = refl
+
+pub no_update : (i : Holder) (a e : plain.Code) → None ≡ binary_in e → None ≡ set_update i a e
+no_update i a (plain.Do (Inline o) (plain.At x (plain.At (plain.Bound true zero) plain.End))) h = absurd cc
+no_update i a e h = refl
+
+pub no_tally : (k a e last : plain.Code) → None ≡ binary_in e → None ≡ tally_sum k a e last
+no_tally k a (plain.Do (Inline o) (plain.At x (plain.At y plain.End))) last h = absurd cc
+no_tally k a e last h = refl
+
+pub no_first : (k e last : plain.Code) → None ≡ binary_in e → None ≡ first_sum k e last
+no_first k (plain.Do (Inline o) (plain.At x (plain.At y plain.End))) last h = absurd cc
+no_first k e last h = refl
+
+pub no_new : (s : Option Source) (i : Option Holder) (e : plain.Code) → None ≡ binary_in e → None ≡ new_sum s i e
+no_new s (Some i) (plain.Do (Inline o) (plain.At (plain.Bound false zero) (plain.At (plain.Number n) plain.End))) h = absurd cc
+no_new s i e h = refl
+
+-- of what was not kept last
+
+unmoved_sum : (i : Holder) (a : plain.Code) (o : Arithmetic) (x y : plain.Code) → is_bound true zero y ≡ false → None ≡ kept_sum i o a (plain.At x (plain.At y plain.End))
+unmoved_sum i a o x (plain.Bound true zero) h = absurd (true≢false h)
+unmoved_sum i a o x y h = refl
+
+pub unmoved_sum_is : (i : Holder) (a e : plain.Code) (o : Arithmetic) (x y : plain.Code) → Some (o, x, y) ≡ binary_in e → is_bound true zero y ≡ false → None ≡ update_sum i a e
+unmoved_sum_is i a e o x y h k = unmoved_sum i a o x y k ∙ ap (update_sum i a) (binary_are e o x y h)
+
+unmoved_update : (i : Holder) (a : plain.Code) (o : Arithmetic) (x y : plain.Code) → is_bound true zero y ≡ false → None ≡ kept_update i o a (plain.At x (plain.At y plain.End))
+unmoved_update i a o x (plain.Bound true zero) h = absurd (true≢false h)
+unmoved_update i a o x y h = refl
+
+pub unmoved_update_is : (i : Holder) (a e : plain.Code) (o : Arithmetic) (x y : plain.Code) → Some (o, x, y) ≡ binary_in e → is_bound true zero y ≡ false → None ≡ set_update i a e
+unmoved_update_is i a e o x y h k = unmoved_update i a o x y k ∙ ap (set_update i a) (binary_are e o x y h)
 
 -- of what was not kept just before
 
@@ -145,39 +184,27 @@ unkept : (s : Option Source) (i : Option Holder) (o : Arithmetic) (x y : plain.C
 unkept s (Some i) o (plain.Bound false zero) (plain.Number z) h = absurd (true≢false h)
 unkept s i o x y h = refl
 
-pub unkept_is : (s : Option Source) (i : Option Holder) (o : Arithmetic) (es : plain.Codes) (e x y : plain.Code) → Some (o, es) ≡ calculated_in e → Some (x, y) ≡ two_codes es → is_bound false zero x ≡ false → None ≡ new_sum s i e
-unkept_is s i o es e x y h g k = unkept s i o x y k ∙ two_done s i o es e x y h g
+pub unkept_is : (s : Option Source) (i : Option Holder) (e : plain.Code) (o : Arithmetic) (x y : plain.Code) → Some (o, x, y) ≡ binary_in e → is_bound false zero x ≡ false → None ≡ new_sum s i e
+unkept_is s i e o x y h k = unkept s i o x y k ∙ ap (new_sum s i) (binary_are e o x y h)
 
--- of what is no arithmetic, of other than two operands, and of what is no constant
-
-pub uncalculated_is : (s : Option Source) (i : Option Holder) (e : plain.Code) → None ≡ calculated_in e → None ≡ new_sum s i e
-uncalculated_is s (Some i) (plain.Do (Inline o) es) h = absurd cc
-uncalculated_is s i e h = refl
-
-untwo : (s : Option Source) (i : Option Holder) (o : Arithmetic) (es : plain.Codes) → None ≡ two_codes es → None ≡ new_sum s i (plain.Do (Inline o) es)
-untwo s (Some i) o (plain.At (plain.Bound false zero) (plain.At (plain.Number n) plain.End)) h = absurd cc
-untwo s i o es h = refl
-
-pub untwo_is : (s : Option Source) (i : Option Holder) (o : Arithmetic) (es : plain.Codes) (e : plain.Code) → Some (o, es) ≡ calculated_in e → None ≡ two_codes es → None ≡ new_sum s i e
-untwo_is s i o es e h g = untwo s i o es g ∙ ap (new_sum s i) (calculated_are e o es h)
+-- of what is no constant
 
 unfixed : (s : Option Source) (i : Option Holder) (o : Arithmetic) (x y : plain.Code) → None ≡ constant_in y → None ≡ new_sum s i (plain.Do (Inline o) (plain.At x (plain.At y plain.End)))
 unfixed s (Some i) o (plain.Bound false zero) (plain.Number n) h = absurd cc
 unfixed s i o x y h = refl
 
-pub unfixed_is : (s : Option Source) (i : Option Holder) (o : Arithmetic) (es : plain.Codes) (e x y : plain.Code) → Some (o, es) ≡ calculated_in e → Some (x, y) ≡ two_codes es → None ≡ constant_in y →
-    None ≡ new_sum s i e
-unfixed_is s i o es e x y h g k = unfixed s i o x y k ∙ two_done s i o es e x y h g
+pub unfixed_is : (s : Option Source) (i : Option Holder) (e : plain.Code) (o : Arithmetic) (x y : plain.Code) → Some (o, x, y) ≡ binary_in e → None ≡ constant_in y → None ≡ new_sum s i e
+unfixed_is s i e o x y h k = unfixed s i o x y k ∙ ap (new_sum s i) (binary_are e o x y h)
 
 fixed : (s : Option Source) (i : Holder) (o : Arithmetic) (y : plain.Code) (n : ℤ) → Some n ≡ constant_in y →
     sum_of i o s (Some (Constant n)) ≡ new_sum s (Some i) (plain.Do (Inline o) (plain.At (plain.Bound false zero) (plain.At y plain.End)))
 fixed s i o (plain.Number m) n h = ap (λ (z : Option ℤ). sum_of i o s (option_map Constant z)) h
 fixed s i o y n h = absurd cc
 
-pub summed_is : (s : Option Source) (i : Holder) (o : Arithmetic) (es : plain.Codes) (e x y : plain.Code) (n : ℤ) → Some (o, es) ≡ calculated_in e → Some (x, y) ≡ two_codes es →
+pub summed_is : (s : Option Source) (i : Holder) (e : plain.Code) (o : Arithmetic) (x y : plain.Code) (n : ℤ) → Some (o, x, y) ≡ binary_in e →
     is_bound false zero x ≡ true → Some n ≡ constant_in y → sum_of i o s (Some (Constant n)) ≡ new_sum s (Some i) e
-summed_is s i o es e x y n h g b k =
-    fixed s i o y n k ∙ ap (λ (z : plain.Code). new_sum s (Some i) (plain.Do (Inline o) (plain.At z (plain.At y plain.End)))) (sym (bound_is false zero x b)) ∙ two_done s (Some i) o es e x y h g
+summed_is s i e o x y n h b k =
+    fixed s i o y n k ∙ ap (λ (z : plain.Code). new_sum s (Some i) (plain.Do (Inline o) (plain.At z (plain.At y plain.End)))) (sym (bound_is false zero x b)) ∙ ap (new_sum s (Some i)) (binary_are e o x y h)
 
 -- a sum is an addition that goes to a name
 
@@ -205,31 +232,43 @@ three_are _ x y z h = absurd cc
 pub taker_is : (m : Bool) (i : ℕ) (es : plain.Codes) (x k v : plain.Code) → Some (x, k, v) ≡ three_codes es → is_bound true i k ≡ true → is_bound m zero v ≡ true → array_here x ≡ taker_at m i es
 taker_is m i es x k v h e f = sym (ap (taker_at m i) (three_are es x k v h) ∙ (λ j. array_where (e j && f j) (array_here x)))
 
-pub kept_is : (i : Holder) (o : Arithmetic) (a : plain.Code) (es : plain.Codes) (x y : plain.Code) → Some (x, y) ≡ two_codes es → is_bound true zero y ≡ true → sum_of i o (source_in x) (source_in a) ≡ kept_sum i o a es
-kept_is i o a es x y h k = sym (ap (kept_sum i o a) (two_are es x y h ∙ ap (λ (e : plain.Code). plain.At x (plain.At e plain.End)) (bound_is true zero y k)))
-
-pub added_is : (i : Holder) (o : Arithmetic) (a : plain.Code) (es : plain.Codes) (x y : plain.Code) → Some (x, y) ≡ two_codes es → is_bound true zero y ≡ true → update_of i o (name_in x) a ≡ kept_update i o a es
-added_is i o a es x y h k = sym (ap (kept_update i o a) (two_are es x y h ∙ ap (λ (e : plain.Code). plain.At x (plain.At e plain.End)) (bound_is true zero y k)))
-
 -- products and remainders
 
-pub product_here : (o : Arithmetic) (es : plain.Codes) → is_times o ≡ true → two_factors es ≡ two_product o es
-product_here inline.Times (plain.At a (plain.At e plain.End)) h = refl
-product_here inline.Times es h = refl
-product_here o es h = cc
+pub no_product : (e : plain.Code) → None ≡ binary_in e → None ≡ product_in e
+no_product (plain.Do (Inline inline.Times) (plain.At x (plain.At y plain.End))) h = absurd cc
+no_product e h = refl
 
-pub no_product : (o : Arithmetic) (es : plain.Codes) → is_times o ≡ false → None ≡ two_product o es
-no_product inline.Times es h = cc
-no_product o es h = refl
+product_here : (o : Arithmetic) (x y : plain.Code) → is_times o ≡ true → product_of (name_in x) (factor_in y) ≡ two_product o (plain.At x (plain.At y plain.End))
+product_here inline.Times x y h = refl
+product_here o x y h = cc
 
-pub remainder_here : (i : Holder) (o : Arithmetic) (es : plain.Codes) → is_modulo o ≡ true → divided_by i es ≡ two_remainder i o es
-remainder_here i inline.Modulo (plain.At a (plain.At e plain.End)) h = refl
-remainder_here i inline.Modulo es h = refl
-remainder_here i o es h = cc
+pub product_is : (e : plain.Code) (o : Arithmetic) (x y : plain.Code) → Some (o, x, y) ≡ binary_in e → is_times o ≡ true → product_of (name_in x) (factor_in y) ≡ product_in e
+product_is e o x y h k = product_here o x y k ∙ ap product_in (binary_are e o x y h)
 
-pub no_remainder : (i : Holder) (o : Arithmetic) (es : plain.Codes) → is_modulo o ≡ false → None ≡ two_remainder i o es
-no_remainder i inline.Modulo es h = cc
-no_remainder i o es h = refl
+not_product : (o : Arithmetic) (es : plain.Codes) → is_times o ≡ false → None ≡ two_product o es
+not_product inline.Times es h = cc
+not_product o es h = refl
+
+pub not_product_is : (e : plain.Code) (o : Arithmetic) (x y : plain.Code) → Some (o, x, y) ≡ binary_in e → is_times o ≡ false → None ≡ product_in e
+not_product_is e o x y h k = not_product o (plain.At x (plain.At y plain.End)) k ∙ ap product_in (binary_are e o x y h)
+
+pub no_remainder : (i : Holder) (e : plain.Code) → None ≡ binary_in e → None ≡ set_remainder i e
+no_remainder i (plain.Do (Inline inline.Modulo) (plain.At x (plain.At y plain.End))) h = absurd cc
+no_remainder i e h = refl
+
+remainder_here : (i : Holder) (o : Arithmetic) (x y : plain.Code) → is_modulo o ≡ true → remainder_of i (multiple_in x) (factor_in y) ≡ two_remainder i o (plain.At x (plain.At y plain.End))
+remainder_here i inline.Modulo x y h = refl
+remainder_here i o x y h = cc
+
+pub remainder_is : (i : Holder) (e : plain.Code) (o : Arithmetic) (x y : plain.Code) → Some (o, x, y) ≡ binary_in e → is_modulo o ≡ true → remainder_of i (multiple_in x) (factor_in y) ≡ set_remainder i e
+remainder_is i e o x y h k = remainder_here i o x y k ∙ ap (set_remainder i) (binary_are e o x y h)
+
+not_remainder : (i : Holder) (o : Arithmetic) (es : plain.Codes) → is_modulo o ≡ false → None ≡ two_remainder i o es
+not_remainder i inline.Modulo es h = cc
+not_remainder i o es h = refl
+
+pub not_remainder_is : (i : Holder) (e : plain.Code) (o : Arithmetic) (x y : plain.Code) → Some (o, x, y) ≡ binary_in e → is_modulo o ≡ false → None ≡ set_remainder i e
+not_remainder_is i e o x y h k = not_remainder i o (plain.At x (plain.At y plain.End)) k ∙ ap (set_remainder i) (binary_are e o x y h)
 
 pub name_multiple : (e : plain.Code) (i : Holder) → Some i ≡ name_in e → Some (record { name = i; factor = None }) ≡ multiple_in e
 name_multiple (plain.Get x) i h = ap multiple_of h
@@ -241,24 +280,37 @@ product_multiple e h = refl
 
 -- elements of arrays
 
-pub elem_is : (p : Primitive) (i : ℕ) (es : plain.Codes) → cond (is_elem p) (element_at i es) None ≡ element_read i (plain.Do (Host p) es)
+elem_is : (p : Primitive) (i : ℕ) (es : plain.Codes) → cond (is_elem p) (element_at i es) None ≡ element_read i (plain.Do (Host p) es)
 elem_is row.Elem i es = refl
 elem_is _ i es = refl
 
-pub set_elem_is : (p : Primitive) (m : Bool) (i : ℕ) (es : plain.Codes) → cond (is_set_elem p) (taker_at m i es) None ≡ element_set m i (plain.Do (Host p) es)
+pub elem_here : (p : Primitive) (i : ℕ) (es : plain.Codes) → is_elem p ≡ true → element_at i es ≡ element_read i (plain.Do (Host p) es)
+elem_here p i es h = sym (ap (λ (so : Bool). cond so (element_at i es) None) h) ∙ elem_is p i es
+
+pub no_elem : (p : Primitive) (i : ℕ) (es : plain.Codes) → is_elem p ≡ false → None ≡ element_read i (plain.Do (Host p) es)
+no_elem p i es h = sym (ap (λ (so : Bool). cond so (element_at i es) None) h) ∙ elem_is p i es
+
+set_elem_is : (p : Primitive) (m : Bool) (i : ℕ) (es : plain.Codes) → cond (is_set_elem p) (taker_at m i es) None ≡ element_set m i (plain.Do (Host p) es)
 set_elem_is row.SetElem m i es = refl
 set_elem_is _ m i es = refl
 
--- names
+pub set_elem_here : (p : Primitive) (m : Bool) (i : ℕ) (es : plain.Codes) → is_set_elem p ≡ true → taker_at m i es ≡ element_set m i (plain.Do (Host p) es)
+set_elem_here p m i es h = sym (ap (λ (so : Bool). cond so (taker_at m i es) None) h) ∙ set_elem_is p m i es
 
-same_test : (a b : ℕ) → nat_eq a b ≡ nat_eq b a
-same_test a b = grind (arith, nat_tests)
+pub no_set_elem : (p : Primitive) (m : Bool) (i : ℕ) (es : plain.Codes) → is_set_elem p ≡ false → None ≡ element_set m i (plain.Do (Host p) es)
+no_set_elem p m i es h = sym (ap (λ (so : Bool). cond so (taker_at m i es) None) h) ∙ set_elem_is p m i es
 
 -- how many fields there are
 
-pub count_is : (p : Primitive) (es : plain.Codes) → cond (reads_special p) (is_count es) false ≡ field_count (plain.Do (Host p) es)
+count_is : (p : Primitive) (es : plain.Codes) → cond (reads_special p) (is_count es) false ≡ field_count (plain.Do (Host p) es)
 count_is row.GetSpecial es = refl
 count_is _ es = refl
+
+pub count_here : (p : Primitive) (es : plain.Codes) → reads_special p ≡ true → is_count es ≡ field_count (plain.Do (Host p) es)
+count_here p es h = sym (ap (λ (so : Bool). cond so (is_count es) false) h) ∙ count_is p es
+
+pub not_count : (p : Primitive) (es : plain.Codes) → reads_special p ≡ false → false ≡ field_count (plain.Do (Host p) es)
+not_count p es h = sym (ap (λ (so : Bool). cond so (is_count es) false) h) ∙ count_is p es
 
 -- steps
 

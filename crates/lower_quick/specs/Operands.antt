@@ -7,7 +7,7 @@ use Rattle.mid_program.specs.declared.mid.Arithmetic.{Arithmetic}
 use Rattle.mid_program.specs.declared.mid.Arithmetic.TheVariants as inline
 use Rattle.mid_program.specs.declared.mid.Operation.TheVariants.{Inline, AsNumber}
 use Rattle.mid_program.specs.Mid.{Code, Do, Set, Let, Bound, Codes, End, At}
-use Rattle.lower_model.specs.Quick.{Multiple, Remainder, factor_in, multiple_in, name_in, product_of, remainder_of, two_product, Holder, holder_of}
+use Rattle.lower_model.specs.Quick.{Multiple, two_product, Holder, holder_of}
 
 abbrev pub one_code : Codes → Option Code
 one_code (At code End) = Some code
@@ -25,12 +25,13 @@ abbrev pub let_in : Code → Option (Code × Code)
 let_in (Let kept rest) = Some (kept, rest)
 let_in code = None
 
-abbrev pub calculated_in : Code → Option (Arithmetic × Codes)
-calculated_in (Do (Inline operator) operands) = Some (operator, operands)
-calculated_in code = None
+-- arithmetic with two operands
+abbrev pub binary_in : Code → Option (Arithmetic × Code × Code)
+binary_in (Do (Inline operator) (At left (At right End))) = Some (operator, left, right)
+binary_in code = None
 
-abbrev pub number_of : Code → Option Codes
-number_of (Do AsNumber operands) = Some operands
+abbrev pub number_of : Code → Option Code
+number_of (Do AsNumber operands) = one_code operands
 number_of code = None
 
 -- the unboxed name that takes what was kept last
@@ -63,14 +64,6 @@ is_modulo op = false
 abbrev pub unless_zero : ℤ → Option ℤ
 unless_zero number = if is_zero number then None else Some number
 
-abbrev pub two_factors : Codes → Option Multiple
-two_factors (At left (At right End)) = product_of (name_in left) (factor_in right)
-two_factors operands = None
-
 abbrev pub product_in : Code → Option Multiple
 product_in (Do (Inline operator) operands) = two_product operator operands
 product_in code = None
-
-abbrev pub divided_by : Holder → Codes → Option Remainder
-divided_by target (At left (At right End)) = remainder_of target (multiple_in left) (factor_in right)
-divided_by target operands = None

@@ -32,11 +32,11 @@ pub(crate) fn addition_of(
     ensures { option_map view_addition result
         ≡ addition_of op (option_map view_source left) (option_map view_source right) }
 {
-    let (left, right) = (left?, right?);
-    if is_sum(op) && is_near(left) && is_near(right) {
-        Some(Addition { op, left, right })
-    } else {
-        None
+    match (left, right) {
+        (Some(left), Some(right)) if is_sum(op) && is_near(left) && is_near(right) => {
+            Some(Addition { op, left, right })
+        }
+        _ => None,
     }
 }
 

@@ -1,6 +1,6 @@
 //! Comparisons of an unboxed name with how many fields there are.
 ghost use Rattle.std.specs.Option.{option_map};
-ghost use Rattle.std.specs.Prelude.{◌≡◌, cond, false};
+ghost use Rattle.std.specs.Prelude.{◌≡◌};
 ghost use Rattle.mid_program.specs.ViewCode.{view, views};
 ghost use Rattle.lower_quick.specs.Operands.{reads_special};
 ghost use Rattle.lower_quick.specs.View.{view_counted};
@@ -38,17 +38,6 @@ fn reads_special(primitive: Primitive) -> bool
     matches!(primitive, Primitive::GetSpecial)
 }
 
-/// Whether what a primitive answers is how many fields there are.
-fn count_read(primitive: Primitive, operands: &[Operand]) -> bool
-    ensures { result ≡ cond (reads_special primitive) (is_count (views operands.now)) false }
-{
-    if reads_special(primitive) {
-        is_count(operands)
-    } else {
-        false
-    }
-}
-
 /// Whether code is how many fields there are.
 fn field_count(code: &Code) -> bool
     ensures { result ≡ field_count (view code.now) }
@@ -57,7 +46,13 @@ fn field_count(code: &Code) -> bool
         return false;
     };
     match operation {
-        Operation::Host(primitive) => count_read(*primitive, operands),
+        Operation::Host(primitive) => {
+            if reads_special(*primitive) {
+                is_count(operands)
+            } else {
+                false
+            }
+        }
         Operation::Inline(_) | Operation::AsNumber | Operation::FieldNumber => false,
     }
 }

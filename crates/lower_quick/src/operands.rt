@@ -3,7 +3,7 @@ ghost use Rattle.std.specs.Option.{option_map};
 ghost use Rattle.std.specs.Prelude.{◌≡◌};
 ghost use Rattle.mid_program.specs.Mid.{End};
 ghost use Rattle.mid_program.specs.ViewCode.{before, view, views};
-ghost use Rattle.lower_quick.specs.Operands.{calculated_in, let_in, number_of, one_code, three_codes, two_codes};
+ghost use Rattle.lower_quick.specs.Operands.{binary_in, let_in, number_of, one_code, three_codes, two_codes};
 ghost use Rattle.lower_model.specs.Quick.{is_bound};
 
 use mid_program::{Arithmetic, Code, Operand, Operation};
@@ -47,7 +47,7 @@ fn codes_of<'a>(
 }
 
 /// The operand, where there is one and it is code.
-pub(crate) fn one_code(operands: &[Operand]) -> Option<&Code>
+fn one_code(operands: &[Operand]) -> Option<&Code>
     ensures { option_map (λ code. view code.now) result ≡ one_code (views operands.now) }
 {
     if operands.len() != 1 {
@@ -89,29 +89,32 @@ pub(crate) fn let_in(code: &Code) -> Option<(&Code, &Code)>
     }
 }
 
-/// The operator and the operands of arithmetic that the module carries out.
-pub(crate) fn calculated_in(code: &Code) -> Option<(Arithmetic, &[Operand])>
-    ensures { option_map
-        (λ parts. (parts.0, views parts.1.now)) result ≡ calculated_in (view code.now) }
+/// The operator and the operands of arithmetic with two that the module carries out.
+pub(crate) fn binary_in(code: &Code) -> Option<(Arithmetic, &Code, &Code)>
+    ensures { option_map (λ parts. (parts.0, view parts.1.now, view parts.2.now)) result
+        ≡ binary_in (view code.now) }
 {
     let Code::Do(operation, operands) = code else {
         return None;
     };
     match operation {
-        Operation::Inline(op) => Some((*op, operands)),
+        Operation::Inline(op) => {
+            let (left, right) = two_codes(operands)?;
+            Some((*op, left, right))
+        }
         Operation::Host(_) | Operation::AsNumber | Operation::FieldNumber => None,
     }
 }
 
-/// The operands whose number code is.
-pub(crate) fn number_of(code: &Code) -> Option<&[Operand]>
-    ensures { option_map (λ operands. views operands.now) result ≡ number_of (view code.now) }
+/// The code whose number code is.
+pub(crate) fn number_of(code: &Code) -> Option<&Code>
+    ensures { option_map (λ operand. view operand.now) result ≡ number_of (view code.now) }
 {
     let Code::Do(operation, operands) = code else {
         return None;
     };
     match operation {
-        Operation::AsNumber => Some(operands),
+        Operation::AsNumber => one_code(operands),
         Operation::Host(_) | Operation::Inline(_) | Operation::FieldNumber => None,
     }
 }

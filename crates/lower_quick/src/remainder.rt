@@ -1,14 +1,14 @@
 //! Remainders by constants that go to an unboxed name.
 ghost use Rattle.std.specs.Option.{option_map};
-ghost use Rattle.std.specs.Prelude.{◌≡◌, cond, None};
-ghost use Rattle.mid_program.specs.ViewCode.{view, views};
-ghost use Rattle.lower_quick.specs.Operands.{divided_by, is_modulo, is_times, product_in, two_factors, unless_zero};
+ghost use Rattle.std.specs.Prelude.{◌≡◌};
+ghost use Rattle.mid_program.specs.ViewCode.{view};
+ghost use Rattle.lower_quick.specs.Operands.{is_modulo, is_times, product_in, unless_zero};
 ghost use Rattle.lower_quick.specs.View.{view_holder, view_multiple, view_remainder};
-ghost use Rattle.lower_model.specs.Quick.{factor_in, multiple_in, product_of, remainder_in, remainder_of, set_remainder, two_product, two_remainder};
+ghost use Rattle.lower_model.specs.Quick.{factor_in, multiple_in, product_of, remainder_in, remainder_of, set_remainder};
 
-use crate::operands::{calculated_in, two_codes};
+use crate::operands::binary_in;
 use crate::source::{Holder, holder_of, name_in};
-use mid_program::{Arithmetic, Code, Operand};
+use mid_program::{Arithmetic, Code};
 
 /// A name, and what it is multiplied by, if it is.
 #[derive(Clone, Copy, Drop)]
@@ -62,29 +62,12 @@ fn factor_in(code: &Code) -> Option<i64>
 fn product_of(name: Option<Holder>, factor: Option<i64>) -> Option<Multiple>
     ensures { option_map view_multiple result ≡ product_of (option_map view_holder name) factor }
 {
-    let (name, factor) = (name?, factor?);
-    Some(Multiple {
-        name,
-        factor: Some(factor),
-    })
-}
-
-/// The product that the operands of `*` have.
-fn two_factors(operands: &[Operand]) -> Option<Multiple>
-    ensures { option_map view_multiple result ≡ two_factors (views operands.now) }
-{
-    let (left, right) = two_codes(operands)?;
-    product_of(name_in(left), factor_in(right))
-}
-
-/// The same, if the operator is `*`.
-fn two_product(op: Arithmetic, operands: &[Operand]) -> Option<Multiple>
-    ensures { option_map view_multiple result ≡ two_product op (views operands.now) }
-{
-    if is_times(op) {
-        two_factors(operands)
-    } else {
-        None
+    match (name, factor) {
+        (Some(name), Some(factor)) => Some(Multiple {
+            name,
+            factor: Some(factor),
+        }),
+        _ => None,
     }
 }
 
@@ -92,8 +75,12 @@ fn two_product(op: Arithmetic, operands: &[Operand]) -> Option<Multiple>
 fn product_in(code: &Code) -> Option<Multiple>
     ensures { option_map view_multiple result ≡ product_in (view code.now) }
 {
-    let (op, operands) = calculated_in(code)?;
-    two_product(op, operands)
+    let (op, left, right) = binary_in(code)?;
+    if is_times(op) {
+        product_of(name_in(left), factor_in(right))
+    } else {
+        None
+    }
 }
 
 /// The name that code reads, or its product with a constant.
@@ -115,39 +102,26 @@ fn remainder_of(
     ensures { option_map view_remainder result
         ≡ remainder_of (view_holder target) (option_map view_multiple multiple) divisor }
 {
-    let (multiple, divisor) = (multiple?, divisor?);
-    Some(Remainder {
-        target,
-        multiple,
-        divisor,
-    })
-}
-
-/// The remainder that the operands of `%` have.
-fn divided_by(target: Holder, operands: &[Operand]) -> Option<Remainder>
-    ensures { option_map view_remainder result ≡ divided_by (view_holder target) (views operands.now) }
-{
-    let (left, right) = two_codes(operands)?;
-    remainder_of(target, multiple_in(left), factor_in(right))
-}
-
-/// The same, if the operator is `%`.
-fn two_remainder(target: Holder, op: Arithmetic, operands: &[Operand]) -> Option<Remainder>
-    ensures { option_map view_remainder result ≡ two_remainder (view_holder target) op (views operands.now) }
-{
-    if is_modulo(op) {
-        divided_by(target, operands)
-    } else {
-        None
+    match (multiple, divisor) {
+        (Some(multiple), Some(divisor)) => Some(Remainder {
+            target,
+            multiple,
+            divisor,
+        }),
+        _ => None,
     }
 }
 
-/// The same, of what the name takes.
+/// The remainder that a name takes.
 fn set_remainder(target: Holder, value: &Code) -> Option<Remainder>
     ensures { option_map view_remainder result ≡ set_remainder (view_holder target) (view value.now) }
 {
-    let (op, operands) = calculated_in(value)?;
-    two_remainder(target, op, operands)
+    let (op, left, right) = binary_in(value)?;
+    if is_modulo(op) {
+        remainder_of(target, multiple_in(left), factor_in(right))
+    } else {
+        None
+    }
 }
 
 /// The remainder that code evaluates and stores, if that is all that it does.

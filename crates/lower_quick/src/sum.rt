@@ -1,15 +1,15 @@
 //! Sums and differences that go to an unboxed name.
 ghost use Rattle.std.specs.Option.{option_map};
 ghost use Rattle.std.specs.Prelude.{◌≡◌};
-ghost use Rattle.mid_program.specs.ViewCode.{view, views};
+ghost use Rattle.mid_program.specs.ViewCode.{view};
 ghost use Rattle.lower_quick.specs.Operands.{set_last};
 ghost use Rattle.lower_quick.specs.View.{view_holder, view_source, view_sum};
-ghost use Rattle.lower_model.specs.Quick.{kept_sum, let_sum, new_sum, old_source, set_sum, step_sum, stored_name, sum_in, sum_of, two_sum, update_sum};
+ghost use Rattle.lower_model.specs.Quick.{let_sum, new_sum, old_source, set_sum, step_sum, stored_name, sum_in, sum_of, update_sum};
 
 use crate::addition::addition_of;
-use crate::operands::{calculated_in, is_bound, number_of, one_code, two_codes};
+use crate::operands::{binary_in, is_bound, number_of};
 use crate::source::{Holder, Source, constant_in, holder_of, source_in};
-use mid_program::{Arithmetic, Code, Operand};
+use mid_program::{Arithmetic, Code};
 
 /// A sum or a difference, and the name that it goes to.
 #[derive(Clone, Copy, Drop)]
@@ -39,27 +39,19 @@ fn sum_of(
     })
 }
 
-/// `n = a + e`, of the operands of `+`.
-fn two_sum(target: Holder, op: Arithmetic, operands: &[Operand]) -> Option<Sum>
-    ensures { option_map view_sum result ≡ two_sum (view_holder target) op (views operands.now) }
-{
-    let (left, right) = two_codes(operands)?;
-    sum_of(target, op, source_in(left), source_in(right))
-}
-
-/// The same, of what `n` takes.
+/// `n = a + e`, of what `n` takes.
 fn set_sum(target: Holder, value: &Code) -> Option<Sum>
     ensures { option_map view_sum result ≡ set_sum (view_holder target) (view value.now) }
 {
-    let (op, operands) = calculated_in(value)?;
-    two_sum(target, op, operands)
+    let (op, left, right) = binary_in(value)?;
+    sum_of(target, op, source_in(left), source_in(right))
 }
 
-/// `n += e`, of what is kept first and the operands of `+`.
-fn kept_sum(target: Holder, op: Arithmetic, kept: &Code, operands: &[Operand]) -> Option<Sum>
-    ensures { option_map view_sum result ≡ kept_sum (view_holder target) op (view kept.now) (views operands.now) }
+/// `n += e`, of what is kept first and what `n` takes.
+fn update_sum(target: Holder, kept: &Code, value: &Code) -> Option<Sum>
+    ensures { option_map view_sum result ≡ update_sum (view_holder target) (view kept.now) (view value.now) }
 {
-    let (left, right) = two_codes(operands)?;
+    let (op, left, right) = binary_in(value)?;
     if is_bound(right, true, 0) {
         sum_of(target, op, source_in(left), source_in(kept))
     } else {
@@ -67,20 +59,11 @@ fn kept_sum(target: Holder, op: Arithmetic, kept: &Code, operands: &[Operand]) -
     }
 }
 
-/// The same, of what `n` takes.
-fn update_sum(target: Holder, kept: &Code, value: &Code) -> Option<Sum>
-    ensures { option_map view_sum result ≡ update_sum (view_holder target) (view kept.now) (view value.now) }
-{
-    let (op, operands) = calculated_in(value)?;
-    kept_sum(target, op, kept, operands)
-}
-
 /// The source whose number is kept first in `n++`.
 fn old_source(code: &Code) -> Option<Source>
     ensures { option_map view_source result ≡ old_source (view code.now) }
 {
-    let operands = number_of(code)?;
-    source_in(one_code(operands)?)
+    source_in(number_of(code)?)
 }
 
 /// The unboxed name that takes what was kept last.
@@ -109,8 +92,7 @@ fn new_sum(old: Option<Source>, target: Option<Holder>, code: &Code) -> Option<S
         ≡ new_sum (option_map view_source old) (option_map view_holder target) (view code.now) }
 {
     let target = target?;
-    let (op, operands) = calculated_in(code)?;
-    let (left, right) = two_codes(operands)?;
+    let (op, left, right) = binary_in(code)?;
     if !is_bound(left, false, 0) {
         return None;
     }

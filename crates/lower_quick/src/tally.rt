@@ -1,15 +1,13 @@
 //! Counters in arrays: an element takes the sum of its number and what is added.
 ghost use Rattle.std.specs.Option.{option_map};
-ghost use Rattle.std.specs.Prelude.{◌≡◌, None, cond, false, zero};
+ghost use Rattle.std.specs.Prelude.{◌≡◌, false, zero};
 ghost use Rattle.mid_program.specs.ViewCode.{view, view_array, views};
 ghost use Rattle.lower_quick.specs.Operands.{is_elem, is_set_elem};
 ghost use Rattle.lower_quick.specs.View.{view_tally};
-ghost use Rattle.lower_model.specs.Quick.{array_here, array_where, element_at, element_last, element_read, element_set, first_sum, first_two, is_bound, number_read, taker_at, tally_after, tally_by, tally_first, tally_in, tally_kept, tally_of, tally_sum, tally_two};
+ghost use Rattle.lower_model.specs.Quick.{array_here, array_where, element_at, element_last, element_read, element_set, first_sum, is_bound, number_read, taker_at, tally_after, tally_by, tally_first, tally_in, tally_kept, tally_of, tally_sum};
 
 use crate::addition::is_sum;
-use crate::operands::{
-    calculated_in, is_bound, let_in, number_of, one_code, three_codes, two_codes,
-};
+use crate::operands::{binary_in, is_bound, let_in, number_of, three_codes, two_codes};
 use mid_program::{Arithmetic, ArrayName, Code, Operand, Operation};
 use sem_primitives::Primitive;
 
@@ -52,18 +50,6 @@ fn is_elem(primitive: Primitive) -> bool
     matches!(primitive, Primitive::Elem)
 }
 
-/// The same, where a primitive reads an element.
-fn element_of(primitive: Primitive, operands: &[Operand], after: usize) -> Option<ArrayName>
-    ensures { option_map view_array result
-        ≡ cond (is_elem primitive) (element_at after (views operands.now)) None }
-{
-    if is_elem(primitive) {
-        element_at(operands, after)
-    } else {
-        None
-    }
-}
-
 /// The array of `a[k]`, if code is one.
 fn element_read(code: &Code, after: usize) -> Option<ArrayName>
     ensures { option_map view_array result ≡ element_read after (view code.now) }
@@ -72,7 +58,13 @@ fn element_read(code: &Code, after: usize) -> Option<ArrayName>
         return None;
     };
     match operation {
-        Operation::Host(primitive) => element_of(*primitive, operands, after),
+        Operation::Host(primitive) => {
+            if is_elem(*primitive) {
+                element_at(operands, after)
+            } else {
+                None
+            }
+        }
         Operation::Inline(_) | Operation::AsNumber | Operation::FieldNumber => None,
     }
 }
@@ -81,8 +73,7 @@ fn element_read(code: &Code, after: usize) -> Option<ArrayName>
 fn number_read(code: &Code) -> Option<ArrayName>
     ensures { option_map view_array result ≡ number_read (view code.now) }
 {
-    let element = one_code(number_of(code)?)?;
-    element_read(element, 0)
+    element_read(number_of(code)?, 0)
 }
 
 /// The array of `a[k] = v`, of its operands, where the value was kept last.
@@ -104,23 +95,6 @@ fn is_set_elem(primitive: Primitive) -> bool
     matches!(primitive, Primitive::SetElem)
 }
 
-/// The same, where a primitive writes an element.
-fn taker_of(
-    primitive: Primitive,
-    operands: &[Operand],
-    moves: bool,
-    after: usize,
-) -> Option<ArrayName>
-    ensures { option_map view_array result
-        ≡ cond (is_set_elem primitive) (taker_at moves after (views operands.now)) None }
-{
-    if is_set_elem(primitive) {
-        taker_at(operands, moves, after)
-    } else {
-        None
-    }
-}
-
 /// The array of `a[k] = v`, if code is one.
 fn element_set(code: &Code, moves: bool, after: usize) -> Option<ArrayName>
     ensures { option_map view_array result ≡ element_set moves after (view code.now) }
@@ -129,7 +103,13 @@ fn element_set(code: &Code, moves: bool, after: usize) -> Option<ArrayName>
         return None;
     };
     match operation {
-        Operation::Host(primitive) => taker_of(*primitive, operands, moves, after),
+        Operation::Host(primitive) => {
+            if is_set_elem(*primitive) {
+                taker_at(operands, moves, after)
+            } else {
+                None
+            }
+        }
         Operation::Inline(_) | Operation::AsNumber | Operation::FieldNumber => None,
     }
 }
@@ -155,17 +135,15 @@ fn tally_of<'a>(
     ensures { option_map view_tally result ≡ tally_of op (view key.now) (view added.now)
         (option_map view_array read) (option_map view_array written) }
 {
-    let (read, written) = (read?, written?);
-    if is_sum(op) {
-        Some(Tally {
+    match (read, written) {
+        (Some(read), Some(written)) if is_sum(op) => Some(Tally {
             read,
             written,
             key,
             op,
             added,
-        })
-    } else {
-        None
+        }),
+        _ => None,
     }
 }
 
@@ -206,28 +184,13 @@ fn tally_by<'a>(
     }
 }
 
-/// The same, of operands in a list.
-fn tally_two<'a>(
-    op: Arithmetic,
-    key: &'a Code,
-    kept: &'a Code,
-    operands: &'a [Operand],
-    last: &Code,
-) -> Option<Tally<'a>>
-    ensures { option_map view_tally result
-        ≡ tally_two op (view key.now) (view kept.now) (views operands.now) (view last.now) }
-{
-    let (left, right) = two_codes(operands)?;
-    tally_by(op, key, kept, left, right, last)
-}
-
 /// The same, of the sum.
 fn tally_sum<'a>(key: &'a Code, kept: &'a Code, sum: &'a Code, last: &Code) -> Option<Tally<'a>>
     ensures { option_map view_tally result
         ≡ tally_sum (view key.now) (view kept.now) (view sum.now) (view last.now) }
 {
-    let (op, operands) = calculated_in(sum)?;
-    tally_two(op, key, kept, operands, last)
+    let (op, left, right) = binary_in(sum)?;
+    tally_by(op, key, kept, left, right, last)
 }
 
 /// `++a[k]`, of the operands of `+` and what is done then.
@@ -250,27 +213,13 @@ fn tally_first<'a>(
     }
 }
 
-/// The same, of operands in a list.
-fn first_two<'a>(
-    op: Arithmetic,
-    key: &'a Code,
-    operands: &'a [Operand],
-    last: &Code,
-) -> Option<Tally<'a>>
-    ensures { option_map view_tally result
-        ≡ first_two op (view key.now) (views operands.now) (view last.now) }
-{
-    let (left, right) = two_codes(operands)?;
-    tally_first(op, key, left, right, last)
-}
-
 /// The same, of the sum.
 fn first_sum<'a>(key: &'a Code, sum: &'a Code, last: &Code) -> Option<Tally<'a>>
     ensures { option_map view_tally result
         ≡ first_sum (view key.now) (view sum.now) (view last.now) }
 {
-    let (op, operands) = calculated_in(sum)?;
-    first_two(op, key, operands, last)
+    let (op, left, right) = binary_in(sum)?;
+    tally_first(op, key, left, right, last)
 }
 
 /// A counter, of what is kept after the key and the code after that.

@@ -1,14 +1,14 @@
 //! Sums and differences of an unboxed name and what is evaluated first.
 ghost use Rattle.std.specs.Option.{option_map};
 ghost use Rattle.std.specs.Prelude.{◌≡◌};
-ghost use Rattle.mid_program.specs.ViewCode.{view, views};
+ghost use Rattle.mid_program.specs.ViewCode.{view};
 ghost use Rattle.lower_quick.specs.View.{view_holder, view_update};
-ghost use Rattle.lower_model.specs.Quick.{kept_update, let_update, set_update, update_in, update_of};
+ghost use Rattle.lower_model.specs.Quick.{let_update, set_update, update_in, update_of};
 
 use crate::addition::is_sum;
-use crate::operands::{calculated_in, is_bound, two_codes};
+use crate::operands::{binary_in, is_bound};
 use crate::source::{Holder, holder_of, name_in};
-use mid_program::{Arithmetic, Code, Operand};
+use mid_program::{Arithmetic, Code};
 
 /// A sum or a difference of a name and what is added, and the name that it goes to.
 #[derive(Clone, Copy)]
@@ -41,30 +41,16 @@ fn update_of<'a>(
     }
 }
 
-/// `n += e`, of what is added and the operands of `+`.
-fn kept_update<'a>(
-    target: Holder,
-    op: Arithmetic,
-    added: &'a Code,
-    operands: &[Operand],
-) -> Option<Update<'a>>
-    ensures { option_map view_update result
-        ≡ kept_update (view_holder target) op (view added.now) (views operands.now) }
+/// `n += e`, of what is added and what `n` takes.
+fn set_update<'a>(target: Holder, added: &'a Code, value: &Code) -> Option<Update<'a>>
+    ensures { option_map view_update result ≡ set_update (view_holder target) (view added.now) (view value.now) }
 {
-    let (left, right) = two_codes(operands)?;
+    let (op, left, right) = binary_in(value)?;
     if is_bound(right, true, 0) {
         update_of(target, op, name_in(left), added)
     } else {
         None
     }
-}
-
-/// The same, of what `n` takes.
-fn set_update<'a>(target: Holder, added: &'a Code, value: &Code) -> Option<Update<'a>>
-    ensures { option_map view_update result ≡ set_update (view_holder target) (view added.now) (view value.now) }
-{
-    let (op, operands) = calculated_in(value)?;
-    kept_update(target, op, added, operands)
 }
 
 /// The same, of code after what is added.

@@ -2,14 +2,14 @@ use Rattle.std.proofs.Common.{◌≡◌, ◌-◌, ℕ, suc, Bool, max, List, map
 use Rattle.std.specs.Prelude.{is_some}
 use Rattle.lower_model.specs.Quick.{addition_in}
 use Rattle.mid_program.specs.Mid as plain
-use Rattle.mid_program.specs.ViewCode.{joined, view, views}
+use Rattle.mid_program.specs.ViewCode.{before, joined, view, views}
 use Rattle.mid_program.specs.declared.code.Code.{Code}
 use Rattle.mid_program.specs.declared.code.Operand.{Operand}
 use Rattle.lower_model.specs.Places.{arrays_among, arrays_in, room, rooms}
 use Rattle.lower_needs.specs.Counted.{counted}
 use Rattle.lower_needs.specs.Labels.{labels_among, labels_in, more_if}
 use Rattle.mid_program.proofs.Views.{view_joined}
-use Rattle.lower_needs.proofs.Keys.{arrays_joined, labels_joined, one_more, room_joined}
+use Rattle.lower_needs.proofs.Keys.{arrays_joined, labels_joined, one_before, one_more, room_joined}
 use Rattle.lower_quick.proofs.Views.{view_call, view_do, view_over, view_replace}
 use Rattle.lower_needs.proofs.code.+counts.Goals as goal
 
@@ -166,3 +166,293 @@ counts_in-returns-in-Replace-clause-labels t c =
     let s = c.stored-in-Replace.ensures.labels in
     let m = c.both-in-Replace.ensures.labels in
     omega (arith, a, b, whole, l, s, m)
+
+pub counts_in-returns-in-Compare-clause-temporaries : goal.counts_in-returns-in-Compare-clause-temporaries
+counts_in-returns-in-Compare-clause-temporaries t c =
+    let a = c.counts_in-in-Compare.ensures.temporaries ∙ ap (λ (e : Code). counted (room (view e))) c.deref-in-Compare.ensures in
+    let b = c.counts_in-in-Compare-2.ensures.temporaries ∙ ap (λ (e : Code). counted (room (view e))) c.deref-in-Compare-2.ensures in
+    let l = c.later-in-Compare.ensures.temporaries in
+    let m = c.both-in-Compare.ensures.temporaries in
+    let whole = ap (λ (e : Code). room (view e)) c.in-Compare.is in
+    omega (arith, a, b, l, m, whole)
+
+pub counts_in-returns-in-Compare-clause-arrays : goal.counts_in-returns-in-Compare-clause-arrays
+counts_in-returns-in-Compare-clause-arrays t c =
+    let a = c.counts_in-in-Compare.ensures.arrays ∙ ap (λ (e : Code). counted (arrays_in (view e))) c.deref-in-Compare.ensures in
+    let b = c.counts_in-in-Compare-2.ensures.arrays ∙ ap (λ (e : Code). counted (arrays_in (view e))) c.deref-in-Compare-2.ensures in
+    let l = c.later-in-Compare.ensures.arrays in
+    let m = c.both-in-Compare.ensures.arrays in
+    let whole = ap (λ (e : Code). arrays_in (view e)) c.in-Compare.is in
+    omega (arith, a, b, l, m, whole)
+
+pub counts_in-returns-in-Compare-clause-iterators : goal.counts_in-returns-in-Compare-clause-iterators
+counts_in-returns-in-Compare-clause-iterators t c =
+    let a = c.counts_in-in-Compare.ensures.iterators in
+    let b = c.counts_in-in-Compare-2.ensures.iterators in
+    let l = c.later-in-Compare.ensures.iterators in
+    let m = c.both-in-Compare.ensures.iterators in
+    omega (arith, a, b, l, m)
+
+pub counts_in-returns-in-Compare-clause-labels : goal.counts_in-returns-in-Compare-clause-labels
+counts_in-returns-in-Compare-clause-labels t c =
+    let a = c.counts_in-in-Compare.ensures.labels ∙ ap (λ (e : Code). counted (labels_in (view e))) c.deref-in-Compare.ensures in
+    let b = c.counts_in-in-Compare-2.ensures.labels ∙ ap (λ (e : Code). counted (labels_in (view e))) c.deref-in-Compare-2.ensures in
+    let l = c.later-in-Compare.ensures.labels in
+    let m = c.both-in-Compare.ensures.labels in
+    let whole = ap (λ (e : Code). labels_in (view e)) c.in-Compare.is in
+    omega (arith, a, b, l, m, whole)
+
+pub counts_in-returns-in-Let-clause-temporaries : goal.counts_in-returns-in-Let-clause-temporaries
+counts_in-returns-in-Let-clause-temporaries t c =
+    let a = c.counts_in-in-Let.ensures.temporaries ∙ ap (λ (e : Code). counted (room (view e))) c.deref-in-Let.ensures in
+    let b = c.counts_in-in-Let-2.ensures.temporaries ∙ ap (λ (e : Code). counted (room (view e))) c.deref-in-Let-2.ensures in
+    let l = c.later-in-Let.ensures.temporaries in
+    let m = c.both-in-Let.ensures.temporaries in
+    let whole = ap (λ (e : Code). room (view e)) c.in-Let.is in
+    omega (arith, a, b, l, m, whole)
+
+pub counts_in-returns-in-Let-clause-arrays : goal.counts_in-returns-in-Let-clause-arrays
+counts_in-returns-in-Let-clause-arrays t c =
+    let a = c.counts_in-in-Let.ensures.arrays ∙ ap (λ (e : Code). counted (arrays_in (view e))) c.deref-in-Let.ensures in
+    let b = c.counts_in-in-Let-2.ensures.arrays ∙ ap (λ (e : Code). counted (arrays_in (view e))) c.deref-in-Let-2.ensures in
+    let l = c.later-in-Let.ensures.arrays in
+    let m = c.both-in-Let.ensures.arrays in
+    let whole = ap (λ (e : Code). arrays_in (view e)) c.in-Let.is in
+    omega (arith, a, b, l, m, whole)
+
+pub counts_in-returns-in-Let-clause-iterators : goal.counts_in-returns-in-Let-clause-iterators
+counts_in-returns-in-Let-clause-iterators t c =
+    let a = c.counts_in-in-Let.ensures.iterators in
+    let b = c.counts_in-in-Let-2.ensures.iterators in
+    let l = c.later-in-Let.ensures.iterators in
+    let m = c.both-in-Let.ensures.iterators in
+    omega (arith, a, b, l, m)
+
+pub counts_in-returns-in-Let-clause-labels : goal.counts_in-returns-in-Let-clause-labels
+counts_in-returns-in-Let-clause-labels t c =
+    let a = c.counts_in-in-Let.ensures.labels ∙ ap (λ (e : Code). counted (labels_in (view e))) c.deref-in-Let.ensures in
+    let b = c.counts_in-in-Let-2.ensures.labels ∙ ap (λ (e : Code). counted (labels_in (view e))) c.deref-in-Let-2.ensures in
+    let l = c.later-in-Let.ensures.labels in
+    let m = c.both-in-Let.ensures.labels in
+    let whole = ap (λ (e : Code). labels_in (view e)) c.in-Let.is in
+    omega (arith, a, b, l, m, whole)
+
+pub counts_in-returns-in-Seq-clause-temporaries : goal.counts_in-returns-in-Seq-clause-temporaries
+counts_in-returns-in-Seq-clause-temporaries t c =
+    let a = c.counts_in-in-Seq.ensures.temporaries ∙ ap (λ (e : Code). counted (room (view e))) c.deref-in-Seq.ensures in
+    let b = c.counts_in-in-Seq-2.ensures.temporaries ∙ ap (λ (e : Code). counted (room (view e))) c.deref-in-Seq-2.ensures in
+    let m = c.both-in-Seq.ensures.temporaries in
+    let whole = ap (λ (e : Code). room (view e)) c.in-Seq.is in
+    omega (arith, a, b, m, whole)
+
+pub counts_in-returns-in-Seq-clause-arrays : goal.counts_in-returns-in-Seq-clause-arrays
+counts_in-returns-in-Seq-clause-arrays t c =
+    let a = c.counts_in-in-Seq.ensures.arrays ∙ ap (λ (e : Code). counted (arrays_in (view e))) c.deref-in-Seq.ensures in
+    let b = c.counts_in-in-Seq-2.ensures.arrays ∙ ap (λ (e : Code). counted (arrays_in (view e))) c.deref-in-Seq-2.ensures in
+    let m = c.both-in-Seq.ensures.arrays in
+    let whole = ap (λ (e : Code). arrays_in (view e)) c.in-Seq.is in
+    omega (arith, a, b, m, whole)
+
+pub counts_in-returns-in-Seq-clause-iterators : goal.counts_in-returns-in-Seq-clause-iterators
+counts_in-returns-in-Seq-clause-iterators t c =
+    let a = c.counts_in-in-Seq.ensures.iterators in
+    let b = c.counts_in-in-Seq-2.ensures.iterators in
+    let m = c.both-in-Seq.ensures.iterators in
+    omega (arith, a, b, m)
+
+pub counts_in-returns-in-Seq-clause-labels : goal.counts_in-returns-in-Seq-clause-labels
+counts_in-returns-in-Seq-clause-labels t c =
+    let a = c.counts_in-in-Seq.ensures.labels ∙ ap (λ (e : Code). counted (labels_in (view e))) c.deref-in-Seq.ensures in
+    let b = c.counts_in-in-Seq-2.ensures.labels ∙ ap (λ (e : Code). counted (labels_in (view e))) c.deref-in-Seq-2.ensures in
+    let m = c.both-in-Seq.ensures.labels in
+    let whole = ap (λ (e : Code). labels_in (view e)) c.in-Seq.is in
+    omega (arith, a, b, m, whole)
+
+pub counts_in-returns-in-AskLine-clause-temporaries : goal.counts_in-returns-in-AskLine-clause-temporaries
+counts_in-returns-in-AskLine-clause-temporaries t c =
+    let a = c.counts_in-in-AskLine.ensures.temporaries ∙ ap (λ (e : Code). counted (room (view e))) c.deref-in-AskLine.ensures in
+    let s = c.stored.ensures.temporaries in
+    let whole = ap (λ (e : Code). room (view e)) c.in-AskLine.is in
+    omega (arith, a, s, whole)
+
+pub counts_in-returns-in-AskLine-clause-arrays : goal.counts_in-returns-in-AskLine-clause-arrays
+counts_in-returns-in-AskLine-clause-arrays t c =
+    let a = c.counts_in-in-AskLine.ensures.arrays ∙ ap (λ (e : Code). counted (arrays_in (view e))) c.deref-in-AskLine.ensures in
+    let s = c.stored.ensures.arrays in
+    let whole = ap (λ (e : Code). arrays_in (view e)) c.in-AskLine.is in
+    omega (arith, a, s, whole)
+
+pub counts_in-returns-in-AskLine-clause-iterators : goal.counts_in-returns-in-AskLine-clause-iterators
+counts_in-returns-in-AskLine-clause-iterators t c =
+    let a = c.counts_in-in-AskLine.ensures.iterators in
+    let s = c.stored.ensures.iterators in
+    omega (arith, a, s)
+
+pub counts_in-returns-in-AskLine-clause-labels : goal.counts_in-returns-in-AskLine-clause-labels
+counts_in-returns-in-AskLine-clause-labels t c =
+    let a = c.counts_in-in-AskLine.ensures.labels ∙ ap (λ (e : Code). counted (labels_in (view e))) c.deref-in-AskLine.ensures in
+    let s = c.stored.ensures.labels in
+    let whole = ap (λ (e : Code). labels_in (view e)) c.in-AskLine.is in
+    omega (arith, a, s, whole)
+
+pub counts_in-returns-in-FileLine-clause-temporaries : goal.counts_in-returns-in-FileLine-clause-temporaries
+counts_in-returns-in-FileLine-clause-temporaries t c =
+    let a = c.counts_in-in-FileLine.ensures.temporaries ∙ ap (λ (e : Code). counted (room (view e))) c.deref-in-FileLine.ensures in
+    let b = c.counts_in-in-FileLine-2.ensures.temporaries ∙ ap (λ (e : Code). counted (room (view e))) c.deref-in-FileLine-2.ensures in
+    let s = c.stored-in-FileLine.ensures.temporaries in
+    let m = c.both-in-FileLine.ensures.temporaries in
+    let whole = ap (λ (e : Code). room (view e)) c.in-FileLine.is in
+    omega (arith, a, b, s, m, whole)
+
+pub counts_in-returns-in-FileLine-clause-arrays : goal.counts_in-returns-in-FileLine-clause-arrays
+counts_in-returns-in-FileLine-clause-arrays t c =
+    let a = c.counts_in-in-FileLine.ensures.arrays ∙ ap (λ (e : Code). counted (arrays_in (view e))) c.deref-in-FileLine.ensures in
+    let b = c.counts_in-in-FileLine-2.ensures.arrays ∙ ap (λ (e : Code). counted (arrays_in (view e))) c.deref-in-FileLine-2.ensures in
+    let s = c.stored-in-FileLine.ensures.arrays in
+    let m = c.both-in-FileLine.ensures.arrays in
+    let whole = ap (λ (e : Code). arrays_in (view e)) c.in-FileLine.is in
+    omega (arith, a, b, s, m, whole)
+
+pub counts_in-returns-in-FileLine-clause-iterators : goal.counts_in-returns-in-FileLine-clause-iterators
+counts_in-returns-in-FileLine-clause-iterators t c =
+    let a = c.counts_in-in-FileLine.ensures.iterators in
+    let b = c.counts_in-in-FileLine-2.ensures.iterators in
+    let s = c.stored-in-FileLine.ensures.iterators in
+    let m = c.both-in-FileLine.ensures.iterators in
+    omega (arith, a, b, s, m)
+
+pub counts_in-returns-in-FileLine-clause-labels : goal.counts_in-returns-in-FileLine-clause-labels
+counts_in-returns-in-FileLine-clause-labels t c =
+    let a = c.counts_in-in-FileLine.ensures.labels ∙ ap (λ (e : Code). counted (labels_in (view e))) c.deref-in-FileLine.ensures in
+    let b = c.counts_in-in-FileLine-2.ensures.labels ∙ ap (λ (e : Code). counted (labels_in (view e))) c.deref-in-FileLine-2.ensures in
+    let s = c.stored-in-FileLine.ensures.labels in
+    let m = c.both-in-FileLine.ensures.labels in
+    let whole = ap (λ (e : Code). labels_in (view e)) c.in-FileLine.is in
+    omega (arith, a, b, s, m, whole)
+
+pub counts_in-returns-in-Set-clause-temporaries : goal.counts_in-returns-in-Set-clause-temporaries
+counts_in-returns-in-Set-clause-temporaries t c =
+    let a = c.counts_in-in-Set.ensures.temporaries ∙ ap (λ (e : Code). counted (room (view e))) c.deref-in-Set.ensures in
+    let whole = ap (λ (e : Code). room (view e)) c.in-Set.is in
+    omega (arith, a, whole)
+
+pub counts_in-returns-in-Set-clause-arrays : goal.counts_in-returns-in-Set-clause-arrays
+counts_in-returns-in-Set-clause-arrays t c =
+    let a = c.counts_in-in-Set.ensures.arrays ∙ ap (λ (e : Code). counted (arrays_in (view e))) c.deref-in-Set.ensures in
+    let whole = ap (λ (e : Code). arrays_in (view e)) c.in-Set.is in
+    omega (arith, a, whole)
+
+pub counts_in-returns-in-Set-clause-iterators : goal.counts_in-returns-in-Set-clause-iterators
+counts_in-returns-in-Set-clause-iterators t c =
+    let a = c.counts_in-in-Set.ensures.iterators in
+    omega (arith, a)
+
+pub counts_in-returns-in-Set-clause-labels : goal.counts_in-returns-in-Set-clause-labels
+counts_in-returns-in-Set-clause-labels t c =
+    let a = c.counts_in-in-Set.ensures.labels ∙ ap (λ (e : Code). counted (labels_in (view e))) c.deref-in-Set.ensures in
+    let whole = ap (λ (e : Code). labels_in (view e)) c.in-Set.is in
+    omega (arith, a, whole)
+
+pub counts_in-returns-in-Choose-clause-temporaries : goal.counts_in-returns-in-Choose-clause-temporaries
+counts_in-returns-in-Choose-clause-temporaries t c =
+    let a = c.counts_in-in-Choose.ensures.temporaries ∙ ap (λ (e : Code). counted (room (view e))) c.deref-in-Choose.ensures in
+    let b = c.counts_in-in-Choose-2.ensures.temporaries ∙ ap (λ (e : Code). counted (room (view e))) c.deref-in-Choose-2.ensures in
+    let d = c.counts_in-in-Choose-3.ensures.temporaries ∙ ap (λ (e : Code). counted (room (view e))) c.deref-in-Choose-3.ensures in
+    let m = c.both-in-Choose.ensures.temporaries in
+    let i = c.inside.ensures.temporaries in
+    let n = c.both-in-Choose-2.ensures.temporaries in
+    let whole = ap (λ (e : Code). room (view e)) c.in-Choose.is in
+    omega (arith, a, b, d, m, i, n, whole)
+
+pub counts_in-returns-in-Choose-clause-arrays : goal.counts_in-returns-in-Choose-clause-arrays
+counts_in-returns-in-Choose-clause-arrays t c =
+    let a = c.counts_in-in-Choose.ensures.arrays ∙ ap (λ (e : Code). counted (arrays_in (view e))) c.deref-in-Choose.ensures in
+    let b = c.counts_in-in-Choose-2.ensures.arrays ∙ ap (λ (e : Code). counted (arrays_in (view e))) c.deref-in-Choose-2.ensures in
+    let d = c.counts_in-in-Choose-3.ensures.arrays ∙ ap (λ (e : Code). counted (arrays_in (view e))) c.deref-in-Choose-3.ensures in
+    let m = c.both-in-Choose.ensures.arrays in
+    let i = c.inside.ensures.arrays in
+    let n = c.both-in-Choose-2.ensures.arrays in
+    let whole = ap (λ (e : Code). arrays_in (view e)) c.in-Choose.is in
+    omega (arith, a, b, d, m, i, n, whole)
+
+pub counts_in-returns-in-Choose-clause-iterators : goal.counts_in-returns-in-Choose-clause-iterators
+counts_in-returns-in-Choose-clause-iterators t c =
+    let a = c.counts_in-in-Choose.ensures.iterators in
+    let b = c.counts_in-in-Choose-2.ensures.iterators in
+    let d = c.counts_in-in-Choose-3.ensures.iterators in
+    let m = c.both-in-Choose.ensures.iterators in
+    let i = c.inside.ensures.iterators in
+    let n = c.both-in-Choose-2.ensures.iterators in
+    omega (arith, a, b, d, m, i, n)
+
+pub counts_in-returns-in-Choose-clause-labels : goal.counts_in-returns-in-Choose-clause-labels
+counts_in-returns-in-Choose-clause-labels t c =
+    let a = c.counts_in-in-Choose.ensures.labels ∙ ap (λ (e : Code). counted (labels_in (view e))) c.deref-in-Choose.ensures in
+    let b = c.counts_in-in-Choose-2.ensures.labels ∙ ap (λ (e : Code). counted (labels_in (view e))) c.deref-in-Choose-2.ensures in
+    let d = c.counts_in-in-Choose-3.ensures.labels ∙ ap (λ (e : Code). counted (labels_in (view e))) c.deref-in-Choose-3.ensures in
+    let m = c.both-in-Choose.ensures.labels in
+    let i = c.inside.ensures.labels in
+    let n = c.both-in-Choose-2.ensures.labels in
+    let whole = ap (λ (e : Code). labels_in (view e)) c.in-Choose.is in
+    omega (arith, a, b, d, m, i, n, whole)
+
+pub counts_in-returns-in-Do-clause-iterators : goal.counts_in-returns-in-Do-clause-iterators
+counts_in-returns-in-Do-clause-iterators t c = c.more_if.ensures.iterators ∙ c.at_least-plain.ensures.iterators ∙ c.counts_among.ensures.iterators
+
+pub counts_in-returns-in-Over-clause-iterators : goal.counts_in-returns-in-Over-clause-iterators
+counts_in-returns-in-Over-clause-iterators t c = c.at_least.ensures.iterators ∙ c.counts_among-in-Over.ensures.iterators
+
+pub counts_in-returns-in-Call-clause-iterators : goal.counts_in-returns-in-Call-clause-iterators
+counts_in-returns-in-Call-clause-iterators t c = c.at_least-in-Call.ensures.iterators ∙ c.counts_among-in-Call.ensures.iterators
+
+pub counts_in-returns-in-Replace-clause-iterators : goal.counts_in-returns-in-Replace-clause-iterators
+counts_in-returns-in-Replace-clause-iterators t c =
+    let a = c.counts_among-in-Replace.ensures.iterators in
+    let b = c.counts_in-in-Replace.ensures.iterators in
+    let l = c.at_least-in-Replace.ensures.iterators in
+    let s = c.stored-in-Replace.ensures.iterators in
+    let m = c.both-in-Replace.ensures.iterators in
+    omega (arith, a, b, l, s, m)
+
+pub counts_in-returns-in-Joined-clause-iterators : goal.counts_in-returns-in-Joined-clause-iterators
+counts_in-returns-in-Joined-clause-iterators t c =
+    let a = c.counts_in-in-Joined.ensures.iterators in
+    let j = c.joined_counts-after.ensures.iterators c.counts_in.ensures.iterators in
+    let l = c.later.ensures.iterators in
+    let m = c.both.ensures.iterators in
+    omega (arith, a, j, l, m)
+
+pub operand_counts-returns-in-Code-clause-temporaries : goal.operand_counts-returns-in-Code-clause-temporaries
+operand_counts-returns-in-Code-clause-temporaries t c = λ rest h.
+    let a = c.counts_in.ensures.temporaries in
+    let l = c.later.ensures.temporaries in
+    let m = c.both.ensures.temporaries in
+    let whole = ap (λ (o : Operand). rooms (before o rest)) c.in-Code.is in
+    omega (arith, h, a, l, m, whole)
+
+pub operand_counts-returns-in-Code-clause-arrays : goal.operand_counts-returns-in-Code-clause-arrays
+operand_counts-returns-in-Code-clause-arrays t c = λ rest h.
+    let a = c.counts_in.ensures.arrays in
+    let l = c.later.ensures.arrays in
+    let m = c.both.ensures.arrays in
+    let whole = ap (λ (o : Operand). arrays_among (before o rest)) c.in-Code.is in
+    omega (arith, h, a, l, m, whole)
+
+pub operand_counts-returns-in-Code-clause-labels : goal.operand_counts-returns-in-Code-clause-labels
+operand_counts-returns-in-Code-clause-labels t c = λ rest h.
+    let a = c.counts_in.ensures.labels in
+    let l = c.later.ensures.labels in
+    let m = c.both.ensures.labels in
+    let whole = ap (λ (o : Operand). labels_among (before o rest)) c.in-Code.is in
+    omega (arith, h, a, l, m, whole)
+
+pub counts_among-loop-left-preserved : goal.counts_among-loop-left-preserved
+counts_among-loop-left-preserved t c =
+    let more = one_before c.args.operands.now c.loop-left.left (c.loop-left.left - 1) c.index-operands-left.result (omega arith) c.loop-left.invariant.inside c.index-operands-left.is in
+    record {
+      temporaries = c.operand_counts-needed.ensures.temporaries (views (drop c.loop-left.left c.args.operands.now)) c.loop-left.invariant.temporaries ∙ ap (λ (es : plain.Codes). counted (rooms es)) more;
+      arrays = c.operand_counts-needed.ensures.arrays (views (drop c.loop-left.left c.args.operands.now)) c.loop-left.invariant.arrays ∙ ap (λ (es : plain.Codes). counted (arrays_among es)) more;
+      iterators = c.operand_counts-needed.ensures.iterators ∙ c.loop-left.invariant.iterators;
+      labels = c.operand_counts-needed.ensures.labels (views (drop c.loop-left.left c.args.operands.now)) c.loop-left.invariant.labels ∙ ap (λ (es : plain.Codes). counted (labels_among es)) more;
+      inside = omega arith;
+    }

@@ -8,4 +8,5 @@ use Rattle.lower_quick.proofs.operands.number_of.Goals as goal
 
 pub returns-in-AsNumber : goal.returns-in-AsNumber
 returns-in-AsNumber c =
-    ap number_of (do_view c.args.code.now AsNumber c.in-Do.operands c.deref.result.now (c.in-Do.is ∙ ap (λ (o : Operation). Do o c.in-Do.operands) c.in-AsNumber.is) c.deref.ensures.value)
+    c.one_code.ensures
+    ∙ ap number_of (do_view c.args.code.now AsNumber c.in-Do.operands c.deref.result.now (c.in-Do.is ∙ ap (λ (o : Operation). Do o c.in-Do.operands) c.in-AsNumber.is) c.deref.ensures.value)

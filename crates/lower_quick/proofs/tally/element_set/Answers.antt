@@ -1,14 +1,19 @@
-use Rattle.std.proofs.Common.{ap, ◌∙◌}
+use Rattle.std.proofs.Common.{ap, refl, sym, ◌∙◌}
 use Rattle.mid_program.specs.ViewCode.{views}
 use Rattle.mid_program.specs.declared.mid.Operation.{Operation}
 use Rattle.mid_program.specs.declared.mid.Operation.TheVariants.{Host}
 use Rattle.mid_program.specs.declared.code.Code.{Do}
 use Rattle.lower_model.specs.Quick.{element_set}
-use Rattle.lower_quick.proofs.Shapes.{do_view, set_elem_is}
+use Rattle.lower_quick.proofs.Shapes.{do_view, no_set_elem, set_elem_here}
 use Rattle.lower_quick.proofs.tally.element_set.Goals as goal
 
-pub returns-in-Host : goal.returns-in-Host
-returns-in-Host c =
-    c.taker_of.ensures
-    ∙ set_elem_is c.in-Host.primitive c.args.moves c.args.after (views c.deref.result.now)
+pub returns-then-is_set_elem : goal.returns-then-is_set_elem
+returns-then-is_set_elem c =
+    c.taker_at.ensures
+    ∙ set_elem_here c.in-Host.primitive c.args.moves c.args.after (views c.deref.result.now) (sym c.if-is_set_elem.ensures)
     ∙ ap (element_set c.args.moves c.args.after) (do_view c.args.code.now (Host c.in-Host.primitive) c.in-Do.operands c.deref.result.now (c.in-Do.is ∙ ap (λ (o : Operation). Do o c.in-Do.operands) c.in-Host.is) c.deref.ensures.value)
+
+pub returns-else-is_set_elem : goal.returns-else-is_set_elem
+returns-else-is_set_elem c =
+    no_set_elem c.in-Host.primitive c.args.moves c.args.after (views c.in-Do.operands.items) (sym c.if-is_set_elem.ensures)
+    ∙ ap (element_set c.args.moves c.args.after) (do_view c.args.code.now (Host c.in-Host.primitive) c.in-Do.operands c.in-Do.operands.items (c.in-Do.is ∙ ap (λ (o : Operation). Do o c.in-Do.operands) c.in-Host.is) refl)
