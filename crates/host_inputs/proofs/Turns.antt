@@ -21,6 +21,8 @@ use Rattle.host_streams.specs.declared.main_input.MainInput.{MainInput as Mains}
 use Rattle.host_streams.specs.declared.main_input.MainNext.{MainNext}
 use Rattle.host_streams.specs.declared.main_input.MainNext.TheVariants.{Record, Assign, Opened, End}
 use Rattle.host_streams.specs.declared.main_input.Reading.TheVariants as reading
+use Rattle.host_names.specs.Forms.{with_pending as names_pending}
+use Rattle.host_names.specs.declared.names.Names.{Names}
 use Rattle.host_inputs.specs.Givens.{AssignLive, GivesMain, NextPasses, TurnGives, faulted_by, stopped_by, may_follow}
 use Rattle.host_inputs.specs.Keeps.{IsMoved, TurnPends, with_main_input, with_pending}
 use Rattle.host_inputs.specs.States.{Around, Finding, Over, main_by}
@@ -197,3 +199,11 @@ fault_found BadAssignment given outside new h = h
 pub stop_found : (stop : Stop) (given : Result (Inner × Main) Fault) (outside : Outside) (new : Inner) → StepFound given (as_step (Err stop)) outside new → TurnGives given (stopped_by stop) outside new
 stop_found (IsFault fault) given outside new h = fault_found fault given outside new h
 stop_found NoMemory given outside new h = tt
+
+-- where the main input alone changes
+pub moved_main : (old new : Input) → new ≡ with_main_input new.main old → IsMoved old new
+moved_main old new is = is ∙ ap (λ p. with_pending p (with_main_input new.main old)) (sym (ap (λ (i : Input). i.names.pending) is))
+
+-- and what is pending
+pub moved_names : (old mid : Input) (n : Names) → mid ≡ with_main_input mid.main old → n ≡ names_pending n.pending mid.names → IsMoved old (record mid { names = n })
+moved_names old mid n main is = ap (λ (m : Names). record mid { names = m }) is ∙ ap (with_pending n.pending) main

@@ -116,9 +116,9 @@ impl FirstTables {
         let Ok(operands) = u32::try_from(job.operands.len()) else {
             return Err(AllocError);
         };
+        let assigns = copied_pairs(alloc, job.assigns.as_slice())?;
         let arrays = first_arrays(alloc, job, state)?;
         let texts = Texts::at_start(alloc, operands)?;
-        let assigns = copied_pairs(alloc, job.assigns.as_slice())?;
         Ok(FirstTables {
             handles: Handles::new(alloc),
             arrays,

@@ -3,7 +3,8 @@ use Rattle.sem_primitives.specs.InputMeaning.{main_input}
 use Rattle.host_streams.specs.declared.main_input.MainNext.TheVariants as main
 use Rattle.host_inputs.specs.Givens.{TurnGives}
 use Rattle.host_inputs.specs.States.{Finding, Over, with_input, with_tables}
-use Rattle.host_inputs.proofs.Turns.{assign_made, assign_pends, assign_stops, goes_on, next_found, next_told, renamed, renamed_stop, stop_found, stopped_gives, told_live, told_rests}
+use Rattle.host_inputs.proofs.Turns.{moved_main, moved_names, assign_made, assign_pends, assign_stops, goes_on, next_found, next_told, renamed, renamed_stop, stop_found, stopped_gives, told_live, told_rests}
+use Rattle.host_inputs.specs.declared.input.Input.{Input}
 use Rattle.host_inputs.proofs.turn.turn.Goals as goal
 
 pub returns-in-Ok-Record-clause-told : goal.returns-in-Ok-Record-clause-told
@@ -108,3 +109,108 @@ returns-clause-finds g c =
           let new = with_tables c.args.texts.now c.next.new.input (Finding later) inner in
           subst (λ r. TurnGives given r outside new) (sym c.stopped.ensures) (stop_found c.in-Err.stop given outside new (finds.1 later outside inner offered)),
     )
+
+pub returns-in-Ok-Record-clause-held : goal.returns-in-Ok-Record-clause-held
+returns-in-Ok-Record-clause-held g c = c.next.ensures.held
+
+pub returns-in-Ok-Record-clause-goes : goal.returns-in-Ok-Record-clause-goes
+returns-in-Ok-Record-clause-goes g c = c.next.ensures.goes
+
+pub returns-in-Ok-Record-clause-outside : goal.returns-in-Ok-Record-clause-outside
+returns-in-Ok-Record-clause-outside g c = c.next.ensures.outside
+
+pub returns-in-Ok-End-clause-held : goal.returns-in-Ok-End-clause-held
+returns-in-Ok-End-clause-held g c = c.next.ensures.held
+
+pub returns-in-Ok-End-clause-goes : goal.returns-in-Ok-End-clause-goes
+returns-in-Ok-End-clause-goes g c = c.next.ensures.goes
+
+pub returns-in-Ok-End-clause-outside : goal.returns-in-Ok-End-clause-outside
+returns-in-Ok-End-clause-outside g c = c.next.ensures.outside
+
+pub returns-in-Ok-Opened-clause-held : goal.returns-in-Ok-Opened-clause-held
+returns-in-Ok-Opened-clause-held g c = c.next.ensures.held
+
+pub returns-in-Ok-Opened-clause-goes : goal.returns-in-Ok-Opened-clause-goes
+returns-in-Ok-Opened-clause-goes g c = c.next.ensures.goes
+
+pub returns-in-Ok-Opened-clause-outside : goal.returns-in-Ok-Opened-clause-outside
+returns-in-Ok-Opened-clause-outside g c = c.next.ensures.outside
+
+pub returns-in-Ok-true-clause-held : goal.returns-in-Ok-true-clause-held
+returns-in-Ok-true-clause-held g c = record { main = c.next.ensures.held.main; files = c.next.ensures.held.files; apart = c.next.ensures.held.apart }
+
+pub returns-in-Ok-true-clause-goes : goal.returns-in-Ok-true-clause-goes
+returns-in-Ok-true-clause-goes g c = c.next.ensures.goes
+
+pub returns-in-Ok-true-clause-outside : goal.returns-in-Ok-true-clause-outside
+returns-in-Ok-true-clause-outside g c = c.next.ensures.outside
+
+pub returns-in-Ok-false-clause-held : goal.returns-in-Ok-false-clause-held
+returns-in-Ok-false-clause-held g c = record { main = c.next.ensures.held.main; files = c.next.ensures.held.files; apart = c.next.ensures.held.apart }
+
+pub returns-in-Ok-false-clause-goes : goal.returns-in-Ok-false-clause-goes
+returns-in-Ok-false-clause-goes g c = c.next.ensures.goes
+
+pub returns-in-Ok-false-clause-outside : goal.returns-in-Ok-false-clause-outside
+returns-in-Ok-false-clause-outside g c = c.next.ensures.outside
+
+pub returns-in-Ok-Assign-clause-held : goal.returns-in-Ok-Assign-clause-held
+returns-in-Ok-Assign-clause-held g c = record { main = c.next.ensures.held.main; files = c.next.ensures.held.files; apart = c.next.ensures.held.apart }
+
+pub returns-in-Ok-Assign-clause-goes : goal.returns-in-Ok-Assign-clause-goes
+returns-in-Ok-Assign-clause-goes g c = c.next.ensures.goes
+
+pub returns-in-Ok-Assign-clause-outside : goal.returns-in-Ok-Assign-clause-outside
+returns-in-Ok-Assign-clause-outside g c = c.next.ensures.outside
+
+pub returns-clause-held : goal.returns-clause-held
+returns-clause-held g c = c.next.ensures.held
+
+pub returns-clause-goes : goal.returns-clause-goes
+returns-clause-goes g c = c.next.ensures.goes
+
+pub returns-clause-outside : goal.returns-clause-outside
+returns-clause-outside g c = c.next.ensures.outside
+
+pub returns-in-Ok-Record-clause-rest : goal.returns-in-Ok-Record-clause-rest
+returns-in-Ok-Record-clause-rest g c = moved_main c.args.input.now c.next.new.input c.next.ensures.rest
+
+pub returns-in-Ok-End-clause-rest : goal.returns-in-Ok-End-clause-rest
+returns-in-Ok-End-clause-rest g c = moved_main c.args.input.now c.next.new.input c.next.ensures.rest
+
+pub returns-in-Ok-Opened-clause-rest : goal.returns-in-Ok-Opened-clause-rest
+returns-in-Ok-Opened-clause-rest g c = moved_main c.args.input.now c.next.new.input c.next.ensures.rest
+
+pub returns-clause-rest : goal.returns-clause-rest
+returns-clause-rest g c = moved_main c.args.input.now c.next.new.input c.next.ensures.rest
+
+pub returns-in-Ok-true-clause-rest : goal.returns-in-Ok-true-clause-rest
+returns-in-Ok-true-clause-rest g c = moved_names c.args.input.now c.next.new.input c.assign.new.names c.next.ensures.rest c.assign.ensures.rest
+
+pub returns-in-Ok-false-clause-rest : goal.returns-in-Ok-false-clause-rest
+returns-in-Ok-false-clause-rest g c = moved_names c.args.input.now c.next.new.input c.assign.new.names c.next.ensures.rest c.assign.ensures.rest
+
+pub returns-in-Ok-Assign-clause-rest : goal.returns-in-Ok-Assign-clause-rest
+returns-in-Ok-Assign-clause-rest g c = moved_names c.args.input.now c.next.new.input c.assign.new.names c.next.ensures.rest c.assign.ensures.rest
+
+pub returns-in-Ok-Record-clause-pending : goal.returns-in-Ok-Record-clause-pending
+returns-in-Ok-Record-clause-pending g c = ap (λ (i : Input). i.names.pending) c.next.ensures.rest
+
+pub returns-in-Ok-End-clause-pending : goal.returns-in-Ok-End-clause-pending
+returns-in-Ok-End-clause-pending g c = ap (λ (i : Input). i.names.pending) c.next.ensures.rest
+
+pub returns-in-Ok-Opened-clause-pending : goal.returns-in-Ok-Opened-clause-pending
+returns-in-Ok-Opened-clause-pending g c = ap (λ (i : Input). i.names.pending) c.next.ensures.rest
+
+pub returns-in-Ok-Opened-clause-substituted : goal.returns-in-Ok-Opened-clause-substituted
+returns-in-Ok-Opened-clause-substituted g c = c.begin.ensures.substituted
+
+pub returns-in-Ok-true-clause-substituted : goal.returns-in-Ok-true-clause-substituted
+returns-in-Ok-true-clause-substituted g c = c.assign.ensures.substituted
+
+pub returns-in-Ok-false-clause-substituted : goal.returns-in-Ok-false-clause-substituted
+returns-in-Ok-false-clause-substituted g c = c.assign.ensures.substituted
+
+pub returns-in-Ok-Assign-clause-substituted : goal.returns-in-Ok-Assign-clause-substituted
+returns-in-Ok-Assign-clause-substituted g c = c.assign.ensures.substituted
