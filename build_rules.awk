@@ -2,11 +2,11 @@
 #     awk -f build_rules.awk -v kit=KIT -v lanes=N docs/GATE.md crates.txt
 # KIT is the folder of the Rattle kit, N how many proofs there are at a time. make runs at the top of the sources. In crates/awkwasm/out/proved there is NAME.rlib
 # of each crate that is proved, and in NAME.log what the prover said. Of what can be proved next make begins with what has the longest chain of others after it,
-# by the seconds of docs/GATE.md.
+# by the seconds that docs/GATE.md has of the first build.
 
 FILENAME ~ /GATE.md$/ {
   count = split($0, cell, / *[|] */)
-  if (count >= 4 && cell[3] ~ /^[0-9]+$/) measured[cell[2]] = cell[3]
+  if (count == 8 && cell[7] ~ /^[0-9]+$/) measured[cell[2]] = cell[7]
   next
 }
 
