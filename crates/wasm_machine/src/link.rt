@@ -11,7 +11,7 @@ ghost use Rattle.wasm_machine.specs.ViewConf.{Begins, Lays};
 ghost use Rattle.wasm_types.specs.Typing.{callee_in, typed_in};
 ghost use Rattle.wasm_types.specs.View.{signature_of, view, view_data, view_elem, view_export, view_import, view_module, views};
 
-use crate::held::is_refused;
+use crate::held::push;
 use crate::program::{callee, typed};
 use std::alloc::{AllocError, Global};
 use wasm_frames::Frames;
@@ -102,7 +102,7 @@ fn numbers_among<H: HostCalls>(
         let Some(number) = number_for(whole, host, import) else {
             return Err(LinkFault::BadImport(index));
         };
-        if is_refused(&mut numbers, number) {
+        if numbers.push(number).is_err() {
             return Err(LinkFault::NoMemory);
         }
     }
@@ -236,9 +236,7 @@ fn values_of(alloc: Global, globals: &[ModuleGlobal]) -> Result<Vec<Word>, Alloc
 {
     let mut values = Vec::new(alloc);
     for global in globals {
-        if is_refused(&mut values, value_of(&global.init)) {
-            return Err(AllocError);
-        }
+        values.push(value_of(&global.init))?;
     }
     Ok(values)
 }
@@ -249,13 +247,9 @@ fn entry(alloc: Global, start: Option<u32>, main: u32) -> Result<Vec<Instr>, All
 {
     let mut code = Vec::new(alloc);
     if let Some(start) = start {
-        if is_refused(&mut code, Instr::Plain(Simple::Call(start))) {
-            return Err(AllocError);
-        }
+        push(&mut code, Instr::Plain(Simple::Call(start)))?;
     }
-    if is_refused(&mut code, Instr::Plain(Simple::Call(main))) {
-        return Err(AllocError);
-    }
+    push(&mut code, Instr::Plain(Simple::Call(main)))?;
     Ok(code)
 }
 
@@ -283,9 +277,7 @@ fn code_of(alloc: Global, whole: &Module, func: &Func) -> Result<Code, AllocErro
     let Ok(locals) = u32::try_from(ty.params.len() + func.locals.len()) else {
         return Err(AllocError);
     };
-    let Ok(code) = Code::new(alloc, whole, locals, ty.result, &func.body) else {
-        return Err(AllocError);
-    };
+    let code = Code::new(alloc, whole, locals, ty.result, &func.body)?;
     let _layout = code.layout();
     Ok(code)
 }
@@ -297,19 +289,11 @@ pub(crate) fn codes_of(alloc: Global, whole: &Module, main: u32) -> Result<Vec<C
 {
     let mut codes = Vec::new(alloc);
     for func in &whole.funcs {
-        let Ok(code) = code_of(alloc, whole, func) else {
-            return Err(AllocError);
-        };
-        if is_refused(&mut codes, code) {
-            return Err(AllocError);
-        }
+        let code = code_of(alloc, whole, func)?;
+        push(&mut codes, code)?;
     }
-    let Ok(first) = first_code(alloc, whole, main) else {
-        return Err(AllocError);
-    };
-    if is_refused(&mut codes, first) {
-        return Err(AllocError);
-    }
+    let first = first_code(alloc, whole, main)?;
+    push(&mut codes, first)?;
     Ok(codes)
 }
 
@@ -320,12 +304,8 @@ fn first_code(alloc: Global, whole: &Module, main: u32) -> Result<Code, AllocErr
     ensures locals { IfOk result (λ c. c.locals ≡ 0) }
     ensures gives { IfOk result (λ c. c.gives ≡ Some ValType.I32) }
 {
-    let Ok(calls) = entry(alloc, whole.start, main) else {
-        return Err(AllocError);
-    };
-    let Ok(code) = Code::new(alloc, whole, 0, Some(ValType::I32), &calls) else {
-        return Err(AllocError);
-    };
+    let calls = entry(alloc, whole.start, main)?;
+    let code = Code::new(alloc, whole, 0, Some(ValType::I32), &calls)?;
     let _layout = code.layout();
     Ok(code)
 }
@@ -349,23 +329,14 @@ pub(crate) fn first_state(
     let Some(code) = codes.get(first) else {
         return Err(AllocError);
     };
-    let Ok(frames) = Frames::new(alloc, code.layout(), first) else {
-        return Err(AllocError);
-    };
+    let frames = Frames::new(alloc, code.layout(), first)?;
     let limits = limits_of(&whole.memories);
-    let Ok(mut memory) = Memory::new(alloc, limits) else {
-        return Err(AllocError);
-    };
+    let mut memory = Memory::new(alloc, limits)?;
     pour(&mut memory, limits.min as usize * 65536, &whole.data);
     let elements = least(&whole.tables);
-    let Ok(mut table) = Table::new(alloc, elements) else {
-        return Err(AllocError);
-    };
+    let mut table = Table::new(alloc, elements)?;
     fill(&mut table, elements as usize, &whole.elems);
-    let Ok(values) = values_of(alloc, &whole.globals) else {
-        return Err(AllocError);
-    };
-    let globals = Globals::new(values);
+    let globals = Globals::new(values_of(alloc, &whole.globals)?);
     Ok(State {
         frames,
         memory,

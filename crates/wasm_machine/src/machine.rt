@@ -1,10 +1,6 @@
 //! Machines.
-ghost use Rattle.std.specs.Prelude.{◌≡◌, ◌≤◌, IfErr, IfOk, IfSome, None, Some};
-ghost use Rattle.wasm_frames.specs.Standing.{Stand};
-ghost use Rattle.wasm_states.specs.Confs.{conf_of};
-ghost use Rattle.wasm_machine.specs.ViewConf.{HasLines, Lays};
-ghost use Rattle.wasm_machine.specs.declared.program.Program.{Program as AnyProgram};
-ghost use Rattle.wasm_model.specs.Links.{IsNew, Refuses, SegmentsFit, beginning, entry_code, limits_or_none};
+ghost use Rattle.std.specs.Prelude.{◌≡◌, IfErr, IfOk, IfSome, None, Some};
+ghost use Rattle.wasm_model.specs.Links.{IsNew, Refuses};
 ghost use Rattle.wasm_model.specs.Reductions.{Reduced};
 ghost use Rattle.wasm_model.specs.Runs.{Did, lasting, told_run};
 ghost use Rattle.wasm_model.specs.Typed.{Linked, SafeRun};
@@ -15,42 +11,12 @@ use crate::program::Program;
 use crate::run::run;
 use crate::sites::no_lines;
 use module_validator::ValidModule;
-use std::alloc::{AllocError, Global};
+use std::alloc::Global;
 use std::marker::Model;
-use wasm_loader::Code;
 use wasm_model::{End, HostCalls, LinkFault, MachineEnd, RunEnd};
 use wasm_registers::fast::Fast;
 use wasm_states::State;
 use wasm_store::{TrapKind, Word};
-use wasm_types::Module;
-
-/// The codes of a module, the state in which its run begins, and no operations yet for each code.
-fn parts_of(
-    alloc: Global,
-    whole: &Module,
-    main: u32,
-) -> Result<(Vec<Code>, State, Vec<Vec<Fast>>), AllocError>
-    requires fit { SegmentsFit (view_module whole.now) }
-    requires pages { (limits_or_none whole.now.memories.items).min ≤ 65536 }
-    ensures codes { IfOk result
-        (λ r. Lays whole.now.funcs.items (entry_code whole.now.start main) r.0.items) }
-    ensures begins { IfOk result
-        (λ r. conf_of r.0.items r.1 ≡ beginning (view_module whole.now) main) }
-    ensures stands { IfOk result (λ r. Stand r.0.items r.1.frames) }
-    ensures lines { IfOk result (λ r. (p : AnyProgram) → p.codes.items ≡ r.0.items
-        → HasLines p r.2.items) }
-{
-    let Ok(codes) = codes_of(alloc, whole, main) else {
-        return Err(AllocError);
-    };
-    let Ok(state) = first_state(alloc, whole, &codes) else {
-        return Err(AllocError);
-    };
-    let Ok(lines) = no_lines(alloc, &codes) else {
-        return Err(AllocError);
-    };
-    Ok((codes, state, lines))
-}
 
 /// What a machine tells of a run's end.
 fn tell(end: RunEnd) -> MachineEnd
@@ -122,16 +88,23 @@ impl Machine {
             Ok(linked) => linked,
             Err(fault) => return Err(fault),
         };
-        let Ok((codes, state, lines)) = parts_of(alloc, valid.get(), main) else {
+        let Ok(codes) = codes_of(alloc, valid.get(), main) else {
+            return Err(LinkFault::NoMemory);
+        };
+        let Ok(state) = first_state(alloc, valid.get(), &codes) else {
             return Err(LinkFault::NoMemory);
         };
         let whole = valid.into_module();
+        let program = Program {
+            whole,
+            numbers,
+            codes,
+        };
+        let Ok(lines) = no_lines(alloc, &program) else {
+            return Err(LinkFault::NoMemory);
+        };
         Ok(Machine {
-            program: Program {
-                whole,
-                numbers,
-                codes,
-            },
+            program,
             lines,
             state,
             ended: None,

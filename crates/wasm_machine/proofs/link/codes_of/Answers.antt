@@ -24,38 +24,38 @@ pub loop-func-preserved : goal.loop-func-preserved
 loop-func-preserved c =
     let inv = c.loop-func.invariant in
     let old = c.loop-func.codes.items in
-    let code = c.in-Ok.code in
+    let code = c.in_ok-code.code in
     let funcs = c.deref-func-items.result.now in
     let i = c.loop-func.func-index in
     let func = c.func-item.result in
-    let items = c.is_refused.ensures c.if-is_refused.false in (
-      subst (All Begins) (sym items) (All-push Begins old code inv.0 c.in-Ok.ensures.begins),
+    let items = c.in_ok-push.ensures.items in (
+      subst (All Begins) (sym items) (All-push Begins old code inv.0 c.in_ok-code.ensures.begins),
       ap (map first) items
           ∙ (map_push first old code
           ∙ (ap (λ (is : List Instructions). is ++ first code ∷ []) inv.1
-          ∙ (ap (λ (b : Instructions). map body (take i funcs) ++ b ∷ []) (c.in-Ok.ensures.body ∙ ap body c.func-item.is) ∙ sym (map_more body funcs i func c.loop-func-test.true)))),
+          ∙ (ap (λ (b : Instructions). map body (take i funcs) ++ b ∷ []) (c.in_ok-code.ensures.body ∙ ap body c.func-item.is) ∙ sym (map_more body funcs i func c.loop-func-test.true)))),
     )
 
 pub returns : goal.returns
 returns c =
     let inv = c.loop-func.invariant in
     let old = c.loop-func.codes.items in
-    let code = c.in-Ok-first_code.first in
+    let code = c.in_ok-first.first in
     let whole = c.args.whole.now in
     let funcs = c.deref-func-items.result.now in
     let i = c.loop-func.func-index in
-    let items = c.is_refused-2.ensures c.if-is_refused-2.false in
+    let items = c.in_ok-push-2.ensures.items in
     let value = c.deref-func-items.ensures.value in
     let all : map first old ≡ map body whole.funcs.items = inv.1 ∙ ap (map body) (take_all i funcs (omega (arith, c.loop-func-test.false)) ∙ value) in
     let size : length old ≡ length whole.funcs.items = sym (length-map old first) ∙ (ap (λ (is : List Instructions). length is) all ∙ length-map whole.funcs.items body) in
     record {
       codes = record {
-        begin = subst (All Begins) (sym items) (All-push Begins old code inv.0 c.in-Ok-first_code.ensures.begins);
-        bodies = ap (map first) items ∙ (map_push first old code ∙ (ap (λ (is : List Instructions). is ++ first code ∷ []) all ∙ ap (λ (b : Instructions). map body whole.funcs.items ++ b ∷ []) c.in-Ok-first_code.ensures.body));
+        begin = subst (All Begins) (sym items) (All-push Begins old code inv.0 c.in_ok-first.ensures.begins);
+        bodies = ap (map first) items ∙ (map_push first old code ∙ (ap (λ (is : List Instructions). is ++ first code ∷ []) all ∙ ap (λ (b : Instructions). map body whole.funcs.items ++ b ∷ []) c.in_ok-first.ensures.body));
         first = λ f e.
-            let there : slice_get c.is_refused-2.new.items.items (length whole.funcs.items) ≡ Some code = ap (λ (xs : List Laid). slice_get xs (length whole.funcs.items)) items ∙ (ap (slice_get (old ++ code ∷ [])) (sym size) ∙ slice_get_last old code) in
+            let there : slice_get c.push-2.new.items.items (length whole.funcs.items) ≡ Some code = ap (λ (xs : List Laid). slice_get xs (length whole.funcs.items)) items ∙ (ap (slice_get (old ++ code ∷ [])) (sym size) ∙ slice_get_last old code) in
             let same : Some f ≡ Some code = sym e ∙ there in
             let is : f ≡ code = cc in
-            (ap (λ (x : Laid). x.locals) is ∙ c.in-Ok-first_code.ensures.locals, ap (λ (x : Laid). x.gives) is ∙ c.in-Ok-first_code.ensures.gives);
+            (ap (λ (x : Laid). x.locals) is ∙ c.in_ok-first.ensures.locals, ap (λ (x : Laid). x.gives) is ∙ c.in_ok-first.ensures.gives);
       };
     }

@@ -49,8 +49,8 @@ returns-clause-begins c = λ main lays.
     let size : n ≡ length funcs = omega (arith, c.len-first.ensures) in
     let found : slice_get codes n ≡ Some code = slice_get_read codes (length codes) n code refl c.in-Some.ensures.lookup.3.0 c.in-Some.ensures.lookup.1 in
     let code_is : slice_get codes (length funcs) ≡ Some code = ap (slice_get codes) (sym size) ∙ found in
-    let frames = c.in-Ok.frames in
-    let now = c.in-Ok.ensures.first in
+    let frames = c.in_ok-frames.frames in
+    let now = c.in_ok-frames.ensures.first in
     let with : code_with codes n ≡ code = get_or_from_slice_get codes n code nothing found in
     let limits = c.limits_of-limits.ensures ∙ ap limits_or_none c.deref.ensures.value in
     let b = begin_of codes lays.begin n code found in
@@ -67,9 +67,9 @@ returns-clause-begins c = λ main lays.
     conf_is codes frames all w items [] now.0 refl (ap reverse now.1)
     ∙ (ap (λ (r : Option ValType). parts all (framed_at (code_with codes n) items 0) r []) gives
     ∙ beginning_is (view_module m) main (framed_at (code_with codes n) items 0) globals [] memory table frame refl
-    (c.pour.ensures ∙ (ap (λ (x : MemoryForm). poured x (map view_data c.deref-2.result.now)) (c.in-Ok-new.ensures ∙ ap fresh limits) ∙ ap (λ (ds : List Data). poured (fresh (limits_or_none m.memories.items)) (map view_data ds)) c.deref-2.ensures.value))
-    (c.fill.ensures ∙ (ap (λ (x : List (Option ℕ)). filled x (map view_elem c.deref-4.result.now)) (c.in-Ok-new-2.ensures ∙ ap (λ (k : ℕ). replicate k None) (c.least-elements.ensures ∙ ap least c.deref-3.ensures.value)) ∙ ap (λ (es : List Elem). filled (replicate (least m.tables.items) None) (map view_elem es)) c.deref-4.ensures.value))
-    (c.new-globals.ensures ∙ (c.in-Ok-values_of.ensures ∙ (ap (λ (gs : List ModuleGlobal). map (λ g. value_of (views g.init.items)) gs) c.deref-5.ensures.value ∙ sym (map-map (λ g. value_of g.init) view_global m.globals.items)))))
+    (c.pour.ensures ∙ (ap (λ (x : MemoryForm). poured x (map view_data c.deref-2.result.now)) (c.in_ok-memory.ensures ∙ ap fresh limits) ∙ ap (λ (ds : List Data). poured (fresh (limits_or_none m.memories.items)) (map view_data ds)) c.deref-2.ensures.value))
+    (c.fill.ensures ∙ (ap (λ (x : List (Option ℕ)). filled x (map view_elem c.deref-4.result.now)) (c.in_ok-table.ensures ∙ ap (λ (k : ℕ). replicate k None) (c.least-elements.ensures ∙ ap least c.deref-3.ensures.value)) ∙ ap (λ (es : List Elem). filled (replicate (least m.tables.items) None) (map view_elem es)) c.deref-4.ensures.value))
+    (c.new-globals.ensures ∙ (c.in_ok-values_of.ensures ∙ (ap (λ (gs : List ModuleGlobal). map (λ g. value_of (views g.init.items)) gs) c.deref-5.ensures.value ∙ sym (map-map (λ g. value_of g.init) view_global m.globals.items)))))
 
 pub returns-clause-stands : goal.returns-clause-stands
 returns-clause-stands c = λ main lays.
@@ -82,38 +82,8 @@ returns-clause-stands c = λ main lays.
     let size : n ≡ length funcs = omega (arith, c.len-first.ensures) in
     let found : slice_get codes n ≡ Some code = slice_get_read codes (length codes) n code refl c.in-Some.ensures.lookup.3.0 c.in-Some.ensures.lookup.1 in
     let code_is : slice_get codes (length funcs) ≡ Some code = ap (slice_get codes) (sym size) ∙ found in
-    let frames = c.in-Ok.frames in
-    let now = c.in-Ok.ensures.first in
+    let frames = c.in_ok-frames.frames in
+    let now = c.in_ok-frames.ensures.first in
     let with : code_with codes n ≡ code = get_or_from_slice_get codes n code nothing found in
     let is : code_of codes frames.current ≡ code = ap (λ (x : Frame). code_of codes x) now.0 ∙ with in
-    c.in-Ok.ensures.stands codes (is ∙ sym c.layout.ensures.same) (slice_get_within codes n code found)
-
-pub returns-in_default-clause-begins : goal.returns-in_default-clause-begins
-returns-in_default-clause-begins c = tt
-
-pub returns-in_default-clause-stands : goal.returns-in_default-clause-stands
-returns-in_default-clause-stands c = tt
-
-pub returns-in_default-new-clause-begins : goal.returns-in_default-new-clause-begins
-returns-in_default-new-clause-begins c = tt
-
-pub returns-in_default-new-clause-stands : goal.returns-in_default-new-clause-stands
-returns-in_default-new-clause-stands c = tt
-
-pub returns-in_default-new-2-clause-begins : goal.returns-in_default-new-2-clause-begins
-returns-in_default-new-2-clause-begins c = tt
-
-pub returns-in_default-new-2-clause-stands : goal.returns-in_default-new-2-clause-stands
-returns-in_default-new-2-clause-stands c = tt
-
-pub returns-in_default-new-3-clause-begins : goal.returns-in_default-new-3-clause-begins
-returns-in_default-new-3-clause-begins c = tt
-
-pub returns-in_default-new-3-clause-stands : goal.returns-in_default-new-3-clause-stands
-returns-in_default-new-3-clause-stands c = tt
-
-pub returns-in_default-values_of-clause-begins : goal.returns-in_default-values_of-clause-begins
-returns-in_default-values_of-clause-begins c = tt
-
-pub returns-in_default-values_of-clause-stands : goal.returns-in_default-values_of-clause-stands
-returns-in_default-values_of-clause-stands c = tt
+    c.in_ok-frames.ensures.stands codes (is ∙ sym c.layout.ensures.same) (slice_get_within codes n code found)
