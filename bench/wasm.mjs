@@ -152,9 +152,11 @@ export class Module {
     const exports = this.cursor(7);
     this.functions = types.list(() => ({ type: types.u32() }));
     bodies.list(() => bodies.take(bodies.u32())).forEach((body, n) => (this.functions[n].body = body));
-    const [main] = exports.list(() => ({ name: exports.name(), kind: exports.byte(), place: exports.u32() }));
+    const [main, ...others] = exports.list(() => ({ name: exports.name(), kind: exports.byte(), place: exports.u32() }));
     if (main.name !== "main") throw new Error("no main");
+    if (others.some((it) => it.kind === 0)) throw new Error("another function is exported");
     this.main = main.place;
+    this.otherExports = others;
   }
 
   addImports(wanted) {
@@ -205,7 +207,8 @@ export class Module {
     sections.set(2, list(this.imports.map((it) => [...named(it.from), ...named(it.name), it.kind, ...u32(it.type)])));
     sections.set(3, list(this.functions.map((it) => u32(it.type))));
     sections.set(6, [...u32(this.globals), ...this.globalBytes]);
-    sections.set(7, list([[...named("main"), 0, ...u32(this.main)]]));
+    const exports = [{ name: "main", kind: 0, place: this.main }, ...this.otherExports];
+    sections.set(7, list(exports.map((it) => [...named(it.name), it.kind, ...u32(it.place)])));
     sections.set(10, list(this.functions.map((it) => sized(it.body))));
     const inOrder = [...sections].sort(([a], [b]) => a - b);
     return Buffer.from([0, 0x61, 0x73, 0x6d, 1, 0, 0, 0, ...inOrder.flatMap(([id, bytes]) => [id, ...sized(bytes)])]);

@@ -487,49 +487,11 @@ export class Host {
   }
 }
 
-/** The unsigned integer at a place, and the place after it (LEB128). */
-function readU32(bytes, at) {
-  let number = 0;
-  for (let shift = 0; ; shift += 7) {
-    const byte = bytes[at++];
-    number += (byte & 127) * 2 ** shift;
-    if (byte < 128) return [number, at];
-  }
-}
-
-function u32Bytes(number) {
-  const bytes = [];
-  for (; number >= 128; number = Math.floor(number / 128)) bytes.push((number % 128) + 128);
-  bytes.push(number);
-  return bytes;
-}
-
-/**
- * The module with one more export: memory 0, as `memory`. A compiled module exports `main` alone, and JavaScript sees a memory only where it
- * is exported. The bytes are to be a valid module with an export section.
- */
-function withMemoryExport(bytes) {
-  let at = 8;
-  while (at < bytes.length) {
-    const [size, from] = readU32(bytes, at + 1);
-    if (bytes[at] === 7) {
-      const [count, entries] = readU32(bytes, from);
-      const added = Buffer.from([6, ...Buffer.from("memory"), 2, 0]);
-      const section = Buffer.concat([Buffer.from(u32Bytes(count + 1)), bytes.subarray(entries, from + size), added]);
-      const head = Buffer.from([7, ...u32Bytes(section.length)]);
-      return Buffer.concat([bytes.subarray(0, at), head, section, bytes.subarray(from + size)]);
-    }
-    at = from + size;
-  }
-  return bytes;
-}
-
-/** A module whose memory is exported as `memory`. */
+/** A module that `compile` wrote. One of before its memory was exported is not taken. */
 export function moduleOf(bytes) {
   const module = new WebAssembly.Module(bytes);
-  const exports = WebAssembly.Module.exports(module);
-  if (exports.some((e) => e.name === "memory")) return module;
-  return new WebAssembly.Module(withMemoryExport(bytes));
+  if (WebAssembly.Module.exports(module).some((it) => it.kind === "memory" && it.name === "memory")) return module;
+  throw new WebAssembly.LinkError("the module does not export its memory: compile the script anew");
 }
 
 /** How a run ended that threw: by a trap, by calls nested too deeply for the engine's stack, or for want of memory. */
@@ -542,7 +504,8 @@ function endOf(error) {
 
 /**
  * Runs a module in a job, or over a host of this job: `{ status }`, `{ fault }`, `{ trap }`, `{ exhausted }` or `{ noMemory }`. Bytes that are no module, or
- * one that wants other imports, throw the engine's CompileError or LinkError. A module that is run often may be given as a WebAssembly.Module of `moduleOf`.
+ * one that wants other imports or exports no memory, throw the engine's CompileError or LinkError. A module that is run often may be given as a
+ * WebAssembly.Module of `moduleOf`.
  */
 export function runModule(bytes, job, io, host = new Host(job, io)) {
   const module = bytes instanceof WebAssembly.Module ? bytes : moduleOf(bytes);

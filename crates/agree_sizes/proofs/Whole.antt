@@ -206,7 +206,7 @@ module _ (p : Program) (s : is_sorted p ≡ true) (size : module_size (module_of
     imports = imports_hold zero (imports_of p);
     tables = tt;
     globals = ((omega arith, tt), ((omega arith, tt), ((omega arith, tt), ranges_hold p.ranges (name_globals (kinds_of p.globals)) (names_hold (kinds_of p.globals)))));
-    exports = (text (codes "main") refl, tt);
+    exports = (text (codes "main") refl, (text (codes "memory") refl, tt));
     elems = tt;
     codes = functions_hold (length (imports_of p)) p.routines s2.0 (callees_few (called_imports p) (length (imports_of p)) (all_callees p) long);
     data_segments = ((omega arith, tt), tt);

@@ -1,19 +1,20 @@
 -- The module of a well-sorted program is typed.
-use Rattle.std.proofs.Common.{◌≡◌, ◌↔◌, ℕ, zero, suc, ◌+◌, ◌^◌, ◌<◌, ◌≤◌, T, Bool, true, false, List, [], ◌∷◌, ◌++◌, length, Some, refl, arith}
+use Rattle.std.proofs.Common.{◌≡◌, ◌↔◌, ℕ, zero, suc, ◌+◌, ◌^◌, ◌<◌, ◌≤◌, T, Bool, true, false, List, [], ◌∷◌, ◌++◌, length, Some, refl, ap, arith}
 use Rattle.std.specs.List.{All}
-use Rattle.std.specs.Prelude.{◌&&◌, slice_get, get_or, map, replicate, codes}
+use Rattle.std.specs.Prelude.{◌&&◌, slice_get, slice_index_or, get_or, map, replicate, codes}
 use Rattle.std.proofs.lemmas.Bool.{and_parts, or_left, or_right}
 use Rattle.std.proofs.lemmas.List.{length-map, length-append}
 use Rattle.std.proofs.lemmas.List.Elements.{All-cons, All-nil, All-append, All-replicate}
-use Rattle.wasm_types.specs.Syntax.{GlobalForm, ImportForm}
-use Rattle.wasm_types.specs.Typing.{CodeOk, context_in, typed_in, callee_in, FuncOk, ImportOk, IsConstant, DescOk, DataOk, AreDistinct, LimitsOk, LevelOk, ModuleOk}
+use Rattle.wasm_types.specs.Syntax.{ExportForm, GlobalForm, ImportForm, ModuleForm}
+use Rattle.wasm_types.specs.Typing.{CodeOk, context_in, function_types, typed_in, callee_in, FuncOk, ImportOk, IsConstant, DescOk, DataOk, AreDistinct, LimitsOk, LevelOk, ModuleOk}
 use Rattle.wasm_types.specs.declared.types.ValType.TheVariants.{I32, I64}
+use Rattle.wasm_types.specs.declared.module.ExportDesc.TheVariants.{Func, Memory}
 use Rattle.mid_program.specs.Mid.{Kind, Routine, Program}
 use Rattle.mid_program.specs.Sorted.{context_of, kinds_of, announced_names, all_differ, routines_sorted, parts_sorted, steps_sorted, is_sorted, IsSorted}
 use Rattle.lower_model.specs.Functions.{texts_of, routine_bases, main_bases, routine_callee, main_callee}
 use Rattle.host_imports.specs.Imports.{import_type}
 use Rattle.lower_model.specs.Machine.{Callee}
-use Rattle.lower_model.specs.Modules.{all_callees, calls_in, any_calls, called_imports, imports_of, renumbered, callee_type, imported_from, functions_from, word_global, long_global, name_globals, globals_of, memory_for, pages_for, module_of}
+use Rattle.lower_model.specs.Modules.{all_callees, calls_in, any_calls, called_imports, imports_of, renumbered, callee_type, exports_of, imported_from, functions_from, word_global, long_global, name_globals, globals_of, memory_for, pages_for, module_of}
 use Rattle.lower_model.specs.Places.{memory_of}
 use Rattle.lower_model.specs.Small.{minus_one, least}
 use Rattle.host_imports.specs.declared.import.Import.{Import}
@@ -25,6 +26,12 @@ use Rattle.agree_typed.proofs.Numbers.{numbers_length, types_length, called_ther
 from_T : (b : Bool) → T b → b ≡ true
 from_T true t = refl
 from_T false t = absurd t
+
+both_there : (m : ModuleForm) (main : ℕ) → main < length (function_types m) → 0 < length m.memories → All (λ (e : ExportForm). DescOk m e.desc) (exports_of main)
+both_there m main of_function of_memory =
+    let memory : ExportForm = record { name = codes "memory"; desc = Memory 0 } in
+    All-cons (λ (e : ExportForm). DescOk m e.desc) (record { name = codes "main"; desc = Func main }) (memory ∷ []) of_function
+    (All-cons (λ (e : ExportForm). DescOk m e.desc) memory [] of_memory (All-nil (λ (e : ExportForm). DescOk m e.desc)))
 
 module _ (p : Program) where
   -- a function's body is typed in the module
@@ -114,9 +121,14 @@ module _ (p : Program) where
       (All-append IsSet (replicate p.ranges (word_global 0)) (name_globals (kinds_of p.globals)) (All-replicate IsSet p.ranges (word_global 0) refl)
       (names_set (kinds_of p.globals)))))
 
-  one_name : AreDistinct (codes "main" ∷ [])
-  one_name zero lt c = omega (arith, c.1)
-  one_name (suc i) lt c = omega (arith, lt)
+  not_main : (k : ℕ) → k < 1 → slice_index_or (codes "main" ∷ []) k (codes "memory") ≡ codes "memory" → ⊥
+  not_main zero lt same = let lengths : 4 ≡ 6 = ap length same in omega (arith, lengths)
+  not_main (suc k) lt same = omega (arith, lt)
+
+  two_names : AreDistinct (codes "main" ∷ (codes "memory" ∷ []))
+  two_names zero lt c = omega (arith, c.1)
+  two_names (suc zero) lt c = not_main c.0 c.1 c.2
+  two_names (suc (suc i)) lt c = omega (arith, lt)
 
   main_there : length (imports_of p) + length p.routines < length (all_callees p) + length (imports_of p)
   main_there =
@@ -135,8 +147,8 @@ module _ (p : Program) where
     memories_ok = All-cons (LimitsOk 65536) _ [] (omega arith, pages_few (length (memory_of (texts_of p))) h) (All-nil _);
     one_memory = omega arith;
     globals_ok = globals_set;
-    exports_ok = All-cons (λ e. DescOk (module_of p) e.desc) _ [] (let a = main_there in let l = numbers_length p in omega (arith, a, l)) (All-nil _);
-    names_ok = one_name;
+    exports_ok = both_there (module_of p) (length (imports_of p) + length p.routines) (let a = main_there in let l = numbers_length p in omega (arith, a, l)) (omega arith);
+    names_ok = two_names;
     start_ok = tt;
     elems_ok = All-nil _;
     data_ok = All-cons (DataOk (module_of p)) _ [] (record { of_memory = omega arith; offset = refl }) (All-nil _);

@@ -1,12 +1,12 @@
 -- The module of a program. Its code is emitted for all imports; then those that no function calls are left out, and the others and the functions are
 -- numbered anew.
 use Rattle.std.specs.Prelude.{ℕ, zero, suc, ◌+◌, ◌/◌, nat_eq, Bool, true, false, ◌||◌, List, [], ◌∷◌, ◌++◌, length, map, codes, replicate, Some, None}
-use Rattle.wasm_types.specs.Syntax.{Instruction, Plain, BrTable, Block, Loop, If, Instructions, Done, Then, Signature, ImportForm, FuncForm, GlobalForm, ModuleForm}
+use Rattle.wasm_types.specs.Syntax.{Instruction, Plain, BrTable, Block, Loop, If, Instructions, Done, Then, Signature, ImportForm, FuncForm, GlobalForm, ExportForm, ModuleForm}
 use Rattle.wasm_types.specs.declared.types.ValType.TheVariants.{I32, I64}
 use Rattle.wasm_types.specs.declared.types.Limits.{Limits}
 use Rattle.wasm_types.specs.declared.instr.Simple.{Simple}
 use Rattle.wasm_types.specs.declared.instr.Simple.TheVariants.{Call, I32Const, I64Const}
-use Rattle.wasm_types.specs.declared.module.ExportDesc.TheVariants.{Func}
+use Rattle.wasm_types.specs.declared.module.ExportDesc.TheVariants.{Func, Memory}
 use Rattle.mid_program.specs.Mid.{Kind, Program}
 use Rattle.mid_program.specs.Sorted.{kinds_of}
 use Rattle.host_imports.specs.Imports.{imports, import_name, import_type, module_name}
@@ -118,6 +118,10 @@ pages_for bytes = (bytes + 65535) / 65536
 abbrev pub memory_for : ℕ → Limits
 memory_for bytes = record { min = pages_for bytes; max = Some (pages_for bytes) }
 
+-- `main`, which has this number, and the memory, in which an engine's host reads the texts
+abbrev pub exports_of : ℕ → List ExportForm
+exports_of main = (record { name = codes "main"; desc = Func main }) ∷ ((record { name = codes "memory"; desc = Memory 0 }) ∷ [])
+
 abbrev pub module_of : Program → ModuleForm
 module_of program =
     let called = called_imports program in
@@ -130,7 +134,7 @@ module_of program =
       tables = [];
       memories = memory_for (length memory) ∷ [];
       globals = globals_of program;
-      exports = (record { name = codes "main"; desc = Func (length used + length program.routines) }) ∷ [];
+      exports = exports_of (length used + length program.routines);
       start = None;
       elems = [];
       data_segments = (record { memory = 0; offset = does (I32Const 0) Done; init = memory }) ∷ [];

@@ -1,21 +1,16 @@
 -- The parts of a module, before they are put together.
-use Rattle.std.specs.Prelude.{◌≡◌, ℕ, Bool, List, [], ◌∷◌, ◌++◌, length, map, codes}
+use Rattle.std.specs.Prelude.{◌≡◌, ℕ, Bool, List, [], ◌∷◌, ◌++◌, length, map}
 use Rattle.mid_program.specs.Mid.{Program}
-use Rattle.wasm_types.specs.Syntax.{DataForm, Done, ExportForm}
+use Rattle.wasm_types.specs.Syntax.{DataForm, Done}
 use Rattle.wasm_types.specs.View.{signature_of, view_data, view_export, view_func, view_global, view_import}
 use Rattle.wasm_types.specs.declared.instr.Simple.TheVariants.{I32Const}
-use Rattle.wasm_types.specs.declared.module.ExportDesc.TheVariants.{Func}
 use Rattle.host_imports.specs.Imports.{import_type}
 use Rattle.host_imports.specs.declared.import.Import.{Import}
 use Rattle.lower_model.specs.Machine.{Callee}
-use Rattle.lower_model.specs.Modules.{callee_type, functions_from, globals_of, imported_from, memory_for}
+use Rattle.lower_model.specs.Modules.{callee_type, exports_of, functions_from, globals_of, imported_from, memory_for}
 use Rattle.lower_model.specs.Small.{does}
 use Rattle.lower_modules.specs.declared.module.CodeParts.{CodeParts}
 use Rattle.lower_modules.specs.declared.module.DataParts.{DataParts}
-
--- the export of `main`, by its number
-abbrev pub main_form : ℕ → ExportForm
-main_form number = record { name = codes "main"; desc = Func number }
 
 -- bytes at address 0
 abbrev pub text_form : List ℕ → DataForm
@@ -31,5 +26,5 @@ pub record AreCodeParts (called : List Bool) (used : List Import) (functions : L
 pub record AreDataParts (program : Program) (bytes : List ℕ) (main : ℕ) (parts : DataParts) : Type 0 where
   pub memories : parts.memories.items ≡ memory_for (length bytes) ∷ []
   pub globals : map view_global parts.globals.items ≡ globals_of program
-  pub exports : map view_export parts.exports.items ≡ main_form main ∷ []
+  pub exports : map view_export parts.exports.items ≡ exports_of main
   pub segments : map view_data parts.segments.items ≡ text_form bytes ∷ []

@@ -78,7 +78,7 @@ struct DataParts {
     segments: Vec<Data>,
 }
 
-/// The memory with its bytes, the globals, and the export of `main`, which has this number.
+/// The memory with its bytes, the globals, and the exports: `main`, which has this number, and the memory.
 fn data_parts(alloc: Global, mid: &Mid, bytes: Vec<u8>, main: u32) -> Result<DataParts, AllocError>
     requires { length bytes.items ≤ most_bytes }
     ensures { IfOk result (AreDataParts (view_mid mid.now) bytes.items main) }

@@ -4,11 +4,11 @@ ghost use Rattle.mid_program.specs.Sorted.{announced_names, kinds_of};
 ghost use Rattle.mid_program.specs.View.{view_declared, view_mid, view_routine, view_texts};
 ghost use Rattle.lower_modules.specs.Grown.{Puts};
 ghost use Rattle.lower_modules.specs.Limits.{most_bytes};
-ghost use Rattle.lower_modules.specs.Parts.{main_form, text_form};
+ghost use Rattle.lower_modules.specs.Parts.{text_form};
 ghost use Rattle.lower_modules.specs.View.{view_function, view_functions};
 ghost use Rattle.lower_model.specs.Functions.{texts_of};
 ghost use Rattle.host_imports.specs.Imports.{import_name, imports, module_name};
-ghost use Rattle.lower_model.specs.Modules.{functions_from, globals_of, imported_from, long_global, memory_for, name_globals, renumbered, word_global};
+ghost use Rattle.lower_model.specs.Modules.{exports_of, functions_from, globals_of, imported_from, long_global, memory_for, name_globals, renumbered, word_global};
 ghost use Rattle.lower_model.specs.Places.{memory_of};
 ghost use Rattle.lower_model.specs.Small.{does, minus_one};
 ghost use Rattle.wasm_types.specs.Syntax.{Done};
@@ -215,16 +215,22 @@ pub(crate) fn segments(alloc: Global, memory: Vec<u8>) -> Result<Vec<Data>, Allo
     )
 }
 
-/// The export of `main`: the one export.
-pub(crate) fn exports(alloc: Global, number: u32) -> Result<Vec<Export>, AllocError>
-    ensures { IfOk result (λ all. map view_export all.items ≡ main_form number ∷ []) }
+/// An export of this name.
+fn export(alloc: Global, name: &str, desc: ExportDesc) -> Result<Export, AllocError>
+    ensures { IfOk result (λ made. view_export made ≡ record { name = name.now; desc = desc }) }
 {
-    let name = String::from_str(alloc, "main")?;
-    only(
-        alloc,
-        Export {
-            name,
-            desc: ExportDesc::Func(number),
-        },
-    )
+    Ok(Export {
+        name: String::from_str(alloc, name)?,
+        desc,
+    })
+}
+
+/// The exports: `main`, which has this number, and the memory.
+pub(crate) fn exports(alloc: Global, main: u32) -> Result<Vec<Export>, AllocError>
+    ensures { IfOk result (λ all. map view_export all.items ≡ exports_of main) }
+{
+    let mut all = Grown::new(Vec::new(alloc));
+    all.put(export(alloc, "main", ExportDesc::Func(main)));
+    all.put(export(alloc, "memory", ExportDesc::Memory(0)));
+    all.all()
 }

@@ -9,3 +9,5 @@ mod decoding;
 mod integers;
 #[cfg(test)]
 mod limits;
+#[cfg(test)]
+mod naming;

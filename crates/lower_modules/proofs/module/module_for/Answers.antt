@@ -6,11 +6,11 @@ use Rattle.wasm_types.specs.View.{view_elem}
 use Rattle.host_imports.specs.Imports.{imports, import_type}
 use Rattle.lower_model.specs.Functions.{main_callee, routine_callee}
 use Rattle.lower_model.specs.Machine.{Callee}
-use Rattle.lower_model.specs.Modules.{called_from, callee_type, chosen, functions_from, imported_from, memory_for}
+use Rattle.lower_model.specs.Modules.{called_from, callee_type, chosen, exports_of, functions_from, imported_from, memory_for}
 use Rattle.lower_modules.specs.Lengths.{least_among}
 use Rattle.lower_modules.specs.Limits.{most_bytes}
 use Rattle.lower_modules.specs.View.{view_function}
-use Rattle.lower_modules.specs.Parts.{main_form, text_form}
+use Rattle.lower_modules.specs.Parts.{text_form}
 use Rattle.lower_modules.proofs.Spelled.{spelled_short}
 use Rattle.lower_modules.proofs.module.module_for.Goals as goal
 
@@ -27,7 +27,7 @@ returns-clause-module c =
     let forms = code.imports ∙ ap (λ (fs : List Callee). imported_from 0 (chosen (called_from 0 imports fs) imports)) c.requires in
     let funcs = code.funcs ∙ ap (λ (fs : List Callee). functions_from (called_from 0 imports fs) (length (chosen (called_from 0 imports fs) imports)) fs) c.requires in
     let memories = others.memories ∙ ap (λ (bs : List ℕ). memory_for (length bs) ∷ []) bytes in
-    let exports = others.exports ∙ (λ i. main_form (first i + count i) ∷ []) in
+    let exports = others.exports ∙ (λ i. exports_of (first i + count i)) in
     let segments = others.segments ∙ ap (λ (bs : List ℕ). text_form bs ∷ []) bytes in
     let elems = ap (map view_elem) c.new-2.ensures.items in
     λ i. record {
