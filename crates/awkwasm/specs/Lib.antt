@@ -1,1 +1,4 @@
+pub mod Done
+pub mod Lines
+pub mod Printed
 pub mod Uncompiled

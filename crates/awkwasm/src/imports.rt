@@ -1,9 +1,14 @@
 //! What `imports` prints.
+ghost use Rattle.std.specs.Prelude.{◌≡◌, ◌++◌, IfOk, OnOk, string_bytes};
+ghost use Rattle.awkwasm.specs.Printed.{imports_text, line, names_text, reads_text, writes_text};
+
 use host_imports::Import;
 use run_imports::{Reads, Writes, reads_of, writes_of};
 use std::alloc::{AllocError, Global};
 
-fn reads_text(reads: Reads) -> &'static str {
+fn reads_text(reads: Reads) -> &'static str
+    ensures { result.now ≡ reads_text reads }
+{
     match reads {
         Reads::Nothing => "reads nothing",
         Reads::Operands => "reads the operands and the standard input, and no other file",
@@ -11,24 +16,41 @@ fn reads_text(reads: Reads) -> &'static str {
     }
 }
 
-fn writes_text(writes: Writes) -> &'static str {
+fn writes_text(writes: Writes) -> &'static str
+    ensures { result.now ≡ writes_text writes }
+{
     match writes {
         Writes::Nothing => "writes nothing",
         Writes::AnyName => "may write to the standard output, and to any file by its name",
     }
 }
 
-/// The names of the imports, a line each, and what follows from them.
-pub(crate) fn imports_text(alloc: Global, imports: &[Import]) -> Result<String, AllocError> {
+/// Adds a line.
+fn push_line(text: &mut String, added: &str) -> Result<(), AllocError>
+    ensures { OnOk result (string_bytes text.new ≡ string_bytes text.old ++ line added.now) }
+{
+    text.push_str(added)?;
+    text.push_str("\n")
+}
+
+/// The names of the imports, a line each.
+fn names_of(alloc: Global, imports: &[Import]) -> Result<String, AllocError>
+    ensures { IfOk result (λ text. string_bytes text ≡ names_text imports.now) }
+{
     let mut text = String::new(alloc);
     for import in imports {
-        text.push_str(import.name())?;
-        text.push('\n')?;
+        push_line(&mut text, import.name())?;
     }
-    text.push('\n')?;
-    text.push_str(reads_text(reads_of(imports)))?;
-    text.push('\n')?;
-    text.push_str(writes_text(writes_of(imports)))?;
-    text.push('\n')?;
+    Ok(text)
+}
+
+/// The names of the imports, a line each, and what follows from them.
+pub(crate) fn imports_text(alloc: Global, imports: &[Import]) -> Result<String, AllocError>
+    ensures { IfOk result (λ text. string_bytes text ≡ imports_text imports.now) }
+{
+    let mut text = names_of(alloc, imports)?;
+    push_line(&mut text, "")?;
+    push_line(&mut text, reads_text(reads_of(imports)))?;
+    push_line(&mut text, writes_text(writes_of(imports)))?;
     Ok(text)
 }

@@ -1,6 +1,13 @@
 //! awkwasm: compiles AWK scripts to WebAssembly modules, and runs scripts and modules.
 #![tactic(auto)]
 
+ghost use Rattle.std.specs.Prelude.{◌≡◌, ◌⊎◌, true, IfErr, IfOk};
+ghost use Rattle.clap.specs.Words.{takes};
+ghost use Rattle.command_line.specs.Line.{line_app};
+ghost use Rattle.command_line.specs.Request.{texts};
+ghost use Rattle.run_tasks.specs.declared.undone.Undone.TheVariants.{NoMemory};
+ghost use Rattle.awkwasm.specs.Lines.{Carries, Refuses};
+
 mod environment;
 mod explanations;
 mod imports;
@@ -34,7 +41,12 @@ fn words_of<'a>(rt: &HostRuntime, arguments: &'a [String]) -> Result<Vec<&'a str
 }
 
 /// Does what the words ask for; the answer is the exit status.
-fn answer(rt: &HostRuntime, words: &[&str]) -> Result<u8, Undone> {
+fn answer(rt: &HostRuntime, words: &[&str]) -> Result<u8, Undone>
+    ensures ok { IfOk result
+        (λ code. Carries (texts words.now) code ⊎ Refuses (texts words.now) code) }
+    ensures err { IfErr result
+        (λ undone. takes line_app (texts words.now) ≡ true → undone ≡ NoMemory) }
+{
     // A failing standard stream changes no status.
     match request_of(rt.alloc(), words) {
         Err(error) if is_no_memory(&error) => Err(Undone::NoMemory),

@@ -2,7 +2,10 @@
 use Rattle.std.specs.Prelude.{ℕ, Bool, ◌==◌, List, [], ◌++◌, if◌then◌else◌, codes, map, Some, None}
 use Rattle.std.specs.List.{list_any, before_first, after_first}
 use Rattle.sem_primitives.specs.Jobs.{JobForm}
-use Rattle.world_fenced.specs.Fences.{FenceForm}
+use Rattle.world_core.specs.WorldState.{State}
+use Rattle.world_fenced.specs.Behind.{behind}
+use Rattle.world_fenced.specs.Fences.{FenceForm, lets_read}
+use Rattle.world_os.specs.OsStreams.{no_state}
 use Rattle.command_line.specs.Request.{texts}
 use Rattle.command_line.specs.declared.Task.{Task}
 
@@ -32,3 +35,7 @@ fence_of_task task = record {
   read_only = task.fences.read_only;
   operands = if task.fences.only_operands then Some (texts task.words.items) else None;
 }
+
+-- What is told of real files behind the fence of a task: the fence alone. Nothing is told of what they hold.
+abbrev pub files_of_task : Task → State
+files_of_task task = behind (lets_read (fence_of_task task)) no_state

@@ -6,7 +6,7 @@ mod imports;
 mod job;
 mod undone;
 
-pub use fences::{fence_of, world_of};
+pub use fences::{fence_of, os_world_of};
 pub use imports::listed;
 pub use job::{job_on, named_texts};
 pub use undone::{Undone, undone_status, undone_text};

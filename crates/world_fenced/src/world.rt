@@ -4,7 +4,7 @@ ghost use Rattle.world_core.specs.Calls.{Closed, Closes, Opens, OpensToRead, Ope
 ghost use Rattle.world_fenced.specs.Behind.{behind};
 
 use crate::fence::Fence;
-use world_core::{World, WorldFault};
+use world_core::{FaultyWorld, World, WorldFault};
 
 /// A world that does as its inner one does, but for names that its fence keeps out: they do not open, and the inner world is not asked. What is
 /// told of it is what the inner world tells, seen through the fence.
@@ -29,13 +29,6 @@ impl<W: World, F: Fence> FencedWorld<W, F> {
         }
     }
 
-    /// The inner world.
-    pub fn into_inner(self) -> W
-        ensures { result ≡ self.inner }
-    {
-        self.inner
-    }
-
     /// A name is kept out.
     fn keep_out(&mut self) -> Result<u32, WorldFault>
         ensures result { result ≡ Err WorldFault.Failed }
@@ -45,6 +38,15 @@ impl<W: World, F: Fence> FencedWorld<W, F> {
     {
         self.kept_out = self.kept_out.wrapping_add(1);
         Err(WorldFault::Failed)
+    }
+}
+
+impl<W: World, F: Fence> FencedWorld<FaultyWorld<W>, F> {
+    /// The inner world, where it is one whose calls fail as told, as in a test. The fence is taken from no other world.
+    pub fn into_inner(self) -> FaultyWorld<W>
+        ensures { result ≡ self.inner }
+    {
+        self.inner
     }
 }
 

@@ -1,5 +1,7 @@
 -- The streams of a world over real files: what each is open for, and which names are paths.
-use Rattle.std.specs.Prelude.{ℕ, zero, suc, ◌<◌, List, [], length, get_or}
+use Rattle.std.specs.Prelude.{◌≡◌, ◌≢◌, ℕ, zero, suc, ◌<◌, List, [], length, get_or, Bool, true, not, Option, None}
+use Rattle.std.specs.Fs.{new_options, with_append, with_create, with_truncate, with_write}
+use Rattle.std.specs.declared.fs.options.OpenOptions.{OpenOptions}
 use Rattle.std.specs.Str.{IsUtf8}
 use Rattle.world_core.specs.Calls.{Kind, Closed as NotOpen, Reading, Writing}
 use Rattle.world_core.specs.WorldState.{State, Standard, absent}
@@ -21,6 +23,32 @@ abbrev pub os_kinds : {F : Type 0} → List (OsStream F) → ℕ → Kind
 os_kinds streams zero = Reading
 os_kinds streams (suc zero) = Writing
 os_kinds streams (suc (suc k)) = os_kind (get_or streams k Closed)
+
+-- The stream of a number. The standard streams are no files: their numbers have none.
+abbrev pub stream_at : {F : Type 0} → List (OsStream F) → ℕ → OsStream F
+stream_at streams zero = Closed
+stream_at streams (suc zero) = Closed
+stream_at streams (suc (suc k)) = get_or streams k Closed
+
+-- every stream but one is as it was
+abbrev pub OthersStay : {F : Type 0} → ℕ → List (OsStream F) → List (OsStream F) → Type 0
+OthersStay id old new = (k : ℕ) → k ≢ id → stream_at new k ≡ stream_at old k
+
+-- what the file of a stream will give, where the file tells
+abbrev pub left_of : {F : Type 0} → (F → Option (List ℕ)) → OsStream F → Option (List ℕ)
+left_of remaining Closed = None
+left_of remaining (Reader file) = remaining file
+left_of remaining (Writer file) = None
+
+-- what the file of a stream holds, where the file tells
+abbrev pub held_by : {F : Type 0} → (F → Option (List ℕ)) → OsStream F → Option (List ℕ)
+held_by contents Closed = None
+held_by contents (Reader file) = None
+held_by contents (Writer file) = contents file
+
+-- how a file is opened for writing: created where it is absent, and at its end or emptied
+abbrev pub writing : Bool → OpenOptions
+writing append = with_truncate (with_append (with_create (with_write new_options true) true) append) (not append)
 
 -- nothing is told: a state of no meaning
 abbrev pub no_state : State

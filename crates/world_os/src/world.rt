@@ -1,8 +1,8 @@
 //! A world over real files, which tells nothing of what they hold.
-ghost use Rattle.std.specs.Prelude.{◌≡◌, ◌<◌, ◌≤◌, [], length, Err, IfErr, IfOk, MatchOption, OnErr};
-ghost use Rattle.world_os.specs.OsStreams.{os_kind, os_kinds, IsPath};
+ghost use Rattle.std.specs.Prelude.{◌≡◌, ◌≢◌, ◌<◌, ◌≤◌, [], length, Err, IfErr, IfOk, MatchOption, OnErr};
+ghost use Rattle.world_os.specs.OsStreams.{held_by, IsPath, left_of, os_kind, os_kinds, OthersStay, stream_at, writing};
 ghost use Rattle.std.specs.Io.KnownBytes.{ReadConsumes, WriteAppends};
-ghost use Rattle.world_core.specs.Calls.{next_count, Opens, Reading, Writing};
+ghost use Rattle.world_core.specs.Calls.{Closed, next_count, Opens, Reading, set_kind, Writing};
 
 use std::alloc::Global;
 use std::fs;
@@ -67,14 +67,21 @@ pub(crate) enum OsStream<F: Drop> {
     Writer(F),
 }
 
-fn open_to_write<R: Files>(files: &R, path: &str, append: bool) -> Option<R::File> {
-    OpenOptions::new()
+/// How a file is opened for writing: created where it is absent, and at its end or emptied.
+fn write_options(append: bool) -> OpenOptions
+    ensures { result ≡ writing append }
+{
+    let mut options = OpenOptions::new();
+    options
         .write(true)
         .create(true)
         .append(append)
-        .truncate(!append)
-        .open(files, path)
-        .ok()
+        .truncate(!append);
+    options
+}
+
+fn open_to_write<R: Files>(files: &R, path: &str, append: bool) -> Option<R::File> {
+    write_options(append).open(files, path).ok()
 }
 
 /// Puts a stream behind the others, and gives its number.
@@ -84,6 +91,7 @@ fn add_stream<F: Drop>(
 ) -> Result<u32, WorldFault>
     ensures opened { IfOk result (λ id. Opens (os_kind stream) id (os_kinds streams.old.items)
         (os_kinds streams.new.items)) }
+    ensures others { IfOk result (λ id. OthersStay id streams.old.items streams.new.items) }
     ensures err { OnErr result (streams.new.items ≡ streams.old.items) }
     ensures not_failed { IfErr result (λ fault. fault ≡ WorldFault.NoMemory) }
 {
@@ -135,7 +143,20 @@ impl<'a, R: Files, I: Read + Drop, O: Write + Drop> World for OsWorld<'a, R, I, 
 
     ghost count = { λ w. w.failures };
 
-    fn open_read(&mut self, name: &[u8]) -> Result<u32, WorldFault> {
+    fn open_read(&mut self, name: &[u8]) -> Result<u32, WorldFault>
+        ensures opened { IfOk result (λ id. Opens Reading id (os_kinds self.old.streams.items)
+            (os_kinds self.new.streams.items)) }
+        ensures not_opened { OnErr result
+            (os_kinds self.new.streams.items ≡ os_kinds self.old.streams.items) }
+        ensures count { self.new.failures ≡ next_count result self.old.failures }
+        ensures not_path { ¬ (IsPath name.now) → (result ≡ Err WorldFault.Failed)
+            × (self.new.streams.items ≡ self.old.streams.items) }
+        ensures others { IfOk result
+            (λ id. OthersStay id self.old.streams.items self.new.streams.items) }
+        ensures stay { OnErr result (self.new.streams.items ≡ self.old.streams.items) }
+        ensures input { self.new.input ≡ self.old.input }
+        ensures output { self.new.output ≡ self.old.output }
+    {
         let opened = match path_of(name) {
             Some(path) => fs::open(self.files, path).ok(),
             None => None,
@@ -146,7 +167,20 @@ impl<'a, R: Files, I: Read + Drop, O: Write + Drop> World for OsWorld<'a, R, I, 
         }
     }
 
-    fn open_write(&mut self, name: &[u8], append: bool) -> Result<u32, WorldFault> {
+    fn open_write(&mut self, name: &[u8], append: bool) -> Result<u32, WorldFault>
+        ensures opened { IfOk result (λ id. Opens Writing id (os_kinds self.old.streams.items)
+            (os_kinds self.new.streams.items)) }
+        ensures not_opened { OnErr result
+            (os_kinds self.new.streams.items ≡ os_kinds self.old.streams.items) }
+        ensures count { self.new.failures ≡ next_count result self.old.failures }
+        ensures not_path { ¬ (IsPath name.now) → (result ≡ Err WorldFault.Failed)
+            × (self.new.streams.items ≡ self.old.streams.items) }
+        ensures others { IfOk result
+            (λ id. OthersStay id self.old.streams.items self.new.streams.items) }
+        ensures stay { OnErr result (self.new.streams.items ≡ self.old.streams.items) }
+        ensures input { self.new.input ≡ self.old.input }
+        ensures output { self.new.output ≡ self.old.output }
+    {
         let opened = match path_of(name) {
             Some(path) => open_to_write(self.files, path, append),
             None => None,
@@ -164,6 +198,12 @@ impl<'a, R: Files, I: Read + Drop, O: Write + Drop> World for OsWorld<'a, R, I, 
         ensures count { self.new.failures ≡ next_count result self.old.failures }
         ensures standard { id ≡ 0 → ReadConsumes (I.remaining self.old.input)
             (I.remaining self.new.input) result buffer.new }
+        ensures own { 1 < id
+            → ReadConsumes (left_of R.File.remaining (stream_at self.old.streams.items id))
+            (left_of R.File.remaining (stream_at self.new.streams.items id)) result buffer.new }
+        ensures others { OthersStay id self.old.streams.items self.new.streams.items }
+        ensures input { 1 < id → self.new.input ≡ self.old.input }
+        ensures output { self.new.output ≡ self.old.output }
     {
         if id == 0 {
             return counted_read(&mut self.input, buffer, &mut self.failures);
@@ -182,6 +222,12 @@ impl<'a, R: Files, I: Read + Drop, O: Write + Drop> World for OsWorld<'a, R, I, 
         ensures count { self.new.failures ≡ next_count result self.old.failures }
         ensures standard { id ≡ 1 → WriteAppends (O.contents self.old.output)
             (O.contents self.new.output) result text.now }
+        ensures own { 1 < id
+            → WriteAppends (held_by R.File.contents (stream_at self.old.streams.items id))
+            (held_by R.File.contents (stream_at self.new.streams.items id)) result text.now }
+        ensures others { OthersStay id self.old.streams.items self.new.streams.items }
+        ensures input { self.new.input ≡ self.old.input }
+        ensures output { 1 < id → self.new.output ≡ self.old.output }
     {
         if id == 1 {
             return counted_write(&mut self.output, text, &mut self.failures);
@@ -192,7 +238,16 @@ impl<'a, R: Files, I: Read + Drop, O: Write + Drop> World for OsWorld<'a, R, I, 
         }
     }
 
-    fn close(&mut self, id: u32) {
+    fn close(&mut self, id: u32)
+        requires open { os_kinds self.old.streams.items id ≢ Closed }
+        requires own { 1 < id }
+        ensures kinds { os_kinds self.new.streams.items
+            ≡ set_kind id Closed (os_kinds self.old.streams.items) }
+        ensures count { self.new.failures ≡ self.old.failures }
+        ensures others { OthersStay id self.old.streams.items self.new.streams.items }
+        ensures input { self.new.input ≡ self.old.input }
+        ensures output { self.new.output ≡ self.old.output }
+    {
         self.streams[id as usize - 2] = OsStream::Closed;
     }
 
