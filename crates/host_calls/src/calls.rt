@@ -17,6 +17,7 @@ fn unknown() -> HostAnswer
 }
 
 impl<W: World> HostCalls for Host<W> {
+    ghost use Rattle.std.specs.Prelude.{false};
     ghost use Rattle.host_meaning.specs.FormLaws.{form_refused, form_typed};
     ghost use Rattle.host_meaning.specs.FormMeaning.{FormState, Told, form_meaning};
     ghost use Rattle.host_calls.specs.Forms.{host_form};
@@ -47,6 +48,14 @@ impl<W: World> HostCalls for Host<W> {
             Some(import) => self.answer(import, args, memory.bytes()),
             None => unknown(),
         }
+    }
+
+    ghost halts = { λ _. false };
+
+    // Runs over it never pause.
+    #[inline(always)]
+    fn is_halting(&self) -> bool {
+        false
     }
 
     ghost found = { host_found };

@@ -61,7 +61,7 @@ impl SmallHost {
 }
 
 impl HostCalls for SmallHost {
-    ghost use Rattle.std.specs.Prelude.{ℕ};
+    ghost use Rattle.std.specs.Prelude.{ℕ, false};
     ghost use Rattle.test_machine.specs.SmallHost.{small_finds, small_found, small_meaning, small_refused, small_typed, small_types};
 
     ghost Output = { ℕ };
@@ -101,6 +101,12 @@ impl HostCalls for SmallHost {
             5 => HostAnswer::Done(Some(Word::I32(n.wrapping_mul(2)))),
             _ => HostAnswer::NoMemory,
         }
+    }
+
+    ghost halts = { λ _. false };
+
+    fn is_halting(&self) -> bool {
+        false
     }
 
     ghost found = { small_found };

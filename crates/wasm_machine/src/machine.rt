@@ -1,5 +1,5 @@
 //! Machines.
-ghost use Rattle.std.specs.Prelude.{◌≡◌, IfErr, IfOk, IfSome, None, Some};
+ghost use Rattle.std.specs.Prelude.{◌≡◌, ◌≢◌, ◌≤◌, ◌-◌, true, IfErr, IfOk, IfSome, None, Some};
 ghost use Rattle.wasm_model.specs.Links.{IsNew, Refuses};
 ghost use Rattle.wasm_model.specs.Reductions.{Reduced};
 ghost use Rattle.wasm_model.specs.Runs.{Did, lasting, told_run};
@@ -8,7 +8,7 @@ ghost use Rattle.wasm_types.specs.View.{view_module};
 
 use crate::link::{codes_of, first_state, link};
 use crate::program::Program;
-use crate::run::run;
+use crate::run::{run, run_to_pause};
 use crate::sites::no_lines;
 use module_validator::ValidModule;
 use std::alloc::Global;
@@ -139,5 +139,34 @@ impl Machine {
             self.ended = Some(end);
         }
         end
+    }
+
+    /// The same, but the run pauses also where the host is in a state in which it is to pause: after the call that led there. The second answer is how many of
+    /// the steps are left; a further run goes on after [`MachineEnd::OutOfSteps`].
+    pub fn run_to_pause<H: HostCalls>(&mut self, host: &mut H, steps: u64) -> (MachineEnd, u64)
+        requires linked { Linked H.types self.old.program }
+        ensures program { self.new.program ≡ self.old.program }
+        ensures run { self.old.ended ≡ None
+            → Did H.meaning self.old.program (steps - result.1) self.old.conf (H.state host.old)
+            result.0 self.new.conf (H.state host.new) }
+        ensures within { result.1 ≤ steps }
+        ensures paused { self.old.ended ≡ None → result.1 ≢ 0 → H.halts (H.state host.new) ≡ true }
+        ensures ended { self.old.ended ≡ None → self.new.ended ≡ lasting result.0 }
+    {
+        if let Some(end) = self.ended {
+            return (end, steps);
+        }
+        let stopped = run_to_pause(
+            &mut self.state,
+            &self.program,
+            &mut self.lines,
+            host,
+            steps,
+        );
+        let end = tell(stopped.end);
+        if end != MachineEnd::OutOfSteps {
+            self.ended = Some(end);
+        }
+        (end, stopped.left)
     }
 }

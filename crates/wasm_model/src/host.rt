@@ -1,5 +1,5 @@
 //! Hosts: who answers a module's imports.
-ghost use Rattle.std.specs.Prelude.{List, ℕ, ◌≡◌, Option, Some};
+ghost use Rattle.std.specs.Prelude.{Bool, List, ℕ, ◌≡◌, Option, Some};
 ghost use Rattle.wasm_model.specs.Hosts.{Answers, GoesOn, Typed, found_as};
 ghost use Rattle.wasm_store.specs.Memories.{MemoryForm};
 ghost use Rattle.wasm_store.specs.declared.word.Word.{Word as AnyWord};
@@ -51,6 +51,13 @@ pub trait HostCalls {
     fn call(&mut self, import: u32, args: &[Word], memory: &mut Memory) -> HostAnswer
         ensures means { Answers meaning (state self.old) import args.now memory.old result
             (state self.new) memory.new };
+
+    /// In which states a run is to pause.
+    ghost halts: { State → Bool };
+
+    /// Whether a run is to pause here.
+    fn is_halting(&self) -> bool
+        ensures { result ≡ halts (state self.now) };
 
     /// An import that is found has this type.
     ghost found: { (from name : List ℕ) (r : ℕ × Signature) → finds from name ≡ Some r
