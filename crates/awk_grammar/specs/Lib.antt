@@ -11,3 +11,7 @@ pub mod WellFormed
 pub mod ViewStmt
 pub mod Lexeme
 pub mod TreeOf
+pub mod Marks
+pub mod Least
+pub mod Kinds
+pub mod Examples

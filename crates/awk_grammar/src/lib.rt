@@ -1,4 +1,6 @@
 //! The grammar of scripts: their trees, the tokens of each, and which are well formed.
+//!
+//! What the names of a script are, from its tree: definitions alone, no function.
 #![tactic(auto)]
 
 mod laws;

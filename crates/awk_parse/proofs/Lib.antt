@@ -1,3 +1,17 @@
+pub mod Climbs
+pub mod Fits
+pub mod Lists
+pub mod Marks
+pub mod Starts
+pub mod Went
+pub mod Blocks
+pub mod Closed
+pub mod HeldLemmas
+pub mod Names
+pub mod Peeks
+pub mod Printed
+pub mod Scripts
+pub mod StatementStarts
 pub mod JumpWords
 pub mod NumberTexts
 pub mod Parsing

@@ -1,3 +1,11 @@
+pub mod Depths
+pub mod Operands
+pub mod Seen
+pub mod Starts
+pub mod Went
+pub mod Bodies
+pub mod Names
+pub mod StatementStarts
 pub mod Scan
 pub mod Jumps
 pub mod Numbers

@@ -5,16 +5,16 @@ ghost use Rattle.awk_tokens.specs.Views.{spelled};
 ghost use Rattle.awk_grammar.specs.Item.{Item, most_depth};
 ghost use Rattle.awk_grammar.specs.ReadItem.{script_at};
 ghost use Rattle.awk_grammar.specs.ViewStmt.{view_script};
-ghost use Rattle.awk_expressions.specs.Seen.{seen, Gives};
+ghost use Rattle.awk_parse.specs.Seen.{seen, Gives};
 ghost use Rattle.awk_parse.specs.Parsing.{IsParsed, IsRefused};
 ghost use Rattle.awk_parse.specs.declared.fault.ParseFault.TheVariants.{NoMemory};
 
 use crate::fault::ParseFault;
+use crate::item::items;
 use crate::placed::misplaced;
+use crate::refusal::Refusal;
 use crate::scan::scan;
-use awk_expressions::Refusal;
 use awk_grammar::Script;
-use awk_statements::items;
 use awk_tokens::Token;
 use std::alloc::Global;
 

@@ -1,8 +1,8 @@
 -- The refusal for a name of both kinds.
 use Rattle.std.proofs.Common.{◌≡◌, List, Bool, Option, None, ap, sym, ◌∙◌}
 use Rattle.std.specs.Option.{option_map}
-use Rattle.awk_kinds.specs.Marks.{Mark, Array, Scalar}
-use Rattle.awk_kinds.specs.Kinds.{Key, Head, Refusal, KindClash, or_else, first, clash, is_used_as, name_refusal, refusal_by}
+use Rattle.awk_grammar.specs.Marks.{Mark, Array, Scalar}
+use Rattle.awk_grammar.specs.Kinds.{Key, Head, Refusal, KindClash, or_else, first, clash, is_used_as, name_refusal, refusal_by}
 
 abbrev pub clash_of : (Key → Bool) → (Key → Bool) → List Head → List Mark → Option Refusal
 clash_of arrays scalars hs ms = option_map KindClash (first (clash arrays scalars hs) ms)

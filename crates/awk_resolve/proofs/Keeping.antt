@@ -2,7 +2,7 @@
 use Rattle.std.proofs.Common.{◌≡◌, false, List, [], ◌++◌, Result, Ok, Err, refl, ap, sym, subst, ◌∙◌, append_assoc, append-nil}
 use Rattle.std.specs.Global.{Vec}
 use Rattle.std.specs.Result.{IfOk}
-use Rattle.awk_kinds.specs.Marks.{Mark}
+use Rattle.awk_grammar.specs.Marks.{Mark}
 use Rattle.awk_resolve.specs.View.{view_marks, AddsMarks}
 use Rattle.awk_resolve.specs.declared.mark.Mark.{Mark as Found}
 use Rattle.awk_resolve.specs.declared.mark_list.Marks.{Marks}

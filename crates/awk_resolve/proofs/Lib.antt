@@ -11,3 +11,4 @@ pub mod Tables
 pub mod Noted
 pub mod Listed
 pub mod Keeping
+mod SetsLemmas

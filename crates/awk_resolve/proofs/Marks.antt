@@ -1,8 +1,8 @@
 -- Marks of the code, one after another.
 use Rattle.std.proofs.Common.{◌≡◌, ℕ, ◌+◌, ◌<◌, List, [], ◌∷◌, ◌++◌, length, take, drop, get_or, Option, Some, None, refl, ap, sym, ◌∙◌, true≢false, is_some, false}
 use Rattle.std.proofs.lemmas.List.{take_more}
-use Rattle.awk_kinds.specs.Marks.{Mark as PlainMark, Defined, Parameter, Used, Called, Computed, Given}
-use Rattle.awk_kinds.specs.Kinds.{Key, Inside, Head, or_else, defined, declared, duplicate, first_duplicate}
+use Rattle.awk_grammar.specs.Marks.{Mark as PlainMark, Defined, Parameter, Used, Called, Computed, Given}
+use Rattle.awk_grammar.specs.Kinds.{Key, Inside, Head, or_else, defined, declared, duplicate, first_duplicate}
 use Rattle.awk_resolve.specs.View.{view_mark, view_marks, view_place}
 use Rattle.awk_resolve.specs.declared.mark.Mark.{Mark}
 use Rattle.std.specs.Borrow.{Bor}

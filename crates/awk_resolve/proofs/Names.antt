@@ -6,7 +6,7 @@ use Rattle.std.specs.List.{list_any}
 use Rattle.std.proofs.Math.Bool.{or-true, or-false, or_assoc}
 use Rattle.std.proofs.lemmas.List.Folds.{list_any-append}
 use Rattle.indexmap.specs.IndexSet.{insert_key}
-use Rattle.awk_kinds.specs.Kinds.{special_arrays, special_scalars, specials, has_name, Key, Whole as WholeKey, Inside as InsideKey, same_name, same_key, with_key, with_keys}
+use Rattle.awk_grammar.specs.Kinds.{special_arrays, special_scalars, specials, has_name, Key, Whole as WholeKey, Inside as InsideKey, same_name, same_key, with_key, with_keys}
 use Rattle.awk_resolve.specs.ViewNames.{names, view_variable, view_variables}
 use Rattle.awk_resolve.specs.declared.scopes.Variable.{Variable}
 use Rattle.awk_resolve.specs.declared.scopes.Variable.TheVariants.{Whole, Inside}

@@ -2,8 +2,8 @@
 use Rattle.std.proofs.Common.{◌≡◌, ℕ, Bool, true, false, List, [], ◌∷◌, ◌++◌, map, Option, Some, None, refl, ap, sym, subst, ◌∙◌, append_assoc, append-nil}
 use Rattle.std.specs.List.{slice_get}
 use Rattle.std.proofs.lemmas.List.{map-append}
-use Rattle.awk_kinds.specs.Marks.{Kind, Array, Scalar, Mark, Defined, Parameter, Used, Called, Computed, Given}
-use Rattle.awk_kinds.specs.Kinds.{Key, Head, Whole, distinct_parameters, specials, special_arrays, special_scalars, same_kind, with_key, with_keys, with_mark, with_marks, key_in, parameter_at, pair_of, used, members, pairs, variables}
+use Rattle.awk_grammar.specs.Marks.{Kind, Array, Scalar, Mark, Defined, Parameter, Used, Called, Computed, Given}
+use Rattle.awk_grammar.specs.Kinds.{Key, Head, Whole, distinct_parameters, specials, special_arrays, special_scalars, same_kind, with_key, with_keys, with_mark, with_marks, key_in, parameter_at, pair_of, used, members, pairs, variables}
 use Rattle.awk_resolve.specs.Numbered.{ArePairs, all_if}
 use Rattle.awk_resolve.specs.ViewVariables.{AddsKeys, HasNumber, AreKeys}
 use Rattle.awk_resolve.specs.ViewUses.{numbered, AreUses, Notes, NotesGiven, NotesMark, NotesUses}

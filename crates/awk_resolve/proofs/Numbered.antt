@@ -2,8 +2,8 @@
 use Rattle.std.proofs.Common.{◌≡◌, ℕ, zero, suc, Bool, true, false, List, [], ◌∷◌, ◌++◌, map, Option, Some, refl, ap, sym, ◌∙◌, append_assoc, if◌then◌else◌}
 use Rattle.std.specs.List.{slice_get, list_any}
 use Rattle.std.proofs.lemmas.List.{map-append}
-use Rattle.awk_kinds.specs.Marks.{Kind, Mark, Defined, Parameter, Used, Called, Computed, Given}
-use Rattle.awk_kinds.specs.Kinds.{Key, Head, same_key, same_kind, with_key, used, members, specials_of, Whole, pairs, key_in, parameter_at, pair_of}
+use Rattle.awk_grammar.specs.Marks.{Kind, Mark, Defined, Parameter, Used, Called, Computed, Given}
+use Rattle.awk_grammar.specs.Kinds.{Key, Head, same_key, same_kind, with_key, used, members, specials_of, Whole, pairs, key_in, parameter_at, pair_of}
 use Rattle.awk_resolve.specs.Numbered.{AreNumbers, ArePairs, both_at, both_some}
 
 get_append : (ks ls : List Key) (n : ℕ) (k : Key) → slice_get ks n ≡ Some k → slice_get (ks ++ ls) n ≡ Some k

@@ -3,7 +3,7 @@ use Rattle.std.proofs.Common.{◌≡◌, ℕ, suc, ◌<◌, length, get_or, Bool
 use Rattle.std.specs.Borrow.{Bor}
 use Rattle.std.specs.Option.{IfSome}
 use Rattle.awk_grammar.specs.ViewStmt.{view_names}
-use Rattle.awk_kinds.specs.Kinds.{or_else, parameters_of, same_name}
+use Rattle.awk_grammar.specs.Kinds.{or_else, parameters_of, same_name}
 use Rattle.awk_resolve.specs.ViewNames.{head_names, view_heads}
 use Rattle.awk_resolve.specs.declared.scopes.Head.{Head}
 use Rattle.awk_resolve.specs.Places.{next_place, number_in, place_of, ArePlaces}

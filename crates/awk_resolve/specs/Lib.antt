@@ -16,3 +16,4 @@ pub mod ViewScopes
 pub mod ViewUses
 pub mod ViewSets
 pub mod ViewSeen
+pub mod Sets

@@ -1,6 +1,6 @@
 -- Sets of numbers and of variables as the code keeps them: lists of marks.
 use Rattle.std.specs.Prelude.{ℕ, suc, Bool, true, false, if◌then◌else◌, List, [], ◌∷◌, slice_index_or}
-use Rattle.awk_kinds.specs.Kinds.{Key, same_key}
+use Rattle.awk_grammar.specs.Kinds.{Key, same_key}
 
 abbrev pub is_marked : List Bool → ℕ → Bool
 is_marked ms n = slice_index_or ms n false

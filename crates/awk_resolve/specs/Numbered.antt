@@ -1,7 +1,7 @@
 -- Variables by their numbers: places in a list of variables.
 use Rattle.std.specs.Prelude.{◌≡◌, ℕ, Bool, if◌then◌else◌, List, [], map, Option, Some}
 use Rattle.std.specs.List.{slice_get}
-use Rattle.awk_kinds.specs.Kinds.{Key}
+use Rattle.awk_grammar.specs.Kinds.{Key}
 
 -- the numbers are those of the variables
 abbrev pub AreNumbers : List Key → List ℕ → List Key → Type 0

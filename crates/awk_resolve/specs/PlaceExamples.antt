@@ -1,6 +1,6 @@
 -- Worked rows of places.
 use Rattle.std.specs.Prelude.{◌≡◌, true, false, codes, List, [], ◌∷◌, Some, None, refl}
-use Rattle.awk_kinds.specs.Kinds.{Name}
+use Rattle.awk_grammar.specs.Kinds.{Name}
 use Rattle.awk_resolve.specs.Places.{function_in, place_in}
 
 abbrev globals : List Name

@@ -2,7 +2,7 @@
 use Rattle.std.specs.Prelude.{◌≡◌, ℕ, suc, if◌then◌else◌, List, [], ◌∷◌, map, Option, Some, None}
 use Rattle.std.specs.Borrow.{Bor}
 use Rattle.std.specs.Map.{lookup}
-use Rattle.awk_kinds.specs.Kinds.{Name, Function, same_name}
+use Rattle.awk_grammar.specs.Kinds.{Name, Function, same_name}
 
 abbrev pub next_place : Option ℕ → Option ℕ
 next_place (Some i) = Some (suc i)

@@ -2,7 +2,7 @@
 use Rattle.std.specs.Prelude.{◌≡◌, ℕ, false, List, ◌++◌, map, Option}
 use Rattle.std.specs.Borrow.{Bor}
 use Rattle.std.specs.Option.{option_map}
-use Rattle.awk_kinds.specs.Marks.{Kind as PlainKind, Array as ArrayKind, Scalar as ScalarKind, Mark as PlainMark, Defined as DefinedMark, Parameter as ParameterMark, Used as UsedMark, Called as CalledMark, Computed as ComputedMark, Given as GivenMark}
+use Rattle.awk_grammar.specs.Marks.{Kind as PlainKind, Array as ArrayKind, Scalar as ScalarKind, Mark as PlainMark, Defined as DefinedMark, Parameter as ParameterMark, Used as UsedMark, Called as CalledMark, Computed as ComputedMark, Given as GivenMark}
 use Rattle.awk_resolve.specs.declared.mark.Kind.{Kind}
 use Rattle.awk_resolve.specs.declared.mark.Kind.TheVariants.{Array, Scalar}
 use Rattle.awk_resolve.specs.declared.mark.Mark.{Mark}

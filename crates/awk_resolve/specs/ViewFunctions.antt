@@ -1,6 +1,6 @@
 -- What functions with their parameters' kinds stand for.
 use Rattle.std.specs.Prelude.{List, map}
-use Rattle.awk_kinds.specs.Kinds.{Function as PlainFunction}
+use Rattle.awk_grammar.specs.Kinds.{Function as PlainFunction}
 use Rattle.awk_resolve.specs.ViewKinds.{view_name_kinds}
 use Rattle.awk_resolve.specs.declared.function_names.FunctionNames.{FunctionNames}
 

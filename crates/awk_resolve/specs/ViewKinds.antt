@@ -1,6 +1,6 @@
 -- What names with their kinds stand for.
 use Rattle.std.specs.Prelude.{List, map}
-use Rattle.awk_kinds.specs.Kinds.{Name as PlainName}
+use Rattle.awk_grammar.specs.Kinds.{Name as PlainName}
 use Rattle.awk_resolve.specs.declared.function_names.NameKind.{NameKind}
 
 abbrev pub view_name : NameKind → PlainName

@@ -4,7 +4,7 @@ use Rattle.std.specs.Borrow.{Bor}
 use Rattle.std.specs.Global.{Vec}
 use Rattle.std.specs.Option.{option_map}
 use Rattle.awk_grammar.specs.ViewStmt.{view_names}
-use Rattle.awk_kinds.specs.Kinds.{Key, Whole as WholeKey, Inside as InsideKey, Head as PlainHead}
+use Rattle.awk_grammar.specs.Kinds.{Key, Whole as WholeKey, Inside as InsideKey, Head as PlainHead}
 use Rattle.awk_resolve.specs.declared.scopes.Variable.{Variable}
 use Rattle.awk_resolve.specs.declared.scopes.Variable.TheVariants.{Whole, Inside}
 use Rattle.awk_resolve.specs.declared.scopes.Head.{Head}

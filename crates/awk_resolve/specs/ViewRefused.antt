@@ -1,7 +1,7 @@
 -- What a refusal of the code stands for.
 use Rattle.std.specs.Prelude.{ℕ, List, Option}
 use Rattle.std.specs.Option.{option_map}
-use Rattle.awk_kinds.specs.Kinds.{Refusal, TooMany, DuplicateName, UnknownFunction, ArgCount, KindClash}
+use Rattle.awk_grammar.specs.Kinds.{Refusal, TooMany, DuplicateName, UnknownFunction, ArgCount, KindClash}
 use Rattle.awk_resolve.specs.declared.fault.Reason.{Reason}
 use Rattle.awk_resolve.specs.declared.fault.Reason.TheVariants.{TooMany as IsTooMany, DuplicateName as IsDuplicateName, UnknownFunction as IsUnknownFunction, ArgCount as IsArgCount, KindClash as IsKindClash}
 use Rattle.awk_resolve.specs.declared.fault.Refused.{Refused}

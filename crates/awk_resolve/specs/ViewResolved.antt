@@ -1,6 +1,6 @@
 -- What the answers of the code stand for.
 use Rattle.std.specs.Prelude.{◌≡◌, Option, Some}
-use Rattle.awk_kinds.specs.Kinds.{Refusal, TooMany, DuplicateName, UnknownFunction, ArgCount, KindClash, Resolved as PlainResolved}
+use Rattle.awk_grammar.specs.Kinds.{Refusal, TooMany, DuplicateName, UnknownFunction, ArgCount, KindClash, Resolved as PlainResolved}
 use Rattle.awk_resolve.specs.ViewKinds.{view_name_kinds}
 use Rattle.awk_resolve.specs.ViewFunctions.{view_functions}
 use Rattle.awk_resolve.specs.declared.fault.ResolveFault.{ResolveFault}

@@ -1,6 +1,6 @@
 -- What the functions of the code stand for.
 use Rattle.std.specs.Prelude.{List}
-use Rattle.awk_kinds.specs.Kinds.{Head}
+use Rattle.awk_grammar.specs.Kinds.{Head}
 use Rattle.awk_resolve.specs.ViewNames.{view_heads}
 use Rattle.awk_resolve.specs.declared.scopes.Scopes.{Scopes}
 

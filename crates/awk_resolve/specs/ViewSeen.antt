@@ -1,6 +1,6 @@
 -- What was named so far.
 use Rattle.std.specs.Prelude.{ℕ, List}
-use Rattle.awk_kinds.specs.Kinds.{Key}
+use Rattle.awk_grammar.specs.Kinds.{Key}
 use Rattle.awk_resolve.specs.ViewNames.{names, view_variables}
 use Rattle.awk_resolve.specs.declared.refusals.Seen.{Seen}
 

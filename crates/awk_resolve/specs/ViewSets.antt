@@ -1,6 +1,6 @@
 -- What the kinds of variables stand for.
 use Rattle.std.specs.Prelude.{Bool, List}
-use Rattle.awk_kinds.specs.Kinds.{Key}
+use Rattle.awk_grammar.specs.Kinds.{Key}
 use Rattle.awk_resolve.specs.Marked.{is_marked_in}
 use Rattle.awk_resolve.specs.ViewNames.{view_variables}
 use Rattle.awk_resolve.specs.declared.sets.Kinds.{Kinds}

@@ -1,7 +1,7 @@
 -- What numbered variables and their uses stand for.
 use Rattle.std.specs.Prelude.{◌≡◌, false, List, [], ◌∷◌, ◌++◌, Option}
-use Rattle.awk_kinds.specs.Marks.{Kind, Array, Scalar, Mark}
-use Rattle.awk_kinds.specs.Kinds.{Key, Head, same_kind, with_keys, with_key, with_maybe, pair_of, variables, members, pairs}
+use Rattle.awk_grammar.specs.Marks.{Kind, Array, Scalar, Mark}
+use Rattle.awk_grammar.specs.Kinds.{Key, Head, same_kind, with_keys, with_key, with_maybe, pair_of, variables, members, pairs}
 use Rattle.awk_resolve.specs.ViewNames.{view_variables}
 use Rattle.awk_resolve.specs.Numbered.{AreNumbers, ArePairs, all_if}
 use Rattle.awk_resolve.specs.declared.uses.Uses.{Uses}

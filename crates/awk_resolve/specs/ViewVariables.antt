@@ -1,7 +1,7 @@
 -- What numbered variables stand for.
 use Rattle.std.specs.Prelude.{◌≡◌, ℕ, false, List, Some}
 use Rattle.std.specs.List.{slice_get}
-use Rattle.awk_kinds.specs.Kinds.{Key, with_keys}
+use Rattle.awk_grammar.specs.Kinds.{Key, with_keys}
 use Rattle.awk_resolve.specs.ViewNames.{view_variables}
 use Rattle.awk_resolve.specs.declared.scopes.Variables.{Variables}
 

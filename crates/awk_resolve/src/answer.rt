@@ -3,9 +3,9 @@
 ghost use Rattle.std.specs.Prelude.{◌≡◌, List, None, IfOk, IfErr, OnOk};
 ghost use Rattle.awk_grammar.specs.Item.{Item};
 ghost use Rattle.awk_grammar.specs.ViewStmt.{view_script};
-ghost use Rattle.awk_kinds.specs.Marks.{Kind, script_marks};
-ghost use Rattle.awk_kinds.specs.Least.{IsLeast};
-ghost use Rattle.awk_kinds.specs.Kinds.{functions_by, globals_by, heads, is_used_as, members, name_refusal, pairs, refusal, refusal_by, resolved, resolved_by};
+ghost use Rattle.awk_grammar.specs.Marks.{Kind, script_marks};
+ghost use Rattle.awk_grammar.specs.Least.{IsLeast};
+ghost use Rattle.awk_grammar.specs.Kinds.{functions_by, globals_by, heads, is_used_as, members, name_refusal, pairs, refusal, refusal_by, resolved, resolved_by};
 ghost use Rattle.awk_resolve.specs.View.{view_marks};
 ghost use Rattle.awk_resolve.specs.ViewKinds.{view_name_kinds};
 ghost use Rattle.awk_resolve.specs.ViewFunctions.{view_functions};

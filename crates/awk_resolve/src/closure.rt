@@ -1,7 +1,7 @@
 //! The least set of numbers that has given members and follows given pairs, by a work list.
 
 ghost use Rattle.std.specs.Prelude.{◌≡◌, ℕ, ◌<◌, [], ◌∷◌, All, length, IfOk};
-ghost use Rattle.awk_kinds.specs.Least.{IsLeast};
+ghost use Rattle.awk_grammar.specs.Least.{IsLeast};
 ghost use Rattle.awk_resolve.specs.Marked.{is_marked};
 ghost use Rattle.awk_resolve.specs.ViewFound.{Adds};
 ghost use Rattle.awk_resolve.specs.Waiting.{given_for, numbers_at};

@@ -1,9 +1,9 @@
 //! The kinds of a script's variables.
 
 ghost use Rattle.std.specs.Prelude.{◌≡◌, ◌<◌, All, length, IfOk};
-ghost use Rattle.awk_kinds.specs.Marks.{Array, Scalar};
-ghost use Rattle.awk_kinds.specs.Kinds.{name_of, variables, is_used_as, clashing, needing, clash, first};
-ghost use Rattle.awk_kinds.specs.Least.{IsLeast};
+ghost use Rattle.awk_grammar.specs.Marks.{Array, Scalar};
+ghost use Rattle.awk_grammar.specs.Kinds.{name_of, variables, is_used_as, clashing, needing, clash, first};
+ghost use Rattle.awk_grammar.specs.Least.{IsLeast};
 ghost use Rattle.awk_resolve.specs.Marked.{is_marked, is_marked_in};
 ghost use Rattle.awk_resolve.specs.View.{view_mark, view_marks, view_place};
 ghost use Rattle.awk_resolve.specs.ViewNames.{view_variable, view_variables, view_maybe_variable};

@@ -1,4 +1,6 @@
 //! The kinds of the names of a script.
+//!
+//! The kinds of names as least sets.
 #![tactic(auto)]
 
 mod answer;
@@ -7,6 +9,7 @@ mod fault;
 mod function_names;
 mod held;
 mod kinds;
+pub mod laws;
 mod listing;
 mod mark;
 mod mark_list;

@@ -2,7 +2,7 @@
 
 ghost use Rattle.std.specs.Prelude.{◌≡◌, true, false, map, IfOk, MatchOption};
 ghost use Rattle.awk_grammar.specs.ViewStmt.{view_names};
-ghost use Rattle.awk_kinds.specs.Kinds.{name_of, is_global, named, head_keys, functions_by, globals_by};
+ghost use Rattle.awk_grammar.specs.Kinds.{name_of, is_global, named, head_keys, functions_by, globals_by};
 ghost use Rattle.awk_resolve.specs.ViewNames.{view_heads, view_variable};
 ghost use Rattle.awk_resolve.specs.Places.{function_in, place_in, ArePlaces};
 ghost use Rattle.awk_resolve.specs.ViewKinds.{view_name_kinds};

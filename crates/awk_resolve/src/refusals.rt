@@ -2,7 +2,7 @@
 
 ghost use Rattle.std.specs.Prelude.{◌≡◌, ◌++◌, [], ◌∷◌, ◌||◌, false, IfOk};
 ghost use Rattle.std.specs.List.{list_any};
-ghost use Rattle.awk_kinds.specs.Kinds.{Inside, same_key, has_name, is_function, specials, only_if, too_many, defined, declared, duplicate, first_duplicate, unknown, excess, first};
+ghost use Rattle.awk_grammar.specs.Kinds.{Inside, same_key, has_name, is_function, specials, only_if, too_many, defined, declared, duplicate, first_duplicate, unknown, excess, first};
 ghost use Rattle.awk_resolve.specs.View.{view_place, view_mark, view_marks};
 ghost use Rattle.awk_resolve.specs.ViewNames.{view_heads};
 ghost use Rattle.awk_resolve.specs.ViewScopes.{functions_in};

@@ -1,11 +1,11 @@
 //! The special variables (POSIX.1-2017 awk, "Variables and Special Variables").
 
 ghost use Rattle.std.specs.Prelude.{◌≡◌};
-ghost use Rattle.awk_kinds.specs.Kinds.{special_arrays, special_scalars, specials, has_name};
+ghost use Rattle.awk_grammar.specs.Kinds.{special_arrays, special_scalars, specials, has_name};
 ghost use Rattle.awk_resolve.specs.ViewNames.{names};
 
 /// Those that are arrays.
-#[tactic(auto, unfolding(awk_kinds::specs::Kinds::special_arrays))]
+#[tactic(auto, unfolding(awk_grammar::specs::Kinds::special_arrays))]
 pub(crate) fn special_arrays() -> [&'static [u8]; 2]
     ensures { names result ≡ special_arrays }
 {
@@ -13,7 +13,7 @@ pub(crate) fn special_arrays() -> [&'static [u8]; 2]
 }
 
 /// Those that are scalars.
-#[tactic(auto, unfolding(awk_kinds::specs::Kinds::special_scalars))]
+#[tactic(auto, unfolding(awk_grammar::specs::Kinds::special_scalars))]
 pub(crate) fn special_scalars() -> [&'static [u8]; 14]
     ensures { names result ≡ special_scalars }
 {

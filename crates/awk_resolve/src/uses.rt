@@ -1,8 +1,8 @@
 //! The variables of a script by number, and their uses.
 
 ghost use Rattle.std.specs.Prelude.{◌≡◌, ◌∷◌, [], true, map, IfOk};
-ghost use Rattle.awk_kinds.specs.Marks.{Array, Scalar};
-ghost use Rattle.awk_kinds.specs.Kinds.{Whole, variables, members, pairs};
+ghost use Rattle.awk_grammar.specs.Marks.{Array, Scalar};
+ghost use Rattle.awk_grammar.specs.Kinds.{Whole, variables, members, pairs};
 ghost use Rattle.awk_resolve.specs.View.{view_kind, view_mark, view_marks};
 ghost use Rattle.awk_resolve.specs.ViewNames.{names, view_variable, view_maybe_variable};
 ghost use Rattle.awk_resolve.specs.ViewScopes.{functions_in};

@@ -3,7 +3,7 @@
 ghost use Rattle.std.specs.Prelude.{◌≡◌, ◌++◌, ◌∷◌, []};
 ghost use Rattle.awk_grammar.specs.Tree.{Index, Call};
 ghost use Rattle.awk_grammar.specs.View.{view, views};
-ghost use Rattle.awk_kinds.specs.Marks.{Array, Computed, Given, Used, bare_name, array_name, computed_marks, named_or, unless_named, marks, all_marks, argument_marks, operand_marks};
+ghost use Rattle.awk_grammar.specs.Marks.{Array, Computed, Given, Used, bare_name, array_name, computed_marks, named_or, unless_named, marks, all_marks, argument_marks, operand_marks};
 ghost use Rattle.awk_resolve.specs.View.{view_place, AddsMarks};
 
 use crate::mark::{Kind, Mark};

@@ -2,7 +2,7 @@
 
 ghost use Rattle.std.specs.Prelude.{◌≡◌, IfOk};
 ghost use Rattle.awk_grammar.specs.ViewStmt.{view_args, view_target, view_simple, view_maybe, view_maybe_simple, view_stmt, view_stmts, view_pattern, view_names, view_item, view_script};
-ghost use Rattle.awk_kinds.specs.Marks.{args_marks, target_marks, plain_marks, maybe_marks, maybe_plain_marks, stmt_marks, stmts_marks, pattern_marks, parameter_marks, item_marks, script_marks};
+ghost use Rattle.awk_grammar.specs.Marks.{args_marks, target_marks, plain_marks, maybe_marks, maybe_plain_marks, stmt_marks, stmts_marks, pattern_marks, parameter_marks, item_marks, script_marks};
 ghost use Rattle.awk_resolve.specs.View.{view_marks, view_place, AddsMarks};
 
 use crate::mark::{Kind, Mark};

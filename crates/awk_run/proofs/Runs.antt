@@ -20,14 +20,14 @@ use Rattle.module_decoder.proofs.CompleteModule.{module_again}
 use Rattle.host_step.specs.HostState.{HostState}
 use Rattle.host_imports.specs.Imports.{host_finds}
 use Rattle.host_step.specs.Starts.{state_at_start}
-use Rattle.host_elements.specs.Forms.{HostForm}
-use Rattle.host_meaning.specs.FormMeaning.{Told, form_meaning}
-use Rattle.host_meaning.specs.Shown.{Shown}
-use Rattle.agree_runs.specs.ToldRuns.{AnyhowRun, FoundRun, ToldRun}
+use Rattle.host_values.specs.Forms.{HostForm}
+use Rattle.host_values.specs.FormMeaning.{Told, form_meaning}
+use Rattle.host_values.specs.Shown.{Shown}
+use Rattle.agreement.specs.Runs.ToldRuns.{AnyhowRun, FoundRun, ToldRun}
 use Rattle.awk_run.specs.ModuleRun.{run_end, undecoded, IsRefused, IsRunOf, RunAnswers, Answers, IsTyped, Unread}
-use Rattle.run_ends.specs.declared.end.Refusal.TheVariants.{Compile, Decode, Invalid, Link}
-use Rattle.run_ends.specs.declared.end.RunEnd.{RunEnd}
-use Rattle.run_ends.specs.declared.end.RunEnd.TheVariants as run
+use Rattle.run_report.specs.declared.end.Refusal.TheVariants.{Compile, Decode, Invalid, Link}
+use Rattle.run_report.specs.declared.end.RunEnd.{RunEnd}
+use Rattle.run_report.specs.declared.end.RunEnd.TheVariants as run
 
 module _ (tells : Type 0) (whole : ModuleForm) (job : JobForm) (steps : ℕ) (before after : State) where
   -- what is told of an end is the run itself

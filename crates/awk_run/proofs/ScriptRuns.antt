@@ -16,14 +16,14 @@ use Rattle.wasm_model.specs.declared.fault.LinkFault.TheVariants as link
 use Rattle.wasm_model.specs.declared.ends.MachineEnd.{MachineEnd}
 use Rattle.wasm_model.specs.declared.ends.MachineEnd.TheVariants as machine
 use Rattle.module_decoder.proofs.CompleteModule.{one_module}
-use Rattle.agree_runs.specs.ToldRuns.{DoesSo, DoesSoThere, GoesOnThere, Says, told_by}
-use Rattle.agree_runs.proofs.Agreeing.{does_so, does_so_there, goes_on_there}
+use Rattle.agreement.specs.Runs.ToldRuns.{DoesSo, DoesSoThere, GoesOnThere, Says, told_by}
+use Rattle.agreement.proofs.RunsLemmas.Agreeing.{does_so, does_so_there, goes_on_there}
 use Rattle.script_compiler.specs.Compiled.{IsCompiled, Links}
 use Rattle.awk_run.specs.ModuleRun.{Answers, HasRun, IsRunOf, IsUnlinked, RunAnswers, run_end}
 use Rattle.awk_run.specs.ScriptRuns.{IsScriptRun, ScriptAnswers, told_of}
-use Rattle.run_ends.specs.declared.end.Refusal.TheVariants.{Compile, Decode, Invalid, Link}
-use Rattle.run_ends.specs.declared.end.RunEnd.{RunEnd}
-use Rattle.run_ends.specs.declared.end.RunEnd.TheVariants as run
+use Rattle.run_report.specs.declared.end.Refusal.TheVariants.{Compile, Decode, Invalid, Link}
+use Rattle.run_report.specs.declared.end.RunEnd.{RunEnd}
+use Rattle.run_report.specs.declared.end.RunEnd.TheVariants as run
 
 -- what a machine's end says of a script, its answer says
 says : (kept : Option Fault) (t : MachineEnd) (output : List Action) (ending : Ending) → Says (told_by kept t) output ending

@@ -9,8 +9,8 @@ use Rattle.awk_parse.specs.declared.fault.ParseFault.TheVariants.{LeftOut, NotWh
 use Rattle.awk_parse.specs.declared.fault.ParseFault.TheVariants as parsing
 use Rattle.awk_grammar.specs.Item.{Item}
 use Rattle.awk_grammar.proofs.ItemComplete.{one_script}
-use Rattle.awk_kinds.specs.Kinds as kinds
-use Rattle.awk_kinds.specs.Kinds.{Refusal, refusal}
+use Rattle.awk_grammar.specs.Kinds as kinds
+use Rattle.awk_grammar.specs.Kinds.{Refusal, refusal}
 use Rattle.awk_resolve.specs.ViewResolved.{IsCause}
 use Rattle.awk_resolve.specs.declared.fault.ResolveFault.{ResolveFault}
 use Rattle.awk_resolve.specs.declared.fault.ResolveFault.TheVariants.{TooMany, DuplicateName, UnknownFunction, ArgCount, KindClash}

@@ -6,9 +6,9 @@ use Rattle.wasm_model.specs.declared.ends.MachineEnd.TheVariants as machine
 use Rattle.wasm_store.specs.declared.trap.TrapKind.TheVariants.{BadHandle}
 use Rattle.sem_scripts.specs.ScriptRun.{Ended, Exhausted, FaultedBy, GoesOn}
 use Rattle.awk_run.specs.ModuleRun.{run_end}
-use Rattle.agree_runs.specs.ToldRuns.{Says}
+use Rattle.agreement.specs.Runs.ToldRuns.{Says}
 use Rattle.awk_run.specs.ScriptRuns.{told_of}
-use Rattle.run_ends.specs.declared.end.RunEnd.TheVariants as run
+use Rattle.run_report.specs.declared.end.RunEnd.TheVariants as run
 
 -- a status is taken modulo 256; a fault that is kept comes before it
 pub status : run_end None (machine.Returned (pos 3)) ≡ run.Ended 3

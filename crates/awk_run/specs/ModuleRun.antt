@@ -24,14 +24,14 @@ use Rattle.wasm_model.specs.declared.ends.MachineEnd.TheVariants as machine
 use Rattle.sem_primitives.specs.Jobs.{JobForm}
 use Rattle.host_imports.specs.Imports.{host_finds}
 use Rattle.host_step.specs.Starts.{state_at_start}
-use Rattle.host_elements.specs.Forms.{HostForm}
-use Rattle.host_meaning.specs.FormMeaning.{Told, form_meaning}
-use Rattle.host_meaning.specs.Shown.{Shown}
-use Rattle.agree_runs.specs.ToldRuns.{AnyhowRun, FoundRun, ToldRun}
-use Rattle.run_ends.specs.declared.end.Refusal.{Refusal}
-use Rattle.run_ends.specs.declared.end.Refusal.TheVariants.{Decode, Invalid, Link}
-use Rattle.run_ends.specs.declared.end.RunEnd.{RunEnd}
-use Rattle.run_ends.specs.declared.end.RunEnd.TheVariants as run
+use Rattle.host_values.specs.Forms.{HostForm}
+use Rattle.host_values.specs.FormMeaning.{Told, form_meaning}
+use Rattle.host_values.specs.Shown.{Shown}
+use Rattle.agreement.specs.Runs.ToldRuns.{AnyhowRun, FoundRun, ToldRun}
+use Rattle.run_report.specs.declared.end.Refusal.{Refusal}
+use Rattle.run_report.specs.declared.end.Refusal.TheVariants.{Decode, Invalid, Link}
+use Rattle.run_report.specs.declared.end.RunEnd.{RunEnd}
+use Rattle.run_report.specs.declared.end.RunEnd.TheVariants as run
 
 -- `main`'s result modulo 256
 abbrev pub status : ℤ → ℕ

@@ -4,15 +4,15 @@ use Rattle.sem_primitives.specs.Jobs.{JobForm}
 use Rattle.world_core.specs.WorldState.{Entry, State}
 use Rattle.sem_scripts.specs.Kinds.{resolved}
 use Rattle.sem_scripts.specs.ScriptRun.{Ended, FaultedBy, Exhausted, resolved_run}
-use Rattle.agree_runs.specs.ToldRuns.{DoesSo, DoesSoThere, GoesOnThere, Told, Ends, PutsOut, Never}
+use Rattle.agreement.specs.Runs.ToldRuns.{DoesSo, DoesSoThere, GoesOnThere, Told, Ends, PutsOut, Never}
 use Rattle.script_code.specs.declared.fault.CompileFault.TheVariants as compile
 use Rattle.script_compiler.specs.Compiled.{IsCompiled}
 use Rattle.script_compiler.specs.Refusals.{IsNotCompiled}
 use Rattle.awk_run.specs.ModuleRun.{HasRun}
-use Rattle.run_ends.specs.declared.end.Refusal.TheVariants.{Compile}
-use Rattle.run_ends.specs.declared.end.RunEnd.{RunEnd}
-use Rattle.run_ends.specs.declared.end.RunEnd.TheVariants as run
-use Rattle.run_ends.specs.declared.end.RunEnd.TheVariants.{OutOfSteps}
+use Rattle.run_report.specs.declared.end.Refusal.TheVariants.{Compile}
+use Rattle.run_report.specs.declared.end.RunEnd.{RunEnd}
+use Rattle.run_report.specs.declared.end.RunEnd.TheVariants as run
+use Rattle.run_report.specs.declared.end.RunEnd.TheVariants.{OutOfSteps}
 
 -- what an answer tells of how the script ends; a script never traps
 abbrev pub told_of : RunEnd → Told

@@ -3,7 +3,7 @@ ghost use Rattle.std.specs.Prelude.{◌≡◌};
 ghost use Rattle.awk_run.specs.ModuleRun.{run_end, status};
 
 use awk_values::Fault;
-use run_ends::RunEnd;
+use run_report::RunEnd;
 use wasm_machine::MachineEnd;
 
 /// A result modulo 256.

@@ -8,6 +8,6 @@ mod script;
 
 pub use laws::compiled_scripts_are_sound;
 pub use module::run_module;
-pub use run_ends::{Refusal, RunEnd};
+pub use run_report::{Refusal, RunEnd};
 pub use script::run_script;
 pub use script_compiler::{CompileFault, compile};

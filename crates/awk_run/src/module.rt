@@ -2,7 +2,7 @@
 ghost use Rattle.std.specs.Prelude.{◌≡◌, IfOk, IfErr};
 ghost use Rattle.awk_run.specs.ModuleRun.{undecoded, Answers, IsTyped, RunAnswers, Unread};
 ghost use Rattle.sem_primitives.specs.Jobs.{JobForm};
-ghost use Rattle.host_meaning.specs.Shown.{Shown};
+ghost use Rattle.host_values.specs.Shown.{Shown};
 ghost use Rattle.host_calls.specs.Forms.{host_form};
 ghost use Rattle.host_step.specs.Starts.{state_at_start};
 ghost use Rattle.host_tables.specs.Starts.{job_of};
@@ -13,7 +13,7 @@ use crate::end::run_end;
 use host_calls::{Host, Job};
 use module_decoder::{DecodeFault, decode};
 use module_validator::{InvalidFault, ValidModule, validate};
-use run_ends::{Refusal, RunEnd};
+use run_report::{Refusal, RunEnd};
 use std::alloc::Global;
 use std::hash::RandomState;
 use wasm_machine::{LinkFault, Machine};

@@ -4,7 +4,7 @@ ghost use Rattle.host_tables.specs.Starts.{job_of};
 
 use crate::module::run_module;
 use host_calls::Job;
-use run_ends::{Refusal, RunEnd};
+use run_report::{Refusal, RunEnd};
 use script_compiler::{CompileFault, compile};
 use std::alloc::Global;
 use std::hash::RandomState;

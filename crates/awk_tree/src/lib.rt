@@ -1,9 +1,16 @@
 //! The tokens and the conditions of the tree of a script.
+//!
+//! The tokens of expressions and statements.
+//!
+//! The grammar of scripts as productions.
 #![tactic(auto)]
 
 mod check;
 mod check_stmt;
+pub mod laws;
 mod printer;
+mod printer_stmt;
+mod writing;
 
 pub use awk_grammar::{
     AssignOp, BinaryOp, Builtin, Expr, Item, Jump, Leaving, Next, Pattern, PrintArgs, PrintTarget,

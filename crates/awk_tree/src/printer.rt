@@ -5,8 +5,9 @@ ghost use Rattle.awk_grammar.specs.Item.{print_names, print_params, print_patter
 ghost use Rattle.awk_grammar.specs.Lexeme.{lexemes};
 ghost use Rattle.awk_grammar.specs.ViewStmt.{view_pattern, view_names, view_item, view_items, view_script};
 
+use crate::printer_stmt::push_block;
+use crate::writing::{mark, push_expr, put, word};
 use awk_grammar::{Item, Pattern, Printed, Script};
-use awk_printer::{mark, push_block, push_expr, put, word};
 use awk_tokens::{Keyword, Punctuator};
 use std::alloc::{AllocError, Global};
 

@@ -3,7 +3,7 @@ use Rattle.std.proofs.Common.{◌≡◌, ℕ, List, subst}
 use Rattle.world_core.specs.WorldState.{State}
 use Rattle.command_line.specs.declared.Task.{Task}
 use Rattle.awk_run.specs.ScriptRuns.{ScriptAnswers}
-use Rattle.run_ends.specs.declared.end.RunEnd.{RunEnd}
+use Rattle.run_report.specs.declared.end.RunEnd.{RunEnd}
 use Rattle.run_tasks.specs.Jobs.{files_of_task, job_of_task}
 use Rattle.awkwasm.specs.Done.{RunsScript, Told}
 

@@ -7,8 +7,8 @@ use Rattle.command_line.specs.declared.Task.{Task}
 use Rattle.script_compiler.specs.Compiled.{IsCompiled}
 use Rattle.awk_run.specs.ModuleRun.{Answers}
 use Rattle.awk_run.specs.ScriptRuns.{ScriptAnswers}
-use Rattle.run_ends.specs.declared.end.RunEnd.{RunEnd}
-use Rattle.run_ends.specs.declared.end.RunEnd.TheVariants.{Ended}
+use Rattle.run_report.specs.declared.end.RunEnd.{RunEnd}
+use Rattle.run_report.specs.declared.end.RunEnd.TheVariants.{Ended}
 use Rattle.run_report.specs.declared.report.FileFault.TheVariants.{CannotRead, CannotWrite}
 use Rattle.run_tasks.specs.Jobs.{files_of_task, job_of_task}
 use Rattle.run_tasks.specs.Tasks.{IsUnreadable, task_code}

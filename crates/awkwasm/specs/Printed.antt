@@ -2,11 +2,11 @@
 use Rattle.std.specs.Prelude.{ℕ, List, [], ◌∷◌, ◌++◌, codes}
 use Rattle.host_imports.specs.Imports.{import_name}
 use Rattle.host_imports.specs.declared.import.Import.{Import}
-use Rattle.run_imports.specs.Powers.{reads_of, writes_of}
-use Rattle.run_imports.specs.declared.powers.Reads.{Reads}
-use Rattle.run_imports.specs.declared.powers.Reads.TheVariants as reading
-use Rattle.run_imports.specs.declared.powers.Writes.{Writes}
-use Rattle.run_imports.specs.declared.powers.Writes.TheVariants as writing
+use Rattle.run_tasks.specs.Powers.{reads_of, writes_of}
+use Rattle.run_tasks.specs.declared.powers.Reads.{Reads}
+use Rattle.run_tasks.specs.declared.powers.Reads.TheVariants as reading
+use Rattle.run_tasks.specs.declared.powers.Writes.{Writes}
+use Rattle.run_tasks.specs.declared.powers.Writes.TheVariants as writing
 
 abbrev pub reads_text : Reads → List ℕ
 reads_text reading.Nothing = codes "reads nothing"

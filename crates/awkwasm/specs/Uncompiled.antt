@@ -1,10 +1,10 @@
 -- What is told of a script that is not compiled.
 use Rattle.std.specs.Prelude.{ℕ, List}
 use Rattle.script_compiler.specs.Refusals.{IsNotCompiled}
-use Rattle.run_ends.specs.declared.end.Refusal.TheVariants.{Compile}
-use Rattle.run_ends.specs.declared.end.RunEnd.{RunEnd}
-use Rattle.run_ends.specs.declared.end.RunEnd.TheVariants.{Refused}
-use Rattle.run_ends.specs.declared.end.RunEnd.TheVariants as end
+use Rattle.run_report.specs.declared.end.Refusal.TheVariants.{Compile}
+use Rattle.run_report.specs.declared.end.RunEnd.{RunEnd}
+use Rattle.run_report.specs.declared.end.RunEnd.TheVariants.{Refused}
+use Rattle.run_report.specs.declared.end.RunEnd.TheVariants as end
 
 -- the refusal of the compiler, or want of memory
 abbrev pub IsUncompiled : List ℕ → RunEnd → Type 0

@@ -3,7 +3,7 @@ ghost use Rattle.std.specs.Prelude.{◌≡◌, ◌++◌, IfOk, OnOk, string_byte
 ghost use Rattle.awkwasm.specs.Printed.{imports_text, line, names_text, reads_text, writes_text};
 
 use host_imports::Import;
-use run_imports::{Reads, Writes, reads_of, writes_of};
+use run_tasks::{Reads, Writes, reads_of, writes_of};
 use std::alloc::{AllocError, Global};
 
 fn reads_text(reads: Reads) -> &'static str

@@ -6,7 +6,7 @@ ghost use Rattle.awk_run.specs.ScriptRuns.{ScriptAnswers};
 ghost use Rattle.run_report.specs.EndTexts.{exit_code};
 ghost use Rattle.awkwasm.specs.Done.{Compiles, Exits, IsExplained, IsNotExplained, IsUnbegun, IsUnread, IsUnwritten, RunsModule, RunsScript};
 ghost use Rattle.awkwasm.specs.Uncompiled.{IsUncompiled};
-ghost use Rattle.run_ends.specs.declared.end.RunEnd.TheVariants.{Ended};
+ghost use Rattle.run_report.specs.declared.end.RunEnd.TheVariants.{Ended};
 ghost use Rattle.run_tasks.specs.Jobs.{fence_of_task, job_of_task};
 ghost use Rattle.run_tasks.specs.Tasks.{IsUnreadable, task_code};
 ghost use Rattle.world_fenced.specs.Behind.{behind};

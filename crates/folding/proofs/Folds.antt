@@ -4,12 +4,12 @@ use Rattle.mid_program.specs.Mid.{Kind, Routine, Program, parameters_at}
 use Rattle.mid_program.specs.MidMeaning.{routine_at, routine_name}
 use Rattle.sem_scripts.specs.Names.{Name}
 use Rattle.mid_program.specs.Sorted.{calls_of}
-use Rattle.mid_rewriting.specs.Alike.{AlikeKinds}
-use Rattle.mid_rewriting.specs.Rewritten.{SameSlots, Rewritten}
-use Rattle.mid_rewriting.specs.SameRuns.{SameRuns}
-use Rattle.mid_rewriting.proofs.Outcomes.{like_self}
-use Rattle.mid_rewriting.proofs.Runs.{runs_same}
-use Rattle.mid_rewriting.proofs.Seen.{alike_self}
+use Rattle.mid_program.specs.Alike.{AlikeKinds}
+use Rattle.mid_program.specs.Rewritten.{SameSlots, Rewritten}
+use Rattle.mid_program.specs.SameRuns.{SameRuns}
+use Rattle.mid_program.proofs.Outcomes.{like_self}
+use Rattle.mid_program.proofs.Runs.{runs_same}
+use Rattle.mid_program.proofs.Seen.{alike_self}
 use Rattle.folding.specs.Folding.{same, reduced, folded_steps, folded_routine, fold}
 use Rattle.folding.proofs.Reduced.{reduced_same}
 

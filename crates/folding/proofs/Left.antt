@@ -9,7 +9,7 @@ use Rattle.mid_program.specs.declared.mid.Operation.{Operation}
 use Rattle.mid_program.specs.declared.mid.Operation.TheVariants.{Host, Inline}
 use Rattle.mid_program.specs.Mid.{Code, Do, Over, Compare, Call, Ask, AskLine, FileLine, Replace, Number, Text, Unset, Get, Set, Array, IsOpen, Choose, Seq, Let, Bound, Codes, End, At, Fixed, Fresh, Step, Eval, Block, If, Loop, Each, Break, Continue, Next, Exit, ExitWith, Return, Mark, Steps, NoStep, Then, Routine, Program}
 use Rattle.mid_program.specs.MidMeaning.{arithmetic_of}
-use Rattle.mid_rewriting.specs.Rewriting.{codes_in, step_in}
+use Rattle.mid_program.specs.Rewriting.{codes_in, step_in}
 use Rattle.folding.specs.Folding.{same, unless_fault, of_two, value_of, reduced_to, reduced, folded, folded_steps, folded_routine, fold}
 use Rattle.folding.specs.Left.{Faults, MayStay, IsFolded, AreFolded, StepFolded, StepsFolded, RoutinesFolded, NoneLeft}
 

@@ -12,9 +12,9 @@ use Rattle.sem_scripts.specs.ScriptState.{State, Outcome, Gives, settled}
 use Rattle.sem_scripts.specs.Steps.{field_checked}
 use Rattle.mid_program.specs.Mid.{Kind, Code, Do, Number, Codes, End, At, Form, Answered, a_number, answer_by, form_of}
 use Rattle.mid_program.specs.MidMeaning.{Env, Holds, arithmetic_of, or_zero, evaluated, all_evaluated}
-use Rattle.mid_rewriting.specs.Alike.{Alike, LikeR}
-use Rattle.mid_rewriting.specs.Rewritten.{SameOperations}
-use Rattle.mid_rewriting.proofs.Outcomes.{like_self}
+use Rattle.mid_program.specs.Alike.{Alike, LikeR}
+use Rattle.mid_program.specs.Rewritten.{SameOperations}
+use Rattle.mid_program.proofs.Outcomes.{like_self}
 use Rattle.folding.specs.Folding.{constant, of_one, of_two, value_of, reduced_to, reduced}
 use Rattle.folding.specs.Left.{two_numbers}
 use Rattle.folding.proofs.Constants.{constant_is, unless_is, some_is}

@@ -8,8 +8,8 @@ use Rattle.mid_program.specs.declared.mid.Operation.{Operation}
 use Rattle.mid_program.specs.declared.mid.Operation.TheVariants.{Host, Inline, AsNumber, FieldNumber}
 use Rattle.mid_program.specs.Mid.{Kind, Code, Do, Codes, End, At, Steps, Declared, Routine, Program, Form, Answered, a_number, answer_by, form_of}
 use Rattle.mid_program.specs.Sorted.{Context, Held, held_after, held_after_all, sorted, all_sorted, steps_sorted, context_of, routines_sorted, announced_names, all_differ, parts_sorted, is_sorted, IsSorted}
-use Rattle.mid_rewriting.specs.Stores.{Store, Every, steps_stores}
-use Rattle.mid_rewriting.proofs.Sorted.{Keeps, Stays, from_T, steps_rewritten}
+use Rattle.mid_program.specs.Stores.{Store, Every, steps_stores}
+use Rattle.mid_program.proofs.Sorted.{Keeps, Stays, from_T, steps_rewritten}
 use Rattle.folding.specs.Folding.{constant, of_one, of_two, value_of, reduced_to, reduced, same, folded_steps, folded_routine, fold}
 use Rattle.folding.proofs.Constants.{constant_is}
 use Rattle.folding.proofs.Folds.{calls_kept}

@@ -25,7 +25,7 @@ use Rattle.mid_program.specs.View.{view_routine}
 use Rattle.mid_program.specs.declared.program.Routine.{Routine}
 use Rattle.folding.specs.Folding.{constant, folded, folded_routine, folded_steps, of_one, of_two, reduced, reduced_to, same, value_of}
 use Rattle.folding.specs.View.{leading_constant, numeral}
-use Rattle.mid_rewriting.specs.Rewriting.{codes_in, step_in}
+use Rattle.mid_program.specs.Rewriting.{codes_in, step_in}
 
 row_views : {n : _} (k : Row_of-Operand n) → view_row k ≡ views (items-the_row-Operand n k)
 row_views end_of-Operand = refl

@@ -10,7 +10,7 @@ use Rattle.world_core.specs.declared.world.Ending.TheVariants.{End}
 use Rattle.sem_primitives.specs.Jobs.{JobForm}
 use Rattle.sem_primitives.specs.declared.table.Primitive.TheVariants.{Pow, Field}
 use Rattle.sem_primitives.specs.declared.sorts.Sort.TheVariants as sort
-use Rattle.awk_kinds.specs.Kinds.{special_arrays, special_scalars}
+use Rattle.awk_grammar.specs.Kinds.{special_arrays, special_scalars}
 use Rattle.awk_tokens.specs.Words.{keywords, builtins, left_out_words}
 use Rattle.awk_grammar.specs.Token as token
 use Rattle.awk_grammar.specs.Tree as tree

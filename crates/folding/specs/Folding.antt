@@ -9,7 +9,7 @@ use Rattle.mid_program.specs.declared.mid.Operation.TheVariants.{Host, Inline, A
 use Rattle.mid_program.specs.Mid.{Slot, Code, Do, Number, Codes, End, At, Steps, Routine, Program}
 use Rattle.mid_program.specs.MidMeaning.{arithmetic_of}
 use Rattle.sem_scripts.specs.Steps.{field_checked}
-use Rattle.mid_rewriting.specs.Rewriting.{code_in, steps_in}
+use Rattle.mid_program.specs.Rewriting.{code_in, steps_in}
 
 -- the number that a constant stands for
 abbrev pub constant : Code → Option AnyNumber

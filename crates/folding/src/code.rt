@@ -4,7 +4,7 @@ ghost use Rattle.std.specs.Prelude.{◌≡◌, map};
 ghost use Rattle.folding.specs.Folding.{folded, reduced, same};
 ghost use Rattle.mid_program.specs.Mid.{End, Number};
 ghost use Rattle.mid_program.specs.ViewCode.{before, view, views};
-ghost use Rattle.mid_rewriting.specs.Rewriting.{codes_in};
+ghost use Rattle.mid_program.specs.Rewriting.{codes_in};
 
 use crate::value::value_of;
 use mid_program::{Code, Operand};

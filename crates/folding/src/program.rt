@@ -5,7 +5,7 @@ ghost use Rattle.folding.specs.Folding.{fold, folded_routine};
 ghost use Rattle.folding.specs.Left.{NoneLeft};
 ghost use Rattle.mid_program.specs.Sorted.{IsSorted};
 ghost use Rattle.mid_program.specs.View.{view_mid, view_routine};
-ghost use Rattle.mid_rewriting.specs.SameRuns.{SameRuns};
+ghost use Rattle.mid_program.specs.SameRuns.{SameRuns};
 
 use crate::step::fold_steps;
 use mid_program::{Mid, Routine};

@@ -3,7 +3,7 @@
 ghost use Rattle.std.specs.Prelude.{◌≡◌};
 ghost use Rattle.folding.specs.Folding.{folded_steps, reduced, same};
 ghost use Rattle.mid_program.specs.ViewCode.{view_step, view_steps};
-ghost use Rattle.mid_rewriting.specs.Rewriting.{step_in};
+ghost use Rattle.mid_program.specs.Rewriting.{step_in};
 
 use crate::code::fold_code;
 use mid_program::Step;

@@ -4,8 +4,8 @@ use Rattle.std.specs.FinMap as map
 use Rattle.std.specs.FinMap.{int_cmp-IsAntisymmetric}
 use Rattle.std.specs.Ordering.{int_cmp, int_eq}
 use Rattle.std.specs.Cmp.{int_cmp_total, signed_Decides}
-use Rattle.host_slots.specs.Tables.{table}
-use Rattle.host_slots.proofs.TableLemmas.{get-table, get-table-below_zero}
+use Rattle.host_handles.specs.Tables.{table}
+use Rattle.host_handles.proofs.TableLemmas.{get-table, get-table-below_zero}
 use Rattle.host_arrays.specs.Pairs.{Pairs, pairs_at, pairs_or_none}
 
 -- an array's number is at least 0

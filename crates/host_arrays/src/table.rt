@@ -1,14 +1,14 @@
 //! The arrays by number.
 ghost use Rattle.std.specs.Prelude.{◌≡◌, ◌≤ℤ◌, ◌<ℤ◌, pos, [], None, is_some, option_copied, true, OnOk, OnErr, IfOk, IfErr};
 ghost use Rattle.std.specs.FinMap as map;
-ghost use Rattle.host_slots.specs.Tables.{most_slots};
+ghost use Rattle.host_handles.specs.Tables.{most_slots};
 ghost use Rattle.std.specs.Map.{keys_of};
 ghost use Rattle.std.specs.Borrow.{Lends, sem};
 ghost use Rattle.host_arrays.specs.Pairs.{Pairs, get_pair, set_pair, delete_pair, pairs_at, created, first_arrays, value_or_uninit};
 
 use crate::array::Array;
 use awk_values::{Bytes, Value};
-use host_slots::MAX_SLOTS;
+use host_handles::MAX_SLOTS;
 use slab::Slab;
 use std::alloc::{AllocError, Global};
 use std::hash::RandomState;
@@ -30,7 +30,7 @@ impl Model for Arrays {
     ghost use Rattle.std.specs.Coded.{coded_ℤ};
     ghost use Rattle.host_arrays.specs.Pairs.{Pairs};
     ghost use Rattle.host_arrays.specs.contracts.array.Array as stored;
-    ghost use Rattle.host_slots.specs.Tables.{table};
+    ghost use Rattle.host_handles.specs.Tables.{table};
 
     ghost Value = { map.FinMap int_cmp Pairs };
 

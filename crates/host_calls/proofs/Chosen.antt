@@ -4,7 +4,7 @@ use Rattle.wasm_model.specs.declared.host.HostAnswer.{HostAnswer}
 use Rattle.wasm_store.specs.declared.word.Word.{Word}
 use Rattle.host_imports.specs.declared.import.Import.{Import}
 use Rattle.host_values.specs.declared.reply.Refusal.{Refusal}
-use Rattle.host_elements.specs.Forms.{HostForm}
+use Rattle.host_values.specs.Forms.{HostForm}
 use Rattle.host_calls.specs.Calls.{ComesTo, MeansSome, import_of}
 use Rattle.host_calls.specs.declared.dispatch.Call.{Call}
 

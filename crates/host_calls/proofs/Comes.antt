@@ -8,26 +8,26 @@ use Rattle.host_step.specs.HostStep.{refuses}
 use Rattle.host_step.specs.Worlds.{reads}
 use Rattle.host_imports.specs.Imports.{lets_go}
 use Rattle.host_imports.specs.declared.import.Import.{Import}
-use Rattle.host_inputs.specs.declared.input.Input.{Input}
+use Rattle.host_worlds.specs.declared.input.Input.{Input}
 use Rattle.host_values.specs.declared.reply.Refusal.{Refusal}
 use Rattle.host_values.specs.declared.reply.Refusal.TheVariants as why
-use Rattle.host_elements.specs.Calls.{IsTableCall}
-use Rattle.host_elements.specs.Forms.{HostForm}
+use Rattle.host_values.specs.ElementCalls.{IsTableCall}
+use Rattle.host_values.specs.Forms.{HostForm}
 use Rattle.host_names.specs.Forms.{left_after}
-use Rattle.host_meaning.specs.Findings.{After, Finding, View, form_finding, viewed}
-use Rattle.host_meaning.specs.Shown.{SharesTables, form_with_output}
-use Rattle.host_meaning.specs.TableCalls.{TableCalls, answer_of_call, left_by_call}
-use Rattle.host_meaning.specs.WorldCalls.{IsCalled}
-use Rattle.host_meaning.proofs.Faults.{called_too}
-use Rattle.host_meaning.proofs.Means.{plain_calls}
-use Rattle.host_table_calls.specs.Answers.{told_as}
-use Rattle.host_table_calls.specs.Calls.{import_of_table}
-use Rattle.host_table_calls.specs.Forms.{of_tables}
-use Rattle.host_table_calls.specs.declared.held.Tables.{Tables}
-use Rattle.host_table_calls.specs.declared.table_call.TableCall.{TableCall}
-use Rattle.host_table_calls.proofs.Chosen.{chosen_plain}
-use Rattle.host_table_calls.proofs.Quiet.{quiet}
-use Rattle.host_table_calls.proofs.Tellings.{told_means, world_told}
+use Rattle.host_values.specs.Findings.{After, Finding, View, form_finding, viewed}
+use Rattle.host_values.specs.Shown.{SharesTables, form_with_output}
+use Rattle.host_values.specs.TableCalls.{TableCalls, answer_of_call, left_by_call}
+use Rattle.host_values.specs.WorldCalls.{IsCalled}
+use Rattle.host_values.proofs.Faults.{called_too}
+use Rattle.host_values.proofs.Means.{plain_calls}
+use Rattle.host_tables.specs.Answers.{told_as}
+use Rattle.host_tables.specs.Calls.{import_of_table}
+use Rattle.host_tables.specs.Forms.{of_tables}
+use Rattle.host_tables.specs.declared.held.Tables.{Tables}
+use Rattle.host_tables.specs.declared.table_call.TableCall.{TableCall}
+use Rattle.host_tables.proofs.Chosen.{chosen_plain}
+use Rattle.host_tables.proofs.Quiet.{quiet}
+use Rattle.host_tables.proofs.Tellings.{told_means, world_told}
 use Rattle.host_calls.specs.Calls.{ComesTo, MeansSome}
 use Rattle.host_calls.specs.Forms.{form_in}
 

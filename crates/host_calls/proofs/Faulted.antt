@@ -15,18 +15,18 @@ use Rattle.host_imports.specs.declared.import.Import.{Import}
 use Rattle.host_imports.specs.declared.import.Import.TheVariants.{Of}
 use Rattle.host_values.specs.declared.reply.Refusal.{Refusal}
 use Rattle.host_values.specs.declared.reply.Refusal.TheVariants as why
-use Rattle.host_elements.specs.Forms.{HostForm, state_of}
-use Rattle.host_meaning.specs.FormMeaning.{FormMeans}
-use Rattle.host_meaning.specs.TableCalls.{left_by_call}
-use Rattle.host_meaning.specs.WorldCalls.{IsCalled, LeadsFinding, LeadsIn}
-use Rattle.host_table_calls.proofs.Tellings.{faulted_told, world_told}
-use Rattle.host_table_calls.specs.Answers.{told_as}
-use Rattle.host_inputs.specs.Calls.{shown_after}
-use Rattle.host_inputs.specs.Givens.{file_primitive, main_primitive}
-use Rattle.host_inputs.specs.declared.input.Keep.{Keep}
-use Rattle.host_inputs.specs.declared.input.Keep.TheVariants.{Line, Record}
-use Rattle.host_inputs.specs.declared.input.MainRead.{MainRead}
-use Rattle.host_inputs.specs.declared.input.MainRead.TheVariants.{Getline, Loop}
+use Rattle.host_values.specs.Forms.{HostForm, state_of}
+use Rattle.host_values.specs.FormMeaning.{FormMeans}
+use Rattle.host_values.specs.TableCalls.{left_by_call}
+use Rattle.host_values.specs.WorldCalls.{IsCalled, LeadsFinding, LeadsIn}
+use Rattle.host_tables.proofs.Tellings.{faulted_told, world_told}
+use Rattle.host_tables.specs.Answers.{told_as}
+use Rattle.host_worlds.specs.Calls.{shown_after}
+use Rattle.host_worlds.specs.Givens.{file_primitive, main_primitive}
+use Rattle.host_worlds.specs.declared.input.Keep.{Keep}
+use Rattle.host_worlds.specs.declared.input.Keep.TheVariants.{Line, Record}
+use Rattle.host_worlds.specs.declared.input.MainRead.{MainRead}
+use Rattle.host_worlds.specs.declared.input.MainRead.TheVariants.{Getline, Loop}
 
 -- the names outside hold this
 abbrev form_outside : Outside → HostForm → HostForm

@@ -11,18 +11,18 @@ use Rattle.host_step.specs.Worlds.{AnyhowIf, IsStepInSomeWorld, reads, unseen, u
 use Rattle.host_imports.specs.declared.import.Import.{Import}
 use Rattle.host_values.specs.declared.reply.Refusal.{Refusal}
 use Rattle.host_values.specs.declared.reply.Refusal.TheVariants as why
-use Rattle.host_elements.specs.Forms.{HostForm, Past, Stands, state_of}
+use Rattle.host_values.specs.Forms.{HostForm, Past, Stands, state_of}
 use Rattle.host_streams.specs.Mains.{main_of, reading_of}
 use Rattle.host_streams.specs.declared.main_input.MainInput.{MainInput as Mains}
 use Rattle.host_streams.specs.declared.main_input.Reading.{Reading}
 use Rattle.host_streams.specs.declared.main_input.Reading.TheVariants as reading
-use Rattle.host_meaning.specs.Findings.{form_finding}
-use Rattle.host_meaning.specs.FormMeaning.{AnyhowShown, FormCalled, FormMeans, StepShown}
-use Rattle.host_meaning.specs.Shown.{SharesBy, form_with_output}
-use Rattle.host_meaning.specs.TableCalls.{left_by_call}
-use Rattle.host_meaning.specs.WorldCalls.{IsCalled}
-use Rattle.host_table_calls.specs.Answers.{told_as}
-use Rattle.host_table_calls.proofs.Tellings.{world_told}
+use Rattle.host_values.specs.Findings.{form_finding}
+use Rattle.host_values.specs.FormMeaning.{AnyhowShown, FormCalled, FormMeans, StepShown}
+use Rattle.host_values.specs.Shown.{SharesBy, form_with_output}
+use Rattle.host_values.specs.TableCalls.{left_by_call}
+use Rattle.host_values.specs.WorldCalls.{IsCalled}
+use Rattle.host_tables.specs.Answers.{told_as}
+use Rattle.host_tables.proofs.Tellings.{world_told}
 use Rattle.host_calls.specs.Calls.{ComesTo}
 
 -- with this main input

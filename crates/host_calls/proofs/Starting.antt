@@ -5,16 +5,16 @@ use Rattle.sem_primitives.specs.SharedState.{Inner, Pairs}
 use Rattle.world_core.specs.WorldState.{Outside, Source, State}
 use Rattle.host_step.specs.HostState.{HostState}
 use Rattle.host_step.specs.Starts.{state_at_start}
-use Rattle.host_elements.specs.Forms.{HostForm, Keys, Stands, inner_of}
-use Rattle.host_inputs.specs.States.{Over, input_at_start, with_input}
-use Rattle.host_inputs.specs.declared.input.Input.{Input}
+use Rattle.host_values.specs.Forms.{HostForm, Keys, Stands, inner_of}
+use Rattle.host_worlds.specs.States.{Over, input_at_start, with_input}
+use Rattle.host_worlds.specs.declared.input.Input.{Input}
 use Rattle.host_names.specs.declared.names.Names.{Names}
 use Rattle.host_tables.specs.Starts.{form_of}
 use Rattle.host_tables.specs.declared.start.FirstTables.{FirstTables}
-use Rattle.host_meaning.specs.Shown.{Shown}
-use Rattle.host_meaning.proofs.Showing.{shown_of}
-use Rattle.host_table_calls.specs.Forms.{of_tables_and_names}
-use Rattle.host_table_calls.specs.declared.held.Tables.{Tables}
+use Rattle.host_values.specs.Shown.{Shown}
+use Rattle.host_values.proofs.Showing.{shown_of}
+use Rattle.host_tables.specs.Forms.{of_tables_and_names}
+use Rattle.host_tables.specs.declared.held.Tables.{Tables}
 use Rattle.host_calls.specs.Forms.{form_in, form_over, nothing}
 
 -- the lists of arrays and iterators that the form itself has are not looked at

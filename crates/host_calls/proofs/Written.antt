@@ -6,14 +6,14 @@ use Rattle.world_core.specs.WorldState.{Action, State}
 use Rattle.host_step.specs.Worlds.{reads}
 use Rattle.host_imports.specs.declared.import.Import.{Import}
 use Rattle.host_values.specs.declared.reply.Refusal.{Refusal}
-use Rattle.host_elements.specs.Forms.{HostForm}
+use Rattle.host_values.specs.Forms.{HostForm}
 use Rattle.host_streams.specs.Mains.{main_of}
 use Rattle.host_streams.specs.OpenFiles.{OthersKeep}
 use Rattle.host_streams.specs.Puts.{Spares}
-use Rattle.host_inputs.specs.States.{HoldsInput}
-use Rattle.host_inputs.specs.declared.input.Input.{Input}
-use Rattle.host_inputs.proofs.Apart.{main_stays}
-use Rattle.host_meaning.specs.WorldCalls.{IsCalled}
+use Rattle.host_worlds.specs.States.{HoldsInput}
+use Rattle.host_worlds.specs.declared.input.Input.{Input}
+use Rattle.host_worlds.proofs.Apart.{main_stays}
+use Rattle.host_values.specs.WorldCalls.{IsCalled}
 use Rattle.host_calls.specs.Calls.{ComesTo}
 use Rattle.host_calls.proofs.Moved.{unseen_of, with_main, wrote_comes}
 

@@ -8,12 +8,12 @@ use Rattle.host_imports.specs.declared.import.Import.{Import}
 use Rattle.host_imports.specs.declared.import.Import.TheVariants as import
 use Rattle.host_imports.specs.declared.import.Listing.TheVariants as listing
 use Rattle.host_values.specs.declared.reply.Refusal.{Refusal}
-use Rattle.host_elements.specs.Forms.{HostForm}
-use Rattle.host_inputs.specs.Givens.{file_primitive, main_primitive}
-use Rattle.host_meaning.specs.FormMeaning.{FormMeans}
-use Rattle.host_meaning.specs.TableCalls.{left_by_call}
-use Rattle.host_table_calls.specs.Answers.{told_as}
-use Rattle.host_table_calls.specs.Calls.{import_of_table}
+use Rattle.host_values.specs.Forms.{HostForm}
+use Rattle.host_worlds.specs.Givens.{file_primitive, main_primitive}
+use Rattle.host_values.specs.FormMeaning.{FormMeans}
+use Rattle.host_values.specs.TableCalls.{left_by_call}
+use Rattle.host_tables.specs.Answers.{told_as}
+use Rattle.host_tables.specs.Calls.{import_of_table}
 use Rattle.host_calls.specs.declared.dispatch.Call.{Call}
 use Rattle.host_calls.specs.declared.dispatch.Call.TheVariants.{Table, Print, Printf, Close, Flush, Main, File, Line, Declare, StartAssign, PendingName, PendingValue, BeginEnd, NextFile}
 

@@ -3,11 +3,11 @@ use Rattle.std.specs.Prelude.{[], None, false}
 use Rattle.awk_values.specs.declared.value.Value.TheVariants.{Uninit}
 use Rattle.sem_primitives.specs.SharedState.{Inner, NoFile, specials_at_start}
 use Rattle.world_core.specs.WorldState.{Outside, Source, State}
-use Rattle.host_elements.specs.Forms.{HostForm}
-use Rattle.host_inputs.specs.States.{Over, with_input}
-use Rattle.host_inputs.specs.declared.input.Input.{Input}
+use Rattle.host_values.specs.Forms.{HostForm}
+use Rattle.host_worlds.specs.States.{Over, with_input}
+use Rattle.host_worlds.specs.declared.input.Input.{Input}
 use Rattle.host_texts.specs.States.{with_texts}
-use Rattle.host_table_calls.specs.declared.held.Tables.{Tables}
+use Rattle.host_tables.specs.declared.held.Tables.{Tables}
 use Rattle.host_calls.specs.declared.host.Host.{Host}
 
 -- These tables, with what else a script and its host share. The host keeps no output: the world has it.

@@ -13,8 +13,8 @@ use Rattle.host_streams.specs.declared.main_input.Reading.TheVariants as reading
 use Rattle.host_streams.specs.declared.reader.Phase.{Phase}
 use Rattle.host_streams.specs.declared.streams.NamedWriter.{NamedWriter}
 use Rattle.host_streams.specs.declared.streams.Streams.{Streams}
-use Rattle.host_inputs.specs.States.{AreApart, FilesApart, HoldsInput}
-use Rattle.host_inputs.specs.declared.input.Input.{Input}
+use Rattle.host_worlds.specs.States.{AreApart, FilesApart, HoldsInput}
+use Rattle.host_worlds.specs.declared.input.Input.{Input}
 
 Kind-set : IsSet Kind
 Kind-set = hlevel (⊎_set)

@@ -5,15 +5,15 @@ ghost use Rattle.host_calls.specs.Forms.{host_form};
 ghost use Rattle.host_imports.specs.Imports.{import_answer};
 ghost use Rattle.host_step.specs.Answers.{refusal};
 ghost use Rattle.host_step.specs.HostStep.{refuses};
-ghost use Rattle.host_meaning.specs.TableCalls.{left_by_call};
-ghost use Rattle.host_table_calls.specs.Answers.{told_as};
+ghost use Rattle.host_values.specs.TableCalls.{left_by_call};
+ghost use Rattle.host_tables.specs.Answers.{told_as};
 ghost use Rattle.host_texts.specs.Primitives.{row_of};
 ghost use Rattle.host_values.specs.Primitives.{primitive_of};
 
 use crate::dispatch::{Call, call_of};
 use crate::host::Host;
 use host_imports::{Import, Listing};
-use host_table_calls::{refusal, refuses, told};
+use host_tables::{refusal, refuses, told};
 use host_texts::TextPrimitive;
 use host_values::{Refusal, ValuePrimitive};
 use sem_primitives::Primitive;

@@ -18,8 +18,8 @@ fn unknown() -> HostAnswer
 
 impl<W: World> HostCalls for Host<W> {
     ghost use Rattle.std.specs.Prelude.{false};
-    ghost use Rattle.host_meaning.specs.FormLaws.{form_refused, form_typed};
-    ghost use Rattle.host_meaning.specs.FormMeaning.{FormState, Told, form_meaning};
+    ghost use Rattle.host_values.specs.FormLaws.{form_refused, form_typed};
+    ghost use Rattle.host_values.specs.FormMeaning.{FormState, Told, form_meaning};
     ghost use Rattle.host_calls.specs.Forms.{host_form};
     ghost use Rattle.host_step.specs.HostLaws.{host_found};
     ghost use Rattle.host_imports.specs.Imports.{host_finds, host_types};

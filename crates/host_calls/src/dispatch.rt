@@ -4,10 +4,10 @@ ghost use Rattle.host_calls.specs.Calls.{import_of};
 ghost use Rattle.host_imports.specs.declared.import.Import.{Import};
 
 use host_imports::{Import, Listing};
-use host_inputs::{Keep, MainRead};
-use host_table_calls::TableCall;
+use host_tables::TableCall;
 use host_texts::TextPrimitive;
 use host_values::ValuePrimitive;
+use host_worlds::{Keep, MainRead};
 use sem_primitives::Primitive;
 
 /// A call, by the family that answers it.

@@ -5,13 +5,13 @@ ghost use Rattle.host_calls.specs.Calls.{ComesTo};
 ghost use Rattle.host_calls.specs.Forms.{host_form};
 ghost use Rattle.host_step.specs.HostStep.{refuses};
 ghost use Rattle.host_imports.specs.declared.import.Import.{Import};
-ghost use Rattle.host_table_calls.specs.Calls.{import_of_table};
+ghost use Rattle.host_tables.specs.Calls.{import_of_table};
 
 use crate::host::Host;
-use host_inputs::{begin_end, line};
 use host_names::{declare, pending_name, pending_value, start_assign};
-use host_table_calls::TableCall;
+use host_tables::TableCall;
 use host_values::Refusal;
+use host_worlds::{begin_end, line};
 use wasm_store::Word;
 use world_core::World;
 

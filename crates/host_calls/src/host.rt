@@ -1,12 +1,12 @@
 //! The host.
 ghost use Rattle.host_calls.specs.Held.{HoldsInput-prop, WritersGo-prop};
-ghost use Rattle.host_inputs.specs.States.{HoldsInput};
+ghost use Rattle.host_worlds.specs.States.{HoldsInput};
 ghost use Rattle.host_streams.specs.OpenFiles.{WritersGo};
 ghost use Rattle.std.specs.Coded.{→_prop};
 
-use host_inputs::Input;
-use host_links::Links;
-use host_table_calls::Tables;
+use host_imports::Links;
+use host_tables::Tables;
+use host_worlds::Input;
 use std::alloc::Global;
 use world_core::World;
 

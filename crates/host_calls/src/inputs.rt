@@ -1,14 +1,14 @@
 //! What is read: the main input, and files by their names.
 ghost use Rattle.std.specs.Prelude.{◌≡◌, List, ℕ, None};
 ghost use Rattle.sem_primitives.specs.declared.table.Primitive.TheVariants as row;
-ghost use Rattle.host_inputs.specs.Givens.{file_primitive, main_primitive};
+ghost use Rattle.host_worlds.specs.Givens.{file_primitive, main_primitive};
 ghost use Rattle.host_imports.specs.declared.import.Import.{Import};
 ghost use Rattle.host_calls.specs.Calls.{ComesTo};
 ghost use Rattle.host_calls.specs.Forms.{host_form};
 
 use crate::host::Host;
-use host_inputs::{Keep, MainRead};
 use host_values::Refusal;
+use host_worlds::{Keep, MainRead};
 use wasm_store::Word;
 use world_core::World;
 
@@ -24,7 +24,7 @@ impl<W: World> Host<W> {
         ensures { (memory : List ℕ) → ComesTo W.tells (Import.Of (main_primitive how))
             (host_form W.state self.old) words.now memory result (host_form W.state self.new) }
     {
-        host_inputs::read_main(
+        host_worlds::read_main(
             self.alloc,
             &mut self.world,
             &self.tables.arrays,
@@ -41,7 +41,7 @@ impl<W: World> Host<W> {
         ensures { (memory : List ℕ) → ComesTo W.tells (Import.Of (file_primitive to))
             (host_form W.state self.old) words.now memory result (host_form W.state self.new) }
     {
-        host_inputs::read_file(
+        host_worlds::read_file(
             self.alloc,
             &mut self.world,
             &mut self.tables.handles,
@@ -58,6 +58,6 @@ impl<W: World> Host<W> {
         ensures { (memory : List ℕ) → ComesTo W.tells (Import.Of row.NextFile)
             (host_form W.state self.old) words.now memory result (host_form W.state self.new) }
     {
-        host_inputs::next_file(&mut self.world, &mut self.input, words)
+        host_worlds::next_file(&mut self.world, &mut self.input, words)
     }
 }

@@ -7,8 +7,8 @@ ghost use Rattle.host_imports.specs.declared.import.Import.{Import};
 ghost use Rattle.host_imports.specs.declared.import.Listing.{Listing};
 
 use crate::host::Host;
-use host_outputs::{close, flush, print, printf};
 use host_values::Refusal;
+use host_worlds::{close, flush, print, printf};
 use wasm_store::Word;
 use world_core::World;
 

@@ -1,17 +1,16 @@
 //! The host's beginning and its end.
 ghost use Rattle.std.specs.Prelude.{◌≡◌, IfErr, IfOk};
 ghost use Rattle.std.specs.FinMap as map;
-ghost use Rattle.host_meaning.specs.Shown.{Shown};
+ghost use Rattle.host_values.specs.Shown.{Shown};
 ghost use Rattle.host_calls.specs.Forms.{host_form};
 ghost use Rattle.host_step.specs.Starts.{state_at_start};
 ghost use Rattle.host_tables.specs.Starts.{job_of};
 
 use crate::host::Host;
 use awk_values::Fault;
-use host_inputs::Input;
-use host_links::Links;
-use host_table_calls::Tables;
-use host_tables::{FirstTables, Job};
+use host_imports::Links;
+use host_tables::{FirstTables, Job, Tables};
+use host_worlds::Input;
 use std::alloc::Global;
 use std::hash::RandomState;
 use world_core::World;

@@ -8,9 +8,9 @@ ghost use Rattle.host_step.specs.HostStep.{refuses};
 
 use crate::host::Host;
 use host_imports::{Import, Listing};
-use host_inputs::MainRead;
 use host_texts::TextPrimitive;
 use host_values::ValuePrimitive;
+use host_worlds::MainRead;
 use sem_primitives::Primitive;
 use wasm_model::HostAnswer;
 use wasm_store::Word;

@@ -1,14 +1,18 @@
 //! The text functions of awk (POSIX.1-2017 awk, "String Functions", "Formatted output", the use of FS), in whole numbers and bytes.
+//!
+//! The automata of expressions that are met while a script runs, kept by their texts.
 #![tactic(auto)]
 
 mod conversion;
 mod converted;
 mod digits;
 mod eres;
+mod expressions;
 mod fields;
 mod formatted;
 mod growing;
 mod marks;
+mod matcher;
 mod padding;
 mod replacement;
 mod sep;
@@ -17,8 +21,10 @@ mod substitution;
 mod text;
 
 pub use eres::expression;
+pub use expressions::Expressions;
 pub use fields::{split_by_expression, split_into, split_plain, split_text};
 pub use formatted::{format, format_into};
+pub use matcher::Matcher;
 pub use sep::{Plain, Sep};
 pub use span::Span;
 pub use substitution::{Substituted, substitute};

@@ -1,10 +1,10 @@
 //! The table of values by handle.
 ghost use Rattle.std.specs.Prelude.{◌≡◌, ◌≤ℤ◌, ◌<ℤ◌, pos, IfOk, IfErr, IfSome, IfNone, OnErr, None, option_copied};
 ghost use Rattle.std.specs.FinMap as map;
-ghost use Rattle.host_slots.specs.Tables.{most_slots};
+ghost use Rattle.host_handles.specs.Tables.{most_slots};
 
+use crate::MAX_SLOTS;
 use awk_values::Value;
-use host_slots::MAX_SLOTS;
 use slab::Slab;
 use std::alloc::Global;
 use std::marker::Model;
@@ -21,7 +21,7 @@ impl Model for Handles {
     ghost use Rattle.std.specs.Ordering.{int_cmp};
     ghost use Rattle.awk_values.specs.contracts.value.Value as stored;
     ghost use Rattle.awk_values.specs.declared.value.Value.{Value as AnyValue};
-    ghost use Rattle.host_slots.specs.Tables.{table};
+    ghost use Rattle.host_handles.specs.Tables.{table};
 
     ghost Value = { map.FinMap int_cmp AnyValue };
 

@@ -1,1 +1,2 @@
 mod Params
+mod Numbers

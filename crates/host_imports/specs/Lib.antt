@@ -1,3 +1,4 @@
 pub mod Imports
 pub mod Codes
 pub mod Lines
+pub mod Links

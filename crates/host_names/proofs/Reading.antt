@@ -10,7 +10,7 @@ use Rattle.wasm_store.specs.declared.trap.TrapKind.{TrapKind}
 use Rattle.wasm_store.specs.declared.word.Word.{Word}
 use Rattle.host_step.specs.Arguments.{and_then, constant_front, decode, no_more, place_front}
 use Rattle.host_step.specs.HostState.{Names as Tables}
-use Rattle.host_elements.proofs.Reading.{before, ended}
+use Rattle.host_values.proofs.Reading.{before, ended}
 use Rattle.host_names.specs.Words.{declare_front}
 
 abbrev pub wanted_names : List Argument

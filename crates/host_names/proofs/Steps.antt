@@ -30,11 +30,11 @@ use Rattle.host_values.specs.declared.reply.Refusal.{Refusal}
 use Rattle.host_values.specs.declared.reply.Refusal.TheVariants as why
 use Rattle.host_values.specs.declared.reply.Reply.TheVariants as reply
 use Rattle.host_values.proofs.Entries.{entries_insert, look_entries}
-use Rattle.host_elements.specs.Calls.{IsTableCall}
-use Rattle.host_elements.specs.Forms.{HostForm, Past, inner_of, state_of}
-use Rattle.host_elements.proofs.ArrayCalls.{below_limit}
-use Rattle.host_elements.proofs.ArraySteps.{carry, inner_at, no_word}
-use Rattle.host_elements.proofs.Steps.{GoesOn, IsPast, done_is_some, goes, keeps_fault, leads, state_with, trapped, unrefused, wanted}
+use Rattle.host_values.specs.ElementCalls.{IsTableCall}
+use Rattle.host_values.specs.Forms.{HostForm, Past, inner_of, state_of}
+use Rattle.host_values.proofs.ArrayCalls.{below_limit}
+use Rattle.host_values.proofs.ArraySteps.{carry, inner_at, no_word}
+use Rattle.host_values.proofs.ElementSteps.{GoesOn, IsPast, done_is_some, goes, keeps_fault, leads, state_with, trapped, unrefused, wanted}
 use Rattle.host_names.specs.Words.{declare_front}
 use Rattle.host_names.proofs.Reading.{declare_decoded, declare_row}
 

@@ -9,7 +9,7 @@ use Rattle.host_values.specs.declared.reply.Refusal.{Refusal}
 use Rattle.host_values.specs.declared.reply.Refusal.TheVariants as why
 use Rattle.host_texts.specs.States.{with_texts}
 use Rattle.host_texts.specs.declared.texts.Texts.{Texts}
-use Rattle.host_elements.specs.Forms.{HostForm}
+use Rattle.host_values.specs.Forms.{HostForm}
 use Rattle.host_names.specs.declared.names.NamedText.{NamedText}
 use Rattle.host_names.specs.declared.names.Names.{Names}
 

@@ -5,8 +5,8 @@ ghost use Rattle.sem_primitives.specs.declared.table.Primitive.TheVariants as ro
 ghost use Rattle.host_imports.specs.Codes.{assign_code};
 ghost use Rattle.host_imports.specs.declared.import.Import.{Import};
 ghost use Rattle.host_values.specs.Calls.{spare};
-ghost use Rattle.host_elements.specs.Calls.{IsTableCall};
-ghost use Rattle.host_elements.specs.Forms.{HostForm};
+ghost use Rattle.host_values.specs.ElementCalls.{IsTableCall};
+ghost use Rattle.host_values.specs.Forms.{HostForm};
 ghost use Rattle.host_names.specs.Forms.{left_after, of_all, of_names};
 
 use crate::making::make_left;

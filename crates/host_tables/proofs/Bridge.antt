@@ -17,9 +17,9 @@ use Rattle.host_values.specs.Singles.{IsAppended, IsReleased}
 use Rattle.host_values.specs.declared.reply.Refusal.{Refusal}
 use Rattle.host_values.specs.declared.reply.Refusal.TheVariants as why
 use Rattle.host_texts.specs.Calls.{IsStep}
-use Rattle.host_elements.specs.Calls.{IsTableCall}
-use Rattle.host_elements.specs.Forms.{HostForm, Past, state_of}
-use Rattle.host_elements.proofs.Steps.{IsPast, leads}
+use Rattle.host_values.specs.ElementCalls.{IsTableCall}
+use Rattle.host_values.specs.Forms.{HostForm, Past, state_of}
+use Rattle.host_values.proofs.ElementSteps.{IsPast, leads}
 use Rattle.host_tables.specs.Families.{of_listed, of_values}
 
 -- a call from a state, as its result tells it, which leaves another

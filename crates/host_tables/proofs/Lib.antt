@@ -3,5 +3,9 @@ pub mod Numbered
 pub mod Reading
 pub mod Splitting
 pub mod Jobs
-pub mod Elements
+pub mod ElementsLemmas
 pub mod Starting
+pub mod Chosen
+pub mod LetGo
+pub mod Quiet
+pub mod Tellings

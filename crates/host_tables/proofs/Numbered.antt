@@ -11,8 +11,8 @@ use Rattle.awk_values.specs.declared.value.Value.TheVariants.{StrNum}
 use Rattle.sem_primitives.specs.ArrayMeaning.{numbered}
 use Rattle.host_arrays.specs.Pairs.{Pairs, get_pair, is_key, pairs_at, pairs_or_none, set_pair}
 use Rattle.host_arrays.proofs.PairLemmas.{cases_key, set_pair-new}
-use Rattle.host_elements.specs.Forms.{Arrays}
-use Rattle.host_elements.proofs.Places.{free_still, inserted}
+use Rattle.host_values.specs.Forms.{Arrays}
+use Rattle.host_values.proofs.Places.{free_still, inserted}
 use Rattle.host_values.specs.Calls.{spare}
 
 -- Keys.

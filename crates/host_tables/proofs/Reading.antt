@@ -20,9 +20,9 @@ use Rattle.host_values.specs.Calls.{names_with}
 use Rattle.host_values.specs.Evaluations.{Values}
 use Rattle.host_values.specs.Fronts.{found, handle_front}
 use Rattle.host_values.proofs.Entries.{entries_remove, look_entries}
-use Rattle.host_elements.specs.Forms.{HostForm, IsHeld, Past, state_of}
-use Rattle.host_elements.specs.Reads.{number_front}
-use Rattle.host_elements.proofs.Reading.{before, ended, named, place_at, placed}
+use Rattle.host_values.specs.Forms.{HostForm, IsHeld, Past, state_of}
+use Rattle.host_values.specs.Reads.{number_front}
+use Rattle.host_values.proofs.Reading.{before, ended, named, place_at, placed}
 use Rattle.host_tables.specs.Splits.{Said, split_front}
 
 abbrev pub Decoded : List Argument → Type 0

@@ -26,11 +26,11 @@ use Rattle.host_values.specs.declared.reply.Refusal.{Refusal}
 use Rattle.host_values.specs.declared.reply.Refusal.TheVariants as why
 use Rattle.host_format.specs.Spans.{span_text}
 use Rattle.host_format.specs.declared.span.Span.{Span}
-use Rattle.host_elements.specs.Calls.{IsTableCall, with_arrays}
-use Rattle.host_elements.specs.Forms.{Arrays, HostForm, Past, inner_of, state_of}
-use Rattle.host_elements.proofs.ArraySteps.{carry, changed_past, inner_at}
-use Rattle.host_elements.proofs.Reading.{place_at}
-use Rattle.host_elements.proofs.Steps.{GoesOn, IsPast, goes, keeps_fault, leads, trapped, unrefused, wanted}
+use Rattle.host_values.specs.ElementCalls.{IsTableCall, with_arrays}
+use Rattle.host_values.specs.Forms.{Arrays, HostForm, Past, inner_of, state_of}
+use Rattle.host_values.proofs.ArraySteps.{carry, changed_past, inner_at}
+use Rattle.host_values.proofs.Reading.{place_at}
+use Rattle.host_values.proofs.ElementSteps.{GoesOn, IsPast, goes, keeps_fault, leads, trapped, unrefused, wanted}
 use Rattle.host_tables.specs.Splits.{ArePieces, IsFilled, Said, split_front}
 use Rattle.host_tables.proofs.Reading.{said_row, split_decoded}
 

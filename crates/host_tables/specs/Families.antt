@@ -4,7 +4,7 @@ use Rattle.awk_values.specs.declared.value.Value.{Value}
 use Rattle.host_values.specs.Evaluations.{Values}
 use Rattle.host_texts.specs.States.{with_texts}
 use Rattle.host_texts.specs.declared.texts.Texts.{Texts}
-use Rattle.host_elements.specs.Forms.{HostForm}
+use Rattle.host_values.specs.Forms.{HostForm}
 
 -- with these values
 abbrev pub of_values : Values → HostForm → HostForm

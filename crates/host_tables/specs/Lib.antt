@@ -1,3 +1,6 @@
 pub mod Families
 pub mod Splits
 pub mod Starts
+pub mod Answers
+pub mod Calls
+pub mod Forms

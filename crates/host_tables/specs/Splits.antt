@@ -21,8 +21,8 @@ use Rattle.host_values.specs.Evaluations.{Values}
 use Rattle.host_values.specs.Fronts.{handle_front}
 use Rattle.host_values.specs.declared.reply.Refusal.{Refusal}
 use Rattle.host_values.specs.declared.reply.Refusal.TheVariants as why
-use Rattle.host_elements.specs.Forms.{Arrays}
-use Rattle.host_elements.specs.Reads.{number_front}
+use Rattle.host_values.specs.Forms.{Arrays}
+use Rattle.host_values.specs.Reads.{number_front}
 
 -- the handle of the text and the text, the array, the handle of the separator and the separator, and whether this is an expression
 abbrev pub Said : Type 0

@@ -6,8 +6,8 @@ ghost use Rattle.host_imports.specs.declared.import.Listing.{Listing};
 ghost use Rattle.host_values.specs.Calls.{spare};
 ghost use Rattle.host_values.specs.Primitives.{primitive_of};
 ghost use Rattle.host_texts.specs.Primitives.{row_of};
-ghost use Rattle.host_elements.specs.Calls.{IsTableCall};
-ghost use Rattle.host_elements.specs.Forms.{HostForm};
+ghost use Rattle.host_values.specs.ElementCalls.{IsTableCall};
+ghost use Rattle.host_values.specs.Forms.{HostForm};
 ghost use Rattle.host_tables.specs.Families.{of_listed, of_texts, of_values};
 
 use awk_values::Value;

@@ -10,8 +10,7 @@ ghost use Rattle.host_format.specs.Spans.{AreSpans};
 ghost use Rattle.host_tables.specs.Splits.{ArePieces, IsFound, Parts};
 
 use awk_values::{Bytes, Fault, Stop, Value, to_text};
-use host_expressions::Expressions;
-use host_format::{Sep, Span, split_text};
+use host_format::{Expressions, Sep, Span, split_text};
 use std::alloc::{AllocError, Global};
 
 /// The pieces of a text at a separator.

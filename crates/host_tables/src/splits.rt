@@ -7,8 +7,8 @@ ghost use Rattle.sem_primitives.specs.declared.table.Primitive.TheVariants as ro
 ghost use Rattle.host_format.specs.Spans.{IsInside, span_text};
 ghost use Rattle.host_imports.specs.declared.import.Import.{Import};
 ghost use Rattle.host_values.specs.Calls.{spare};
-ghost use Rattle.host_elements.specs.Calls.{IsTableCall, with_arrays};
-ghost use Rattle.host_elements.specs.Forms.{HostForm};
+ghost use Rattle.host_values.specs.ElementCalls.{IsTableCall, with_arrays};
+ghost use Rattle.host_values.specs.Forms.{HostForm};
 ghost use Rattle.host_tables.specs.Splits.{IsFilled};
 
 use crate::filling::fill;
@@ -16,8 +16,7 @@ use crate::pieces::split_outcome;
 use crate::words::split_front;
 use awk_values::Bytes;
 use host_arrays::Arrays;
-use host_expressions::Expressions;
-use host_format::Span;
+use host_format::{Expressions, Span};
 use host_handles::Handles;
 use host_texts::counted;
 use host_values::Refusal;

@@ -5,10 +5,9 @@ ghost use Rattle.host_tables.specs.Splits.{lent_split, split_front};
 
 use awk_values::Value;
 use host_arrays::Arrays;
-use host_elements::array_front;
 use host_handles::Handles;
 use host_texts::flag_front;
-use host_values::{ends, value_after, value_front};
+use host_values::{array_front, ends, value_after, value_front};
 use wasm_store::{TrapKind, Word};
 
 /// The handle of a text and the text, an array, the handle of a separator and the separator, and whether it is an expression.

@@ -16,7 +16,7 @@ use crate::spent::Spent;
 use crate::texts::Texts;
 use crate::words::{flag_front, two_values, value_third};
 use awk_values::{Fault, Stop, Value};
-use host_expressions::Expressions;
+use host_format::Expressions;
 use host_handles::Handles;
 use host_values::{Refusal, ends, value_after, value_front, value_text};
 use sem_primitives::Special;

@@ -14,7 +14,7 @@ use crate::reply::{Evaluated, Reply};
 use crate::spent::Spent;
 use crate::words::two_values;
 use awk_values::{Fault, Stop, Value};
-use host_expressions::{Expressions, Matcher};
+use host_format::{Expressions, Matcher};
 use host_handles::Handles;
 use host_values::{Refusal, value_text};
 use std::alloc::{AllocError, Global};

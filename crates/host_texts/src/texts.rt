@@ -6,8 +6,8 @@ ghost use Rattle.host_texts.specs.States.{no_record, specials_of};
 
 use crate::specials::Specials;
 use awk_values::Value;
-use host_expressions::Expressions;
 use host_fields::Record;
+use host_format::Expressions;
 use std::alloc::{AllocError, Global};
 
 /// What these imports read and change of the state that a script and its host share.

@@ -4,7 +4,7 @@ use Rattle.std.specs.Int.{w64, cast_unsigned}
 use Rattle.std.specs.FinMap as map
 use Rattle.awk_values.specs.declared.value.Value.{Value as AnyValue}
 use Rattle.sem_primitives.specs.Constants.{flag_number}
-use Rattle.host_slots.specs.Tables.{most_slots}
+use Rattle.host_handles.specs.Tables.{most_slots}
 use Rattle.wasm_model.specs.declared.host.HostAnswer.{HostAnswer}
 use Rattle.wasm_model.specs.declared.host.HostAnswer.TheVariants as told
 use Rattle.wasm_store.specs.declared.word.Word.{Word}

@@ -4,3 +4,15 @@ pub mod Evaluations
 pub mod Calls
 pub mod Singles
 pub mod Texts
+pub mod Forms
+pub mod Turns
+pub mod Reads
+pub mod ElementCalls
+pub mod Examples
+pub mod Shown
+pub mod Findings
+pub mod FormMeaning
+pub mod FormLaws
+pub mod TableCalls
+pub mod WorldCalls
+pub mod MeaningExamples

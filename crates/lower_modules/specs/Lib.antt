@@ -4,3 +4,7 @@ pub mod Lengths
 pub mod Limits
 pub mod Parts
 pub mod View
+pub mod Counted
+pub mod Fits
+pub mod Labels
+pub mod Examples

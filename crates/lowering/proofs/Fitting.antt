@@ -15,7 +15,7 @@ use Rattle.lower_model.specs.Emission.{Layout}
 use Rattle.lower_model.specs.Places.{arrays_among, arrays_in, made_in, room, rooms, step_arrays, step_iterators, step_room, steps_arrays, steps_iterators, steps_room}
 use Rattle.lower_model.specs.Quick.{addition_in, pair_in, step_jumps, sum_in}
 use Rattle.lower_pieces.specs.Bounds.{most_labels, most_places}
-use Rattle.lower_needs.specs.Labels.{choice_labels, chosen_labels, return_labels, labels_among, labels_in, more_if, one_if, step_labels, steps_labels}
+use Rattle.lower_modules.specs.Labels.{choice_labels, chosen_labels, return_labels, labels_among, labels_in, more_if, one_if, step_labels, steps_labels}
 use Rattle.lower_expressions.specs.Fits.{AllCode, AllFit, ArrayFits, Fits, IsGiven, SlotFits, Within}
 use Rattle.lowering.specs.StepFits.{ReturnFits, StepFits, StepsFit, TestFits}
 

@@ -12,8 +12,8 @@ use Rattle.lower_model.specs.Machine.{Callee}
 use Rattle.lower_model.specs.Modules.{all_callees}
 use Rattle.lower_model.specs.Places.{Bases, steps_arrays, steps_iterators, steps_room}
 use Rattle.lower_pieces.specs.Bounds.{most_places}
-use Rattle.lower_needs.proofs.Lengths.{local_count}
-use Rattle.lower_needs.specs.Fits.{FewLocals}
+use Rattle.lower_modules.proofs.LengthsLemmas.{local_count}
+use Rattle.lower_modules.specs.Fits.{FewLocals}
 use Rattle.lower_layout.specs.Spans.{IsSmall}
 use Rattle.lower_modules.specs.View.{view_function, view_functions}
 use Rattle.lower_modules.specs.declared.function.Function.{Function}

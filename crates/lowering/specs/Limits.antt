@@ -4,8 +4,8 @@ use Rattle.std.specs.List.{AllByRecursion}
 use Rattle.wasm_types.specs.Profile.{most_nesting}
 use Rattle.mid_program.specs.Mid.{Routine, Program, Steps}
 use Rattle.lower_model.specs.Functions.{main_bases, routine_bases}
-use Rattle.lower_needs.specs.Fits.{FewLocals}
-use Rattle.lower_needs.specs.Labels.{steps_labels}
+use Rattle.lower_modules.specs.Fits.{FewLocals}
+use Rattle.lower_modules.specs.Labels.{steps_labels}
 use Rattle.lower_pieces.specs.Bounds.{most_places}
 
 -- labels stand in one another as far as blocks do in a module

@@ -5,7 +5,7 @@ use Rattle.mid_program.specs.Mid.{Parameter, Code, Get, Choose, Step, Eval, Bloc
 use Rattle.lower_pieces.specs.Bounds.{most_places, most_labels}
 use Rattle.lower_model.specs.Emission.{Layout}
 use Rattle.lower_model.specs.Quick.{pair_in, step_jumps}
-use Rattle.lower_needs.specs.Labels.{more_if}
+use Rattle.lower_modules.specs.Labels.{more_if}
 use Rattle.lower_expressions.specs.Fits.{ArrayFits, Fits}
 
 -- the labels of a loop are there

@@ -5,7 +5,7 @@ ghost use Rattle.mid_program.specs.Sorted.{context_of, parts_sorted, routines_so
 ghost use Rattle.mid_program.specs.View.{view_mid, view_routine};
 ghost use Rattle.lower_model.specs.Functions.{main_bases, main_callee, routine_bases, routine_callee};
 ghost use Rattle.lower_model.specs.Modules.{all_callees, module_of};
-ghost use Rattle.lower_needs.specs.Fits.{view_needs, FewLocals};
+ghost use Rattle.lower_modules.specs.Fits.{view_needs, FewLocals};
 ghost use Rattle.lower_pieces.specs.Bounds.{most_places};
 ghost use Rattle.lower_modules.specs.Lengths.{least_in};
 ghost use Rattle.lower_modules.specs.Limits.{most_bytes, IsTooLarge};
@@ -19,8 +19,9 @@ use crate::main_parts::main_code;
 use crate::routines::routine_code;
 use lower_expressions::FunctionLayout;
 use lower_layout::{Layout, LowerFault};
-use lower_modules::{Function, module_for};
-use lower_needs::{Needs, local_types, main_needs, routine_needs, steps_labels};
+use lower_modules::{
+    Function, Needs, local_types, main_needs, module_for, routine_needs, steps_labels,
+};
 use lower_pieces::Bases;
 use mid_program::{Mid, Routine};
 use std::alloc::Global;

@@ -8,7 +8,7 @@ ghost use Rattle.lower_pieces.specs.Bounds.{most_labels, most_places};
 ghost use Rattle.lower_pieces.specs.Emits.{Emits, Holds};
 ghost use Rattle.lower_expressions.specs.Fits.{ArrayFits, Fits};
 ghost use Rattle.lower_expressions.specs.View.{view_layout};
-ghost use Rattle.lower_needs.specs.Labels.{more_if};
+ghost use Rattle.lower_modules.specs.Labels.{more_if};
 ghost use Rattle.lowering.specs.Parts.{chosen, first_turn, key_turn, keys_walked, plainly_chosen, quick_way, quickly_chosen, rounds, tested_turn, turn, turn_body, turn_ended};
 ghost use Rattle.lowering.specs.Places.{OwnLabels};
 ghost use Rattle.lowering.specs.StepFits.{ChoiceFits, has_block, LoopFits, StepFits, StepsFit, TestFits};

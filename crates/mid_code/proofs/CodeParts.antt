@@ -18,7 +18,7 @@ use Rattle.awk_grammar.specs.declared.tree.BinaryOp.{BinaryOp}
 use Rattle.std.specs.declared.boxed.Box.{Box}
 use Rattle.std.specs.Global.{Vec}
 use Rattle.std.specs.declared.alloc.Global.{Global}
-use Rattle.awk_kinds.specs.Marks.{bare_name}
+use Rattle.awk_grammar.specs.Marks.{bare_name}
 use Rattle.awk_resolve.specs.ViewKinds.{view_name, view_name_kinds}
 use Rattle.awk_resolve.specs.declared.function_names.NameKind.{NameKind}
 use Rattle.sem_primitives.specs.Constants.{flag_number}

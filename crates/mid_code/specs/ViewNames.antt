@@ -6,7 +6,7 @@ use Rattle.sem_primitives.specs.declared.constants.Special.{Special}
 use Rattle.awk_grammar.specs.Stmt.{Stmts}
 use Rattle.awk_grammar.specs.ViewStmt.{view_script, view_stmts}
 use Rattle.awk_grammar.specs.declared.tree.Stmt.{Stmt}
-use Rattle.awk_kinds.specs.Kinds.{Function}
+use Rattle.awk_grammar.specs.Kinds.{Function}
 use Rattle.awk_resolve.specs.ViewResolved.{view_resolved}
 use Rattle.awk_resolve.specs.declared.resolved.Resolved.{Resolved as Answer}
 use Rattle.sem_scripts.specs.Kinds.{scripted}

@@ -3,7 +3,7 @@
 ghost use Rattle.std.specs.Prelude.{◌≡◌, ℕ, List, [], ◌∷◌, None, MatchOption, if◌then◌else◌};
 ghost use Rattle.awk_grammar.specs.Tree.{Bin, Tree, Var};
 ghost use Rattle.awk_grammar.specs.View.{view as tree, view_binary};
-ghost use Rattle.awk_kinds.specs.Marks.{bare_name};
+ghost use Rattle.awk_grammar.specs.Marks.{bare_name};
 ghost use Rattle.awk_text.specs.Escapes.{between};
 ghost use Rattle.sem_primitives.specs.declared.table.Primitive.TheVariants as row;
 ghost use Rattle.mid_program.specs.Mid.{Code, Do};

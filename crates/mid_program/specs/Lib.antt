@@ -6,3 +6,8 @@ pub mod Translation
 pub mod ViewCode
 pub mod View
 pub mod Scripts
+pub mod Rewriting
+pub mod Stores
+pub mod SameRuns
+pub mod Alike
+pub mod Rewritten

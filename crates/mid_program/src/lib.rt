@@ -1,7 +1,10 @@
 //! Programs in mid code: their types and their meaning, and which program a script stands for.
+//!
+//! Code whose names and operations are written anew does the same.
 #![tactic(auto)]
 
 mod code;
+pub mod laws;
 mod mid;
 mod program;
 mod step;

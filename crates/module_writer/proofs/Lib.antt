@@ -8,3 +8,7 @@ pub mod SectionLaws
 pub mod ModuleLaws
 pub mod Shortest
 pub mod Written
+pub mod Within
+pub mod Typed
+pub mod Exact
+pub mod NoTrace

@@ -1,7 +1,7 @@
 -- Lines and statuses of ends, computed from the definitions.
 use Rattle.std.specs.Prelude.{◌≡◌, [], Some, codes, refl}
 use Rattle.std.specs.Fmt.{digits}
-use Rattle.run_ends.specs.declared.end.Refusal.TheVariants.{Compile, Decode, Invalid, Link}
+use Rattle.run_report.specs.declared.end.Refusal.TheVariants.{Compile, Decode, Invalid, Link}
 use Rattle.script_code.specs.declared.fault.CompileFault.TheVariants.{Token, Parse, Ere, Resolve, TooLarge}
 use Rattle.awk_parse.specs.declared.fault.Feature.TheVariants.{Pipe, Word}
 use Rattle.awk_parse.specs.declared.fault.ParseFault.TheVariants.{ConstantRange, LeftOut as LeavesOut, Misplaced, NotWhole, Syntax}
@@ -11,7 +11,7 @@ use Rattle.awk_tokens.specs.declared.token.TokenFault.TheVariants.{BadByte, Open
 use Rattle.awk_tokens.specs.declared.words.LeftOut.{LeftOut}
 use Rattle.awk_tokens.specs.declared.words.LeftOut.TheVariants.{Atan2, Cos, Exp, Func, Log, Rand, Sin, Sqrt, Srand, System}
 use Rattle.ere_syntax.specs.declared.fault.EreFault.TheVariants.{BadEre, EreTooLarge}
-use Rattle.run_ends.specs.declared.end.RunEnd.TheVariants.{Ended, Exhausted, Faulted, NoMemory, OutOfSteps, Refused, Trapped}
+use Rattle.run_report.specs.declared.end.RunEnd.TheVariants.{Ended, Exhausted, Faulted, NoMemory, OutOfSteps, Refused, Trapped}
 use Rattle.awk_values.specs.declared.fault.Fault.TheVariants.{Range}
 use Rattle.module_decoder.specs.declared.fault.DecodeFault.TheVariants.{BadInteger, Truncated}
 use Rattle.module_validator.specs.declared.valid.InvalidFault.TheVariants.{BadType}

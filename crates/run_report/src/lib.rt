@@ -1,12 +1,16 @@
 //! What is told of a run's end and of a file: the exit status, and a line for the standard error.
+//!
+//! How runs end, and why something is not run.
 #![tactic(auto)]
 
+mod end;
 mod explained;
 mod faults;
 mod line;
 mod report;
 mod topic;
 
+pub use end::{Refusal, RunEnd};
 pub use explained::{Explanation, explain};
 pub use report::{FileFault, fault_text, file_fault_text, no_memory_text, status_of};
 pub use topic::{

@@ -3,9 +3,9 @@ ghost use Rattle.std.specs.Prelude.{◌≡◌, option_map, IfOk};
 ghost use Rattle.run_report.specs.EndTexts.{end_text, end_words, exit_code, file_text};
 ghost use Rattle.run_report.specs.Parts.{words_of};
 
+use crate::end::RunEnd;
 use crate::faults::{refusal_words, trap_word};
 use crate::line::{Told, line_of};
-use run_ends::RunEnd;
 use std::alloc::{AllocError, Global};
 
 /// What failed of a file that the command line names.

@@ -1,1 +1,7 @@
+mod Turns
+mod Runs
+mod Quiet
+mod Listing
+mod Silent
+mod Unlisting
 mod Equals

@@ -1,3 +1,6 @@
+pub mod Calls
+pub mod Powers
+pub mod ImportExamples
 pub mod Jobs
 pub mod Examples
 pub mod Tasks

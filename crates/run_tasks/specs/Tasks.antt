@@ -1,12 +1,12 @@
 -- What is told of a task: the line and the exit status where it is not done, and the status of each.
 use Rattle.std.specs.Prelude.{ℕ, List, Result, Ok, Err, codes}
 use Rattle.wasm_model.specs.declared.fault.LinkFault.TheVariants.{BadImport}
-use Rattle.run_imports.specs.Calls.{IsUnlisted}
-use Rattle.run_imports.specs.declared.imports.Unlisted.TheVariants as unlisted
-use Rattle.run_ends.specs.declared.end.Refusal.TheVariants.{Decode, Invalid, Link}
-use Rattle.run_ends.specs.declared.end.RunEnd.{RunEnd}
-use Rattle.run_ends.specs.declared.end.RunEnd.TheVariants.{Refused}
-use Rattle.run_ends.specs.declared.end.RunEnd.TheVariants as end
+use Rattle.run_tasks.specs.Calls.{IsUnlisted}
+use Rattle.run_tasks.specs.declared.checks.Unlisted.TheVariants as unlisted
+use Rattle.run_report.specs.declared.end.Refusal.TheVariants.{Decode, Invalid, Link}
+use Rattle.run_report.specs.declared.end.RunEnd.{RunEnd}
+use Rattle.run_report.specs.declared.end.RunEnd.TheVariants.{Refused}
+use Rattle.run_report.specs.declared.end.RunEnd.TheVariants as end
 use Rattle.run_report.specs.EndTexts.{end_text, exit_code, file_text}
 use Rattle.run_tasks.specs.declared.undone.Undone.{Undone}
 use Rattle.run_tasks.specs.declared.undone.Undone.TheVariants.{Arguments, Environment, File, NoMemory, RandomNumbers, ScriptFile, Unexplained}

@@ -1,11 +1,11 @@
 //! What a module imports, as a task asks for it.
 ghost use Rattle.std.specs.Prelude.{IfErr, IfOk};
 ghost use Rattle.run_tasks.specs.Tasks.{IsUnreadable};
-ghost use Rattle.run_imports.specs.Calls.{AsksOnly, HasImports};
+ghost use Rattle.run_tasks.specs.Calls.{AsksOnly, HasImports};
 
+use crate::checks::{Unlisted, imports_of};
 use host_imports::Import;
-use run_ends::{Refusal, RunEnd};
-use run_imports::{Unlisted, imports_of};
+use run_report::{Refusal, RunEnd};
 use std::alloc::Global;
 use wasm_model::LinkFault;
 

@@ -1,12 +1,18 @@
 //! A task of the command line: what it is run with, what it may open, and what is told where it is not done.
+//!
+//! What a module can do: the imports that it has, and what follows from them.
 #![tactic(auto)]
 
+mod checks;
 mod fences;
 mod imports;
 mod job;
+pub mod laws;
+mod powers;
 mod undone;
 
 pub use fences::{fence_of, os_world_of};
 pub use imports::listed;
 pub use job::{job_on, named_texts};
+pub use powers::{Reads, Writes, reads_of, writes_of};
 pub use undone::{Undone, undone_status, undone_text};

@@ -5,7 +5,7 @@ use Rattle.sem_scripts.specs.Kinds.{resolved}
 use Rattle.mid_program.specs.Mid.{Program}
 use Rattle.mid_program.specs.Sorted.{IsSorted}
 use Rattle.mid_program.specs.Translation.{program_of}
-use Rattle.mid_rewriting.specs.SameRuns.{SameRuns}
+use Rattle.mid_program.specs.SameRuns.{SameRuns}
 use Rattle.folding.specs.Folding.{fold}
 use Rattle.value_kinds.specs.Applied.{apply}
 use Rattle.value_kinds.specs.Lanes.{Lanes, infer}

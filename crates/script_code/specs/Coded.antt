@@ -3,13 +3,13 @@ use Rattle.std.specs.Prelude.{◌≡◌, ◌≤◌, ◌^◌, ℕ, List, Ok, None
 use Rattle.awk_tokens.specs.Cutting.{IsTokens, Spelled}
 use Rattle.awk_parse.specs.Parsing.{IsParsed}
 use Rattle.awk_grammar.specs.Item.{Item}
-use Rattle.awk_kinds.specs.Kinds.{refusal}
+use Rattle.awk_grammar.specs.Kinds.{refusal}
 use Rattle.sem_scripts.specs.Kinds.{resolved}
 use Rattle.mid_program.specs.Mid.{Program}
 use Rattle.mid_program.specs.MidMeaning.{EndsAs}
 use Rattle.mid_program.specs.Sorted.{IsSorted}
 use Rattle.mid_program.specs.Translation.{program_of}
-use Rattle.mid_rewriting.specs.SameRuns.{SameRuns}
+use Rattle.mid_program.specs.SameRuns.{SameRuns}
 use Rattle.folding.specs.Folding.{fold}
 use Rattle.value_kinds.specs.Applied.{apply}
 use Rattle.value_kinds.specs.Lanes.{infer}

@@ -7,7 +7,7 @@ use Rattle.awk_parse.specs.Parsing.{IsParsed, IsRefused}
 use Rattle.awk_parse.specs.declared.fault.ParseFault.{ParseFault}
 use Rattle.awk_parse.specs.declared.fault.ParseFault.TheVariants as parsing
 use Rattle.awk_grammar.specs.Item.{Item}
-use Rattle.awk_kinds.specs.Kinds.{refusal}
+use Rattle.awk_grammar.specs.Kinds.{refusal}
 use Rattle.awk_resolve.specs.ViewResolved.{IsCause}
 use Rattle.awk_resolve.specs.declared.fault.ResolveFault.{ResolveFault}
 use Rattle.awk_resolve.specs.declared.fault.ResolveFault.TheVariants as resolving

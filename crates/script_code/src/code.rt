@@ -8,6 +8,7 @@ ghost use Rattle.awk_grammar.specs.ViewStmt.{view_script};
 ghost use Rattle.mid_program.specs.View.{view_mid};
 
 use crate::fault::CompileFault;
+use crate::laws::parsed_scripts_are_placed;
 use crate::tree::tree_of;
 use awk_grammar::Script;
 use awk_resolve::resolve;
@@ -15,7 +16,6 @@ use awk_tokens::{Token, tokens};
 use folding::fold;
 use mid_code::to_mid;
 use mid_program::Mid;
-use mid_sorted::laws::parsed_scripts_are_placed;
 use std::alloc::Global;
 use value_kinds::laws::found_lanes_leave_sorted;
 use value_kinds::{apply, infer};

@@ -14,24 +14,24 @@ use Rattle.wasm_types.specs.ModuleGrammar.{IsModule}
 use Rattle.wasm_types.specs.Typing.{ModuleOk}
 use Rattle.wasm_model.specs.Links.{SegmentsFit, main_of}
 use Rattle.lower_model.specs.Modules.{module_of}
-use Rattle.agree_refined.proofs.Links.{numbers_are, program}
-use Rattle.agree_modules.specs.Agreement.{Agreement}
-use Rattle.agree_modules.proofs.Exchanged.{agreement_as}
-use Rattle.agree_passed.specs.Passed.{Passes}
-use Rattle.agree_spots.specs.Places.{final_program}
-use Rattle.agree_spots.specs.Probed.{probed_script}
-use Rattle.agree_places.specs.Existence.{HasRuns}
-use Rattle.agree_places.proofs.Parameters.{few_parameters}
-use Rattle.agree_places.proofs.Spelled.{spelled_small}
+use Rattle.agreement.proofs.RefinedLemmas.Links.{numbers_are, program}
+use Rattle.agreement.specs.Modules.Agreement.{Agreement}
+use Rattle.agreement.proofs.ModulesLemmas.Exchanged.{agreement_as}
+use Rattle.agreement.specs.Passed.Passed.{Passes}
+use Rattle.agreement.specs.Spots.Places.{final_program}
+use Rattle.agreement.specs.Spots.Probed.{probed_script}
+use Rattle.agreement.specs.Places.Existence.{HasRuns}
+use Rattle.agreement.proofs.PlacesLemmas.Parameters.{few_parameters}
+use Rattle.agreement.proofs.PlacesLemmas.Spelled.{spelled_small}
 use Rattle.lower_model.specs.Functions.{texts_of}
 use Rattle.lower_model.specs.Places.{memory_of}
 use Rattle.lower_layout.specs.declared.fault.LowerFault.{LowerFault}
 use Rattle.lower_layout.specs.declared.fault.LowerFault.TheVariants.{TooLarge as Large}
 use Rattle.lower_modules.specs.Limits.{IsTooLarge}
 use Rattle.lowering.specs.Limits.{AreSmallEnough}
-use Rattle.mid_number_names.specs.Unboxed.{UnboxesNumbers}
-use Rattle.module_limits.specs.Size.{module_size}
-use Rattle.agree_sizes.specs.Past.{IsPast}
+use Rattle.value_kinds.specs.Unboxed.{UnboxesNumbers}
+use Rattle.module_writer.specs.Size.{module_size}
+use Rattle.agreement.specs.Sizes.Past.{IsPast}
 use Rattle.script_code.specs.Coded.{HasTokens, IsCodeOf, unboxed}
 use Rattle.script_code.specs.Refusals.{IsNotCoded}
 use Rattle.script_code.specs.declared.fault.CompileFault.{CompileFault}

@@ -18,8 +18,8 @@ use Rattle.wasm_types.specs.ModuleGrammar.{IsModule}
 use Rattle.lower_model.specs.Functions.{main_callee, routine_callee}
 use Rattle.lower_model.specs.Machine.{Callee}
 use Rattle.lower_model.specs.Modules.{all_callees, module_of}
-use Rattle.agree_places.proofs.Spelled.{IsLimited, spelled_limited}
-use Rattle.lower_needs.proofs.Nested.{begin_labelled, end_labelled, items_labelled, routine_labelled}
+use Rattle.agreement.proofs.PlacesLemmas.Spelled.{IsLimited, spelled_limited}
+use Rattle.lower_modules.proofs.Nested.{begin_labelled, end_labelled, items_labelled, routine_labelled}
 use Rattle.lower_layout.specs.Spans.{IsSmall}
 use Rattle.lower_modules.specs.Limits.{IsTooLarge}
 use Rattle.lowering.specs.Limits.{AreSmallEnough, IsShallow, RoutineIsSmall}

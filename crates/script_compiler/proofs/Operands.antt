@@ -7,16 +7,16 @@ use Rattle.mid_program.specs.declared.mid.Operation.{Operation}
 use Rattle.mid_program.specs.Mid.{Kind, Slot, Code, Do, Over, Compare, Call, Ask, AskLine, FileLine, Replace, Number, Text, Unset, Get, Set, Array, IsOpen, Choose, Seq, Let, Bound, Codes, End, At, Fixed, Fresh, Step, Eval, Block, If, Loop, Each, Break, Continue, Next, Exit, ExitWith, Return, Mark, Steps, NoStep, Then, Program, Routine}
 use Rattle.sem_scripts.specs.Names.{Function, Resolved}
 use Rattle.mid_program.specs.Translation.{program_of}
-use Rattle.mid_rewriting.specs.Rewriting.{code_in, codes_in, step_in, steps_in}
+use Rattle.mid_program.specs.Rewriting.{code_in, codes_in, step_in, steps_in}
 use Rattle.folding.specs.Folding.{fold, folded_routine, reduced, reduced_to, same, value_of}
 use Rattle.value_kinds.specs.Applied.{apply, routines_with, slot_in}
 use Rattle.value_kinds.specs.Lanes.{Lanes, infer}
-use Rattle.agree_places.specs.Kept.{AtStatement}
-use Rattle.agree_places.specs.Nodes.{items_nodes, nodes_of, stmts_nodes}
-use Rattle.agree_places.specs.Pending.{FewAlive}
-use Rattle.agree_places.proofs.Callers.{few_alive}
-use Rattle.agree_places.proofs.Operands.{script_few}
-use Rattle.agree_places.proofs.Pending.{AllFew, Few, PartsFew, RoutinesFew, StepFew, StepsFew}
+use Rattle.agreement.specs.Places.Kept.{AtStatement}
+use Rattle.agreement.specs.Places.Nodes.{items_nodes, nodes_of, stmts_nodes}
+use Rattle.agreement.specs.Places.Pending.{FewAlive}
+use Rattle.agreement.proofs.PlacesLemmas.Callers.{few_alive}
+use Rattle.agreement.proofs.PlacesLemmas.Operands.{script_few}
+use Rattle.agreement.proofs.PlacesLemmas.Pending.{AllFew, Few, PartsFew, RoutinesFew, StepFew, StepsFew}
 use Rattle.script_code.specs.Coded.{unboxed}
 
 module _ (slots : Slot → Slot) (operation : Operation → Codes → Code) (m : ℕ) (kept : (t : ℕ) (o : Operation) (es : Codes) → AllFew m t es → Few m t (operation o es)) where

@@ -22,21 +22,21 @@ use Rattle.host_imports.specs.Imports.{host_finds}
 use Rattle.lower_model.specs.Boundaries.{nops_in, steps_places}
 use Rattle.lower_model.specs.Functions.{main_callee, routine_callee}
 use Rattle.lower_model.specs.Modules.{module_of}
-use Rattle.agree_modules.specs.Agreement.{Agreement}
-use Rattle.agree_passed.specs.Passed.{Passes}
-use Rattle.agree_spots.specs.Probed.{probed_script}
-use Rattle.agree_places.specs.Assigned.{IsAssigned}
-use Rattle.agree_places.specs.Existence.{HasRuns}
-use Rattle.agree_places.specs.Kept.{AtReturn, AtStatement, Reached, begins_statement}
-use Rattle.agree_places.specs.Nodes.{nodes_of}
-use Rattle.agree_places.specs.Pending.{FewAlive}
-use Rattle.agree_places.specs.Statements.{main_places}
-use Rattle.agree_quiet.specs.Laned.{AtNumeric, IsNext}
-use Rattle.agree_quiet.specs.Quiet.{Quietly}
-use Rattle.agree_quiet.specs.Sums.{AtFault}
-use Rattle.agree_job_words.specs.Naming.{program_names}
-use Rattle.agree_job_words.specs.Words.{AssignsName}
-use Rattle.mid_number_names.specs.Unboxed.{UnboxesNumbers}
+use Rattle.agreement.specs.Modules.Agreement.{Agreement}
+use Rattle.agreement.specs.Passed.Passed.{Passes}
+use Rattle.agreement.specs.Spots.Probed.{probed_script}
+use Rattle.agreement.specs.Places.Assigned.{IsAssigned}
+use Rattle.agreement.specs.Places.Existence.{HasRuns}
+use Rattle.agreement.specs.Places.Kept.{AtReturn, AtStatement, Reached, begins_statement}
+use Rattle.agreement.specs.Places.Nodes.{nodes_of}
+use Rattle.agreement.specs.Places.Pending.{FewAlive}
+use Rattle.agreement.specs.Places.Statements.{main_places}
+use Rattle.agreement.specs.Quiet.Laned.{AtNumeric, IsNext}
+use Rattle.agreement.specs.Quiet.Quiet.{Quietly}
+use Rattle.agreement.specs.Quiet.Sums.{AtFault}
+use Rattle.agreement.specs.Words.Naming.{program_names}
+use Rattle.agreement.specs.Words.Words.{AssignsName}
+use Rattle.value_kinds.specs.Unboxed.{UnboxesNumbers}
 use Rattle.script_code.specs.Coded.{IsSound, most_script_bytes, unboxed}
 
 -- a module that links with the host

@@ -4,7 +4,7 @@ use Rattle.awk_tokens.specs.Cutting.{Spelled}
 use Rattle.mid_program.specs.Mid.{Program}
 use Rattle.wasm_types.specs.ModuleGrammar.{IsModule}
 use Rattle.lower_model.specs.Modules.{module_of}
-use Rattle.agree_sizes.specs.Past.{IsPast}
+use Rattle.agreement.specs.Sizes.Past.{IsPast}
 use Rattle.script_code.specs.Coded.{HasTokens, IsCodeOf, most_script_bytes}
 use Rattle.script_code.specs.Refusals.{IsNotCoded}
 use Rattle.script_code.specs.declared.fault.CompileFault.{CompileFault}

@@ -9,20 +9,20 @@ ghost use Rattle.script_compiler.specs.Compiled.{IsCompiled};
 ghost use Rattle.script_compiler.specs.Counts.{HasNoBytes, IsPastCounts};
 ghost use Rattle.script_compiler.specs.Refusals.{IsNotCompiled};
 
-use agree_job_words::laws::quiet_by_the_job;
-use agree_modules::laws::modules_agree;
-use agree_places::laws::{few_parameters, modules_run, nothing_kept, statements_have_places};
-use agree_quiet::laws::statements_are_quiet;
-use agree_sizes::laws::code_has_bytes;
-use agree_spots::laws::statements_are_passed;
-use agree_typed::laws::{links, typed};
+use agreement::modules::modules_agree;
+use agreement::places::{few_parameters, modules_run, nothing_kept, statements_have_places};
+use agreement::quiet::statements_are_quiet;
+use agreement::sizes::code_has_bytes;
+use agreement::spots::statements_are_passed;
+use agreement::typed::{links, typed};
+use agreement::words::quiet_by_the_job;
 use lower_layout::{LowerFault, layout};
 use lowering::lower;
-use mid_number_names::laws::names_of_numbers_are_unboxed;
 use mid_program::Mid;
 use module_writer::{WriteFault, write};
 use script_code::{CompileFault, code_of};
 use std::alloc::Global;
+use value_kinds::number_names::names_of_numbers_are_unboxed;
 use wasm_types::Module;
 
 /// The module of some code.

@@ -5,7 +5,7 @@ use Rattle.sem_primitives.specs.Assignments.{special_name}
 use Rattle.sem_primitives.specs.Constants.{specials}
 use Rattle.awk_grammar.specs.Stmt.{Stmts, NoStmt}
 use Rattle.awk_grammar.specs.Item.{Item}
-pub use Rattle.awk_kinds.specs.Kinds.{Name, same_name}
+pub use Rattle.awk_grammar.specs.Kinds.{Name, same_name}
 
 pub record Function : Type 0 where
   pub name : List ℕ

@@ -10,7 +10,7 @@ use Rattle.awk_values.specs.declared.fault.Fault.TheVariants.{Range, Fraction, I
 use Rattle.world_core.specs.WorldState.{Standard, Named, Open, puts}
 use Rattle.world_core.specs.declared.world.Ending.TheVariants.{End, Fails}
 use Rattle.sem_scripts.specs.ScriptState.{spend_all}
-use Rattle.awk_kinds.specs.Kinds.{special_arrays, special_scalars}
+use Rattle.awk_grammar.specs.Kinds.{special_arrays, special_scalars}
 use Rattle.sem_scripts.specs.Meaning.{asked, value_of, values_of, key_of, place_of, passed, truncated_of, applied}
 use Rattle.sem_scripts.specs.Statements.{loop, over_keys, plain_done, done_by, all_done, called}
 use Rattle.sem_scripts.specs.Items.{items_done, begun, ended}

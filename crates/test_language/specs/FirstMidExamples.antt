@@ -12,7 +12,7 @@ use Rattle.world_core.specs.declared.world.Ending.{Ending}
 use Rattle.world_core.specs.declared.world.Ending.TheVariants.{End, Fails}
 use Rattle.sem_primitives.specs.Jobs.{JobForm, Kept}
 use Rattle.sem_scripts.specs.ScriptState.{spend_all}
-use Rattle.awk_kinds.specs.Kinds.{special_arrays, special_scalars}
+use Rattle.awk_grammar.specs.Kinds.{special_arrays, special_scalars}
 use Rattle.sem_scripts.specs.Kinds.{resolved}
 use Rattle.sem_scripts.specs.Meaning.{asked}
 use Rattle.sem_scripts.specs.Statements.{loop, over_keys}

@@ -2,6 +2,10 @@
 //!
 //! A line is a description, a colon and the module in hexadecimal. The answer is `valid`, or the fault.
 //! A module that is decoded is written and decoded again before it is validated; where it is written in other bytes, they are said too.
+//!
+//! Callers of the crates that other projects would use, each proved from its callee's contract.
+//!
+//! Tests of modules as bytes: integers, limits, and what is read.
 #![tactic(auto)]
 
 ghost use Rattle.std.specs.Prelude.{◌≤◌};
@@ -10,6 +14,18 @@ ghost use Rattle.wasm_types.specs.Instructions.{depths};
 ghost use Rattle.wasm_types.specs.Profile.{most_nesting};
 ghost use Rattle.wasm_types.specs.View.{view_module};
 
+#[cfg(test)]
+mod blocks;
+#[cfg(test)]
+mod decoding;
+#[cfg(test)]
+mod integers;
+#[cfg(test)]
+mod limits;
+pub mod matching;
+pub mod modules;
+#[cfg(test)]
+mod naming;
 mod round_trip;
 
 use module_decoder::decode;

@@ -7,11 +7,11 @@ use Rattle.mid_program.specs.MidMeaning.{read_as, read_slot, store_slot, routine
 use Rattle.sem_scripts.specs.Names.{Name}
 use Rattle.sem_scripts.specs.ScriptState.{State, global_value, local_value}
 use Rattle.mid_program.specs.Sorted.{calls_of, is_many}
-use Rattle.mid_rewriting.specs.Alike.{Alike, AlikeKinds, LikeR}
-use Rattle.mid_rewriting.specs.Rewritten.{SameSlots, SameOperations, Rewritten}
-use Rattle.mid_rewriting.specs.SameRuns.{SameRuns}
-use Rattle.mid_rewriting.proofs.Outcomes.{like_self}
-use Rattle.mid_rewriting.proofs.Runs.{runs_same}
+use Rattle.mid_program.specs.Alike.{Alike, AlikeKinds, LikeR}
+use Rattle.mid_program.specs.Rewritten.{SameSlots, SameOperations, Rewritten}
+use Rattle.mid_program.specs.SameRuns.{SameRuns}
+use Rattle.mid_program.proofs.Outcomes.{like_self}
+use Rattle.mid_program.proofs.Runs.{runs_same}
 use Rattle.value_kinds.specs.Lanes.{Lanes}
 use Rattle.value_kinds.specs.Applied.{is_unboxed, slot_in, kind_with, kinds_with, globals_with, steps_with, routines_with, apply}
 

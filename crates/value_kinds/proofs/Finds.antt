@@ -5,7 +5,7 @@ use Rattle.mid_program.specs.Sorted.{is_number, kinds_of, calls_of}
 use Rattle.value_kinds.specs.Applied.{is_unboxed}
 use Rattle.value_kinds.specs.Found.{GlobalNumber, ParameterNumber, InRoutines, is_scalar, FindsNumbers}
 use Rattle.value_kinds.specs.Lanes.{Lanes, opened, close_at, close_in, is_plain, unless, marked, all_marked, routines_marked, at_first, function_count, infer}
-use Rattle.mid_rewriting.specs.Stores.{Store, Into, Given, Every, steps_stores}
+use Rattle.mid_program.specs.Stores.{Store, Into, Given, Every, steps_stores}
 
 pub clash : false ≡ true → ⊥
 clash e = cc

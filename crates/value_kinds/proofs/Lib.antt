@@ -5,3 +5,9 @@ mod Closed
 mod Sorted
 mod Sound
 mod Walked
+pub mod Folded
+pub mod Forms
+pub mod Expressions
+pub mod Scripts
+pub mod NameKinds
+pub mod Whole

@@ -7,13 +7,13 @@ use Rattle.sem_scripts.specs.Names.{ArrayName}
 use Rattle.sem_scripts.specs.Names as names
 use Rattle.mid_program.specs.Mid.{Kind, Boxed, Unboxed, Many, Slot, Global, Parameter, Do, Codes, End, At, Fixed, Fresh, Steps, Form, Answered, Bare, Perhaps, slot_form, form_of, parameters_at}
 use Rattle.mid_program.specs.Sorted.{Context, fits, is_number, same_kind, has_kind, scalar_kind, is_slot, takes, is_array_place, is_given, fit_call, steps_sorted}
-use Rattle.mid_rewriting.specs.Alike.{erased}
-use Rattle.mid_rewriting.specs.Rewriting.{steps_in}
+use Rattle.mid_program.specs.Alike.{erased}
+use Rattle.mid_program.specs.Rewriting.{steps_in}
 use Rattle.value_kinds.specs.Applied.{is_unboxed, slot_in, kind_with, kinds_with}
 use Rattle.value_kinds.specs.Lanes.{is_plain}
-use Rattle.mid_rewriting.specs.Stores.{Store, Into, Given, Every, stores, stores_given, steps_stores}
+use Rattle.mid_program.specs.Stores.{Store, Into, Given, Every, stores, stores_given, steps_stores}
 use Rattle.value_kinds.proofs.Finds.{clash}
-use Rattle.mid_rewriting.proofs.Sorted.{Keeps, Stays, every_parts, read_erased, steps_rewritten}
+use Rattle.mid_program.proofs.Sorted.{Keeps, Stays, every_parts, read_erased, steps_rewritten}
 
 number_fits : (f : Form) → is_number f ≡ true → fits f sort.Value ≡ true
 number_fits (Answered (answer.Of sort.Number)) h = refl

@@ -4,11 +4,11 @@ use Rattle.std.proofs.lemmas.Bool.{and_parts, and_from}
 use Rattle.std.proofs.lemmas.Float.{T_from_true}
 use Rattle.mid_program.specs.Mid.{Kind, Boxed, Unboxed, Many, Global, Parameter, Steps, Declared, Routine, Program, parameters_at}
 use Rattle.mid_program.specs.Sorted.{Context, is_number, kinds_of, arrays_among, context_of, steps_sorted, routines_sorted, announced_names, all_differ, parts_sorted, is_sorted, IsSorted}
-use Rattle.mid_rewriting.proofs.Sorted.{from_T}
+use Rattle.mid_program.proofs.Sorted.{from_T}
 use Rattle.value_kinds.specs.Applied.{is_unboxed, kind_with, kinds_with, globals_with, steps_with, routines_with, apply}
 use Rattle.value_kinds.specs.Found.{InRoutines, Throughout}
 use Rattle.value_kinds.specs.Lanes.{Lanes, closed, close_at, close_in, is_plain, unless, marked, all_marked, routines_marked, at_first, function_count, infer}
-use Rattle.mid_rewriting.specs.Stores.{Store, Into, Given, Every, steps_stores}
+use Rattle.mid_program.specs.Stores.{Store, Into, Given, Every, steps_stores}
 use Rattle.value_kinds.proofs.Applies.{same_many}
 use Rattle.value_kinds.proofs.Finds.{clash}
 use Rattle.value_kinds.proofs.Sorted.{Fine, calls_with, context_with, steps_kept}

@@ -17,7 +17,7 @@ use Rattle.mid_program.specs.declared.step.Step.{Step, Block, Row_of-Step, end_o
 use Rattle.mid_program.specs.declared.step.Step.TheBlock.{hidden-the_row-Step-0}
 use Rattle.mid_program.specs.View.{view_routine}
 use Rattle.mid_program.specs.declared.program.Routine.{Routine}
-use Rattle.mid_rewriting.specs.Rewriting.{code_in, codes_in, step_in, steps_in}
+use Rattle.mid_program.specs.Rewriting.{code_in, codes_in, step_in, steps_in}
 use Rattle.mid_program.specs.declared.program.Declared.{Declared}
 use Rattle.mid_program.specs.declared.program.Kind.{Kind}
 use Rattle.mid_program.specs.View.{view_declared, view_kind, view_routine}

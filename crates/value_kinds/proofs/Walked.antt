@@ -9,7 +9,7 @@ use Rattle.mid_program.specs.declared.code.Operand.{Operand}
 use Rattle.mid_program.specs.declared.code.Operand.TheVariants as operand
 use Rattle.mid_program.specs.declared.step.Step.{Step}
 use Rattle.value_kinds.specs.Lanes.{Lanes, all_marked, marked}
-use Rattle.mid_rewriting.specs.Stores.{Given, Into, Store, step_stores, steps_stores, stores, stores_given, stores_in}
+use Rattle.mid_program.specs.Stores.{Given, Into, Store, step_stores, steps_stores, stores, stores_given, stores_in}
 use Rattle.value_kinds.specs.Walks.{Walk, after, stores_each}
 
 marked_twice : (g : ℕ) (l : Lanes) (xs ys : List Store) → all_marked g (all_marked g l xs) ys ≡ all_marked g l (xs ++ ys)

@@ -2,7 +2,7 @@
 use Rattle.std.specs.Prelude.{ℕ, zero, suc, Bool, List, [], ◌∷◌}
 use Rattle.mid_program.specs.Mid.{Kind, Boxed, Unboxed, Many, Slot, Global, Parameter, Do, Steps, Declared, Routine, Program, parameters_at}
 use Rattle.mid_program.specs.Sorted.{has_kind, scalar_kind}
-use Rattle.mid_rewriting.specs.Rewriting.{steps_in}
+use Rattle.mid_program.specs.Rewriting.{steps_in}
 use Rattle.value_kinds.specs.Lanes.{Lanes}
 
 abbrev pub is_unboxed : List Kind → ℕ → Bool

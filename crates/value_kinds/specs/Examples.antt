@@ -8,7 +8,7 @@ use Rattle.awk_values.specs.declared.fault.Fault.TheVariants.{Fraction, Range}
 use Rattle.world_core.specs.WorldState.{Standard, Named, Outside, Source, absent, replaced, puts}
 use Rattle.world_core.specs.declared.world.Ending.TheVariants.{End}
 use Rattle.sem_primitives.specs.Jobs.{JobForm}
-use Rattle.awk_kinds.specs.Kinds.{special_arrays, special_scalars}
+use Rattle.awk_grammar.specs.Kinds.{special_arrays, special_scalars}
 use Rattle.awk_tokens.specs.Words.{keywords, builtins, left_out_words}
 use Rattle.awk_grammar.specs.Token as token
 use Rattle.awk_grammar.specs.Tree as tree

@@ -4,7 +4,7 @@ use Rattle.mid_program.specs.Mid.{Kind, Boxed, Unboxed, Many, Global, Parameter,
 use Rattle.mid_program.specs.Sorted.{is_number, kinds_of, calls_of}
 use Rattle.value_kinds.specs.Applied.{is_unboxed}
 use Rattle.value_kinds.specs.Lanes.{is_plain, function_count, infer}
-use Rattle.mid_rewriting.specs.Stores.{Store, Into, Given, Every, steps_stores}
+use Rattle.mid_program.specs.Stores.{Store, Into, Given, Every, steps_stores}
 
 -- what is stored into this global is a number
 abbrev pub GlobalNumber : ℕ → ℕ → Store → Type 0

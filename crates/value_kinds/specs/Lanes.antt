@@ -3,7 +3,7 @@
 use Rattle.std.specs.Prelude.{ℕ, zero, suc, Bool, true, false, List, [], ◌∷◌, map}
 use Rattle.mid_program.specs.Mid.{Kind, Boxed, Unboxed, Many, Global, Parameter, Routine, Program, Form, Perhaps}
 use Rattle.mid_program.specs.Sorted.{is_number, kinds_of, calls_of}
-use Rattle.mid_rewriting.specs.Stores.{Store, Into, Given, steps_stores}
+use Rattle.mid_program.specs.Stores.{Store, Into, Given, steps_stores}
 
 -- by the numbers of the globals, and for each function by those of its parameters. An unboxed global has a boxed twin, since the command line may
 -- give it a text; an unboxed parameter is a number, or nothing yet

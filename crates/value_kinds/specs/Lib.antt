@@ -4,3 +4,6 @@ pub mod Walks
 pub mod View
 pub mod Found
 pub mod Examples
+pub mod Stores
+pub mod Unboxed
+pub mod NumberNameExamples

@@ -2,7 +2,7 @@
 use Rattle.std.specs.Prelude.{ℕ, List, [], ◌∷◌, ◌++◌, length, map}
 use Rattle.mid_program.specs.Mid.{Code, Form, Kind, Routine}
 use Rattle.value_kinds.specs.Lanes.{Lanes, all_marked, routines_marked}
-use Rattle.mid_rewriting.specs.Stores.{Store, stores}
+use Rattle.mid_program.specs.Stores.{Store, stores}
 
 pub record Walk : Type 0 where
   pub lanes : Lanes

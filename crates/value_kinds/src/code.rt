@@ -3,7 +3,7 @@
 ghost use Rattle.std.specs.Prelude.{◌≡◌, map};
 ghost use Rattle.mid_program.specs.Mid.{Do, End};
 ghost use Rattle.mid_program.specs.ViewCode.{before, view, views};
-ghost use Rattle.mid_rewriting.specs.Rewriting.{code_in, codes_in};
+ghost use Rattle.mid_program.specs.Rewriting.{code_in, codes_in};
 ghost use Rattle.value_kinds.specs.View.{slots};
 
 use crate::names::Names;

@@ -1,7 +1,7 @@
 //! Laws of lanes, each the contract of a function that does nothing.
 ghost use Rattle.mid_program.specs.Mid.{Program};
 ghost use Rattle.mid_program.specs.Sorted.{IsSorted};
-ghost use Rattle.mid_rewriting.specs.SameRuns.{SameRuns};
+ghost use Rattle.mid_program.specs.SameRuns.{SameRuns};
 ghost use Rattle.value_kinds.specs.Applied.{apply};
 ghost use Rattle.value_kinds.specs.Found.{FindsNumbers};
 ghost use Rattle.value_kinds.specs.Lanes.{Lanes, infer};

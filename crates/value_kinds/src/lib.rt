@@ -1,4 +1,6 @@
 //! Which names of a script hold numbers alone, and the code in which they are unboxed.
+//!
+//! Scalars into which a script stores numbers alone are unboxed.
 #![tactic(auto)]
 
 mod code;
@@ -8,6 +10,7 @@ mod kept;
 pub mod laws;
 mod marks;
 mod names;
+pub mod number_names;
 mod program;
 mod step;
 mod step_marks;

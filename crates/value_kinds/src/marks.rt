@@ -3,7 +3,7 @@
 ghost use Rattle.std.specs.Prelude.{◌≡◌, ◌∷◌, map};
 ghost use Rattle.mid_program.specs.Mid.{End, form_of};
 ghost use Rattle.mid_program.specs.ViewCode.{before, view, views};
-ghost use Rattle.mid_rewriting.specs.Stores.{stores, stores_given, stores_in};
+ghost use Rattle.mid_program.specs.Stores.{stores, stores_given, stores_in};
 ghost use Rattle.value_kinds.specs.View.{view_form, view_kept, view_walk};
 ghost use Rattle.value_kinds.specs.Walks.{after, stores_each};
 

@@ -3,7 +3,7 @@
 ghost use Rattle.std.specs.Prelude.{◌≡◌, map, IfOk, IsOk};
 ghost use Rattle.mid_program.specs.Mid.{parameters_at};
 ghost use Rattle.mid_program.specs.View.{view_declared, view_kind, view_mid, view_routine};
-ghost use Rattle.mid_rewriting.specs.SameRuns.{SameRuns};
+ghost use Rattle.mid_program.specs.SameRuns.{SameRuns};
 ghost use Rattle.value_kinds.specs.Applied.{apply, globals_with, is_unboxed, kind_with, kinds_with, routine_with, routines_with};
 ghost use Rattle.value_kinds.specs.View.{view_lanes};
 

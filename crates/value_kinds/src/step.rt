@@ -3,7 +3,7 @@
 ghost use Rattle.std.specs.Prelude.{◌≡◌};
 ghost use Rattle.mid_program.specs.Mid.{Do};
 ghost use Rattle.mid_program.specs.ViewCode.{view_step, view_steps};
-ghost use Rattle.mid_rewriting.specs.Rewriting.{step_in, steps_in};
+ghost use Rattle.mid_program.specs.Rewriting.{step_in, steps_in};
 ghost use Rattle.value_kinds.specs.View.{slots};
 
 use crate::code::lane_code;

@@ -3,7 +3,7 @@
 ghost use Rattle.std.specs.Prelude.{◌≡◌, ◌∷◌, []};
 ghost use Rattle.mid_program.specs.Mid.{a_value};
 ghost use Rattle.mid_program.specs.ViewCode.{view, view_step, view_steps};
-ghost use Rattle.mid_rewriting.specs.Stores.{step_stores, steps_stores, stores};
+ghost use Rattle.mid_program.specs.Stores.{step_stores, steps_stores, stores};
 ghost use Rattle.value_kinds.specs.View.{view_walk};
 ghost use Rattle.value_kinds.specs.Walks.{after};
 

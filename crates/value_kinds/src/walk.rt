@@ -4,7 +4,7 @@ ghost use Rattle.std.specs.Prelude.{◌≡◌, ◌∷◌, [], map};
 ghost use Rattle.mid_program.specs.View.{view_kind};
 ghost use Rattle.mid_program.specs.ViewCode.{view_slot};
 ghost use Rattle.value_kinds.specs.Lanes.{close_at, close_in, closed};
-ghost use Rattle.mid_rewriting.specs.Stores.{Given, Into};
+ghost use Rattle.mid_program.specs.Stores.{Given, Into};
 ghost use Rattle.value_kinds.specs.View.{view_form, view_kinds, view_walk};
 ghost use Rattle.value_kinds.specs.Walks.{after};
 

@@ -1,3 +1,9 @@
+pub mod Came
+pub mod Leaps
+pub mod Steps
+pub mod Standing
+pub mod Confs
+pub mod StateStretches
 pub mod Codes
 pub mod Stretches
 pub mod ViewConf

@@ -1,23 +1,23 @@
 //! Linking: from a module and a host to the beginning of a run (Core 1.0, section 4.5.4).
 ghost use Rattle.std.specs.List.{All};
 ghost use Rattle.std.specs.Prelude.{ℕ, ◌≡◌, ◌↔◌, ◌*◌, ◌≤◌, ◌^◌, IfErr, IfOk, IsTrue, None, OnErr, Some, length, map, MatchResult};
-ghost use Rattle.wasm_registers.specs.Laid.{code_at};
+ghost use Rattle.wasm_loader.specs.Laid.{code_at};
 ghost use Rattle.wasm_model.specs.Frames.{constant_in, constant_of};
 ghost use Rattle.wasm_model.specs.Links.{first_some, first_none, main_at, main_of, number_for, numbers_for, place_of, value_of, least, ElemFits, DataFits, SegmentsFit, filled, poured, limits_or_none, entry_code, beginning, Numbers, Refuses};
 ghost use Rattle.wasm_model.specs.Machines.{agree};
-ghost use Rattle.wasm_frames.specs.Standing.{Stand};
-ghost use Rattle.wasm_states.specs.Confs.{conf_of};
+ghost use Rattle.wasm_machine.specs.Standing.{Stand};
+ghost use Rattle.wasm_machine.specs.Confs.{conf_of};
 ghost use Rattle.wasm_machine.specs.ViewConf.{Begins, Lays};
 ghost use Rattle.wasm_types.specs.Typing.{callee_in, typed_in};
 ghost use Rattle.wasm_types.specs.View.{signature_of, view, view_data, view_elem, view_export, view_import, view_module, views};
 
+use crate::frames::Frames;
 use crate::held::push;
 use crate::program::{callee, typed};
+use crate::state::State;
 use std::alloc::{AllocError, Global};
-use wasm_frames::Frames;
 use wasm_loader::Code;
 use wasm_model::{HostCalls, LinkFault};
-use wasm_states::State;
 use wasm_store::{Globals, Memory, Table, Word};
 use wasm_types::{
     Data, Elem, Export, ExportDesc, Func, FuncType, Global as ModuleGlobal, Import, Instr, Limits,

@@ -10,12 +10,12 @@ use crate::link::{codes_of, first_state, link};
 use crate::program::Program;
 use crate::run::{run, run_to_pause};
 use crate::sites::no_lines;
+use crate::state::State;
 use module_validator::ValidModule;
 use std::alloc::Global;
 use std::marker::Model;
+use wasm_loader::fast::Fast;
 use wasm_model::{End, HostCalls, LinkFault, MachineEnd, RunEnd};
-use wasm_registers::fast::Fast;
-use wasm_states::State;
 use wasm_store::{TrapKind, Word};
 
 /// What a machine tells of a run's end.
@@ -47,8 +47,8 @@ impl Model for Machine {
     ghost use Rattle.std.specs.Coded.{codes};
     ghost use Rattle.wasm_machine.specs.Codes.{instructions_code};
     ghost use Rattle.std.specs.Prelude.{◌≡◌, None};
-    ghost use Rattle.wasm_frames.specs.Standing.{Stand};
-    ghost use Rattle.wasm_states.specs.Confs.{conf_of};
+    ghost use Rattle.wasm_machine.specs.Standing.{Stand};
+    ghost use Rattle.wasm_machine.specs.Confs.{conf_of};
     ghost use Rattle.wasm_machine.specs.ViewConf.{HasCodes, HasLines, program_of};
     ghost use Rattle.wasm_model.specs.Runs.{MachineForm};
     ghost use Rattle.wasm_model.specs.Typed.{MachineOk};
@@ -156,13 +156,7 @@ impl Machine {
         if let Some(end) = self.ended {
             return (end, steps);
         }
-        let stopped = run_to_pause(
-            &mut self.state,
-            &self.program,
-            &mut self.lines,
-            host,
-            steps,
-        );
+        let stopped = run_to_pause(&mut self.state, &self.program, &mut self.lines, host, steps);
         let end = tell(stopped.end);
         if end != MachineEnd::OutOfSteps {
             self.ended = Some(end);

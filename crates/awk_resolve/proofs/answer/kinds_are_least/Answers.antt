@@ -1,5 +1,5 @@
-use Rattle.awk_kinds.specs.Marks.{script_marks}
-use Rattle.awk_kinds.specs.Kinds.{same_key, heads, members, pairs}
+use Rattle.awk_grammar.specs.Marks.{script_marks}
+use Rattle.awk_grammar.specs.Kinds.{same_key, heads, members, pairs}
 use Rattle.awk_resolve.proofs.Names.{key_sound, key_refl}
 use Rattle.awk_resolve.proofs.Least.{least_is}
 use Rattle.awk_resolve.proofs.answer.kinds_are_least.Goals as goal

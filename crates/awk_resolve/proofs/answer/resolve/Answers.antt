@@ -1,7 +1,7 @@
 use Rattle.std.proofs.Common.{◌≡◌, List, None, ap, subst, ◌∙◌}
 use Rattle.std.specs.Result.{IfErr, IfOk, OnOk}
-use Rattle.awk_kinds.specs.Marks.{Mark}
-use Rattle.awk_kinds.specs.Kinds.{Head, refusal_by, resolved_by}
+use Rattle.awk_grammar.specs.Marks.{Mark}
+use Rattle.awk_grammar.specs.Kinds.{Head, refusal_by, resolved_by}
 use Rattle.awk_resolve.specs.View.{view_marks}
 use Rattle.awk_resolve.specs.ViewResolved.{IsCause, view_resolved}
 use Rattle.awk_resolve.proofs.answer.resolve.Goals as goal

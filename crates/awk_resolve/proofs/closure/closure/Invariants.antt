@@ -1,5 +1,5 @@
 use Rattle.std.proofs.Common.{◌≡◌, ℕ, Bool, IsTrue, All, length}
-use Rattle.awk_kinds.specs.Least.{IsClosed}
+use Rattle.awk_grammar.specs.Least.{IsClosed}
 use Rattle.awk_resolve.specs.ViewFound.{IsIn, left}
 use Rattle.awk_resolve.proofs.Waiting.{IsFollowed}
 use Rattle.awk_resolve.proofs.closure.closure.Given as goal

@@ -1,7 +1,7 @@
 use Rattle.std.proofs.Common.{◌≡◌, ℕ, ◌<◌, [], List, All, length, map, Bool, ap, sym, subst, ◌∙◌}
-use Rattle.awk_kinds.specs.Marks.{Kind, Array, Scalar, Mark}
-use Rattle.awk_kinds.specs.Kinds.{Key, Whole, Head, parameter_keys, specials, with_keys, variables, members, pairs, is_used_as}
-use Rattle.awk_kinds.specs.Least.{IsLeast}
+use Rattle.awk_grammar.specs.Marks.{Kind, Array, Scalar, Mark}
+use Rattle.awk_grammar.specs.Kinds.{Key, Whole, Head, parameter_keys, specials, with_keys, variables, members, pairs, is_used_as}
+use Rattle.awk_grammar.specs.Least.{IsLeast}
 use Rattle.awk_resolve.specs.Marked.{is_marked, is_marked_in}
 use Rattle.awk_resolve.specs.Numbered.{AreNumbers, ArePairs}
 use Rattle.awk_resolve.specs.View.{view_marks}

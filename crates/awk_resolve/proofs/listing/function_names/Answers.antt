@@ -2,7 +2,7 @@ use Rattle.std.proofs.Common.{ℕ, ◌+◌, List, map, drop, subst, sym, ap, ◌
 use Rattle.std.proofs.lemmas.List.{drop_all}
 use Rattle.std.specs.Global.{Vec}
 use Rattle.awk_grammar.specs.ViewStmt.{view_names}
-use Rattle.awk_kinds.specs.Kinds.{Inside, Name, named, head_keys}
+use Rattle.awk_grammar.specs.Kinds.{Inside, Name, named, head_keys}
 use Rattle.awk_resolve.specs.Marked.{is_marked_in}
 use Rattle.awk_resolve.specs.ViewNames.{view_variables}
 use Rattle.awk_resolve.specs.ViewKinds.{view_name}

@@ -1,6 +1,6 @@
 use Rattle.std.proofs.Common.{map, drop}
 use Rattle.awk_grammar.specs.ViewStmt.{view_names}
-use Rattle.awk_kinds.specs.Kinds.{named, head_keys}
+use Rattle.awk_grammar.specs.Kinds.{named, head_keys}
 use Rattle.awk_resolve.specs.Marked.{is_marked_in}
 use Rattle.awk_resolve.specs.ViewNames.{view_variables}
 use Rattle.awk_resolve.specs.ViewKinds.{view_name}

@@ -2,7 +2,7 @@ use Rattle.std.proofs.Common.{◌≡◌, ◌+◌, List, Result, Ok, Err, map, dr
 use Rattle.std.proofs.lemmas.List.{drop_all}
 use Rattle.std.specs.Result.{IfOk}
 use Rattle.awk_grammar.specs.ViewStmt.{view_names}
-use Rattle.awk_kinds.specs.Kinds.{Function, Name, named, head_keys, functions_by}
+use Rattle.awk_grammar.specs.Kinds.{Function, Name, named, head_keys, functions_by}
 use Rattle.awk_resolve.specs.Marked.{is_marked_in}
 use Rattle.awk_resolve.specs.ViewFunctions.{view_function}
 use Rattle.awk_resolve.specs.ViewKinds.{view_name_kinds}

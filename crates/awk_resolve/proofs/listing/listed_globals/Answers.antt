@@ -1,6 +1,6 @@
 use Rattle.std.proofs.Common.{◌≡◌, ◌+◌, List, [], ◌∷◌, Bool, true, false, filter, map, drop, get_or, refl, ap, sym, subst, ◌∙◌}
 use Rattle.std.proofs.lemmas.List.{drop_all}
-use Rattle.awk_kinds.specs.Kinds.{Key, Name, globals_by, is_global, named}
+use Rattle.awk_grammar.specs.Kinds.{Key, Name, globals_by, is_global, named}
 use Rattle.awk_resolve.specs.Marked.{is_marked_in}
 use Rattle.awk_resolve.specs.ViewKinds.{view_name}
 use Rattle.awk_resolve.specs.ViewNames.{view_variable, view_variables}

@@ -1,5 +1,5 @@
 use Rattle.std.proofs.Common.{drop}
-use Rattle.awk_kinds.specs.Kinds.{globals_by}
+use Rattle.awk_grammar.specs.Kinds.{globals_by}
 use Rattle.awk_resolve.specs.Marked.{is_marked_in}
 use Rattle.awk_resolve.specs.ViewNames.{view_variables}
 use Rattle.awk_resolve.specs.ViewKinds.{view_name}

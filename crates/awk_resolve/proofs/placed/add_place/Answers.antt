@@ -2,7 +2,7 @@ use Rattle.std.proofs.Common.{◌≡◌, ℕ, List, [], ◌∷◌, ◌++◌, Res
 use Rattle.std.specs.Borrow.{Bor}
 use Rattle.std.specs.Result.{OnOk, is_ok}
 use Rattle.indexmap.proofs.CallerLemmas.{insert_entry-new}
-use Rattle.awk_kinds.specs.Kinds.{same_name}
+use Rattle.awk_grammar.specs.Kinds.{same_name}
 use Rattle.awk_resolve.specs.Places.{place_of, ArePlaces}
 use Rattle.awk_resolve.proofs.Names.{absent}
 use Rattle.awk_resolve.proofs.Tables.{Entry, known_place, new_place}

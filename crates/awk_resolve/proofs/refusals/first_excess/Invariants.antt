@@ -1,5 +1,5 @@
 use Rattle.std.proofs.Common.{◌≡◌, drop}
-use Rattle.awk_kinds.specs.Kinds.{excess, first}
+use Rattle.awk_grammar.specs.Kinds.{excess, first}
 use Rattle.awk_resolve.specs.View.{view_marks}
 use Rattle.awk_resolve.specs.ViewNames.{view_heads}
 use Rattle.awk_resolve.proofs.refusals.first_excess.Given as goal

@@ -1,5 +1,5 @@
 use Rattle.std.proofs.Common.{◌≡◌, false, [], take, drop}
-use Rattle.awk_kinds.specs.Kinds.{defined, declared, first_duplicate}
+use Rattle.awk_grammar.specs.Kinds.{defined, declared, first_duplicate}
 use Rattle.awk_resolve.specs.View.{view_marks}
 use Rattle.awk_resolve.specs.ViewNames.{names, view_heads, view_variables}
 use Rattle.awk_resolve.proofs.refusals.first_taken.Given as goal

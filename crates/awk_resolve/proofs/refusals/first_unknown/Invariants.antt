@@ -1,5 +1,5 @@
 use Rattle.std.proofs.Common.{◌≡◌, drop}
-use Rattle.awk_kinds.specs.Kinds.{unknown, first}
+use Rattle.awk_grammar.specs.Kinds.{unknown, first}
 use Rattle.awk_resolve.specs.View.{view_marks}
 use Rattle.awk_resolve.specs.ViewNames.{view_heads}
 use Rattle.awk_resolve.proofs.refusals.first_unknown.Given as goal

@@ -1,5 +1,5 @@
 use Rattle.std.proofs.Common.{not, ap, sym, ◌∙◌}
-use Rattle.awk_kinds.specs.Kinds.{has_name, specials}
+use Rattle.awk_grammar.specs.Kinds.{has_name, specials}
 use Rattle.awk_resolve.specs.ViewNames.{names}
 use Rattle.awk_resolve.proofs.Names.{not_added, names_any}
 use Rattle.awk_resolve.proofs.refusals.note_function.Goals as goal

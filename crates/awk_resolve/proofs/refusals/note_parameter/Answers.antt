@@ -1,6 +1,6 @@
 use Rattle.std.proofs.Common.{Bool, not, ◌||◌, ap, sym, ◌∙◌}
 use Rattle.std.specs.List.{list_any}
-use Rattle.awk_kinds.specs.Kinds.{Inside, same_key, has_name, is_function, specials}
+use Rattle.awk_grammar.specs.Kinds.{Inside, same_key, has_name, is_function, specials}
 use Rattle.awk_resolve.specs.ViewNames.{view_heads, view_variables}
 use Rattle.awk_resolve.specs.declared.scopes.Variable.TheVariants.{Inside as InsideVariable}
 use Rattle.awk_resolve.proofs.Names.{not_added, any_is}

@@ -1,5 +1,5 @@
 use Rattle.std.proofs.Common.{◌≡◌, drop}
-use Rattle.awk_kinds.specs.Kinds.{too_many}
+use Rattle.awk_grammar.specs.Kinds.{too_many}
 use Rattle.awk_resolve.specs.ViewNames.{view_heads}
 use Rattle.awk_resolve.proofs.refusals.too_many.Given as goal
 

@@ -2,7 +2,7 @@ use Rattle.std.proofs.Common.{◌≡◌, ◌+◌, List, ◌∷◌, drop, ap, sym
 use Rattle.std.proofs.lemmas.List.{drop_all}
 use Rattle.awk_grammar.specs.declared.tree.Item.{Item}
 use Rattle.awk_grammar.specs.ViewStmt.{view_items, view_names}
-use Rattle.awk_kinds.specs.Kinds.{Head, heads}
+use Rattle.awk_grammar.specs.Kinds.{Head, heads}
 use Rattle.awk_resolve.specs.ViewNames.{view_head}
 use Rattle.awk_resolve.proofs.Names.{drop_at}
 use Rattle.awk_resolve.proofs.Listed.{Lists, all_listed, all_placed, lists_first, lists_next}

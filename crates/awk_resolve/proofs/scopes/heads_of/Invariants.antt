@@ -1,6 +1,6 @@
 use Rattle.std.proofs.Common.{drop}
 use Rattle.awk_grammar.specs.ViewStmt.{view_items}
-use Rattle.awk_kinds.specs.Kinds.{heads}
+use Rattle.awk_grammar.specs.Kinds.{heads}
 use Rattle.awk_resolve.specs.ViewNames.{view_head}
 use Rattle.awk_resolve.proofs.Listed.{Lists}
 use Rattle.awk_resolve.proofs.scopes.heads_of.Given as goal

@@ -1,5 +1,5 @@
 use Rattle.std.proofs.Common.{◌≡◌, drop}
-use Rattle.awk_kinds.specs.Kinds.{has_name}
+use Rattle.awk_grammar.specs.Kinds.{has_name}
 use Rattle.awk_resolve.specs.ViewNames.{names}
 use Rattle.awk_resolve.proofs.special.is_among.Given as goal
 

@@ -1,5 +1,5 @@
 use Rattle.std.proofs.Common.{List, subst}
-use Rattle.awk_kinds.specs.Kinds.{distinct_parameters}
+use Rattle.awk_grammar.specs.Kinds.{distinct_parameters}
 use Rattle.awk_resolve.specs.ViewNames.{names, view_heads}
 use Rattle.awk_resolve.specs.ViewVariables.{AreKeys}
 use Rattle.awk_resolve.specs.declared.scopes.Head.{Head}

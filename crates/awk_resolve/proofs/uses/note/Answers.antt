@@ -1,5 +1,5 @@
 use Rattle.std.proofs.Common.{[], ◌∷◌, Option, subst, rules}
-use Rattle.awk_kinds.specs.Kinds.{Key, key_in}
+use Rattle.awk_grammar.specs.Kinds.{Key, key_in}
 use Rattle.awk_resolve.specs.View.{view_kind, view_place}
 use Rattle.awk_resolve.specs.ViewNames.{view_heads, view_maybe_variable}
 use Rattle.awk_resolve.specs.ViewUses.{NotesGiven, NotesUses}

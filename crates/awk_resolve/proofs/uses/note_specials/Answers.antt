@@ -1,7 +1,7 @@
 use Rattle.std.proofs.Common.{ℕ, ◌∷◌, List, [], map, take, get_or, ap, sym, subst, ◌∙◌}
 use Rattle.std.specs.Borrow.{Bor}
 use Rattle.std.proofs.lemmas.List.{map-append, take_all, take_more}
-use Rattle.awk_kinds.specs.Kinds.{Key, Whole}
+use Rattle.awk_grammar.specs.Kinds.{Key, Whole}
 use Rattle.awk_resolve.specs.View.{view_kind}
 use Rattle.awk_resolve.specs.ViewNames.{names}
 use Rattle.awk_resolve.specs.ViewUses.{NotesUses}

@@ -1,5 +1,5 @@
 use Rattle.std.proofs.Common.{map, take}
-use Rattle.awk_kinds.specs.Kinds.{Whole}
+use Rattle.awk_grammar.specs.Kinds.{Whole}
 use Rattle.awk_resolve.specs.View.{view_kind}
 use Rattle.awk_resolve.specs.ViewNames.{names}
 use Rattle.awk_resolve.specs.ViewUses.{NotesUses}

@@ -1,6 +1,6 @@
 use Rattle.std.proofs.Common.{List, [], take, sym, subst}
 use Rattle.std.proofs.lemmas.List.{take_all}
-use Rattle.awk_kinds.specs.Marks.{Mark as PlainMark}
+use Rattle.awk_grammar.specs.Marks.{Mark as PlainMark}
 use Rattle.awk_resolve.specs.View.{view_marks}
 use Rattle.awk_resolve.specs.ViewNames.{view_heads}
 use Rattle.awk_resolve.specs.ViewUses.{AreUses}

@@ -3,7 +3,7 @@ use Rattle.std.proofs.lemmas.List.{drop_all}
 use Rattle.awk_grammar.specs.View.{views}
 use Rattle.awk_grammar.specs.declared.tree.Expr.{Expr}
 use Rattle.awk_grammar.proofs.Views.{count_views, element_is, call_is, apply_is, in_list_is}
-use Rattle.awk_kinds.specs.Marks.{Called, computed_marks, marks, all_marks, argument_marks, operand_marks}
+use Rattle.awk_grammar.specs.Marks.{Called, computed_marks, marks, all_marks, argument_marks, operand_marks}
 use Rattle.awk_resolve.specs.View.{view_place}
 use Rattle.awk_resolve.proofs.Keeping.{adds_as, adds_both, leads_all, leads_first, leads_next}
 use Rattle.awk_resolve.proofs.Names.{drop_at}

@@ -1,6 +1,6 @@
 use Rattle.std.proofs.Common.{drop}
 use Rattle.awk_grammar.specs.View.{views}
-use Rattle.awk_kinds.specs.Marks.{all_marks, argument_marks, operand_marks}
+use Rattle.awk_grammar.specs.Marks.{all_marks, argument_marks, operand_marks}
 use Rattle.awk_resolve.specs.View.{view_place}
 use Rattle.awk_resolve.proofs.Keeping.{Leads}
 use Rattle.awk_resolve.proofs.walk.+walk.Given as goal

@@ -2,7 +2,7 @@ use Rattle.std.proofs.Common.{List, ap, arith}
 use Rattle.std.proofs.lemmas.List.{drop_all}
 use Rattle.awk_grammar.specs.View.{views}
 use Rattle.awk_grammar.specs.declared.tree.Expr.{Expr}
-use Rattle.awk_kinds.specs.Marks.{computed_marks}
+use Rattle.awk_grammar.specs.Marks.{computed_marks}
 use Rattle.awk_resolve.proofs.Keeping.{leads_all, leads_first, leads_next}
 use Rattle.awk_resolve.proofs.Names.{drop_at}
 use Rattle.awk_resolve.proofs.walk.push_computed.Goals as goal

@@ -1,6 +1,6 @@
 use Rattle.std.proofs.Common.{drop}
 use Rattle.awk_grammar.specs.View.{views}
-use Rattle.awk_kinds.specs.Marks.{computed_marks}
+use Rattle.awk_grammar.specs.Marks.{computed_marks}
 use Rattle.awk_resolve.proofs.Keeping.{Leads}
 use Rattle.awk_resolve.proofs.walk.push_computed.Given as goal
 

@@ -3,7 +3,7 @@ use Rattle.std.proofs.lemmas.List.{drop_all}
 use Rattle.awk_grammar.specs.declared.tree.Stmt.{Stmt}
 use Rattle.awk_grammar.specs.ViewStmt.{view_stmts}
 use Rattle.awk_grammar.proofs.Views.{block_is}
-use Rattle.awk_kinds.specs.Marks.{stmt_marks, stmts_marks}
+use Rattle.awk_grammar.specs.Marks.{stmt_marks, stmts_marks}
 use Rattle.awk_resolve.specs.View.{view_place}
 use Rattle.awk_resolve.proofs.Keeping.{adds_as, leads_all, leads_first, leads_next}
 use Rattle.awk_resolve.proofs.Names.{drop_at}

@@ -1,6 +1,6 @@
 use Rattle.std.proofs.Common.{drop}
 use Rattle.awk_grammar.specs.ViewStmt.{view_stmts}
-use Rattle.awk_kinds.specs.Marks.{stmts_marks}
+use Rattle.awk_grammar.specs.Marks.{stmts_marks}
 use Rattle.awk_resolve.specs.View.{view_place}
 use Rattle.awk_resolve.proofs.Keeping.{Leads}
 use Rattle.awk_resolve.proofs.walk_stmt.+walk_stmt.Given as goal

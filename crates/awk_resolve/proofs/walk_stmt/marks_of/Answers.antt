@@ -2,7 +2,7 @@ use Rattle.std.proofs.Common.{◌≡◌, ◌+◌, List, ◌∷◌, drop, ap, sub
 use Rattle.std.proofs.lemmas.List.{drop_all}
 use Rattle.awk_grammar.specs.declared.tree.Item.{Item}
 use Rattle.awk_grammar.specs.ViewStmt.{view_items}
-use Rattle.awk_kinds.specs.Marks.{script_marks}
+use Rattle.awk_grammar.specs.Marks.{script_marks}
 use Rattle.awk_resolve.proofs.Keeping.{finds_all, finds_first, finds_next}
 use Rattle.awk_resolve.proofs.Names.{drop_at}
 use Rattle.awk_resolve.proofs.walk_stmt.marks_of.Goals as goal

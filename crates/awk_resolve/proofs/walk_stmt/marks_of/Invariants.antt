@@ -1,6 +1,6 @@
 use Rattle.std.proofs.Common.{drop}
 use Rattle.awk_grammar.specs.ViewStmt.{view_items}
-use Rattle.awk_kinds.specs.Marks.{script_marks}
+use Rattle.awk_grammar.specs.Marks.{script_marks}
 use Rattle.awk_resolve.proofs.Keeping.{Finds}
 use Rattle.awk_resolve.proofs.walk_stmt.marks_of.Given as goal
 

@@ -2,7 +2,7 @@ use Rattle.std.proofs.Common.{ℕ, List, [], ◌∷◌, ap, arith}
 use Rattle.std.proofs.lemmas.List.{drop_all}
 use Rattle.std.specs.Global.{Vec}
 use Rattle.awk_grammar.specs.ViewStmt.{view_names}
-use Rattle.awk_kinds.specs.Marks.{Parameter, parameter_marks}
+use Rattle.awk_grammar.specs.Marks.{Parameter, parameter_marks}
 use Rattle.awk_resolve.proofs.Keeping.{adds_as, leads_all, leads_first, leads_next}
 use Rattle.awk_resolve.proofs.Names.{drop_at}
 use Rattle.awk_resolve.proofs.walk_stmt.push_parameters.Goals as goal

@@ -1,6 +1,6 @@
 use Rattle.std.proofs.Common.{drop}
 use Rattle.awk_grammar.specs.ViewStmt.{view_names}
-use Rattle.awk_kinds.specs.Marks.{parameter_marks}
+use Rattle.awk_grammar.specs.Marks.{parameter_marks}
 use Rattle.awk_resolve.proofs.Keeping.{Leads}
 use Rattle.awk_resolve.proofs.walk_stmt.push_parameters.Given as goal
 

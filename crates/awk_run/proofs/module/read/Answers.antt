@@ -1,6 +1,6 @@
 use Rattle.std.proofs.Common.{sym, subst}
 use Rattle.awk_run.specs.ModuleRun.{Unread}
-use Rattle.run_ends.specs.declared.end.RunEnd.{RunEnd}
+use Rattle.run_report.specs.declared.end.RunEnd.{RunEnd}
 use Rattle.awk_run.proofs.Runs.{undecoded_answers}
 use Rattle.awk_run.proofs.module.read.Goals as goal
 

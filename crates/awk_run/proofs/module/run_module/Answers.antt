@@ -1,6 +1,6 @@
 use Rattle.std.proofs.Common.{subst}
 use Rattle.host_tables.specs.Starts.{job_of}
-use Rattle.host_meaning.specs.Shown.{Shown}
+use Rattle.host_values.specs.Shown.{Shown}
 use Rattle.host_calls.specs.Forms.{host_form}
 use Rattle.host_step.specs.Starts.{state_at_start}
 use Rattle.wasm_types.specs.View.{view_module}

@@ -1,11 +1,11 @@
 use Rattle.std.proofs.Common.{◌≡◌, sym, ap, ◌∙◌, subst, Option}
 use Rattle.awk_values.specs.declared.fault.Fault.{Fault}
-use Rattle.agree_runs.proofs.Telling.{anyhow_run, did_find, did_tell}
+use Rattle.agreement.proofs.RunsLemmas.Telling.{anyhow_run, did_find, did_tell}
 use Rattle.host_calls.specs.Forms.{host_form}
 use Rattle.host_step.specs.Starts.{state_at_start}
 use Rattle.wasm_types.specs.View.{view_module}
 use Rattle.awk_run.specs.ModuleRun.{RunAnswers, run_end}
-use Rattle.run_ends.specs.declared.end.RunEnd.{RunEnd}
+use Rattle.run_report.specs.declared.end.RunEnd.{RunEnd}
 use Rattle.awk_run.proofs.Runs.{did_answers}
 use Rattle.awk_run.proofs.module.run_valid.Goals as goal
 

@@ -11,8 +11,8 @@ use denote.Hole.Carrier.{out}
 use Rattle.mid_program.proofs.Views.{view_codes, view_joined}
 use Rattle.folding.specs.Folding.{folded, reduced, same, value_of}
 use Rattle.folding.specs.View.{numeral}
-use Rattle.mid_rewriting.specs.Rewriting.{codes_in}
-use Rattle.mid_rewriting.proofs.Joining.{joined_in}
+use Rattle.mid_program.specs.Rewriting.{codes_in}
+use Rattle.mid_program.proofs.Joining.{joined_in}
 use Rattle.folding.proofs.Views.{CodeDone, OperandDone, codes_done, done_next, none_reduced, operands_of, operands_done, some_fits, rest_next, some_reduced, view_do, written_back}
 use Rattle.folding.proofs.code.+folding.Goals as goal
 

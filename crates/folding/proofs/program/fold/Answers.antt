@@ -2,7 +2,7 @@ use Rattle.std.proofs.Common.{subst, sym}
 use Rattle.mid_program.specs.Mid.{Program}
 use Rattle.mid_program.specs.Sorted.{IsSorted}
 use Rattle.mid_program.specs.View.{view_mid}
-use Rattle.mid_rewriting.specs.SameRuns.{SameRuns}
+use Rattle.mid_program.specs.SameRuns.{SameRuns}
 use Rattle.folding.specs.Folding.{fold}
 use Rattle.folding.specs.Left.{NoneLeft}
 use Rattle.folding.proofs.Folds.{folds}

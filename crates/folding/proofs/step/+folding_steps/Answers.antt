@@ -8,7 +8,7 @@ use denote.Hole.Carrier.{out}
 use Rattle.std.proofs.Common.{◌≡◌, length, drop, ap, sym, ◌∙◌, arith}
 use Rattle.mid_program.specs.Mid as plain
 use Rattle.mid_program.specs.ViewCode.{view, view_array, view_step, view_steps}
-use Rattle.mid_rewriting.specs.Rewriting.{step_in}
+use Rattle.mid_program.specs.Rewriting.{step_in}
 use Rattle.folding.specs.Folding.{folded, folded_steps, reduced, same}
 use Rattle.folding.proofs.Views.{StepDone, done_next, rest_next, steps_done, steps_of, written_back}
 use Rattle.folding.proofs.step.+folding_steps.Goals as goal

@@ -2,7 +2,7 @@ use Rattle.std.proofs.Common.{ℕ, Option, sym, subst, ◌∙◌}
 use Rattle.awk_values.specs.declared.value.Value.{Value}
 use Rattle.sem_primitives.specs.declared.table.Primitive.TheVariants as row
 use Rattle.host_imports.specs.declared.import.Import.TheVariants.{Of}
-use Rattle.host_elements.specs.Calls.{IsTableCall}
+use Rattle.host_values.specs.ElementCalls.{IsTableCall}
 use Rattle.host_names.specs.Forms.{of_names}
 use Rattle.host_names.proofs.Steps.{value_call}
 use Rattle.host_names.proofs.calls.pending_value.Goals as goal

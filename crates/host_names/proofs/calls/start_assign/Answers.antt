@@ -5,8 +5,8 @@ use Rattle.sem_primitives.specs.declared.table.Primitive.TheVariants as row
 use Rattle.wasm_store.specs.declared.word.Word.{Word}
 use Rattle.host_imports.specs.declared.import.Import.TheVariants.{Of}
 use Rattle.host_format.specs.Outcomes.{IsStopOf}
-use Rattle.host_elements.specs.Calls.{IsTableCall}
-use Rattle.host_elements.specs.Forms.{inner_of}
+use Rattle.host_values.specs.ElementCalls.{IsTableCall}
+use Rattle.host_values.specs.Forms.{inner_of}
 use Rattle.host_names.specs.Forms.{of_all, with_all}
 use Rattle.host_names.proofs.Steps.{start_call, start_fault, start_memory}
 use Rattle.host_names.proofs.calls.start_assign.Goals as goal

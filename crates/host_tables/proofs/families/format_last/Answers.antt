@@ -1,7 +1,7 @@
 use Rattle.std.proofs.Common.{refl}
 use Rattle.host_imports.specs.declared.import.Import.TheVariants.{Over}
 use Rattle.host_imports.specs.declared.import.Listing.TheVariants.{Sprintf}
-use Rattle.host_elements.specs.Forms.{state_of}
+use Rattle.host_values.specs.Forms.{state_of}
 use Rattle.host_tables.specs.Families.{of_listed}
 use Rattle.host_tables.proofs.Bridge.{step_call}
 use Rattle.host_tables.proofs.families.format_last.Goals as goal

@@ -1,6 +1,6 @@
 use Rattle.std.proofs.Common.{refl}
 use Rattle.host_imports.specs.declared.import.Import.TheVariants.{Of}
-use Rattle.host_elements.specs.Forms.{state_of}
+use Rattle.host_values.specs.Forms.{state_of}
 use Rattle.host_texts.specs.Primitives.{row_of}
 use Rattle.host_tables.specs.Families.{of_texts}
 use Rattle.host_tables.proofs.Bridge.{step_call}

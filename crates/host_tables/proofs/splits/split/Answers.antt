@@ -6,7 +6,7 @@ use Rattle.sem_primitives.specs.TextMeaning.{splits_at}
 use Rattle.host_format.specs.Spans.{span_text}
 use Rattle.host_values.specs.Calls.{spare}
 use Rattle.host_values.proofs.Spare.{spare_removed}
-use Rattle.host_elements.specs.Calls.{with_arrays}
+use Rattle.host_values.specs.ElementCalls.{with_arrays}
 use Rattle.host_tables.specs.Splits.{IsFilled, IsFound}
 use Rattle.host_tables.proofs.Splitting.{split_call, split_fault, split_memory, split_traps}
 use Rattle.host_tables.proofs.splits.split.Goals as goal

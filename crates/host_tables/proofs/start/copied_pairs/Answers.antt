@@ -1,4 +1,4 @@
-use Rattle.host_tables.proofs.Elements.{copied_more}
+use Rattle.host_tables.proofs.ElementsLemmas.{copied_more}
 use Rattle.host_tables.proofs.start.copied_pairs.Goals as goal
 
 pub loop-pair-preserved : goal.loop-pair-preserved

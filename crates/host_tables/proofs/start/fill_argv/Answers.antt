@@ -1,7 +1,7 @@
 use Rattle.std.proofs.Common.{◌+◌, ◌<◌, ◌^◌, ◌∷◌, [], pos, ℕ, List, refl, ap, ◌∙◌, arith}
 use Rattle.std.specs.FinMap as maps
 use Rattle.sem_primitives.specs.ArrayMeaning.{numbered}
-use Rattle.host_tables.proofs.Elements.{operand_more}
+use Rattle.host_tables.proofs.ElementsLemmas.{operand_more}
 use Rattle.host_tables.proofs.Numbered.{put_next, there_put}
 use Rattle.host_tables.proofs.start.fill_argv.Goals as goal
 

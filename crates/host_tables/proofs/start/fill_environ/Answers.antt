@@ -1,4 +1,4 @@
-use Rattle.host_tables.proofs.Elements.{pair_more}
+use Rattle.host_tables.proofs.ElementsLemmas.{pair_more}
 use Rattle.host_tables.proofs.Numbered.{there_put}
 use Rattle.host_tables.proofs.start.fill_environ.Goals as goal
 

@@ -4,7 +4,7 @@ use Rattle.host_imports.specs.Imports.{imports}
 use Rattle.lower_model.specs.Modules.{chosen}
 use Rattle.host_imports.specs.declared.import.Import.{Import}
 use Rattle.host_imports.specs.declared.import.Import.TheVariants.{Drop}
-use Rattle.lower_modules.proofs.Steps.{chosen_in, chosen_out}
+use Rattle.lower_modules.proofs.StepsLemmas.{chosen_in, chosen_out}
 use Rattle.lower_modules.proofs.calls.chosen.Goals as goal
 use Rattle.lower_modules.proofs.calls.chosen.Goals.{then-called-place+in-Some+in_ok-push, then-called-place+in_default, else-called-place}
 

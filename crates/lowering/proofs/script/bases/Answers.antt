@@ -1,6 +1,6 @@
 use Rattle.std.proofs.Common.{arith}
-use Rattle.lower_needs.proofs.Lengths.{local_count}
-use Rattle.lower_needs.specs.Fits.{view_needs}
+use Rattle.lower_modules.proofs.LengthsLemmas.{local_count}
+use Rattle.lower_modules.specs.Fits.{view_needs}
 use Rattle.lowering.proofs.script.bases.Goals as goal
 
 pub new-requires-clause-temporaries : goal.new-requires-clause-temporaries

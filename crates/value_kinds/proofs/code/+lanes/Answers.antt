@@ -10,8 +10,8 @@ use denote.Hole.Carrier.{out}
 use Rattle.mid_program.specs.declared.code.Operand.{Operand}
 use Rattle.mid_program.specs.declared.code.Slot.{Slot}
 use Rattle.mid_program.proofs.Views.{view_codes, view_joined}
-use Rattle.mid_rewriting.specs.Rewriting.{code_in, codes_in}
-use Rattle.mid_rewriting.proofs.Joining.{joined_in}
+use Rattle.mid_program.specs.Rewriting.{code_in, codes_in}
+use Rattle.mid_program.proofs.Joining.{joined_in}
 use Rattle.value_kinds.specs.View.{slots}
 use Rattle.value_kinds.proofs.Views.{CodeDone, OperandDone, codes_done, done_next, operands_done, operands_of, rest_next, written_back}
 use Rattle.value_kinds.proofs.code.+lanes.Goals as goal

@@ -5,7 +5,7 @@ use Rattle.mid_program.specs.Mid.{a_value, form_of}
 use Rattle.mid_program.specs.ViewCode.{view, view_slot, views}
 use Rattle.mid_program.specs.declared.code.Code.{Code}
 use Rattle.mid_program.specs.declared.code.Operand.{Operand}
-use Rattle.mid_rewriting.specs.Stores.{stores, stores_given, stores_in}
+use Rattle.mid_program.specs.Stores.{stores, stores_given, stores_in}
 use Rattle.value_kinds.specs.View.{view_form, view_kept, view_walk}
 use Rattle.value_kinds.specs.Walks.{after, stores_each}
 use Rattle.mid_program.proofs.Views.{view_joined}

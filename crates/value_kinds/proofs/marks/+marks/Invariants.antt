@@ -1,6 +1,6 @@
 use Rattle.std.proofs.Common.{◌≡◌, drop, map}
 use Rattle.mid_program.specs.ViewCode.{view, views}
-use Rattle.mid_rewriting.specs.Stores.{stores_given, stores_in}
+use Rattle.mid_program.specs.Stores.{stores_given, stores_in}
 use Rattle.value_kinds.specs.View.{view_kept, view_walk}
 use Rattle.value_kinds.specs.Walks.{after, stores_each}
 use Rattle.value_kinds.proofs.marks.+marks.Given as goal

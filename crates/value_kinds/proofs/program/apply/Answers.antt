@@ -1,7 +1,7 @@
 use Rattle.std.proofs.Common.{[], map, subst, sym, ◌∙◌}
 use Rattle.mid_program.specs.Mid.{Program}
 use Rattle.mid_program.specs.View.{view_declared, view_kind, view_mid, view_steps}
-use Rattle.mid_rewriting.specs.SameRuns.{SameRuns}
+use Rattle.mid_program.specs.SameRuns.{SameRuns}
 use Rattle.value_kinds.specs.Applied.{apply, globals_with, is_unboxed, steps_with}
 use Rattle.value_kinds.specs.View.{view_lanes}
 use Rattle.value_kinds.proofs.Applies.{applies}

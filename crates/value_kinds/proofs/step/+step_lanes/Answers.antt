@@ -8,7 +8,7 @@ use denote.Hole.Carrier.{out}
 use Rattle.std.proofs.Common.{◌≡◌, length, drop, ap, sym, ◌∙◌, arith}
 use Rattle.mid_program.specs.Mid as plain
 use Rattle.mid_program.specs.ViewCode.{view, view_array, view_step, view_steps}
-use Rattle.mid_rewriting.specs.Rewriting.{code_in, step_in, steps_in}
+use Rattle.mid_program.specs.Rewriting.{code_in, step_in, steps_in}
 use Rattle.value_kinds.specs.View.{slots}
 use Rattle.value_kinds.proofs.Views.{StepDone, done_next, rest_next, steps_done, steps_of, written_back}
 use Rattle.value_kinds.proofs.step.+step_lanes.Goals as goal

@@ -2,7 +2,7 @@ use Rattle.std.proofs.Common.{List, [], ◌∷◌, ◌++◌, ap, sym, ◌∙◌,
 use Rattle.mid_program.specs.Mid.{a_value}
 use Rattle.mid_program.specs.ViewCode.{view, view_step, view_steps}
 use Rattle.mid_program.specs.declared.step.Step.{Step}
-use Rattle.mid_rewriting.specs.Stores.{step_stores, steps_stores, stores}
+use Rattle.mid_program.specs.Stores.{step_stores, steps_stores, stores}
 use Rattle.value_kinds.specs.View.{view_walk}
 use Rattle.value_kinds.specs.Walks.{after}
 use Rattle.value_kinds.proofs.Views.{view_block}

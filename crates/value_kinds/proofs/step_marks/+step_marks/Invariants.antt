@@ -1,6 +1,6 @@
 use Rattle.std.proofs.Common.{◌≡◌, drop}
 use Rattle.mid_program.specs.ViewCode.{view_steps}
-use Rattle.mid_rewriting.specs.Stores.{steps_stores}
+use Rattle.mid_program.specs.Stores.{steps_stores}
 use Rattle.value_kinds.specs.View.{view_walk}
 use Rattle.value_kinds.specs.Walks.{after}
 use Rattle.value_kinds.proofs.step_marks.+step_marks.Given as goal

@@ -6,7 +6,7 @@ use Rattle.std.proofs.lemmas.List.Elements.{All-nil, All-push}
 use Rattle.wasm_types.specs.declared.module.Func.{Func}
 use Rattle.wasm_types.specs.Syntax.{Instructions}
 use Rattle.wasm_types.specs.View.{views}
-use Rattle.wasm_registers.specs.Laid.{Laid, code_at}
+use Rattle.wasm_loader.specs.Laid.{Laid, code_at}
 use Rattle.wasm_machine.specs.ViewConf.{Begins}
 use Rattle.wasm_machine.proofs.Laying.{slice_get_last}
 use Rattle.wasm_machine.proofs.link.codes_of.Goals as goal

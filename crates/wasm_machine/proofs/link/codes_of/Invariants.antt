@@ -1,7 +1,7 @@
 use Rattle.std.proofs.Common.{◌≡◌, map, take}
 use Rattle.std.specs.List.{All}
 use Rattle.wasm_types.specs.View.{views}
-use Rattle.wasm_registers.specs.Laid.{code_at}
+use Rattle.wasm_loader.specs.Laid.{code_at}
 use Rattle.wasm_machine.specs.ViewConf.{Begins}
 use Rattle.wasm_machine.proofs.link.codes_of.Given as goal
 

@@ -16,11 +16,11 @@ use Rattle.wasm_model.specs.Machines.{Conf}
 use Rattle.wasm_model.specs.Links.{DataFits, ElemFits, entry_code, filled, least, limits_or_none, poured, value_of}
 use Rattle.wasm_model.proofs.Beginning.{least_is, beginning_is}
 use Rattle.wasm_model.proofs.Linking.{all_of_map}
-use Rattle.wasm_registers.specs.Laid.{Laid}
-use Rattle.wasm_registers.specs.Landings.{framed_at}
-use Rattle.wasm_frames.specs.declared.frames.Frame.{Frame}
-use Rattle.wasm_frames.specs.Standing.{code_of, code_with, nothing}
-use Rattle.wasm_frames.proofs.Waiting.{conf_is, parts}
+use Rattle.wasm_loader.specs.Laid.{Laid}
+use Rattle.wasm_loader.specs.Landings.{framed_at}
+use Rattle.wasm_machine.specs.declared.frames.Frame.{Frame}
+use Rattle.wasm_machine.specs.Standing.{code_of, code_with, nothing}
+use Rattle.wasm_machine.proofs.Waiting.{conf_is, parts}
 use Rattle.wasm_machine.proofs.Laying.{begin_of, begun_frame, entry_of}
 use Rattle.wasm_machine.proofs.link.first_state.Goals as goal
 

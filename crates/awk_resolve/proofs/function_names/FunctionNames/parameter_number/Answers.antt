@@ -1,6 +1,6 @@
 use Rattle.std.proofs.Common.{length, map, ◌∙◌}
 use Rattle.std.proofs.lemmas.List.{length-map}
-use Rattle.awk_kinds.specs.Kinds.{Name}
+use Rattle.awk_grammar.specs.Kinds.{Name}
 use Rattle.awk_resolve.specs.ViewKinds.{view_name, view_name_kinds}
 use Rattle.awk_resolve.proofs.Tables.{place_within}
 use Rattle.awk_resolve.proofs.function_names.FunctionNames.parameter_number.Goals as goal

@@ -1,6 +1,6 @@
 use Rattle.std.proofs.Common.{length, map, ◌∙◌}
 use Rattle.std.proofs.lemmas.List.{length-map}
-use Rattle.awk_kinds.specs.Kinds.{Function}
+use Rattle.awk_grammar.specs.Kinds.{Function}
 use Rattle.awk_resolve.specs.ViewFunctions.{view_function, view_functions}
 use Rattle.awk_resolve.proofs.Tables.{place_within}
 use Rattle.awk_resolve.proofs.resolved.Resolved.function_number.Goals as goal

@@ -1,7 +1,7 @@
 use Rattle.std.proofs.Common.{◌<◌, ℕ, Some, ap, sym, subst, ◌∙◌}
 use Rattle.std.proofs.lemmas.List.{length-map}
 use Rattle.awk_grammar.specs.ViewStmt.{view_names}
-use Rattle.awk_kinds.specs.Kinds.{Head as PlainHead}
+use Rattle.awk_grammar.specs.Kinds.{Head as PlainHead}
 use Rattle.awk_resolve.specs.ViewNames.{head_names, view_head, view_heads}
 use Rattle.awk_resolve.specs.declared.scopes.Head.{Head}
 use Rattle.awk_resolve.proofs.Tables.{no_parameters, parameters_at, place_small}

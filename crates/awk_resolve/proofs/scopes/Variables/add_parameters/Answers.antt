@@ -2,7 +2,7 @@ use Rattle.std.proofs.Common.{ℕ, List, drop, ◌+◌, ap, sym, ◌∙◌}
 use Rattle.std.proofs.lemmas.List.{drop_all}
 use Rattle.std.specs.Global.{Vec}
 use Rattle.awk_grammar.specs.ViewStmt.{view_names}
-use Rattle.awk_kinds.specs.Kinds.{Key, Inside, head_keys, with_key, with_keys}
+use Rattle.awk_grammar.specs.Kinds.{Key, Inside, head_keys, with_key, with_keys}
 use Rattle.awk_resolve.specs.ViewNames.{view_variables}
 use Rattle.awk_resolve.proofs.Names.{drop_at}
 use Rattle.awk_resolve.proofs.scopes.Variables.add_parameters.Goals as goal

@@ -1,6 +1,6 @@
 use Rattle.std.proofs.Common.{◌≡◌, false, drop}
 use Rattle.awk_grammar.specs.ViewStmt.{view_names}
-use Rattle.awk_kinds.specs.Kinds.{head_keys, with_keys}
+use Rattle.awk_grammar.specs.Kinds.{head_keys, with_keys}
 use Rattle.awk_resolve.specs.ViewNames.{view_variables}
 use Rattle.awk_resolve.proofs.scopes.Variables.add_parameters.Given as goal
 

@@ -1,7 +1,7 @@
 use Rattle.std.proofs.Common.{List, drop, ◌+◌, ap, sym, ◌∙◌}
 use Rattle.std.proofs.lemmas.List.{drop_all}
 use Rattle.awk_grammar.specs.ViewStmt.{view_names}
-use Rattle.awk_kinds.specs.Kinds.{Key, head_keys, parameter_keys, with_keys}
+use Rattle.awk_grammar.specs.Kinds.{Key, head_keys, parameter_keys, with_keys}
 use Rattle.awk_resolve.specs.ViewNames.{view_heads, view_variables}
 use Rattle.awk_resolve.specs.declared.scopes.Head.{Head}
 use Rattle.awk_resolve.proofs.Names.{with_keys_append, drop_at}

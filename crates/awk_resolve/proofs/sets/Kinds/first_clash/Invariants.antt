@@ -1,5 +1,5 @@
 use Rattle.std.proofs.Common.{◌≡◌, drop}
-use Rattle.awk_kinds.specs.Kinds.{clash, first}
+use Rattle.awk_grammar.specs.Kinds.{clash, first}
 use Rattle.awk_resolve.specs.Marked.{is_marked_in}
 use Rattle.awk_resolve.specs.View.{view_marks}
 use Rattle.awk_resolve.specs.ViewNames.{view_heads, view_variables}

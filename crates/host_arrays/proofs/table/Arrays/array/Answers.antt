@@ -1,7 +1,7 @@
 use Rattle.std.proofs.Common.{◌≤ℤ◌, ℤ, pos, w32, ap, sym, subst, ◌∙◌}
 use Rattle.std.proofs.lemmas.Int.{to_z-of_z}
 use Rattle.std.specs.FinMap as map
-use Rattle.host_slots.proofs.TableLemmas.{get-table}
+use Rattle.host_handles.proofs.TableLemmas.{get-table}
 use Rattle.host_arrays.specs.Pairs.{pairs_or_none}
 use Rattle.host_arrays.proofs.NumberLemmas.{taken_from_zero, taken_slot}
 use Rattle.host_arrays.proofs.table.Arrays.array.Goals as goal

@@ -3,7 +3,7 @@ use Rattle.std.proofs.lemmas.Int.{to_z-of_z}
 use Rattle.std.specs.FinMap as map
 use Rattle.slab.specs.Slab.{with_value}
 use Rattle.slab.proofs.SlabLemmas.{Updates-with_value}
-use Rattle.host_slots.proofs.TableLemmas.{get-table, table-insert, writes_slot}
+use Rattle.host_handles.proofs.TableLemmas.{get-table, table-insert, writes_slot}
 use Rattle.host_arrays.specs.Pairs.{pairs_or_none}
 use Rattle.host_arrays.proofs.NumberLemmas.{taken_from_zero, taken_slot}
 use Rattle.host_arrays.proofs.table.Arrays.array_mut.Goals as goal

@@ -1,7 +1,7 @@
 use Rattle.std.proofs.Common.{◌<ℤ◌, ℤ, pos, w32, arith, is_some, ap, sym, subst, ◌∙◌}
 use Rattle.std.proofs.lemmas.Int.{to_z-of_z}
 use Rattle.std.specs.FinMap as map
-use Rattle.host_slots.proofs.TableLemmas.{get-table, get-table-below_zero}
+use Rattle.host_handles.proofs.TableLemmas.{get-table, get-table-below_zero}
 use Rattle.host_arrays.proofs.NumberLemmas.{shown_some}
 use Rattle.host_arrays.proofs.table.Arrays.is_array.Goals as goal
 

@@ -1,6 +1,6 @@
 use Rattle.std.proofs.Common.{ap, sym, ◌∙◌}
 use Rattle.std.specs.FinMap as map
-use Rattle.host_slots.proofs.TableLemmas.{len-table-count}
+use Rattle.host_handles.proofs.TableLemmas.{len-table-count}
 use Rattle.host_arrays.proofs.table.Arrays.live.Goals as goal
 
 pub returns : goal.returns

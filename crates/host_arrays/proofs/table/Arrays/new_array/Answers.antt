@@ -1,7 +1,7 @@
 use Rattle.std.proofs.Common.{◌<◌, ◌^◌, Some, w32, arith, subst, ◌∙◌}
 use Rattle.std.proofs.lemmas.Int.{to_z_pos}
 use Rattle.slab.specs.Slab.{Updates}
-use Rattle.host_slots.proofs.TableLemmas.{get-table, table-insert, writes_slot}
+use Rattle.host_handles.proofs.TableLemmas.{get-table, table-insert, writes_slot}
 use Rattle.host_arrays.proofs.table.Arrays.new_array.Goals as goal
 
 pub returns-clause-free : goal.returns-clause-free

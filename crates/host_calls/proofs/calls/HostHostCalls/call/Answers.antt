@@ -4,8 +4,8 @@ use Rattle.wasm_model.specs.declared.host.HostAnswer.TheVariants.{Trap}
 use Rattle.wasm_store.specs.declared.trap.TrapKind.TheVariants.{BadArgument}
 use Rattle.host_imports.specs.Imports.{import_at}
 use Rattle.host_imports.specs.declared.import.Import.{Import}
-use Rattle.host_meaning.specs.FormMeaning.{FormMeans}
-use Rattle.host_meaning.proofs.Means.{unknown_called}
+use Rattle.host_values.specs.FormMeaning.{FormMeans}
+use Rattle.host_values.proofs.Means.{unknown_called}
 use Rattle.host_calls.specs.Forms.{host_form}
 use Rattle.host_calls.proofs.calls.HostHostCalls.call.Goals as goal
 

@@ -4,7 +4,7 @@ use Rattle.wasm_model.specs.declared.host.HostAnswer.{HostAnswer}
 use Rattle.host_step.specs.HostStep.{refuses}
 use Rattle.host_imports.specs.declared.import.Import.TheVariants as import
 use Rattle.host_imports.specs.declared.import.Listing.TheVariants as listing
-use Rattle.host_table_calls.proofs.Tellings.{refused_means}
+use Rattle.host_tables.proofs.Tellings.{refused_means}
 use Rattle.host_calls.specs.Calls.{MeansSome}
 use Rattle.host_calls.specs.Forms.{host_form}
 use Rattle.host_calls.proofs.Chosen.{found}

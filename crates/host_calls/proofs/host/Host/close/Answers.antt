@@ -1,8 +1,8 @@
 use Rattle.std.proofs.Common.{[], refl}
 use Rattle.sem_primitives.specs.declared.table.Primitive.TheVariants as row
 use Rattle.host_imports.specs.declared.import.Import.TheVariants.{Of}
-use Rattle.host_inputs.proofs.Apart.{holds_file}
-use Rattle.host_outputs.specs.Forms.{closing}
+use Rattle.host_worlds.proofs.Apart.{holds_file}
+use Rattle.host_worlds.specs.Forms.{closing}
 use Rattle.host_calls.specs.Forms.{host_form}
 use Rattle.host_calls.proofs.Written.{files_come}
 use Rattle.host_calls.proofs.host.Host.close.Goals as goal

@@ -1,9 +1,9 @@
 use Rattle.std.proofs.Common.{refl}
 use Rattle.sem_primitives.specs.declared.table.Primitive.TheVariants as row
 use Rattle.host_imports.specs.declared.import.Import.TheVariants.{Of}
-use Rattle.host_meaning.specs.Findings.{form_finding}
-use Rattle.host_meaning.specs.Shown.{form_with_output}
-use Rattle.host_outputs.specs.Forms.{flushing}
+use Rattle.host_values.specs.Findings.{form_finding}
+use Rattle.host_values.specs.Shown.{form_with_output}
+use Rattle.host_worlds.specs.Forms.{flushing}
 use Rattle.host_calls.specs.Forms.{form_in}
 use Rattle.host_calls.proofs.Comes.{plain_comes}
 use Rattle.host_calls.proofs.host.Host.flush.Goals as goal

@@ -1,7 +1,7 @@
 use Rattle.std.proofs.Common.{[]}
 use Rattle.sem_primitives.specs.declared.table.Primitive.TheVariants as row
 use Rattle.host_imports.specs.declared.import.Import.TheVariants.{Of}
-use Rattle.host_inputs.specs.States.{over_world}
+use Rattle.host_worlds.specs.States.{over_world}
 use Rattle.host_calls.specs.Forms.{host_form}
 use Rattle.host_calls.proofs.Comes.{world_comes}
 use Rattle.host_calls.proofs.host.Host.next_file.Goals as goal

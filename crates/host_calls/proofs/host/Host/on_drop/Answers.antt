@@ -1,4 +1,4 @@
-use Rattle.host_table_calls.specs.declared.table_call.TableCall.TheVariants.{Drop}
+use Rattle.host_tables.specs.declared.table_call.TableCall.TheVariants.{Drop}
 use Rattle.host_calls.specs.Forms.{form_in, host_form}
 use Rattle.host_calls.proofs.Comes.{table_told}
 use Rattle.host_calls.proofs.host.Host.on_drop.Goals as goal

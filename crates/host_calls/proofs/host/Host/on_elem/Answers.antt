@@ -1,7 +1,7 @@
 use Rattle.std.proofs.Common.{refl}
 use Rattle.sem_primitives.specs.declared.table.Primitive.TheVariants as row
 use Rattle.host_imports.specs.declared.import.Import.TheVariants.{Of}
-use Rattle.host_table_calls.specs.declared.table_call.TableCall.TheVariants as call
+use Rattle.host_tables.specs.declared.table_call.TableCall.TheVariants as call
 use Rattle.host_calls.specs.Forms.{host_form}
 use Rattle.host_calls.proofs.Comes.{none_kept, plain_told}
 use Rattle.host_calls.proofs.host.Host.on_elem.Goals as goal

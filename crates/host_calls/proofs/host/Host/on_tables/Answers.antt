@@ -1,7 +1,7 @@
 use Rattle.std.proofs.Common.{refl}
 use Rattle.host_calls.specs.Forms.{form_in}
-use Rattle.host_table_calls.specs.Calls.{import_of_table}
-use Rattle.host_table_calls.proofs.Quiet.{quiet}
+use Rattle.host_tables.specs.Calls.{import_of_table}
+use Rattle.host_tables.proofs.Quiet.{quiet}
 use Rattle.host_calls.proofs.Comes.{table_comes}
 use Rattle.host_calls.proofs.host.Host.on_tables.Goals as goal
 

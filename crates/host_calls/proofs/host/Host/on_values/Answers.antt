@@ -3,8 +3,8 @@ use Rattle.host_step.specs.HostStep.{refuses}
 use Rattle.host_imports.specs.declared.import.Import.{Import}
 use Rattle.host_imports.specs.declared.import.Import.TheVariants.{Of}
 use Rattle.host_values.specs.Primitives.{primitive_of}
-use Rattle.host_table_calls.specs.Answers.{told_as}
-use Rattle.host_table_calls.specs.declared.table_call.TableCall.TheVariants.{Values}
+use Rattle.host_tables.specs.Answers.{told_as}
+use Rattle.host_tables.specs.declared.table_call.TableCall.TheVariants.{Values}
 use Rattle.host_calls.specs.Calls.{MeansSome}
 use Rattle.host_calls.specs.Forms.{host_form}
 use Rattle.host_calls.proofs.Comes.{none_kept, plain_told}

@@ -1,8 +1,8 @@
 use Rattle.std.proofs.Common.{refl}
 use Rattle.host_imports.specs.declared.import.Import.TheVariants.{Over}
 use Rattle.host_imports.specs.declared.import.Listing.TheVariants.{Print}
-use Rattle.host_inputs.proofs.Apart.{holds_file}
-use Rattle.host_outputs.specs.Forms.{printing}
+use Rattle.host_worlds.proofs.Apart.{holds_file}
+use Rattle.host_worlds.specs.Forms.{printing}
 use Rattle.host_calls.specs.Forms.{host_form}
 use Rattle.host_calls.proofs.Written.{files_come, others_keep}
 use Rattle.host_calls.proofs.host.Host.print.Goals as goal

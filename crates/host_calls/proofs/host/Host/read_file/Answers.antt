@@ -1,8 +1,8 @@
 use Rattle.std.proofs.Common.{[], refl}
 use Rattle.host_imports.specs.declared.import.Import.TheVariants.{Of}
-use Rattle.host_inputs.specs.Calls.{with_values}
-use Rattle.host_inputs.specs.Givens.{file_primitive}
-use Rattle.host_inputs.specs.States.{over_world}
+use Rattle.host_worlds.specs.Calls.{with_values}
+use Rattle.host_worlds.specs.Givens.{file_primitive}
+use Rattle.host_worlds.specs.States.{over_world}
 use Rattle.host_calls.specs.Forms.{host_form}
 use Rattle.host_calls.proofs.Faulted.{file_reads, read_told}
 use Rattle.host_calls.proofs.host.Host.read_file.Goals as goal

@@ -1,7 +1,7 @@
 use Rattle.std.proofs.Common.{[], refl}
 use Rattle.host_imports.specs.declared.import.Import.TheVariants.{Of}
-use Rattle.host_inputs.specs.Givens.{main_primitive}
-use Rattle.host_inputs.specs.States.{over_world}
+use Rattle.host_worlds.specs.Givens.{main_primitive}
+use Rattle.host_worlds.specs.States.{over_world}
 use Rattle.host_calls.specs.Forms.{host_form}
 use Rattle.host_calls.proofs.Faulted.{main_reads, read_told}
 use Rattle.host_calls.proofs.host.Host.read_main.Goals as goal

@@ -1,6 +1,6 @@
 use Rattle.std.proofs.Common.{◌<◌, ◌^◌, w32, arith, ◌∙◌}
 use Rattle.std.proofs.lemmas.Int.{to_z_pos}
-use Rattle.host_slots.proofs.TableLemmas.{get-table, table-insert, writes_slot}
+use Rattle.host_handles.proofs.TableLemmas.{get-table, table-insert, writes_slot}
 use Rattle.host_handles.proofs.handles.Handles.put.Goals as goal
 
 pub returns-clause-free : goal.returns-clause-free

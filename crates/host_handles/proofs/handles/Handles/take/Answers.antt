@@ -1,7 +1,7 @@
 use Rattle.std.proofs.Common.{ap, sym, ◌∙◌, ◌<ℤ◌, pos, subst, w32, ℤ, None}
 use Rattle.std.proofs.lemmas.Int.{to_z-of_z}
 use Rattle.std.specs.FinMap as map
-use Rattle.host_slots.proofs.TableLemmas.{get-table, get-table-below_zero, table-remove, table-remove-below_zero, writes_slot}
+use Rattle.host_handles.proofs.TableLemmas.{get-table, get-table-below_zero, table-remove, table-remove-below_zero, writes_slot}
 use Rattle.host_handles.proofs.handles.Handles.take.Goals as goal
 
 pub returns-in_err-slot_of-clause-value : goal.returns-in_err-slot_of-clause-value

@@ -1,7 +1,7 @@
 use Rattle.std.proofs.Common.{ap, sym, ◌∙◌, ◌<ℤ◌, pos, subst, w32, ℤ, option_copied}
 use Rattle.std.proofs.lemmas.Int.{to_z-of_z}
 use Rattle.std.specs.FinMap as map
-use Rattle.host_slots.proofs.TableLemmas.{get-table, get-table-below_zero}
+use Rattle.host_handles.proofs.TableLemmas.{get-table, get-table-below_zero}
 use Rattle.host_handles.proofs.handles.Handles.view.Goals as goal
 
 pub returns-in_err-slot_of : goal.returns-in_err-slot_of

@@ -1,4 +1,0 @@
-//! What the command line assigns, said of the job's own words.
-#![tactic(auto)]
-
-pub mod laws;

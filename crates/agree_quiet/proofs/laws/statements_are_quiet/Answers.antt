@@ -1,6 +1,0 @@
-use Rattle.agree_places.specs.Assigned.{IsAssigned}
-use Rattle.agree_quiet.proofs.Laned.{at_laned, laned_quiet}
-use Rattle.agree_quiet.proofs.laws.statements_are_quiet.Goals as goal
-
-pub returns : goal.returns
-returns c = λ p sorted typed job input outside m d s reached here a. laned_quiet p sorted typed job input outside m d s reached here (at_laned p d s here (IsAssigned reached) a)

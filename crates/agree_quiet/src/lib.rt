@@ -1,4 +1,0 @@
-//! Statements on numbers alone call no import.
-#![tactic(auto)]
-
-pub mod laws;

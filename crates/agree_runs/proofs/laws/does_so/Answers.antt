@@ -1,5 +1,0 @@
-use Rattle.agree_runs.proofs.Agreeing
-use Rattle.agree_runs.proofs.laws.does_so.Goals as goal
-
-pub returns : goal.returns
-returns c = Agreeing.does_so

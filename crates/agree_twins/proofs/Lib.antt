@@ -1,4 +1,0 @@
-mod Words
-mod Names
-mod Escapes
-mod Arrays

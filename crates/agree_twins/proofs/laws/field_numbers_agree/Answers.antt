@@ -1,8 +1,0 @@
-use Rattle.agree_twins.proofs.Arrays.{refused_by, taken_by}
-use Rattle.agree_twins.proofs.laws.field_numbers_agree.Goals as goal
-
-pub returns-clause-taken : goal.returns-clause-taken
-returns-clause-taken c = λ n k e. taken_by n n.number k e
-
-pub returns-clause-refused : goal.returns-clause-refused
-returns-clause-refused c = λ n fault e. refused_by n n.number fault e

@@ -1,0 +1,4 @@
+pub mod Words
+pub mod Names
+pub mod Escapes
+pub mod Arrays

@@ -1,0 +1,10 @@
+pub mod Typed
+pub mod Sizes
+pub mod Refined
+pub mod Modules
+pub mod Places
+pub mod Passed
+pub mod Spots
+pub mod Quiet
+pub mod Words
+pub mod Runs

@@ -1,0 +1,13 @@
+//! Script and module agree: laws alone, each the contract of a function that does nothing.
+#![tactic(auto)]
+
+pub mod modules;
+pub mod passed;
+pub mod places;
+pub mod quiet;
+pub mod runs;
+pub mod sizes;
+pub mod spots;
+pub mod twins;
+pub mod typed;
+pub mod words;

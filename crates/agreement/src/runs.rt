@@ -1,0 +1,78 @@
+//! A run over a host that is told by its tables is a run over a host of the table of imports.
+//!
+//! Laws of the definitions, each the contract of a function that does nothing.
+ghost use Rattle.std.specs.Prelude.{◌≢◌, List, ℕ};
+ghost use Rattle.sem_primitives.specs.Jobs.{JobForm};
+ghost use Rattle.wasm_model.specs.Links.{IsNew};
+ghost use Rattle.wasm_model.specs.Machines.{Conf, ProgramForm};
+ghost use Rattle.wasm_model.specs.Runs.{Did, MachineForm, Ran};
+ghost use Rattle.wasm_model.specs.declared.ends.MachineEnd.{MachineEnd};
+ghost use Rattle.wasm_model.specs.declared.ends.RunEnd.{RunEnd};
+ghost use Rattle.wasm_types.specs.Syntax.{ModuleForm};
+ghost use Rattle.wasm_types.specs.Typing.{ModuleOk};
+ghost use Rattle.world_core.specs.WorldState.{Action, Outside, Source};
+ghost use Rattle.host_step.specs.HostState.{HostState};
+ghost use Rattle.host_imports.specs.Imports.{host_finds};
+ghost use Rattle.host_step.specs.Starts.{state_at_start};
+ghost use Rattle.host_values.specs.Forms.{HostForm};
+ghost use Rattle.host_values.specs.FormMeaning.{FormState, form_meaning};
+ghost use Rattle.host_values.specs.Shown.{Shown};
+ghost use Rattle.sem_scripts.specs.ScriptRun.{Ending, Setting};
+ghost use Rattle.agreement.specs.Modules.Agreement.{Agreement};
+ghost use Rattle.agreement.specs.Runs.ToldRuns.{AnyhowRun, DoesSo, DoesSoThere, FoundRun, GoesOnThere, ToldRun, told_by};
+
+use world_core::World;
+
+/// Over a world that tells what it holds, what a machine did with a typed module is how the module may end over a host of the table: with the same
+/// output and the same fault, where the host shows the state at the start of a job. Where memory was wanting, its output is how that of another run
+/// begins.
+pub fn did<W: World>()
+    ensures { W.tells → (m : ModuleForm) → ModuleOk m → (a : MachineForm) → IsNew host_finds m a
+        → (job : JobForm) (input : Source) (outside : Outside)
+        → (f : HostForm) → Shown f (state_at_start job input outside)
+        → (steps : ℕ) (e : MachineEnd) (c : Conf) (g : HostForm)
+        → Did (form_meaning W.tells) a.program steps a.conf (FormState.Told f) e c
+        (FormState.Told g)
+        → ToldRun m job input outside steps e g }
+{}
+
+/// Where a script and the module agree, the script does what was told.
+pub fn does_so()
+    ensures { (script : Setting → ℕ → Ending) (m : ModuleForm) → Agreement script m
+        → (job : JobForm) (input : Source) (outside : Outside)
+        → (steps : ℕ) (e : MachineEnd) (f : HostForm) → ToldRun m job input outside steps e f
+        → DoesSo script job input outside (told_by f.fault e) f.shared.outside }
+{}
+
+/// Over any world, each call of a run that did not want memory is as it is said of every world.
+pub fn anyhow<W: World>()
+    ensures { (m : ProgramForm) (steps : ℕ) (c : Conf) (f : HostForm) (output : List Action)
+        (e : RunEnd) (c' : Conf) (g : HostForm) (s : HostState) → Shown f s → e ≢ RunEnd.NoMemory
+        → Ran (form_meaning W.tells) m steps c (FormState.Told f) output e c' (FormState.Told g)
+        → AnyhowRun m steps c s output e c' g }
+{}
+
+/// Over any world, what a machine did with a typed module is how the module may end in surroundings that others change too, over a host of the table: there
+/// each opening, read and write finds the next of some list. Where memory was wanting, another run begins so.
+pub fn found<W: World>()
+    ensures { (m : ModuleForm) → ModuleOk m → (a : MachineForm) → IsNew host_finds m a
+        → (job : JobForm) (input : Source) (outside : Outside)
+        → (f : HostForm) → Shown f (state_at_start job input outside)
+        → (steps : ℕ) (e : MachineEnd) (c : Conf) (g : HostForm)
+        → Did (form_meaning W.tells) a.program steps a.conf (FormState.Told f) e c
+        (FormState.Told g)
+        → FoundRun m job steps e g }
+{}
+
+/// Where a script and the module agree, the script does so there; and where the steps did not suffice, it is not over there within so many turns as they
+/// suffice for, by the bound of the agreement.
+pub fn does_so_there()
+    ensures does { (script : Setting → ℕ → Ending) (m : ModuleForm) → Agreement script m
+        → (job : JobForm) (steps : ℕ) (e : MachineEnd) (f : HostForm)
+        → (r : FoundRun m job steps e f)
+        → DoesSoThere script job r.finds (told_by f.fault e) }
+    ensures bounded { (script : Setting → ℕ → Ending) (m : ModuleForm)
+        → (agree : Agreement script m) → (job : JobForm) (steps : ℕ) (f : HostForm)
+        → (r : FoundRun m job steps MachineEnd.OutOfSteps f)
+        → GoesOnThere script job r.finds agree.bound steps }
+{}

@@ -1,8 +1,0 @@
-use Rattle.awk_grammar.specs.Tree.{Has}
-use Rattle.awk_grammar.specs.View.{view}
-use Rattle.awk_expressions.specs.Went.{is_read}
-use Rattle.awk_expressions.proofs.Went.{then, is_here}
-use Rattle.awk_expressions.proofs.contains.contained.Goals as goal
-
-pub returns : goal.returns
-returns c = then (λ n. is_read (Has (view c.args.left.tree.value) n.0) n.1) c.name-array.ensures (is_here _ _ _ c.has.ensures)

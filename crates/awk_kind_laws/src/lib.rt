@@ -1,4 +1,0 @@
-//! The kinds of names as least sets.
-#![tactic(auto)]
-
-pub mod laws;

@@ -1,4 +1,0 @@
-pub mod Marks
-pub mod Least
-pub mod Kinds
-pub mod Examples

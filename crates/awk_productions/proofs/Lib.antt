@@ -1,8 +1,0 @@
-mod Ends
-mod Levels
-mod Arguments
-mod Derived
-mod Deriving
-mod Statements
-mod Scripts
-mod Examples

@@ -1,8 +1,0 @@
-use Rattle.std.proofs.Common.{subst}
-use Rattle.awk_productions.specs.Expressions.{Expr, Derives}
-use Rattle.awk_productions.proofs.Derived.{derived}
-use Rattle.awk_productions.proofs.Deriving.{deriving_of}
-use Rattle.awk_productions.proofs.laws.expressions_are_derived.Goals as goal
-
-pub returns : goal.returns
-returns c = λ g t ts. (λ d. ((derived d).fine, (derived d).parts), λ h. subst (Derives g Expr t) h.1 (deriving_of g t h.0))

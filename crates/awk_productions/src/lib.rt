@@ -1,4 +1,0 @@
-//! The grammar of scripts as productions.
-#![tactic(auto)]
-
-pub mod laws;

@@ -1,8 +1,0 @@
-use Rattle.awk_expressions.proofs.Went.{past}
-use Rattle.awk_statements.proofs.flow.ended.Goals as goal
-
-pub returns-clause-read : goal.returns-clause-read
-returns-clause-read c = past _ c.expect.ensures c.on_heap.ensures.read
-
-pub returns-clause-held : goal.returns-clause-held
-returns-clause-held c = c.on_heap.ensures.held

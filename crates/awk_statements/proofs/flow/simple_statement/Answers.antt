@@ -1,8 +1,0 @@
-use Rattle.awk_expressions.proofs.Went.{then}
-use Rattle.awk_statements.proofs.flow.simple_statement.Goals as goal
-
-pub returns-clause-read : goal.returns-clause-read
-returns-clause-read c = then _ c.simple-inner.ensures c.ended.ensures.read
-
-pub returns-clause-held : goal.returns-clause-held
-returns-clause-held c = c.ended.ensures.held

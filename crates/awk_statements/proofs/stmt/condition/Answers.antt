@@ -1,5 +1,0 @@
-use Rattle.awk_expressions.proofs.Went.{stays, then, past}
-use Rattle.awk_statements.proofs.stmt.condition.Goals as goal
-
-pub returns : goal.returns
-returns c = past _ c.expect.ensures (then _ c.expression-test.ensures (past _ c.expect-2.ensures (stays _ _)))

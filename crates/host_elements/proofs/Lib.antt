@@ -1,9 +1,0 @@
-pub mod Places
-pub mod Reading
-pub mod Steps
-pub mod Elements
-pub mod ArraySteps
-pub mod ArrayCalls
-pub mod Spent
-pub mod KeySteps
-pub mod KeyCalls

@@ -1,6 +1,0 @@
-use Rattle.std.proofs.Common.{ap}
-use Rattle.host_texts.specs.States.{with_texts}
-use Rattle.host_inputs.proofs.record.give.Goals as goal
-
-pub returns-clause-set : goal.returns-clause-set
-returns-clause-set c = λ inner. ap (λ s. record (with_texts c.args.texts.now inner) { specials = s }) c.put.ensures

@@ -1,7 +1,0 @@
-use Rattle.std.proofs.Common.{◌≡◌, ◌++◌, take}
-use Rattle.awk_values.specs.Values.{text_of_value}
-use Rattle.host_outputs.specs.Lines.{followed}
-use Rattle.host_outputs.proofs.line.push_others.Given as goal
-
-abbrev pub invariant-loop-value : goal.invariant-loop-value
-invariant-loop-value l = l.out.items ≡ l.fn.out.items ++ followed (text_of_value l.between) (take l.value-index l.values)

@@ -1,4 +1,0 @@
-pub mod Lines
-pub mod Lists
-pub mod Forms
-pub mod Calls

@@ -1,4 +1,0 @@
-pub mod Chosen
-pub mod LetGo
-pub mod Quiet
-pub mod Tellings

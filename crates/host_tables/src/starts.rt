@@ -1,0 +1,38 @@
+//! The tables that a job begins with.
+ghost use Rattle.std.specs.Prelude.{◌≡◌, None};
+ghost use Rattle.std.specs.FinMap as map;
+ghost use Rattle.host_values.specs.Forms.{HostForm};
+ghost use Rattle.host_tables.specs.Starts.{form_of};
+ghost use Rattle.host_values.specs.Calls.{spare};
+ghost use Rattle.host_tables.specs.Forms.{of_tables_and_names};
+
+use crate::held::Tables;
+use crate::start::FirstTables;
+use host_names::Names;
+use host_values::Literals;
+use std::alloc::Global;
+
+impl Tables {
+    /// The tables that a job begins with, and the names that stand beside them.
+    pub fn new(alloc: Global, first: FirstTables) -> (Tables, Names)
+        requires values { map.get first.handles spare ≡ None }
+        requires arrays { map.get first.arrays spare ≡ None }
+        requires iterators { map.get first.iterators spare ≡ None }
+        ensures form { (f : HostForm) → of_tables_and_names result.0 result.1 f
+            ≡ form_of first f.shared }
+        ensures names { result.1 ≡ first.names }
+        ensures fault { result.0.fault ≡ first.fault }
+    {
+        let tables = Tables {
+            alloc,
+            handles: first.handles,
+            arrays: first.arrays,
+            iterators: first.iterators,
+            texts: first.texts,
+            arguments: first.arguments,
+            literals: Literals::new(alloc),
+            fault: first.fault,
+        };
+        (tables, first.names)
+    }
+}

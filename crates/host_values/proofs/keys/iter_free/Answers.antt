@@ -1,0 +1,19 @@
+use Rattle.std.proofs.Common.{rules, ◌≡◌, sym, ap, ◌∙◌}
+use Rattle.std.specs.FinMap as map
+use Rattle.host_values.specs.Calls.{spare}
+use Rattle.host_values.proofs.Spare.{spare_removed}
+use Rattle.host_values.specs.ElementCalls.{with_iterators}
+use Rattle.host_values.proofs.KeyCalls.{iter_free_call}
+use Rattle.host_values.proofs.KeySteps.{iter_free_traps}
+use Rattle.host_values.proofs.keys.iter_free.Goals as goal
+
+pub returns-in-Err-clause-step : goal.returns-in-Err-clause-step
+returns-in-Err-clause-step c f memory = iter_free_traps (with_iterators f.values c.args.iterators.now f) c.args.words.now memory c.in-Err.kind (sym c.in-Err.ensures.number)
+
+pub returns-clause-step : goal.returns-clause-step
+returns-clause-step c f memory =
+    let freed : c.free.new.self ≡ map.remove c.args.iterators.now c.in-Ok.number = search rules in
+    iter_free_call (with_iterators f.values c.args.iterators.now f) c.free.new.self c.args.words.now memory _ (sym c.in-Ok.ensures.number) freed
+
+pub returns-clause-spare : goal.returns-clause-spare
+returns-clause-spare c free = ap (λ m. map.get m spare) c.free.ensures ∙ spare_removed c.args.iterators.now _ free

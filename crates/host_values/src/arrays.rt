@@ -1,0 +1,234 @@
+//! Calls on arrays and their keys.
+ghost use Rattle.std.specs.Prelude.{◌≡◌, List, [], ℕ, None, true};
+ghost use Rattle.std.specs.FinMap as map;
+ghost use Rattle.sem_primitives.specs.declared.table.Primitive.TheVariants as row;
+ghost use Rattle.host_imports.specs.declared.import.Import.{Import};
+ghost use Rattle.host_values.specs.Calls.{spare};
+ghost use Rattle.host_values.specs.ElementCalls.{IsNumbered, IsPut, IsTableCall, with_arrays};
+ghost use Rattle.host_values.specs.Forms.{HostForm};
+ghost use Rattle.host_arrays.specs.Pairs.{pairs_at, set_pair};
+
+use crate::calls::give;
+use crate::element_words::{array_and_key, array_key_value, only_array};
+use crate::reply::{Refusal, Reply};
+use crate::text::value_text;
+use crate::words::ends;
+use awk_values::{Bytes, Value};
+use host_arrays::Arrays;
+use host_handles::Handles;
+use std::alloc::Global;
+use wasm_store::{TrapKind, Word};
+
+/// What is answered where nothing else is to be said.
+const DONE: Word = Word::I32(0);
+
+/// Adds an array without an element.
+fn add_array(arrays: &mut Arrays) -> Result<Option<Word>, Refusal>
+    requires { map.get arrays.old spare ≡ None }
+    ensures number { IsNumbered arrays.old [] result arrays.new }
+    ensures spare { map.get arrays.new spare ≡ None }
+{
+    match arrays.new_array() {
+        Ok(number) => Ok(Some(Word::I32(number.cast_unsigned()))),
+        Err(_) => Err(Refusal::NoMemory),
+    }
+}
+
+/// Makes an array without an element.
+///
+/// # Errors
+///
+/// A trap, where there is a word, or want of memory; nothing changes.
+pub fn new_array(arrays: &mut Arrays, words: &[Word]) -> Result<Option<Word>, Refusal>
+    requires { map.get arrays.old spare ≡ None }
+    ensures step { (f : HostForm) (memory : List ℕ) → f.fault ≡ None
+        → IsTableCall (Import.Of row.NewArray) (with_arrays f.values arrays.old f) words.now memory
+        result (with_arrays f.values arrays.new f) }
+    ensures spare { map.get arrays.new spare ≡ None }
+{
+    match ends(words) {
+        Ok(()) => add_array(arrays),
+        Err(kind) => Err(Refusal::Trap(kind)),
+    }
+}
+
+/// A copy of an element, which is made where there is none.
+///
+/// # Errors
+///
+/// A trap, which changes nothing, or want of memory.
+#[inline(always)]
+pub fn elem(
+    alloc: Global,
+    arrays: &mut Arrays,
+    handles: &mut Handles,
+    words: &[Word],
+) -> Result<Option<Word>, Refusal>
+    requires { map.get handles.old spare ≡ None }
+    ensures step { (f : HostForm) (memory : List ℕ) → f.fault ≡ None
+        → IsTableCall (Import.Of row.Elem) (with_arrays handles.old arrays.old f) words.now memory
+        result (with_arrays handles.new arrays.new f) }
+    ensures spare { map.get handles.new spare ≡ None }
+    ensures spare_array { map.get arrays.old spare ≡ None → map.get arrays.new spare ≡ None }
+{
+    let (array, handle, value) = match array_and_key(arrays, handles, words) {
+        Ok(read) => read,
+        Err(kind) => return Err(Refusal::Trap(kind)),
+    };
+    let Ok(key) = value_text(alloc, value) else {
+        return Err(Refusal::NoMemory);
+    };
+    let Ok(found) = arrays.get_or_create(array, key.bytes()) else {
+        return Err(Refusal::NoMemory);
+    };
+    drop(key);
+    handles.take(handle);
+    give(handles, Reply::Value(found))
+}
+
+/// Puts a value at a key.
+fn put(arrays: &mut Arrays, array: i32, key: &Bytes, value: Value) -> Result<Option<Word>, Refusal>
+    requires { map.contains_key arrays.old array ≡ true }
+    ensures put { IsPut result (map.insert arrays.old array
+        (set_pair key.now value (pairs_at arrays.old array))) arrays.new }
+    ensures spare_array { map.get arrays.old spare ≡ None → map.get arrays.new spare ≡ None }
+{
+    match arrays.set(array, key, value) {
+        Ok(()) => Ok(Some(DONE)),
+        Err(_) => Err(Refusal::NoMemory),
+    }
+}
+
+/// Gives an element a value.
+///
+/// # Errors
+///
+/// A trap, which changes nothing, or want of memory.
+#[inline(always)]
+pub fn set_elem(
+    alloc: Global,
+    arrays: &mut Arrays,
+    handles: &mut Handles,
+    words: &[Word],
+) -> Result<Option<Word>, Refusal>
+    ensures step { (f : HostForm) (memory : List ℕ) → f.fault ≡ None
+        → IsTableCall (Import.Of row.SetElem) (with_arrays handles.old arrays.old f) words.now
+        memory result (with_arrays handles.new arrays.new f) }
+    ensures spare { map.get handles.old spare ≡ None → map.get handles.new spare ≡ None }
+    ensures spare_array { map.get arrays.old spare ≡ None → map.get arrays.new spare ≡ None }
+{
+    let (array, first, _, second) = match array_key_value(arrays, handles, words) {
+        Ok(read) => read,
+        Err(kind) => return Err(Refusal::Trap(kind)),
+    };
+    let Some(key) = handles.take(first) else {
+        unreachable!();
+    };
+    let Some(value) = handles.take(second) else {
+        unreachable!();
+    };
+    let Ok(text) = value_text(alloc, &key) else {
+        return Err(Refusal::NoMemory);
+    };
+    put(arrays, array, text.bytes(), value)
+}
+
+/// Whether an array has an element; none is made.
+///
+/// # Errors
+///
+/// A trap, which changes nothing, or want of memory.
+#[inline(always)]
+pub fn has(
+    alloc: Global,
+    arrays: &Arrays,
+    handles: &mut Handles,
+    words: &[Word],
+) -> Result<Option<Word>, Refusal>
+    ensures step { (f : HostForm) (memory : List ℕ) → f.fault ≡ None
+        → IsTableCall (Import.Of row.Has) (with_arrays handles.old arrays.now f) words.now memory
+        result (with_arrays handles.new arrays.now f) }
+    ensures spare { map.get handles.old spare ≡ None → map.get handles.new spare ≡ None }
+{
+    let (array, handle, value) = match array_and_key(arrays, handles, words) {
+        Ok(read) => read,
+        Err(kind) => return Err(Refusal::Trap(kind)),
+    };
+    let Ok(key) = value_text(alloc, value) else {
+        return Err(Refusal::NoMemory);
+    };
+    let found = arrays.has(array, key.bytes());
+    drop(key);
+    handles.take(handle);
+    Ok(Some(Word::I32(u32::from(found))))
+}
+
+/// Takes an element away, where there is one.
+///
+/// # Errors
+///
+/// A trap, which changes nothing, or want of memory.
+pub fn delete(
+    alloc: Global,
+    arrays: &mut Arrays,
+    handles: &mut Handles,
+    words: &[Word],
+) -> Result<Option<Word>, Refusal>
+    ensures step { (f : HostForm) (memory : List ℕ) → f.fault ≡ None
+        → IsTableCall (Import.Of row.Delete) (with_arrays handles.old arrays.old f) words.now memory
+        result (with_arrays handles.new arrays.new f) }
+    ensures spare { map.get handles.old spare ≡ None → map.get handles.new spare ≡ None }
+    ensures spare_array { map.get arrays.old spare ≡ None → map.get arrays.new spare ≡ None }
+{
+    let (array, handle, value) = match array_and_key(arrays, handles, words) {
+        Ok(read) => read,
+        Err(kind) => return Err(Refusal::Trap(kind)),
+    };
+    let Ok(key) = value_text(alloc, value) else {
+        return Err(Refusal::NoMemory);
+    };
+    arrays.delete(array, key.bytes());
+    drop(key);
+    handles.take(handle);
+    Ok(Some(DONE))
+}
+
+/// Takes all elements away. The array stays, and what is left to visit of its keys. It takes no memory.
+///
+/// # Errors
+///
+/// A trap, which changes nothing.
+pub fn clear(arrays: &mut Arrays, words: &[Word]) -> Result<Option<Word>, Refusal>
+    ensures step { (f : HostForm) (memory : List ℕ) → f.fault ≡ None
+        → IsTableCall (Import.Of row.Clear) (with_arrays f.values arrays.old f) words.now memory
+        result (with_arrays f.values arrays.new f) }
+    ensures spare { map.get arrays.old spare ≡ None → map.get arrays.new spare ≡ None }
+{
+    let number = match only_array(arrays, words) {
+        Ok(number) => number,
+        Err(kind) => return Err(Refusal::Trap(kind)),
+    };
+    arrays.clear(number);
+    Ok(Some(DONE))
+}
+
+/// Gives an array up, also where a fault is kept. ARGV and ENVIRON stay.
+///
+/// # Errors
+///
+/// A trap, which changes nothing.
+pub fn free_array(arrays: &mut Arrays, words: &[Word]) -> Result<Option<Word>, Refusal>
+    ensures step { (f : HostForm) (memory : List ℕ) → IsTableCall Import.FreeArray (with_arrays
+        f.values arrays.old f) words.now memory result (with_arrays f.values arrays.new f) }
+    ensures spare { map.get arrays.old spare ≡ None → map.get arrays.new spare ≡ None }
+{
+    let number = match only_array(arrays, words) {
+        Ok(number) => number,
+        Err(kind) => return Err(Refusal::Trap(kind)),
+    };
+    if number == Arrays::ARGV || number == Arrays::ENVIRON {
+        return Err(Refusal::Trap(TrapKind::BadArgument));
+    }
+    arrays.free(number);
+    Ok(None)
+}

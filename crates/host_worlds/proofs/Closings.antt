@@ -1,0 +1,278 @@
+-- Closing a file is a step.
+use Rattle.std.proofs.Common.{◌≡◌, ℕ, ℤ, Bool, true, false, cond, List, [], ◌∷◌, map, not, Option, Some, None, Ok, Err, refl, sym, ap, subst, ◌∙◌, if◌then◌else◌}
+use Rattle.std.specs.Prelude.{◌||◌}
+use Rattle.std.specs.FinMap as table
+use Rattle.awk_values.specs.Values.{text_of_value}
+use Rattle.awk_values.specs.declared.value.Value.{Value}
+use Rattle.awk_values.specs.declared.value.Value.TheVariants.{Text}
+use Rattle.sem_primitives.specs.InputMeaning.{close_row, is_open, is_reading, nothing_left, reader_named, without_reader, without_writer}
+use Rattle.sem_primitives.specs.OutputMeaning.{is_writing}
+use Rattle.sem_primitives.specs.SharedState.{Inner, Shared}
+use Rattle.sem_primitives.specs.Texts.{same_text}
+use Rattle.sem_primitives.specs.declared.answers.StreamAnswer.{StreamAnswer}
+use Rattle.sem_primitives.specs.declared.answers.StreamAnswer.TheVariants as stream
+use Rattle.sem_primitives.specs.declared.table.Primitive.TheVariants as row
+use Rattle.wasm_model.specs.declared.host.HostAnswer.TheVariants as told
+use Rattle.wasm_store.specs.declared.trap.TrapKind.{TrapKind}
+use Rattle.wasm_store.specs.declared.word.Word.{Word}
+use Rattle.wasm_store.specs.declared.word.Word.TheVariants.{I32}
+use Rattle.world_core.specs.WorldState.{Action, Entry, Outside, Source, State}
+use Rattle.host_imports.specs.Codes.{stream_code}
+use Rattle.host_step.specs.HostState.{HostState}
+use Rattle.host_step.specs.HostStep.{StepOf, acts, carried}
+use Rattle.host_step.specs.Arguments.{and_then}
+use Rattle.host_imports.specs.Imports.{spends}
+use Rattle.host_step.specs.Worlds.{Called, Wanted, unseen, with_output}
+use Rattle.host_imports.specs.declared.import.Import.TheVariants.{Of}
+use Rattle.host_values.specs.Calls.{names_with}
+use Rattle.host_values.specs.Evaluations.{Values}
+use Rattle.host_values.specs.Singles.{only_handle}
+use Rattle.host_values.specs.declared.reply.Refusal.TheVariants as why
+use Rattle.host_values.proofs.OneHandle.{as_row, decoded}
+use Rattle.host_values.specs.ElementCalls.{Leads}
+use Rattle.host_values.specs.Forms.{HostForm, Past, state_of}
+use Rattle.host_values.proofs.ElementSteps.{acts_of, goes, state_with, traps, unrefused}
+use Rattle.host_streams.specs.Closing.{ClosesBy}
+use Rattle.host_streams.specs.OpenFiles.{names_of, reader_names, readers_in}
+use Rattle.host_streams.specs.Outputs.{IsOf}
+use Rattle.host_streams.specs.declared.streams.NamedReader.{NamedReader}
+use Rattle.host_streams.specs.declared.streams.Streams.{Streams}
+use Rattle.host_values.specs.Findings.{form_finding}
+use Rattle.host_values.specs.WorldCalls.{IsCalled, LeadsIn}
+use Rattle.host_values.proofs.Found.{led_nothing}
+use Rattle.host_worlds.specs.Forms.{closed_code, closing}
+use Rattle.host_worlds.proofs.Names.{as_reader, name_alone, names_only}
+use Rattle.host_worlds.proofs.Worlds.{silent_called, trap_called}
+
+-- Names.
+
+beside_first : (name : List ℕ) (b : Bool) (x : List ℕ × Source) (xs : List (List ℕ × Source)) (ns : List (List ℕ))
+    → map name_alone (without_reader name xs) ≡ map as_reader (without_writer name ns)
+    → map name_alone (if not b then x ∷ without_reader name xs else without_reader name xs)
+    ≡ map as_reader (if not b then x.0 ∷ without_writer name ns else without_writer name ns)
+beside_first name true x xs ns e = e
+beside_first name false x xs ns e = ap (λ ys. (x.0, nothing_left) ∷ ys) e
+
+beside_names : (name : List ℕ) (rs : List NamedReader) (state : State)
+    → map name_alone (without_reader name (readers_in rs state)) ≡ map as_reader (without_writer name (reader_names rs))
+beside_names name [] state = refl
+beside_names name (r ∷ rs) state = beside_first name (same_text name r.name) _ (readers_in rs state) (reader_names rs) (beside_names name rs state)
+
+-- whether a name is open for reading
+reading_first : (name : List ℕ) (b : Bool) (source : Source) (o : Option Source) (c : Bool) → is_reading o ≡ c → is_reading (cond b (Some source) o) ≡ cond b true c
+reading_first name true source o c e = refl
+reading_first name false source o c e = e
+
+reading_named : (name : List ℕ) (rs : List NamedReader) (state : State) → is_reading (reader_named name (readers_in rs state)) ≡ is_writing name (reader_names rs)
+reading_named name [] state = refl
+reading_named name (r ∷ rs) state = reading_first name (same_text name r.name) _ (reader_named name (readers_in rs state)) _ (reading_named name rs state)
+
+-- the same of names alone
+
+alone_first : (b : Bool) (x : List ℕ × Source) (ys zs : List (List ℕ × Source)) → ys ≡ map name_alone zs
+    → (if not b then name_alone x ∷ ys else ys) ≡ map name_alone (if not b then x ∷ zs else zs)
+alone_first true x ys zs e = e
+alone_first false x ys zs e = ap (λ ws. name_alone x ∷ ws) e
+
+alone_beside : (name : List ℕ) (xs : List (List ℕ × Source)) → without_reader name (map name_alone xs) ≡ map name_alone (without_reader name xs)
+alone_beside name [] = refl
+alone_beside name (x ∷ xs) = alone_first (same_text name x.0) x (without_reader name (map name_alone xs)) (without_reader name xs) (alone_beside name xs)
+
+alone_named : (b : Bool) (s t : Source) (o u : Option Source) → is_reading o ≡ is_reading u → is_reading (cond b (Some s) o) ≡ is_reading (cond b (Some t) u)
+alone_named true s t o u e = refl
+alone_named false s t o u e = e
+
+reading_alone : (name : List ℕ) (xs : List (List ℕ × Source)) → is_reading (reader_named name (map name_alone xs)) ≡ is_reading (reader_named name xs)
+reading_alone name [] = refl
+reading_alone name (x ∷ xs) =
+    alone_named (same_text name x.0) nothing_left x.1 (reader_named name (map name_alone xs)) (reader_named name xs) (reading_alone name xs)
+
+pub code_by : (b : Bool) → I32 (stream_code (if b then stream.Done else stream.NotOpen)) ≡ closed_code b
+code_by true = refl
+code_by false = refl
+
+-- The step.
+
+module _ (f : HostForm) (p : Past) (words : List Word) (memory : List ℕ) where
+  abbrev closes : Value → Inner × StreamAnswer
+  closes v = close_row v (state_of f p).shared.inner
+
+  close_carried : (h : ℤ) (v : Value) → only_handle f.values words ≡ Ok (h, v)
+      → carried (Of row.Close) words memory (state_of f p) ≡ Ok (names_with (table.remove f.values h) (state_of f p), acts_of f (closes v).0 (closes v).1)
+  close_carried h v is =
+      ap (λ r. and_then r (λ x. and_then (acts (Of row.Close) x.0 (state_of f p)) (λ d. Ok (x.1, d))))
+      (decoded (spends (Of row.Close)) refl (state_of f p) f.values memory words ∙ ap (as_row (state_of f p) f.values) is)
+
+  close_trap : (k : TrapKind) → only_handle f.values words ≡ Err k → carried (Of row.Close) words memory (state_of f p) ≡ Err k
+  close_trap k is =
+      ap (λ r. and_then r (λ x. and_then (acts (Of row.Close) x.0 (state_of f p)) (λ d. Ok (x.1, d))))
+      (decoded (spends (Of row.Close)) refl (state_of f p) f.values memory words ∙ ap (as_row (state_of f p) f.values) is)
+
+  close_step : (h : ℤ) (v : Value) → f.fault ≡ None → only_handle f.values words ≡ Ok (h, v)
+      → StepOf (Of row.Close) (state_of f p) words memory (told.Done (Some (I32 (stream_code (closes v).1)))) (state_with (names_with (table.remove f.values h) (state_of f p)) (closes v).0 f) []
+  close_step h v none is =
+      goes (Of row.Close) f p _ words memory (names_with (table.remove f.values h) (state_of f p)) (closes v).0 (closes v).1 0 _ (unrefused (Of row.Close) f.fault none) (close_carried h v is) tt refl refl
+
+-- On the tables.
+
+-- a form over which so much was put out
+abbrev so_far_form : List Action → HostForm → HostForm
+so_far_form output f = record f { shared = record f.shared { output = output } }
+
+module _ (tells : Type 0) (f : HostForm) (words : List Word) (memory : List ℕ) (none : f.fault ≡ None) (values : Values) (streams : Streams) (state : State) where
+  abbrev at_first : HostForm
+  at_first = closing values streams state f
+
+  pub close_traps : (k : TrapKind) → only_handle values words ≡ Err k → IsCalled tells (Of row.Close) at_first words memory (Err (why.Trap k)) at_first []
+  close_traps k is = (
+    λ s st. (
+      s,
+      st,
+      subst (λ (t : HostState). Called tells (Some (Of row.Close)) t words memory (told.Trap k) t []) (sym st.state)
+          (trap_called tells (Of row.Close) (state_of at_first st.past) words memory k refl
+          (λ so_far. traps (Of row.Close) (so_far_form so_far at_first) st.past words memory k (unrefused (Of row.Close) f.fault none) (close_trap (so_far_form so_far at_first) st.past words memory k is))),
+    ),
+    led_nothing (Of row.Close) at_first at_first words memory (told.Trap k) (λ finds outside so_far s st. let g = form_finding finds outside so_far at_first in (
+      s,
+      st,
+      subst (λ (t : HostState). StepOf (Of row.Close) t words memory (told.Trap k) t []) (sym st.state)
+          (traps (Of row.Close) g st.past words memory k (unrefused (Of row.Close) f.fault none) (close_trap g st.past words memory k is)),
+    )),
+  )
+
+  pub close_wants : (h : ℤ) (v : Value) → only_handle values words ≡ Ok (h, v) → IsCalled tells (Of row.Close) at_first words memory (Err why.NoMemory) at_first []
+  close_wants h v is t s st = (
+    s,
+    ap (λ (x : HostState). x.shared.outside) st.state,
+    subst (λ (x : HostState). Wanted (Some (Of row.Close)) x words memory x []) (sym st.state) (record {
+      outside = refl;
+      answer = told.Done (Some (I32 (stream_code (closes at_first st.past words memory v).1)));
+      answered = λ e. cc;
+      state = state_with (names_with (table.remove values h) (state_of at_first st.past)) (closes at_first st.past words memory v).0 at_first;
+      rest = [];
+      step = close_step at_first st.past words memory h v none is;
+    }),
+  )
+
+  module _ (h : ℤ) (v : Value) (name : List ℕ) (is : only_handle values words ≡ Ok (h, v)) (text : name ≡ text_of_value v) (values' : Values) (left : values' ≡ table.remove values h) (streams' : Streams) (state' : State) (closed : Bool)
+      (answer : closed ≡ (is_writing name (reader_names streams.readers.items) || is_writing name (names_of streams.writers.items)))
+      (reader_names' : reader_names streams'.readers.items ≡ without_writer name (reader_names streams.readers.items))
+      (writer_names' : names_of streams'.writers.items ≡ without_writer name (names_of streams.writers.items))
+      (told_so : tells → (shared : Shared) → IsOf streams state shared → ClosesBy (close_row (Text name) shared.inner) closed streams' state')
+      (outside : tells → state'.outside ≡ state.outside) where
+    abbrev at_last : HostForm
+    at_last = closing values' streams' state' f
+
+    code_is : (p : Past) → I32 (stream_code (closes at_first p words memory v).1) ≡ closed_code closed
+    code_is p =
+        code_by (is_open (text_of_value v) (state_of at_first p).shared.inner)
+        ∙ ap (λ n. closed_code (is_open n (state_of at_first p).shared.inner)) (sym text)
+        ∙ ap (λ b. closed_code (b || is_writing name (names_of streams.writers.items))) (reading_named name streams.readers.items state)
+        ∙ ap closed_code (sym answer)
+
+    abbrev step_after : Past → HostState
+    step_after p = state_with (names_with (table.remove values h) (state_of at_first p)) (closes at_first p words memory v).0 at_first
+
+    step_told : (p : Past) (so_far : List Action) → StepOf (Of row.Close) (with_output so_far (state_of at_first p)) words memory (told.Done (Some (closed_code closed))) (with_output so_far (step_after p)) []
+    step_told p so_far =
+        subst (λ (w : Word). StepOf (Of row.Close) (with_output so_far (state_of at_first p)) words memory (told.Done (Some w)) (with_output so_far (step_after p)) []) (code_is p)
+        (close_step (so_far_form so_far at_first) p words memory h v none is)
+
+    -- what is left by the definition, with these files and this outside
+    abbrev shape : Past → Values → List (List ℕ × Source) → List (List ℕ) → Outside → HostState
+    shape p m rs ws o = record (state_of at_first p) {
+      names = names_with m (state_of at_first p);
+      shared = record (state_of at_first p).shared { inner = record (state_of at_first p).shared.inner { readers = rs; writers = ws }; outside = o };
+    }
+
+    same_told : tells → (p : Past) → step_after p ≡ state_of at_last p
+    same_told t p =
+        let c = told_so t (state_of at_first p).shared (record { kept = refl; readers = refl; writers = refl; outside = refl }) in
+        ap (λ n. shape p (table.remove values h) (without_reader n (readers_in streams.readers.items state)) (without_writer n (names_of streams.writers.items)) state.outside) (sym text)
+        ∙ ap (λ (m : Values). shape p m (without_reader name (readers_in streams.readers.items state)) (without_writer name (names_of streams.writers.items)) state.outside) (sym left)
+        ∙ ap (λ rs. shape p values' rs (without_writer name (names_of streams.writers.items)) state.outside) (sym c.readers)
+        ∙ ap (λ ws. shape p values' (readers_in streams'.readers.items state') ws state.outside) (sym c.writers)
+        ∙ ap (λ (o : Outside). shape p values' (readers_in streams'.readers.items state') (names_of streams'.writers.items) o) (sym (outside t))
+
+    -- what is seen of it, with these files open for reading
+    abbrev blind : Past → List (List ℕ × Source) → HostState
+    blind p xs =
+        let base = unseen (shape p values' [] (names_of streams'.writers.items) state.outside) in
+        record base { shared = record base.shared { inner = record base.shared.inner { readers = xs } } }
+
+    -- but for what only the world knows
+    same_unseen : (p : Past) → unseen (step_after p) ≡ unseen (state_of at_last p)
+    same_unseen p =
+        ap (λ n. unseen (shape p (table.remove values h) (without_reader n (readers_in streams.readers.items state)) (without_writer n (names_of streams.writers.items)) state.outside)) (sym text)
+        ∙ ap (λ (m : Values). unseen (shape p m (without_reader name (readers_in streams.readers.items state)) (without_writer name (names_of streams.writers.items)) state.outside)) (sym left)
+        ∙ ap (λ ws. unseen (shape p values' (without_reader name (readers_in streams.readers.items state)) ws state.outside)) (sym writer_names')
+        ∙ ap (λ xs. blind p xs)
+        (beside_names name streams.readers.items state ∙ ap (λ ns. map as_reader ns) (sym reader_names') ∙ sym (names_only streams'.readers.items state'))
+
+    -- where others change what names hold too
+
+    abbrev there : List Entry → Outside → List Action → HostForm
+    there finds o so_far = form_finding finds o so_far at_first
+
+    abbrev names_alone : List (List ℕ × Source)
+    names_alone = map name_alone (readers_in streams.readers.items state)
+
+    code_there : (finds : List Entry) (o : Outside) (so_far : List Action) (p : Past) → I32 (stream_code (closes (there finds o so_far) p words memory v).1) ≡ closed_code closed
+    code_there finds o so_far p =
+        code_by (is_open (text_of_value v) (state_of (there finds o so_far) p).shared.inner)
+        ∙ ap (λ n. closed_code (is_open n (state_of (there finds o so_far) p).shared.inner)) (sym text)
+        ∙ ap (λ b. closed_code (b || is_writing name (names_of streams.writers.items)))
+        (reading_alone name (readers_in streams.readers.items state) ∙ reading_named name streams.readers.items state)
+        ∙ ap closed_code (sym answer)
+
+    abbrev shape_there : List Entry → Outside → List Action → Past → Values → List (List ℕ × Source) → List (List ℕ) → HostState
+    shape_there finds o so_far p m rs ws = record (state_of (there finds o so_far) p) {
+      names = names_with m (state_of (there finds o so_far) p);
+      shared = record (state_of (there finds o so_far) p).shared { inner = record (state_of (there finds o so_far) p).shared.inner { readers = rs; writers = ws } };
+    }
+
+    same_there : (finds : List Entry) (o : Outside) (so_far : List Action) (p : Past)
+        → state_with (names_with (table.remove values h) (state_of (there finds o so_far) p)) (closes (there finds o so_far) p words memory v).0 (there finds o so_far)
+        ≡ state_of (form_finding finds o so_far at_last) p
+    same_there finds o so_far p =
+        ap (λ n. shape_there finds o so_far p (table.remove values h) (without_reader n names_alone) (without_writer n (names_of streams.writers.items))) (sym text)
+        ∙ ap (λ (m : Values). shape_there finds o so_far p m (without_reader name names_alone) (without_writer name (names_of streams.writers.items))) (sym left)
+        ∙ ap (λ ws. shape_there finds o so_far p values' (without_reader name names_alone) ws) (sym writer_names')
+        ∙ ap (λ rs. shape_there finds o so_far p values' rs (names_of streams'.writers.items))
+        (alone_beside name (readers_in streams.readers.items state) ∙ beside_names name streams.readers.items state ∙ ap (λ ns. map as_reader ns) (sym reader_names')
+        ∙ sym (names_only streams'.readers.items state'))
+
+    closes_there : (finds : List Entry) (o : Outside) (so_far : List Action)
+        → Leads (Of row.Close) (there finds o so_far) words memory (told.Done (Some (closed_code closed))) (form_finding finds o so_far at_last)
+    closes_there finds o so_far s st =
+        let p = st.past in
+        let g = there finds o so_far in
+        let last = state_of (form_finding finds o so_far at_last) p in (
+          last,
+          record { past = p; state = refl; arrays = st.arrays; iterators = st.iterators; first = st.first },
+          subst (λ (t : HostState). StepOf (Of row.Close) t words memory (told.Done (Some (closed_code closed))) last []) (sym st.state)
+              (subst (λ (w : Word). StepOf (Of row.Close) (state_of g p) words memory (told.Done (Some w)) last []) (code_there finds o so_far p)
+              (subst (λ (x : HostState). StepOf (Of row.Close) (state_of g p) words memory (told.Done (Some (I32 (stream_code (closes g p words memory v).1)))) x [])
+              (same_there finds o so_far p) (close_step g p words memory h v none is))),
+        )
+
+    closes_world : LeadsIn tells (Of row.Close) at_first words memory (told.Done (Some (closed_code closed))) at_last []
+    closes_world s st =
+        let p = st.past in (
+          state_of at_last p,
+          record { past = p; state = refl; arrays = st.arrays; iterators = st.iterators; first = st.first },
+          subst (λ (t : HostState). Called tells (Some (Of row.Close)) t words memory (told.Done (Some (closed_code closed))) (state_of at_last p) []) (sym st.state)
+              (silent_called tells (Of row.Close) (state_of at_first p) (state_of at_last p) words memory (told.Done (Some (closed_code closed))) refl
+              (λ t so_far. subst (λ (x : HostState). StepOf (Of row.Close) (with_output so_far (state_of at_first p)) words memory (told.Done (Some (closed_code closed))) (with_output so_far x) []) (same_told t p) (step_told p so_far))
+              (record {
+                old = with_output [] (state_of at_first p);
+                new = with_output [] (step_after p);
+                output = [];
+                same_before = refl;
+                same_after = same_unseen p;
+                step = step_told p [];
+              })),
+        )
+
+    pub close_closes : IsCalled tells (Of row.Close) at_first words memory (Ok (Some (closed_code closed))) at_last []
+    close_closes = (closes_world, led_nothing (Of row.Close) at_first at_last words memory (told.Done (Some (closed_code closed))) closes_there)

@@ -1,0 +1,100 @@
+-- What putting a text out leaves alone.
+use Rattle.std.proofs.Common.{◌≡◌, ℕ, Bool, true, false, List, Option, None, Result, Ok, Err, refl}
+use Rattle.awk_values.specs.declared.fault.Fault.{Fault}
+use Rattle.sem_primitives.specs.Finds.{finds_by, looked_by, seen}
+use Rattle.sem_primitives.specs.OutputMeaning.{has_room, is_writing, kept_open, opened_if, printf_by, put_text, written_by}
+use Rattle.sem_primitives.specs.SharedState.{Does, Inner, Pairs, Shared}
+use Rattle.sem_primitives.specs.declared.constants.Destination.{Destination}
+use Rattle.sem_primitives.specs.declared.constants.Destination.TheVariants.{Standard, Emptied, Appended}
+use Rattle.world_core.specs.WorldState.{Action, Entry, Named}
+use Rattle.host_values.specs.Forms.{Keys, inner_of}
+
+-- with this output so far
+abbrev pub so_far_in : List Action → Shared → Shared
+so_far_in output shared = record shared { output = output }
+
+-- What was put out before does not count.
+
+opened_same : (room opens : Bool) (name text : List ℕ) (append : Bool) (shared : Shared) (output : List Action)
+    → opened_if room opens name append text (so_far_in output shared) ≡ opened_if room opens name append text shared
+opened_same false opens name text append shared output = refl
+opened_same true false name text append shared output = refl
+opened_same true true name text append shared output = refl
+
+written_same : (b : Bool) (name text : List ℕ) (append : Bool) (shared : Shared) (output : List Action)
+    → written_by b name append text (so_far_in output shared) ≡ written_by b name append text shared
+written_same true name text append shared output = refl
+written_same false name text append shared output = opened_same (has_room shared.inner) (seen shared.inner shared.outside (Named name)).opens name text append shared output
+
+pub put_same : (to : Destination) (name text : List ℕ) (shared : Shared) (output : List Action) → put_text to name text (so_far_in output shared) ≡ put_text to name text shared
+put_same Standard name text shared output = refl
+put_same Emptied name text shared output = written_same (is_writing name shared.inner.writers) name text false shared output
+put_same Appended name text shared output = written_same (is_writing name shared.inner.writers) name text true shared output
+
+pub printf_same : (r : Result (List ℕ) Fault) (to : Destination) (name : List ℕ) (shared : Shared) (output : List Action) → printf_by r to name (so_far_in output shared) ≡ printf_by r to name shared
+printf_same (Ok text) to name shared output = put_same to name text shared output
+printf_same (Err fault) to name shared output = refl
+
+-- Arrays and iterators do not count.
+
+abbrev pub lists_in : List Pairs → List Keys → Shared → Shared
+lists_in arrays iterators shared = record shared { inner = inner_of shared.inner arrays iterators }
+
+opened_lists : (room opens : Bool) (name text : List ℕ) (append : Bool) (arrays : List Pairs) (iterators : List Keys) (shared : Shared)
+    → (opened_if room opens name append text (lists_in arrays iterators shared)).added ≡ (opened_if room opens name append text shared).added
+opened_lists false opens name text append arrays iterators shared = refl
+opened_lists true false name text append arrays iterators shared = refl
+opened_lists true true name text append arrays iterators shared = refl
+
+written_lists : (b : Bool) (name text : List ℕ) (append : Bool) (arrays : List Pairs) (iterators : List Keys) (shared : Shared)
+    → (written_by b name append text (lists_in arrays iterators shared)).added ≡ (written_by b name append text shared).added
+written_lists true name text append arrays iterators shared = refl
+written_lists false name text append arrays iterators shared = opened_lists (has_room shared.inner) (seen shared.inner shared.outside (Named name)).opens name text append arrays iterators shared
+
+pub put_lists : (to : Destination) (name text : List ℕ) (arrays : List Pairs) (iterators : List Keys) (shared : Shared)
+    → (put_text to name text (lists_in arrays iterators shared)).added ≡ (put_text to name text shared).added
+put_lists Standard name text arrays iterators shared = refl
+put_lists Emptied name text arrays iterators shared = written_lists (is_writing name shared.inner.writers) name text false arrays iterators shared
+put_lists Appended name text arrays iterators shared = written_lists (is_writing name shared.inner.writers) name text true arrays iterators shared
+
+pub printf_lists : (r : Result (List ℕ) Fault) (to : Destination) (name : List ℕ) (arrays : List Pairs) (iterators : List Keys) (shared : Shared)
+    → (printf_by r to name (lists_in arrays iterators shared)).added ≡ (printf_by r to name shared).added
+printf_lists (Ok text) to name arrays iterators shared = put_lists to name text arrays iterators shared
+printf_lists (Err fault) to name arrays iterators shared = refl
+
+-- Only the files that are open for writing change.
+
+abbrev pub with_writers : Inner → List (List ℕ) → Option (List Entry) → Inner
+with_writers inner names finds = record inner { writers = names; finds = finds }
+
+-- and what is found, where nothing faults
+abbrev pub OnlyWriters : Inner → Does (Result (Unit {0}) Fault) → Type 0
+OnlyWriters inner does = does.inner ≡ with_writers inner does.inner.writers (finds_by does.answer inner.finds)
+
+kept_only : (name : List ℕ) (inner : Inner) (r : Result (Unit {0}) Fault)
+    → kept_open name (looked_by r inner) r ≡ with_writers inner (kept_open name (looked_by r inner) r).writers (finds_by r inner.finds)
+kept_only name inner (Ok u) = refl
+kept_only name inner (Err fault) = refl
+
+-- where nobody else changes what names hold
+pub none_by : (r : Result (Unit {0}) Fault) → finds_by r None ≡ None
+none_by (Ok u) = refl
+none_by (Err fault) = refl
+
+opened_only : (room opens : Bool) (name text : List ℕ) (append : Bool) (shared : Shared) → OnlyWriters shared.inner (opened_if room opens name append text shared)
+opened_only false opens name text append shared = refl
+opened_only true false name text append shared = refl
+opened_only true true name text append shared = kept_only name shared.inner (opened_if true true name append text shared).answer
+
+written_only : (b : Bool) (name text : List ℕ) (append : Bool) (shared : Shared) → OnlyWriters shared.inner (written_by b name append text shared)
+written_only true name text append shared = refl
+written_only false name text append shared = opened_only (has_room shared.inner) (seen shared.inner shared.outside (Named name)).opens name text append shared
+
+put_only : (to : Destination) (name text : List ℕ) (shared : Shared) → OnlyWriters shared.inner (put_text to name text shared)
+put_only Standard name text shared = refl
+put_only Emptied name text shared = written_only (is_writing name shared.inner.writers) name text false shared
+put_only Appended name text shared = written_only (is_writing name shared.inner.writers) name text true shared
+
+pub printf_only : (r : Result (List ℕ) Fault) (to : Destination) (name : List ℕ) (shared : Shared) → OnlyWriters shared.inner (printf_by r to name shared)
+printf_only (Ok text) to name shared = put_only to name text shared
+printf_only (Err fault) to name shared = refl

@@ -1,0 +1,162 @@
+-- Giving up what the main input reads is a call.
+use Rattle.std.proofs.Common.{◌≡◌, ℕ, Bool, false, List, [], ◌∷◌, ◌++◌, map, Some, None, Result, Ok, Err, refl, sym, ap, subst, ◌∙◌}
+use Rattle.std.proofs.lemmas.List.{append-nil}
+use Rattle.sem_primitives.specs.InputMeaning.{gives_up, next_file_row, nothing_left}
+use Rattle.sem_primitives.specs.SharedState.{Inner, MainInput, changes}
+use Rattle.sem_primitives.specs.declared.table.Primitive.TheVariants as row
+use Rattle.wasm_model.specs.declared.host.HostAnswer.TheVariants as told
+use Rattle.wasm_store.specs.declared.trap.TrapKind.{TrapKind}
+use Rattle.wasm_store.specs.declared.word.Word.{Word}
+use Rattle.wasm_store.specs.declared.word.Word.TheVariants.{I32}
+use Rattle.world_core.specs.WorldState.{Action, Entry, Outside, Source, State}
+use Rattle.host_step.specs.Arguments.{and_then, no_more}
+use Rattle.host_step.specs.HostState.{HostState, Names}
+use Rattle.host_step.specs.HostStep.{Acts, StepOf, primitive_acts}
+use Rattle.host_step.specs.Worlds.{IsStepInSomeWorld, unseen, unseen_inner, unseen_main, unseen_reading, with_output}
+use Rattle.host_imports.specs.declared.import.Import.TheVariants.{Of}
+use Rattle.host_streams.specs.Mains.{main_of, operands_of, reading_of}
+use Rattle.host_streams.specs.OpenFiles.{readers_in}
+use Rattle.host_streams.specs.declared.main_input.Found.{Found}
+use Rattle.host_streams.specs.declared.main_input.MainInput.{MainInput as Mains}
+use Rattle.host_streams.specs.declared.main_input.Reading.{Reading}
+use Rattle.host_streams.specs.declared.main_input.Reading.TheVariants as reading
+use Rattle.host_streams.specs.declared.streams.NamedReader.{NamedReader}
+use Rattle.host_texts.specs.declared.texts.Texts.{Texts}
+use Rattle.host_values.specs.declared.reply.Refusal.TheVariants as why
+use Rattle.host_values.specs.ElementCalls.{Leads}
+use Rattle.host_values.specs.Forms.{HostForm, Past, inner_of, state_of}
+use Rattle.host_values.proofs.ArraySteps.{carry, no_word}
+use Rattle.host_values.proofs.ElementSteps.{goes, leads, state_with, unrefused}
+use Rattle.host_values.specs.Findings.{form_finding}
+use Rattle.host_values.proofs.Found.{led_nothing}
+use Rattle.host_values.specs.WorldCalls.{IsCalled}
+use Rattle.host_worlds.specs.Keeps.{with_main_input}
+use Rattle.host_worlds.specs.States.{Over, over_world, with_tables}
+use Rattle.host_worlds.specs.declared.input.Input.{Input}
+use Rattle.host_worlds.proofs.ReadSteps.{form_output, leads_in}
+use Rattle.host_worlds.proofs.Silent.{silent_trap}
+
+pub skip_trapped : (tells : Type 0) (f : HostForm) (words : List Word) (memory : List ℕ) (k : TrapKind) → f.fault ≡ None → no_more words ≡ Err k
+    → IsCalled tells (Of row.NextFile) f words memory (Err (why.Trap k)) f []
+skip_trapped tells f words memory k none ends = silent_trap tells (Of row.NextFile) f words memory k refl none (λ g p.
+    let s = state_of g p in
+    ap (λ (r : Result (Unit {0}) TrapKind). carry (Of row.NextFile) s (and_then r (λ end. Ok (end, s.names)))) ends)
+
+-- the same, with the state by another name
+pub given_as : (a b c : Inner) → next_file_row a ≡ (b, tt) → b ≡ c → next_file_row a ≡ (c, tt)
+given_as a b c row same = subst (λ (i : Inner). next_file_row a ≡ (i, tt)) same row
+
+-- What only the world knows is not seen: the names alone of files that are read, and of the main input what is its own.
+
+abbrev names_alone : List (List ℕ × Source) → List (List ℕ × Source)
+names_alone rs = map (λ r. (r.0, nothing_left)) rs
+
+same_names : (rs : List NamedReader) (old new : State) → names_alone (readers_in rs old) ≡ names_alone (readers_in rs new)
+same_names [] old new = refl
+same_names (r ∷ rs) old new = ap (λ (xs : List (List ℕ × Source)). (r.name, nothing_left) ∷ xs) (same_names rs old new)
+
+-- where nothing is read
+abbrev idle_main : ℕ → Found → Bool → MainInput
+idle_main next found ended = record { standard = nothing_left; next = next; operands = operands_of found; reading = None; ended = ended }
+
+module _ (t : Texts) (i : Input) (m : Mains) (old new : State) (nothing : m.reading ≡ reading.Nothing) (next : m.next ≡ i.main.next) (found : m.found ≡ i.main.found) (ended : m.ended ≡ i.main.ended) where
+  -- what is seen after the call, with this main input and these files
+  abbrev seen : Inner → MainInput → List (List ℕ × Source) → Inner
+  seen inner z rs = record (unseen_inner (with_tables t (with_main_input m i) (Over new) inner)) { main = z; readers = rs }
+
+  given_up : (inner : Inner) (r : Reading) → i.main.reading ≡ r → unseen_inner (gives_up (reading_of r old) (with_tables t i (Over old) inner))
+      ≡ seen inner (idle_main i.main.next i.main.found i.main.ended) (names_alone (readers_in i.files.readers.items old))
+  given_up inner reading.Nothing e =
+      ap (λ r. seen inner (record (idle_main i.main.next i.main.found i.main.ended) { reading = unseen_reading (reading_of r old) }) (names_alone (readers_in i.files.readers.items old))) e
+  given_up inner reading.Standard e = refl
+  given_up inner (reading.File f) e = refl
+
+  main_after : unseen_main (main_of m new) ≡ idle_main i.main.next i.main.found i.main.ended
+  main_after =
+      ap (λ r. record (idle_main m.next m.found m.ended) { reading = unseen_reading (reading_of r new) }) nothing
+      ∙ ap (λ n. idle_main n m.found m.ended) next ∙ ap (λ g. idle_main i.main.next g m.ended) found ∙ ap (λ b. idle_main i.main.next i.main.found b) ended
+
+  same_seen : (inner : Inner) → unseen_inner (next_file_row (with_tables t i (Over old) inner)).0 ≡ unseen_inner (with_tables t (with_main_input m i) (Over new) inner)
+  same_seen inner =
+      given_up inner i.main.reading refl
+      ∙ ap (λ z. seen inner z (names_alone (readers_in i.files.readers.items old))) (sym main_after)
+      ∙ ap (λ rs. seen inner (unseen_main (main_of m new)) rs) (same_names i.files.readers.items old new)
+
+  module _ (tells : Type 0) (f : HostForm) (memory : List ℕ) (none : f.fault ≡ None)
+      (told_so : tells → (inner : Inner) → next_file_row (with_tables t i (Over old) inner) ≡ (with_tables t (with_main_input m i) (Over new) inner, tt)) (outside : tells → new.outside ≡ old.outside) where
+    abbrev before : HostForm
+    before = over_world t i old f
+
+    abbrev later : HostForm
+    later = over_world t (with_main_input m i) new f
+
+    abbrev Comes : Type 0
+    Comes = Result (Names × Acts (Unit {0})) TrapKind
+
+    same_acts : (names : Names) {x y : Inner × Unit {0}} → x ≡ y → ◌≡◌ {A = Comes} (Ok (names, primitive_acts f.arguments false (changes x))) (Ok (names, primitive_acts f.arguments false (changes y)))
+    same_acts names e = ap (λ (z : Inner × Unit {0}). Ok (names, primitive_acts f.arguments false (changes z))) e
+
+    skip_step : tells → (p : Past) (o : List Action) → StepOf (Of row.NextFile) (state_of (form_output o before) p) [] memory (told.Done (Some (I32 0))) (with_output (o ++ []) (state_of later p)) []
+    skip_step y p o =
+        let inner = inner_of f.shared.inner p.arrays p.iterators in
+        let names = (state_of before p).names in
+        let at_last = state_of later p in
+        goes (Of row.NextFile) (form_output o before) p (with_output (o ++ []) at_last) [] memory names (with_tables t (with_main_input m i) (Over new) inner) tt 0 (Some (I32 0)) (unrefused (Of row.NextFile) f.fault none)
+        (same_acts names (told_so y inner))
+        tt refl
+        (ap (λ (u : Outside). record at_last { shared = record at_last.shared { outside = u; output = o } }) (sym (outside y)) ∙ ap (λ (q : List Action). with_output q at_last) (sym (append-nil o)))
+
+    -- in some world the definition's own step
+    abbrev given_state : Past → HostState
+    given_state p = state_with (state_of before p).names (next_file_row (state_of before p).shared.inner).0 before
+
+    skip_anyhow : (p : Past) → IsStepInSomeWorld (Of row.NextFile) (state_of before p) [] memory (told.Done (Some (I32 0))) (state_of later p)
+    skip_anyhow p =
+        let s = unseen (state_of later p) in
+        record {
+          old = state_of before p;
+          new = given_state p;
+          output = [];
+          same_before = refl;
+          same_after = ap (λ (z : Inner). record s { shared = record s.shared { inner = z } }) (same_seen (inner_of f.shared.inner p.arrays p.iterators));
+          step = goes (Of row.NextFile) before p (given_state p) [] memory (state_of before p).names (next_file_row (state_of before p).shared.inner).0 tt 0 (Some (I32 0)) (unrefused (Of row.NextFile) f.fault none) refl tt refl refl;
+        }
+
+    -- where others change what names hold too
+    module _ (finds : List Entry) (o : Outside) (so_far : List Action) where
+      abbrev there : Inner → Inner
+      there inner = record (unseen_inner (with_tables t i (Over old) inner)) { finds = Some finds }
+
+      abbrev seen_there : Inner → MainInput → List (List ℕ × Source) → Inner
+      seen_there inner z rs = record (seen inner z rs) { finds = Some finds }
+
+      given_there : (inner : Inner) (r : Reading) → i.main.reading ≡ r → gives_up (unseen_reading (reading_of r old)) (there inner)
+          ≡ seen_there inner (idle_main i.main.next i.main.found i.main.ended) (names_alone (readers_in i.files.readers.items old))
+      given_there inner reading.Nothing e =
+          ap (λ r. seen_there inner (record (idle_main i.main.next i.main.found i.main.ended) { reading = unseen_reading (reading_of r old) }) (names_alone (readers_in i.files.readers.items old))) e
+      given_there inner reading.Standard e = refl
+      given_there inner (reading.File f) e = refl
+
+      row_there : (inner : Inner) → (next_file_row (there inner)).0 ≡ record (unseen_inner (with_tables t (with_main_input m i) (Over new) inner)) { finds = Some finds }
+      row_there inner =
+          given_there inner i.main.reading refl
+          ∙ ap (λ z. seen_there inner z (names_alone (readers_in i.files.readers.items old))) (sym main_after)
+          ∙ ap (λ rs. seen_there inner (unseen_main (main_of m new)) rs) (same_names i.files.readers.items old new)
+
+      skip_there : Leads (Of row.NextFile) (form_finding finds o so_far before) [] memory (told.Done (Some (I32 0))) (form_finding finds o so_far later)
+      skip_there = leads (Of row.NextFile) (form_finding finds o so_far before) [] memory (told.Done (Some (I32 0))) (form_finding finds o so_far later) (λ p past.
+          let g = form_finding finds o so_far before in
+          let last = state_of (form_finding finds o so_far later) p in
+          record {
+            now = p;
+            is = record { arrays = past.arrays; iterators = past.iterators; first = past.first };
+            step = goes (Of row.NextFile) g p last [] memory (state_of g p).names last.shared.inner tt 0 (Some (I32 0)) (unrefused (Of row.NextFile) f.fault none)
+                (same_acts (state_of g p).names (ap (λ (z : Inner). (z, tt)) (row_there (inner_of f.shared.inner p.arrays p.iterators)))) tt refl refl;
+          })
+
+    pub skip_called : (words : List Word) → no_more words ≡ Ok tt → IsCalled tells (Of row.NextFile) before words memory (Ok (Some (I32 0))) later []
+    skip_called words ends =
+        subst (λ ws. IsCalled tells (Of row.NextFile) before ws memory (Ok (Some (I32 0))) later []) (sym (no_word words ends)) (
+          leads_in tells (Of row.NextFile) before later [] memory (told.Done (Some (I32 0))) refl refl (λ p past. record { typed = refl; step = λ y o. skip_step y p o; anyhow = skip_anyhow p }),
+          led_nothing (Of row.NextFile) before later [] memory (told.Done (Some (I32 0))) skip_there,
+        )

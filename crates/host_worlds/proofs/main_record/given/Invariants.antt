@@ -1,0 +1,27 @@
+use Rattle.std.proofs.Common.{◌≡◌}
+use Rattle.sem_primitives.specs.InputMeaning.{main_input}
+use Rattle.sem_primitives.specs.SharedState.{Inner}
+use Rattle.host_streams.specs.OpenFiles.{WritersGo}
+use Rattle.host_worlds.specs.Givens.{OffersTexts, left_to_open}
+use Rattle.host_worlds.specs.Keeps.{IsMoved, KeepsSubstituted}
+use Rattle.host_worlds.specs.States.{HoldsInput, Over, with_tables}
+use Rattle.host_worlds.proofs.MainFound.{FoundSoFar}
+use Rattle.host_worlds.proofs.main_record.given.Given as goal
+
+abbrev pub invariant-turns : goal.invariant-turns
+invariant-turns g l =
+    let w = g.W.World in
+    record {
+      held : HoldsInput l.input (w.kinds l.world);
+      goes : w.tells → WritersGo l.input.files.writers.items (w.state l.world);
+      outside : w.tells → (w.state l.world).outside ≡ (w.state l.fn.world).outside;
+      rest : IsMoved l.fn.input l.input;
+      substituted : KeepsSubstituted l.fn.texts l.texts;
+      pending : l.input.names.pending ≡ l.fn.input.names.pending;
+      finds : FoundSoFar (g.O.Operands.text l.operands) l.fn.texts l.fn.input l.texts l.input;
+      told : w.tells → (inner : Inner) → OffersTexts (g.O.Operands.text l.operands) inner →
+          main_input (w.state l.fn.world).outside (with_tables l.fn.texts l.fn.input (Over (w.state l.fn.world)) inner) ≡ main_input (w.state l.fn.world).outside (with_tables l.texts l.input (Over (w.state l.world)) inner);
+    }
+
+abbrev pub decreases-turns : goal.decreases-turns
+decreases-turns g l = left_to_open l.input.main

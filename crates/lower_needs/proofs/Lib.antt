@@ -1,4 +1,0 @@
-pub mod Lengths
-pub mod Depths
-pub mod Nested
-pub mod Keys

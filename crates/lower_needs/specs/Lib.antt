@@ -1,4 +1,0 @@
-pub mod Counted
-pub mod Fits
-pub mod Labels
-pub mod Examples

@@ -1,6 +1,0 @@
-pub mod Folded
-pub mod Forms
-pub mod Expressions
-pub mod Scripts
-pub mod NameKinds
-pub mod Whole

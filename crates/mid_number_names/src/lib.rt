@@ -1,4 +1,0 @@
-//! Scalars into which a script stores numbers alone are unboxed.
-#![tactic(auto)]
-
-pub mod laws;

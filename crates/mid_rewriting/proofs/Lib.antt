@@ -1,6 +1,0 @@
-pub mod Outcomes
-pub mod Seen
-pub mod Congruence
-pub mod Runs
-pub mod Sorted
-pub mod Joining

@@ -1,5 +1,0 @@
-pub mod Rewriting
-pub mod Stores
-pub mod SameRuns
-pub mod Alike
-pub mod Rewritten

@@ -1,4 +1,0 @@
-//! Code whose names and operations are written anew does the same.
-#![tactic(auto)]
-
-pub mod laws;

@@ -1,5 +1,0 @@
-use Rattle.module_limits.proofs.Typed.{bytes_or_limit}
-use Rattle.module_limits.proofs.laws.typed_modules_have_bytes.Goals as goal
-
-pub returns : goal.returns
-returns c = bytes_or_limit

@@ -1,3 +1,0 @@
-pub mod Size
-pub mod Limits
-pub mod Examples

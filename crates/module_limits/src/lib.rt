@@ -1,4 +1,0 @@
-//! Which modules have bytes, as laws.
-#![tactic(auto)]
-
-pub mod laws;

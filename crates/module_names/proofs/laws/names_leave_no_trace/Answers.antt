@@ -1,5 +1,0 @@
-use Rattle.module_names.proofs.NoTrace.{names_no_trace}
-use Rattle.module_names.proofs.laws.names_leave_no_trace.Goals as goal
-
-pub returns : goal.returns
-returns c = names_no_trace

@@ -1,6 +1,0 @@
-mod Turns
-mod Runs
-mod Quiet
-mod Listing
-mod Silent
-mod Unlisting

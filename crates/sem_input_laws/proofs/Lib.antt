@@ -1,4 +1,0 @@
-mod Kept
-mod Given
-mod Walked
-mod Made

@@ -1,2 +1,0 @@
-pub mod MainInput
-pub mod Assignments

@@ -1,0 +1,12 @@
+mod Leftmost
+mod Places
+mod Replaced
+mod Words
+mod Longest
+mod Parted
+mod Fields
+mod Examples
+mod Kept
+mod Given
+mod Walked
+mod Made

@@ -1,8 +1,0 @@
-mod Leftmost
-mod Places
-mod Replaced
-mod Words
-mod Longest
-mod Parted
-mod Fields
-mod Examples

@@ -1,3 +1,0 @@
-pub mod Leftmost
-pub mod Substitutions
-pub mod Fields

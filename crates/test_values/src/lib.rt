@@ -1,2 +1,0 @@
-//! Programs whose modules are run on the machine over values. Definitions and examples alone: no function.
-#![tactic(auto)]
