@@ -26,8 +26,8 @@ use Rattle.script_code.specs.Coded.{IsSound}
 use Rattle.script_code.specs.Expressions.{AreFine, IsBad, IsFine, IsFirstBad}
 use Rattle.script_code.specs.Refusals.{HasNoScript}
 use Rattle.script_compiler.specs.Refusals.{IsNotCompiled}
-use Rattle.script_code.specs.declared.fault.CompileFault.{CompileFault}
-use Rattle.script_code.specs.declared.fault.CompileFault.TheVariants.{TooLarge, Token, Parse, Ere, Resolve, NoMemory}
+use Rattle.run_report.specs.declared.compile_fault.CompileFault.{CompileFault}
+use Rattle.run_report.specs.declared.compile_fault.CompileFault.TheVariants.{TooLarge, Token, Parse, Ere, Resolve, NoMemory}
 
 abbrev ok_of : {A E : Type 0} → A → Result A E → A
 ok_of d (Ok x) = x

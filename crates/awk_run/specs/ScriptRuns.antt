@@ -5,7 +5,7 @@ use Rattle.world_core.specs.WorldState.{Entry, State}
 use Rattle.sem_scripts.specs.Kinds.{resolved}
 use Rattle.sem_scripts.specs.ScriptRun.{Ended, FaultedBy, Exhausted, resolved_run}
 use Rattle.agreement.specs.Runs.ToldRuns.{DoesSo, DoesSoThere, GoesOnThere, Told, Ends, PutsOut, Never}
-use Rattle.script_code.specs.declared.fault.CompileFault.TheVariants as compile
+use Rattle.run_report.specs.declared.compile_fault.CompileFault.TheVariants as compile
 use Rattle.script_compiler.specs.Compiled.{IsCompiled}
 use Rattle.script_compiler.specs.Refusals.{IsNotCompiled}
 use Rattle.awk_run.specs.ModuleRun.{HasRun}

@@ -1,7 +1,7 @@
 //! Laws of what compiling answers.
 ghost use Rattle.std.specs.Prelude.{◌≡◌, ◌⊎◌, ℕ, List};
-ghost use Rattle.script_code.specs.declared.fault.CompileFault.{CompileFault};
-ghost use Rattle.script_code.specs.declared.fault.CompileFault.TheVariants.{NoMemory, TooLarge};
+ghost use Rattle.run_report.specs.declared.compile_fault.CompileFault.{CompileFault};
+ghost use Rattle.run_report.specs.declared.compile_fault.CompileFault.TheVariants.{NoMemory, TooLarge};
 ghost use Rattle.script_compiler.specs.Compiled.{IsCompiled};
 ghost use Rattle.script_compiler.specs.Refusals.{IsNotCompiled};
 

@@ -2,7 +2,7 @@
 use Rattle.std.specs.Prelude.{◌≡◌, [], Some, codes, refl}
 use Rattle.std.specs.Fmt.{digits}
 use Rattle.run_report.specs.declared.end.Refusal.TheVariants.{Compile, Decode, Invalid, Link}
-use Rattle.script_code.specs.declared.fault.CompileFault.TheVariants.{Token, Parse, Ere, Resolve, TooLarge}
+use Rattle.run_report.specs.declared.compile_fault.CompileFault.TheVariants.{Token, Parse, Ere, Resolve, TooLarge}
 use Rattle.awk_parse.specs.declared.fault.Feature.TheVariants.{Pipe, Word}
 use Rattle.awk_parse.specs.declared.fault.ParseFault.TheVariants.{ConstantRange, LeftOut as LeavesOut, Misplaced, NotWhole, Syntax}
 use Rattle.awk_resolve.specs.declared.fault.ResolveFault.TheVariants.{KindClash, UnknownFunction}

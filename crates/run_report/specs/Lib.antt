@@ -1,3 +1,4 @@
+pub mod CompileFaults
 pub mod EndTexts
 pub mod Parts
 pub mod Topics

@@ -1,9 +1,9 @@
 //! Ends and refusals.
 
+use crate::compile_fault::CompileFault;
 use awk_values::Fault;
 use module_decoder::DecodeFault;
 use module_validator::InvalidFault;
-use script_code::CompileFault;
 use wasm_model::LinkFault;
 use wasm_store::TrapKind;
 

@@ -3,6 +3,7 @@ ghost use Rattle.std.specs.Prelude.{◌≡◌};
 ghost use Rattle.run_report.specs.EndTexts.{compile_words, decode_words, ere_words, feature_word, invalid_words, left_out_word, link_words, parse_words, refusal_words, resolve_words, token_words, trap_word};
 ghost use Rattle.run_report.specs.Parts.{words_of};
 
+use crate::compile_fault::CompileFault;
 use crate::end::Refusal;
 use crate::line::{Part, Told};
 use awk_parse::{Feature, ParseFault};
@@ -11,7 +12,6 @@ use awk_tokens::{LeftOut, TokenFault};
 use ere_syntax::EreFault;
 use module_decoder::DecodeFault;
 use module_validator::InvalidFault;
-use script_code::CompileFault;
 use wasm_model::LinkFault;
 use wasm_store::TrapKind;
 

@@ -1,8 +1,9 @@
 //! What is told of a run's end and of a file: the exit status, and a line for the standard error.
 //!
-//! How runs end, and why something is not run.
+//! How runs end, and why something is not run or not compiled.
 #![tactic(auto)]
 
+mod compile_fault;
 mod end;
 mod explained;
 mod faults;
@@ -10,6 +11,7 @@ mod line;
 mod report;
 mod topic;
 
+pub use compile_fault::CompileFault;
 pub use end::{Refusal, RunEnd};
 pub use explained::{Explanation, explain};
 pub use report::{FileFault, fault_text, file_fault_text, no_memory_text, status_of};

@@ -3,6 +3,7 @@ ghost use Rattle.std.specs.Prelude.{◌≡◌, ℕ, option_map};
 ghost use Rattle.run_report.specs.EndTexts.{compile_words, decode_words, end_words, ere_words, invalid_words, link_words, parse_words, refusal_words, resolve_words, token_words};
 ghost use Rattle.run_report.specs.Topics.{end_name, file_name, module_name, name_in, named, script_name, status_name, topic_name};
 
+use crate::compile_fault::CompileFault;
 use crate::end::{Refusal, RunEnd};
 use crate::faults::trap_word;
 use crate::report::FileFault;
@@ -13,7 +14,6 @@ use awk_values::Fault;
 use ere_syntax::EreFault;
 use module_decoder::DecodeFault;
 use module_validator::InvalidFault;
-use script_code::CompileFault;
 use wasm_model::LinkFault;
 use wasm_store::TrapKind;
 

@@ -14,9 +14,10 @@ use Rattle.awk_tokens.specs.Cutting.{IsTokens, Spelled}
 use Rattle.awk_tokens.specs.declared.token.TokenFault.{TokenFault}
 use Rattle.awk_tokens.specs.declared.token.TokenFault.TheVariants.{BadByte, OpenString, OpenEre}
 use Rattle.awk_tokens.specs.declared.token.TokenFault.TheVariants as cutting
-use Rattle.script_code.specs.Refusals.{HasNoCode, IsNotCoded, of_tokens}
-use Rattle.script_code.specs.declared.fault.CompileFault.{CompileFault}
-use Rattle.script_code.specs.declared.fault.CompileFault.TheVariants.{TooLarge, Token, Parse, Ere, Resolve, NoMemory}
+use Rattle.script_code.specs.Refusals.{HasNoCode, IsNotCoded}
+use Rattle.run_report.specs.CompileFaults.{of_tokens}
+use Rattle.run_report.specs.declared.compile_fault.CompileFault.{CompileFault}
+use Rattle.run_report.specs.declared.compile_fault.CompileFault.TheVariants.{TooLarge, Token, Parse, Ere, Resolve, NoMemory}
 
 pub no_tokens : (bytes : List ℕ) (fault : TokenFault) → length bytes ≤ 2 ^ 20 → (fault ≡ cutting.NoMemory) ⊎ IsTokens bytes (Err fault) → IsNotCoded bytes (of_tokens fault)
 no_tokens bytes cutting.NoMemory short r = tt

@@ -9,8 +9,8 @@ use Rattle.ere_syntax.specs.declared.fault.EreFault.{EreFault}
 use Rattle.ere_syntax.specs.declared.fault.EreFault.TheVariants.{BadEre, EreTooLarge}
 use Rattle.ere_syntax.specs.declared.fault.EreFault.TheVariants as expressions
 use Rattle.script_code.specs.Expressions.{AreFine, HasBad, IsBadAs, IsFine, expression_fault, is_ere}
-use Rattle.script_code.specs.declared.fault.CompileFault.{CompileFault}
-use Rattle.script_code.specs.declared.fault.CompileFault.TheVariants.{TooLarge, Token as Uncut, Parse, Ere, Resolve, NoMemory}
+use Rattle.run_report.specs.declared.compile_fault.CompileFault.{CompileFault}
+use Rattle.run_report.specs.declared.compile_fault.CompileFault.TheVariants.{TooLarge, Token as Uncut, Parse, Ere, Resolve, NoMemory}
 
 pub bad_as : (t : Spelled) (fault : EreFault) → is_ere t.kind ≡ true → IsRefused (between t.text) fault → IsBadAs t (expression_fault t.line fault)
 bad_as t (BadEre place) k r = record { ere = k; line_is = refl; named = λ e. cc; cause = r }

@@ -12,9 +12,10 @@ use Rattle.awk_resolve.specs.declared.fault.ResolveFault.{ResolveFault}
 use Rattle.awk_resolve.specs.declared.fault.ResolveFault.TheVariants.{TooMany, DuplicateName, UnknownFunction, ArgCount, KindClash}
 use Rattle.awk_resolve.specs.declared.fault.ResolveFault.TheVariants as resolving
 use Rattle.script_code.specs.Expressions.{AreFine, HasBad}
-use Rattle.script_code.specs.Refusals.{HasNoCode, of_names, of_tree}
-use Rattle.script_code.specs.declared.fault.CompileFault.{CompileFault}
-use Rattle.script_code.specs.declared.fault.CompileFault.TheVariants.{TooLarge, Token, Parse, Ere, Resolve, NoMemory}
+use Rattle.script_code.specs.Refusals.{HasNoCode}
+use Rattle.run_report.specs.CompileFaults.{of_names, of_tree}
+use Rattle.run_report.specs.declared.compile_fault.CompileFault.{CompileFault}
+use Rattle.run_report.specs.declared.compile_fault.CompileFault.TheVariants.{TooLarge, Token, Parse, Ere, Resolve, NoMemory}
 
 pub no_script : (tokens : List Spelled) (fault : ParseFault) → IsRefused tokens fault → HasNoCode tokens (of_tree fault)
 no_script tokens (LeftOut line feature) r = record { named = λ e. cc; cause = r }

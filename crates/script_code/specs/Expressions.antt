@@ -9,8 +9,8 @@ use Rattle.ere_syntax.specs.Answers.{IsRefused, IsTreeOf}
 use Rattle.ere_syntax.specs.Tree.{Tree}
 use Rattle.ere_syntax.specs.declared.fault.EreFault.{EreFault}
 use Rattle.ere_syntax.specs.declared.fault.EreFault.TheVariants as expressions
-use Rattle.script_code.specs.declared.fault.CompileFault.{CompileFault}
-use Rattle.script_code.specs.declared.fault.CompileFault.TheVariants.{Ere, NoMemory}
+use Rattle.run_report.specs.declared.compile_fault.CompileFault.{CompileFault}
+use Rattle.run_report.specs.declared.compile_fault.CompileFault.TheVariants.{Ere, NoMemory}
 
 abbrev pub is_ere : TokenKind → Bool
 is_ere EreToken = true

@@ -14,8 +14,8 @@ use Rattle.awk_resolve.specs.declared.fault.ResolveFault.TheVariants as resolvin
 use Rattle.ere_syntax.specs.declared.fault.EreFault.{EreFault}
 use Rattle.script_code.specs.Coded.{HasTokens, most_script_bytes}
 use Rattle.script_code.specs.Expressions.{AreFine, IsFirstBad}
-use Rattle.script_code.specs.declared.fault.CompileFault.{CompileFault}
-use Rattle.script_code.specs.declared.fault.CompileFault.TheVariants.{TooLarge, Token, Parse, Ere, Resolve, NoMemory}
+use Rattle.run_report.specs.declared.compile_fault.CompileFault.{CompileFault}
+use Rattle.run_report.specs.declared.compile_fault.CompileFault.TheVariants.{TooLarge, Token, Parse, Ere, Resolve, NoMemory}
 
 -- Causes, in their order: each excludes those before it.
 
@@ -54,19 +54,6 @@ IsNotCoded bytes (Resolve fault) = HasTokens bytes (λ tokens. HasBadName tokens
 IsNotCoded bytes NoMemory = Unit {0}
 
 -- The rest serves contracts inside the crate.
-
--- a fault of the tokens, of the tree, of the names, as one of the script
-abbrev pub of_tokens : TokenFault → CompileFault
-of_tokens cutting.NoMemory = NoMemory
-of_tokens fault = Token fault
-
-abbrev pub of_tree : ParseFault → CompileFault
-of_tree parsing.NoMemory = NoMemory
-of_tree fault = Parse fault
-
-abbrev pub of_names : ResolveFault → CompileFault
-of_names resolving.NoMemory = NoMemory
-of_names fault = Resolve fault
 
 -- why tokens have no code
 abbrev pub HasNoCode : List Spelled → CompileFault → Type 0

@@ -2,12 +2,11 @@
 ghost use Rattle.std.specs.Prelude.{◌≡◌, List, map, IfOk, IfErr};
 ghost use Rattle.script_code.specs.Coded.{HasTokens, IsCodeOf, IsFineScript, IsPlainCodeOf, IsUnboxed};
 ghost use Rattle.script_code.specs.Refusals.{HasNoCode, IsNotCoded};
-ghost use Rattle.script_code.specs.declared.fault.CompileFault.TheVariants.{NoMemory};
+ghost use Rattle.run_report.specs.declared.compile_fault.CompileFault.TheVariants.{NoMemory};
 ghost use Rattle.awk_tokens.specs.Views.{spelled};
 ghost use Rattle.awk_grammar.specs.ViewStmt.{view_script};
 ghost use Rattle.mid_program.specs.View.{view_mid};
 
-use crate::fault::CompileFault;
 use crate::laws::parsed_scripts_are_placed;
 use crate::tree::tree_of;
 use awk_grammar::Script;
@@ -16,6 +15,7 @@ use awk_tokens::{Token, tokens};
 use folding::fold;
 use mid_code::to_mid;
 use mid_program::Mid;
+use run_report::CompileFault;
 use std::alloc::Global;
 use value_kinds::laws::found_lanes_leave_sorted;
 use value_kinds::{apply, infer};

@@ -4,9 +4,9 @@ ghost use Rattle.awk_text.specs.Escapes.{between};
 ghost use Rattle.awk_tokens.specs.Views.{spelled};
 ghost use Rattle.script_code.specs.Expressions.{AreFine, HasBad, IsBadAs, IsFine, expression_fault, is_ere};
 
-use crate::fault::CompileFault;
 use awk_tokens::{Token, TokenKind};
 use ere_syntax::{EreFault, read_ere};
+use run_report::CompileFault;
 use std::alloc::Global;
 
 /// What is between the slashes.

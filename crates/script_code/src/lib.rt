@@ -5,9 +5,8 @@
 
 mod code;
 mod expressions;
-mod fault;
 pub mod laws;
 mod tree;
 
 pub use code::{MAX_SCRIPT_BYTES, code_of};
-pub use fault::CompileFault;
+pub use run_report::CompileFault;

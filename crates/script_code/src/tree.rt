@@ -6,10 +6,10 @@ ghost use Rattle.awk_tokens.specs.Views.{spelled};
 ghost use Rattle.awk_grammar.specs.ViewStmt.{view_script};
 
 use crate::expressions::check_expressions;
-use crate::fault::CompileFault;
 use awk_grammar::Script;
 use awk_parse::parse;
 use awk_tokens::Token;
+use run_report::CompileFault;
 use std::alloc::Global;
 
 /// The script that these tokens are, whose constant expressions have trees.

@@ -34,8 +34,8 @@ use Rattle.module_writer.specs.Size.{module_size}
 use Rattle.agreement.specs.Sizes.Past.{IsPast}
 use Rattle.script_code.specs.Coded.{HasTokens, IsCodeOf, unboxed}
 use Rattle.script_code.specs.Refusals.{IsNotCoded}
-use Rattle.script_code.specs.declared.fault.CompileFault.{CompileFault}
-use Rattle.script_code.specs.declared.fault.CompileFault.TheVariants.{TooLarge, Token, Parse, Ere, Resolve, NoMemory}
+use Rattle.run_report.specs.declared.compile_fault.CompileFault.{CompileFault}
+use Rattle.run_report.specs.declared.compile_fault.CompileFault.TheVariants.{TooLarge, Token, Parse, Ere, Resolve, NoMemory}
 use Rattle.script_compiler.specs.Compiled.{HasPlaces, IsCompiled, IsQuiet, IsQuietByWords, KeepsNothing}
 use Rattle.script_compiler.specs.Counts.{HasNoBytes, IsPastCounts}
 use Rattle.script_compiler.specs.Refusals.{IsNotCompiled, IsPastLimits}

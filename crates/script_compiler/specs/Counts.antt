@@ -4,8 +4,8 @@ use Rattle.mid_program.specs.Mid.{Program}
 use Rattle.lower_layout.specs.Spans.{IsSmall}
 use Rattle.lower_modules.specs.Limits.{IsTooLarge}
 use Rattle.lowering.specs.Limits.{AreSmallEnough}
-use Rattle.script_code.specs.declared.fault.CompileFault.{CompileFault}
-use Rattle.script_code.specs.declared.fault.CompileFault.TheVariants.{TooLarge, NoMemory}
+use Rattle.run_report.specs.declared.compile_fault.CompileFault.{CompileFault}
+use Rattle.run_report.specs.declared.compile_fault.CompileFault.TheVariants.{TooLarge, NoMemory}
 use Rattle.script_compiler.specs.Refusals.{IsPastLimits}
 
 -- too many or too long names and texts, or a function past the limits, as the compiler counts them; or no bytes are its module

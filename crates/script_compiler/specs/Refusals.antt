@@ -7,8 +7,8 @@ use Rattle.lower_model.specs.Modules.{module_of}
 use Rattle.agreement.specs.Sizes.Past.{IsPast}
 use Rattle.script_code.specs.Coded.{HasTokens, IsCodeOf, most_script_bytes}
 use Rattle.script_code.specs.Refusals.{IsNotCoded}
-use Rattle.script_code.specs.declared.fault.CompileFault.{CompileFault}
-use Rattle.script_code.specs.declared.fault.CompileFault.TheVariants.{TooLarge}
+use Rattle.run_report.specs.declared.compile_fault.CompileFault.{CompileFault}
+use Rattle.run_report.specs.declared.compile_fault.CompileFault.TheVariants.{TooLarge}
 
 -- no bytes of the profile are its module
 abbrev pub IsPastLimits : Program → Type 0

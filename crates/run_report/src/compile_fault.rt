@@ -32,7 +32,7 @@ pub enum CompileFault {
 
 impl From<TokenFault> for CompileFault {
     ghost use Rattle.std.specs.Prelude.{◌≡◌};
-    ghost use Rattle.script_code.specs.Refusals.{of_tokens};
+    ghost use Rattle.run_report.specs.CompileFaults.{of_tokens};
 
     ghost from_gives = { λ fault e. e ≡ of_tokens fault };
 
@@ -46,7 +46,7 @@ impl From<TokenFault> for CompileFault {
 
 impl From<ParseFault> for CompileFault {
     ghost use Rattle.std.specs.Prelude.{◌≡◌};
-    ghost use Rattle.script_code.specs.Refusals.{of_tree};
+    ghost use Rattle.run_report.specs.CompileFaults.{of_tree};
 
     ghost from_gives = { λ fault e. e ≡ of_tree fault };
 
@@ -60,7 +60,7 @@ impl From<ParseFault> for CompileFault {
 
 impl From<ResolveFault> for CompileFault {
     ghost use Rattle.std.specs.Prelude.{◌≡◌};
-    ghost use Rattle.script_code.specs.Refusals.{of_names};
+    ghost use Rattle.run_report.specs.CompileFaults.{of_names};
 
     ghost from_gives = { λ fault e. e ≡ of_names fault };
 
