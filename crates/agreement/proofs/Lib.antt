@@ -9,3 +9,5 @@ pub mod QuietLemmas
 pub mod WordsLemmas
 pub mod RunsLemmas
 mod TwinsLemmas
+mod TextsLemmas
+mod InputLemmas

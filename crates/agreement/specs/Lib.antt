@@ -8,3 +8,5 @@ pub mod Spots
 pub mod Quiet
 pub mod Words
 pub mod Runs
+pub mod Texts
+pub mod Input

@@ -1,6 +1,7 @@
 //! Script and module agree: laws alone, each the contract of a function that does nothing.
 #![tactic(auto)]
 
+pub mod input;
 pub mod modules;
 pub mod passed;
 pub mod places;
@@ -8,6 +9,7 @@ pub mod quiet;
 pub mod runs;
 pub mod sizes;
 pub mod spots;
+pub mod texts;
 pub mod twins;
 pub mod typed;
 pub mod words;

@@ -1,0 +1,4 @@
+pub mod Kept
+pub mod Given
+pub mod Walked
+pub mod Made

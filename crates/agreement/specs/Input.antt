@@ -1,0 +1,2 @@
+pub mod MainInput
+pub mod Assignments

@@ -1,0 +1,3 @@
+pub mod Leftmost
+pub mod Substitutions
+pub mod Fields

@@ -1,8 +1,0 @@
-use Rattle.sem_laws.proofs.Fields.{fields, record_fields}
-use Rattle.sem_laws.proofs.texts.fields_are_parted.Goals as goal
-
-pub returns-clause-pieces : goal.returns-clause-pieces
-returns-clause-pieces c = fields
-
-pub returns-clause-of_record : goal.returns-clause-of_record
-returns-clause-of_record c = record_fields
