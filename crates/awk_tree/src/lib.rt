@@ -3,11 +3,14 @@
 //! The tokens of expressions and statements.
 //!
 //! The grammar of scripts as productions.
+//!
+//! The lines of the places of a script.
 #![tactic(auto)]
 
 mod check;
 mod check_stmt;
 pub mod laws;
+mod lines;
 mod printer;
 mod printer_stmt;
 mod writing;
@@ -19,4 +22,5 @@ pub use awk_grammar::{
     syntax_means_no_script, takes, well_formed_scripts_are_read,
 };
 pub use check_stmt::is_well_formed;
+pub use lines::{function_named, line_of};
 pub use printer::print_tokens;

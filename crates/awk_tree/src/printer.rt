@@ -22,7 +22,10 @@ fn push_names<'a>(out: &mut Vec<Printed<'a>>, names: &'a [Vec<u8>]) -> Result<()
     Ok(())
 }
 
-fn push_params<'a>(out: &mut Vec<Printed<'a>>, names: &'a [Vec<u8>]) -> Result<(), AllocError>
+pub(crate) fn push_params<'a>(
+    out: &mut Vec<Printed<'a>>,
+    names: &'a [Vec<u8>],
+) -> Result<(), AllocError>
     ensures { OnOk result
         (lexemes out.new.items ≡ lexemes out.old.items ++ print_params (view_names names.now)) }
 {
@@ -49,7 +52,7 @@ fn push_pattern<'a>(out: &mut Vec<Printed<'a>>, pattern: &'a Pattern) -> Result<
     }
 }
 
-fn push_item<'a>(out: &mut Vec<Printed<'a>>, item: &'a Item) -> Result<(), AllocError>
+pub(crate) fn push_item<'a>(out: &mut Vec<Printed<'a>>, item: &'a Item) -> Result<(), AllocError>
     ensures { OnOk result
         (lexemes out.new.items ≡ lexemes out.old.items ++ print_item (view_item item.now)) }
 {

@@ -83,7 +83,10 @@ fn push_simple<'a>(out: &mut Vec<Printed<'a>>, simple: &'a SimpleStmt) -> Result
     }
 }
 
-fn push_optional<'a>(out: &mut Vec<Printed<'a>>, e: &'a Option<Expr>) -> Result<(), AllocError>
+pub(crate) fn push_optional<'a>(
+    out: &mut Vec<Printed<'a>>,
+    e: &'a Option<Expr>,
+) -> Result<(), AllocError>
     ensures { OnOk result
         (lexemes out.new.items ≡ lexemes out.old.items ++ print_maybe (view_maybe e.now)) }
 {
@@ -93,7 +96,7 @@ fn push_optional<'a>(out: &mut Vec<Printed<'a>>, e: &'a Option<Expr>) -> Result<
     }
 }
 
-fn push_optional_simple<'a>(
+pub(crate) fn push_optional_simple<'a>(
     out: &mut Vec<Printed<'a>>,
     simple: &'a Option<SimpleStmt>,
 ) -> Result<(), AllocError>
@@ -107,7 +110,7 @@ fn push_optional_simple<'a>(
 }
 
 /// Adds a word and a condition in parentheses.
-fn push_condition<'a>(
+pub(crate) fn push_condition<'a>(
     out: &mut Vec<Printed<'a>>,
     keyword: Keyword,
     e: &'a Expr,
@@ -142,7 +145,7 @@ fn push_for_head<'a>(
 }
 
 /// Adds `for` and the parentheses in which an array is walked.
-fn push_walk_head<'a>(
+pub(crate) fn push_walk_head<'a>(
     out: &mut Vec<Printed<'a>>,
     key: &'a [u8],
     array: &'a [u8],
@@ -177,7 +180,7 @@ fn leaving_word(leaving: Leaving) -> Keyword
     }
 }
 
-fn push_jump(out: &mut Vec<Printed>, jump: Jump) -> Result<(), AllocError>
+pub(crate) fn push_jump(out: &mut Vec<Printed>, jump: Jump) -> Result<(), AllocError>
     ensures { OnOk result (lexemes out.new.items
         ≡ lexemes out.old.items ++ (jump_token (view_jump jump) ∷ (Semicolon ∷ []))) }
 {
@@ -185,7 +188,7 @@ fn push_jump(out: &mut Vec<Printed>, jump: Jump) -> Result<(), AllocError>
     mark(out, Punctuator::Semicolon)
 }
 
-fn push_leave<'a>(
+pub(crate) fn push_leave<'a>(
     out: &mut Vec<Printed<'a>>,
     leaving: Leaving,
     e: &'a Option<Expr>,
@@ -200,7 +203,10 @@ fn push_leave<'a>(
 }
 
 /// Adds a simple statement and its end.
-fn push_ended<'a>(out: &mut Vec<Printed<'a>>, simple: &'a SimpleStmt) -> Result<(), AllocError>
+pub(crate) fn push_ended<'a>(
+    out: &mut Vec<Printed<'a>>,
+    simple: &'a SimpleStmt,
+) -> Result<(), AllocError>
     ensures { OnOk result (lexemes out.new.items ≡ lexemes out.old.items
         ++ (print_plain (view_simple simple.now) ++ (Semicolon ∷ []))) }
 {
