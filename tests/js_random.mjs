@@ -4,6 +4,7 @@ import { mkdirSync, readFileSync, readdirSync, writeFileSync } from "node:fs";
 
 import { bytesOfText, filesInMemory, load, run, textOfBytes } from "../js/core/index.mjs";
 import { linesOf } from "../js/core/places.mjs";
+import { fenced } from "../js/node/index.mjs";
 import { Counts, compiled, each, ran } from "./js_compare.mjs";
 import { randomScripts } from "./random_scripts.mjs";
 
@@ -25,13 +26,16 @@ async function byProgram(program, folder, words) {
   return { status, out, name: said.trim().replace(/^awkwasm: /, ""), files };
 }
 
+/** Whether a name opens in a folder of the machine that has no other folders. */
+const opens = (name) => name !== "" && name !== "." && name !== ".." && !/[/\0]/.test(name) && name.length < 256;
+
 /** The package's run of it. */
 function byPackage(bytes, words) {
   let out = "";
   const files = filesInMemory({ named: FILES, standard: INPUT, output: (part) => { out += textOfBytes(part); } });
   const environment = [...ENVIRONMENT, ["PATH", process.env.PATH]].sort(([a], [b]) => (a < b ? -1 : 1));
   const invocation = { operands: words, assigns: [["x", "3"]], environment };
-  const end = run(load(bytes, { steps: STEPS }), invocation, files);
+  const end = run(load(bytes, { steps: STEPS }), invocation, fenced({ mayRead: opens, mayWrite: opens }, files));
   const held = new Map([...FILES, ...files.written().map(([name, text]) => [name, textOfBytes(text)])]);
   return { kind: end.kind, status: end.status, out, name: end.name ?? "", files: [...held].sort(([a], [b]) => (a < b ? -1 : 1)) };
 }

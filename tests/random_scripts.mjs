@@ -14,7 +14,7 @@ export function chanceOf(seed) {
 // parted by two spaces
 const ATOMS = String.raw`x  y  z  u  0  1  2  3  -1  7  "a b"  "3"  "0.5"  " 12 "  ""  "b"  9007199254740992  $1  $0  $2  NF  NR  FNR  $NF  $(NF-1)
   FILENAME  a["k"]  a[x]  b[1, y]  length  length(y)  f(x)  f(1, a)  g()  h(x, y)  substr($0, 2)  substr("hello", x, 2)  split($0, a)
-  split("p:q:r", b, ":")  sub(/a/, "<&>")  gsub(/b*/, "c", y)  gsub("[ab]", "x")  sprintf("%d|%s", x, y)  sprintf("%5.2f|%-4s|%c", 3, y, 65)  int(x / 2)
+  split("p:q:r", b, ":")  sub(/a/, "<&>")  gsub(/b+/, "c", y)  gsub("[ab]", "x")  sprintf("%d|%s", x, y)  sprintf("%5.2f|%-4s|%c", 3, y, 65)  int(x / 2)
   int("12abc")  ("k" in a)  ((1, y) in b)  x++  --y  ++x  y--  -x  !y  +z  match($0, /[ab]+/)  RSTART  RLENGTH  close("f")  close("out")
   index($0, x)  toupper(y)  tolower($1)  (getline z < "f")  (getline < "g")  getline  (getline y)  ARGC  ARGV[1]  ENVIRON["E"]  v  fflush("out")
   x ~ y  $0 ~ /a|^b/  (x > y)  (x < "b")  ($1 == $2)  "\n\t\101"  /b/`.trim().split(/\s\s+/);

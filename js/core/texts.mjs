@@ -50,12 +50,13 @@ export function piecesOf(separator, isEre, newlines, t) {
 }
 
 /** What replaces a match: an ampersand is the match, and after a backslash itself, as a backslash is. */
-function replacement(matched, by) {
-  return by.replace(/\\([&\\])|&/g, (whole, c) => c ?? matched);
+function replacementOf(by) {
+  return /[&\\]/.test(by) ? (matched) => by.replace(/\\([&\\])|&/g, (whole, c) => c ?? matched) : () => by;
 }
 
 /** The text with its first match replaced, or all, and how many there were. An empty match directly after a match does not count. */
 export function substituted(ere, by, t, all) {
+  const replacement = replacementOf(by);
   let out = "";
   let from = 0;
   let last = -1;
@@ -66,7 +67,7 @@ export function substituted(ere, by, t, all) {
     const [start, end] = match;
     at = end === start ? end + 1 : end;
     if (start === end && start === last) continue;
-    out = limited(out + t.slice(from, start) + replacement(t.slice(start, end), by));
+    out = limited(out + t.slice(from, start) + replacement(t.slice(start, end)));
     from = last = end;
     count++;
     if (!all) break;

@@ -2,7 +2,8 @@
 
 import { readFileSync, writeSync } from "node:fs";
 
-import { LoadError, environmentOf, fenced, files, load, run, utf8 } from "./index.mjs";
+import { LoadError, fenced, files, load, run, utf8 } from "./index.mjs";
+import { areUtf8, environment } from "./words.mjs";
 
 const USAGE = `usage: node awk.mjs [-F TEXT] [-v NAME=TEXT].. [--no-files | --read-only | --only-operands].. MODULE WORDS..
 
@@ -85,6 +86,7 @@ function message(text) {
 
 /** Runs the module that the words ask for, and answers the status. */
 function runWords(words) {
+  if (!areUtf8(words)) throw new UsageError("a word is not UTF-8");
   const request = requestOf(words);
   if (request.help) {
     files.output.write(new TextEncoder().encode(USAGE));
@@ -92,7 +94,7 @@ function runWords(words) {
   }
   const { operands, assigns, fences } = request;
   const within = fences.reduce((inner, fence) => fenced(fence, inner), files);
-  const end = run(loaded(request.module), { operands, assigns, environment: environmentOf() }, within);
+  const end = run(loaded(request.module), { operands, assigns, environment: environment() }, within);
   if (end.name !== null) message(`awkwasm: ${end.name}\n`);
   return end.status;
 }

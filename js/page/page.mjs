@@ -1,6 +1,6 @@
 // The page: shows a script, takes input, and shows what a run of its module prints and how it ends.
 
-import { linesOf, shown, start, utf8 } from "../browser/index.mjs";
+import { linesOf, shown, start } from "../browser/index.mjs";
 import { MEANINGS } from "./meanings.mjs";
 import { programs, workerOf } from "./programs.mjs";
 
@@ -44,11 +44,10 @@ async function openProgram(files) {
   const [wasm, awk] = [ending(".wasm"), ending(".awk")];
   const module = wasm === undefined ? state.program?.module : new Uint8Array(await wasm.arrayBuffer());
   if (module === undefined) return;
-  const script = awk === undefined ? null : shown(shownBytes(await awk.arrayBuffer()));
+  const script = awk === undefined ? null : await awk.text();
+  $("example").selectedIndex = -1;
   showProgram({ module, script, input: "" });
 }
-
-const shownBytes = (buffer) => utf8(new TextDecoder().decode(buffer));
 
 // The input
 

@@ -53,6 +53,13 @@ test("a call through a link", () => {
   assert.equal(execFileSync(process.execPath, [`${folder}/link`, path("copy")], { cwd: folder, input: "a\n", encoding: "utf8" }), "1: a\n");
 });
 
+test("words that are not UTF-8 are refused, and such entries of the environment are left out", () => {
+  const status = (word, more = "") => spawnSync("sh", ["-c", `${more} '${process.execPath}' '${awk}' '${path("half")}' "${word}"`], { cwd: folder }).status;
+  assert.equal(status("$(printf '\\377')"), 8);
+  assert.equal(status("n=\u{fffd}"), 0);
+  assert.equal(status("n=5", "env X=$(printf '\\377')"), 0);
+});
+
 test("lines come out as they come in", async () => {
   const child = spawn(process.execPath, [awk, path("copy")], { cwd: folder });
   const next = () => new Promise((resolve) => child.stdout.once("data", (part) => resolve(String(part))));
