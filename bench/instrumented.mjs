@@ -186,7 +186,7 @@ function listen(table) {
 const CONFIRMED = new Map([
   [numbers, ({ tables }) => tables.every(({ given, first }) => given.slice(LAST - first).every((it) => it < LAST && (it - FIRST) % APART === 0))],
   [counted, ({ calls, output }) => output.endsWith(`\n${calls - PRINTING}\n`)],
-  [alive, ({ tables, output }) => output.endsWith(`\n${tables.map(({ held }) => held.size - MADE).join(" ")}\n`)],
+  [alive, ({ tables, output }) => output.endsWith(`\n${tables.map(({ live }) => live - MADE).join(" ")}\n`)],
 ]);
 
 /** Runs a module over the host of js/core; whether it gives this status and output, and the host confirms it. */

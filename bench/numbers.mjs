@@ -28,7 +28,7 @@ function run(numbers) {
   };
   const end = runModule(bytes, job, files, host);
   const kept = [output, ...files.written().map(([name, text]) => [name, textOfBytes(text)])];
-  const live = [host.values, host.arrays, host.iterators].map((table) => table.held.size);
+  const live = [host.values, host.arrays, host.iterators].map((table) => table.live);
   return { told: JSON.stringify([end, kept, calls]), live, calls: calls.length };
 }
 

@@ -7,6 +7,7 @@ import { parseArgs } from "node:util";
 import { Worker, isMainThread } from "node:worker_threads";
 
 import { STACK } from "../js/node/start.mjs";
+import { compareCalls } from "./js_calls.mjs";
 import { compareCommandLines } from "./js_command_lines.mjs";
 import { compareExamples } from "./js_examples.mjs";
 import { compareRandom } from "./js_random.mjs";
@@ -37,7 +38,7 @@ async function main() {
   const words = given();
   let wrong = 0;
   try {
-    for (const compare of [compareRows, compareExamples, compareCommandLines, compareRandom]) wrong += await differencesOf(compare, words);
+    for (const compare of [compareRows, compareExamples, compareCommandLines, compareCalls, compareRandom]) wrong += await differencesOf(compare, words);
   } finally {
     rmSync(words.work, { recursive: true });
   }

@@ -16,7 +16,7 @@ const ENVIRONMENT = [["E", "7"], ["F", " e "]];
 const STEPS = 200_000;
 
 /** The program's run of a module in a folder: what it printed, said and wrote. */
-async function byProgram(program, folder, words) {
+export async function byProgram(program, folder, words) {
   const here = `${folder}/here`;
   mkdirSync(here);
   for (const [name, text] of FILES) writeFileSync(`${here}/${name}`, text);
@@ -30,7 +30,7 @@ async function byProgram(program, folder, words) {
 const opens = (name) => name !== "" && name !== "." && name !== ".." && !/[/\0]/.test(name) && name.length < 256;
 
 /** The package's run of it. */
-function byPackage(bytes, words) {
+export function byPackage(bytes, words) {
   let out = "";
   const files = filesInMemory({ named: FILES, standard: INPUT, output: (part) => { out += textOfBytes(part); } });
   const environment = [...ENVIRONMENT, ["PATH", process.env.PATH]].sort(([a], [b]) => (a < b ? -1 : 1));
@@ -40,7 +40,7 @@ function byPackage(bytes, words) {
   return { kind: end.kind, status: end.status, out, name: end.name ?? "", files: [...held].sort(([a], [b]) => (a < b ? -1 : 1)) };
 }
 
-function difference(theirs, ours) {
+export function difference(theirs, ours) {
   if (theirs.status === 4) return ours.status !== 4 && `ends with ${ours.name}, where the program runs on`;
   for (const what of ["status", "name", "out", "files"]) {
     const [due, got] = [theirs[what], ours[what]].map((it) => JSON.stringify(it));

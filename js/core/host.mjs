@@ -45,21 +45,23 @@ const LETS_GO = new Set(["drop", "iter_free", "free_array"]);
 /** What numbers stand for. A number that was given up comes again. */
 class Table {
   constructor(first) {
-    this.held = new Map(first.entries());
+    this.held = first;
+    this.live = first.length;
     this.next = first.length;
     this.step = 1;
     this.free = [];
   }
 
   get(number) {
-    const held = this.held.get(number);
+    const held = this.held[number];
     if (held === undefined) throw new Trap("BadHandle");
     return held;
   }
 
   take(number) {
     const held = this.get(number);
-    this.held.delete(number);
+    this.held[number] = undefined;
+    this.live--;
     this.free.push(number);
     return held;
   }
@@ -68,7 +70,8 @@ class Table {
     const number = this.free.pop() ?? this.next;
     if (number >= MOST_NUMBERS) throw new NoMemory("NoMemory");
     if (number === this.next) this.next += this.step;
-    this.held.set(number, held);
+    this.held[number] = held;
+    this.live++;
     return number;
   }
 }
@@ -431,8 +434,10 @@ export class Host {
 
   /** The arguments that words stand for, from left to right. */
   decoded(letters, words) {
-    if (letters[0] !== "p") return letters.map((letter, n) => this.decode(letter, words[n]));
-    return [this.textAt(words[0], words[1]), ...letters.slice(1).map((letter, n) => this.decode(letter, words[n + 2]))];
+    const given = [];
+    let at = 0;
+    for (const letter of letters) given.push(letter === "p" ? this.textAt(words[at++], words[at++]) : this.decode(letter, words[at++]));
+    return given;
   }
 
   encode(letter, answer) {

@@ -34,7 +34,8 @@ class MemorySource {
 
   read() {
     if (this.at >= this.file.length) return null;
-    const part = this.file.bytes.slice(this.at, Math.min(this.at + PART, this.file.length));
+    // a copy, as the file may change: slice of Node's arrays would share its bytes
+    const part = new Uint8Array(this.file.bytes.subarray(this.at, Math.min(this.at + PART, this.file.length)));
     this.at += part.length;
     return part;
   }

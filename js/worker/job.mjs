@@ -39,7 +39,7 @@ function gathered(post) {
   };
   const write = (bytes) => {
     if (length === 0) since = performance.now();
-    parts.push(bytes.slice());
+    parts.push(new Uint8Array(bytes));
     length += bytes.length;
     if (length >= PART || performance.now() - since > LONGEST_WAIT) flush();
   };
@@ -73,6 +73,6 @@ export function runJob({ module, invocation, files, standard, limits }, post) {
   const began = performance.now();
   const end = ended(module, invocation, within, limits);
   output.flush();
-  const written = memory.written().map(([name, bytes]) => [name, bytes.slice()]);
+  const written = memory.written().map(([name, bytes]) => [name, new Uint8Array(bytes)]);
   post({ end: { ...end, isOutputFull: within.isReached(), milliseconds: performance.now() - began, written } });
 }
