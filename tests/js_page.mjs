@@ -11,6 +11,8 @@ import { Chromium } from "./chromium.mjs";
 
 const top = fileURLToPath(new URL("..", import.meta.url));
 const TYPES = { html: "text/html", css: "text/css", mjs: "text/javascript", wasm: "application/wasm" };
+// with these a page may share memory with its workers
+const ISOLATED = { "cross-origin-opener-policy": "same-origin", "cross-origin-embedder-policy": "require-corp" };
 const TEST = `${top}js/test/modules`;
 
 /** A server of the repository's files, on this machine alone. */
@@ -19,7 +21,7 @@ function serve() {
     const path = new URL(request.url, "http://localhost").pathname;
     try {
       const body = readFileSync(`${top}${path.slice(1)}`);
-      answer.writeHead(200, { "content-type": TYPES[path.split(".").pop()] ?? "text/plain" }).end(body);
+      answer.writeHead(200, { "content-type": TYPES[path.split(".").pop()] ?? "text/plain", ...ISOLATED }).end(body);
     } catch {
       answer.writeHead(404).end();
     }
@@ -124,6 +126,28 @@ const CHECKS = {
   },
 };
 
+// In a page of a server: a stream is given a line each time that the line before it has come out.
+const STREAM = `(async () => {
+  const { start } = await import("/js/browser/index.mjs");
+  const module = await (await fetch("/js/test/modules/copy.wasm")).arrayBuffer();
+  const seen = [];
+  let give, told;
+  const standard = new ReadableStream({ start(controller) { give = controller; } });
+  const { end } = start({ module, standard, onOutput: (bytes) => { seen.push(new TextDecoder().decode(bytes)); told(); } });
+  for (const line of ["a\\n", "b\\n"]) {
+    const out = new Promise((resolve) => { told = resolve; });
+    give.enqueue(new TextEncoder().encode(line));
+    await out;
+  }
+  give.close();
+  return JSON.stringify([crossOriginIsolated, seen, (await end).kind]);
+})()`;
+
+/** What only a page of a server can do. */
+async function checkStream(page) {
+  assert.equal(await page.value(STREAM), JSON.stringify([true, ["1: a\n", "2: b\n"], "ended"]));
+}
+
 /** A screenshot of a run that has printed something and ended by an error. */
 async function shot(page, path) {
   await open(page, "half");
@@ -141,7 +165,8 @@ async function main() {
     execFileSync(process.execPath, [`${top}js/page/make.mjs`, `${work}/page.html`]);
     const urls = [["from a server", `http://127.0.0.1:${server.address().port}/js/page/index.html`], ["from disk", pathToFileURL(`${work}/page.html`).href]];
     for (const [where, url] of urls) {
-      for (const [what, check] of Object.entries(CHECKS)) {
+      const checks = url.startsWith("http") ? { ...CHECKS, "a stream is read as it comes": checkStream } : CHECKS;
+      for (const [what, check] of Object.entries(checks)) {
         const page = await chromium.page(url);
         await page.until(ready);
         const error = await check(page).then(() => null, (it) => it);

@@ -18,6 +18,9 @@ const EMPTY = 0x40;
 const MOST_FRAMES = 10_000;
 const MOST_NESTED = 4_000;
 const MOST_BYTES = 16 * 2 ** 20;
+const MOST_PAGES = 256;
+// engines take no more
+const MOST_LOCALS = 50_000;
 
 /** The names under which a changed module exports what the run looks at. */
 export const OWN = { memory: "awkwasm memory", start: "awkwasm start", depth: "awkwasm depth", place: "awkwasm place", steps: "awkwasm steps" };
@@ -91,11 +94,23 @@ class Changes {
     this.export(OWN.depth, OF_GLOBAL, this.depth);
     this.export(OWN.place, OF_GLOBAL, this.place);
     this.export(OWN.steps, OF_GLOBAL, this.left);
-    if (this.listed(MEMORY, () => {}).length > 0) this.export(OWN.memory, OF_MEMORY, 0);
+    this.memory();
     if (start !== undefined) this.export(OWN.start, OF_FUNCTION, start);
     this.parts.sections.delete(START);
     this.code();
     return moduleOf(this.parts);
+  }
+
+  /** Exports the memory, and lets it grow to 256 pages at most. */
+  memory() {
+    const old = this.cursor(MEMORY);
+    if (old === undefined || old.u32() === 0) return;
+    const isBounded = old.byte() === 1;
+    const least = old.u32();
+    const most = isBounded ? old.u32() : MOST_PAGES;
+    if (least > MOST_PAGES) throw new LoadError("TooLarge");
+    this.parts.sections.set(MEMORY, Uint8Array.from([1, 1, ...u32(least), ...u32(Math.min(most, MOST_PAGES))]));
+    this.export(OWN.memory, OF_MEMORY, 0);
   }
 
   code() {
@@ -116,15 +131,18 @@ class Changes {
     return [...none, 0x23, ...left, 0x42, 0x7f, 0x7c, 0x24, ...left];
   }
 
+  /** The beginning of a function: its depth is counted, and the caller's place is saved in a local, if there is one for it. */
   enter(saved) {
     const depth = u32(this.depth);
     const deeper = [0x23, ...depth, 0x41, 1, 0x6a, 0x24, ...depth, 0x23, ...depth, 0x41, ...s64(MOST_FRAMES), 0x4b, 0x04, EMPTY, 0x00, 0x0b];
-    return [...deeper, ...this.tick(), 0x23, ...u32(this.place), 0x21, ...u32(saved)];
+    const save = saved < MOST_LOCALS ? [0x23, ...u32(this.place), 0x21, ...u32(saved)] : [];
+    return [...deeper, ...this.tick(), ...save];
   }
 
   leave(saved) {
     const depth = u32(this.depth);
-    return [0x20, ...u32(saved), 0x24, ...u32(this.place), 0x23, ...depth, 0x41, 0x7f, 0x6a, 0x24, ...depth];
+    const restore = saved < MOST_LOCALS ? [0x20, ...u32(saved), 0x24, ...u32(this.place)] : [];
+    return [...restore, 0x23, ...depth, 0x41, 0x7f, 0x6a, 0x24, ...depth];
   }
 
   /** A function's body in a block of its own, so that it is left in one way. */
@@ -136,9 +154,10 @@ class Changes {
       return { count, type: code.byte() };
     });
     const saved = locals.reduce((sum, { count }) => sum + count, type.params.length);
-    const declared = [...locals, { count: 1, type: I32 }].flatMap(({ count, type: of }) => [...u32(count), of]);
-    const own = this.instructions(code);
-    return [u32(locals.length + 1), declared, this.enter(saved), [OP.block, type.results[0] ?? EMPTY], ...own, this.leave(saved), [OP.end]];
+    const own = saved < MOST_LOCALS ? [{ count: 1, type: I32 }] : [];
+    const declared = [...locals, ...own].flatMap(({ count, type: of }) => [...u32(count), of]);
+    const block = [OP.block, type.results[0] ?? EMPTY];
+    return [u32(locals.length + own.length), declared, this.enter(saved), block, ...this.instructions(code), this.leave(saved), [OP.end]];
   }
 
   instructions(code) {

@@ -29,16 +29,11 @@ export class Record {
   /** Sets `$0`; FieldNumber, and what FS may fail with. */
   setWhole(t, fs, rs) {
     const newlines = rs === "" && fs !== "";
-    const separator = { fs, newlines };
-    if (fs.length > 1 || t.length >= MOST_FIELDS) {
-      const pieces = piecesOf(fs, false, newlines, t);
-      fieldNumber(BigInt(pieces.length));
-      this.fields = pieces;
-      this.separator = null;
-    } else {
-      this.fields = null;
-      this.separator = separator;
-    }
+    const mayFail = fs.length > 1 || t.length >= MOST_FIELDS;
+    const fields = mayFail ? piecesOf(fs, false, newlines, t) : null;
+    if (mayFail) fieldNumber(BigInt(fields.length));
+    this.fields = fields;
+    this.separator = { fs, newlines };
     this.value = strnum(t);
     this.length = -1;
   }

@@ -124,3 +124,24 @@ test("a module that is loaded once runs often", () => {
   const loaded = load(module("copy"));
   for (const text of ["a", "b\nc"]) assert.equal(run(loaded, {}, filesInMemory({ standard: text })).kind, "ended");
 });
+
+/** A module without imports: a function of these locals, `main`, and a memory. */
+function plain({ memory, locals, main }) {
+  const body = [...locals, ...main, 0x0b];
+  const size = [(body.length & 127) | 128, body.length >> 7];
+  const code = [1, ...size, ...body];
+  return Uint8Array.from([
+    0, 0x61, 0x73, 0x6d, 1, 0, 0, 0, ...section(1, [1, 0x60, 0, 1, I32]), ...section(3, [1, 0]), ...section(5, memory), ...section(7, [1, ...named("main"), 0, 0]),
+    ...section(10, code),
+  ]);
+}
+
+test("memory grows to 256 pages at most, and a function may have 50,000 locals", () => {
+  const grow = (by) => [0x41, ...by, 0x40, 0, 0x41, 1, 0x6a];
+  const statusOf = (given) => run(plain({ locals: [0], ...given }), {}, filesInMemory()).status;
+  assert.equal(statusOf({ memory: [1, 0, 1], main: grow([0xff, 1]) }), 2);
+  assert.equal(statusOf({ memory: [1, 0, 1], main: grow([0x80, 2]) }), 0);
+  assert.equal(statusOf({ memory: [1, 1, 1, 2], main: grow([2]) }), 0);
+  assert.throws(() => statusOf({ memory: [1, 0, 0x81, 2], main: grow([1]) }), new LoadError("TooLarge"));
+  assert.equal(statusOf({ memory: [1, 0, 0], locals: [1, 0xd0, 0x86, 3, I64], main: [0x41, 9] }), 9);
+});
