@@ -14,7 +14,7 @@
 //     node instrumented.mjs answers [PROGRAM]    prints their answers, for crates/test_scripts/stdout
 //
 // PROGRAM is awkwasm, which compiles the scripts, and finds N; without it ../awkwasm is taken. Each instrumented module is run here over the host of
-// examples/embedding too. The gate runs the rows alone.
+// js/core too. The gate runs the rows alone.
 
 import { execFileSync, spawnSync } from "node:child_process";
 import { mkdtempSync, readFileSync, rmSync, writeFileSync } from "node:fs";
@@ -22,7 +22,7 @@ import { tmpdir } from "node:os";
 import { argv, exit } from "node:process";
 import { fileURLToPath } from "node:url";
 
-import { Host, runModule } from "../examples/embedding/host.mjs";
+import { Host, filesInMemory, run as runModule, textOfBytes } from "../js/core/index.mjs";
 import { I32, I64, Module, code } from "./wasm.mjs";
 
 const top = fileURLToPath(new URL("..", import.meta.url));
@@ -186,21 +186,20 @@ function listen(table) {
 const CONFIRMED = new Map([
   [numbers, ({ tables }) => tables.every(({ given, first }) => given.slice(LAST - first).every((it) => it < LAST && (it - FIRST) % APART === 0))],
   [counted, ({ calls, output }) => output.endsWith(`\n${calls - PRINTING}\n`)],
-  [alive, ({ tables, output }) => output.endsWith(`\n${tables.map(({ held }) => held.size - MADE).join(" ")}\n`)],
+  [alive, ({ tables, output }) => output.endsWith(`\n${tables.map(({ live }) => live - MADE).join(" ")}\n`)],
 ]);
 
-/** Runs a module over the host of examples/embedding; whether it gives this status and output, and the host confirms it. */
+/** Runs a module over the host of js/core; whether it gives this status and output, and the host confirms it. */
 function isGiven(how, module, input, status, wanted) {
   let output = "";
-  const io = { standard: () => ({ rest: input, fails: false }), write: (_, bytes) => { output += bytes.toString("latin1"); } };
-  const job = { operands: [], assigns: [], environment: [] };
-  const host = new Host(job, io);
+  const files = filesInMemory({ standard: input, output: (part) => { output += textOfBytes(part); } });
+  const host = new Host({}, files);
   const tables = [host.values, host.arrays, host.iterators];
   tables.forEach(listen);
   const call = host.call.bind(host);
   let calls = 0;
   host.call = (...words) => (calls++, call(...words));
-  const end = runModule(module, job, io, host);
+  const end = runModule(module, {}, files, host);
   return end.status === status && output === wanted && CONFIRMED.get(how)({ tables, calls, output });
 }
 

@@ -1,0 +1,115 @@
+// The command line of awk.mjs. Its words and statuses are those of `awkwasm exec`.
+
+import { readFileSync, writeSync } from "node:fs";
+
+import { LoadError, fenced, files, load, run, utf8 } from "./index.mjs";
+import { areUtf8, environment } from "./words.mjs";
+
+const USAGE = `usage: node awk.mjs [-F TEXT] [-v NAME=TEXT].. [--no-files | --read-only | --only-operands].. MODULE WORDS..
+
+Runs a module that awkwasm compiled. WORDS are files to read, - for the standard input, and assignments NAME=TEXT.
+`;
+const REFUSED = 3;
+const WRONG_WORDS = 8;
+
+/** The words of the command line can not be used. */
+class UsageError extends Error {}
+
+/** The value of an option, which is attached to it or the next word. */
+function valueOf(option, attached, words) {
+  if (attached !== "") return attached;
+  if (words.length === 0) throw new UsageError(`a value is missing after ${option}`);
+  return words.shift();
+}
+
+function pairOf(assignment) {
+  const at = assignment.indexOf("=");
+  return at < 0 ? ["", assignment] : [assignment.slice(0, at), assignment.slice(at + 1)];
+}
+
+const FENCES = {
+  __proto__: null,
+  "--no-files": () => ({}),
+  "--read-only": () => ({ mayRead: () => true }),
+  "--only-operands": (operands) => ({ mayRead: (name) => operands.includes(name) }),
+};
+
+/** Reads one option off the front; false where there is none. */
+function takeOption(words, found) {
+  const word = words[0] ?? "";
+  if (!word.startsWith("-") || word === "-") return false;
+  words.shift();
+  if (word === "--") {
+    found.ended = true;
+    return false;
+  }
+  const [option, attached] = [word.slice(0, 2), word.slice(2)];
+  if (option === "-v") found.assigns.push(pairOf(valueOf(option, attached, words)));
+  else if (option === "-F") found.separator = valueOf(option, attached, words);
+  else if (FENCES[word] !== undefined) found.fences.push(FENCES[word]);
+  else if (word === "--help") found.help = true;
+  else throw new UsageError(`unknown option ${word}`);
+  return true;
+}
+
+/** The request of a command line: { module, invocation, fences } or { help }. Words are ordinary strings, and texts come out. */
+export function requestOf(given) {
+  const words = [...given];
+  const found = { assigns: [], separator: null, fences: [], help: false, ended: false };
+  while (takeOption(words, found));
+  if (found.help) return { help: true };
+  const module = words.shift();
+  if (module === undefined) throw new UsageError("the module is missing");
+  const dashes = found.ended ? -1 : words.indexOf("--");
+  if (dashes >= 0) words.splice(dashes, 1);
+  if (found.separator !== null) found.assigns.push(["FS", found.separator]);
+  const operands = words.map(utf8);
+  return { module, operands, assigns: found.assigns.map((pair) => pair.map(utf8)), fences: found.fences.map((fence) => fence(operands)) };
+}
+
+function loaded(path) {
+  try {
+    return load(readFileSync(path));
+  } catch (error) {
+    if (error instanceof LoadError || error instanceof WebAssembly.CompileError) throw error;
+    throw new UsageError(`cannot read ${path}`);
+  }
+}
+
+function message(text) {
+  try {
+    writeSync(2, text);
+  } catch {
+    // a standard error that fails changes no status
+  }
+}
+
+/** Runs the module that the words ask for, and answers the status. */
+function runWords(words) {
+  if (!areUtf8(words)) throw new UsageError("a word is not UTF-8");
+  const request = requestOf(words);
+  if (request.help) {
+    files.output.write(new TextEncoder().encode(USAGE));
+    return 0;
+  }
+  const { operands, assigns, fences } = request;
+  const within = fences.reduce((inner, fence) => fenced(fence, inner), files);
+  const end = run(loaded(request.module), { operands, assigns, environment: environment() }, within);
+  if (end.name !== null) message(`awkwasm: ${end.name}\n`);
+  return end.status;
+}
+
+/** The status of a command line; errors go to the standard error. */
+export function main(words) {
+  try {
+    return runWords(words);
+  } catch (error) {
+    if (error instanceof LoadError || error instanceof WebAssembly.CompileError) {
+      message(`awkwasm: ${error.message}\n`);
+      return REFUSED;
+    }
+    if (!(error instanceof UsageError)) throw error;
+    message(`awk.mjs: ${error.message}\n\n${USAGE}`);
+    return WRONG_WORDS;
+  }
+}

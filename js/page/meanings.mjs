@@ -1,0 +1,25 @@
+// What the names of errors mean, in a sentence.
+
+export const MEANINGS = {
+  __proto__: null,
+  Range: "A number is below -2^53 or above 2^53.",
+  Fraction: "A text is used as a number, and that number is not whole. int() cuts it.",
+  DivisionByZero: "A divisor is 0, or 0 has a negative exponent.",
+  Inexact: "A quotient is not whole. int(a / b) is the quotient without its rest.",
+  FieldNumber: "The number of a field is below 0 or above 1,048,576.",
+  Format: "A format of printf is malformed, or an argument for it is missing.",
+  BadEre: "A text is used as a regular expression and is not one.",
+  EreTooLarge: "A regular expression is too large or nested too deeply.",
+  TextLimit: "A text would be longer than 64 MiB.",
+  OpenInput: "A file that is to be read is not among the input files.",
+  ReadFailed: "Reading an input failed.",
+  OpenOutput: "A file that is to be written did not open.",
+  WriteFailed: "A write failed.",
+  TooManyStreams: "More than 256 files are open at once.",
+  NextOutside: "A function called next outside the actions for records.",
+  BadAssignment: "An assignment among the words names something that can not be assigned to.",
+  Exhausted: "Calls of functions are nested too deeply.",
+  OutOfSteps: "The limit on steps is reached.",
+  OutOfTime: "The time limit is reached.",
+  NoMemory: "Memory ran out.",
+};

@@ -1,0 +1,147 @@
+import assert from "node:assert/strict";
+import { readFileSync, readdirSync } from "node:fs";
+import { test } from "node:test";
+
+import { LoadError, filesInMemory, linesOf, load, run, shown, sourceOf, textOfBytes, utf8, withMostOutput } from "awkwasm/core";
+
+const file = (name) => readFileSync(new URL(`./modules/${name}`, import.meta.url));
+const module = (name) => file(`${name}.wasm`);
+
+/** A run over files in memory: how it ended, what it printed and wrote. */
+function ran(name, { limits, files = {}, ...invocation } = {}) {
+  let out = "";
+  const memory = filesInMemory({ ...files, output: (part) => { out += textOfBytes(part); } });
+  const end = run(load(module(name), limits), invocation, memory);
+  return { end, out, written: memory.written().map(([it, bytes]) => [it, textOfBytes(bytes)]) };
+}
+
+test("the core and the browser's part import nothing of Node.js", () => {
+  for (const folder of ["core", "worker", "browser", "page"]) {
+    const names = readdirSync(new URL(`../${folder}`, import.meta.url)).filter((name) => name.endsWith(".mjs") && name !== "make.mjs");
+    for (const name of names) {
+      const text = readFileSync(new URL(`../${folder}/${name}`, import.meta.url), "utf8");
+      assert.doesNotMatch(text, /from "node:|from "fs"|\bprocess\./, `${folder}/${name}`);
+    }
+  }
+});
+
+test("a module prints and writes", () => {
+  const { end, out, written } = ran("copy", { files: { standard: "a\nb" } });
+  assert.deepEqual(end, { kind: "ended", status: 0, name: null });
+  assert.equal(out, "1: a\n2: b\n");
+  assert.deepEqual(written, [["out", "a\nb\n"]]);
+});
+
+test("an error has its program point, and what was being read", () => {
+  const { end, out } = ran("half", { operands: ["f"], files: { named: [["f", "8\n7\n6\n"]] } });
+  assert.equal(out, "4\n");
+  assert.deepEqual([end.kind, end.status, end.name], ["fault", 2, "Inexact"]);
+  assert.deepEqual(end.reading, { nr: "2", fnr: "2", filename: "f", record: "7" });
+  const functions = linesOf(file("half.awk").toString());
+  assert.equal(functions[end.place.function].name, "half");
+  assert.equal(functions[end.place.function].lines[end.place.point], 2);
+});
+
+test("a limit of steps ends a script that goes on for ever", () => {
+  const { end } = ran("forever", { limits: { steps: 10_000 } });
+  assert.deepEqual([end.kind, end.status, end.name], ["steps", 4, "OutOfSteps"]);
+  assert.equal(ran("copy", { limits: { steps: 10_000 }, files: { standard: "a\n" } }).end.kind, "ended");
+});
+
+test("a write past the limit on output fails after what fits", () => {
+  let out = "";
+  const files = withMostOutput(filesInMemory({ output: (part) => { out += textOfBytes(part); } }), 10);
+  const end = run(module("endless"), {}, files);
+  assert.deepEqual([end.name, out, files.isReached()], ["WriteFailed", "a line\na l", true]);
+});
+
+test("input in parts gives the records of the whole", () => {
+  const text = "\n\na b\nc\n\n\nd e\n\nf\n";
+  const whole = ran("paragraphs", { files: { standard: text, named: [["f", "x\n\n\ny\n"]] } }).out;
+  assert.equal(whole, "1 a c\nx\n2 d e\ny\n3 f f\ny\n");
+  for (const size of [1, 2, 3, 5]) {
+    const parts = text.match(new RegExp(`[^]{1,${size}}`, "g")).map((part) => Buffer.from(part));
+    const standard = () => ({ read: () => parts.shift() ?? null });
+    const f = () => sourceOf("x\n\n\ny\n");
+    assert.equal(ran("paragraphs", { files: { standard, named: [["f", f]] } }).out, whole);
+  }
+});
+
+test("a record of many parts takes time in proportion to its length", () => {
+  const part = new Uint8Array(65_536).fill(97);
+  let left = 300;
+  const { end, out } = ran("copy", { files: { standard: () => ({ read: () => (left-- > 0 ? part : null) }) } });
+  assert.equal(end.kind, "ended");
+  assert.equal(out.length, 300 * 65_536 + 4);
+});
+
+test("nothing is read before it is needed", () => {
+  const parts = ["a\n", "b\n"].map((part) => Buffer.from(part));
+  const seen = [];
+  const files = filesInMemory({ standard: () => ({ read: () => { seen.push("read"); return parts.shift() ?? null; } }), output: (part) => seen.push(textOfBytes(part)) });
+  run(module("copy"), {}, files);
+  assert.deepEqual(seen, ["read", "1: a\n", "read", "2: b\n", "read"]);
+});
+
+test("words and output are bytes", () => {
+  const { out } = ran("copy", { files: { standard: utf8("é\u{1f600}\n") + "\xff\n" } });
+  assert.equal(shown(out), "1: é\u{1f600}\n2: \ufffd\n");
+});
+
+const [I32, I64] = [0x7f, 0x7e];
+const named = (name) => [name.length, ...Buffer.from(name)];
+const section = (id, ...body) => [id, body.flat().length, ...body.flat()];
+
+/** A module that imports one function, with one parameter at most, and whose `main` is these instructions. */
+function importing(from, name, params, results, main) {
+  const types = [2, 0x60, params.length, ...params, results.length, ...results, 0x60, 0, 1, I32];
+  return Uint8Array.from([
+    0, 0x61, 0x73, 0x6d, 1, 0, 0, 0, ...section(1, types), ...section(2, [1, ...named(from), ...named(name), 0, 0]), ...section(3, [1, 1]),
+    ...section(7, [1, ...named("main"), 0, 1]), ...section(10, [1, main.length + 2, 0, ...main, 0x0b]),
+  ]);
+}
+
+test("only the 56 imports are had, with their types", () => {
+  const nothing = [0x41, 0];
+  load(importing("awk2", "num", [I64], [I32], nothing));
+  load(importing("awk1", "num", [I64], [I32], nothing));
+  const wrong = [["constructor", "constructor", [], []], ["awk2", "toString", [], [I32]], ["__proto__", "valueOf", [], []], ["awk2", "num", [I32], [I32]],
+    ["awk1", "clear", [I32], [I32]], ["awk2", "constructor", [], []], ["env", "num", [I64], [I32]]];
+  for (const it of wrong) assert.throws(() => load(importing(...it, nothing)), new LoadError("BadImport 0"), it.join());
+});
+
+test("what is no module is refused", () => {
+  assert.throws(() => load(Buffer.from("BEGIN { }")), WebAssembly.CompileError);
+  assert.throws(() => load(Uint8Array.from([0, 0x61, 0x73, 0x6d, 1, 0, 0, 0])), new LoadError("NoMain"));
+});
+
+test("a handle that is not there traps, and a trap is no fault", () => {
+  const end = run(importing("awk2", "drop", [I32], [], [0x41, 7, 0x10, 0, 0x41, 0]), {}, filesInMemory());
+  assert.deepEqual([end.kind, end.status, end.name], ["trap", 7, "BadHandle"]);
+});
+
+test("a module that is loaded once runs often", () => {
+  const loaded = load(module("copy"));
+  for (const text of ["a", "b\nc"]) assert.equal(run(loaded, {}, filesInMemory({ standard: text })).kind, "ended");
+});
+
+/** A module without imports: a function of these locals, `main`, and a memory. */
+function plain({ memory, locals, main }) {
+  const body = [...locals, ...main, 0x0b];
+  const size = [(body.length & 127) | 128, body.length >> 7];
+  const code = [1, ...size, ...body];
+  return Uint8Array.from([
+    0, 0x61, 0x73, 0x6d, 1, 0, 0, 0, ...section(1, [1, 0x60, 0, 1, I32]), ...section(3, [1, 0]), ...section(5, memory), ...section(7, [1, ...named("main"), 0, 0]),
+    ...section(10, code),
+  ]);
+}
+
+test("memory grows to 256 pages at most, and a function may have 50,000 locals", () => {
+  const grow = (by) => [0x41, ...by, 0x40, 0, 0x41, 1, 0x6a];
+  const statusOf = (given) => run(plain({ locals: [0], ...given }), {}, filesInMemory()).status;
+  assert.equal(statusOf({ memory: [1, 0, 1], main: grow([0xff, 1]) }), 2);
+  assert.equal(statusOf({ memory: [1, 0, 1], main: grow([0x80, 2]) }), 0);
+  assert.equal(statusOf({ memory: [1, 1, 1, 2], main: grow([2]) }), 0);
+  assert.throws(() => statusOf({ memory: [1, 0, 0x81, 2], main: grow([1]) }), new LoadError("TooLarge"));
+  assert.equal(statusOf({ memory: [1, 0, 0], locals: [1, 0xd0, 0x86, 3, I64], main: [0x41, 9] }), 9);
+});

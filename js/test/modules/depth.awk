@@ -1,0 +1,2 @@
+function down(n) { return n ? down(n - 1) : "bottom" }
+BEGIN { print down(depth) }

@@ -1,0 +1,128 @@
+import assert from "node:assert/strict";
+import { execFileSync, spawn, spawnSync } from "node:child_process";
+import { chmodSync, mkdtempSync, readFileSync, rmSync, symlinkSync, writeFileSync } from "node:fs";
+import { tmpdir } from "node:os";
+import { fileURLToPath } from "node:url";
+import { after, test } from "node:test";
+
+import { fenced, files, run, start, textOfBytes } from "awkwasm/node";
+
+const path = (name) => fileURLToPath(new URL(`./modules/${name}.wasm`, import.meta.url));
+const module = (name) => readFileSync(path(name));
+const awk = fileURLToPath(new URL("../awk.mjs", import.meta.url));
+const folder = mkdtempSync(`${tmpdir()}/awkwasm.`);
+after(() => rmSync(folder, { recursive: true }));
+
+function called(words, { input = "", command = process.execPath } = {}) {
+  const { status, stdout, stderr } = spawnSync(command, [awk, ...words], { cwd: folder, input, encoding: "utf8" });
+  return { status, out: stdout, said: stderr };
+}
+
+test("the command line reads, prints and writes", () => {
+  assert.deepEqual(called([path("copy")], { input: "a\nb\n" }), { status: 0, out: "1: a\n2: b\n", said: "" });
+  assert.equal(readFileSync(`${folder}/out`, "utf8"), "a\nb\n");
+});
+
+test("errors have the statuses and lines of the program", () => {
+  assert.deepEqual(called([path("half")], { input: "3\n" }), { status: 2, out: "", said: "awkwasm: Inexact\n" });
+  assert.deepEqual(called(["-v", "depth", path("depth")]), { status: 2, out: "", said: "awkwasm: BadAssignment\n" });
+  assert.deepEqual(called(["-v", "depth=9998", path("depth")]), { status: 0, out: "bottom\n", said: "" });
+  assert.deepEqual(called(["-v", "depth=9999", path("depth")]), { status: 6, out: "", said: "awkwasm: Exhausted\n" });
+  assert.equal(called([awk]).status, 3);
+  assert.equal(called([]).status, 8);
+  assert.equal(called(["none.wasm"]).status, 8);
+  assert.equal(called(["-v"]).status, 8);
+});
+
+test("a slow pipe, and one that another process has made non-blocking", () => {
+  const line = `(sleep 0.2; echo a; sleep 0.3; echo b) | '${process.execPath}' '${awk}' '${path("copy")}' | (sleep 0.4; cat)`;
+  assert.equal(execFileSync("sh", ["-c", line], { cwd: folder, encoding: "utf8" }), "1: a\n2: b\n");
+  const other = `(sleep 0.3; echo a) | ('${process.execPath}' -e 'process.stdin; process.exit()'; '${process.execPath}' '${awk}' '${path("copy")}')`;
+  assert.equal(execFileSync("sh", ["-c", other], { cwd: folder, encoding: "utf8" }), "1: a\n");
+});
+
+test("output that nobody reads is a write that fails", () => {
+  const line = `('${process.execPath}' '${awk}' '${path("endless")}'; echo $? >status) | head -n 1`;
+  assert.equal(execFileSync("sh", ["-c", line], { cwd: folder, encoding: "utf8", stdio: ["ignore", "pipe", "ignore"] }), "a line\n");
+  assert.equal(readFileSync(`${folder}/status`, "utf8"), "2\n");
+});
+
+test("a call through a link", () => {
+  symlinkSync(awk, `${folder}/link`);
+  chmodSync(awk, 0o755);
+  assert.equal(execFileSync(process.execPath, [`${folder}/link`, path("copy")], { cwd: folder, input: "a\n", encoding: "utf8" }), "1: a\n");
+});
+
+test("words that are not UTF-8 are refused, and such entries of the environment are left out", () => {
+  const status = (word, more = "") => spawnSync("sh", ["-c", `${more} '${process.execPath}' '${awk}' '${path("half")}' "${word}"`], { cwd: folder }).status;
+  assert.equal(status("$(printf '\\377')"), 8);
+  assert.equal(status("n=\u{fffd}"), 0);
+  assert.equal(status("n=5", "env X=$(printf '\\377')"), 0);
+});
+
+test("lines come out as they come in", async () => {
+  const child = spawn(process.execPath, [awk, path("copy")], { cwd: folder });
+  const next = () => new Promise((resolve) => child.stdout.once("data", (part) => resolve(String(part))));
+  for (const [n, line] of ["first", "second"].entries()) {
+    const told = next();
+    child.stdin.write(`${line}\n`);
+    assert.equal(await told, `${n + 1}: ${line}\n`);
+  }
+  child.stdin.end();
+  assert.equal(await new Promise((resolve) => child.on("exit", resolve)), 0);
+});
+
+test("fences keep files from a script", () => {
+  writeFileSync(`${folder}/f`, "x\n");
+  const said = "awkwasm: OpenInput\n";
+  assert.deepEqual(called(["--no-files", path("half"), "f"]), { status: 2, out: "", said });
+  assert.deepEqual(called(["--read-only", path("copy"), "f"]), { status: 2, out: "1: x\n", said: "awkwasm: OpenOutput\n" });
+  assert.deepEqual(called(["--only-operands", path("half"), "f"]), { status: 0, out: "0\n", said: "" });
+});
+
+test("a fence of one's own", () => {
+  const within = fenced({ mayWrite: (name) => name === "elsewhere" }, { ...files, standard: () => ({ read: (() => { let left = [Buffer.from("a\n")]; return () => left.pop() ?? null; })() }), output: { write() {} } });
+  assert.equal(run(module("copy"), {}, within).name, "OpenOutput");
+});
+
+async function* slowly(...parts) {
+  for (const part of parts) {
+    await new Promise((resolve) => setTimeout(resolve, 20));
+    yield part;
+  }
+}
+
+test("a worker reads a stream as it comes", async () => {
+  const seen = [];
+  const { end } = start({ module: module("copy"), standard: slowly("a\n", "b", "c\n"), onOutput: (part) => seen.push(textOfBytes(part)) });
+  const { kind, written } = await end;
+  assert.deepEqual([kind, seen.join("")], ["ended", "1: a\n2: bc\n"]);
+  assert.ok(seen.length >= 2);
+  assert.deepEqual(written.map(([name, bytes]) => [name, textOfBytes(bytes)]), [["out", "a\nbc\n"]]);
+});
+
+test("a worker reads a ReadableStream, a Blob and files", async () => {
+  const stream = new Blob(["8\n6\n"]).stream();
+  assert.equal(textOfBytes((await start({ module: module("half"), standard: stream }).end).output), "4\n3\n");
+  const given = { module: module("half"), files: { é: new Blob(["10\n"]), f: "2\n" }, operands: ["é", "f"] };
+  assert.equal(textOfBytes((await start(given).end).output), "5\n1\n");
+});
+
+test("limits on time, steps and output, and a stop", async () => {
+  const kindOf = async (name, limits) => (await start({ module: module(name), limits }).end).kind;
+  assert.equal(await kindOf("forever", { seconds: 0.3 }), "time");
+  assert.equal(await kindOf("forever", { steps: 1e5 }), "steps");
+  const full = await start({ module: module("endless"), limits: { output: 1000 } }).end;
+  assert.deepEqual([full.name, full.output.length, full.isOutputFull], ["WriteFailed", 1000, true]);
+  const running = start({ module: module("forever") });
+  setTimeout(running.stop, 200);
+  assert.equal((await running.end).kind, "stopped");
+  const soon = start({ module: module("forever") });
+  soon.stop();
+  assert.equal((await soon.end).kind, "stopped");
+});
+
+test("a worker says why a module is refused", async () => {
+  const { kind, status } = await start({ module: Buffer.from("no module") }).end;
+  assert.deepEqual([kind, status], ["refused", 3]);
+});
