@@ -31,3 +31,4 @@ pub mod CallExamples
 pub mod QuickExamples
 pub mod HandExamples
 pub mod NotedExamples
+pub mod LimitExamples

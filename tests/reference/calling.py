@@ -1,4 +1,4 @@
-"""Random scripts that call functions a lot, for bench/random_scripts --calls.
+"""Random scripts that call functions a lot.
 
 Half of them hold values of every kind, half mostly numbers. Functions answer numbers, texts, nothing, fields, elements, comparisons and assignments, call one
 another, and leave by `next` and `exit`. Each counts its calls in `t`, and returns at once past some number of them.
