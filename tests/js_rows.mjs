@@ -3,9 +3,9 @@
 import { readFileSync } from "node:fs";
 
 import { FAULTS, LoadError, bytesOfText, filesInMemory, load, run, textOfBytes } from "../js/core/index.mjs";
-import { linesOf } from "../js/core/places.mjs";
 import { fenced } from "../js/node/index.mjs";
 import { Counts, compiled, each } from "./js_compare.mjs";
+import { pointsAgree } from "./js_random.mjs";
 
 /** Fields for which a world of its own is needed, or steps of the program: failing calls, a limit of steps, output without an end, cut modules. */
 const SPECIAL = new Set(["c", "d", "s", "u", "b"]);
@@ -118,12 +118,6 @@ function agrees(row, lines, due) {
   const [ourStatus, ourName, ourOut] = lines[0].split("\t");
   if (status !== ourStatus || out !== ourOut) return false;
   return status === "3" ? ourName === "CompileError" || FAULTS.includes(name) : OWN_WORDS[name]?.test(ourName) ?? false;
-}
-
-/** The points of a script must be as many as its module has. */
-function pointsAgree(script, bytes) {
-  const { places } = load(bytes);
-  return places.join() === linesOf(script).map(({ lines }) => lines.length).join();
 }
 
 export async function compareRows({ top, program, work, lanes }) {
