@@ -16,12 +16,13 @@ import { compareRows } from "./js_rows.mjs";
 function given() {
   const { values, positionals } = parseArgs({
     args: process.argv.slice(2), allowPositionals: true,
-    options: { scripts: { type: "string", default: "3000" }, seed: { type: "string", default: "1" } },
+    options: { scripts: { type: "string", default: "3000" }, seed: { type: "string", default: "1" }, seconds: { type: "string", default: "Infinity" } },
   });
   const top = fileURLToPath(new URL("..", import.meta.url));
   const program = realpathSync(positionals[0] ?? `${top}crates/awkwasm/out/awkwasm`);
   const lanes = availableParallelism?.() ?? cpus().length;
-  return { top, program, work: mkdtempSync(`${tmpdir()}/js_agrees.`), lanes, scripts: Number(values.scripts), seed: Number(values.seed) };
+  const until = Date.now() + 1000 * Number(values.seconds);
+  return { top, program, work: mkdtempSync(`${tmpdir()}/js_agrees.`), lanes, scripts: Number(values.scripts), seed: Number(values.seed), until };
 }
 
 /** One comparison: prints its counts and the first differences, and answers how many there are. */

@@ -42,7 +42,8 @@ export async function compareCommandLines({ top, program, work, lanes }) {
     const theirs = await answerOf(program, ["exec"], it, module, `${folder}/here`);
     const ours = await answerOf(process.execPath, [n % 2 === 0 ? `${top}js/awk.mjs` : link], it, module, `${folder}/here`);
     counts.add(`status ${theirs.status}`);
-    if (JSON.stringify(theirs) !== JSON.stringify(ours)) differing.push(`${it.script}\n  ${it.words}\n  due  ${JSON.stringify(theirs)}\n  ours ${JSON.stringify(ours)}`);
+    const [due, got] = [theirs, ours].map((answer) => JSON.stringify(answer));
+    if (due !== got) differing.push(`${it.script}\n  ${it.words}\n  due  ${due}\n  ours ${got}`);
   });
   return { what: "command lines", counts, differing };
 }

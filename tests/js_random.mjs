@@ -49,22 +49,28 @@ export function difference(theirs, ours) {
   return false;
 }
 
-export async function compareRandom({ program, work, lanes, scripts, seed }) {
+/** The program points of a script must be as many as its module has. */
+export function pointsAgree(script, bytes) {
+  return load(bytes).places.join() === linesOf(script).map(({ lines }) => lines.length).join();
+}
+
+/** What comes of a script, and why it differs, if it does. */
+async function compared(script, words, program, folder) {
+  const made = await compiled(program, folder, script);
+  if (made.bytes === undefined) return { came: `refused (${made.said.split(" ")[0]})`, why: false };
+  const theirs = await byProgram(program, folder, words);
+  const ours = byPackage(made.bytes, words);
+  return { came: ours.kind, why: difference(theirs, ours) || (!pointsAgree(script, made.bytes) && "other program points") };
+}
+
+export async function compareRandom({ program, work, lanes, scripts, seed, until }) {
   const counts = new Counts();
   const differing = [];
   await each(randomScripts(scripts, seed), lanes, async (script, n, lane) => {
-    const folder = `${work}/random.${lane}`;
-    const made = await compiled(program, folder, script);
-    if (made.bytes === undefined) {
-      counts.add(`refused (${made.said.split(" ")[0]})`);
-      return;
-    }
     const words = WORDS[n % WORDS.length];
-    const theirs = await byProgram(program, folder, words);
-    const ours = byPackage(made.bytes, words);
-    counts.add(ours.kind);
-    const points = load(made.bytes).places.join() === linesOf(script).map(({ lines }) => lines.length).join();
-    const why = difference(theirs, ours) || (!points && "other program points");
+    const late = Date.now() > until;
+    const { came, why } = late ? { came: "not run, since the time is over", why: false } : await compared(script, words, program, `${work}/random.${lane}`);
+    counts.add(came);
     if (why) differing.push(`script ${n}, words ${JSON.stringify(words)}: ${why}\n${script}`);
   });
   return { what: `${scripts} random scripts, seed ${seed}`, counts, differing };

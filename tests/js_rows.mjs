@@ -3,9 +3,9 @@
 import { readFileSync } from "node:fs";
 
 import { FAULTS, LoadError, bytesOfText, filesInMemory, load, run, textOfBytes } from "../js/core/index.mjs";
-import { linesOf } from "../js/core/places.mjs";
 import { fenced } from "../js/node/index.mjs";
 import { Counts, compiled, each } from "./js_compare.mjs";
+import { pointsAgree } from "./js_random.mjs";
 
 /** Fields for which a world of its own is needed, or steps of the program: failing calls, a limit of steps, output without an end, cut modules. */
 const SPECIAL = new Set(["c", "d", "s", "u", "b"]);
@@ -35,11 +35,12 @@ function moduleOf(script, more) {
 function rowOf(line) {
   const [script, input = "", ...others] = line.split("\t").map(unescaped);
   const fields = others.map((field) => [field[0], field.slice(2)]);
-  const isWords = line.startsWith("words:");
   const all = (letter) => fields.filter(([it]) => it === letter).map(([, text]) => text);
+  const isWords = line.startsWith("words:");
+  const more = all("p").map(timesOf).join("");
   return {
     line, all, isWords, isSpecial: isWords || fields.some(([letter]) => SPECIAL.has(letter)),
-    script: script + all("p").map(timesOf).join(""), bytes: () => moduleOf(script, all("p").map(timesOf).join("")), input: input + all("i").map(timesOf).join(""),
+    script: script + more, bytes: () => moduleOf(script, more), input: input + all("i").map(timesOf).join(""),
     isModule: script.startsWith("module:"), operands: all("o"), shown: all("l"),
     invocation: { operands: all("o"), assigns: all("v").map(pairOf), environment: all("e").map(pairOf) },
   };
@@ -105,8 +106,9 @@ function answerOf(row, bytes) {
 
 // What a module written by hand may end with: the engine says it in its own words.
 const OWN_WORDS = {
-  Unreachable: /unreachable/, DivideByZero: /divide by zero|remainder by zero/, IntegerOverflow: /divide result unrepresentable/, MemoryBounds: /memory access out of bounds/,
-  TableBounds: /table index is out of bounds/, EmptyElement: /null function|signature mismatch/, WrongType: /null function|signature mismatch/,
+  Unreachable: /unreachable/, DivideByZero: /divide by zero|remainder by zero/, IntegerOverflow: /divide result unrepresentable/,
+  MemoryBounds: /memory access out of bounds/, TableBounds: /table index is out of bounds/, EmptyElement: /null function|signature mismatch/,
+  WrongType: /null function|signature mismatch/,
 };
 
 function agrees(row, lines, due) {
@@ -116,12 +118,6 @@ function agrees(row, lines, due) {
   const [ourStatus, ourName, ourOut] = lines[0].split("\t");
   if (status !== ourStatus || out !== ourOut) return false;
   return status === "3" ? ourName === "CompileError" || FAULTS.includes(name) : OWN_WORDS[name]?.test(ourName) ?? false;
-}
-
-/** The points of a script must be as many as its module has. */
-function pointsAgree(script, bytes) {
-  const { places } = load(bytes);
-  return places.join() === linesOf(script).map(({ lines }) => lines.length).join();
 }
 
 export async function compareRows({ top, program, work, lanes }) {

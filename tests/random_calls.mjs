@@ -7,14 +7,18 @@ import { chanceOf } from "./random_scripts.mjs";
 
 const I32 = 0x7f;
 const NAMES = [...IMPORTS.keys()];
-const TEXTS = ["", "a", "f", "g", "out", "b c", "12", "0.5", "-3", " 7 ", "%d|%s", "%5.2f", "%c%%", "[ab]+", "a|b*", "(", ",", "x", "FS", "\n", "&-&", "9007199254740993"];
+const TEXTS = [
+  "", "a", "f", "g", "out", "b c", "12", "0.5", "-3", " 7 ", "%d|%s", "%5.2f", "%c%%", "[ab]+", "a|b*", "(", ",", "x", "FS", "\n", "&-&", "9007199254740993",
+];
 const SMALL = [0n, 1n, 1n, 2n, 3n, 5n, 7n];
 const NUMBERS = [-1n, 40n, 1048576n, 1048577n, 2n ** 53n, -(2n ** 53n)];
 const UNFIT = 0.001;
 const RARELY = 0.03;
 const CALLS = 70;
 // calls that end most runs, or read all that there is
-const RARE = new Set(["fail", "begin_end", "next_file", "free_array", "declare", "set_special", "start_assign", "pending_name", "pending_value", "line", "sub_result"]);
+const RARE = new Set([
+  "fail", "begin_end", "next_file", "free_array", "declare", "set_special", "start_assign", "pending_name", "pending_value", "line", "sub_result",
+]);
 
 class Calls {
   constructor(chance) {

@@ -22,8 +22,8 @@ const OPERATORS = [" + ", " - ", " * ", " % ", " ", " ", " == ", " < ", " ~ ", "
 const TARGETS = ["x", "y", "z", "$1", "$2", "$0", "NF", 'a["k"]', "a[x]", "b[x, y]", "FS", "OFS", "ORS", "NR", "v", "$(NF + 1)", "RS", "SUBSEP", "ARGV[1]", "ARGC"];
 const ASSIGNS = [" = ", " = ", " = ", " += ", " -= ", " *= ", " ^= ", " %= "];
 const STEPS = [
-  "print", "print E", "print E, E", 'print E > "out"', 'print E >> "out"', 'printf "%s %d\\n", E, E', 'printf "%5s|%-5d|%x|%o\\n", E, E, E, E', "T", "T", "T",
-  "E", "delete a[E]", "delete b", "next", "nextfile", "exit E", "exit", "getline", "getline x", 'getline y < "g"', "if (E) S; else S", "if (E) S",
+  "print", "print E", "print E, E", 'print E > "out"', 'print E >> "out"', 'printf "%s %d\\n", E, E', 'printf "%5s|%-5d|%x|%o\\n", E, E, E, E',
+  "T", "T", "T", "E", "delete a[E]", "delete b", "next", "nextfile", "exit E", "exit", "getline", "getline x", 'getline y < "g"', "if (E) S; else S", "if (E) S",
   "for (k in a) S", "for (i = 0; i < 3; i++) S", "while (w++ < 5) S", "do S; while (w++ < 9)", "{ S; S }", "break_or_continue", "print > $1", "split(E, a)",
 ];
 const FORMS = ["E", "E, E", "/a/", "NR == 2", "NR == 1, NR == 3", "/b/, /c/", "", "!(E)"];

@@ -62,7 +62,8 @@ function wrongOf({ script, input }, work) {
   writeFileSync(named, Buffer.concat([bytes, namesSection(script, imports)]));
   tool("wasm-validate", ...OLD, named);
   const listed = tool("wasm-objdump", "-x", "-j", "Function", named);
-  for (const [n, { name }] of linesOf(script).entries()) if (!listed.includes(`func[${imports + n}] sig=`) || !listed.includes(`<${name}>`)) return "wasm-objdump";
+  const isListed = ({ name }, n) => listed.includes(`func[${imports + n}] sig=`) && listed.includes(`<${name}>`);
+  if (!linesOf(script).every(isListed)) return "wasm-objdump";
   tool("wasm-opt", "--mvp-features", "-O3", module, "-o", best);
   tool("wasm-validate", ...OLD, best);
   const due = answer([program, "exec", module], input, work);

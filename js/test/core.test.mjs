@@ -78,8 +78,8 @@ test("a record of many parts takes time in proportion to its length", () => {
 test("nothing is read before it is needed", () => {
   const parts = ["a\n", "b\n"].map((part) => Buffer.from(part));
   const seen = [];
-  const files = filesInMemory({ standard: () => ({ read: () => { seen.push("read"); return parts.shift() ?? null; } }), output: (part) => seen.push(textOfBytes(part)) });
-  run(module("copy"), {}, files);
+  const source = { read: () => (seen.push("read"), parts.shift() ?? null) };
+  run(module("copy"), {}, filesInMemory({ standard: () => source, output: (part) => seen.push(textOfBytes(part)) }));
   assert.deepEqual(seen, ["read", "1: a\n", "read", "2: b\n", "read"]);
 });
 
@@ -131,8 +131,8 @@ function plain({ memory, locals, main }) {
   const size = [(body.length & 127) | 128, body.length >> 7];
   const code = [1, ...size, ...body];
   return Uint8Array.from([
-    0, 0x61, 0x73, 0x6d, 1, 0, 0, 0, ...section(1, [1, 0x60, 0, 1, I32]), ...section(3, [1, 0]), ...section(5, memory), ...section(7, [1, ...named("main"), 0, 0]),
-    ...section(10, code),
+    0, 0x61, 0x73, 0x6d, 1, 0, 0, 0, ...section(1, [1, 0x60, 0, 1, I32]), ...section(3, [1, 0]), ...section(5, memory),
+    ...section(7, [1, ...named("main"), 0, 0]), ...section(10, code),
   ]);
 }
 

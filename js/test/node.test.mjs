@@ -5,7 +5,7 @@ import { tmpdir } from "node:os";
 import { fileURLToPath } from "node:url";
 import { after, test } from "node:test";
 
-import { fenced, files, run, start, textOfBytes } from "awkwasm/node";
+import { fenced, files, run, sourceOf, start, textOfBytes } from "awkwasm/node";
 
 const path = (name) => fileURLToPath(new URL(`./modules/${name}.wasm`, import.meta.url));
 const module = (name) => readFileSync(path(name));
@@ -81,8 +81,9 @@ test("fences keep files from a script", () => {
 });
 
 test("a fence of one's own", () => {
-  const within = fenced({ mayWrite: (name) => name === "elsewhere" }, { ...files, standard: () => ({ read: (() => { let left = [Buffer.from("a\n")]; return () => left.pop() ?? null; })() }), output: { write() {} } });
-  assert.equal(run(module("copy"), {}, within).name, "OpenOutput");
+  const inner = { ...files, standard: () => sourceOf("a\n"), output: { write() {} } };
+  const elsewhere = fenced({ mayWrite: (name) => name === "elsewhere" }, inner);
+  assert.equal(run(module("copy"), {}, elsewhere).name, "OpenOutput");
 });
 
 async function* slowly(...parts) {
