@@ -10,5 +10,4 @@ pub mod Causes
 pub mod Tables
 pub mod Noted
 pub mod Listed
-pub mod Keeping
 mod SetsLemmas

@@ -4,18 +4,18 @@ use Rattle.std.specs.List.{slice_get}
 use Rattle.std.proofs.lemmas.List.{map-append}
 use Rattle.awk_grammar.specs.Marks.{Kind, Array, Scalar, Mark, Defined, Parameter, Used, Called, Computed, Given}
 use Rattle.awk_grammar.specs.Kinds.{Key, Head, Whole, distinct_parameters, specials, special_arrays, special_scalars, same_kind, with_key, with_keys, with_mark, with_marks, key_in, parameter_at, pair_of, used, members, pairs, variables}
+use Rattle.latched.specs.declared.latched_vec.LatchedVec.{LatchedVec}
 use Rattle.awk_resolve.specs.Numbered.{ArePairs, all_if}
 use Rattle.awk_resolve.specs.ViewVariables.{AddsKeys, HasNumber, AreKeys}
 use Rattle.awk_resolve.specs.ViewUses.{numbered, AreUses, Notes, NotesGiven, NotesMark, NotesUses}
-use Rattle.awk_resolve.specs.declared.held.Grown.{Grown}
 use Rattle.awk_resolve.specs.declared.scopes.Variables.{Variables}
 use Rattle.awk_resolve.specs.declared.uses.Uses.{Uses}
 use Rattle.awk_resolve.proofs.Names.{with_keys_append}
 use Rattle.awk_resolve.proofs.Numbered.{get_with_key, members_append, numbers_more, numbers_same, one_more_pair, pairs_append, pairs_same, pairs_stay}
 
 -- what `put` says
-abbrev Put : {T : Type 0} → Grown T → Grown T → T → Type 0
-Put old new x = new.is_refused ≡ false → (old.is_refused ≡ false) × (new.items.items ≡ old.items.items ++ x ∷ [])
+abbrev Put : {T : Type 0} → LatchedVec T → LatchedVec T → T → Type 0
+Put old new x = new.out_of_memory ≡ false → (old.out_of_memory ≡ false) × (new.items.items ≡ old.items.items ++ x ∷ [])
 
 stands_as : {u : Uses} {keys xs ys : List Key} {gs : List (Key × Key)} (xs' ys' : List Key) (gs' : List (Key × Key)) → xs ≡ xs' → ys ≡ ys' → gs ≡ gs' → Notes u keys xs ys gs → Notes u keys xs' ys' gs'
 stands_as {u} {keys} {xs} {ys} {gs} xs' ys' gs' e f g h = rw (sym e, sym f, sym g) h
@@ -28,14 +28,14 @@ used_array {old} {new} k n adds number put e f = record {
     notes = λ w.
         let a = adds.adds w.variables in
         let p = put w.arrays in
-        let s = before.notes (record { variables = a.0; arrays = p.0; scalars = ap (λ (g : Grown ℕ). g.is_refused) (sym e) ∙ w.scalars; pairs = ap (λ (g : Grown (ℕ × ℕ)). g.is_refused) (sym f) ∙ w.pairs }) in
+        let s = before.notes (record { variables = a.0; arrays = p.0; scalars = ap (λ (g : LatchedVec ℕ). g.out_of_memory) (sym e) ∙ w.scalars; pairs = ap (λ (g : LatchedVec (ℕ × ℕ)). g.out_of_memory) (sym f) ∙ w.pairs }) in
         let same : numbered new ≡ with_key keys k = a.1 ∙ ap (λ (ks : List Key). with_key ks k) s.variables in
         let at = subst (λ (ks : List Key). slice_get ks n ≡ Some k) same (number.number w.variables) in
         record {
           variables = same;
           arrays = numbers_more keys k n old.arrays.items.items new.arrays.items.items arrays at p.1 s.arrays;
-          scalars = numbers_same keys k old.scalars.items.items new.scalars.items.items scalars (ap (λ (g : Grown ℕ). g.items.items) e) s.scalars;
-          pairs = pairs_same keys k old.pairs.items.items new.pairs.items.items given (ap (λ (g : Grown (ℕ × ℕ)). g.items.items) f) s.pairs;
+          scalars = numbers_same keys k old.scalars.items.items new.scalars.items.items scalars (ap (λ (g : LatchedVec ℕ). g.items.items) e) s.scalars;
+          pairs = pairs_same keys k old.pairs.items.items new.pairs.items.items given (ap (λ (g : LatchedVec (ℕ × ℕ)). g.items.items) f) s.pairs;
         };
   });
 }
@@ -46,14 +46,14 @@ used_scalar {old} {new} k n adds number e put f = record {
     notes = λ w.
         let a = adds.adds w.variables in
         let p = put w.scalars in
-        let s = before.notes (record { variables = a.0; arrays = ap (λ (g : Grown ℕ). g.is_refused) (sym e) ∙ w.arrays; scalars = p.0; pairs = ap (λ (g : Grown (ℕ × ℕ)). g.is_refused) (sym f) ∙ w.pairs }) in
+        let s = before.notes (record { variables = a.0; arrays = ap (λ (g : LatchedVec ℕ). g.out_of_memory) (sym e) ∙ w.arrays; scalars = p.0; pairs = ap (λ (g : LatchedVec (ℕ × ℕ)). g.out_of_memory) (sym f) ∙ w.pairs }) in
         let same : numbered new ≡ with_key keys k = a.1 ∙ ap (λ (ks : List Key). with_key ks k) s.variables in
         let at = subst (λ (ks : List Key). slice_get ks n ≡ Some k) same (number.number w.variables) in
         record {
           variables = same;
-          arrays = numbers_same keys k old.arrays.items.items new.arrays.items.items arrays (ap (λ (g : Grown ℕ). g.items.items) e) s.arrays;
+          arrays = numbers_same keys k old.arrays.items.items new.arrays.items.items arrays (ap (λ (g : LatchedVec ℕ). g.items.items) e) s.arrays;
           scalars = numbers_more keys k n old.scalars.items.items new.scalars.items.items scalars at p.1 s.scalars;
-          pairs = pairs_same keys k old.pairs.items.items new.pairs.items.items given (ap (λ (g : Grown (ℕ × ℕ)). g.items.items) f) s.pairs;
+          pairs = pairs_same keys k old.pairs.items.items new.pairs.items.items given (ap (λ (g : LatchedVec (ℕ × ℕ)). g.items.items) f) s.pairs;
         };
   });
 }
@@ -65,12 +65,12 @@ given_none {old} {new} k adds e f g = record {
   given = λ keys arrays scalars given before. stands_as arrays scalars (given ++ []) refl refl (sym (append-nil given)) (record {
     notes = λ w.
         let a = adds.adds w.variables in
-        let s = before.notes (record { variables = a.0; arrays = ap (λ (u : Grown ℕ). u.is_refused) (sym e) ∙ w.arrays; scalars = ap (λ (u : Grown ℕ). u.is_refused) (sym f) ∙ w.scalars; pairs = ap (λ (u : Grown (ℕ × ℕ)). u.is_refused) (sym g) ∙ w.pairs }) in
+        let s = before.notes (record { variables = a.0; arrays = ap (λ (u : LatchedVec ℕ). u.out_of_memory) (sym e) ∙ w.arrays; scalars = ap (λ (u : LatchedVec ℕ). u.out_of_memory) (sym f) ∙ w.scalars; pairs = ap (λ (u : LatchedVec (ℕ × ℕ)). u.out_of_memory) (sym g) ∙ w.pairs }) in
         record {
           variables = a.1 ∙ ap (λ (ks : List Key). with_key ks k) s.variables;
-          arrays = numbers_same keys k old.arrays.items.items new.arrays.items.items arrays (ap (λ (u : Grown ℕ). u.items.items) e) s.arrays;
-          scalars = numbers_same keys k old.scalars.items.items new.scalars.items.items scalars (ap (λ (u : Grown ℕ). u.items.items) f) s.scalars;
-          pairs = pairs_same keys k old.pairs.items.items new.pairs.items.items given (ap (λ (u : Grown (ℕ × ℕ)). u.items.items) g) s.pairs;
+          arrays = numbers_same keys k old.arrays.items.items new.arrays.items.items arrays (ap (λ (u : LatchedVec ℕ). u.items.items) e) s.arrays;
+          scalars = numbers_same keys k old.scalars.items.items new.scalars.items.items scalars (ap (λ (u : LatchedVec ℕ). u.items.items) f) s.scalars;
+          pairs = pairs_same keys k old.pairs.items.items new.pairs.items.items given (ap (λ (u : LatchedVec (ℕ × ℕ)). u.items.items) g) s.pairs;
         };
   });
 }
@@ -82,7 +82,7 @@ given_some {old} {new} {mid} k l n m first has_first second has_second e f put =
         let b = second.adds w.variables in
         let a = first.adds b.0 in
         let p = put w.pairs in
-        let s = before.notes (record { variables = a.0; arrays = ap (λ (u : Grown ℕ). u.is_refused) (sym e) ∙ w.arrays; scalars = ap (λ (u : Grown ℕ). u.is_refused) (sym f) ∙ w.scalars; pairs = p.0 }) in
+        let s = before.notes (record { variables = a.0; arrays = ap (λ (u : LatchedVec ℕ). u.out_of_memory) (sym e) ∙ w.arrays; scalars = ap (λ (u : LatchedVec ℕ). u.out_of_memory) (sym f) ∙ w.scalars; pairs = p.0 }) in
         let keys' = with_key keys k in
         let same' = a.1 ∙ ap (λ (ks : List Key). with_key ks k) s.variables in
         let same : numbered new ≡ with_key keys' l = b.1 ∙ ap (λ (ks : List Key). with_key ks l) same' in
@@ -90,8 +90,8 @@ given_some {old} {new} {mid} k l n m first has_first second has_second e f put =
         let there = subst (λ (ks : List Key). slice_get ks m ≡ Some l) same (has_second.number w.variables) in
         record {
           variables = same;
-          arrays = numbers_same keys' l old.arrays.items.items new.arrays.items.items arrays (ap (λ (u : Grown ℕ). u.items.items) e) (numbers_same keys k old.arrays.items.items old.arrays.items.items arrays refl s.arrays);
-          scalars = numbers_same keys' l old.scalars.items.items new.scalars.items.items scalars (ap (λ (u : Grown ℕ). u.items.items) f) (numbers_same keys k old.scalars.items.items old.scalars.items.items scalars refl s.scalars);
+          arrays = numbers_same keys' l old.arrays.items.items new.arrays.items.items arrays (ap (λ (u : LatchedVec ℕ). u.items.items) e) (numbers_same keys k old.arrays.items.items old.arrays.items.items arrays refl s.arrays);
+          scalars = numbers_same keys' l old.scalars.items.items new.scalars.items.items scalars (ap (λ (u : LatchedVec ℕ). u.items.items) f) (numbers_same keys k old.scalars.items.items old.scalars.items.items scalars refl s.scalars);
           pairs = subst (λ (ps : List (ℕ × ℕ)). ArePairs (with_key keys' l) ps (given ++ (k, l) ∷ [])) (sym p.1) (one_more_pair (with_key keys' l) old.pairs.items.items n m given k l at there (pairs_stay keys' l old.pairs.items.items given (pairs_stay keys k old.pairs.items.items given s.pairs)));
         };
   };

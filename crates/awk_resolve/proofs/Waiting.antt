@@ -7,11 +7,11 @@ use Rattle.std.specs.List.{Contains}
 use Rattle.std.specs.Result.{IfOk}
 use Rattle.std.proofs.lemmas.List.Elements.{All-nil, All-cons, All-head, All-tail, All-append, All-push, All-weaker, Contains-append_left, Contains-push, Contains-push_cases}
 use Rattle.std.proofs.Math.Bool.{or-true}
+use Rattle.latched.specs.declared.latched_vec.LatchedVec.{LatchedVec}
 use Rattle.awk_resolve.specs.Marked.{is_marked, unmarked}
 use Rattle.awk_resolve.specs.ViewFound.{Adds, IsIn, left}
 use Rattle.awk_resolve.specs.Waiting.{given_for, numbers_at}
 use Rattle.awk_resolve.specs.declared.closure.Found.{Found}
-use Rattle.awk_resolve.specs.declared.held.Grown.{Grown}
 use Rattle.awk_resolve.proofs.Marked.{unmarked_set, marked_set, marked_grows, marked_at, none_marked}
 
 length_push : {A : Type 0} (xs : List A) (x : A) → length (xs ++ x ∷ []) ≡ length xs + 1
@@ -165,24 +165,24 @@ none_given (u ∷ vs) v zero e h = h
 none_given (u ∷ vs) v (suc n) e h = none_given vs v n e h
 
 -- so many lists of no numbers, unless memory was wanting
-pub record NoNumbers (lists : Grown (Vec ℕ)) (count : ℕ) : Type 0 where
-  pub size : lists.is_refused ≡ false → length lists.items.items ≡ count
-  pub empty : lists.is_refused ≡ false → (n : ℕ) → numbers_at lists.items.items n ≡ []
+pub record NoNumbers (lists : LatchedVec (Vec ℕ)) (count : ℕ) : Type 0 where
+  pub size : lists.out_of_memory ≡ false → length lists.items.items ≡ count
+  pub empty : lists.out_of_memory ≡ false → (n : ℕ) → numbers_at lists.items.items n ≡ []
 
-pub no_first : (lists : Grown (Vec ℕ)) → lists.items.items ≡ [] → NoNumbers lists 0
+pub no_first : (lists : LatchedVec (Vec ℕ)) → lists.items.items ≡ [] → NoNumbers lists 0
 no_first lists e = record { size = λ fine. ap length e; empty = λ fine n. ap (λ (vs : List (Vec ℕ)). numbers_at vs n) e }
 
-pub no_next : {old new : Grown (Vec ℕ)} {count : ℕ} (v : Vec ℕ) → v.items ≡ [] → (new.is_refused ≡ false → (old.is_refused ≡ false) × (new.items.items ≡ old.items.items ++ v ∷ [])) → NoNumbers old count → NoNumbers new (count + 1)
+pub no_next : {old new : LatchedVec (Vec ℕ)} {count : ℕ} (v : Vec ℕ) → v.items ≡ [] → (new.out_of_memory ≡ false → (old.out_of_memory ≡ false) × (new.items.items ≡ old.items.items ++ v ∷ [])) → NoNumbers old count → NoNumbers new (count + 1)
 no_next {old} {new} {count} v none put h = record {
   size = λ fine. let p = put fine in ap length p.1 ∙ length_push old.items.items v ∙ ap (λ (n : ℕ). n + 1) (h.size p.0);
   empty = λ fine n. let p = put fine in ap (λ (vs : List (Vec ℕ)). numbers_at vs n) p.1 ∙ none_given old.items.items v n none (h.empty p.0 n);
 }
 
-pub no_size : {E : Type 0} (lists : Grown (Vec ℕ)) (count : ℕ) (r : Result (Vec (Vec ℕ)) E) → NoNumbers lists count → IfOk r (λ all. (lists.is_refused ≡ false) × (all.items ≡ lists.items.items)) → IfOk r (λ all. length all.items ≡ count)
+pub no_size : {E : Type 0} (lists : LatchedVec (Vec ℕ)) (count : ℕ) (r : Result (Vec (Vec ℕ)) E) → NoNumbers lists count → IfOk r (λ all. (lists.out_of_memory ≡ false) × (all.items ≡ lists.items.items)) → IfOk r (λ all. length all.items ≡ count)
 no_size lists count (Ok all) h is = ap length is.1 ∙ h.size is.0
 no_size lists count (Err e) h is = tt
 
-pub no_numbers : {E : Type 0} (lists : Grown (Vec ℕ)) (count : ℕ) (r : Result (Vec (Vec ℕ)) E) → NoNumbers lists count → IfOk r (λ all. (lists.is_refused ≡ false) × (all.items ≡ lists.items.items)) → IfOk r (λ all. (n : ℕ) → numbers_at all.items n ≡ [])
+pub no_numbers : {E : Type 0} (lists : LatchedVec (Vec ℕ)) (count : ℕ) (r : Result (Vec (Vec ℕ)) E) → NoNumbers lists count → IfOk r (λ all. (lists.out_of_memory ≡ false) × (all.items ≡ lists.items.items)) → IfOk r (λ all. (n : ℕ) → numbers_at all.items n ≡ [])
 no_numbers lists count (Ok all) h is = λ n. ap (λ (vs : List (Vec ℕ)). numbers_at vs n) is.1 ∙ h.empty is.0 n
 no_numbers lists count (Err e) h is = tt
 

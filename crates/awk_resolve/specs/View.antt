@@ -1,12 +1,13 @@
 -- What the marks of the code stand for.
-use Rattle.std.specs.Prelude.{◌≡◌, ℕ, false, List, ◌++◌, map, Option}
+use Rattle.std.specs.Prelude.{ℕ, List, map, Option}
 use Rattle.std.specs.Borrow.{Bor}
 use Rattle.std.specs.Option.{option_map}
+use Rattle.latched.specs.Latched.{Adds}
+use Rattle.latched.specs.declared.latched_vec.LatchedVec.{LatchedVec}
 use Rattle.awk_grammar.specs.Marks.{Kind as PlainKind, Array as ArrayKind, Scalar as ScalarKind, Mark as PlainMark, Defined as DefinedMark, Parameter as ParameterMark, Used as UsedMark, Called as CalledMark, Computed as ComputedMark, Given as GivenMark}
 use Rattle.awk_resolve.specs.declared.mark.Kind.{Kind}
 use Rattle.awk_resolve.specs.declared.mark.Kind.TheVariants.{Array, Scalar}
 use Rattle.awk_resolve.specs.declared.mark.Mark.{Mark}
-use Rattle.awk_resolve.specs.declared.mark_list.Marks.{Marks}
 use Rattle.awk_resolve.specs.declared.mark.Mark.TheVariants.{Defined, Parameter, Used, Called, Computed, Given}
 
 abbrev pub view_kind : Kind → PlainKind
@@ -28,6 +29,6 @@ view_mark (Given f i place x) = GivenMark f.now i (view_place place) x.now
 abbrev pub view_marks : List Mark → List PlainMark
 view_marks ms = map view_mark ms
 
--- these marks more are found, unless memory was wanting
-pub record AddsMarks (old new : Marks) (ms : List PlainMark) : Type 0 where
-  pub adds : new.is_refused ≡ false → (old.is_refused ≡ false) × (view_marks new.found.items ≡ view_marks old.found.items ++ ms)
+-- these marks more are found, unless memory ran out
+abbrev pub AddsMarks : LatchedVec Mark → LatchedVec Mark → List PlainMark → Type 0
+AddsMarks old new ms = Adds view_mark old new ms

@@ -20,9 +20,9 @@ pub record Stand (uses : Uses) (keys used_arrays used_scalars : List Key) (given
 -- memory was wanting for none of them
 pub record IsWhole (uses : Uses) : Type 0 where
   pub variables : uses.variables.is_refused ≡ false
-  pub arrays : uses.arrays.is_refused ≡ false
-  pub scalars : uses.scalars.is_refused ≡ false
-  pub pairs : uses.pairs.is_refused ≡ false
+  pub arrays : uses.arrays.out_of_memory ≡ false
+  pub scalars : uses.scalars.out_of_memory ≡ false
+  pub pairs : uses.pairs.out_of_memory ≡ false
 
 -- they stand for these, unless memory was wanting
 pub record Notes (uses : Uses) (keys arrays scalars : List Key) (given : List (Key × Key)) : Type 0 where

@@ -6,7 +6,7 @@ ghost use Rattle.awk_resolve.specs.Marked.{is_marked};
 ghost use Rattle.awk_resolve.specs.ViewFound.{Adds};
 ghost use Rattle.awk_resolve.specs.Waiting.{given_for, numbers_at};
 
-use crate::held::Grown;
+use latched::LatchedVec;
 use std::alloc::{AllocError, Global};
 
 /// So many lists of no numbers.
@@ -14,11 +14,11 @@ fn no_numbers(alloc: Global, count: usize) -> Result<Vec<Vec<usize>>, AllocError
     ensures length { IfOk result (λ lists. length lists.items ≡ count) }
     ensures empty { IfOk result (λ lists. (n : ℕ) → numbers_at lists.items n ≡ []) }
 {
-    let mut lists = Grown::new(alloc);
+    let mut lists = LatchedVec::new(alloc);
     for _done in 0..count {
-        lists.put(Vec::new(alloc));
+        lists.push(Vec::new(alloc));
     }
-    lists.all()
+    lists.into_vec()
 }
 
 /// For each number below `count` the firsts of the pairs that have it as their second.

@@ -48,8 +48,8 @@ fn marked<'a>(alloc: Global, uses: &Uses<'a>) -> Result<(Vec<bool>, Vec<bool>), 
         (λ found. IsLeast (is_marked found.1.items) uses.now.scalars.items.items uses.now.pairs.items.items) }
 {
     let count = uses.variables.found.len();
-    let arrays = closure(alloc, count, &uses.arrays.items, &uses.pairs.items)?;
-    let scalars = closure(alloc, count, &uses.scalars.items, &uses.pairs.items)?;
+    let arrays = closure(alloc, count, uses.arrays.as_slice(), uses.pairs.as_slice())?;
+    let scalars = closure(alloc, count, uses.scalars.as_slice(), uses.pairs.as_slice())?;
     Ok((arrays, scalars))
 }
 

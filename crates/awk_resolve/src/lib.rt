@@ -7,7 +7,6 @@ mod answer;
 mod closure;
 mod fault;
 mod function_names;
-mod held;
 mod kinds;
 pub mod laws;
 mod listing;

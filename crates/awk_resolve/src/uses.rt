@@ -8,10 +8,10 @@ ghost use Rattle.awk_resolve.specs.ViewNames.{names, view_variable, view_maybe_v
 ghost use Rattle.awk_resolve.specs.ViewScopes.{functions_in};
 ghost use Rattle.awk_resolve.specs.ViewUses.{AreUses, IsWhole, NotesGiven, NotesMark, NotesUses, Stand};
 
-use crate::held::Grown;
 use crate::mark::{Kind, Mark};
 use crate::scopes::{Scopes, Variable, Variables};
 use crate::special::{special_arrays, special_scalars};
+use latched::LatchedVec;
 use std::alloc::{AllocError, Global};
 
 /// The variables of a script and their uses. Once memory was wanting they are not all.
@@ -19,11 +19,11 @@ use std::alloc::{AllocError, Global};
 pub(crate) struct Uses<'a> {
     pub variables: Variables<'a>,
     /// The variables that are used as arrays where they stand.
-    pub arrays: Grown<usize>,
+    pub arrays: LatchedVec<usize>,
     /// The variables that are used as scalars where they stand.
-    pub scalars: Grown<usize>,
+    pub scalars: LatchedVec<usize>,
     /// Bare names, each with the parameter for which it is given.
-    pub pairs: Grown<(usize, usize)>,
+    pub pairs: LatchedVec<(usize, usize)>,
 }
 
 /// Notes that a variable is used so.
@@ -32,8 +32,8 @@ fn note_use<'a>(uses: &mut Uses<'a>, kind: Kind, variable: Variable<'a>)
 {
     let number = uses.variables.number_of(variable);
     match kind {
-        Kind::Array => uses.arrays.put(number),
-        Kind::Scalar => uses.scalars.put(number),
+        Kind::Array => uses.arrays.push(number),
+        Kind::Scalar => uses.scalars.push(number),
     }
 }
 
@@ -47,7 +47,7 @@ fn note_given<'a>(uses: &mut Uses<'a>, given: Variable<'a>, parameter: Option<Va
         None => {}
         Some(parameter) => {
             let parameter = uses.variables.number_of(parameter);
-            uses.pairs.put((given, parameter));
+            uses.pairs.push((given, parameter));
         }
     }
 }
@@ -81,9 +81,9 @@ fn first_uses<'a>(alloc: Global, scopes: &Scopes<'a>) -> Uses<'a>
 {
     let mut uses = Uses {
         variables: Variables::of_parameters(alloc, &scopes.heads),
-        arrays: Grown::new(alloc),
-        scalars: Grown::new(alloc),
-        pairs: Grown::new(alloc),
+        arrays: LatchedVec::new(alloc),
+        scalars: LatchedVec::new(alloc),
+        pairs: LatchedVec::new(alloc),
     };
     note_specials(&mut uses, Kind::Array, &special_arrays());
     note_specials(&mut uses, Kind::Scalar, &special_scalars());
@@ -96,9 +96,9 @@ impl Uses<'_> {
         ensures { result ≡ true → IsWhole self.now }
     {
         !(self.variables.is_refused
-            || self.arrays.is_refused
-            || self.scalars.is_refused
-            || self.pairs.is_refused)
+            || self.arrays.out_of_memory()
+            || self.scalars.out_of_memory()
+            || self.pairs.out_of_memory())
     }
 }
 

@@ -7,7 +7,7 @@ ghost use Rattle.awk_grammar.specs.Marks.{Array, Computed, Given, Used, bare_nam
 ghost use Rattle.awk_resolve.specs.View.{view_place, AddsMarks};
 
 use crate::mark::{Kind, Mark};
-use crate::mark_list::Marks;
+use crate::mark_list::{Marks, put};
 use awk_grammar::{Builtin, Expr};
 
 /// The name that an expression is, if it is a bare name.
@@ -37,7 +37,7 @@ fn put_computed<'a>(out: &mut Marks<'a>, function: &'a [u8], argument: usize, e:
 {
     match bare_name(e) {
         Some(_) => {}
-        None => out.put(Mark::Computed(function, argument)),
+        None => put(out, Mark::Computed(function, argument)),
     }
 }
 
@@ -57,7 +57,7 @@ pub(crate) fn push_expr<'a>(out: &mut Marks<'a>, place: Option<&'a [u8]>, e: &'a
 {
     match e {
         Expr::Number(_) | Expr::Str(_) | Expr::Ere(_) | Expr::Length | Expr::Getline => {}
-        Expr::Var(name) => out.put(Mark::Used(Kind::Scalar, place, name)),
+        Expr::Var(name) => put(out, Mark::Used(Kind::Scalar, place, name)),
         Expr::Element(name, subscripts) => push_element(out, place, name, subscripts),
         Expr::Field(inner)
         | Expr::Group(inner)
@@ -74,7 +74,7 @@ pub(crate) fn push_expr<'a>(out: &mut Marks<'a>, place: Option<&'a [u8]>, e: &'a
         }
         Expr::In(subscript, array) => {
             push_expr(out, place, subscript);
-            out.put(Mark::Used(Kind::Array, place, array));
+            put(out, Mark::Used(Kind::Array, place, array));
         }
         Expr::InList(first, others, array) => {
             push_expr(out, place, first);
@@ -99,7 +99,7 @@ pub(crate) fn push_element<'a>(
     ensures { AddsMarks out.old out.new
         (marks (view_place place.entry) (Index name.now (views subscripts.now))) }
 {
-    out.put(Mark::Used(Kind::Array, place, name));
+    put(out, Mark::Used(Kind::Array, place, name));
     push_all(out, place, subscripts);
 }
 
@@ -113,7 +113,7 @@ fn push_call<'a>(
     ensures { AddsMarks out.old out.new
         (marks (view_place place.entry) (Call name.now (views arguments.now))) }
 {
-    out.put(Mark::Called(name, arguments.len()));
+    put(out, Mark::Called(name, arguments.len()));
     push_computed(out, name, arguments);
     push_arguments(out, place, name, arguments);
 }
@@ -130,7 +130,7 @@ fn push_others<'a>(
         (views others.now) ++ Used Array (view_place place.entry) array.now ∷ []) }
 {
     push_all(out, place, others);
-    out.put(Mark::Used(Kind::Array, place, array));
+    put(out, Mark::Used(Kind::Array, place, array));
 }
 
 /// Adds the marks of expressions.
@@ -157,7 +157,7 @@ fn push_argument<'a>(
         (marks (view_place place.entry) (view e.now))) }
 {
     match bare_name(e) {
-        Some(name) => out.put(Mark::Given(function, argument, place, name)),
+        Some(name) => put(out, Mark::Given(function, argument, place, name)),
         None => push_expr(out, place, e),
     }
 }
@@ -192,7 +192,7 @@ fn push_operand<'a>(
         (marks (view_place place.entry) (view e.now))) }
 {
     match array_name(function, argument, e) {
-        Some(name) => out.put(Mark::Used(Kind::Array, place, name)),
+        Some(name) => put(out, Mark::Used(Kind::Array, place, name)),
         None => push_expr(out, place, e),
     }
 }

@@ -6,9 +6,10 @@ ghost use Rattle.awk_grammar.specs.Marks.{args_marks, target_marks, plain_marks,
 ghost use Rattle.awk_resolve.specs.View.{view_marks, view_place, AddsMarks};
 
 use crate::mark::{Kind, Mark};
-use crate::mark_list::Marks;
+use crate::mark_list::{Marks, put};
 use crate::walk::{push_all, push_element, push_expr};
 use awk_grammar::{Expr, Item, Pattern, PrintArgs, PrintTarget, Script, SimpleStmt, Stmt};
+use latched::LatchedVec;
 use std::alloc::{AllocError, Global};
 
 fn push_args<'a>(out: &mut Marks<'a>, place: Option<&'a [u8]>, args: &'a PrintArgs)
@@ -45,7 +46,7 @@ fn push_simple<'a>(out: &mut Marks<'a>, place: Option<&'a [u8]>, simple: &'a Sim
             push_target(out, place, target);
         }
         SimpleStmt::Delete(name, subscripts) => push_element(out, place, name, subscripts),
-        SimpleStmt::Clear(name) => out.put(Mark::Used(Kind::Array, place, name)),
+        SimpleStmt::Clear(name) => put(out, Mark::Used(Kind::Array, place, name)),
     }
 }
 
@@ -101,8 +102,8 @@ fn push_stmt<'a>(out: &mut Marks<'a>, place: Option<&'a [u8]>, s: &'a Stmt)
             push_stmt(out, place, s);
         }
         Stmt::ForIn(key, array, s) => {
-            out.put(Mark::Used(Kind::Scalar, place, key));
-            out.put(Mark::Used(Kind::Array, place, array));
+            put(out, Mark::Used(Kind::Scalar, place, key));
+            put(out, Mark::Used(Kind::Array, place, array));
             push_stmt(out, place, s);
         }
         Stmt::Leave(_, e) => push_optional(out, place, e),
@@ -134,7 +135,7 @@ fn push_parameters<'a>(out: &mut Marks<'a>, function: &'a [u8], parameters: &'a 
     ensures { AddsMarks out.old out.new (parameter_marks function.now (view_names parameters.now)) }
 {
     for name in parameters {
-        out.put(Mark::Parameter(function, name));
+        put(out, Mark::Parameter(function, name));
     }
 }
 
@@ -143,7 +144,7 @@ fn push_item<'a>(out: &mut Marks<'a>, item: &'a Item)
 {
     match item {
         Item::Function(name, parameters, body) => {
-            out.put(Mark::Defined(name));
+            put(out, Mark::Defined(name));
             push_parameters(out, name, parameters);
             push_stmts(out, Some(name), body);
         }
@@ -162,9 +163,9 @@ pub(crate) fn marks_of(alloc: Global, script: &Script) -> Result<Vec<Mark<'_>>, 
     ensures { IfOk result
         (λ found. view_marks found.items ≡ script_marks (view_script script.now)) }
 {
-    let mut out = Marks::new(alloc);
+    let mut out = LatchedVec::new(alloc);
     for item in &script.items {
         push_item(&mut out, item);
     }
-    out.all()
+    out.into_vec()
 }

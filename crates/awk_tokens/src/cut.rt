@@ -11,8 +11,8 @@ ghost use Rattle.awk_tokens.specs.Views.{spelled};
 use crate::before::Before;
 use crate::endings::{with_inserted, without_dropped};
 use crate::front::front;
-use crate::held::push;
 use crate::token::{Piece, Punctuator, Token, TokenFault, TokenKind};
+use latched::push;
 use std::alloc::{AllocError, AllocFailed, Global};
 
 impl From<AllocError> for TokenFault {

@@ -5,7 +5,6 @@ mod before;
 mod cut;
 mod endings;
 mod front;
-mod held;
 mod laws;
 mod number;
 mod token;

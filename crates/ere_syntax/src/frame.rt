@@ -6,10 +6,10 @@ ghost use Rattle.ere_syntax.specs.Frames.{IsSized, atom_view, frame_view, some_c
 ghost use Rattle.ere_syntax.specs.Sizes.{IsSize};
 ghost use Rattle.ere_syntax.specs.View.{view, views};
 
-use crate::held::{boxed, push};
 use crate::size::Size;
 use crate::token::Atom;
 use crate::tree::{Ere, Times};
+use latched::{boxed, push};
 use std::alloc::{AllocError, Global};
 
 /// A piece of a branch, and its size.

@@ -7,7 +7,6 @@ mod class;
 mod escape;
 mod fault;
 mod frame;
-mod held;
 mod interval;
 mod laws;
 mod read;

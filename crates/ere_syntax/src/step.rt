@@ -10,10 +10,10 @@ ghost use Rattle.ere_syntax.specs.View.{view};
 
 use crate::fault::EreFault;
 use crate::frame::{Frame, Part, atom, bar, finish, fresh, grouped, put, repeated};
-use crate::held::push;
 use crate::size::{MAX_ERE_NESTING, Size};
 use crate::token::Token;
 use crate::tree::{Ere, Times};
+use latched::push;
 use std::alloc::Global;
 
 /// Puts a piece of one position into the frame.

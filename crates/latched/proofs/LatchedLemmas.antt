@@ -15,7 +15,7 @@ Takes old new item = new.out_of_memory ≡ false → (old.out_of_memory ≡ fals
 abbrev pub IsAllOf : {T : Type 0} → LatchedVec T → Result (Vec T) AllocError → Type 0
 IsAllOf list r = IfOk r (λ all. (list.out_of_memory ≡ false) × (all.items ≡ list.items.items))
 
-both_said : {T : Type 0} (P Q : T → Type 0) (item : Result T AllocError) → IsOkAnd item P → IfOk item Q → (x : T) × P x × Q x
+pub both_said : {T : Type 0} (P Q : T → Type 0) (item : Result T AllocError) → IsOkAnd item P → IfOk item Q → (x : T) × P x × Q x
 both_said P Q (Ok x) p q = (x, p, q)
 both_said P Q (Err e) p q = absurd p
 

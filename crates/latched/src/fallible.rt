@@ -54,7 +54,7 @@ pub fn set<T: Drop>(items: &mut Vec<T>, at: usize, item: T)
 ///
 /// Where there is no memory for it.
 pub fn single<T: Drop>(alloc: Global, item: T) -> Result<Vec<T>, AllocError>
-    ensures items { IfOk result (λ list. list.items ≡ item ∷ []) }
+    ensures { IfOk result (λ list. list.items ≡ item ∷ []) }
 {
     let mut list = Vec::with_capacity(alloc, 1)?;
     push(&mut list, item)?;
@@ -67,7 +67,7 @@ pub fn single<T: Drop>(alloc: Global, item: T) -> Result<Vec<T>, AllocError>
 ///
 /// Where there is no memory for it.
 pub fn pair<T: Drop>(alloc: Global, first: T, second: T) -> Result<Vec<T>, AllocError>
-    ensures items { IfOk result (λ list. list.items ≡ first ∷ second ∷ []) }
+    ensures { IfOk result (λ list. list.items ≡ first ∷ second ∷ []) }
 {
     let mut list = Vec::with_capacity(alloc, 2)?;
     push(&mut list, first)?;
@@ -80,13 +80,8 @@ pub fn pair<T: Drop>(alloc: Global, first: T, second: T) -> Result<Vec<T>, Alloc
 /// # Errors
 ///
 /// Where there is no memory for it.
-pub fn triple<T: Drop>(
-    alloc: Global,
-    first: T,
-    second: T,
-    third: T,
-) -> Result<Vec<T>, AllocError>
-    ensures items { IfOk result (λ list. list.items ≡ first ∷ second ∷ third ∷ []) }
+pub fn triple<T: Drop>(alloc: Global, first: T, second: T, third: T) -> Result<Vec<T>, AllocError>
+    ensures { IfOk result (λ list. list.items ≡ first ∷ second ∷ third ∷ []) }
 {
     let mut list = Vec::with_capacity(alloc, 3)?;
     push(&mut list, first)?;

@@ -1,4 +1,3 @@
-mod Growing
 mod StepsLemmas
 mod Pieces
 mod Noted

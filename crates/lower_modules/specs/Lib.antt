@@ -1,4 +1,3 @@
-pub mod Grown
 pub mod Calls
 pub mod Lengths
 pub mod Limits

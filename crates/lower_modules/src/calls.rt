@@ -7,8 +7,8 @@ ghost use Rattle.lower_model.specs.Modules.{called_from, calls_by, calls_in, cho
 ghost use Rattle.wasm_types.specs.View.{view, views};
 
 use crate::function::Function;
-use crate::held::Grown;
 use host_imports::{IMPORT_COUNT, Import};
+use latched::LatchedVec;
 use std::alloc::{AllocError, Global};
 use std::rc::Rc;
 use wasm_types::{Instr, Simple};
@@ -138,10 +138,10 @@ pub(crate) fn renumbered(
     ensures { IfOk result
         (λ out. views out.value.items ≡ renumbered called.now (views code.now)) }
 {
-    let mut out = Grown::new(Vec::with_capacity(alloc, code.len())?);
+    let mut out = LatchedVec::from_vec(Vec::with_capacity(alloc, code.len())?);
     for instr in code {
-        out.put(renumbered_one(alloc, called, instr));
+        out.push_made(renumbered_one(alloc, called, instr));
     }
-    let out = out.all()?;
+    let out = out.into_vec()?;
     Ok(Rc::new(alloc, out)?)
 }

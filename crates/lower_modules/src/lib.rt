@@ -7,7 +7,6 @@ mod calls;
 mod code;
 mod counts;
 mod function;
-mod held;
 mod lengths;
 mod module;
 mod needs;

@@ -12,13 +12,13 @@ ghost use Rattle.wasm_types.specs.View.{signature_of, view_module};
 
 use crate::calls::{called_imports, chosen};
 use crate::function::Function;
-use crate::held::Grown;
 use crate::lengths::least_among;
 use crate::sections::{
     exports, function_forms, globals, import_forms, memory, memory_for, segments,
 };
 use crate::types::{put_function_types, put_import_types};
 use host_imports::Import;
+use latched::LatchedVec;
 use lower_layout::LowerFault;
 use mid_program::Mid;
 use std::alloc::{AllocError, Global};
@@ -34,10 +34,10 @@ fn types(
         (λ all. map signature_of all.items
         ≡ map import_type used.now ++ map callee_type (view_functions functions.now)) }
 {
-    let mut all = Grown::new(Vec::new(alloc));
+    let mut all = LatchedVec::new(alloc);
     put_import_types(alloc, &mut all, used);
     put_function_types(alloc, &mut all, functions);
-    all.all()
+    all.into_vec()
 }
 
 /// The parts of a module that have to do with functions.

@@ -2,7 +2,7 @@
 ghost use Rattle.std.specs.Prelude.{◌≡◌, ◌+◌, ◌*◌, ◌≤◌, ◌++◌, ◌∷◌, [], length, map, replicate, true, IfOk, OnOk};
 ghost use Rattle.mid_program.specs.Sorted.{announced_names, kinds_of};
 ghost use Rattle.mid_program.specs.View.{view_declared, view_mid, view_routine, view_texts};
-ghost use Rattle.lower_modules.specs.Grown.{Puts};
+ghost use Rattle.latched.specs.Latched.{Adds};
 ghost use Rattle.lower_modules.specs.Limits.{most_bytes};
 ghost use Rattle.lower_modules.specs.Parts.{text_form};
 ghost use Rattle.lower_modules.specs.View.{view_function, view_functions};
@@ -16,8 +16,8 @@ ghost use Rattle.wasm_types.specs.View.{view_data, view_export, view_func, view_
 
 use crate::calls::renumbered;
 use crate::function::Function;
-use crate::held::{Grown, only};
 use host_imports::Import;
+use latched::{LatchedVec, single};
 use mid_program::{Declared, Kind, Mid, Routine};
 use std::alloc::{AllocError, Global};
 use wasm_types::{Data, Export, ExportDesc, Func, GlobalType, Instr, Limits, Simple, ValType};
@@ -42,13 +42,13 @@ pub(crate) fn import_forms(
     requires { length used.now ≤ length imports }
     ensures { IfOk result (λ all. map view_import all.items ≡ imported_from 0 used.now) }
 {
-    let mut all = Grown::new(Vec::new(alloc));
+    let mut all = LatchedVec::new(alloc);
     let mut ty = 0;
     for import in used {
-        all.put(import_form(alloc, *import, ty));
+        all.push_made(import_form(alloc, *import, ty));
         ty += 1;
     }
-    all.all()
+    all.into_vec()
 }
 
 fn function_form(
@@ -83,13 +83,13 @@ pub(crate) fn function_forms(
         (λ all. map view_func all.items
         ≡ functions_from called.now first (view_functions functions.now)) }
 {
-    let mut all = Grown::new(Vec::new(alloc));
+    let mut all = LatchedVec::new(alloc);
     let mut ty = first;
     for function in functions {
-        all.put(function_form(alloc, called, ty, function));
+        all.push_made(function_form(alloc, called, ty, function));
         ty += 1;
     }
-    all.all()
+    all.into_vec()
 }
 
 /// A global that begins with a constant.
@@ -102,7 +102,7 @@ fn global(alloc: Global, value: ValType, constant: Simple) -> Result<wasm_types:
             value,
             mutable: true,
         },
-        init: only(alloc, Instr::Plain(constant))?,
+        init: single(alloc, Instr::Plain(constant))?,
     })
 }
 
@@ -121,15 +121,15 @@ fn long(alloc: Global, number: u64) -> Result<wasm_types::Global, AllocError>
 }
 
 /// The module's own globals, and one for each range.
-fn put_first_globals(alloc: Global, all: &mut Grown<wasm_types::Global>, ranges: usize)
-    ensures { Puts view_global all.old all.new (word_global 0 ∷ (long_global 0
+fn put_first_globals(alloc: Global, all: &mut LatchedVec<wasm_types::Global>, ranges: usize)
+    ensures { Adds view_global all.old all.new (word_global 0 ∷ (long_global 0
         ∷ (word_global minus_one ∷ replicate ranges (word_global 0)))) }
 {
-    all.put(word(alloc, 0));
-    all.put(long(alloc, 0));
-    all.put(word(alloc, u32::MAX));
+    all.push_made(word(alloc, 0));
+    all.push_made(long(alloc, 0));
+    all.push_made(word(alloc, u32::MAX));
     for _done in 0..ranges {
-        all.put(word(alloc, 0));
+        all.push_made(word(alloc, 0));
     }
 }
 
@@ -137,13 +137,13 @@ fn put_first_globals(alloc: Global, all: &mut Grown<wasm_types::Global>, ranges:
 pub(crate) fn globals(alloc: Global, mid: &Mid) -> Result<Vec<wasm_types::Global>, AllocError>
     ensures { IfOk result (λ all. map view_global all.items ≡ globals_of (view_mid mid.now)) }
 {
-    let mut all = Grown::new(Vec::new(alloc));
+    let mut all = LatchedVec::new(alloc);
     put_first_globals(alloc, &mut all, mid.ranges);
     for _name in &mid.globals {
-        all.put(word(alloc, u32::MAX));
-        all.put(long(alloc, 1 << 63));
+        all.push_made(word(alloc, u32::MAX));
+        all.push_made(long(alloc, 1 << 63));
     }
-    all.all()
+    all.into_vec()
 }
 
 fn text_bytes(alloc: Global, texts: &[Vec<u8>]) -> Result<Vec<u8>, AllocError>
@@ -204,8 +204,8 @@ pub(crate) fn memory_for(bytes: u32) -> Limits
 pub(crate) fn segments(alloc: Global, memory: Vec<u8>) -> Result<Vec<Data>, AllocError>
     ensures { IfOk result (λ all. map view_data all.items ≡ text_form memory.items ∷ []) }
 {
-    let offset = only(alloc, Instr::Plain(Simple::I32Const(0)))?;
-    only(
+    let offset = single(alloc, Instr::Plain(Simple::I32Const(0)))?;
+    single(
         alloc,
         Data {
             memory: 0,
@@ -229,8 +229,8 @@ fn export(alloc: Global, name: &str, desc: ExportDesc) -> Result<Export, AllocEr
 pub(crate) fn exports(alloc: Global, main: u32) -> Result<Vec<Export>, AllocError>
     ensures { IfOk result (λ all. map view_export all.items ≡ exports_of main) }
 {
-    let mut all = Grown::new(Vec::new(alloc));
-    all.put(export(alloc, "main", ExportDesc::Func(main)));
-    all.put(export(alloc, "memory", ExportDesc::Memory(0)));
-    all.all()
+    let mut all = LatchedVec::new(alloc);
+    all.push_made(export(alloc, "main", ExportDesc::Func(main)));
+    all.push_made(export(alloc, "memory", ExportDesc::Memory(0)));
+    all.into_vec()
 }

@@ -1,7 +1,7 @@
 //! The types of functions, those that are imported and those of the module.
 ghost use Rattle.std.specs.Prelude.{◌≡◌, map, IfOk};
 ghost use Rattle.mid_program.specs.View.{view_kind};
-ghost use Rattle.lower_modules.specs.Grown.{Puts};
+ghost use Rattle.latched.specs.Latched.{Adds};
 ghost use Rattle.lower_modules.specs.View.{view_function};
 ghost use Rattle.host_imports.specs.Imports.{import_type};
 ghost use Rattle.lower_model.specs.Modules.{callee_type};
@@ -9,8 +9,8 @@ ghost use Rattle.lower_model.specs.Places.{kind_type};
 ghost use Rattle.wasm_types.specs.View.{signature_of};
 
 use crate::function::Function;
-use crate::held::Grown;
 use host_imports::{Import, type_of};
+use latched::LatchedVec;
 use mid_program::Kind;
 use std::alloc::{AllocError, Global};
 use wasm_types::{FuncType, ValType};
@@ -45,20 +45,24 @@ fn function_type(alloc: Global, function: &Function) -> Result<FuncType, AllocEr
     })
 }
 
-/// Puts the types of imports.
-pub(crate) fn put_import_types(alloc: Global, all: &mut Grown<FuncType>, used: &[Import])
-    ensures { Puts signature_of all.old all.new (map import_type used.now) }
+/// Adds the types of imports.
+pub(crate) fn put_import_types(alloc: Global, all: &mut LatchedVec<FuncType>, used: &[Import])
+    ensures { Adds signature_of all.old all.new (map import_type used.now) }
 {
     for import in used {
-        all.put(type_of(alloc, *import));
+        all.push_made(type_of(alloc, *import));
     }
 }
 
-/// Puts the types of functions.
-pub(crate) fn put_function_types(alloc: Global, all: &mut Grown<FuncType>, functions: &[Function])
-    ensures { Puts signature_of all.old all.new (map callee_type (map view_function functions.now)) }
+/// Adds the types of functions.
+pub(crate) fn put_function_types(
+    alloc: Global,
+    all: &mut LatchedVec<FuncType>,
+    functions: &[Function],
+)
+    ensures { Adds signature_of all.old all.new (map callee_type (map view_function functions.now)) }
 {
     for function in functions {
-        all.put(function_type(alloc, function));
+        all.push_made(function_type(alloc, function));
     }
 }

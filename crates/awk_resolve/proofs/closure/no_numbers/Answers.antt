@@ -6,14 +6,14 @@ pub loop-done-init : goal.loop-done-init
 loop-done-init c = no_first c.new-lists.result c.new-lists.ensures.items
 
 pub loop-done-preserved : goal.loop-done-preserved
-loop-done-preserved c = no_next c.new.result c.new.ensures.items c.put.ensures c.loop-done.invariant
+loop-done-preserved c = no_next c.new.result c.new.ensures.items c.push.ensures.added c.loop-done.invariant
 
 pub returns-clause-length : goal.returns-clause-length
 returns-clause-length c =
     let all : c.loop-done._done ≡ c.args.count = omega arith in
-    no_size c.loop-done.lists c.args.count c.all.result (subst (NoNumbers c.loop-done.lists) all c.loop-done.invariant) c.all.ensures
+    no_size c.loop-done.lists c.args.count c.into_vec.result (subst (NoNumbers c.loop-done.lists) all c.loop-done.invariant) c.into_vec.ensures.all
 
 pub returns-clause-empty : goal.returns-clause-empty
 returns-clause-empty c =
     let all : c.loop-done._done ≡ c.args.count = omega arith in
-    no_numbers c.loop-done.lists c.args.count c.all.result (subst (NoNumbers c.loop-done.lists) all c.loop-done.invariant) c.all.ensures
+    no_numbers c.loop-done.lists c.args.count c.into_vec.result (subst (NoNumbers c.loop-done.lists) all c.loop-done.invariant) c.into_vec.ensures.all

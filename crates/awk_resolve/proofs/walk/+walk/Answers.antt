@@ -4,74 +4,74 @@ use Rattle.awk_grammar.specs.View.{views}
 use Rattle.awk_grammar.specs.declared.tree.Expr.{Expr}
 use Rattle.awk_grammar.proofs.Views.{count_views, element_is, call_is, apply_is, in_list_is}
 use Rattle.awk_grammar.specs.Marks.{Called, computed_marks, marks, all_marks, argument_marks, operand_marks}
-use Rattle.awk_resolve.specs.View.{view_place}
-use Rattle.awk_resolve.proofs.Keeping.{adds_as, adds_both, leads_all, leads_first, leads_next}
+use Rattle.latched.proofs.LatchedLemmas.{adding_all, adding_first, adding_next, adds_as, adds_both}
+use Rattle.awk_resolve.specs.View.{view_mark, view_place}
 use Rattle.awk_resolve.proofs.Names.{drop_at}
 use Rattle.awk_resolve.proofs.walk.+walk.Goals as goal
 
 pub push_expr-returns-in-Element : goal.push_expr-returns-in-Element
 push_expr-returns-in-Element t c =
-    adds_as _ _ (ap (marks (view_place c.args.place)) (element_is c.args.e.now c.in-Element.name c.in-Element.subscripts _ _ c.in-Element.is c.deref-in-Element.ensures.value c.deref-in-Element-2.ensures.value))
+    adds_as view_mark _ _ (ap (marks (view_place c.args.place)) (element_is c.args.e.now c.in-Element.name c.in-Element.subscripts _ _ c.in-Element.is c.deref-in-Element.ensures.value c.deref-in-Element-2.ensures.value))
     c.push_element.ensures
 
 pub push_expr-returns-in-Call : goal.push_expr-returns-in-Call
 push_expr-returns-in-Call t c =
-    adds_as _ _ (ap (marks (view_place c.args.place)) (call_is c.args.e.now c.in-Call.name c.in-Call.arguments _ _ c.in-Call.is c.deref-in-Call.ensures.value c.deref-in-Call-2.ensures.value)) c.push_call.ensures
+    adds_as view_mark _ _ (ap (marks (view_place c.args.place)) (call_is c.args.e.now c.in-Call.name c.in-Call.arguments _ _ c.in-Call.is c.deref-in-Call.ensures.value c.deref-in-Call-2.ensures.value)) c.push_call.ensures
 
 pub push_expr-returns-in-Apply : goal.push_expr-returns-in-Apply
 push_expr-returns-in-Apply t c =
-    adds_as _ _ (ap (marks (view_place c.args.place)) (apply_is c.args.e.now c.in-Apply.function c.in-Apply.arguments _ c.in-Apply.is c.deref-in-Apply.ensures.value)) c.push_operands.ensures
+    adds_as view_mark _ _ (ap (marks (view_place c.args.place)) (apply_is c.args.e.now c.in-Apply.function c.in-Apply.arguments _ c.in-Apply.is c.deref-in-Apply.ensures.value)) c.push_operands.ensures
 
 pub push_expr-returns-in-InList : goal.push_expr-returns-in-InList
 push_expr-returns-in-InList t c =
-    adds_as _ _ (ap (marks (view_place c.args.place)) (in_list_is c.args.e.now c.in-InList.first c.in-InList.others c.in-InList.array _ _ _ c.in-InList.is c.deref-in-InList.ensures c.deref-in-InList-2.ensures.value
-    c.deref-in-InList-3.ensures.value)) (adds_both c.push_expr-in-InList.ensures c.push_others.ensures)
+    adds_as view_mark _ _ (ap (marks (view_place c.args.place)) (in_list_is c.args.e.now c.in-InList.first c.in-InList.others c.in-InList.array _ _ _ c.in-InList.is c.deref-in-InList.ensures c.deref-in-InList-2.ensures.value
+    c.deref-in-InList-3.ensures.value)) (adds_both view_mark c.push_expr-in-InList.ensures c.push_others.ensures)
 
 pub push_element-returns : goal.push_element-returns
-push_element-returns t c = adds_both c.put.ensures c.push_all.ensures
+push_element-returns t c = adds_both view_mark c.put.ensures c.push_all.ensures
 
 pub push_call-returns : goal.push_call-returns
 push_call-returns t c =
     let place = view_place c.args.place in
     let f = c.args.name.now in
     let ts = views c.args.arguments.now in
-    adds_as _ _ (ap (λ (n : ℕ). Called f n ∷ (computed_marks f 0 ts ++ argument_marks place f 0 ts)) (sym (count_views c.args.arguments.now)))
-    (adds_both c.put.ensures (adds_both c.push_computed.ensures c.push_arguments.ensures))
+    adds_as view_mark _ _ (ap (λ (n : ℕ). Called f n ∷ (computed_marks f 0 ts ++ argument_marks place f 0 ts)) (sym (count_views c.args.arguments.now)))
+    (adds_both view_mark c.put.ensures (adds_both view_mark c.push_computed.ensures c.push_arguments.ensures))
 
 pub push_others-returns : goal.push_others-returns
-push_others-returns t c = adds_both c.push_all.ensures c.put.ensures
+push_others-returns t c = adds_both view_mark c.push_all.ensures c.put.ensures
 
 pub push_all-loop-e-init : goal.push_all-loop-e-init
-push_all-loop-e-init t c = leads_first c.args.out.now _
+push_all-loop-e-init t c = adding_first view_mark c.args.out.now _
 
 pub push_all-loop-e-preserved : goal.push_all-loop-e-preserved
 push_all-loop-e-preserved t c =
-    leads_next _ (ap (λ (us : List Expr). all_marks (view_place c.args.place) (views us)) (drop_at c.args.es.now c.loop-e.e-index c.e-item.result c.loop-e-test.true c.e-item.is)) c.loop-e.invariant c.push_expr.ensures
+    adding_next view_mark _ (ap (λ (us : List Expr). all_marks (view_place c.args.place) (views us)) (drop_at c.args.es.now c.loop-e.e-index c.e-item.result c.loop-e-test.true c.e-item.is)) c.loop-e.invariant c.push_expr.ensures
 
 pub push_all-returns : goal.push_all-returns
 push_all-returns t c =
-    leads_all _ (ap (λ (us : List Expr). all_marks (view_place c.args.place) (views us)) (drop_all c.loop-e.e-index c.args.es.now (omega arith))) c.loop-e.invariant
+    adding_all view_mark _ (ap (λ (us : List Expr). all_marks (view_place c.args.place) (views us)) (drop_all c.loop-e.e-index c.args.es.now (omega arith))) c.loop-e.invariant
 
 pub push_arguments-loop-i-init : goal.push_arguments-loop-i-init
-push_arguments-loop-i-init t c = leads_first c.args.out.now _
+push_arguments-loop-i-init t c = adding_first view_mark c.args.out.now _
 
 pub push_arguments-loop-i-preserved : goal.push_arguments-loop-i-preserved
 push_arguments-loop-i-preserved t c =
-    leads_next _ (ap (λ (us : List Expr). argument_marks (view_place c.args.place) c.args.function.now c.loop-i.i (views us))
+    adding_next view_mark _ (ap (λ (us : List Expr). argument_marks (view_place c.args.place) c.args.function.now c.loop-i.i (views us))
     (drop_at c.args.arguments.now c.loop-i.i c.index-arguments-i.result (omega arith) c.index-arguments-i.is)) c.loop-i.invariant c.push_argument.ensures
 
 pub push_arguments-returns : goal.push_arguments-returns
 push_arguments-returns t c =
-    leads_all _ (ap (λ (us : List Expr). argument_marks (view_place c.args.place) c.args.function.now c.loop-i.i (views us)) (drop_all c.loop-i.i c.args.arguments.now (omega arith))) c.loop-i.invariant
+    adding_all view_mark _ (ap (λ (us : List Expr). argument_marks (view_place c.args.place) c.args.function.now c.loop-i.i (views us)) (drop_all c.loop-i.i c.args.arguments.now (omega arith))) c.loop-i.invariant
 
 pub push_operands-loop-i-init : goal.push_operands-loop-i-init
-push_operands-loop-i-init t c = leads_first c.args.out.now _
+push_operands-loop-i-init t c = adding_first view_mark c.args.out.now _
 
 pub push_operands-loop-i-preserved : goal.push_operands-loop-i-preserved
 push_operands-loop-i-preserved t c =
-    leads_next _ (ap (λ (us : List Expr). operand_marks (view_place c.args.place) c.args.function c.loop-i.i (views us))
+    adding_next view_mark _ (ap (λ (us : List Expr). operand_marks (view_place c.args.place) c.args.function c.loop-i.i (views us))
     (drop_at c.args.arguments.now c.loop-i.i c.index-arguments-i.result (omega arith) c.index-arguments-i.is)) c.loop-i.invariant c.push_operand.ensures
 
 pub push_operands-returns : goal.push_operands-returns
 push_operands-returns t c =
-    leads_all _ (ap (λ (us : List Expr). operand_marks (view_place c.args.place) c.args.function c.loop-i.i (views us)) (drop_all c.loop-i.i c.args.arguments.now (omega arith))) c.loop-i.invariant
+    adding_all view_mark _ (ap (λ (us : List Expr). operand_marks (view_place c.args.place) c.args.function c.loop-i.i (views us)) (drop_all c.loop-i.i c.args.arguments.now (omega arith))) c.loop-i.invariant

@@ -4,23 +4,23 @@ use Rattle.awk_grammar.specs.declared.tree.Stmt.{Stmt}
 use Rattle.awk_grammar.specs.ViewStmt.{view_stmts}
 use Rattle.awk_grammar.proofs.Views.{block_is}
 use Rattle.awk_grammar.specs.Marks.{stmt_marks, stmts_marks}
-use Rattle.awk_resolve.specs.View.{view_place}
-use Rattle.awk_resolve.proofs.Keeping.{adds_as, leads_all, leads_first, leads_next}
+use Rattle.latched.proofs.LatchedLemmas.{adding_all, adding_first, adding_next, adds_as}
+use Rattle.awk_resolve.specs.View.{view_mark, view_place}
 use Rattle.awk_resolve.proofs.Names.{drop_at}
 use Rattle.awk_resolve.proofs.walk_stmt.+walk_stmt.Goals as goal
 
 pub push_stmt-returns-in-Block : goal.push_stmt-returns-in-Block
 push_stmt-returns-in-Block t c =
-    adds_as _ _ (ap (stmt_marks (view_place c.args.place)) (block_is c.args.s.now c.in-Block.body _ c.in-Block.is c.deref.ensures.value)) c.push_stmts.ensures
+    adds_as view_mark _ _ (ap (stmt_marks (view_place c.args.place)) (block_is c.args.s.now c.in-Block.body _ c.in-Block.is c.deref.ensures.value)) c.push_stmts.ensures
 
 pub push_stmts-loop-s-init : goal.push_stmts-loop-s-init
-push_stmts-loop-s-init t c = leads_first c.args.out.now _
+push_stmts-loop-s-init t c = adding_first view_mark c.args.out.now _
 
 pub push_stmts-loop-s-preserved : goal.push_stmts-loop-s-preserved
 push_stmts-loop-s-preserved t c =
-    leads_next _ (ap (λ (us : List Stmt). stmts_marks (view_place c.args.place) (view_stmts us)) (drop_at c.args.body.now c.loop-s.s-index c.s-item.result c.loop-s-test.true c.s-item.is)) c.loop-s.invariant
+    adding_next view_mark _ (ap (λ (us : List Stmt). stmts_marks (view_place c.args.place) (view_stmts us)) (drop_at c.args.body.now c.loop-s.s-index c.s-item.result c.loop-s-test.true c.s-item.is)) c.loop-s.invariant
     c.push_stmt.ensures
 
 pub push_stmts-returns : goal.push_stmts-returns
 push_stmts-returns t c =
-    leads_all _ (ap (λ (us : List Stmt). stmts_marks (view_place c.args.place) (view_stmts us)) (drop_all c.loop-s.s-index c.args.body.now (omega arith))) c.loop-s.invariant
+    adding_all view_mark _ (ap (λ (us : List Stmt). stmts_marks (view_place c.args.place) (view_stmts us)) (drop_all c.loop-s.s-index c.args.body.now (omega arith))) c.loop-s.invariant

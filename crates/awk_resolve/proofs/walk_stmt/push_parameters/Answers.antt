@@ -3,18 +3,19 @@ use Rattle.std.proofs.lemmas.List.{drop_all}
 use Rattle.std.specs.Global.{Vec}
 use Rattle.awk_grammar.specs.ViewStmt.{view_names}
 use Rattle.awk_grammar.specs.Marks.{Parameter, parameter_marks}
-use Rattle.awk_resolve.proofs.Keeping.{adds_as, leads_all, leads_first, leads_next}
+use Rattle.latched.proofs.LatchedLemmas.{adding_all, adding_first, adding_next, adds_as}
+use Rattle.awk_resolve.specs.View.{view_mark}
 use Rattle.awk_resolve.proofs.Names.{drop_at}
 use Rattle.awk_resolve.proofs.walk_stmt.push_parameters.Goals as goal
 
 pub loop-name-init : goal.loop-name-init
-loop-name-init c = leads_first c.args.out.now _
+loop-name-init c = adding_first view_mark c.args.out.now _
 
 pub loop-name-preserved : goal.loop-name-preserved
 loop-name-preserved c =
-    leads_next _ (ap (λ (us : List (Vec ℕ)). parameter_marks c.args.function.now (view_names us)) (drop_at c.args.parameters.now c.loop-name.name-index c.name-item.result c.loop-name-test.true c.name-item.is))
-    c.loop-name.invariant (adds_as _ _ (ap (λ (x : List ℕ). Parameter c.args.function.now x ∷ []) c.deref.ensures.value) c.put.ensures)
+    adding_next view_mark _ (ap (λ (us : List (Vec ℕ)). parameter_marks c.args.function.now (view_names us)) (drop_at c.args.parameters.now c.loop-name.name-index c.name-item.result c.loop-name-test.true c.name-item.is))
+    c.loop-name.invariant (adds_as view_mark _ _ (ap (λ (x : List ℕ). Parameter c.args.function.now x ∷ []) c.deref.ensures.value) c.put.ensures)
 
 pub returns : goal.returns
 returns c =
-    leads_all _ (ap (λ (us : List (Vec ℕ)). parameter_marks c.args.function.now (view_names us)) (drop_all c.loop-name.name-index c.args.parameters.now (omega arith))) c.loop-name.invariant
+    adding_all view_mark _ (ap (λ (us : List (Vec ℕ)). parameter_marks c.args.function.now (view_names us)) (drop_all c.loop-name.name-index c.args.parameters.now (omega arith))) c.loop-name.invariant

@@ -9,7 +9,7 @@ use Rattle.wasm_types.specs.Syntax.{Instruction, Instructions, Then}
 use Rattle.wasm_types.specs.View.{view, views}
 use Rattle.wasm_types.proofs.Views.{followed_by, view_block, view_loop, view_if}
 use Rattle.lower_model.specs.Modules.{renumbered, renumbered_one}
-use Rattle.lower_modules.proofs.Growing.{taken}
+use Rattle.latched.proofs.LatchedLemmas.{both_said}
 use Rattle.lower_modules.proofs.Pieces.{followed_end, followed_more}
 use Rattle.lower_modules.proofs.calls.+renumbering.Goals as goal
 
@@ -20,8 +20,8 @@ renumbered-loop-instr-preserved t c =
     let old = c.loop-instr.out.items.items in
     let rest = renumbered bs (views (drop (i + 1) c.args.code.now)) in
     λ fine.
-    let p = c.put.ensures fine in
-    let x = taken (λ made. c.put.new.self.items.items ≡ old ++ made ∷ []) (λ made. view made ≡ renumbered_one bs (view c.instr-item.result)) c.renumbered_one.result p.1 c.renumbered_one.ensures in
+    let p = c.push_made.ensures.added fine in
+    let x = both_said (λ made. c.push_made.new.self.items.items ≡ old ++ made ∷ []) (λ made. view made ≡ renumbered_one bs (view c.instr-item.result)) c.renumbered_one.result p.1 c.renumbered_one.ensures in
     ap (λ (is : List Instr). followed_by (views is) rest) x.1
     ∙ followed_more old x.0 rest
     ∙ ap (λ (a : Instruction). followed_by (views old) (Then a rest)) x.2
@@ -31,7 +31,7 @@ renumbered-loop-instr-preserved t c =
 pub renumbered-returns : goal.renumbered-returns
 renumbered-returns t c =
     let old = c.loop-instr.out.items.items in
-    let is = c.in_ok-out.ensures in
+    let is = c.in_ok-out.ensures.all in
     ap (λ (v : Vec Instr Global). views v.items) c.in_ok-new.ensures.ok ∙ ap views is.1 ∙ sym (followed_end old)
     ∙ sym (at_drop_all (λ (is : List Instr). followed_by (views old) (renumbered c.args.called.now (views is))) c.args.code.now c.loop-instr.instr-index c.loop-instr-test.false)
     ∙ c.loop-instr.invariant is.0

@@ -5,4 +5,4 @@ use Rattle.lower_model.specs.Modules.{renumbered}
 use Rattle.lower_modules.proofs.calls.+renumbering.Given as goal
 
 abbrev pub invariant-renumbered-loop-instr : goal.invariant-renumbered-loop-instr
-invariant-renumbered-loop-instr l = l.out.is_refused ≡ false → followed_by (views l.out.items.items) (renumbered l.called (views (drop l.instr-index l.code))) ≡ renumbered l.called (views l.code)
+invariant-renumbered-loop-instr l = l.out.out_of_memory ≡ false → followed_by (views l.out.items.items) (renumbered l.called (views (drop l.instr-index l.code))) ≡ renumbered l.called (views l.code)

@@ -1,7 +1,7 @@
 use Rattle.std.proofs.Common.{◌≡◌, ◌+◌, drop}
 use Rattle.wasm_types.specs.View.{view_func}
 use Rattle.lower_model.specs.Modules.{functions_from}
-use Rattle.lower_modules.specs.Grown.{Leads}
+use Rattle.latched.specs.Latched.{Leads}
 use Rattle.lower_modules.specs.View.{view_functions}
 use Rattle.lower_modules.proofs.sections.function_forms.Given as goal
 

@@ -3,7 +3,7 @@ use Rattle.wasm_types.specs.View.{view_global}
 use Rattle.mid_program.specs.View.{view_declared, view_mid}
 use Rattle.mid_program.specs.Sorted.{kinds_of}
 use Rattle.lower_model.specs.Modules.{globals_of, name_globals}
-use Rattle.lower_modules.specs.Grown.{Leads}
+use Rattle.latched.specs.Latched.{Leads}
 use Rattle.lower_modules.proofs.sections.globals.Given as goal
 
 abbrev pub invariant-loop-name : goal.invariant-loop-name

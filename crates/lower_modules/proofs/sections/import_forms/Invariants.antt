@@ -1,7 +1,7 @@
 use Rattle.std.proofs.Common.{◌≡◌, drop}
 use Rattle.wasm_types.specs.View.{view_import}
 use Rattle.lower_model.specs.Modules.{imported_from}
-use Rattle.lower_modules.specs.Grown.{Leads}
+use Rattle.latched.specs.Latched.{Leads}
 use Rattle.lower_modules.proofs.sections.import_forms.Given as goal
 
 abbrev pub invariant-loop-import : goal.invariant-loop-import

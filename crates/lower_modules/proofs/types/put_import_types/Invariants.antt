@@ -1,9 +1,8 @@
-use Rattle.std.proofs.Common.{◌++◌, List, map, drop}
-use Rattle.wasm_types.specs.Syntax.{Signature}
+use Rattle.std.proofs.Common.{map, drop}
 use Rattle.wasm_types.specs.View.{signature_of}
 use Rattle.host_imports.specs.Imports.{import_type}
-use Rattle.lower_modules.specs.Grown.{Leads}
+use Rattle.latched.proofs.LatchedLemmas.{Adding}
 use Rattle.lower_modules.proofs.types.put_import_types.Given as goal
 
 abbrev pub invariant-loop-import : goal.invariant-loop-import
-invariant-loop-import l = (rest whole : List Signature) → Leads signature_of l.fn.all (map import_type l.used ++ rest) whole → Leads signature_of l.all (map import_type (drop l.import-index l.used) ++ rest) whole
+invariant-loop-import l = Adding signature_of l.fn.all l.all (map import_type (drop l.import-index l.used)) (map import_type l.used)
