@@ -12,7 +12,7 @@ use Rattle.awk_grammar.proofs.Sound.{ok_is, name_ok}
 use Rattle.awk_parse.specs.declared.refusal.Refusal.{Refusal}
 use Rattle.awk_parse.specs.declared.refusal.Refusal.TheVariants.{Syntax as SyntaxRefusal}
 use Rattle.awk_parse.specs.Seen.{Fails}
-use Rattle.awk_parse.specs.StatementStarts.{open_brace_at}
+use Rattle.awk_parse.specs.Marks.{open_brace_at}
 use Rattle.awk_parse.specs.Went.{At, stands, ended, Went, Ends, is_read}
 use Rattle.awk_parse.proofs.Went.{then, then_ends, stays, all_came, fails_all, ends_as}
 

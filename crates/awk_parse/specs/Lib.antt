@@ -2,6 +2,7 @@ pub mod Depths
 pub mod Operands
 pub mod Seen
 pub mod Starts
+pub mod Marks
 pub mod Went
 pub mod Bodies
 pub mod Names

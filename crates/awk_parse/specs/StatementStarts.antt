@@ -27,10 +27,6 @@ use Rattle.awk_parse.specs.declared.statement_start.ItemStart.TheVariants as ite
 use Rattle.awk_parse.specs.Bodies.{loop_by}
 use Rattle.awk_parse.specs.Seen.{seen}
 
-abbrev pub open_brace_at : List Token → Option (List Token)
-open_brace_at (OpenBrace ∷ ts) = Some ts
-open_brace_at _ = None
-
 -- ---- where `print` writes
 
 abbrev pub redirected_at : List Token → Option (Redirection × List Token)

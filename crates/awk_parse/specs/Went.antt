@@ -1,14 +1,11 @@
 -- What reading gave, by what was left before and after.
 use Rattle.std.specs.Prelude.{◌≡◌, List, Option, Some, None, Result, Ok, Err}
 use Rattle.awk_grammar.specs.Token.{Token, Fault}
-use Rattle.awk_grammar.specs.Reading.{close_at, bracket_at, colon_at, in_at}
-use Rattle.awk_grammar.specs.ReadStmt.{Read, open_here, comma_here, semicolon_at, while_at}
+use Rattle.awk_grammar.specs.ReadStmt.{Read}
 use Rattle.awk_parse.specs.declared.refusal.Refusal.{Refusal}
 use Rattle.awk_parse.specs.declared.refusal.Refusal.TheVariants as refusals
 use Rattle.awk_parse.specs.Seen.{seen, Fails}
 use Rattle.awk_parse.specs.declared.source.Source.{Source}
-use Rattle.awk_parse.specs.declared.source.Mark.{Mark}
-use Rattle.awk_parse.specs.declared.source.Mark.TheVariants as marks
 
 -- the tokens that are left, or why reading stopped
 abbrev pub At : Type 0
@@ -62,13 +59,3 @@ IsNoSyntax _ = Unit {0}
 -- nothing more is read for it
 abbrev pub is_read : {A : Type 0} → A → List Token → Read A
 is_read a ts = Ok (a, ts)
-
-abbrev pub mark_at : Mark → List Token → Result (List Token) Fault
-mark_at marks.Open = open_here
-mark_at marks.Close = close_at
-mark_at marks.CloseBracket = bracket_at
-mark_at marks.Comma = comma_here
-mark_at marks.Colon = colon_at
-mark_at marks.Semicolon = semicolon_at
-mark_at marks.In = in_at
-mark_at marks.While = while_at

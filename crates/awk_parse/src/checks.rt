@@ -1,7 +1,7 @@
 //! What must hold of a tree where it stands.
 
 ghost use Rattle.std.specs.Prelude.{◌≡◌, Ok, MatchOption, Some, None};
-ghost use Rattle.awk_grammar.specs.Reading.{posted, step_at, suited, bare, checked};
+ghost use Rattle.awk_grammar.specs.Reading.{posted, suited, bare, checked};
 ghost use Rattle.awk_grammar.specs.View.{view, views, view_step};
 ghost use Rattle.awk_parse.specs.Operands.{done, fitted_at, post_at};
 ghost use Rattle.awk_parse.specs.Seen.{seen, view_mode};

@@ -5,8 +5,9 @@ ghost use Rattle.awk_parse.specs.Operands.{in_array_at, contained_at};
 ghost use Rattle.awk_parse.specs.Went.{at, Went};
 
 use crate::deep::{Deep, DeepList, Part};
+use crate::mark::Mark;
 use crate::node::{has, has_list};
-use crate::source::{Mark, Source};
+use crate::source::Source;
 
 /// A subscript, and the array after `in`.
 #[inline(never)]

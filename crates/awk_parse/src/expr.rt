@@ -14,16 +14,14 @@ ghost use Rattle.awk_parse.specs.Went.{at, Went};
 use crate::checks::{bare, bounded, fitted, suited};
 use crate::contains::{contained, in_array};
 use crate::deep::{Deep, DeepList, Part, length, none};
+use crate::mark::{Mark, after};
 use crate::mode::{Mode, floor, right_of};
 use crate::node::{
     below, call_of, choice, element, got, got_from, grouped, joined, part, variable, with_one,
 };
-use crate::peek::{
-    Link, after_bracket, after_close, after_comma, after_less, after_open, begins_lvalue, joining,
-    line_of, stopped,
-};
+use crate::peek::{Link, begins_lvalue, joining, line_of, stopped};
 use crate::refusal::Refusal;
-use crate::source::{Mark, Source};
+use crate::source::Source;
 use crate::start::{Prefix, Start, constant, mode_below, start_of};
 use awk_grammar::{Builtin, Expr};
 
@@ -132,7 +130,7 @@ fn read_list(source: &mut Source<'_>, limit: u32, greater: bool) -> DeepList
     let mut all = with_one(source, none(source.alloc), first);
     let turns = source.rest.len();
     for _ in 0..turns {
-        let Some(rest) = after_comma(source.rest) else {
+        let Some(rest) = after(Mark::Comma, source.rest) else {
             return all;
         };
         source.go_on(rest);
@@ -149,7 +147,7 @@ fn arguments(source: &mut Source<'_>, limit: u32) -> DeepList
     ensures { Went (views result.trees.items) (at source.old) (at source.new)
         (arguments_at (expr_at limit)) }
 {
-    if let Some(rest) = after_close(source.rest) {
+    if let Some(rest) = after(Mark::Close, source.rest) {
         source.go_on(rest);
         return none(source.alloc);
     }
@@ -166,7 +164,7 @@ fn named(source: &mut Source<'_>, limit: u32, text: &[u8]) -> Deep
         (λ ts. indexed_by (expr_at limit) text.now ts (index_at ts)) }
 {
     let name = source.copied(text);
-    let Some(rest) = after_bracket(source.rest) else {
+    let Some(rest) = after(Mark::OpenBracket, source.rest) else {
         return variable(name);
     };
     source.go_on(rest);
@@ -196,7 +194,7 @@ fn applied(source: &mut Source<'_>, limit: u32, function: Builtin) -> Deep
         (λ ts. applied_by (expr_at limit) function ts (open_at ts)) }
 {
     let start = source.rest;
-    let Some(rest) = after_open(start) else {
+    let Some(rest) = after(Mark::Open, start) else {
         return bare(source, function);
     };
     source.go_on(rest);
@@ -214,7 +212,7 @@ fn parenthesised(source: &mut Source<'_>, limit: u32) -> Deep
     let Some(first) = part(source, first) else {
         return length();
     };
-    if let Some(rest) = after_comma(source.rest) {
+    if let Some(rest) = after(Mark::Comma, source.rest) {
         source.go_on(rest);
         let others = read_list(source, limit, true);
         return in_array(source, first, others);
@@ -245,7 +243,7 @@ fn from_file(source: &mut Source<'_>, limit: u32, greater: bool, variable: Optio
     ensures { Went (view result.tree) (at source.old) (at source.new)
         (λ ts. from_by (expr_at limit) greater (view_variable variable) ts (less_at ts)) }
 {
-    let Some(rest) = after_less(source.rest) else {
+    let Some(rest) = after(Mark::Less, source.rest) else {
         return got(variable);
     };
     source.go_on(rest);

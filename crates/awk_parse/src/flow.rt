@@ -11,11 +11,11 @@ ghost use Rattle.awk_parse.specs.Went.{at, Went};
 ghost use Rattle.awk_parse.specs.Bodies.{Held, view_boxed, looped_at, short_at, ended_at};
 
 use crate::head::{Lead, loop_lead};
+use crate::mark::{Mark, after};
 use crate::peek::{line_of, stopped};
 use crate::refusal::Refusal;
-use crate::source::{Mark, Source};
+use crate::source::Source;
 use crate::statement_node::{block_of, both, closed, on_heap};
-use crate::statement_peek::{after_brace, after_else};
 use crate::statement_start::{LoopWord, Short, StmtStart, stmt_start};
 use crate::stmt::{condition, optional, simple};
 use awk_grammar::Stmt;
@@ -64,7 +64,7 @@ pub(crate) fn statements(source: &mut Source<'_>, limit: u32) -> Vec<Stmt>
     let mut read = Vec::new(source.alloc);
     let turns = source.rest.len();
     for _ in 0..turns {
-        if let Some(rest) = after_brace(source.rest) {
+        if let Some(rest) = after(Mark::CloseBrace, source.rest) {
             source.go_on(rest);
             return read;
         }
@@ -87,7 +87,7 @@ fn if_statement(source: &mut Source<'_>, limit: u32) -> Option<Box<Stmt>>
 {
     let test = condition(source, limit);
     let then = statement(source, limit);
-    let Some(rest) = after_else(source.rest) else {
+    let Some(rest) = after(Mark::Else, source.rest) else {
         return closed(source, limit, Lead::If(test), then);
     };
     let (test, then) = both(test, then)?;

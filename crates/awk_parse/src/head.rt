@@ -4,7 +4,8 @@ ghost use Rattle.awk_grammar.specs.Reading.{expr_at};
 ghost use Rattle.awk_parse.specs.Went.{at, Went};
 ghost use Rattle.awk_parse.specs.Bodies.{view_lead, lead_by, keyed_at, counted_at};
 
-use crate::source::{Mark, Source};
+use crate::mark::Mark;
+use crate::source::Source;
 use crate::statement_peek::keys;
 use crate::statement_start::LoopWord;
 use crate::stmt::{condition, optional, optional_simple};

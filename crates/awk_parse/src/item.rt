@@ -12,11 +12,12 @@ ghost use Rattle.awk_parse.specs.Names.{with_names};
 
 use crate::expr::expression;
 use crate::flow::statements;
+use crate::mark::{Mark, after};
 use crate::mode::Mode;
-use crate::peek::{after_comma, after_name, after_semicolon, stopped};
+use crate::peek::{after_name, stopped};
 use crate::refusal::Refusal;
-use crate::source::{Mark, Source};
-use crate::statement_peek::{after_function_name, after_open_brace};
+use crate::source::Source;
+use crate::statement_peek::after_function_name;
 use crate::statement_start::{ItemStart, item_start, taken};
 use awk_grammar::{Item, MAX_DEPTH, Pattern, Stmt};
 use awk_tokens::Token;
@@ -27,7 +28,7 @@ fn body(source: &mut Source<'_>) -> Vec<Stmt>
     ensures { Went (view_stmts result.items) (at source.old) (at source.new)
         (body_at most_depth) }
 {
-    let Some(rest) = after_open_brace(source.rest) else {
+    let Some(rest) = after(Mark::OpenBrace, source.rest) else {
         source.refuse(stopped(source.rest));
         return Vec::new(source.alloc);
     };
@@ -57,7 +58,7 @@ fn others(source: &mut Source<'_>, front: Vec<Vec<u8>>) -> Vec<Vec<u8>>
     let mut names = front;
     let turns = source.rest.len();
     for _ in 0..turns {
-        let Some(rest) = after_comma(source.rest) else {
+        let Some(rest) = after(Mark::Comma, source.rest) else {
             return names;
         };
         source.go_on(rest);
@@ -92,7 +93,7 @@ fn pattern(source: &mut Source<'_>) -> Pattern
         (pattern_at most_depth) }
 {
     let first = expression(source, MAX_DEPTH, true, Mode::Whole);
-    let Some(rest) = after_comma(source.rest) else {
+    let Some(rest) = after(Mark::Comma, source.rest) else {
         return Pattern::One(first);
     };
     source.go_on(rest);
@@ -105,7 +106,7 @@ fn rule(source: &mut Source<'_>) -> Item
     ensures { Went (view_item result) (at source.old) (at source.new) (rule_at most_depth) }
 {
     let condition = pattern(source);
-    let Some(rest) = after_semicolon(source.rest) else {
+    let Some(rest) = after(Mark::Semicolon, source.rest) else {
         let action = body(source);
         return Item::Rule(condition, action);
     };

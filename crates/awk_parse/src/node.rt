@@ -12,12 +12,12 @@ ghost use Rattle.awk_parse.specs.declared.refusal.Refusal.TheVariants.{NoMemory}
 
 use crate::deep::{Deep, DeepList, Part, length};
 use crate::depth::{above, above_both, deeper};
-use crate::held::push;
 use crate::peek::Infix;
 use crate::refusal::Refusal;
 use crate::source::Source;
 use crate::start::Prefix;
 use awk_grammar::{Builtin, Expr};
+use latched::push;
 
 /// An expression on the heap; none where reading stopped.
 #[inline(never)]
@@ -219,10 +219,10 @@ pub(crate) fn with_one(source: &mut Source<'_>, list: DeepList, next: Deep) -> D
 {
     let DeepList { mut trees, depth } = list;
     let Deep { tree, depth: last } = next;
-    if !push(&mut trees, tree) {
+    let Ok(()) = push(&mut trees, tree) else {
         source.refuse(Refusal::NoMemory);
         return DeepList { trees, depth };
-    }
+    };
     DeepList {
         trees,
         depth: deeper(depth, last),

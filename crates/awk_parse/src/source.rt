@@ -2,18 +2,16 @@
 
 ghost use Rattle.std.specs.Prelude.{◌≡◌, ◌++◌, ◌∷◌, [], MatchOption, None, Some, Ok, Err};
 ghost use Rattle.awk_grammar.specs.Reading.{name_at};
-ghost use Rattle.awk_grammar.specs.Token.{Syntax as SyntaxFault};
+ghost use Rattle.awk_parse.specs.Marks.{mark_at};
 ghost use Rattle.awk_parse.specs.Seen.{seen};
 ghost use Rattle.awk_parse.specs.declared.refusal.Refusal.TheVariants.{NoMemory};
-ghost use Rattle.awk_parse.specs.Went.{stands, at, ended, Went, Passed, is_read, IsSyntax, IsNoSyntax, mark_at};
+ghost use Rattle.awk_parse.specs.Went.{stands, at, ended, Went, Passed, is_read, IsSyntax, IsNoSyntax};
 
-use crate::held::push;
-use crate::peek::{
-    after_close, after_close_bracket, after_colon, after_comma, after_in, after_name, after_open,
-    after_semicolon, after_while, stopped,
-};
+use crate::mark::{Mark, after};
+use crate::peek::{after_name, stopped};
 use crate::refusal::Refusal;
 use awk_tokens::Token;
+use latched::push;
 use std::alloc::Global;
 
 /// What is left of the tokens. Once reading stopped nothing is left: what is read from then on stands for nothing, and who asks at the end learns why.
@@ -22,36 +20,6 @@ pub struct Source<'a> {
     pub alloc: Global,
     pub rest: &'a [Token<'a>],
     pub refused: Option<Refusal>,
-}
-
-/// A token that must come next.
-#[derive(Clone, Copy)]
-pub enum Mark {
-    Open,
-    Close,
-    CloseBracket,
-    Comma,
-    Colon,
-    Semicolon,
-    In,
-    While,
-}
-
-/// The tokens after a mark, if that comes first.
-fn after<'a>(mark: Mark, tokens: &'a [Token<'a>]) -> Option<&'a [Token<'a>]>
-    ensures { MatchOption result (mark_at mark (seen tokens.now) ≡ Err SyntaxFault)
-        (λ r. mark_at mark (seen tokens.now) ≡ Ok (seen r.now)) }
-{
-    match mark {
-        Mark::Open => after_open(tokens),
-        Mark::Close => after_close(tokens),
-        Mark::CloseBracket => after_close_bracket(tokens),
-        Mark::Comma => after_comma(tokens),
-        Mark::Colon => after_colon(tokens),
-        Mark::Semicolon => after_semicolon(tokens),
-        Mark::In => after_in(tokens),
-        Mark::While => after_while(tokens),
-    }
 }
 
 impl<'a> Source<'a> {
@@ -147,7 +115,7 @@ impl<'a> Source<'a> {
         ensures { Went items.new.items (at self.old) (at self.new)
             (is_read (items.old.items ++ item ∷ [])) }
     {
-        if !push(items, item) {
+        if push(items, item).is_err() {
             self.refuse(Refusal::NoMemory);
         }
     }

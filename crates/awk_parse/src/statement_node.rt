@@ -8,7 +8,8 @@ ghost use Rattle.awk_parse.specs.Went.{at, Went, is_read};
 ghost use Rattle.awk_parse.specs.Bodies.{Held, view_boxed, view_lead, closed_at};
 
 use crate::head::{Head, Lead};
-use crate::source::{Mark, Source};
+use crate::mark::Mark;
+use crate::source::Source;
 use crate::stmt::condition;
 use awk_grammar::Stmt;
 

@@ -5,63 +5,12 @@ ghost use Rattle.awk_tokens.specs.Views.{spelled};
 ghost use Rattle.awk_grammar.specs.Lexeme.{spoken_after};
 ghost use Rattle.awk_grammar.specs.Token.{Syntax as SyntaxFault};
 ghost use Rattle.awk_grammar.specs.Reading.{name_at};
-ghost use Rattle.awk_grammar.specs.ReadStmt.{else_at, brace_at, keys_at, is_in};
+ghost use Rattle.awk_grammar.specs.ReadStmt.{keys_at, is_in};
 ghost use Rattle.awk_parse.specs.Seen.{seen};
-ghost use Rattle.awk_parse.specs.StatementStarts.{open_brace_at};
 
-use crate::peek::{after_close, after_in, after_name};
-use awk_tokens::{Keyword, Punctuator, Token, TokenKind};
-
-/// The tokens after `else`.
-pub(crate) fn after_else<'a>(tokens: &'a [Token<'a>]) -> Option<&'a [Token<'a>]>
-    ensures { MatchOption result (else_at (seen tokens.now) ≡ None)
-        (λ r. else_at (seen tokens.now) ≡ Some (seen r.now)) }
-{
-    match tokens {
-        [
-            Token {
-                kind: TokenKind::Keyword(Keyword::Else),
-                ..
-            },
-            rest @ ..,
-        ] => Some(rest),
-        _ => None,
-    }
-}
-
-/// The tokens after `}`.
-pub(crate) fn after_brace<'a>(tokens: &'a [Token<'a>]) -> Option<&'a [Token<'a>]>
-    ensures { MatchOption result (brace_at (seen tokens.now) ≡ None)
-        (λ r. brace_at (seen tokens.now) ≡ Some (seen r.now)) }
-{
-    match tokens {
-        [
-            Token {
-                kind: TokenKind::Punctuator(Punctuator::CloseBrace),
-                ..
-            },
-            rest @ ..,
-        ] => Some(rest),
-        _ => None,
-    }
-}
-
-/// The tokens after `{`.
-pub(crate) fn after_open_brace<'a>(tokens: &'a [Token<'a>]) -> Option<&'a [Token<'a>]>
-    ensures { MatchOption result (open_brace_at (seen tokens.now) ≡ None)
-        (λ r. open_brace_at (seen tokens.now) ≡ Some (seen r.now)) }
-{
-    match tokens {
-        [
-            Token {
-                kind: TokenKind::Punctuator(Punctuator::OpenBrace),
-                ..
-            },
-            rest @ ..,
-        ] => Some(rest),
-        _ => None,
-    }
-}
+use crate::mark::{Mark, after};
+use crate::peek::after_name;
+use awk_tokens::{Keyword, Token, TokenKind};
 
 /// A name after `function`, where it may also be one directly before `(`, and the tokens after it.
 pub(crate) fn after_function_name<'a>(
@@ -89,10 +38,10 @@ pub(crate) fn keys<'a>(tokens: &'a [Token<'a>]) -> Option<(&'a [u8], &'a [u8], &
     ensures { MatchOption result (keys_at (seen tokens.now) ≡ None)
         (λ o. keys_at (seen tokens.now) ≡ Some (o.0.now, o.1.now, seen o.2.now)) }
 {
-    let (key, after) = after_name(tokens)?;
-    let after = after_in(after)?;
-    let (array, after) = after_name(after)?;
-    let rest = after_close(after)?;
+    let (key, others) = after_name(tokens)?;
+    let others = after(Mark::In, others)?;
+    let (array, others) = after_name(others)?;
+    let rest = after(Mark::Close, others)?;
     Some((key, array, rest))
 }
 

@@ -2,7 +2,7 @@
 
 ghost use Rattle.std.specs.Prelude.{◌≡◌};
 ghost use Rattle.awk_grammar.specs.Reading.{expr_at};
-ghost use Rattle.awk_grammar.specs.ReadStmt.{args_at, target_at, put_at, delete_at, plain_at, maybe_at, maybe_plain_at, condition_at, starts_plain};
+ghost use Rattle.awk_grammar.specs.ReadStmt.{args_at, target_at, delete_at, plain_at, maybe_at, maybe_plain_at, condition_at, starts_plain};
 ghost use Rattle.awk_grammar.specs.View.{view};
 ghost use Rattle.awk_grammar.specs.ViewStmt.{view_word, view_args, view_target, view_simple, view_maybe, view_maybe_simple};
 ghost use Rattle.awk_parse.specs.Seen.{seen};
@@ -10,9 +10,10 @@ ghost use Rattle.awk_parse.specs.Went.{at, Went, Passed};
 ghost use Rattle.awk_parse.specs.Bodies.{no_in, enclosed_args_at};
 
 use crate::expr::{expression, list};
+use crate::mark::{Mark, after};
 use crate::mode::Mode;
-use crate::peek::{after_bracket, begins_expr, stopped};
-use crate::source::{Mark, Source};
+use crate::peek::{begins_expr, stopped};
+use crate::source::Source;
 use crate::statement_peek::is_in;
 use crate::statement_start::{PlainStart, plain_start, redirected, target_of};
 use awk_grammar::{Expr, PrintArgs, PrintTarget, PrintWord, SimpleStmt};
@@ -78,7 +79,7 @@ fn deletion(source: &mut Source<'_>, limit: u32) -> SimpleStmt
         (delete_at (expr_at limit)) }
 {
     let array = source.name();
-    let Some(rest) = after_bracket(source.rest) else {
+    let Some(rest) = after(Mark::OpenBracket, source.rest) else {
         return SimpleStmt::Clear(array);
     };
     source.go_on(rest);

@@ -73,25 +73,25 @@ read_list-loop-init t c = λ v s w. trees_begin (expr_at c.args.limit) c.args.gr
 pub read_list-loop-preserved : goal.read_list-loop-preserved
 read_list-loop-preserved t c =
     λ v s w. c.loop.invariant v s (trees_next (expr_at c.args.limit) c.args.greater (views c.loop.all.trees.items) _ v _ c.loop.counter (length c.with_one-all.new.source.rest.now) (seen c.loop.source.rest.now) (seen c.in-Some.rest.now) _ _ _ _ s
-    c.loop-test.true c.in-Some.ensures c.go_on.ensures c.read-next.ensures c.with_one-all-in-loop.ensures w)
+    c.loop-test.true c.in-Some.ensures.may c.go_on.ensures c.read-next.ensures c.with_one-all-in-loop.ensures w)
 
 pub read_list-returns-in_default : goal.read_list-returns-in_default
-read_list-returns-in_default t c = c.loop.invariant _ _ (trees_end (expr_at c.args.limit) c.args.greater (views c.loop.all.trees.items) (length c.with_one-all.new.source.rest.now - c.loop.counter) (seen c.loop.source.rest.now) _ c.in_default.ensures)
+read_list-returns-in_default t c = c.loop.invariant _ _ (trees_end (expr_at c.args.limit) c.args.greater (views c.loop.all.trees.items) (length c.with_one-all.new.source.rest.now - c.loop.counter) (seen c.loop.source.rest.now) _ c.in_default.ensures.may)
 
 pub read_list-returns : goal.read_list-returns
 read_list-returns t c = c.loop.invariant _ _ (trees_over (expr_at c.args.limit) c.args.greater (views c.loop.all.trees.items) (length c.with_one-all.new.source.rest.now - c.loop.counter) (seen c.loop.source.rest.now) _ (omega (arith, c.loop-test.false)))
 
 pub arguments-returns-in-Some : goal.arguments-returns-in-Some
-arguments-returns-in-Some t c = no_arguments (expr_at c.args.limit) _ _ _ _ _ c.none.ensures c.in-Some.ensures c.go_on.ensures
+arguments-returns-in-Some t c = no_arguments (expr_at c.args.limit) _ _ _ _ _ c.none.ensures c.in-Some.ensures.must c.go_on.ensures
 
 pub arguments-returns : goal.arguments-returns
-arguments-returns t c = some_arguments (expr_at c.args.limit) _ _ _ _ _ c.in_default.ensures c.read_list-inner.ensures c.expect.ensures
+arguments-returns t c = some_arguments (expr_at c.args.limit) _ _ _ _ _ c.in_default.ensures.must c.read_list-inner.ensures c.expect.ensures
 
 pub named-returns-in_default : goal.named-returns-in_default
 named-returns-in_default t c =
     let expr = expr_at c.args.limit in
     let ts = seen c.copied-name.new.self.rest.now in
-    then (λ x. indexed_by expr x.0 x.1 (index_at x.1)) c.copied-name.ensures (goes_as ts _ (λ us. indexed_by expr c.copied-name.result.items us (index_at us)) (is_read (Var c.copied-name.result.items)) (ap (indexed_by expr c.copied-name.result.items ts) c.in_default.ensures) (is_here _ _ _ c.variable.ensures))
+    then (λ x. indexed_by expr x.0 x.1 (index_at x.1)) c.copied-name.ensures (goes_as ts _ (λ us. indexed_by expr c.copied-name.result.items us (index_at us)) (is_read (Var c.copied-name.result.items)) (ap (indexed_by expr c.copied-name.result.items ts) c.in_default.ensures.may) (is_here _ _ _ c.variable.ensures))
 
 pub named-returns : goal.named-returns
 named-returns t c =
@@ -99,7 +99,7 @@ named-returns t c =
     let name = c.copied-name.result.items in
     let ts = seen c.copied-name.new.self.rest.now in
     then (λ x. indexed_by expr x.0 x.1 (index_at x.1)) c.copied-name.ensures
-    (goes_on ts (seen c.in-Some.rest.now) _ (λ us. indexed_by expr name us (index_at us)) (λ us. list_at expr true us >>= λ x. bracket_at x.1 >>= λ vs. is_read (Index name x.0) vs) c.go_on.ensures (ap (indexed_by expr name ts) c.in-Some.ensures)
+    (goes_on ts (seen c.in-Some.rest.now) _ (λ us. indexed_by expr name us (index_at us)) (λ us. list_at expr true us >>= λ x. bracket_at x.1 >>= λ vs. is_read (Index name x.0) vs) c.go_on.ensures (ap (indexed_by expr name ts) c.in-Some.ensures.may)
     (then (λ x. bracket_at x.1 >>= λ vs. is_read (Index name x.0) vs) c.read_list-subscripts.ensures (past _ c.expect.ensures (is_here _ _ _ c.element.ensures))))
 
 pub call-returns : goal.call-returns
@@ -113,13 +113,13 @@ call-returns t c =
 pub applied-returns-in_default : goal.applied-returns-in_default
 applied-returns-in_default t c =
     let ts = seen c.args.source.now.rest.now in
-    goes_as ts _ (λ us. applied_by (expr_at c.args.limit) c.args.function us (open_at us)) (bare c.args.function) (ap (applied_by (expr_at c.args.limit) c.args.function ts) c.in_default.ensures) c.bare.ensures
+    goes_as ts _ (λ us. applied_by (expr_at c.args.limit) c.args.function us (open_at us)) (bare c.args.function) (ap (applied_by (expr_at c.args.limit) c.args.function ts) c.in_default.ensures.may) c.bare.ensures
 
 pub applied-returns : goal.applied-returns
 applied-returns t c =
     let expr = expr_at c.args.limit in
     let ts = seen c.args.source.now.rest.now in
-    goes_on ts (seen c.in-Some.rest.now) _ (λ us. applied_by expr c.args.function us (open_at us)) (λ us. arguments_at expr us >>= suited c.args.function) c.go_on.ensures (ap (applied_by expr c.args.function ts) c.in-Some.ensures)
+    goes_on ts (seen c.in-Some.rest.now) _ (λ us. applied_by expr c.args.function us (open_at us)) (λ us. arguments_at expr us >>= suited c.args.function) c.go_on.ensures (ap (applied_by expr c.args.function ts) c.in-Some.ensures.may)
     (then (suited c.args.function) c.arguments-inner.ensures c.suited.ensures)
 
 pub parenthesised-returns-in_default : goal.parenthesised-returns-in_default
@@ -127,13 +127,13 @@ parenthesised-returns-in_default t c =
     let expr = expr_at c.args.limit in
     then (λ x. paren_by expr x.0 x.1 (comma_at x.1)) c.read-first.ensures (no_memory _ _ _ (λ us. paren_by expr (view c.read-first.result.tree) us (comma_at us)) c.in_default.ensures)
 
-pub parenthesised-returns-in-Some-after_comma : goal.parenthesised-returns-in-Some-after_comma
-parenthesised-returns-in-Some-after_comma t c =
+pub parenthesised-returns-in-Some-after : goal.parenthesised-returns-in-Some-after
+parenthesised-returns-in-Some-after t c =
     let expr = expr_at c.args.limit in
     let first = view c.in-Some.first.tree.value in
     let ts = seen c.part.new.source.rest.now in
     then (λ x. paren_by expr x.0 x.1 (comma_at x.1)) c.read-first.ensures (kept_then (λ (e : Expr) us. paren_by expr (view e) us (comma_at us)) _ _ _ _ _ c.in-Some.ensures
-    (goes_on ts (seen c.in-Some-after_comma.rest.now) _ (λ us. paren_by expr first us (comma_at us)) (λ us. list_at expr true us >>= λ x. in_array_at first x.0 x.1) c.go_on.ensures (ap (paren_by expr first ts) c.in-Some-after_comma.ensures)
+    (goes_on ts (seen c.in-Some-after.rest.now) _ (λ us. paren_by expr first us (comma_at us)) (λ us. list_at expr true us >>= λ x. in_array_at first x.0 x.1) c.go_on.ensures (ap (paren_by expr first ts) c.in-Some-after.ensures.may)
     (then (λ x. in_array_at first x.0 x.1) c.read_list-others.ensures c.in_array.ensures)))
 
 pub parenthesised-returns : goal.parenthesised-returns
@@ -142,7 +142,7 @@ parenthesised-returns t c =
     let first = view c.in-Some.first.tree.value in
     let ts = seen c.part.new.source.rest.now in
     then (λ x. paren_by expr x.0 x.1 (comma_at x.1)) c.read-first.ensures (kept_then (λ (e : Expr) us. paren_by expr (view e) us (comma_at us)) _ _ _ _ _ c.in-Some.ensures
-    (goes_as ts _ (λ us. paren_by expr first us (comma_at us)) (λ us. close_at us >>= λ vs. is_read (Group first) vs) (ap (paren_by expr first ts) c.in_default-after_comma.ensures) (past _ c.expect.ensures (is_here _ _ _ c.grouped.ensures))))
+    (goes_as ts _ (λ us. paren_by expr first us (comma_at us)) (λ us. close_at us >>= λ vs. is_read (Group first) vs) (ap (paren_by expr first ts) c.in_default-after.ensures.may) (past _ c.expect.ensures (is_here _ _ _ c.grouped.ensures))))
 
 pub getline-returns-then-not-begins_lvalue : goal.getline-returns-then-not-begins_lvalue
 getline-returns-then-not-begins_lvalue t c =
@@ -162,14 +162,14 @@ from_file-returns-in_default t c =
     let expr = expr_at c.args.limit in
     let given = view_variable c.args.variable in
     let ts = seen c.args.source.now.rest.now in
-    goes_as ts _ (λ us. from_by expr c.args.greater given us (less_at us)) (is_read (getting given None)) (ap (from_by expr c.args.greater given ts) c.in_default.ensures) (is_here _ _ _ c.got.ensures)
+    goes_as ts _ (λ us. from_by expr c.args.greater given us (less_at us)) (is_read (getting given None)) (ap (from_by expr c.args.greater given ts) c.in_default.ensures.may) (is_here _ _ _ c.got.ensures)
 
 pub from_file-returns : goal.from_file-returns
 from_file-returns t c =
     let expr = expr_at c.args.limit in
     let given = view_variable c.args.variable in
     let ts = seen c.args.source.now.rest.now in
-    goes_on ts (seen c.in-Some.rest.now) _ (λ us. from_by expr c.args.greater given us (less_at us)) (λ us. expr c.args.greater Plain us >>= λ x. is_read (getting given (Some x.0)) x.1) c.go_on.ensures (ap (from_by expr c.args.greater given ts) c.in-Some.ensures)
+    goes_on ts (seen c.in-Some.rest.now) _ (λ us. from_by expr c.args.greater given us (less_at us)) (λ us. expr c.args.greater Plain us >>= λ x. is_read (getting given (Some x.0)) x.1) c.go_on.ensures (ap (from_by expr c.args.greater given ts) c.in-Some.ensures.may)
     (then (λ x. is_read (getting given (Some x.0)) x.1) c.read-file.ensures c.got_from.ensures)
 
 pub prefixed-returns : goal.prefixed-returns

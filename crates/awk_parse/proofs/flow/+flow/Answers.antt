@@ -55,15 +55,15 @@ statements-loop-init t c = λ v s w. stmts_begin (stmt_at c.args.limit) _ v _ (s
 pub statements-loop-preserved : goal.statements-loop-preserved
 statements-loop-preserved t c =
     let added = stmts_added c.push_boxed.new.items.items c.loop.read.items c.in-Some-statement.next.value _ _ c.push_boxed.ensures in
-    λ v s w. c.loop.invariant v s (stmts_next (stmt_at c.args.limit) _ _ v _ c.loop.counter (length c.args.source.now.rest.now) (seen c.loop.source.rest.now) _ _ _ s c.loop-test.true c.in_default.ensures c.in-Some-statement.ensures.read added w)
+    λ v s w. c.loop.invariant v s (stmts_next (stmt_at c.args.limit) _ _ v _ c.loop.counter (length c.args.source.now.rest.now) (seen c.loop.source.rest.now) _ _ _ s c.loop-test.true c.in_default.ensures.may c.in-Some-statement.ensures.read added w)
 
 pub statements-returns-in-Some : goal.statements-returns-in-Some
 statements-returns-in-Some t c =
-    c.loop.invariant _ _ (stmts_closed (stmt_at c.args.limit) (view_stmts c.loop.read.items) c.loop.counter (length c.args.source.now.rest.now) (seen c.loop.source.rest.now) (seen c.in-Some.rest.now) _ _ c.loop-test.true c.in-Some.ensures c.go_on.ensures)
+    c.loop.invariant _ _ (stmts_closed (stmt_at c.args.limit) (view_stmts c.loop.read.items) c.loop.counter (length c.args.source.now.rest.now) (seen c.loop.source.rest.now) (seen c.in-Some.rest.now) _ _ c.loop-test.true c.in-Some.ensures.may c.go_on.ensures)
 
 pub statements-returns-in_default-statement : goal.statements-returns-in_default-statement
 statements-returns-in_default-statement t c =
-    c.loop.invariant _ _ (stmts_stopped (stmt_at c.args.limit) (view_stmts c.loop.read.items) _ c.loop.counter (length c.args.source.now.rest.now) (seen c.loop.source.rest.now) _ _ c.loop-test.true c.in_default.ensures c.in_default-statement.ensures.read c.in_default-statement.ensures.held)
+    c.loop.invariant _ _ (stmts_stopped (stmt_at c.args.limit) (view_stmts c.loop.read.items) _ c.loop.counter (length c.args.source.now.rest.now) (seen c.loop.source.rest.now) _ _ c.loop-test.true c.in_default.ensures.may c.in_default-statement.ensures.read c.in_default-statement.ensures.held)
 
 pub statements-returns : goal.statements-returns
 statements-returns t c =
@@ -75,7 +75,7 @@ if_statement-returns-in_default-clause-read t c =
     let test = view c.condition-test.result in
     let first = view_boxed c.statement-then.result in
     let ts = seen c.statement-then.new.source.rest.now in
-    then _ c.condition-test.ensures (then _ c.statement-then.ensures.read (goes_as ts _ (λ us. else_by stmt test first us (else_at us)) (is_read (If test first)) (ap (else_by stmt test first ts) c.in_default.ensures) c.closed.ensures.read))
+    then _ c.condition-test.ensures (then _ c.statement-then.ensures.read (goes_as ts _ (λ us. else_by stmt test first us (else_at us)) (is_read (If test first)) (ap (else_by stmt test first ts) c.in_default.ensures.may) c.closed.ensures.read))
 
 pub if_statement-returns-in_err-test-clause-read : goal.if_statement-returns-in_err-test-clause-read
 if_statement-returns-in_err-test-clause-read t c =
@@ -91,5 +91,5 @@ if_statement-returns-clause-read t c =
     let ts = seen c.statement-then.new.source.rest.now in
     let us = seen c.in-Some.rest.now in
     let chosen = chooses _ _ _ _ _ _ _ _ c.in_ok-test.ensures c.closed-2.ensures.read in
-    then _ c.condition-test.ensures (then _ c.statement-then.ensures.read (goes_on ts us _ (λ vs. else_by stmt test first vs (else_at vs)) (λ vs. stmt vs >>= λ y. is_read (IfElse test first y.0) y.1) c.go_on.ensures (ap (else_by stmt test first ts) c.in-Some.ensures)
+    then _ c.condition-test.ensures (then _ c.statement-then.ensures.read (goes_on ts us _ (λ vs. else_by stmt test first vs (else_at vs)) (λ vs. stmt vs >>= λ y. is_read (IfElse test first y.0) y.1) c.go_on.ensures (ap (else_by stmt test first ts) c.in-Some.ensures.may)
     (then (λ y. is_read (IfElse test first y.0) y.1) c.statement-otherwise.ensures.read chosen)))

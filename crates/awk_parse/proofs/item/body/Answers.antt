@@ -7,10 +7,10 @@ use Rattle.awk_parse.proofs.Went.{fails_here, goes_on}
 use Rattle.awk_parse.proofs.item.body.Goals as goal
 
 pub returns-in_default : goal.returns-in_default
-returns-in_default c = fails_here _ _ _ _ _ (body_at 1000) c.refuse.ensures (rw c.stopped.ensures (body_none 1000 _ c.in_default.ensures))
+returns-in_default c = fails_here _ _ _ _ _ (body_at 1000) c.refuse.ensures (rw c.stopped.ensures (body_none 1000 _ c.in_default.ensures.may))
 
 pub returns : goal.returns
 returns c =
     let ts = seen c.args.source.now.rest.now in
     let us = seen c.in-Some.rest.now in
-    goes_on ts us _ (body_at 1000) (λ vs. stmts_at (stmt_at 1000) (length vs) vs) c.go_on.ensures (body_some 1000 ts us c.in-Some.ensures) c.statements.ensures
+    goes_on ts us _ (body_at 1000) (λ vs. stmts_at (stmt_at 1000) (length vs) vs) c.go_on.ensures (body_some 1000 ts us c.in-Some.ensures.may) c.statements.ensures

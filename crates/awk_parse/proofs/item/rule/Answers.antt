@@ -12,11 +12,11 @@ pub returns-in_default : goal.returns-in_default
 returns-in_default c =
     let condition = view_pattern c.pattern-condition.result in
     let ts = seen c.pattern-condition.new.source.rest.now in
-    then _ c.pattern-condition.ensures (goes_as ts _ (action_at 1000 condition) (λ us. body_at 1000 us >>= λ x. Ok (When condition x.0, x.1)) (action_when 1000 condition ts c.in_default.ensures) (then _ c.body-action.ensures (stays _ _)))
+    then _ c.pattern-condition.ensures (goes_as ts _ (action_at 1000 condition) (λ us. body_at 1000 us >>= λ x. Ok (When condition x.0, x.1)) (action_when 1000 condition ts c.in_default.ensures.must) (then _ c.body-action.ensures (stays _ _)))
 
 pub returns : goal.returns
 returns c =
     let condition = view_pattern c.pattern-condition.result in
     let ts = seen c.pattern-condition.new.source.rest.now in
     let us = seen c.in-Some.rest.now in
-    then _ c.pattern-condition.ensures (came _ ts us _ _ (action_at 1000 condition) c.go_on.ensures (action_lone 1000 condition ts us c.in-Some.ensures))
+    then _ c.pattern-condition.ensures (came _ ts us _ _ (action_at 1000 condition) c.go_on.ensures (action_lone 1000 condition ts us c.in-Some.ensures.must))

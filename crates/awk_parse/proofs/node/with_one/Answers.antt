@@ -6,7 +6,7 @@ use Rattle.awk_parse.proofs.node.with_one.Goals as goal
 
 pub invariant_of-result-2 : goal.invariant_of-result-2
 invariant_of-result-2 c =
-    record { exact = pushed_depth _ c.args.list.trees.items c.args.next.tree _ c.if-not-push.ensures (c.deeper.ensures (depths (views c.args.list.trees.items)) (depth (view c.args.next.tree)) c.args.list.exact c.args.next.exact) }
+    record { exact = pushed_depth _ c.args.list.trees.items c.args.next.tree _ c.in-Ok.ensures.items (c.deeper.ensures (depths (views c.args.list.trees.items)) (depth (view c.args.next.tree)) c.args.list.exact c.args.next.exact) }
 
 pub returns : goal.returns
-returns c = is_here _ _ _ (pushed _ c.args.list.trees.items c.args.next.tree c.if-not-push.ensures)
+returns c = is_here _ _ _ (pushed _ c.args.list.trees.items c.args.next.tree c.in-Ok.ensures.items)
