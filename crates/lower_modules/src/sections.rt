@@ -20,7 +20,9 @@ use host_imports::Import;
 use latched::{LatchedVec, single};
 use mid_program::{Declared, Kind, Mid, Routine};
 use std::alloc::{AllocError, Global};
-use wasm_types::{Data, Export, ExportDesc, Func, GlobalType, Instr, Limits, Simple, ValType};
+use wasm_types::{
+    Data, Export, ExportDesc, Func, GlobalType, Instr, Limits, Locals, Simple, ValType,
+};
 
 fn import_form(alloc: Global, import: Import, ty: u32) -> Result<wasm_types::Import, AllocError>
     ensures { IfOk result
@@ -66,7 +68,7 @@ fn function_form(
 {
     Ok(Func {
         ty,
-        locals: function.locals.as_slice().to_vec(alloc)?,
+        locals: Locals::of(alloc, &function.locals)?,
         body: renumbered(alloc, called, &function.body)?,
     })
 }

@@ -1,12 +1,12 @@
 -- What a reader that remembers its first fault has read, one part after the other.
 use Rattle.std.proofs.Common.{◌≡◌, ℕ, suc, ◌+◌, ◌-◌, ◌<◌, ◌≤◌, List, [], ◌∷◌, ◌++◌, Option, Some, None, Result, Ok, Err, Bool, true, false, refl, sym, ap, subst, ◌∙◌, arith}
-use Rattle.std.proofs.Common.{cond, length, nat_eq, map, replicate, take}
+use Rattle.std.proofs.Common.{cond, length, nat_eq, map, replicate}
 use Rattle.std.proofs.lemmas.Bool.{le-leb, lt-leb}
-use Rattle.std.specs.Prelude.{is_ok, IfOk, MatchOption, if◌then◌else◌}
+use Rattle.std.specs.Prelude.{IfOk, OnOk, MatchOption}
 use Rattle.std.specs.Str.{IsUtf8, is_utf8}
 use Rattle.std.specs.declared.alloc.AllocError.{AllocError}
 use Rattle.std.proofs.lemmas.Str.{is_utf8-from_IsUtf8, IsUtf8-from_is_utf8}
-use Rattle.std.proofs.lemmas.List.{append-nil, length-append, length-replicate, map-append, take_all}
+use Rattle.std.proofs.lemmas.List.{append-nil, map-append}
 use Rattle.std.specs.Borrow.{Bor}
 use Rattle.module_decoder.specs.declared.fault.DecodeFault.{DecodeFault}
 use Rattle.module_decoder.specs.declared.basics.Span.{Span}
@@ -276,21 +276,14 @@ two_sides {a} {b} {c} {d} {e} {f} {t} {k} limit is end js last h g q more ends m
 
 -- ---- locals and bodies
 
-pub filled : {A : Type 0} {a b : Reader} {new : List A} {m k : ℕ} {value : Unit} (r : Result Unit AllocError) (front : List A) (n : ℕ) (t : A) → new ≡ (if is_ok r then take m front ++ replicate k t else front) → m ≡ length front + n → k ≡ n
-    → b.span ≡ a.span → b.rest.now ≡ a.rest.now → Made a.fault b.fault r value → Reads {Z = List A × List ℕ} a b (Ok (new, b.rest.now)) (Ok (front ++ replicate n t, a.rest.now))
-filled {A} {a} {b} {new} {m} {k} {value} r front n t q long short same stays h = record { span = same; stands = by a.fault r q h }
+pub filled : {a b : Reader} {new : List ValType} {value : Unit} (r : Result Unit AllocError) (front : List ValType) (n : ℕ) (t : ValType) → OnOk r (new ≡ front ++ replicate n t)
+    → b.span ≡ a.span → b.rest.now ≡ a.rest.now → Made a.fault b.fault r value → Reads {Z = List ValType × List ℕ} a b (Ok (new, b.rest.now)) (Ok (front ++ replicate n t, a.rest.now))
+filled {a} {b} {new} {value} r front n t q same stays h = record { span = same; stands = by a.fault r q h }
   where
-    by : (was : Option DecodeFault) (r : Result Unit AllocError) → new ≡ (if is_ok r then take m front ++ replicate k t else front) → Made was b.fault r value → StandsAfter {Z = List A × List ℕ} was b.fault (Ok (new, b.rest.now)) (Ok (front ++ replicate n t, a.rest.now))
-    by None (Ok x) q h = rw (h.0, q, short, stays, take_all m front (omega (arith, long))) refl
+    by : (was : Option DecodeFault) (r : Result Unit AllocError) → OnOk r (new ≡ front ++ replicate n t) → Made was b.fault r value → StandsAfter {Z = List ValType × List ℕ} was b.fault (Ok (new, b.rest.now)) (Ok (front ++ replicate n t, a.rest.now))
+    by None (Ok x) q h = rw (h.0, q, stays) refl
     by None (Err e) q h = rw h tt
     by (Some e) r q h = h
-
-pub room_left : {A : Type 0} {new : List A} {m k : ℕ} (is : Bool) (front : List A) (n left : ℕ) (t : A) → new ≡ (if is then take m front ++ replicate k t else front) → m ≡ length front + n → k ≡ n → n ≤ left → length front + left ≤ 50000
-    → length new + (left - n) ≤ 50000
-room_left {A} {new} {m} {k} true front n left t q long short small room =
-    let held : length (take m front) ≡ length front = ap length (take_all m front (omega (arith, long))) in
-    omega (arith, ap length q, length-append (take m front) (replicate k t), length-replicate k t, held, short, small, room)
-room_left false front n left t q long short small room = omega (arith, ap length q, small, room)
 
 pub whole_is : {A : Type 0} {a b c : Reader} {x : A} (r : Span → List ℕ → Read A) → Reads a b (Ok (x, b.rest.now)) (r a.span a.rest.now) → Reads b c (Ok tt) (ended_by b.span b.rest.now) → Reads a c (Ok x) (whole a.span (r a.span) a.rest.now)
 whole_is {A} {a} {b} {c} {x} r h k = next_part (r a.span a.rest.now) ended h (next_part (ended_by b.span b.rest.now) (λ p u. Ok x) k (still c (Ok x)))

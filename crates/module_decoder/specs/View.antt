@@ -8,7 +8,7 @@ use Rattle.module_decoder.specs.declared.sections.Progress.{Progress}
 use Rattle.module_decoder.specs.Reading as reading
 
 abbrev pub view_code : Code → grammar.CodeForm
-view_code c = record { locals = c.locals.items; body = views c.body.items }
+view_code c = record { locals = c.locals; body = views c.body.items }
 
 abbrev pub view_parts : Parts → grammar.Parts
 view_parts p = record {

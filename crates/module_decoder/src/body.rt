@@ -258,6 +258,8 @@ fn body_of(reader: &mut Reader, limit: u32) -> Sequence
             }
             Some((Step::Ends(ending), after)) => {
                 reader.rest = after;
+                // Most bodies are short, and each is kept.
+                instrs.shrink_to_fit();
                 return Sequence { instrs, ending };
             }
             Some((Step::Opens(lead), after)) => {

@@ -11,14 +11,14 @@ use crate::entries::{Indices, Kind, ValTypes, entries};
 use crate::fault::DecodeFault;
 use crate::reader::Reader;
 use wasm_types::{
-    Data, Elem, Export, ExportDesc, FuncType, Global, GlobalType, Import, Instr, Limits,
+    Data, Elem, Export, ExportDesc, FuncType, Global, GlobalType, Import, Instr, Limits, Locals,
     MAX_ELEMENTS, MAX_LOCALS, MAX_PAGES, ValType,
 };
 
 /// The locals and the body of a function.
 #[derive(Drop)]
 pub struct Code {
-    pub locals: Vec<ValType>,
+    pub locals: Locals,
     pub body: Vec<Instr>,
 }
 
@@ -281,12 +281,12 @@ impl Kind for DataSegments {
     }
 }
 
-fn locals(reader: &mut Reader) -> Vec<ValType>
-    ensures { Reads reader.old reader.new (Ok (result.items, reader.new.rest.now))
+fn locals(reader: &mut Reader) -> Locals
+    ensures { Reads reader.old reader.new (Ok (result, reader.new.rest.now))
         (locals_at reader.old.span reader.old.rest.now) }
 {
     let count = reader.index();
-    let mut all = Vec::new(reader.alloc);
+    let mut all = Locals::new(reader.alloc);
     let mut left = MAX_LOCALS;
     for _ in 0..count {
         if reader.has_failed() {
@@ -298,7 +298,7 @@ fn locals(reader: &mut Reader) -> Vec<ValType>
             return all;
         }
         let t = reader.val_type();
-        reader.made(all.resize(all.len() + n as usize, t), ());
+        reader.made(all.push(n, t), ());
         left -= n;
     }
     all

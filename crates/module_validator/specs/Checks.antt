@@ -11,7 +11,7 @@ use Rattle.module_validator.specs.Forms.{Form, Fits, next, after, Refutes}
 
 abbrev pub context_of : Scope → Context
 context_of s = let m = view_module s.whole.now in record {
-  locals = s.locals.now;
+  locals = s.params.now ++ s.own.now;
   result = s.gives;
   callee = callee_in m;
   typed = typed_in m;

@@ -40,6 +40,7 @@ fn is_overaligned(p: Simple) -> bool
 }
 
 impl<'a> Scope<'a> {
+    #[tactic(auto, using(crate::proofs::LocalTypes::none_past))]
     fn lacks(&self, labels: u32, p: Simple) -> bool
         ensures { result ≡ lacks (context_of self.now) labels (Plain p) }
     {
@@ -48,7 +49,7 @@ impl<'a> Scope<'a> {
             Simple::Call(n) => callee(self.whole, n).is_none(),
             Simple::CallIndirect(n) => { !self.has_table() || typed(self.whole, n).is_none() }
             Simple::LocalGet(x) | Simple::LocalSet(x) | Simple::LocalTee(x) => {
-                self.locals.len() <= x as usize
+                self.local(x).is_none()
             }
             Simple::GlobalGet(x) | Simple::GlobalSet(x) => self.whole.globals.len() <= x as usize,
             Simple::Load(..) | Simple::Store(..) | Simple::MemorySize | Simple::MemoryGrow => {

@@ -1,5 +1,5 @@
 //! Validation of modules.
-ghost use Rattle.std.specs.Prelude.{◌≡◌, ◌++◌, ◌⊎◌, ◌-◌, ◌<◌, ◌≤◌, OnOk, IfOk, IfErr, Some, MatchResult, slice_get, get_or, length};
+ghost use Rattle.std.specs.Prelude.{◌≡◌, ◌⊎◌, ◌-◌, ◌<◌, ◌≤◌, OnOk, IfOk, IfErr, Some, MatchResult, slice_get, get_or, length};
 ghost use Rattle.std.specs.List.{All};
 ghost use Rattle.module_validator.specs.Faults.{Refuses, Untypes};
 ghost use Rattle.wasm_types.specs.Instructions.{depths};
@@ -10,10 +10,10 @@ ghost use Rattle.wasm_types.specs.View.{view_func, view_module};
 use crate::checker::{Scope, typed};
 use crate::level::level_ok;
 use crate::stack::{Labels, Refusal};
-use std::alloc::{AllocError, Global};
+use std::alloc::Global;
 use std::marker::Model;
 use thiserror::Error;
-use wasm_types::{Func, FuncType, Module, ValType};
+use wasm_types::{Func, Module};
 
 /// Why a module is refused. A function is named by its index, imported functions counted first.
 #[derive(Clone, Copy, Debug, PartialEq, Eq, Drop, Error)]
@@ -77,15 +77,6 @@ impl ValidModule {
     }
 }
 
-fn locals_of(alloc: Global, t: &FuncType, f: &Func) -> Result<Vec<ValType>, AllocError>
-    ensures { IfOk result (λ v. v.items ≡ t.now.params.items ++ f.now.locals.items) }
-{
-    let mut locals = Vec::new(alloc);
-    locals.extend_from_slice(&t.params)?;
-    locals.extend_from_slice(&f.locals)?;
-    Ok(locals)
-}
-
 fn check_func(alloc: Global, m: &Module, f: &Func, function: usize) -> Result<(), InvalidFault>
     requires { depths (view_func f.now).body ≤ most_nesting }
     ensures { MatchResult result (λ _. FuncOk (view_module m.now) (view_func f.now))
@@ -94,12 +85,10 @@ fn check_func(alloc: Global, m: &Module, f: &Func, function: usize) -> Result<()
     let Some(t) = typed(m, f.ty) else {
         return Err(InvalidFault::BadIndex(function));
     };
-    let Ok(locals) = locals_of(alloc, t, f) else {
-        return Err(InvalidFault::NoMemory);
-    };
     let scope = Scope {
         whole: m,
-        locals: &locals,
+        params: &t.params,
+        own: &f.locals,
         gives: t.result,
     };
     let mut labels = Labels::new(alloc);

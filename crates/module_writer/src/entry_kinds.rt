@@ -12,7 +12,7 @@ use crate::fault::WriteFault;
 use crate::output::Output;
 use std::alloc::{self, AllocError};
 use wasm_types::{
-    Data, Elem, Export, ExportDesc, Func, FuncType, Global, Import, Limits, MAX_ELEMENTS,
+    Data, Elem, Export, ExportDesc, Func, FuncType, Global, Import, Limits, Locals, MAX_ELEMENTS,
     MAX_LOCALS, MAX_PAGES, ValType,
 };
 
@@ -300,14 +300,22 @@ impl Kind for LocalRuns {
     }
 }
 
-fn locals(out: &mut Output, all: &[ValType])
+fn all_runs(alloc: alloc::Global, all: &Locals) -> Result<Vec<(u32, ValType)>, AllocError>
+    requires { length all.now ≤ most_locals }
+    ensures { IfOk result (λ v. v.items ≡ runs_of all.now) }
+{
+    let types = all.to_vec(alloc)?;
+    runs(alloc, &types)
+}
+
+fn locals(out: &mut Output, all: &Locals)
     ensures { Adds out.old out.new (locals_to all.now out.old.bytes.items) }
 {
     if all.len() > MAX_LOCALS as usize {
         out.refuse(WriteFault::TooLarge);
         return;
     }
-    match runs(out.alloc(), all) {
+    match all_runs(out.alloc(), all) {
         Ok(runs) => entries::<LocalRuns>(out, &runs),
         Err(_) => out.refuse(WriteFault::NoMemory),
     }

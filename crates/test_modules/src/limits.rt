@@ -4,7 +4,7 @@ use module_writer::{WriteFault, write};
 use std::alloc::{AllocError, Global};
 use std::rc::Rc;
 use std::test::Fail;
-use wasm_types::{Data, Func, FuncType, Instr, Limits, Module, Simple, ValType};
+use wasm_types::{Data, Func, FuncType, Instr, Limits, Locals, Module, Simple, ValType};
 
 fn empty(alloc: Global) -> Module {
     Module {
@@ -24,7 +24,7 @@ fn empty(alloc: Global) -> Module {
 /// A module with one function without parameters and results.
 fn with_function(
     alloc: Global,
-    locals: Vec<ValType>,
+    locals: Locals,
     body: Rc<Vec<Instr>>,
 ) -> Result<Module, AllocError> {
     let mut m = empty(alloc);
@@ -62,7 +62,8 @@ fn tables_and_memories(rt: HostRuntime) -> Result<(), Fail> {
 #[test]
 fn locals(rt: HostRuntime) -> Result<(), Fail> {
     let alloc = rt.alloc();
-    let many = vec![in alloc; ValType::I32; 50001]?;
+    let mut many = Locals::new(alloc);
+    many.push(50001, ValType::I32)?;
     let m = with_function(alloc, many, Rc::new(alloc, Vec::new(alloc))?)?;
     assert!(rt; is_too_large(alloc, &m));
     Ok(())
@@ -76,7 +77,7 @@ fn nesting(rt: HostRuntime) -> Result<(), Fail> {
         let around = vec![in alloc; Instr::Block(None, body)]?;
         body = Rc::new(alloc, around)?;
     }
-    let m = with_function(alloc, Vec::new(alloc), body)?;
+    let m = with_function(alloc, Locals::new(alloc), body)?;
     assert!(rt; is_too_large(alloc, &m));
     Ok(())
 }
@@ -89,7 +90,7 @@ fn shared_bodies(rt: HostRuntime) -> Result<(), Fail> {
         let twice = vec![in alloc; Instr::Block(None, body.clone()?), Instr::Block(None, body)]?;
         body = Rc::new(alloc, twice)?;
     }
-    let m = with_function(alloc, Vec::new(alloc), body)?;
+    let m = with_function(alloc, Locals::new(alloc), body)?;
     assert!(rt; is_too_large(alloc, &m));
     Ok(())
 }

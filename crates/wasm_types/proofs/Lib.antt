@@ -1,3 +1,4 @@
 pub mod Groups
+pub mod RunLemmas
 pub mod Leads
 pub mod Views

@@ -7,7 +7,8 @@ use Rattle.wasm_types.specs.declared.instr.Simple.TheVariants as simple
 use Rattle.wasm_types.specs.declared.instr.IBinOp.TheVariants.{Add}
 use Rattle.wasm_types.specs.declared.instr.CvtOp.TheVariants.{I64Extend32S}
 use Rattle.wasm_types.specs.declared.opcodes.Lead.TheVariants as lead
-use Rattle.wasm_types.specs.declared.types.ValType.TheVariants.{I32}
+use Rattle.wasm_types.specs.declared.types.ValType.TheVariants.{I32, I64}
+use Rattle.wasm_types.specs.Runs.{expanded_from}
 use Rattle.wasm_types.specs.Opcodes.{opcode, lead_at}
 
 three_bytes : unsigned_text 5 624485 ≡ 0xe5 ∷ 0x8e ∷ 0x26 ∷ []
@@ -37,3 +38,7 @@ add = refl
 last_of_sign_extension : (lead_at 0xc4 ≡ lead.Bare (simple.Convert I64Extend32S)) × (lead_at 0xc5 ≡ lead.Unknown)
 unfolding lead_at
 last_of_sign_extension = (refl, refl)
+
+-- two locals of 32 bits and one of 64
+two_runs : expanded_from 0 (record { end = 2; ty = I32 } ∷ (record { end = 3; ty = I64 } ∷ [])) ≡ I32 ∷ (I32 ∷ (I64 ∷ []))
+two_runs = refl

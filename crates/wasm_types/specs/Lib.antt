@@ -1,4 +1,5 @@
 pub mod Syntax
+pub mod Runs
 pub mod View
 pub mod Opcodes
 pub mod Leb128

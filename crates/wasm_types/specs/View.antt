@@ -35,7 +35,7 @@ abbrev pub view_import : Import → ImportForm
 view_import i = record { from = string_bytes i.module; name = string_bytes i.name; ty = i.ty }
 
 abbrev pub view_func : Func → FuncForm
-view_func f = record { ty = f.ty; locals = f.locals.items; body = views f.body.value.items }
+view_func f = record { ty = f.ty; locals = f.locals; body = views f.body.value.items }
 
 abbrev pub view_global : Global → GlobalForm
 view_global g = record { ty = g.ty; init = views g.init.items }

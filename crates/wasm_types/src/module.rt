@@ -3,14 +3,15 @@ ghost use Rattle.std.specs.Prelude.{◌≡◌};
 ghost use Rattle.wasm_types.specs.ModuleGrammar.{number};
 
 use crate::instr::Instr;
-use crate::types::{FuncType, GlobalType, Limits, ValType};
+use crate::locals::Locals;
+use crate::types::{FuncType, GlobalType, Limits};
 use std::rc::Rc;
 
 /// A function: the index of its type, the types of its locals behind the parameters, and its body.
 #[derive(Drop)]
 pub struct Func {
     pub ty: u32,
-    pub locals: Vec<ValType>,
+    pub locals: Locals,
     pub body: Rc<Vec<Instr>>,
 }
 

@@ -19,7 +19,7 @@ body_of-loop-init t c = rw c.new-instrs.ensures.items (instrs_begun c.args.reade
 pub body_of-returns-in-Some-Ends-default : goal.body_of-returns-in-Some-Ends-default
 body_of-returns-in-Some-Ends-default t c =
     let at : step_at c.loop.reader.rest.now ≡ Some (Ends c.in-Some-Ends-default.ending, c.in-Some-Ends-default.after.now) = rw c.in-Some-Ends-default.field-0-0-is at c.in-Some-Ends-default.ensures in
-    instrs_end (c.args.limit - 1) (views c.loop.instrs.items) (length c.args.reader.now.rest.now) c.loop.counter c.in-Some-Ends-default.ending c.loop.invariant c.loop-test.true at refl refl
+    rw c.shrink_to_fit.ensures.items (instrs_end (c.args.limit - 1) (views c.loop.instrs.items) (length c.args.reader.now.rest.now) c.loop.counter c.in-Some-Ends-default.ending c.loop.invariant c.loop-test.true at refl refl)
 
 pub body_of-loop-preserved : goal.body_of-loop-preserved
 body_of-loop-preserved t c =

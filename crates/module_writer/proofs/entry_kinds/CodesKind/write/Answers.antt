@@ -20,15 +20,15 @@ parts {a} f r all fresh empty h k =
 pub returns-in-Ok : goal.returns-in-Ok
 returns-in-Ok c =
     let f = view_func c.args.one.now in
-    let body = c.deref-3.ensures.value ∙ ap (λ (v : Vec Instr Global). v.items) c.deref-2.ensures in
-    let given : Gives c.all.result (code_parts_to f []) = parts f c.all.result c.all.ensures c.new-code.ensures.open c.new-code.ensures.empty (rw c.deref.ensures.value at c.locals.ensures) (rw body at c.expr.ensures) in
+    let body = c.deref-2.ensures.value ∙ ap (λ (v : Vec Instr Global). v.items) c.deref.ensures in
+    let given : Gives c.all.result (code_parts_to f []) = parts f c.all.result c.all.ensures c.new-code.ensures.open c.new-code.ensures.empty c.locals.ensures (rw body at c.expr.ensures) in
     let fine = subst (λ (r : Result (Vec ℕ Global) WriteFault). Gives r (code_parts_to f [])) c.in-Ok.is given in
     subst (λ (r : Written). Adds c.args.out.now c.counted.new.self (sized_to r c.args.out.now.bytes.items)) (sym fine) (rw c.deref-in-Ok.ensures.value at c.counted.ensures)
 
 pub returns-in-Err : goal.returns-in-Err
 returns-in-Err c =
     let f = view_func c.args.one.now in
-    let body = c.deref-3.ensures.value ∙ ap (λ (v : Vec Instr Global). v.items) c.deref-2.ensures in
-    let given : Gives c.all.result (code_parts_to f []) = parts f c.all.result c.all.ensures c.new-code.ensures.open c.new-code.ensures.empty (rw c.deref.ensures.value at c.locals.ensures) (rw body at c.expr.ensures) in
+    let body = c.deref-2.ensures.value ∙ ap (λ (v : Vec Instr Global). v.items) c.deref.ensures in
+    let given : Gives c.all.result (code_parts_to f []) = parts f c.all.result c.all.ensures c.new-code.ensures.open c.new-code.ensures.empty c.locals.ensures (rw body at c.expr.ensures) in
     c.refuse.ensures (sized_to (code_parts_to f []) c.args.out.now.bytes.items)
     (fails_then c.in-Err.fault (code_parts_to f []) (λ xs. bytes_to xs c.args.out.now.bytes.items) (subst (λ (r : Result (Vec ℕ Global) WriteFault). Gives r (code_parts_to f [])) c.in-Err.is given))
