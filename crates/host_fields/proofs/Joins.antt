@@ -1,12 +1,9 @@
 -- The text of a record that is made of its fields, field by field.
-use Rattle.std.proofs.Common.{◌≡◌, ℕ, ◌+◌, ◌<◌, ◌≤◌, List, [], ◌∷◌, ◌++◌, length, take, drop, get_or, ◌-◌, add-one, drop-cons, ap, sym, subst, ◌∙◌, append-nil, drop_of_length-le, refl, suc, arith}
-use Rattle.std.proofs.lemmas.List.{append_assoc, length-append, take_rest}
+use Rattle.std.proofs.Common.{◌≡◌, ℕ, ◌+◌, ◌<◌, ◌≤◌, List, [], ◌∷◌, ◌++◌, length, take, drop, get_or, ◌-◌, add-one, drop-cons, ap, sym, ◌∙◌, append-nil, drop_of_length-le, suc, arith}
+use Rattle.std.proofs.lemmas.List.{append_assoc, take_rest}
 use Rattle.awk_values.specs.Values.{text_of_value}
-use Rattle.awk_values.specs.declared.fault.Stop.{Stop}
-use Rattle.awk_values.specs.declared.fault.Stop.TheVariants as stops
 use Rattle.awk_values.specs.declared.value.Value.{Value}
 use Rattle.sem_primitives.specs.FieldMeaning.{joined}
-use Rattle.host_format.specs.Outcomes.{IsPast}
 
 -- the texts of the fields behind the first, each with the text before it
 abbrev pub followed : List ℕ → List Value → List ℕ
@@ -16,11 +13,6 @@ followed between (v ∷ vs) = between ++ (text_of_value v ++ followed between vs
 joined_first : (between : List ℕ) (v : Value) (vs : List Value) → text_of_value v ++ followed between vs ≡ joined between (v ∷ vs)
 joined_first between v [] = append-nil (text_of_value v)
 joined_first between v (w ∷ ws) = ap (λ text. text_of_value v ++ (between ++ text)) (joined_first between w ws)
-
--- what is past the limit is past it with more behind it
-pub past_more : (text rest : List ℕ) (stop : Stop) → IsPast text stop → IsPast (text ++ rest) stop
-past_more text rest (stops.Fault fault) p = (p.0, (let long = p.1 in omega (arith, long, length-append text rest)))
-past_more text rest stops.NoMemory p = tt
 
 -- the first field is there
 pub started : (between : List ℕ) (values : List Value) (first : Value) → 1 ≤ length values → first ≡ get_or values 0 first → text_of_value first ++ followed between (take (length values - 1) (drop 1 values)) ≡ joined between values
@@ -42,26 +34,6 @@ module _ (between : List ℕ) (rest : List Value) (at : ℕ) (value : Value) (ou
       ap (λ xs. xs ++ tail) (q ∙ ap (λ xs. xs ++ text_of_value value) p)
       ∙ append_assoc (out ++ between) (text_of_value value) tail ∙ append_assoc out between (text_of_value value ++ tail)
       ∙ ap (λ vs. out ++ followed between vs) (sym begins) ∙ told
-
-  -- it is too long with the text before it, or with the field
-  pub past_between : (stop : Stop) → IsPast (out ++ between) stop → IsPast total stop
-  past_between stop p =
-      let tail = followed between (drop (at + 1) rest) in
-      subst (λ xs. IsPast xs stop) (append_assoc out between (text_of_value value ++ tail) ∙ ap (λ vs. out ++ followed between vs) (sym begins) ∙ told)
-      (past_more (out ++ between) (text_of_value value ++ tail) stop p)
-
-  pub past_field : (put : List ℕ) (stop : Stop) → put ≡ out ++ between → IsPast (put ++ text_of_value value) stop → IsPast total stop
-  past_field put stop e p =
-      let tail = followed between (drop (at + 1) rest) in
-      subst (λ xs. IsPast xs stop) (one_more put (put ++ text_of_value value) e refl) (past_more (put ++ text_of_value value) tail stop p)
-
--- the first field is too long
-pub past_first : (between : List ℕ) (values : List Value) (first : Value) (out : List ℕ) (stop : Stop) → 1 ≤ length values → first ≡ get_or values 0 first → out ≡ []
-    → IsPast (out ++ text_of_value first) stop → IsPast (joined between values) stop
-past_first between values first out stop some is none p =
-    let tail = followed between (take (length values - 1) (drop 1 values)) in
-    subst (λ xs. IsPast xs stop) (ap (λ xs. (xs ++ text_of_value first) ++ tail) none ∙ started between values first some is)
-    (past_more (out ++ text_of_value first) tail stop p)
 
 -- no field is left
 pub all_there : (between : List ℕ) (rest : List Value) (at : ℕ) (out total : List ℕ) → length rest ≤ at → out ++ followed between (drop at rest) ≡ total → out ≡ total

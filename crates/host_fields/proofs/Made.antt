@@ -43,7 +43,7 @@ not_made inner ofs values (stops.Fault fault) same p =
 not_made inner ofs values stops.NoMemory same p = tt
 
 -- so many of at least so many fields
-cut_to : (count : ℕ) (values : List Value) → take count (at_least count values) ≡ resized count values
+pub cut_to : (count : ℕ) (values : List Value) → take count (at_least count values) ≡ resized count values
 cut_to zero values = let none : 0 - length values ≡ 0 = omega arith in ap (λ n. replicate n Uninit) (sym none)
 cut_to (suc n) [] =
     let all : suc n - 0 ≡ suc n = omega arith in
@@ -72,7 +72,7 @@ number_by : (b : Bool) (m number : ℕ) → ◌≡◌ {A = Result ℕ Fault} (Ok
 number_by true m number e = cc
 number_by false m number e = cc
 
-number_some : (n : ℤ) (number : ℕ) → n ≢ pos 0 → Ok number ≡ field_number n → 1 ≤ number
+pub number_some : (n : ℤ) (number : ℕ) → n ≢ pos 0 → Ok number ≡ field_number n → 1 ≤ number
 number_some (pos zero) number not e = absurd (not refl)
 number_some (pos (suc m)) number not e = let same = number_by (nat_le (suc m) (2 ^ 20)) (suc m) number e in omega (arith, same)
 number_some (negsuc m) number not e = cc

@@ -1,3 +1,4 @@
 pub mod Held
+pub mod Places
 pub mod Splits
 pub mod Calls

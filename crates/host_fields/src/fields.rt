@@ -1,14 +1,16 @@
 //! Where the fields of a record stand.
-ghost use Rattle.std.specs.Prelude.{◌≡◌, IfOk, List, OnOk, length};
+ghost use Rattle.std.specs.Prelude.{◌≡◌, ℕ, IfOk, List, OnOk, length};
 ghost use Rattle.awk_values.specs.Values.{text_of_value};
 ghost use Rattle.awk_values.specs.declared.value.Value.{Value as AnyValue};
 ghost use Rattle.sem_primitives.specs.Fields.{pieces_of};
 ghost use Rattle.host_format.specs.Separators.{separator_by};
 ghost use Rattle.host_format.specs.Spans.{AreSpans};
-ghost use Rattle.host_fields.specs.Held.{AreHeld, IsNumericText, IsPartOf, IsSplit, field_at, fields_in};
-ghost use Rattle.host_fields.specs.declared.fields.Form.TheVariants.{Own, Parts};
+ghost use Rattle.host_fields.specs.Held.{AreHeld, IsMeasured, IsNumericText, IsOwn, IsPartOf, IsSplit, field_at, fields_in, held_in, whole_in};
+ghost use Rattle.host_fields.specs.Places.{shown};
+ghost use Rattle.host_fields.specs.declared.fields.Form.TheVariants.{Parts};
 
 use crate::counted::count_pieces;
+use crate::view::Place;
 use awk_values::Value;
 use host_format::{Plain, Span, split_plain};
 use std::alloc::AllocError;
@@ -22,6 +24,8 @@ pub(crate) enum Form {
     Parts,
     /// They are values of their own.
     Own,
+    /// The same, with texts of so many bytes together; `$0` is yet to be built of them.
+    Unbuilt(usize),
 }
 
 /// A part of `$0`, as a field that shares its text.
@@ -74,8 +78,10 @@ pub(crate) fn to_split(
 ) -> Result<(), AllocError>
     requires { AreHeld form.old whole.now spans.old.items }
     ensures held { AreHeld form.new whole.now spans.new.items }
-    ensures same { (own : List AnyValue) → fields_in form.new whole.now spans.new.items own
-        ≡ fields_in form.old whole.now spans.old.items own }
+    ensures measured { (own : List AnyValue) → IsMeasured form.old own → IsMeasured form.new own }
+    ensures same { (own : List AnyValue) (between : List ℕ)
+        → held_in form.new whole.now spans.new.items own between
+        ≡ held_in form.old whole.now spans.old.items own between }
     ensures ok { OnOk result (IsSplit form.new) }
 {
     if let Form::Later(by, newlines) = *form {
@@ -83,6 +89,22 @@ pub(crate) fn to_split(
         *form = Form::Parts;
     }
     Ok(())
+}
+
+/// Where `$0` is.
+#[inline(always)]
+pub(crate) fn place_of_whole<'a>(
+    form: Form,
+    whole: &'a Value,
+    own: &'a [Value],
+    between: &'a [u8],
+) -> Place<'a>
+    ensures { shown result ≡ whole_in form whole.now own.now between.now }
+{
+    match form {
+        Form::Unbuilt(_) => Place::Joined(own, between),
+        Form::Later(..) | Form::Parts | Form::Own => Place::Held(whole),
+    }
 }
 
 /// How many fields `$0` has that is to be split.
@@ -103,11 +125,14 @@ pub(crate) fn to_own(
     whole: &Value,
     spans: &mut Vec<Span>,
 ) -> Result<(), AllocError>
-    requires { AreHeld form.old whole.now spans.old.items }
+    requires held { AreHeld form.old whole.now spans.old.items }
+    requires measured { IsMeasured form.old own.old.items }
     ensures held { AreHeld form.new whole.now spans.new.items }
-    ensures same { fields_in form.new whole.now spans.new.items own.new.items
-        ≡ fields_in form.old whole.now spans.old.items own.old.items }
-    ensures ok { OnOk result (form.new ≡ Own) }
+    ensures measured { IsMeasured form.new own.new.items }
+    ensures same { (between : List ℕ)
+        → held_in form.new whole.now spans.new.items own.new.items between
+        ≡ held_in form.old whole.now spans.old.items own.old.items between }
+    ensures ok { OnOk result (IsOwn form.new) }
 {
     to_split(form, whole, spans)?;
     if let Form::Parts = *form {

@@ -6,6 +6,9 @@ mod fields;
 mod joined;
 mod number;
 mod record;
+mod sizes;
 mod splitter;
+mod view;
 
 pub use record::Record;
+pub use view::Whole;

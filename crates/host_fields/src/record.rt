@@ -1,17 +1,19 @@
 //! The record.
-ghost use Rattle.std.specs.Prelude.{◌≡◌, ◌≢◌, ◌&&◌, not, [], IfErr, IfOk, Ok, OnErr, OnOk, get_or, length, pos};
+ghost use Rattle.std.specs.Prelude.{◌≡◌, ◌≢◌, ◌+◌, ◌-◌, ◌*◌, ◌≤◌, ◌&&◌, ℕ, not, List, [], IfErr, IfOk, Ok, OnErr, OnOk, get_or, length, pos};
 ghost use Rattle.awk_values.specs.declared.value.Value.TheVariants.{StrNum, Uninit};
 ghost use Rattle.sem_primitives.specs.Texts.{is_empty};
 ghost use Rattle.sem_primitives.specs.FieldMeaning.{at_least, field_number};
-ghost use Rattle.host_format.specs.Outcomes.{IsStopOf};
-ghost use Rattle.host_fields.specs.Held.{AreHeld, fields_in};
-ghost use Rattle.host_fields.specs.declared.fields.Form.TheVariants.{Own};
+ghost use Rattle.sem_primitives.specs.Limits.{most_text};
+ghost use Rattle.host_format.specs.Outcomes.{IsPast, IsStopOf};
+ghost use Rattle.host_fields.specs.Held.{AreHeld, IsMeasured, IsOwn, held_in};
 ghost use Rattle.host_fields.specs.Calls.{IsRecordOf, IsStopOfChange, IsStopOfRecord, Makes, Reads, count_set, field_set};
 
-use crate::fields::{Form, count_fields, part_of, to_own, to_split};
+use crate::fields::{Form, count_fields, part_of, place_of_whole, to_own, to_split};
 use crate::joined::joined;
 use crate::number::field_number;
+use crate::sizes::{size_of_first, size_with, whole_size};
 use crate::splitter::{LastSep, split};
+use crate::view::Whole;
 use awk_values::{Bytes, Fault, Stop, Value};
 use host_format::{Plain, Span};
 use sem_primitives::MAX_FIELDS;
@@ -30,37 +32,61 @@ fn extend(fields: &mut Vec<Value>, count: usize) -> Result<(), AllocError>
     Ok(())
 }
 
-/// The fields become values of their own, at least as many as a number that a script gives. Gives that number, and how many fields there were.
-fn own_up_to(
+/// The number that a script gives, once the fields are values of their own.
+fn number_for_own(
     form: &mut Form,
     own: &mut Vec<Value>,
     whole: &Value,
     spans: &mut Vec<Span>,
     n: i64,
-) -> Result<(usize, usize), Stop>
-    requires { AreHeld form.old whole.now spans.old.items }
+) -> Result<usize, Stop>
+    requires held { AreHeld form.old whole.now spans.old.items }
+    requires measured { IsMeasured form.old own.old.items }
     ensures held { AreHeld form.new whole.now spans.new.items }
-    ensures number { IfOk result (λ x. Ok x.0 ≡ field_number n) }
-    ensures former { IfOk result
-        (λ x. x.1 ≡ length (fields_in form.old whole.now spans.old.items own.old.items)) }
-    ensures form { OnOk result (form.new ≡ Own) }
-    ensures fields { IfOk result (λ x. own.new.items
-        ≡ at_least x.0 (fields_in form.old whole.now spans.old.items own.old.items)) }
+    ensures measured { IsMeasured form.new own.new.items }
+    ensures same { (between : List ℕ)
+        → held_in form.new whole.now spans.new.items own.new.items between
+        ≡ held_in form.old whole.now spans.old.items own.old.items between }
+    ensures own { OnOk result (IsOwn form.new) }
+    ensures number { IfOk result (λ number. Ok number ≡ field_number n) }
     ensures err { IfErr result (IsStopOf (field_number n)) }
-    ensures refused { OnErr result (fields_in form.new whole.now spans.new.items own.new.items
-        ≡ fields_in form.old whole.now spans.old.items own.old.items) }
 {
     let number = field_number(n)?;
     to_own(form, own, whole, spans)?;
-    let former = own.len();
-    extend(own, number)?;
-    Ok((number, former))
+    Ok(number)
+}
+
+/// Makes room for `$0`, of fields whose texts have this size, and puts what is to be between them in its place. Gives that size.
+///
+/// # Errors
+///
+/// `TextLimit` where `$0` would be past 67,108,864 bytes; [`Stop::NoMemory`].
+fn make_room(
+    room: &mut Vec<u8>,
+    between: &mut Vec<u8>,
+    texts: u128,
+    count: usize,
+    ofs: &[u8],
+) -> Result<usize, Stop>
+    ensures size { IfOk result (λ size. size ≡ texts) }
+    ensures within { OnOk result (texts + (count - 1) * length ofs.now ≤ most_text) }
+    ensures between { OnOk result (between.new.items ≡ ofs.now) }
+    ensures err { (text : List ℕ) → length text ≡ texts + (count - 1) * length ofs.now
+        → IfErr result (IsPast text) }
+{
+    let size = whole_size(texts, count, ofs.len())?;
+    room.clear();
+    room.reserve(size)?;
+    between.clear();
+    between.extend_from_slice(ofs)?;
+    Ok(texts as usize)
 }
 
 /// The record and its fields (POSIX.1-2017 awk, "Variables and Special Variables"). Contracts see `$0`, and the fields from `$1` on.
 ///
 /// Fields that are split off are parts of the record's text, until a field or NF is set. Mostly they are split off when one of them, or NF, is first
-/// asked for. What the lists take is kept from record to record.
+/// asked for. `$0` is built of its fields when it is read: setting a field, or NF, only makes room for it. What the lists take is kept from record to
+/// record.
 #[derive(Drop)]
 pub struct Record {
     whole: Value,
@@ -71,6 +97,12 @@ pub struct Record {
     spare: Vec<Span>,
     /// The fields that are values of their own.
     own: Vec<Value>,
+    /// What is between the fields of `$0` that is yet to be built.
+    between: Vec<u8>,
+    /// Room for what is between them after the next assignment.
+    spare_between: Vec<u8>,
+    /// Room for the text of `$0` that is yet to be built.
+    room: Vec<u8>,
     last: Option<LastSep>,
 }
 
@@ -90,16 +122,16 @@ fn do_newlines_separate(fs: &[u8], rs: &[u8]) -> bool
 }
 
 impl Model for Record {
-    ghost use Rattle.host_fields.specs.Held.{AreHeld, Held, fields_in, held_code};
+    ghost use Rattle.host_fields.specs.Held.{AreHeld, Held, IsMeasured, held_code, held_in};
     ghost use Rattle.host_fields.specs.Splits.{IsKept};
 
     ghost Value = { Held };
 
     ghost coded = { held_code };
 
-    ghost view = { λ r. record { whole = r.whole; fields = fields_in r.form r.whole r.spans.items r.own.items } };
+    ghost view = { λ r. held_in r.form r.whole r.spans.items r.own.items r.between.items };
 
-    ghost invariant = { λ r. AreHeld r.form r.whole r.spans.items × IsKept r.last };
+    ghost invariant = { λ r. AreHeld r.form r.whole r.spans.items × IsMeasured r.form r.own.items × IsKept r.last };
 }
 
 impl Record {
@@ -113,6 +145,9 @@ impl Record {
             spans: Vec::new(alloc),
             spare: Vec::new(alloc),
             own: Vec::new(alloc),
+            between: Vec::new(alloc),
+            spare_between: Vec::new(alloc),
+            room: Vec::new(alloc),
             last: None,
         }
     }
@@ -166,7 +201,8 @@ impl Record {
         Ok(())
     }
 
-    /// Sets a field from `$1` on: it keeps the value, NF is raised where it was less, and `$0` is made anew.
+    /// Sets a field from `$1` on: it keeps the value, NF is raised where it was less, and `$0` is the fields with OFS between them. `$0` is built when it
+    /// is read; here its length is tested, and room is made for it.
     ///
     /// # Errors
     ///
@@ -177,30 +213,25 @@ impl Record {
         ensures err { IfErr result (IsStopOfChange ofs.now (field_set n value) self.old) }
         ensures refused { OnErr result (self.new ≡ self.old) }
     {
-        let (number, former) = own_up_to(
+        let number = number_for_own(
             &mut self.form,
             &mut self.own,
             &self.whole,
             &mut self.spans,
             n,
         )?;
-        let alloc = *self.own.allocator();
-        let old = replace(&mut self.own[number - 1], value);
-        match joined(alloc, self.own.as_slice(), ofs) {
-            Ok(whole) => {
-                put_text(&mut self.whole, whole);
-                drop(old);
-                Ok(())
-            }
-            Err(stop) => {
-                self.own[number - 1] = old;
-                self.own.truncate(former);
-                Err(stop)
-            }
-        }
+        let texts = size_with(self.form, self.own.as_slice(), number - 1, &value);
+        let count = self.own.len().max(number);
+        let size = make_room(&mut self.room, &mut self.spare_between, texts, count, ofs)?;
+        extend(&mut self.own, number)?;
+        self.own[number - 1] = value;
+        swap(&mut self.between, &mut self.spare_between);
+        self.form = Form::Unbuilt(size);
+        Ok(())
     }
 
-    /// Sets NF: fields beyond it are cut off, those that are missing have no value, and `$0` is made anew.
+    /// Sets NF: fields beyond it are cut off, those that are missing have no value, and `$0` is the fields with OFS between them, as of
+    /// [`Record::set_field`].
     ///
     /// # Errors
     ///
@@ -210,25 +241,47 @@ impl Record {
         ensures err { IfErr result (IsStopOfChange ofs.now (count_set n) self.old) }
         ensures refused { OnErr result (self.new ≡ self.old) }
     {
-        let (count, former) = own_up_to(
+        let count = number_for_own(
             &mut self.form,
             &mut self.own,
             &self.whole,
             &mut self.spans,
             n,
         )?;
-        let alloc = *self.own.allocator();
-        match joined(alloc, &self.own[..count], ofs) {
-            Ok(whole) => {
-                self.own.truncate(count);
-                put_text(&mut self.whole, whole);
-                Ok(())
-            }
-            Err(stop) => {
-                self.own.truncate(former);
-                Err(stop)
-            }
+        let texts = size_of_first(self.form, self.own.as_slice(), count);
+        let size = make_room(&mut self.room, &mut self.spare_between, texts, count, ofs)?;
+        extend(&mut self.own, count)?;
+        self.own.truncate(count);
+        swap(&mut self.between, &mut self.spare_between);
+        self.form = Form::Unbuilt(size);
+        Ok(())
+    }
+
+    /// `$0`. It takes no memory.
+    #[inline(always)]
+    pub fn whole(&self) -> Whole<'_>
+        ensures { result ≡ self.now.whole }
+    {
+        Whole::at(place_of_whole(
+            self.form,
+            &self.whole,
+            self.own.as_slice(),
+            self.between.as_slice(),
+        ))
+    }
+
+    /// Builds `$0`, if it is yet to be built.
+    fn build(&mut self) -> Result<(), AllocError>
+        ensures { self.new ≡ self.old }
+    {
+        if let Form::Unbuilt(_) = self.form {
+            let alloc = *self.own.allocator();
+            let room = replace(&mut self.room, Vec::new(alloc));
+            let whole = joined(room, self.own.as_slice(), self.between.as_slice())?;
+            put_text(&mut self.whole, whole);
+            self.form = Form::Own;
         }
+        Ok(())
     }
 
     /// A field from `$1` on, where `number` counts from 0. Past NF it has no value.
@@ -239,7 +292,7 @@ impl Record {
     {
         to_split(&mut self.form, &self.whole, &mut self.spans)?;
         match self.form {
-            Form::Own => match self.own.get(number) {
+            Form::Own | Form::Unbuilt(_) => match self.own.get(number) {
                 Some(value) => value.clone(),
                 None => Ok(Value::Uninit),
             },
@@ -263,17 +316,12 @@ impl Record {
         ensures same { self.new ≡ self.old }
     {
         let number = field_number(n)?;
-        if number == 0 {
-            return Ok(self.whole.clone()?);
+        if number != 0 {
+            return Ok(self.own_or_part(number - 1)?);
         }
-        Ok(self.own_or_part(number - 1)?)
-    }
-
-    /// `$0`. It takes no memory.
-    pub fn whole(&self) -> &Value
-        ensures { result.now ≡ self.now.whole }
-    {
-        &self.whole
+        self.build()?;
+        let alloc = *self.own.allocator();
+        Ok(self.whole().value(alloc)?)
     }
 
     /// NF, the number of fields. Nothing changes. It always succeeds, and needs no memory: where there is none for the places of fields that are still to
@@ -284,7 +332,7 @@ impl Record {
     {
         let _ = to_split(&mut self.form, &self.whole, &mut self.spans);
         match self.form {
-            Form::Own => self.own.len(),
+            Form::Own | Form::Unbuilt(_) => self.own.len(),
             Form::Parts => self.spans.len(),
             Form::Later(by, newlines) => count_fields(&self.whole, by, newlines),
         }

@@ -10,6 +10,7 @@ fn tables_at_the_start(rt: HostRuntime) -> Result<(), Fail> {
     let state = RandomState::new(&rt)?;
     let arrays = Arrays::new(rt.alloc(), state)?;
     let record = Record::new(rt.alloc());
-    assert!(rt; arrays.live() == 2 && record.whole() == &Value::Uninit);
+    let whole = record.whole().value(rt.alloc())?;
+    assert!(rt; arrays.live() == 2 && whole == Value::Uninit);
     Ok(())
 }
