@@ -101,6 +101,11 @@ module _ (tells : Type 0) (call : TableCall) (words : List Word) (memory : List 
       → MeansSome tells (import_of_table call) (form_in t i state) words memory a after-call
   plain_told none calls = table_told (chosen_plain call call words memory r refl t u (form_in t i state) none calls)
 
+-- an answer, by the import that was found
+pub found : (tells : Type 0) (i k : Import) (before : HostForm) (words : List Word) (memory : List ℕ) (a : HostAnswer) (after-call : HostForm) → i ≡ k
+    → MeansSome tells k before words memory a after-call → MeansSome tells i before words memory a after-call
+found tells i k before words memory a after-call is means = subst (λ (j : Import). MeansSome tells j before words memory a after-call) (sym is) means
+
 -- an import that can be refused is not, so no fault is kept
 pub none_kept : (i : Import) (o : Option Fault) → lets_go i ≡ false → refuses i o ≡ false → o ≡ None
 none_kept i None keeps goes = refl

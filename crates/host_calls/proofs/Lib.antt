@@ -1,4 +1,3 @@
-pub mod Chosen
 pub mod Comes
 pub mod Faulted
 pub mod Moved

@@ -1,3 +1,3 @@
 pub mod Held
-pub mod Calls
 pub mod Forms
+pub mod Calls

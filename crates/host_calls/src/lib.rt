@@ -3,13 +3,15 @@
 
 mod answers;
 mod calls;
-mod dispatch;
-mod families;
 mod host;
 mod inputs;
+mod names;
+mod on_arrays;
+mod on_texts;
+mod on_values;
+mod on_world;
 mod outputs;
 mod start;
-mod ways;
 
 pub use host::Host;
 pub use host_imports::{IMPORTS, Import, Listing, type_of};

@@ -1,36 +1,18 @@
-//! Calls on the tables, on names and assignments, and on what was read.
-ghost use Rattle.std.specs.Prelude.{◌≡◌, List, ℕ, None, false};
+//! Calls on names and assignments, and on what was read.
+ghost use Rattle.std.specs.Prelude.{◌≡◌, List, ℕ, None};
 ghost use Rattle.sem_primitives.specs.declared.table.Primitive.TheVariants as row;
 ghost use Rattle.host_calls.specs.Calls.{ComesTo};
 ghost use Rattle.host_calls.specs.Forms.{host_form};
-ghost use Rattle.host_step.specs.HostStep.{refuses};
 ghost use Rattle.host_imports.specs.declared.import.Import.{Import};
-ghost use Rattle.host_tables.specs.Calls.{import_of_table};
 
 use crate::host::Host;
 use host_names::{declare, pending_name, pending_value, start_assign};
-use host_tables::TableCall;
 use host_values::Refusal;
 use host_worlds::{begin_end, line};
 use wasm_store::Word;
 use world_core::World;
 
 impl<W: World> Host<W> {
-    /// A call on the tables alone. What lets something go does so once a fault is kept too.
-    #[inline(always)]
-    pub(crate) fn on_tables(
-        &mut self,
-        call: TableCall,
-        words: &[Word],
-        memory: &[u8],
-    ) -> Result<Option<Word>, Refusal>
-        requires { refuses (import_of_table call) self.old.tables.fault ≡ false }
-        ensures { ComesTo W.tells (import_of_table call) (host_form W.state self.old) words.now
-            memory.now result (host_form W.state self.new) }
-    {
-        self.tables.call(call, words, memory)
-    }
-
     /// A name of the script is announced.
     pub(crate) fn declare(&mut self, words: &[Word], memory: &[u8]) -> Result<Option<Word>, Refusal>
         requires { self.old.tables.fault ≡ None }
