@@ -4,7 +4,7 @@ import { existsSync, readFileSync, readdirSync } from "node:fs";
 import { basename } from "node:path";
 
 import { filesInMemory, load, run, textOfBytes } from "../js/core/index.mjs";
-import { Counts, compiled } from "./js_compare.mjs";
+import { Counts, compiled, ran } from "./js_compare.mjs";
 
 /** The scripts beside which a module is kept: folder and name, without the ending. */
 function scriptsOf(top) {
@@ -25,9 +25,17 @@ function printed(bytes, input) {
   return { out, status: end.status };
 }
 
+/** The example of a program of one's own prints what its script prints, and then how it ended. */
+async function compareReport(top, counts, differing) {
+  const { out } = await ran(process.execPath, [`${top}examples/embedding/report.mjs`]);
+  if (out === `${readFileSync(`${top}examples/access_log/output`, "latin1")}ended with status 0\n`) counts.add("program of one's own");
+  else differing.push(`examples/embedding/report.mjs: ${out}`);
+}
+
 export async function compareExamples({ top, program, work }) {
   const counts = new Counts();
   const differing = [];
+  await compareReport(top, counts, differing);
   for (const { folder, name } of scriptsOf(top)) {
     const { bytes } = await compiled(program, `${work}/examples`, readFileSync(`${folder}/${name}.awk`, "latin1"));
     const kept = `${folder}/${name}.wasm`;

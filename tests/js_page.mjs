@@ -149,12 +149,29 @@ async function checkStream(page) {
   assert.equal(await page.value(STREAM), JSON.stringify([true, ["1: a\n", "2: b\n"], "ended"]));
 }
 
+/** The example of a page of one's own. */
+async function checkExample(page) {
+  await page.until('document.getElementById("count") !== null && document.readyState === "complete"');
+  await page.value('document.getElementById("count").click()');
+  await page.until(`${text("status")} === "ended with status 0"`);
+  assert.match(await page.value(text("output")), /\bthe\b/);
+}
+
 /** A screenshot of a run that has printed something and ended by an error. */
 async function shot(page, path) {
   await open(page, "half");
   await page.value(set("standard", "8\n6\n7\n"));
   await run(page);
   writeFileSync(path, await page.screenshot());
+}
+
+/** Tries one check in a page of its own; 1 if it fails. */
+async function tried(chromium, where, url, what, check) {
+  const page = await chromium.page(url);
+  if (check !== checkExample) await page.until(ready);
+  const error = await check(page).then(() => null, (it) => it);
+  console.log(`${error === null ? "ok" : "FAILED"}, ${where}: ${what}${error === null ? "" : `\n${error.message}`}`);
+  return Number(error !== null);
 }
 
 async function main() {
@@ -167,14 +184,10 @@ async function main() {
     const urls = [["from a server", `http://127.0.0.1:${server.address().port}/js/page/index.html`], ["from disk", pathToFileURL(`${work}/page.html`).href]];
     for (const [where, url] of urls) {
       const checks = url.startsWith("http") ? { ...CHECKS, "a stream is read as it comes": checkStream } : CHECKS;
-      for (const [what, check] of Object.entries(checks)) {
-        const page = await chromium.page(url);
-        await page.until(ready);
-        const error = await check(page).then(() => null, (it) => it);
-        failed += Number(error !== null);
-        console.log(`${error === null ? "ok" : "FAILED"}, ${where}: ${what}${error === null ? "" : `\n${error.message}`}`);
-      }
+      for (const [what, check] of Object.entries(checks)) failed += await tried(chromium, where, url, what, check);
     }
+    const example = `http://127.0.0.1:${server.address().port}/examples/embedding/page.html`;
+    failed += await tried(chromium, "from a server", example, "the example of a page of one's own", checkExample);
     const [path] = process.argv.slice(2);
     if (path !== undefined) {
       const page = await chromium.page(urls[0][1]);
