@@ -131,19 +131,19 @@ function alive(bytes) {
 /** What each script must give, and how its module is written, with what that one prints besides. */
 const CASES = [
   {
-    script: 'function f(x) { if (x == "b") next; return x } { print "<" f($1) ">" }',
+    name: "next in a function", script: 'function f(x) { if (x == "b") next; return x } { print "<" f($1) ">" }',
     input: "a\nb\nc\n", status: 0, output: "<a>\n<c>\n", ways: [[numbers, ""], [alive, "0 2 0\n"]],
   },
   {
-    script: 'function g() { exit 3 } BEGIN { print "a" g(); print "no" } END { print "end" }',
+    name: "exit in a function", script: 'function g() { exit 3 } BEGIN { print "a" g(); print "no" } END { print "end" }',
     input: "", status: 3, output: "end\n", ways: [[alive, "0 2 0\n"]],
   },
   {
-    script: 'BEGIN { a["x"]; a["y"]; a["z"]; delete a["x"]; a["x"] = 1; for (k in a) { printf "%s ", k; delete a["x"] }; print ("x" in a) }',
+    name: "a loop over keys", script: 'BEGIN { a["x"]; a["y"]; a["z"]; delete a["x"]; a["x"] = 1; for (k in a) { printf "%s ", k; delete a["x"] }; print ("x" in a) }',
     input: "", status: 0, output: "y z x 0\n", ways: [[numbers, ""], [alive, "1 3 0\n"]],
   },
-  { script: "BEGIN { while (n < 10) n = n + 1; print n }", input: "", status: 0, output: "10\n", ways: [[counted, "7\n"]] },
-  { script: "BEGIN { while (n < 1000) n = n + 1; print n }", input: "", status: 0, output: "1000\n", ways: [[counted, "7\n"]] },
+  { name: "a loop of 10 turns", script: "BEGIN { while (n < 10) n = n + 1; print n }", input: "", status: 0, output: "10\n", ways: [[counted, "7\n"]] },
+  { name: "a loop of 1,000 turns", script: "BEGIN { while (n < 1000) n = n + 1; print n }", input: "", status: 0, output: "1000\n", ways: [[counted, "7\n"]] },
 ];
 
 const escaped = (text) => text.replaceAll("\\", "\\\\").replaceAll("\n", "\\n");
@@ -204,23 +204,33 @@ function isGiven(how, module, input, status, wanted) {
   return end.status === status && output === wanted && CONFIRMED.get(how)({ tables, calls, output });
 }
 
+/** A row with its answer; bench/refused_rows runs it too. */
+const named = (name, row, answer, ...fields) => [[row, `t:${name}`, "a:", ...fields].join("\t"), `${name}\t${answer}`];
+
 /** Two rows with their answers: the last of so many steps is needed, and no more are. */
-function limited(row, steps, status, output) {
-  return [[`${row}\ts:${steps}`, `${status}\t\t${output}`], [`${row}\ts:${steps - 1}`, `4\tOutOfSteps\t${output}`]];
+function limited(name, less, row, steps, status, output) {
+  return [
+    named(name, row, `${status}\t\t${output}`, `s:${steps}`),
+    named(`${name}, ${less}`, row, `4\tOutOfSteps\t${output}`, `s:${steps - 1}`),
+  ];
 }
 
+/** The rule that an instrumented module tests. */
+const RULES = new Map([[numbers, "handle numbers"], [counted, "host calls"], [alive, "alive at the end"]]);
+
 /** The rows of a script, with their answers: its own, and those of its instrumented modules. */
-function rowsOf(program, { script, input, status, output, ways }) {
+function rowsOf(program, { name, script, input, status, output, ways }) {
   const bytes = compiled(program, script);
   const steps = stepsOf(program, script, input);
   const instrumented = ways.flatMap(([how, more]) => {
     const module = how(bytes);
     if (!isGiven(how, module, input, status, output + more)) throw new Error(`${how.name}: ${script}`);
     const row = `module:${module.toString("hex")}\t${escaped(input)}`;
-    if (how === numbers) return limited(row, steps + ADDED, status, escaped(output));
-    return [[row, `${status}\t\t${escaped(output + more)}`]];
+    const its = `${RULES.get(how)}: ${name}`;
+    if (how === numbers) return limited(its, "one step less", row, steps + ADDED, status, escaped(output));
+    return [named(its, row, `${status}\t\t${escaped(output + more)}`)];
   });
-  return [...limited(`${escaped(script)}\t${escaped(input)}`, steps, status, escaped(output)), ...instrumented];
+  return [...limited(`steps: ${name}`, "one less", `${escaped(script)}\t${escaped(input)}`, steps, status, escaped(output)), ...instrumented];
 }
 
 const words = argv.slice(2);

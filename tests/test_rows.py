@@ -1,4 +1,5 @@
 """The rows of crates/test_scripts: what its stdin asks for, and what its stdout says. crates/test_scripts/src/main.rt says what a row is."""
+import itertools
 import os
 import re
 from dataclasses import dataclass
@@ -54,7 +55,7 @@ class Row:
     @property
     def name(self):
         if self.is_command_line:
-            return self.line[len("words:") :].split("\t")[0]
+            return f"command line: {' '.join(self.line.split(chr(9))[1:])}"
         names = self.texts("t")
         return names[-1].decode() if names else ""
 
@@ -66,29 +67,39 @@ class Row:
     def given(self):
         return unescaped(self.line.split("\t")[1])
 
+    def difference(self, actual):
+        """Lines for a row that is answered otherwise than it is stored."""
+        yield f"row {self.number}, {self.name}: {self.line[:500]}"
+        yield from (f"  stored  {it[:500]}" for it in self.answer)
+        yield from (f"  actual  {it[:500]}" for it in actual or ["nothing"])
+
 
 def lines_of(path):
     with open(path, encoding="latin-1") as file:
         return file.read().split("\n")[:-1]
 
 
-def answers(row, lines, at):
-    """Where the answer of a row ends that begins at a place of the lines. A row whose calls fail in turn has an answer for each, which begin with its name."""
-    each = 1 + len(row.texts("l")) + row.has("b") if not row.is_command_line else 1
-    if not row.has("d") or row.is_command_line:
-        return at + each
-    while at < len(lines) and lines[at].startswith(f"{escaped(row.name.encode())}\t"):
-        at += each
-    return at
-
-
 def rows(stdin=f"{CRATE}/stdin", stdout=None):
-    """The rows of a file, each with its answer by a list of lines (the stored stdout without one)."""
-    lines = lines_of(f"{CRATE}/stdout") if stdout is None else stdout
-    found, at = [], 0
-    for number, line in enumerate(lines_of(stdin), 1):
-        row = Row(line, number, [])
-        end = answers(row, lines, at)
-        row.answer, at = lines[at:end], end
-        found.append(row)
-    return found, lines[at:]
+    """The rows of a file, each with its answer by a list of lines (the stored stdout without one), and the lines before the first answer. An answer begins with
+    its row's name, and goes up to the next name; a row whose calls fail in turn has several, each with its name. That of a command line is one line, without a
+    name, behind the answer of the row before."""
+    found = [Row(line, number, []) for number, line in enumerate(lines_of(stdin), 1)]
+    named, before = {escaped(row.name.encode()): row for row in found if not row.is_command_line}, []
+    answer = before
+    for line in lines_of(f"{CRATE}/stdout") if stdout is None else stdout:
+        row = named.get(line.split("\t")[0])
+        answer = row.answer if row else answer
+        answer.append(line)
+    for row in found:
+        if not row.is_command_line:
+            give_last_lines(row, found[row.number :])
+    return found, before
+
+
+def give_last_lines(row, behind):
+    """Gives the last lines of a row's answer to the command lines right behind it."""
+    command_lines = list(itertools.takewhile(lambda it: it.is_command_line, behind))
+    at = max(len(row.answer) - len(command_lines), 0)
+    for it, line in zip(command_lines, row.answer[at:]):
+        it.answer.append(line)
+    del row.answer[at:]

@@ -14,6 +14,7 @@ function all(a,  k, s) { for (k in a) s = s " " k ":" a[k]; return s }"""
 def drawn_calls():
     for seed in (1, 2):
         yield row(
+            f"arrays: drawn calls on four arrays, from {seed}",
             STEP
             + f"""
 BEGIN {{ x = {seed}
@@ -28,6 +29,7 @@ BEGIN {{ x = {seed}
         )
     # arrays of calls come and go
     yield row(
+        "arrays: drawn calls on arrays of calls",
         STEP
         + """
 function steps(a, b,  i, c, k) {
@@ -41,14 +43,14 @@ BEGIN { x = 3; for (j = 1; j <= 12; j++) { work(x % 9, p); print seen s; print a
 
 def loops():
     fill = "for (i = 0; i < n; i++) a[i] = 1"
-    yield row(f"BEGIN {{ n = 1000; {fill}; for (k in a) c += k; print c; for (k in a) delete a[k]; for (k in a) print k; print (5 in a) }}")
+    yield row("arrays: 1,000 elements are deleted", f"BEGIN {{ n = 1000; {fill}; for (k in a) c += k; print c; for (k in a) delete a[k]; for (k in a) print k; print (5 in a) }}")
     queue = "for (i = 0; i < n; i++) { delete a[i]; a[i + n] = i }"
-    yield row(f"BEGIN {{ n = 1000; {fill}; {queue}; for (k in a) if (k != n + m++ || a[k] != k - n) print k; print m }}")
+    yield row("arrays: a queue of 1,000 elements", f"BEGIN {{ n = 1000; {fill}; {queue}; for (k in a) if (k != n + m++ || a[k] != k - n) print k; print m }}")
     nested = 'for (i in a) { for (j in a) { if (i == j) delete a[j]; else a[i j] = 1 }; s = ""; for (j in a) s = s " " j; print i ":" s }'
-    yield row(f"BEGIN {{ for (i = 0; i < 5; i++) a[i]; {nested} }}")
+    yield row("arrays: nested loops over one array that changes", f"BEGIN {{ for (i = 0; i < 5; i++) a[i]; {nested} }}")
     keys = r'a[1]; a[""] = 2; a["x\000y"] = 3; a["01"]; print ("1" in a), (1.0 in a), (" 1" in a), ("" in a), ("x" in a)'
-    yield row(f'BEGIN {{ {keys}; for (k in a) print "[" k "]", (k == 1), a[k] + 0 }}')
-    yield row('BEGIN { a["x"] = 1; b["x"] = 2; delete a["y"]; delete a["x"]; delete a["x"]; print ("x" in a), b["x"], a["x"] == ""; for (k in a) print k }')
+    yield row("arrays: keys that are numbers, texts and empty", f'BEGIN {{ {keys}; for (k in a) print "[" k "]", (k == 1), a[k] + 0 }}')
+    yield row("arrays: elements of one name in two arrays", 'BEGIN { a["x"] = 1; b["x"] = 2; delete a["y"]; delete a["x"]; delete a["x"]; print ("x" in a), b["x"], a["x"] == ""; for (k in a) print k }')
 
 
 def rows():

@@ -33,26 +33,29 @@ def call(pattern, *values):
     words = [f"${next(places)}" if isinstance(v, Read) else quoted(v) if isinstance(v, str) else str(v) for v in values]
     head = "{" if read else "BEGIN {"
     script = f'{head} printf {", ".join([quoted(pattern), *words])}; print "." }}'
-    return row(script, ",".join(read) + "\n", "v:FS=,") if read else row(script)
+    values = ", ".join(f"a read {quoted(v)}" if isinstance(v, Read) else word for v, word in zip(values, words))
+    name = f"printf: {quoted(pattern)} of {values or 'nothing'}"
+    return row(name, script, ",".join(read) + "\n", "v:FS=,") if read else row(name, script)
 
 
 def every_flag():
     for letter, (values, text) in VALUES.items():
-        yield row(EVERY_FLAG.replace("LETTER", letter).replace("VALUES", values), text + "\n", "v:FS=,")
+        yield row(f"printf: every flag, width and precision of %{letter}", EVERY_FLAG.replace("LETTER", letter).replace("VALUES", values), text + "\n", "v:FS=,")
 
 
 def values():
     numbers = "0 1 7 8 9 10 15 16 99 100 255 4095 4096 2147483648 4294967295 9007199254740991 9007199254740992 -1 -8 -16 -2147483648 -9007199254740992"
-    yield row(r'{ printf "%d %i %o %x %X %u %f %s\n", $1 + 0, $1, $1, $1, $1, $1, $1, $1 }', numbers.replace(" ", "\n") + "\n")
+    yield row("printf: numbers by every conversion", r'{ printf "%d %i %o %x %X %u %f %s\n", $1 + 0, $1, $1, $1, $1, $1, $1, $1 }', numbers.replace(" ", "\n") + "\n")
     codes = "0 1 9 10 37 92 127 128 255 256 257 511 -1 -255 -256 -257 65.9 9007199254740992 -9007199254740992"
-    yield row(r'{ for (i = 1; i <= NF; i++) printf "[%c][%3c][%-3c]\n", int($i), $i, $i "" }', codes + "\n")
+    yield row("printf: bytes by their numbers", r'{ for (i = 1; i <= NF; i++) printf "[%c][%3c][%-3c]\n", int($i), $i, $i "" }', codes + "\n")
     texts = ["", " ", "0x1A", "+5", "-0", " 12abc", "1e3", "1e-1", ".5", "5.", "-7.9", "0.5", "9007199254740992", "9007199254740992.9"]
-    yield row(r'{ t = $0 ""; printf "%d %u [%c] %s|%d %u [%c] %s\n", $0, $0, $0, $0, t, t, t, t }', "".join(text + "\n" for text in texts))
+    yield row("printf: texts by conversions of numbers and bytes", r'{ t = $0 ""; printf "%d %u [%c] %s|%d %u [%c] %s\n", $0, $0, $0, $0, t, t, t, t }', "".join(text + "\n" for text in texts))
     whole = ["", " ", "0x1A", "+5", "-0", " 12abc", "1e3", "5.", "9007199254740992"]
-    yield row(r'{ t = $0 ""; printf "%f|%.1f\n", $0, t }', "".join(text + "\n" for text in whole))
+    yield row("printf: texts by %f", r'{ t = $0 ""; printf "%f|%.1f\n", $0, t }', "".join(text + "\n" for text in whole))
     yield call("%d %o %x %u %f [%s] [%c]", *[Read("")] * 7)
-    yield row(r'BEGIN { printf "%d %o %x %u %f [%s] [%c]\n", u, u, u, u, u, u, u }')
+    yield row("printf: no value by every conversion", r'BEGIN { printf "%d %o %x %u %f [%s] [%c]\n", u, u, u, u, u, u, u }')
     yield row(
+        "printf: precisions of 0 and 9 by numbers",
         r'{ for (i = 1; i <= 7; i++) { c = substr("dioxXuf", i, 1); for (j = 1; j <= NF; j++) printf "[%" $j c "|%" $j c "]", 0, 9; print "" } }',
         ".0,.,.1,.5,5.0,05.0,#.0,#5.0,-5.0,+.0, .0\n",
         "v:FS=,",
@@ -60,19 +63,20 @@ def values():
 
 
 def patterns():
-    yield row(r'BEGIN { printf ""; printf "", 1; printf "%%|%%%%|%%d|%d%%|100%% of %s|\n", 1, "it"; print sprintf("z%d", 42, "more") sprintf("z%s", "a", 1) }')
-    yield row(r'BEGIN { printf "%-----5d|%0000007d|%+ +d|%- 0+#8x|% d% d%+d%+d|%+o%+x%+u% o% x\n", 1, 1, 1, 255, 1, -1, 1, -1, 1, 1, 1, 1, 1 }')
-    yield row(r'BEGIN { printf "%#o %#o %#.3o %#.1o %#.0o %#x %#X %#x %#08x %#-8x|\n", 0, 8, 8, 8, 0, 0, 255, 255, 255, 255 }')
-    yield row(r'BEGIN { printf "%.2s|%.0s|%.9s|%5.1s|%-5.1s|%05s|%+s|% s|%#s\n", "xyz", "xyz", "xyz", "xyz", "xyz", "xyz", "xyz", "xyz", "xyz" }')
-    yield row(r'BEGIN { printf "%s%s|\000\377%d|[%c][%c][%c]\n", "\000\200\n", "\t%d", 3, "\000a", "\377b", " 1x" }')
+    yield row("printf: no conversion, %% and arguments too many", r'BEGIN { printf ""; printf "", 1; printf "%%|%%%%|%%d|%d%%|100%% of %s|\n", 1, "it"; print sprintf("z%d", 42, "more") sprintf("z%s", "a", 1) }')
+    yield row("printf: flags again and together", r'BEGIN { printf "%-----5d|%0000007d|%+ +d|%- 0+#8x|% d% d%+d%+d|%+o%+x%+u% o% x\n", 1, 1, 1, 255, 1, -1, 1, -1, 1, 1, 1, 1, 1 }')
+    yield row("printf: # by octal and hexadecimal", r'BEGIN { printf "%#o %#o %#.3o %#.1o %#.0o %#x %#X %#x %#08x %#-8x|\n", 0, 8, 8, 8, 0, 0, 255, 255, 255, 255 }')
+    yield row("printf: texts that are cut", r'BEGIN { printf "%.2s|%.0s|%.9s|%5.1s|%-5.1s|%05s|%+s|% s|%#s\n", "xyz", "xyz", "xyz", "xyz", "xyz", "xyz", "xyz", "xyz", "xyz" }')
+    yield row("printf: bytes that are no letters", r'BEGIN { printf "%s%s|\000\377%d|[%c][%c][%c]\n", "\000\200\n", "\t%d", 3, "\000a", "\377b", " 1x" }')
     wide = "65535 .65535 065535 .065535 -65535 00000000000000000000005 .00000000000000000000005"
     yield row(
+        "printf: the greatest widths and precisions",
         ENDS
         + r"""
 { for (i = 1; i <= NF; i++) for (j = 1; j <= 5; j++) print ends(sprintf("<%" $i substr("dscfx", j, 1) ">", -5)) }""",
         wide + "\n",
     )
-    yield row(ENDS + "\nBEGIN { while (i++ < 1000) f = f \"%d,\"; print ends(sprintf(f", "", "p:1000=, length(f)", "p:1=)) }")
+    yield row("printf: 1,000 conversions", ENDS + "\nBEGIN { while (i++ < 1000) f = f \"%d,\"; print ends(sprintf(f", "", "p:1000=, length(f)", "p:1=)) }")
 
 
 MALFORMED = [
@@ -116,13 +120,13 @@ def number_faults():
 
 def limits():
     """A text of 67,108,864 bytes, one more, and the order of the faults."""
-    def long(unit, count, tail, values):
+    def long(name, unit, count, tail, values):
         script = f'BEGIN {{ while (i++ < {count}) f = f {quoted(unit)}; while (j++ < 1024) t = t "x"; print length(sprintf(f {tail}'
-        return row(script, "", f"p:{values}=, 7", "p:1=)) }")
+        return row(name, script, "", f"p:{values}=, 7", "p:1=)) }")
 
-    yield long("%65535s", 1024, "t", 1024)
-    yield long("%65535s", 1024, 't "%1025%"', 1024)
-    yield long("%-65535d%065535f%.65535d", 341, '"%65535c" t "x%q"', 1024)
+    yield long("printf: a text of 67,108,864 bytes", "%65535s", 1024, "t", 1024)
+    yield long("printf: Format right after the longest text", "%65535s", 1024, 't "%1025%"', 1024)
+    yield long("printf: TextLimit before Format", "%-65535d%065535f%.65535d", 341, '"%65535c" t "x%q"', 1024)
 
 
 def rows():

@@ -1,4 +1,4 @@
-"""Lines of crates/test_scripts/stdin: a script, its standard input, and fields after them (its src/main.rt says which)."""
+"""Lines of crates/test_scripts/stdin: a script, its standard input, its name, and fields after them (its src/main.rt says which)."""
 
 
 def escaped(text):
@@ -7,8 +7,8 @@ def escaped(text):
     return "".join(names.get(c, c if " " <= c <= "~" else f"\\{ord(c):03o}") for c in text)
 
 
-def row(script, given="", *fields):
-    return "\t".join(escaped(text) for text in (script.strip(), given, *fields))
+def row(name, script, given="", *fields):
+    return "\t".join(escaped(text) for text in (script.strip(), given, f"t:{name}", *fields))
 
 
 def quoted(text):

@@ -33,39 +33,39 @@ FAULTY = [("$1 == $2", "0.5,0.5"), ("$1 == $2", "1e99,0.5"), ("1 < $1", "0.5")]
 
 
 def numbers():
-    yield row('BEGIN { RS = "@" } { print $0 + 0, int($0), ($0 == $0 + 0) }', "".join(text + "@" for text in NUMBERS))
+    yield row("number texts: worked ones", 'BEGIN { RS = "@" } { print $0 + 0, int($0), ($0 == $0 + 0) }', "".join(text + "@" for text in NUMBERS))
     for text, has_whole in FAULTS:
         if not has_whole:
-            yield row('{ print "x"; print int($0); print "no" }', text)
-        yield row('{ print "x"' + (", int($0)" if has_whole else "") + '; print $0 + 0; print "no" }', text)
+            yield row(f"number texts: int of {text} is out of range", '{ print "x"; print int($0); print "no" }', text)
+        yield row(f"number texts: the number of {text}", '{ print "x"' + (", int($0)" if has_whole else "") + '; print $0 + 0; print "no" }', text)
 
 
 def strings():
-    yield row("BEGIN { " + "; ".join(f'print "{text}"' for text in STRINGS) + " }")
+    yield row("tokens: strings and their escapes", "BEGIN { " + "; ".join(f'print "{text}"' for text in STRINGS) + " }")
     for text in ["a\\", r"\1\n\89", r"\"b\n\""]:
-        yield row("BEGIN { print v }", "", "v:v=" + text)
+        yield row(f"command-line assignments: escapes, {text}", "BEGIN { print v }", "", "v:v=" + text)
 
 
 def operators():
     for operation, (good, bad) in OPERATORS.items():
         if good:
-            yield row(f"{{ print {operation} }}", "".join(f"{a} {b}\n" for a, b in good))
+            yield row(f"arithmetic: {operation} at its limits", f"{{ print {operation} }}", "".join(f"{a} {b}\n" for a, b in good))
         for a, b in bad:
-            yield row(f'{{ print "x"; print {operation}; print "no" }}', f"{a} {b}\n")
+            yield row(f"arithmetic: {operation} of {a} and {b}", f'{{ print "x"; print {operation}; print "no" }}', f"{a} {b}\n")
 
 
 def values():
-    yield row('BEGIN { RS = "@" } { print ' + READ.format(e="$0") + " }", "".join(text + "@" for text in ["0.0", " 0 ", "-0e7", "0x", " ", ""]))
+    yield row("values: truth of numeric strings and texts", 'BEGIN { RS = "@" } { print ' + READ.format(e="$0") + " }", "".join(text + "@" for text in ["0.0", " 0 ", "-0e7", "0x", " ", ""]))
     for text in "0.5", "1e99":
-        yield row('{ print "[" $0 "]", $0 ? "true" : "false"; print $0 + 0; print "no" }', text)
-    yield row('BEGIN { n = -12; z = 0; t = "3x"; o = "0"; e = ""; ' + "; ".join("print " + READ.format(e=name) for name in "unztoe") + " }")
+        yield row(f"values: truth of {text}, and its number", '{ print "[" $0 "]", $0 ? "true" : "false"; print $0 + 0; print "no" }', text)
+    yield row("values: number, text and truth of each kind", 'BEGIN { n = -12; z = 0; t = "3x"; o = "0"; e = ""; ' + "; ".join("print " + READ.format(e=name) for name in "unztoe") + " }")
 
 
 def comparisons():
     for comparison, *fields in COMPARISONS:
-        yield row(f'BEGIN {{ FS = "," }} {{ print ({comparison}) }}', "".join(fields) + "\n")
+        yield row(f"comparison: {comparison}" + "".join(f" of {it}" for it in fields), f'BEGIN {{ FS = "," }} {{ print ({comparison}) }}', "".join(fields) + "\n")
     for comparison, fields in FAULTY:
-        yield row(f'BEGIN {{ FS = "," }} {{ print "x"; print ({comparison}); print "no" }}', fields + "\n")
+        yield row(f"comparison: {comparison} of {fields}", f'BEGIN {{ FS = "," }} {{ print "x"; print ({comparison}); print "no" }}', fields + "\n")
 
 
 def rows():

@@ -9,7 +9,7 @@
 //! - `x:`: reading the standard input fails at its end; `g:NAME=TEXT`: so does reading this file; `n:NAME`: a name that does not open;
 //! - `r:N`: the standard output has room for so many bytes; `c:N`: this call of the world fails, from 1 on;
 //! - `k:OPTION`: an option of the command line keeps files out, as `k:no-files`;
-//! - `t:NAME`: the row's name, which comes before its answer, with a tab;
+//! - `t:NAME`: the row's name, which comes before its answer, with a tab; `a:` is read by `bench/refused_rows` alone, which refuses each allocation of the row;
 //! - `d:`: each call of the world fails, in one run after another, from the first call to the last: there is an answer for each;
 //! - `s:N`: so many steps at most; `u:TEXT`: where the output is this text, once or more, `again and again` is shown for it;
 //! - `b:`: a line says how many proper beginnings of the module are refused.
