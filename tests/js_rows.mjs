@@ -114,8 +114,9 @@ const OWN_WORDS = {
 function agrees(row, lines, due) {
   if (lines.join("\n") === due.join("\n")) return true;
   if (!row.isModule) return false;
-  const [status, name, out] = due[0].split("\t");
-  const [ourStatus, ourName, ourOut] = lines[0].split("\t");
+  // (a row's name may stand before the three)
+  const [status, name, out] = due[0].split("\t").slice(-3);
+  const [ourStatus, ourName, ourOut] = lines[0].split("\t").slice(-3);
   if (status !== ourStatus || out !== ourOut) return false;
   return status === "3" ? ourName === "CompileError" || FAULTS.includes(name) : OWN_WORDS[name]?.test(ourName) ?? false;
 }
