@@ -41,7 +41,7 @@ async function main() {
   try {
     for (const compare of [compareRows, compareExamples, compareCommandLines, compareCalls, compareRandom]) wrong += await differencesOf(compare, words);
   } finally {
-    rmSync(words.work, { recursive: true });
+    rmSync(words.work, { recursive: true, force: true });
   }
   process.exit(wrong === 0 ? 0 : 1);
 }
