@@ -100,7 +100,7 @@ function answerOf(row, bytes) {
     const text = written.has(name) ? textOfBytes(written.get(name)) : row.all("f").map(pairOf).find(([it]) => it === name)?.[1];
     return text === undefined ? escaped(name) : `${escaped(name)}\t${escaped(text)}`;
   });
-  const title = row.all("t").map((name) => `${name}\t`).join("");
+  const title = row.all("t").map((name) => `${escaped(name)}\t`).join("");
   return { lines: [`${title}${end.status}\t${end.name ?? ""}\t${escaped(out.text)}`, ...files_], end };
 }
 

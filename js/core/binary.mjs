@@ -103,12 +103,12 @@ function followed(ranges) {
 const OPCODES = followed([
   [NONE, 0x00, 0x01], [BLOCK, 0x02, 0x04], [NONE, 0x05], [NONE, 0x0b], [ONE, 0x0c, 0x0d], [LABELS, 0x0e], [NONE, 0x0f], [ONE, 0x10], [TWO, 0x11],
   [NONE, 0x1a, 0x1b], [ONE, 0x20, 0x24], [TWO, 0x28, 0x29], [TWO, 0x2c, 0x37], [TWO, 0x3a, 0x3e], [ONE, 0x3f, 0x42], [NONE, 0x45, 0x5a],
-  [NONE, 0x67, 0x8a], [NONE, 0xa7], [NONE, 0xac, 0xad],
+  [NONE, 0x67, 0x8a], [NONE, 0xa7], [NONE, 0xac, 0xad], [NONE, 0xc0, 0xc4],
 ]);
 
 export const OP = { unreachable: 0x00, nop: 0x01, block: 0x02, loop: 0x03, if: 0x04, end: 0x0b, br: 0x0c, return: 0x0f };
 
-/** Passes one instruction, and answers its opcode; BadOpcode if WebAssembly 1.0 without floating point does not have it. */
+/** Passes one instruction, and answers its opcode; BadOpcode if neither WebAssembly 1.0 without floating point nor sign extension has it. */
 export function passInstruction(code) {
   const opcode = code.byte();
   switch (OPCODES[opcode]) {
