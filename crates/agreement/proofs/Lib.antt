@@ -10,4 +10,5 @@ pub mod WordsLemmas
 pub mod RunsLemmas
 mod TwinsLemmas
 mod TextsLemmas
+mod StoresLemmas
 mod InputLemmas

@@ -1,2 +1,3 @@
 pub mod MainInput
 pub mod Assignments
+pub mod Records

@@ -9,4 +9,5 @@ pub mod Quiet
 pub mod Words
 pub mod Runs
 pub mod Texts
+pub mod Stores
 pub mod Input

@@ -1,2 +1,4 @@
+pub mod TableMeaning
+pub mod Over
 pub mod ValueAgreement
 pub mod Agreement

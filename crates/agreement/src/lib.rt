@@ -9,6 +9,7 @@ pub mod quiet;
 pub mod runs;
 pub mod sizes;
 pub mod spots;
+pub mod stores;
 pub mod texts;
 pub mod twins;
 pub mod typed;

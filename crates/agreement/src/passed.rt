@@ -7,7 +7,8 @@ ghost use Rattle.mid_program.specs.MidMeaning.{mid_run_in};
 ghost use Rattle.sem_scripts.specs.ScriptRun.{Setting};
 ghost use Rattle.mid_program.specs.Sorted.{IsSorted};
 ghost use Rattle.lower_model.specs.Modules.{module_of};
-ghost use Rattle.agreement.specs.Passed.Passed.{Passes, no_probe, probed_run};
+ghost use Rattle.agreement.specs.Passed.Passed.{Passes, no_probe};
+ghost use Rattle.agreement.specs.Passed.Probes.{probed_run};
 
 /// A run of the module of a well-sorted program passes the place of a statement as often as the program executes the statement, in the same order, and among
 /// the same actions: whatever a probe adds to the output at each place, the run puts out with it what the program puts out with it.

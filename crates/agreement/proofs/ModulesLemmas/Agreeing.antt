@@ -12,7 +12,8 @@ use Rattle.lower_model.specs.Follows.{Follows, ShownWith}
 use Rattle.lower_model.specs.Machine.{Notes, no_notes, Code, Conf, Run, Look, Over, Deep, Stuck, ending_at, go, turns_within}
 use Rattle.lower_model.specs.Runs.{begun, noting_code, noting_run}
 use Rattle.lower_model.proofs.Runs.{go_add, turns_add}
-use Rattle.agreement.specs.Modules.ValueAgreement.{IsOver, Shows, AgreesWith, ValueAgreement}
+use Rattle.agreement.specs.Modules.ValueAgreement.{Shows, AgreesWith, ValueAgreement}
+use Rattle.agreement.specs.Modules.Over.{IsOver}
 use Rattle.agreement.proofs.ModulesLemmas.Growing.{grows_self, shown_later}
 
 -- a place that is left no more

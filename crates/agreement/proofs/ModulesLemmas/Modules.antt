@@ -27,7 +27,7 @@ use Rattle.lower_model.specs.Cells.{Cell, Bits, Held, LentArray, OwnedArray, Ite
 use Rattle.lower_model.specs.Machine.{Conf, Run, Look, Over, Deep, Store, Stuck, ending_at, go, status_of}
 use Rattle.lower_model.specs.Modules.{module_of}
 use Rattle.lower_model.specs.Runs.{begun, code_of, value_run}
-use Rattle.agreement.specs.Refined.Refined.{table_meaning}
+use Rattle.agreement.specs.Modules.TableMeaning.{table_meaning}
 use Rattle.agreement.specs.Refined.Running.{SharesAs, TellsAs}
 use Rattle.agreement.specs.Refined.Words.{WordAs, arrays_made}
 use Rattle.agreement.proofs.RefinedLemmas.Beginning.{begins, begun_as, in_main, run_after}
@@ -36,7 +36,8 @@ use Rattle.agreement.proofs.RefinedLemmas.Links.{linked, program, program_is}
 use Rattle.agreement.proofs.RefinedLemmas.Outputs.{run_adds}
 use Rattle.agreement.proofs.RefinedLemmas.Telling.{tells_as}
 use Rattle.agreement.specs.Modules.Agreement.{Agreement, Like, MayEnd, ModuleEnding, Trapped, ended_with, ending_told, output_in}
-use Rattle.agreement.specs.Modules.ValueAgreement.{IsOver, ValueAgreement}
+use Rattle.agreement.specs.Modules.ValueAgreement.{ValueAgreement}
+use Rattle.agreement.specs.Modules.Over.{IsOver}
 
 -- the low bits of a word are its number's remainder
 status_low : (n : ℕ) → n < 2 ^ 32 → unsigned_abs (int_rem_euclid (cast_signed w32 n) (pos 256)) ≡ n % 256

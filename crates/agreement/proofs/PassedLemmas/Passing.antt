@@ -29,15 +29,18 @@ use Rattle.lower_model.specs.Runs.{begun, code_of, noting_code, noting_run}
 use Rattle.lower_model.proofs.CodeFollows.{code_notes}
 use Rattle.lower_model.proofs.Runs.{go_add}
 use Rattle.lower_model.proofs.Silent.{silent_run}
-use Rattle.agreement.specs.Refined.Refined.{As, EndAs, table_meaning}
+use Rattle.agreement.specs.Refined.Refined.{As, EndAs}
+use Rattle.agreement.specs.Modules.TableMeaning.{table_meaning}
 use Rattle.agreement.proofs.RefinedLemmas.Beginning.{begins, begun_as, in_main}
 use Rattle.agreement.proofs.RefinedLemmas.Growing.{arrays_grow}
 use Rattle.agreement.proofs.RefinedLemmas.Links.{linked, program, program_is, stays}
 use Rattle.agreement.proofs.RefinedLemmas.Stepping.{step_as}
-use Rattle.agreement.specs.Modules.ValueAgreement.{IsOver, AgreesWith}
+use Rattle.agreement.specs.Modules.ValueAgreement.{AgreesWith}
+use Rattle.agreement.specs.Modules.Over.{IsOver}
 use Rattle.agreement.proofs.ModulesLemmas.Agreeing.{agreement_with}
 use Rattle.agreement.proofs.ModulesLemmas.Growing.{shows_put}
-use Rattle.agreement.specs.Passed.Passed.{Probe, no_probe, ProbedRun, ProbedSteps, Passes, probed_at, probed_run, notes_of}
+use Rattle.agreement.specs.Passed.Passed.{Probe, no_probe, ProbedRun, ProbedSteps, Passes, probed_at}
+use Rattle.agreement.specs.Passed.Probes.{notes_of, probed_run}
 use Rattle.agreement.proofs.PassedLemmas.Probed.{looking_alike, probed_steps, run_alike}
 
 -- a probe only adds

@@ -19,12 +19,14 @@ use Rattle.lower_model.specs.Cells.{Cell}
 use Rattle.lower_model.specs.Machine.{Code, Conf, Run, Look, Over, Deep, Stuck, Frame, Label, Store, act, go, leave, noted, run, run_looking, step, work}
 use Rattle.lower_model.specs.Modules.{called_imports, renumbered}
 use Rattle.lower_model.specs.Runs.{code_of, noting_code}
-use Rattle.agreement.specs.Refined.Refined.{As, LookAs, RestAs, RunAs, table_meaning}
+use Rattle.agreement.specs.Refined.Refined.{As, LookAs, RestAs, RunAs}
+use Rattle.agreement.specs.Modules.TableMeaning.{table_meaning}
 use Rattle.agreement.proofs.RefinedLemmas.Growing.{arrays_grow}
 use Rattle.agreement.proofs.RefinedLemmas.Links.{linked, program, stays}
 use Rattle.agreement.proofs.RefinedLemmas.Running.{left_turn, taken_as}
 use Rattle.host_values.proofs.AnyOutput.{step_free}
-use Rattle.agreement.specs.Passed.Passed.{Probe, ProbedSteps, probed_at, notes_of}
+use Rattle.agreement.specs.Passed.Passed.{Probe, ProbedSteps, probed_at}
+use Rattle.agreement.specs.Passed.Probes.{notes_of}
 
 -- A step over a host, whatever was put out before.
 

@@ -20,7 +20,7 @@ use Rattle.sem_primitives.specs.declared.table.Primitive.TheVariants as row
 use Rattle.mid_program.specs.declared.mid.Operation.TheVariants.{Host}
 use Rattle.mid_program.specs.Mid.{Boxed, Unboxed, Code as MidCode, Do, Call, Get, Parameter, At, End}
 use Rattle.lower_model.specs.Small.{minus_one, text_beside}
-use Rattle.agreement.specs.Refined.Refined.{table_meaning}
+use Rattle.agreement.specs.Modules.TableMeaning.{table_meaning}
 use Rattle.agreement.specs.Places.Assigned.{IsPending, IsWord, Somewhere}
 use Rattle.agreement.specs.Places.Kept.{BareParameters, IsMarked, LocalsWait, count}
 use Rattle.agreement.proofs.PlacesLemmas.Pending.{Few}

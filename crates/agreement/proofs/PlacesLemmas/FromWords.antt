@@ -19,7 +19,8 @@ use Rattle.lower_model.specs.Modules.{called_imports, module_of}
 use Rattle.lower_model.specs.Runs.{begun, code_of, first_globals, host_at_start}
 use Rattle.lower_model.proofs.InputLaws.{IsAmong, IsNamed, IsNamedAmong}
 use Rattle.agreement.specs.Refined.Growing.{ArraysGrow}
-use Rattle.agreement.specs.Refined.Refined.{As, Linked, table_meaning}
+use Rattle.agreement.specs.Refined.Refined.{As, Linked}
+use Rattle.agreement.specs.Modules.TableMeaning.{table_meaning}
 use Rattle.agreement.specs.Refined.Words.{state_with}
 use Rattle.agreement.proofs.RefinedLemmas.Beginning.{begins, begun_as, in_main, taken_first}
 use Rattle.agreement.proofs.RefinedLemmas.Growing.{arrays_grow}

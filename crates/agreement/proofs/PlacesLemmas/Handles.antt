@@ -22,7 +22,8 @@ use Rattle.lower_model.specs.Places.{handle_global}
 use Rattle.lower_model.specs.Runs.{begun, code_of, empty_names, first_globals, host_at_start, zero_ranges}
 use Rattle.lower_model.specs.Small.{minus_one}
 use Rattle.agreement.specs.Refined.Growing.{ArraysGrow}
-use Rattle.agreement.specs.Refined.Refined.{As, Linked, table_meaning}
+use Rattle.agreement.specs.Refined.Refined.{As, Linked}
+use Rattle.agreement.specs.Modules.TableMeaning.{table_meaning}
 use Rattle.agreement.specs.Refined.Words.{WordsAs, arrays_made, state_with}
 use Rattle.agreement.proofs.RefinedLemmas.Beginning.{begins, begun_as, in_main, taken_first}
 use Rattle.agreement.proofs.RefinedLemmas.Growing.{arrays_grow}

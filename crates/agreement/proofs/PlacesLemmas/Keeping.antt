@@ -26,7 +26,8 @@ use Rattle.lower_model.specs.Modules.{all_callees, called_imports, globals_of, m
 use Rattle.lower_model.specs.Runs.{begun, code_of}
 use Rattle.lower_model.proofs.Runs.{go_add}
 use Rattle.agreement.specs.Refined.Owners.{OwnedOnce, wanted}
-use Rattle.agreement.specs.Refined.Refined.{As, EndAs, LeftAs, RunAs, table_meaning}
+use Rattle.agreement.specs.Refined.Refined.{As, EndAs, LeftAs, RunAs}
+use Rattle.agreement.specs.Modules.TableMeaning.{table_meaning}
 use Rattle.agreement.specs.Refined.Words.{ArraysFit, WordsAs, arrays_made}
 use Rattle.agreement.proofs.RefinedLemmas.Beginning.{begins, begun_as, in_main, steps_after}
 use Rattle.agreement.proofs.RefinedLemmas.Growing.{arrays_grow}

@@ -30,7 +30,7 @@ use Rattle.host_step.specs.Starts.{first_names}
 use Rattle.host_step.specs.Tables.{Table, entered, look, without}
 use Rattle.host_imports.specs.declared.import.Import.{Import}
 use Rattle.agreement.specs.Refined.Owners.{there}
-use Rattle.agreement.specs.Refined.Refined.{table_meaning}
+use Rattle.agreement.specs.Modules.TableMeaning.{table_meaning}
 use Rattle.agreement.proofs.RefinedLemmas.Replying.{KeptBy, comes_keeps}
 use Rattle.agreement.proofs.RefinedLemmas.Room.{owns_one, total, total_none, total_sum}
 use Rattle.agreement.proofs.PlacesLemmas.Totals.{one_exactly, total_same}

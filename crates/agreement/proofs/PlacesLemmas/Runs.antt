@@ -29,7 +29,7 @@ use Rattle.lower_model.specs.Modules.{module_of}
 use Rattle.lower_model.specs.Runs.{begun, code_of}
 use Rattle.agreement.proofs.TypedLemmas.Links.{main_exported, segments_fit}
 use Rattle.agreement.proofs.TypedLemmas.Whole.{module_ok}
-use Rattle.agreement.specs.Refined.Refined.{table_meaning}
+use Rattle.agreement.specs.Modules.TableMeaning.{table_meaning}
 use Rattle.agreement.proofs.RefinedLemmas.Beginning.{begins, in_main, main_number, steps_after}
 use Rattle.agreement.proofs.RefinedLemmas.Existing.{FreeFrom, HasRun, runs}
 use Rattle.agreement.proofs.RefinedLemmas.Links.{numbers_are, program}

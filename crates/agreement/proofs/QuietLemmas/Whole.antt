@@ -24,7 +24,7 @@ use Rattle.lower_model.specs.Emission.{Layout}
 use Rattle.lower_model.specs.Functions.{layout_of}
 use Rattle.lower_model.specs.Modules.{called_imports, module_of, renumbered}
 use Rattle.lower_model.specs.Statements.{step_emitted, steps_emitted}
-use Rattle.agreement.specs.Refined.Refined.{table_meaning}
+use Rattle.agreement.specs.Modules.TableMeaning.{table_meaning}
 use Rattle.agreement.specs.Modules.Agreement.{Agreement}
 use Rattle.agreement.specs.Modules.ValueAgreement.{ValueAgreement}
 use Rattle.agreement.specs.Places.Kept.{Reached, begins_statement}

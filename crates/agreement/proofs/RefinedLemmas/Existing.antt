@@ -9,7 +9,7 @@ use Rattle.wasm_model.specs.declared.ends.RunEnd.{RunEnd}
 use Rattle.wasm_model.specs.declared.ends.RunEnd.TheVariants.{Ended, NoMemory, OutOfSteps}
 use Rattle.wasm_model.proofs.Chains.{ran_on, within_less}
 use Rattle.host_step.specs.HostState.{HostState}
-use Rattle.agreement.specs.Refined.Refined.{table_meaning}
+use Rattle.agreement.specs.Modules.TableMeaning.{table_meaning}
 use Rattle.agreement.proofs.RefinedLemmas.Replying.{turns}
 use Rattle.agreement.proofs.RefinedLemmas.Room.{HasFree}
 

@@ -18,7 +18,7 @@ use Rattle.host_step.specs.HostStep as host
 use Rattle.host_step.specs.HostStep.{Acts, Comes, Goes as Carried, HostStep, Refuses, Settles, StepBy, StepIf, Traps, comes}
 use Rattle.host_imports.specs.Imports.{import_answer, import_at}
 use Rattle.host_imports.specs.declared.import.Import.{Import}
-use Rattle.agreement.specs.Refined.Refined.{table_meaning}
+use Rattle.agreement.specs.Modules.TableMeaning.{table_meaning}
 
 abbrev pub Adds : HostState → HostState → List Action → Type 0
 Adds before after output = after.shared.output ≡ before.shared.output ++ output

@@ -36,7 +36,8 @@ use Rattle.host_imports.specs.Imports.{import_answer, import_arguments, import_a
 use Rattle.host_step.specs.Tables.{Table, look, without}
 use Rattle.host_imports.specs.declared.import.Import.{Import}
 use Rattle.lower_model.specs.Machine as Machine
-use Rattle.agreement.specs.Refined.Refined.{As, table_meaning}
+use Rattle.agreement.specs.Refined.Refined.{As}
+use Rattle.agreement.specs.Modules.TableMeaning.{table_meaning}
 use Rattle.agreement.specs.Refined.Owners.{places_in}
 use Rattle.agreement.proofs.RefinedLemmas.Room.{HasFree, has_free}
 

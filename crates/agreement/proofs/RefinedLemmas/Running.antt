@@ -16,7 +16,8 @@ use Rattle.host_step.specs.HostState.{HostState}
 use Rattle.lower_model.specs.Cells.{Cell}
 use Rattle.lower_model.specs.Machine.{Code, Conf, Deep, Look, Over, Run, Store, Stuck, go, step}
 use Rattle.agreement.specs.Refined.Growing.{ArraysGrow}
-use Rattle.agreement.specs.Refined.Refined.{As, LeftAs, Linked, table_meaning}
+use Rattle.agreement.specs.Refined.Refined.{As, LeftAs, Linked}
+use Rattle.agreement.specs.Modules.TableMeaning.{table_meaning}
 use Rattle.agreement.specs.Refined.Running.{EndedAs, RanAs}
 use Rattle.agreement.proofs.RefinedLemmas.Stepping.{step_as}
 

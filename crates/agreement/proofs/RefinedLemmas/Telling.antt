@@ -15,7 +15,8 @@ use Rattle.host_step.specs.HostState.{HostState}
 use Rattle.lower_model.specs.Machine.{Code, Conf, Deep, Look, Over, Run, Store, Stuck, go, step}
 use Rattle.lower_model.proofs.Runs.{go_add}
 use Rattle.agreement.specs.Refined.Growing.{ArraysGrow}
-use Rattle.agreement.specs.Refined.Refined.{As, EndAs, Linked, table_meaning}
+use Rattle.agreement.specs.Refined.Refined.{As, EndAs, Linked}
+use Rattle.agreement.specs.Modules.TableMeaning.{table_meaning}
 use Rattle.agreement.specs.Refined.Running.{EndedAs, SharesAs, TellsAs}
 use Rattle.agreement.specs.Refined.Words.{WordAs, arrays_made}
 use Rattle.agreement.proofs.RefinedLemmas.ImportAnswers.{some_of}

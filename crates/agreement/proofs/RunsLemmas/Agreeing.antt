@@ -11,7 +11,7 @@ use Rattle.host_values.specs.Forms.{HostForm}
 use Rattle.sem_scripts.specs.Kept.{Grows, output_of}
 use Rattle.sem_scripts.specs.ScriptRun.{Ending, Exhausted, GoesOn, Setting, setting_in}
 use Rattle.agreement.specs.Modules.Agreement.{Agreement, Like, MayEnd, ModuleEnding, Trapped, ended_with, ending_told}
-use Rattle.agreement.specs.Modules.ValueAgreement.{IsOver}
+use Rattle.agreement.specs.Modules.Over.{IsOver}
 use Rattle.agreement.specs.Runs.ToldRuns.{DoesSo, DoesSoThere, FoundRun, GoesOnThere, Says, Tells, TellsEnding, ToldRun, told_by}
 
 -- what grows from more grows from less

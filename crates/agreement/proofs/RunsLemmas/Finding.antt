@@ -25,7 +25,7 @@ use Rattle.host_values.specs.Findings.{IsFound, form_finding}
 use Rattle.host_values.specs.FormMeaning.{FormState, Told, Untold, form_meaning}
 use Rattle.host_values.specs.Shown.{SharesBy, Shown}
 use Rattle.host_values.proofs.Showing.{shown_fault}
-use Rattle.agreement.specs.Refined.Refined.{table_meaning}
+use Rattle.agreement.specs.Modules.TableMeaning.{table_meaning}
 use Rattle.agreement.proofs.RunsLemmas.Carried.{over_untold, same_state, steps_untold}
 use Rattle.agreement.proofs.RunsLemmas.Following.{means_called, table_refused}
 use Rattle.agreement.proofs.RunsLemmas.Outsides.{after_both}

@@ -16,7 +16,7 @@ use Rattle.host_imports.specs.declared.import.Import.{Import}
 use Rattle.host_values.specs.Forms.{HostForm}
 use Rattle.host_values.specs.FormMeaning.{FormCalled, FormMeans, Told, form_meaning}
 use Rattle.host_values.specs.Shown.{Shown, form_with_output}
-use Rattle.agreement.specs.Refined.Refined.{table_meaning}
+use Rattle.agreement.specs.Modules.TableMeaning.{table_meaning}
 use Rattle.host_step.specs.Worlds.{anyhow_meaning}
 
 -- so much came before

@@ -16,7 +16,7 @@ use Rattle.host_step.specs.HostState.{HostState, Names}
 use Rattle.host_step.specs.HostStep.{Acts, Comes, Goes as Carried, Refuses, Settles, StepBy, StepIf, Traps, comes}
 use Rattle.host_imports.specs.Imports.{import_answer, import_at}
 use Rattle.host_imports.specs.declared.import.Import.{Import}
-use Rattle.agreement.specs.Refined.Refined.{table_meaning}
+use Rattle.agreement.specs.Modules.TableMeaning.{table_meaning}
 
 abbrev pub Makes : HostState → List Action → HostState → Type 0
 Makes s output s1 = s1.shared.outside ≡ after output s.shared.outside

@@ -31,7 +31,7 @@ use Rattle.host_values.specs.Forms.{HostForm}
 use Rattle.host_values.specs.FormMeaning.{Told, form_meaning}
 use Rattle.host_values.specs.Shown.{Shown, form_with_output}
 use Rattle.host_values.proofs.Showing.{shown_fault, shown_outside, shown_output}
-use Rattle.agreement.specs.Refined.Refined.{table_meaning}
+use Rattle.agreement.specs.Modules.TableMeaning.{table_meaning}
 use Rattle.host_step.specs.Worlds.{anyhow_meaning}
 use Rattle.agreement.specs.Modules.Agreement.{Like, MayEnd, ModuleEnding, Trapped, ended_with, ending_told, output_in}
 use Rattle.sem_scripts.specs.ScriptRun.{Exhausted, GoesOn}

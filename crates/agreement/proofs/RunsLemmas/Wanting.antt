@@ -18,7 +18,7 @@ use Rattle.host_values.specs.Forms.{HostForm}
 use Rattle.host_values.specs.FormMeaning.{FormState, Told, Untold, form_meaning}
 use Rattle.host_values.specs.Shown.{form_with_output}
 use Rattle.host_values.proofs.Showing.{shown_outside}
-use Rattle.agreement.specs.Refined.Refined.{table_meaning}
+use Rattle.agreement.specs.Modules.TableMeaning.{table_meaning}
 use Rattle.agreement.proofs.RunsLemmas.Carried.{StepsTo, same_state, steps_carried}
 use Rattle.agreement.proofs.RunsLemmas.Following.{ShownAfter, table_follows, table_refused}
 use Rattle.agreement.proofs.RunsLemmas.Outsides.{call_makes, makes_both, steps_make}

@@ -4,7 +4,8 @@ use Rattle.sem_scripts.specs.Names.{Resolved}
 use Rattle.sem_scripts.specs.ScriptRun.{Ending, Setting}
 use Rattle.mid_program.specs.Sorted.{IsSorted}
 use Rattle.lower_model.specs.Modules.{module_of}
-use Rattle.agreement.specs.Passed.Passed.{Passes, Probe, notes_of, probed_run}
+use Rattle.agreement.specs.Passed.Passed.{Passes, Probe}
+use Rattle.agreement.specs.Passed.Probes.{notes_of, probed_run}
 use Rattle.agreement.proofs.PassedLemmas.Passing.{passes}
 use Rattle.agreement.specs.Spots.Places.{final_program}
 use Rattle.agreement.specs.Spots.Probed.{probed_script}

@@ -35,7 +35,8 @@ use Rattle.lower_model.specs.Places.{text_global}
 use Rattle.lower_model.specs.Runs.{begun, code_of, empty_names, first_globals, host_at_start, zero_ranges}
 use Rattle.lower_model.proofs.Announcing.{Telling}
 use Rattle.lower_model.proofs.Runs.{go_add}
-use Rattle.agreement.specs.Refined.Refined.{As, Linked, table_meaning}
+use Rattle.agreement.specs.Refined.Refined.{As, Linked}
+use Rattle.agreement.specs.Modules.TableMeaning.{table_meaning}
 use Rattle.agreement.specs.Refined.Words.{state_with}
 use Rattle.agreement.proofs.RefinedLemmas.ImportAnswers.{some_of}
 use Rattle.agreement.proofs.RefinedLemmas.Beginning.{begins, begun_as, in_main, taken_first}

@@ -17,8 +17,8 @@ use Rattle.host_imports.specs.Imports.{host_finds}
 use Rattle.host_step.specs.Starts.{state_in}
 use Rattle.sem_scripts.specs.Kept.{Grows, output_of}
 use Rattle.sem_scripts.specs.ScriptRun.{Setting, Ending, Ended, FaultedBy, GoesOn, Exhausted, setting_in}
-use Rattle.agreement.specs.Refined.Refined.{table_meaning}
-use Rattle.agreement.specs.Modules.ValueAgreement.{IsOver}
+use Rattle.agreement.specs.Modules.TableMeaning.{table_meaning}
+use Rattle.agreement.specs.Modules.Over.{IsOver}
 
 -- a run ends as a script's may, or traps
 pub data ModuleEnding : Type 0 where

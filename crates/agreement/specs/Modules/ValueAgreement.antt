@@ -3,15 +3,11 @@ use Rattle.std.specs.Prelude.{◌≡◌, ℕ, ◌+◌, ◌*◌, ◌≤◌, Some}
 use Rattle.sem_scripts.specs.Kept.{Grows, output_of}
 use Rattle.mid_program.specs.Mid.{Program}
 use Rattle.mid_program.specs.MidMeaning.{mid_run_in}
-use Rattle.sem_scripts.specs.ScriptRun.{Setting, Ending, GoesOn}
+use Rattle.sem_scripts.specs.ScriptRun.{Setting, Ending}
 use Rattle.lower_model.specs.Follows.{ShownWith}
 use Rattle.lower_model.specs.Machine.{Notes, no_notes}
 use Rattle.lower_model.specs.Runs.{noting_run}
-
--- it does not go on
-abbrev pub IsOver : Ending → Type 0
-IsOver (GoesOn output) = ⊥
-IsOver _ = Unit {0}
+use Rattle.agreement.specs.Modules.Over.{IsOver}
 
 -- the machine with these notes shows what is done
 pub record Shows (notes : Notes) (p : Program) (done : Setting → ℕ → Ending) : Type 0 where

@@ -16,13 +16,9 @@ use Rattle.host_step.specs.HostState.{HostState}
 use Rattle.host_imports.specs.Imports.{host_finds}
 use Rattle.host_step.specs.Starts.{state_in}
 use Rattle.sem_scripts.specs.Kept.{Grows, output_of}
-use Rattle.mid_program.specs.Mid.{Program}
 use Rattle.sem_scripts.specs.ScriptRun.{Ending, Setting, setting_in}
-use Rattle.lower_model.specs.Machine.{Notes}
-use Rattle.lower_model.specs.Modules.{called_imports, renumbered}
-use Rattle.lower_model.specs.Noted.{noted_run_in}
-use Rattle.agreement.specs.Refined.Refined.{table_meaning}
-use Rattle.agreement.specs.Modules.ValueAgreement.{IsOver}
+use Rattle.agreement.specs.Modules.TableMeaning.{table_meaning}
+use Rattle.agreement.specs.Modules.Over.{IsOver}
 
 -- what is added where a place is passed, by the code of the place
 abbrev pub Probe : Type 0
@@ -64,11 +60,3 @@ pub record Passes (done : Probe → Setting → ℕ → Ending) (m : ModuleForm)
   pub in_time : (probe : Probe) (job : JobForm) (input : Source) (outside : Surroundings) (turns : ℕ)
       → (enough : ℕ) × ((steps : ℕ) (a : MachineForm) (c : Conf) (s : HostState) (output : List Action) → enough ≤ steps
       → ProbedRun probe m job input outside steps a c s output → Grows (output_of (done probe (setting_in job input outside) turns)) output)
-
--- A program with a probe: its places are those of its code, whose calls have the module's numbers.
-
-abbrev pub notes_of : Program → Probe → Notes
-notes_of p probe code output = output ++ probe (renumbered (called_imports p) code)
-
-abbrev pub probed_run : Program → Probe → Setting → ℕ → Ending
-probed_run p probe setting turns = noted_run_in (notes_of p probe) p setting turns

@@ -11,7 +11,7 @@ use Rattle.wasm_model.specs.Machines.{Conf, ProgramForm}
 use Rattle.wasm_model.specs.Runs.{MachineForm, Steps}
 use Rattle.host_step.specs.HostState.{HostState}
 use Rattle.host_step.specs.Starts.{state_in}
-use Rattle.agreement.specs.Refined.Refined.{table_meaning}
+use Rattle.agreement.specs.Modules.TableMeaning.{table_meaning}
 use Rattle.agreement.specs.Places.Kept.{Reached}
 
 -- so it was of the host somewhere on the way of a run, at its beginning and its end too

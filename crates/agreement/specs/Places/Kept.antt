@@ -30,7 +30,7 @@ use Rattle.host_imports.specs.declared.import.Import.TheVariants.{Of}
 use Rattle.agreement.specs.Places.Places.{IsPart}
 use Rattle.agreement.specs.Places.Statements.{starts_in}
 use Rattle.agreement.specs.Refined.Owners.{wanted}
-use Rattle.agreement.specs.Refined.Refined.{table_meaning}
+use Rattle.agreement.specs.Modules.TableMeaning.{table_meaning}
 
 -- Places and what they hold: the number of a value, of an array with the right to free it, of an iterator, or none of these.
 

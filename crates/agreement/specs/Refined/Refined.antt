@@ -5,26 +5,21 @@ use Rattle.wasm_types.specs.Syntax.{Instructions, Done, FuncForm}
 use Rattle.wasm_types.specs.declared.types.ValType.TheVariants as ty
 use Rattle.wasm_store.specs.declared.word.Word.{Word}
 use Rattle.wasm_model.specs.Frames.{LabelForm, settled_values, settled_code}
-use Rattle.wasm_model.specs.Hosts.{Meaning}
 use Rattle.wasm_model.specs.Machines.{CallerForm, ProgramForm, Turn, called, asked, entered_func}
 use Rattle.wasm_model.specs.Machines as real
 use Rattle.wasm_model.specs.Runs.{TakenAs, OverBy, told_end}
 use Rattle.wasm_model.specs.declared.ends.End.{End}
 use Rattle.wasm_model.specs.declared.ends.End.TheVariants as ends
 use Rattle.host_step.specs.HostState.{HostState, Names}
-use Rattle.host_step.specs.HostStep.{HostStep}
 use Rattle.sem_scripts.specs.ScriptRun.{most_calls}
 use Rattle.lower_model.specs.Cells.{Cell, none_owned, is_owned}
 use Rattle.host_imports.specs.Imports.{import_at, import_count, import_type}
 use Rattle.lower_model.specs.Machine.{Callee, Code, Conf, Deep, Frame, Label, Look, Over, Run, Store, Stuck}
 use Rattle.lower_model.specs.Modules.{calls_in, callee_type, new_number, renumbered}
 use Rattle.host_imports.specs.declared.import.Import.{Import}
+use Rattle.agreement.specs.Modules.TableMeaning.{table_meaning}
 use Rattle.agreement.specs.Refined.Owners.{OwnedOnce}
 use Rattle.agreement.specs.Refined.Words.{ArraysFit, WordAs, WordsAs, arrays_made, state_with}
-
--- the host as a machine sees it: it changes no memory
-abbrev pub table_meaning : Meaning HostState Action
-table_meaning before n words mem answer after mem' output = (mem' ≡ mem) × HostStep n before words mem.bytes answer after output
 
 -- `used`: which imports stay in the module; `bs`: the same as a list, by which calls are numbered anew
 module _ (used : ℕ → Bool) (bs : List Bool) where

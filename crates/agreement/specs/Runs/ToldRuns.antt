@@ -17,7 +17,7 @@ use Rattle.host_step.specs.Worlds.{anyhow_meaning}
 use Rattle.sem_scripts.specs.Kept.{Grows, output_of}
 use Rattle.sem_scripts.specs.ScriptRun.{Ending, Exhausted, Setting, setting_in, setting_of}
 use Rattle.agreement.specs.Modules.Agreement.{MayEnd, ModuleEnding, ended_with, ending_told, output_in}
-use Rattle.agreement.specs.Modules.ValueAgreement.{IsOver}
+use Rattle.agreement.specs.Modules.Over.{IsOver}
 
 -- what was told, with this fault kept and this output, is how the module may end
 abbrev pub TellsEnding : ModuleForm → JobForm → Source → Surroundings → ℕ → Option Fault → MachineEnd → List Action → Type 0

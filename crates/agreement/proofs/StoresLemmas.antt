@@ -1,0 +1,3 @@
+pub mod Elements
+pub mod Fields
+pub mod Files

@@ -1,0 +1,33 @@
+//! Relations that the rows of arrays and of fields compute. Each law is the contract of a function that does nothing.
+ghost use Rattle.std.specs.Prelude.{◌≡◌, ℕ, suc, List, ◌++◌, None, Ok};
+ghost use Rattle.awk_values.specs.declared.value.Value.{Value};
+ghost use Rattle.world_core.specs.WorldState.{Target};
+ghost use Rattle.sem_primitives.specs.SharedState.{Inner, Pairs, Shared};
+ghost use Rattle.sem_primitives.specs.ArrayMeaning.{stored, without};
+ghost use Rattle.sem_primitives.specs.FieldMeaning.{with_count, with_field};
+ghost use Rattle.agreement.specs.Stores.Elements.{IsDeleted, IsStored};
+ghost use Rattle.agreement.specs.Stores.Fields.{CountIsAssigned, FieldIsAssigned};
+ghost use Rattle.agreement.specs.Stores.Files.{Print, Succeed, base, held, is_open, texts_to};
+
+/// An array is a finite map that remembers the order in which its keys were made.
+pub fn arrays_are_maps()
+    ensures stored { (key : List ℕ) (v : Value) (ps : Pairs) → IsStored key v ps (stored key v ps) }
+    ensures deleted { (key : List ℕ) (ps : Pairs) → IsDeleted key ps (without key ps) }
+{}
+
+/// An assignment to a field, or to NF, changes just that, and joins `$0` anew.
+pub fn fields_are_assigned()
+    ensures field { (n : ℕ) (v : Value) (before after : Inner)
+        → with_field (suc n) v before ≡ Ok after → FieldIsAssigned n v before after }
+    ensures count { (n : ℕ) (before after : Inner)
+        → with_count n before ≡ Ok after → CountIsAssigned n before after }
+{}
+
+/// While nobody else changes files, a file holds what it held before, or nothing where `>` opened it, and then all that was printed to it, in order; and so does the
+/// standard output.
+pub fn files_hold_what_is_printed()
+    ensures { (prints : List Print) (state end : Shared) → state.inner.finds ≡ None
+        → Succeed prints state end → (t : Target)
+        → held end.outside t
+        ≡ base (is_open state.inner t) t prints (held state.outside t) ++ texts_to t prints }
+{}
