@@ -15,6 +15,12 @@ const WRONG_WORDS = 8;
 /** The words of the command line can not be used. */
 class UsageError extends Error {}
 
+/** The module's file can not be read. */
+class FileError extends Error {}
+
+/** A word as a terminal may show it: control characters are written as in a script. */
+const plain = (word) => word.replace(/[\0-\x1f\x7f-\x9f]/g, (c) => `\\${c.charCodeAt(0).toString(8).padStart(3, "0")}`);
+
 /** The value of an option, which is attached to it or the next word. */
 function valueOf(option, attached, words) {
   if (attached !== "") return attached;
@@ -48,7 +54,7 @@ function takeOption(words, found) {
   else if (option === "-F") found.separator = valueOf(option, attached, words);
   else if (FENCES[word] !== undefined) found.fences.push(FENCES[word]);
   else if (word === "--help") found.help = true;
-  else throw new UsageError(`unknown option ${word}`);
+  else throw new UsageError(`unknown option ${plain(word)}`);
   return true;
 }
 
@@ -72,7 +78,7 @@ function loaded(path) {
     return load(readFileSync(path));
   } catch (error) {
     if (error instanceof LoadError || error instanceof WebAssembly.CompileError) throw error;
-    throw new UsageError(`cannot read ${path}`);
+    throw new FileError(`cannot read ${plain(path)} (${error.code})`);
   }
 }
 
@@ -108,8 +114,8 @@ export function main(words) {
       message(`awkwasm: ${error.message}\n`);
       return REFUSED;
     }
-    if (!(error instanceof UsageError)) throw error;
-    message(`awk.mjs: ${error.message}\n\n${USAGE}`);
+    if (!(error instanceof UsageError || error instanceof FileError)) throw error;
+    message(`awk.mjs: ${error.message}\n${error instanceof UsageError ? `\n${USAGE}` : ""}`);
     return WRONG_WORDS;
   }
 }
