@@ -1,3 +1,4 @@
+pub mod Named
 pub mod Fences
 pub mod Behind
 pub mod Examples

@@ -1,6 +1,8 @@
 //! Fences: which names may be opened.
-ghost use Rattle.std.specs.Prelude.{◌≡◌, ℕ, List, Bool};
-ghost use Rattle.world_fenced.specs.Fences.{is_one_borrowed, lets_read, lets_write, no_name};
+ghost use Rattle.std.specs.Prelude.{◌≡◌, ℕ, List, Bool, option_map};
+ghost use Rattle.world_fenced.specs.Fences.{is_open, lets_read, lets_write, list_of, no_name};
+
+use crate::Names;
 
 /// Which names may be opened, for reading and for writing. The standard streams have no names: no fence is about them.
 pub trait Fence: Drop {
@@ -50,22 +52,32 @@ impl Fence for NoFiles {
     ghost both = { λ _ _ _. refl };
 }
 
-/// The fence of a command line. Each part that is set takes names away; without any every name is let through.
-#[derive(Clone, Copy, Drop)]
+/// The fence of a command line. Each part that is set takes names away, but for those that are listed: they are let through, and no other is where only they
+/// are set. Without any part every name is let through.
+#[derive(Drop)]
 pub struct FileFence<'a> {
     /// No name is let through.
     pub no_files: bool,
     /// No name is let through for writing.
     pub read_only: bool,
     /// None but these names are let through for reading, and none for writing.
-    pub operands: Option<&'a [&'a str]>,
+    pub operands: Option<Names<'a>>,
+    /// These names are let through for reading, whatever the other parts; where there are some, no others but operands.
+    pub may_read: Names<'a>,
+    /// These names are let through for writing, whatever the other parts; where there are some, no others.
+    pub may_write: Names<'a>,
 }
 
-/// Whether a name is one of these.
-fn is_one_of(names: &[&str], name: &[u8]) -> bool
-    ensures { result ≡ is_one_borrowed names.now name.now }
-{
-    names.iter().any(|n| n.as_bytes() == name)
+impl<'a> FileFence<'a> {
+    /// Whether a name that is not listed may be read.
+    fn reads_unlisted(&self, name: &[u8]) -> bool
+        ensures { result ≡ is_open (option_map list_of self.now.operands) (list_of self.now.may_read) name.now }
+    {
+        match &self.operands {
+            Some(operands) => operands.contains(name),
+            None => self.may_read.is_empty(),
+        }
+    }
 }
 
 impl<'a> Fence for FileFence<'a> {
@@ -77,19 +89,16 @@ impl<'a> Fence for FileFence<'a> {
 
     ghost writes = { λ fence. lets_write (form_of fence) };
 
-    #[tactic(auto, using(crate::proofs::NameLemmas::one_of_borrowed))]
     fn lets_read(&self, name: &[u8]) -> bool {
-        if self.no_files {
-            return false;
-        }
-        match self.operands {
-            Some(operands) => is_one_of(operands, name),
-            None => true,
-        }
+        self.may_read.contains(name) || (!self.no_files && self.reads_unlisted(name))
     }
 
-    fn lets_write(&self, _name: &[u8]) -> bool {
-        !self.no_files && !self.read_only && self.operands.is_none()
+    fn lets_write(&self, name: &[u8]) -> bool {
+        if self.may_write.contains(name) {
+            return true;
+        }
+        let fenced = self.no_files || self.read_only || self.operands.is_some();
+        !fenced && self.may_write.is_empty()
     }
 
     ghost both = { λ no. absurd no };

@@ -2,7 +2,9 @@
 #![tactic(auto)]
 
 mod fence;
+mod names;
 mod world;
 
 pub use fence::{Fence, FileFence, NoFiles};
+pub use names::Names;
 pub use world::FencedWorld;
