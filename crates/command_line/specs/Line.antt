@@ -1,7 +1,8 @@
 -- The command line of awkwasm, as the words of clap's specification say it.
-use Rattle.std.specs.Prelude.{ℕ, ◌≡◌, ◌==◌, ◌^◌, ◌-◌, List, Bool, Some, true, false, codes}
+use Rattle.std.specs.Prelude.{ℕ, ◌≡◌, ◌==◌, ◌^◌, ◌-◌, ◌&&◌, ◌||◌, List, [], ◌∷◌, Bool, Some, true, false, codes}
 use Rattle.std.specs.Borrow.{Bor}
 use Rattle.std.specs.List.{list_any, starts_with}
+use Rattle.std.specs.Str.{bytes_eq}
 use Rattle.clap.specs.Words.{App, Rule, Text, app_of, new_app, new_rule, with_rule, with_subcommand}
 use Rattle.clap.specs.Simple.{on_top}
 use Rattle.clap.specs.declared.builder.command.Command.{Command}
@@ -91,3 +92,12 @@ is_file_option word = starts_with ◌==◌ word (codes "-f")
 
 abbrev pub has_file_option : List (Bor Text) → Bool
 has_file_option words = list_any (λ word. is_file_option word.now) words
+
+-- an option of one letter whose text may be the next word
+abbrev pub takes_text : Text → Bool
+takes_text word = bytes_eq word (codes "-F") || bytes_eq word (codes "-v")
+
+-- A word begins with a hyphen and comes after such an option: clap reads it as an option. The first says whether such an option came before the words.
+unfoldable pub text_apart : Bool → List Text → Bool
+text_apart waits [] = false
+text_apart waits (word ∷ rest) = (waits && starts_with ◌==◌ word (codes "-")) || text_apart (takes_text word) rest

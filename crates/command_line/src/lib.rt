@@ -5,11 +5,14 @@ ghost use Rattle.std.specs.Prelude.{◌≡◌, ◌↔◌, IfOk, IfSome, IsTrue, 
 ghost use Rattle.std.specs.Prelude.{Ok, Some, map, option_map, true, IfErr, codes};
 ghost use Rattle.clap.specs.Words.{App, Rule, app_of, rule_of, takes, kind_of, rows_of, found_of, matches_of, one_of, first_of, new_app, new_rule, subcommand_rows_of, subcommand_of, with_rule, with_subcommand};
 ghost use Rattle.command_line.specs.Request.{Asks, IsFences, IsFlag, IsSteps, IsTask, texts, word_at, words_at};
-ghost use Rattle.command_line.specs.Line.{Builds, single, steps_rule, flag_rule, options_app, fences_app, compile_app, task_app, explain_app, imports_app, top_app, line_app, is_file_option, has_file_option, status_of_kind};
+ghost use Rattle.command_line.specs.Line.{Builds, single, steps_rule, flag_rule, options_app, fences_app, compile_app, task_app, explain_app, imports_app, top_app, line_app, is_file_option, has_file_option, status_of_kind, takes_text, text_apart};
+
+mod spelling;
 
 use clap::builder::ValueParser;
 use clap::error::ErrorKind;
 use clap::{Arg, ArgAction, ArgMatches, Command, Error};
+pub use spelling::spelled_line;
 use std::alloc::{AllocError, Global};
 
 /// What the help of the whole line says at its end.
@@ -17,6 +20,11 @@ const AFTER_HELP: &str = "\
 The awk of POSIX over whole numbers from -2^53 to 2^53, with text as bytes. A script starts no
 command and opens no connection. It opens files by their names, unless --no-files, --read-only or
 --only-operands keep them out. SCRIPT is the script's text; of a file it is \"$(cat prog.awk)\".
+
+A word that begins with a hyphen is an option wherever it is, also after SCRIPT or MODULE. After
+-- no word is an option. So write -- before names that you do not know: awkwasm run SCRIPT -- *
+Attach a text that begins with a hyphen to its option: -F-, not -F -. An = after -F or -v belongs
+to the text: -F= separates fields by =.
 
 The exit status is the script's own, or 2 a fault, 3 refused, 4 out of steps, 5 no memory,
 6 calls nested too deeply, 7 a trap of the module, 8 a wrong command line or file. With 2 to 7
@@ -347,6 +355,39 @@ pub fn is_script_file(error: &Error, words: &[&str]) -> bool
     }
 }
 
+/// Whether a word is an option that takes a text.
+fn takes_text(word: &str) -> bool
+    ensures { result ≡ takes_text word.now }
+{
+    word == "-F" || word == "-v"
+}
+
+/// Whether a word that begins with a hyphen comes after such an option.
+#[tactic(auto, unfolding(crate::specs::Line::text_apart))]
+fn has_text_apart(words: &[&str]) -> bool
+    ensures { result ≡ text_apart false (texts words.now) }
+{
+    let mut waits = false;
+    for word in words {
+        if waits && word.starts_with("-") {
+            return true;
+        }
+        waits = takes_text(word);
+    }
+    false
+}
+
+/// Whether a line is refused for an unknown option, and has a word that begins with a hyphen after `-F` or `-v`. As their text it is to be attached to them.
+pub fn is_text_apart(error: &Error, words: &[&str]) -> bool
+    ensures { IsTrue result ↔ (kind_of error.now ≡ ErrorKind.UnknownArgument)
+        × (text_apart false (texts words.now) ≡ true) }
+{
+    match error.kind() {
+        ErrorKind::UnknownArgument => has_text_apart(words),
+        _ => false,
+    }
+}
+
 /// The words of an argument that may be given often.
 fn texts<'a>(alloc: Global, matches: &ArgMatches<'a>, id: &str) -> Result<Vec<&'a str>, AllocError>
     ensures { IfOk result
@@ -440,7 +481,7 @@ fn request_in<'a>(alloc: Global, matches: &ArgMatches<'a>) -> Result<Request<'a>
     }
 }
 
-/// The request of a command line, whose first word is the program's name.
+/// The request of a command line, whose first word is the program's name. Its words are those of [`spelled_line`].
 ///
 /// # Errors
 ///
