@@ -29,9 +29,13 @@ separator_rule = record (new_rule (codes "separator")) { short = Some 70; action
 abbrev pub assign_rule : Rule
 assign_rule = record (new_rule (codes "assign")) { short = Some 118; action = Some Append; value_names = 1 }
 
--- `--steps N`, a number of 64 bits
-abbrev pub steps_rule : Rule
-steps_rule = record (new_rule (codes "steps")) { long = Some (codes "steps"); action = Some Set; value_names = 1; parser = Some (Unsigned 0 (2 ^ 64 - 1)) }
+-- an option with a number of 64 bits, as `--steps N`
+abbrev pub number_rule : Text → Rule
+number_rule name = record (new_rule name) { long = Some name; action = Some Set; value_names = 1; parser = Some (Unsigned 0 (2 ^ 64 - 1)) }
+
+-- an option with a name, as `--may-read NAME`, any number of times
+abbrev pub names_rule : Text → Rule
+names_rule name = record (new_rule name) { long = Some name; action = Some Append; value_names = 1 }
 
 -- an option without a value, as `--no-files`
 abbrev pub flag_rule : Text → Rule
@@ -50,16 +54,24 @@ compile_app = with_rule (with_rule (new_app (codes "compile")) (single (codes "s
 
 -- `NAME [-F s] [-v n=t].. [--steps N]`
 abbrev pub options_app : Text → App
-options_app name = with_rule (with_rule (with_rule (new_app name) separator_rule) assign_rule) steps_rule
+options_app name = with_rule (with_rule (with_rule (new_app name) separator_rule) assign_rule) (number_rule (codes "steps"))
 
 -- `NAME [-F s] [-v n=t].. [--steps N] [--no-files] [--read-only] [--only-operands]`
 abbrev pub fences_app : Text → App
 fences_app name = with_rule (with_rule (with_rule (options_app name) (flag_rule (codes "no-files"))) (flag_rule (codes "read-only")))
     (flag_rule (codes "only-operands"))
 
--- `NAME [-F s] [-v n=t].. [--steps N] [--no-files] [--read-only] [--only-operands] SUBJECT WORDS..`
+-- and `[--may-read NAME].. [--may-write NAME]..`
+abbrev pub names_app : Text → App
+names_app name = with_rule (with_rule (fences_app name) (names_rule (codes "may-read"))) (names_rule (codes "may-write"))
+
+-- and `[--most-input BYTES] [--most-output BYTES] [--streams]`
+abbrev pub limits_app : Text → App
+limits_app name = with_rule (with_rule (with_rule (names_app name) (number_rule (codes "most-input"))) (number_rule (codes "most-output"))) (flag_rule (codes "streams"))
+
+-- all these options, and then `SUBJECT WORDS..`
 abbrev pub task_app : Text → Text → App
-task_app name subject = with_rule (with_rule (fences_app name) (single subject)) words_rule
+task_app name subject = with_rule (with_rule (limits_app name) (single subject)) words_rule
 
 -- `imports MODULE`
 abbrev pub imports_app : App
