@@ -7,7 +7,14 @@ import { areUtf8, environment } from "./words.mjs";
 
 const USAGE = `usage: node awk.mjs [-F TEXT] [-v NAME=TEXT].. [--no-files | --read-only | --only-operands].. MODULE WORDS..
 
-Runs a module that awkwasm compiled. WORDS are files to read, - for the standard input, and assignments NAME=TEXT.
+Runs a module that awkwasm compiled. WORDS are files to read, - for the standard input, and assignments NAME=TEXT. Options stand before MODULE.
+
+  -F TEXT          Separate fields by this text: a last -v FS=TEXT
+  -v NAME=TEXT     Assign to a variable before the script begins
+  --no-files       Open no file
+  --read-only      Open no file for writing
+  --only-operands  Open no file but those among WORDS, and no file for writing
+  -h, --help       Print this text
 `;
 const REFUSED = 3;
 const WRONG_WORDS = 8;
@@ -15,7 +22,7 @@ const WRONG_WORDS = 8;
 /** The words of the command line can not be used. */
 class UsageError extends Error {}
 
-/** The module's file can not be read. */
+/** The module's file can not be read, or the text of `--help` can not be written. */
 class FileError extends Error {}
 
 /** A word as a terminal may show it: control characters are written as in a script. */
@@ -37,7 +44,10 @@ const FENCES = {
   __proto__: null,
   "--no-files": () => ({}),
   "--read-only": () => ({ mayRead: () => true }),
-  "--only-operands": (operands) => ({ mayRead: (name) => operands.includes(name) }),
+  "--only-operands": (operands) => {
+    const names = new Set(operands);
+    return { mayRead: (name) => names.has(name) };
+  },
 };
 
 /** Reads one option off the front; false where there is none. */
@@ -53,7 +63,7 @@ function takeOption(words, found) {
   if (option === "-v") found.assigns.push(pairOf(valueOf(option, attached, words)));
   else if (option === "-F") found.separator = valueOf(option, attached, words);
   else if (FENCES[word] !== undefined) found.fences.push(FENCES[word]);
-  else if (word === "--help") found.help = true;
+  else if (word === "-h" || word === "--help") found.help = true;
   else throw new UsageError(`unknown option ${plain(word)}`);
   return true;
 }
@@ -82,6 +92,14 @@ function loaded(path) {
   }
 }
 
+function printUsage() {
+  try {
+    files.output.write(new TextEncoder().encode(USAGE));
+  } catch (error) {
+    throw new FileError(`cannot write (${error.code})`);
+  }
+}
+
 function message(text) {
   try {
     writeSync(2, text);
@@ -95,7 +113,7 @@ function runWords(words) {
   if (!areUtf8(words)) throw new UsageError("a word is not UTF-8");
   const request = requestOf(words);
   if (request.help) {
-    files.output.write(new TextEncoder().encode(USAGE));
+    printUsage();
     return 0;
   }
   const { operands, assigns, fences } = request;
