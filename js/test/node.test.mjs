@@ -34,15 +34,16 @@ test("errors have the statuses and lines of the program", () => {
   assert.equal(called(["-v"]).status, 8);
 });
 
-test("options are taken as they stand, and end at the module", () => {
-  const printed = (...words) => called([...words.slice(0, -1), path("words"), ...words.slice(-1)[0]]).out;
-  assert.equal(printed("-F=", []), "[=] 0 awk\n");
-  assert.equal(printed("-F==", []), "[==] 0 awk\n");
-  assert.equal(printed("-F=:", []), "[=:] 0 awk\n");
-  assert.equal(printed("-Ft", []), "[t] 0 awk\n");
-  assert.equal(printed("-F", ",", "-v", "FS=x", []), "[,] 0 awk\n");
-  assert.equal(printed(["--no-files", "-vFS=x", "-F"]), "[ ] 0 awk 1 --no-files 2 -vFS=x 3 -F\n");
-  assert.equal(printed(["--", "-x"]), "[ ] 0 awk 1 -x\n");
+test("options are taken as they stand, and wherever they stand", () => {
+  const printed = (...words) => called([path("words"), ...words]).out;
+  assert.equal(printed("-F="), "[=] 0 awk\n");
+  assert.equal(printed("-F=="), "[==] 0 awk\n");
+  assert.equal(printed("-F=:"), "[=:] 0 awk\n");
+  assert.equal(printed("-Ft"), "[t] 0 awk\n");
+  assert.equal(printed("-F", ",", "a", "-v", "FS=x"), "[,] 0 awk 1 a\n");
+  assert.equal(printed("a", "--", "--no-files", "--", "-F"), "[ ] 0 awk 1 a 2 --no-files 3 -- 4 -F\n");
+  assert.equal(called([path("half"), "--no-files", "f"]).said, "awkwasm: OpenInput\n");
+  for (const words of [["-F", "-+"], ["-F"], ["-x"], ["--no-files", "--no-files"]]) assert.equal(called([path("words"), ...words]).status, 8, words.join(" "));
   assert.deepEqual(called(["-v=x=1", path("words")]), { status: 2, out: "", said: "awkwasm: BadAssignment\n" });
 });
 
