@@ -48,6 +48,29 @@ test("a limit of steps ends a script that goes on for ever", () => {
   assert.equal(ran("copy", { limits: { steps: 10_000 }, files: { standard: "a\n" } }).end.kind, "ended");
 });
 
+test("a limit of steps is a whole number from 0 on, or none", () => {
+  assert.equal(ran("copy", { limits: { steps: 0 } }).end.kind, "steps");
+  for (const steps of [null, undefined, Infinity, 2n ** 70n]) assert.equal(ran("copy", { limits: { steps } }).end.kind, "ended");
+  for (const steps of [-1, 0.5, NaN]) assert.throws(() => load(module("copy"), { steps }), RangeError);
+});
+
+test("a text with characters that are no bytes is refused", () => {
+  for (const given of [{ operands: ["€"] }, { assigns: [["x", "€"]] }, { files: { standard: "€" } }]) assert.throws(() => ran("copy", given), TypeError);
+  assert.equal(ran("half", { operands: [utf8("€=1")], files: { standard: "8\n" } }).end.name, "OpenInput");
+});
+
+test("of a script that compile refuses the lines are an error, or some lines", () => {
+  const scripts = ["{ print (", "{", "}", "(", "function", "function f(", "BEGIN { if (", "{ for (;;", "{ for (i in", "{ a[", '{ "abc', "/abc", "{ do", "a,", "{ print ) }", "BEGIN", "{ if (x) }",
+    "{ nextfile", "@include", "{ { { {", "else", "function f(a) { return (a }"];
+  for (const script of scripts) {
+    try {
+      assert.ok(Array.isArray(linesOf(script)));
+    } catch (error) {
+      assert.match(error.message, /not one that compile takes/, script);
+    }
+  }
+});
+
 test("a write past the limit on output fails after what fits", () => {
   let out = "";
   const files = withMostOutput(filesInMemory({ output: (part) => { out += textOfBytes(part); } }), 10);
@@ -121,7 +144,7 @@ test("a handle that is not there traps, and a trap is no fault", () => {
 });
 
 test("a module that is loaded once runs often", () => {
-  const loaded = load(module("copy"));
+  const loaded = load(new Uint8Array(module("copy")).buffer);
   for (const text of ["a", "b\nc"]) assert.equal(run(loaded, {}, filesInMemory({ standard: text })).kind, "ended");
 });
 
