@@ -22,3 +22,4 @@ pub mod Placing
 pub mod Refusals
 pub mod Stretching
 pub mod Turning
+pub mod Placed

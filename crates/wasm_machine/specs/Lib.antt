@@ -7,3 +7,4 @@ pub mod StateStretches
 pub mod Codes
 pub mod Stretches
 pub mod ViewConf
+pub mod Places

@@ -17,6 +17,7 @@ mod leaps;
 mod lines;
 mod link;
 mod machine;
+mod places;
 mod program;
 mod run;
 mod sites;
@@ -25,4 +26,5 @@ mod steps;
 mod zeros;
 
 pub use machine::Machine;
+pub use places::Place;
 pub use wasm_model::{End, HostAnswer, HostCalls, LinkFault, MachineEnd, RunEnd};

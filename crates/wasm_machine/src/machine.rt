@@ -1,5 +1,6 @@
 //! Machines.
-ghost use Rattle.std.specs.Prelude.{◌≡◌, ◌≢◌, ◌≤◌, ◌-◌, true, IfErr, IfOk, IfSome, None, Some};
+ghost use Rattle.std.specs.Prelude.{◌≡◌, ◌≢◌, ◌≤◌, ◌-◌, length, true, IfErr, IfOk, IfSome, MatchOption, None, Some};
+ghost use Rattle.wasm_machine.specs.Places.{StandsAt, frame_at};
 ghost use Rattle.wasm_model.specs.Links.{IsNew, Refuses};
 ghost use Rattle.wasm_model.specs.Reductions.{Reduced};
 ghost use Rattle.wasm_model.specs.Runs.{Did, lasting, told_run};
@@ -7,6 +8,7 @@ ghost use Rattle.wasm_model.specs.Typed.{Linked, SafeRun};
 ghost use Rattle.wasm_types.specs.View.{view_module};
 
 use crate::link::{codes_of, first_state, link};
+use crate::places::{Place, place_of};
 use crate::program::Program;
 use crate::run::{run, run_to_pause};
 use crate::sites::no_lines;
@@ -162,5 +164,29 @@ impl Machine {
             self.ended = Some(end);
         }
         (end, stopped.left)
+    }
+
+    /// How many frames wait: one less than are open. The last of them is the first frame, in which the machine calls `main`.
+    pub fn waiting(&self) -> usize
+        ensures { result ≡ length self.now.conf.callers }
+    {
+        self.state.frames.waiting()
+    }
+
+    /// Where a frame stands. The one at work has the number 0; those that wait come after it, the innermost first.
+    pub fn place(&self, number: usize) -> Option<Place>
+        ensures { MatchOption result (frame_at self.now.conf number ≡ None)
+            (λ place. StandsAt self.now.program.whole place (frame_at self.now.conf number)) }
+    {
+        match self.state.frames.numbered(number) {
+            Some(frame) => Some(place_of(frame)),
+            None => None,
+        }
+    }
+
+    /// The number of the `nop` with which the statement begins that is at work at a place, among those of its function's code: the last one before the place in
+    /// whose block it stands. In a loop in which this import of the host is called, by its number there, what comes before the loop does not count.
+    pub fn statement(&self, place: Place, import: u32) -> Option<usize> {
+        self.program.statement(place, import)
     }
 }
