@@ -98,6 +98,12 @@ test("a record of many parts takes time in proportion to its length", () => {
   assert.equal(out.length, 300 * 65_536 + 4);
 });
 
+test("fields that are set one at a time take time in proportion to their number", () => {
+  const before = process.cpuUsage().user;
+  assert.equal(ran("fields", { files: { standard: `${"1 ".repeat(300_000)}\n` } }).out, "2\n");
+  assert.ok(process.cpuUsage().user - before < 20e6);
+});
+
 test("nothing is read before it is needed", () => {
   const parts = ["a\n", "b\n"].map((part) => Buffer.from(part));
   const seen = [];
@@ -158,6 +164,11 @@ function plain({ memory, locals, main }) {
     ...section(7, [1, ...named("main"), 0, 0]), ...section(10, code),
   ]);
 }
+
+test("calls that nest deeply with many locals end as Exhausted", () => {
+  const end = run(plain({ memory: [1, 0, 0], locals: [1, 0xd0, 0x86, 3, I64], main: [0x10, 0] }), {}, filesInMemory());
+  assert.deepEqual([end.kind, end.status, end.name], ["depth", 6, "Exhausted"]);
+});
 
 test("memory grows to 256 pages at most, and a function may have 50,000 locals", () => {
   const grow = (by) => [0x41, ...by, 0x40, 0, 0x41, 1, 0x6a];

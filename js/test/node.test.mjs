@@ -6,6 +6,7 @@ import { fileURLToPath } from "node:url";
 import { after, test } from "node:test";
 
 import { fenced, files, run, sourceOf, start, textOfBytes } from "awkwasm/node";
+import { requestOf } from "../node/cli.mjs";
 
 const path = (name) => fileURLToPath(new URL(`./modules/${name}.wasm`, import.meta.url));
 const module = (name) => readFileSync(path(name));
@@ -102,6 +103,14 @@ test("fences keep files from a script", () => {
   assert.deepEqual(called(["--no-files", path("half"), "f"]), { status: 2, out: "", said });
   assert.deepEqual(called(["--read-only", path("copy"), "f"]), { status: 2, out: "1: x\n", said: "awkwasm: OpenOutput\n" });
   assert.deepEqual(called(["--only-operands", path("half"), "f"]), { status: 0, out: "0\n", said: "" });
+});
+
+test("a fence of many operands is asked in a time that does not grow with them", () => {
+  const names = Array.from({ length: 100_000 }, (_, n) => `none/${n}`);
+  const before = process.cpuUsage().user;
+  const [fence] = requestOf(["--only-operands", "module", ...names]).fences;
+  assert.ok(names.every((name) => fence.mayRead(name)) && !fence.mayRead("module"));
+  assert.ok(process.cpuUsage().user - before < 5e6);
 });
 
 test("a fence of one's own", () => {
