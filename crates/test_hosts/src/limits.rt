@@ -8,7 +8,11 @@ use world_core::{MemFile, MemWorld, World, WorldFault};
 use world_fenced::{Fence, FileFence, LimitedWorld, Names};
 
 /// A world whose standard input is `abcdef`, of which so many bytes are written, and read, at most.
-fn limited(alloc: Global, most_output: u64, most_input: u64) -> Result<LimitedWorld<MemWorld>, AllocError> {
+fn limited(
+    alloc: Global,
+    most_output: u64,
+    most_input: u64,
+) -> Result<LimitedWorld<MemWorld>, AllocError> {
     let mut bytes = Vec::new(alloc);
     bytes.extend_from_slice(b"abcdef")?;
     let world = MemWorld::new(alloc, MemFile::holding(bytes), MemFile::absent());
@@ -26,7 +30,10 @@ fn output_is_limited(alloc: Global) -> Result<bool, WorldFault> {
 }
 
 /// Reads four bytes at most, twice.
-fn two_reads(alloc: Global, most_input: u64) -> Result<(usize, Result<usize, WorldFault>), WorldFault> {
+fn two_reads(
+    alloc: Global,
+    most_input: u64,
+) -> Result<(usize, Result<usize, WorldFault>), WorldFault> {
     let mut world = limited(alloc, 0, most_input)?;
     let first = world.read(0, &mut [0; 4])?;
     Ok((first, world.read(0, &mut [0; 4])))

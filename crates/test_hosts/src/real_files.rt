@@ -84,8 +84,14 @@ fn own_streams_by_name(rt: &HostRuntime) -> Result<bool, Fail> {
 fn own_streams(rt: HostRuntime) -> Result<(), Fail> {
     fs::write(&rt, "own_input.txt", b"in")?;
     assert!(rt; own_streams_by_name(&rt)?);
-    assert_eq!(rt; fs::read(&rt, "own_output.txt")?.as_slice(), b"abcd".as_slice());
-    assert_eq!(rt; fs::read(&rt, "own_errors.txt")?.as_slice(), b"ef".as_slice());
+    assert_eq!(rt;
+        fs::read(&rt, "own_output.txt")?.as_slice(),
+        b"abcd".as_slice()
+    );
+    assert_eq!(rt;
+        fs::read(&rt, "own_errors.txt")?.as_slice(),
+        b"ef".as_slice()
+    );
     for name in ["own_input.txt", "own_output.txt", "own_errors.txt"] {
         fs::remove_file(&rt, name)?;
     }
