@@ -1,7 +1,7 @@
-# Partial sums of a web server's log: of each status, how many requests had it and how many bytes were sent. A record that is none ends the run with status 1, and is
-# all that is printed.
+# Partial sums of a web server's log: of each status, how many requests had it and how many bytes were sent. A line that is not a record ends the run with
+# status 1, and is all that is printed.
 NF != 5 || $5 !~ /^[0-9]+$/ {
-  print FILENAME ":" FNR ": no record: " $0
+  print FILENAME ":" FNR ": not a record: " $0
   failed = 1
   exit 1
 }

@@ -2,7 +2,7 @@
 BEGIN { split("Mon Tue Wed Thu Fri Sat Sun", name, " ") }
 
 !is_date($2) || !is_date($3) {
-  print "line " NR ": no date: " $0
+  print "line " NR ": not a date: " $0
   next
 }
 

@@ -4,7 +4,7 @@ BEGIN { FS = ";" }
 /^#/ { next }
 
 !is_amount($2) {
-  print "line " NR ": no amount: " $2
+  print "line " NR ": not an amount: " $2
   next
 }
 
