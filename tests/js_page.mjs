@@ -8,12 +8,12 @@ import { tmpdir } from "node:os";
 import { fileURLToPath, pathToFileURL } from "node:url";
 
 import { Chromium } from "./chromium.mjs";
+import { CHECKS, open, ready, run, set, text } from "./js_page_checks.mjs";
 
 const top = fileURLToPath(new URL("..", import.meta.url));
 const TYPES = { html: "text/html", css: "text/css", mjs: "text/javascript", wasm: "application/wasm" };
 // with these a page may share memory with its workers
 const ISOLATED = { "cross-origin-opener-policy": "same-origin", "cross-origin-embedder-policy": "require-corp" };
-const TEST = `${top}js/test/modules`;
 
 /** A server of the repository's files, on this machine alone. */
 function serve() {
@@ -28,104 +28,6 @@ function serve() {
   });
   return new Promise((resolve) => server.listen(0, "127.0.0.1", () => resolve(server)));
 }
-
-const text = (id) => `document.getElementById(${JSON.stringify(id)}).textContent`;
-const set = (id, value) => `document.getElementById(${JSON.stringify(id)}).value = ${JSON.stringify(value)}`;
-const ready = 'document.querySelectorAll("#script li").length > 0 && document.getElementById("run").disabled === false';
-const ended = 'document.getElementById("run").disabled === false && !document.getElementById("status").textContent.startsWith("Running")';
-
-/** Drops a module and its script on the page. */
-function dropped(name) {
-  const files = ["wasm", "awk"].map((ending) => [`${name}.${ending}`, readFileSync(`${TEST}/${name}.${ending}`).toString("base64")]);
-  return `(() => { const all = new DataTransfer();
-    for (const [name, text] of ${JSON.stringify(files)}) all.items.add(new File([Uint8Array.from(atob(text), (c) => c.charCodeAt(0))], name));
-    document.dispatchEvent(Object.assign(new DragEvent("drop", { cancelable: true, dataTransfer: all }))); })()`;
-}
-
-async function open(page, name) {
-  await page.value(dropped(name));
-  const first = readFileSync(`${TEST}/${name}.awk`, "utf8").split("\n")[0];
-  await page.until(`document.querySelector("#script li").textContent === ${JSON.stringify(first)}`);
-}
-
-async function run(page) {
-  await page.key("Enter", { modifiers: 2 });
-  await page.until(`!${text("status")}.startsWith("Not run")`);
-  await page.until(ended);
-}
-
-const example = (name, file) => readFileSync(`${top}examples/${name}/${file}`, "utf8");
-
-const CHECKS = {
-  async "an example prints its output"(page) {
-    await run(page);
-    assert.equal(await page.value(text("output")), example("access_log", "output"));
-    assert.match(await page.value(text("status")), /^Ended with status 0 in [\d,]+ ms: 5 lines, \d+ bytes\.$/);
-    assert.equal(await page.value('document.getElementById("error").hidden'), true);
-  },
-  async "an error shows its name, its line and its record"(page) {
-    await open(page, "half");
-    await page.value(set("standard", "8\n7\n"));
-    await run(page);
-    assert.equal(await page.value(text("output")), "4\n");
-    const said = await page.value(text("error"));
-    for (const part of ["awkwasm: Inexact", "Line 2 in half(): return n / 2", "Record 2 of the standard input: 7"]) assert.ok(said.includes(part), said);
-    assert.equal(await page.value('document.querySelector("#script .faulty").textContent'), "  return n / 2");
-    assert.match(await page.value(text("status")), /^Ended early, with status 2, /);
-  },
-  async "files are read, and what is written can be saved"(page) {
-    await open(page, "copy");
-    await page.value(`(() => { const all = new DataTransfer(); all.items.add(new File(["x\\ny\\n"], "a.txt"));
-      document.dispatchEvent(new DragEvent("drop", { cancelable: true, dataTransfer: all })); })()`);
-    await page.until('document.getElementById("words").value === "a.txt"');
-    await run(page);
-    assert.equal(await page.value(text("output")), "1: x\n2: y\n");
-    assert.equal(await page.value(text("written")), "Save out");
-    await page.value('document.querySelector("#files button").click()');
-    assert.equal(await page.value('document.getElementById("words").value'), "");
-  },
-  async "each limit ends a script that goes on for ever"(page) {
-    await open(page, "forever");
-    await page.value(`${set("seconds", "0.5")}, ${set("steps", "1e9")}`);
-    await run(page);
-    assert.match(await page.value(text("error")), /^awkwasm: OutOfTime/);
-    await page.value(`${set("seconds", "20")}, ${set("steps", "0.1")}`);
-    await run(page);
-    assert.match(await page.value(text("error")), /^awkwasm: OutOfSteps.*Line 1: /);
-    await open(page, "endless");
-    await page.value(set("steps", "1000"));
-    await run(page);
-    assert.match(await page.value(text("error")), /^awkwasm: WriteFailed The limit on output is reached/);
-    assert.equal(await page.value(`${text("output")}.length`), 1024 * 1024);
-  },
-  async "the stop button and the key end a run"(page) {
-    await open(page, "forever");
-    await page.value(set("steps", "1e9"));
-    for (const stop of [() => page.key("Escape"), () => page.value('document.getElementById("stop").click()')]) {
-      await page.key("Enter", { modifiers: 2 });
-      await page.until('document.getElementById("stop").disabled === false');
-      await stop();
-      await page.until(ended);
-      assert.match(await page.value(text("status")), /^Stopped: 0 lines/);
-    }
-  },
-  async "all controls are reached by the keyboard, and have names"(page) {
-    await page.value("document.activeElement.blur()");
-    const reached = [];
-    for (let n = 0; n < 14; n++) {
-      await page.key("Tab");
-      reached.push(await page.value("document.activeElement.id"));
-    }
-    const due = ["example", "open", "script", "standard", "add", "words", "seconds", "steps", "most", "run", "output"];
-    assert.deepEqual(due.filter((id) => !reached.includes(id)), [], `${reached}`);
-    const spoken = await page.spoken();
-    for (const name of ["button: Run", "button: Stop", "combobox: Example", "textbox: Words", "spinbutton: Seconds", "spinbutton: Million steps"]) {
-      assert.ok(spoken.some((it) => it === name), `${name}: ${spoken.filter((it) => /^(button|combobox|textbox|spinbutton)/.test(it)).join("; ")}`);
-    }
-    assert.ok(spoken.some((it) => it.startsWith("status:")) && spoken.some((it) => it.startsWith("heading: Output")));
-    assert.deepEqual(spoken.filter((it) => /^(button|combobox|textbox|spinbutton): $/.test(it)), []);
-  },
-};
 
 // In a page of a server: a stream is given a line each time that the line before it has come out.
 const STREAM = `(async () => {
@@ -149,6 +51,12 @@ async function checkStream(page) {
   assert.equal(await page.value(STREAM), JSON.stringify([true, ["1: a\n", "2: b\n"], "ended"]));
 }
 
+/** Opened from disk in its parts the page can not start, and says what it needs. */
+async function checkParts(page) {
+  await page.until('document.readyState === "complete"');
+  assert.match(await page.value(text("status")), /does not run the page's program: it needs a server, or the page as one file/);
+}
+
 /** The example of a page of one's own. */
 async function checkExample(page) {
   await page.until('document.getElementById("count") !== null && document.readyState === "complete"');
@@ -165,10 +73,10 @@ async function shot(page, path) {
   writeFileSync(path, await page.screenshot());
 }
 
-/** Tries one check in a page of its own; 1 if it fails. */
-async function tried(chromium, where, url, what, check) {
+/** Tries one check in a page of its own, once it is ready; 1 if it fails. */
+async function tried(chromium, where, url, what, check, begun = ready) {
   const page = await chromium.page(url);
-  if (check !== checkExample) await page.until(ready);
+  await page.until(begun);
   const error = await check(page).then(() => null, (it) => it);
   console.log(`${error === null ? "ok" : "FAILED"}, ${where}: ${what}${error === null ? "" : `\n${error.message}`}`);
   return Number(error !== null);
@@ -187,7 +95,9 @@ async function main() {
       for (const [what, check] of Object.entries(checks)) failed += await tried(chromium, where, url, what, check);
     }
     const example = `http://127.0.0.1:${server.address().port}/examples/embedding/page.html`;
-    failed += await tried(chromium, "from a server", example, "the example of a page of one's own", checkExample);
+    failed += await tried(chromium, "from a server", example, "the example of a page of one's own", checkExample, "true");
+    const parts = pathToFileURL(`${top}js/page/index.html`).href;
+    failed += await tried(chromium, "from disk", parts, "the page in its parts says what it needs", checkParts, "true");
     const [path] = process.argv.slice(2);
     if (path !== undefined) {
       const page = await chromium.page(urls[0][1]);

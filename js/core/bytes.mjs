@@ -24,6 +24,12 @@ export function bytesOfText(text) {
   return bytes;
 }
 
+/** A text that a caller made; TypeError if one of its characters is no byte. */
+export function checked(text) {
+  if (/[^\0-\xff]/.test(text)) throw new TypeError("a text has a character above 255: utf8() makes a text of an ordinary string");
+  return text;
+}
+
 /** A text that holds the UTF-8 of an ordinary string. */
 export function utf8(string) {
   return textOfBytes(new TextEncoder().encode(string));

@@ -1,6 +1,6 @@
 // The host of a run: its state, and what each import does. docs/EMBEDDING.md says what is due.
 
-import { bytesOfText, textOfBytes } from "./bytes.mjs";
+import { bytesOfText, checked, textOfBytes } from "./bytes.mjs";
 import { formatted } from "./format.mjs";
 import { IMPORTS, moduleObjects } from "./imports.mjs";
 import { MainInput, ReadError, Reader } from "./input.mjs";
@@ -103,7 +103,7 @@ export class Host {
     this.place = () => 0;
     this.faultPlace = 0;
     const texts = [...operands, ...assigns.flat(), ...environment.flat()];
-    if (texts.some((t) => t.length > TEXT_LIMIT)) this.fault = "TextLimit";
+    if (texts.some((t) => checked(t).length > TEXT_LIMIT)) this.fault = "TextLimit";
   }
 
   standard() {

@@ -21,6 +21,7 @@ const MOST_BYTES = 16 * 2 ** 20;
 const MOST_PAGES = 256;
 // engines take no more
 const MOST_LOCALS = 50_000;
+const MOST_STEPS = 2n ** 63n - 1n;
 
 /** The names under which a changed module exports what the run looks at. */
 export const OWN = { memory: "awkwasm memory", start: "awkwasm start", depth: "awkwasm depth", place: "awkwasm place", steps: "awkwasm steps" };
@@ -205,14 +206,23 @@ export class Loaded {
   }
 }
 
+/** A limit of steps as a module keeps it; null if there is none. */
+function stepsOf(given) {
+  if (given === null || given === Infinity) return null;
+  const steps = BigInt(given);
+  if (steps < 0n) throw new RangeError("a limit of steps is below 0");
+  return steps < MOST_STEPS ? steps : MOST_STEPS;
+}
+
 /**
  * Makes the bytes of a module ready to run, with a limit of steps if `steps` is given. LoadError if it has other imports, or no `main`; the engine's
  * CompileError if it is no module.
  */
-export function load(bytes, { steps = null } = {}) {
+export function load(given, { steps = null } = {}) {
+  const bytes = given instanceof Uint8Array ? given : new Uint8Array(given);
   if (bytes.length > MOST_BYTES) throw new LoadError("TooLarge");
   if (!WebAssembly.validate(bytes)) new WebAssembly.Module(bytes);
-  const changes = new Changes(bytes, steps);
+  const changes = new Changes(bytes, stepsOf(steps));
   changes.check();
   return new Loaded(new WebAssembly.Module(changes.changed()), changes.places);
 }

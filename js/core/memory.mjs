@@ -1,6 +1,6 @@
 // Files in memory.
 
-import { bytesOfText } from "./bytes.mjs";
+import { bytesOfText, checked } from "./bytes.mjs";
 
 const PART = 65_536;
 
@@ -55,7 +55,7 @@ class MemoryOutlet {
   }
 }
 
-const bytesIn = (given) => (typeof given === "string" ? bytesOfText(given) : given);
+const bytesIn = (given) => (typeof given === "string" ? bytesOfText(checked(given)) : given);
 
 /** A source of bytes, or of a text. */
 export function sourceOf(given) {

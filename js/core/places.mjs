@@ -113,13 +113,19 @@ class Walk {
     return this.tokens[this.at]?.line ?? 0;
   }
 
+  /** Passes a token; there must be one. */
+  pass() {
+    if (this.at >= this.tokens.length) throw new Error("the script is not one that compile takes");
+    this.at++;
+  }
+
   note(line = this.line(), times = 1) {
     for (let n = 0; n < times; n++) this.lines.push(line);
   }
 
   /** Passes tokens up to one of these that stands in no parentheses or brackets. */
   passTo(...ends) {
-    for (let depth = 0; depth > 0 || !ends.includes(this.text()); this.at++) {
+    for (let depth = 0; depth > 0 || !ends.includes(this.text()); this.pass()) {
       if (OPENS.has(this.text())) depth++;
       if (CLOSES.has(this.text())) depth--;
     }
@@ -130,7 +136,7 @@ class Walk {
     do {
       if (OPENS.has(this.text())) depth++;
       if (CLOSES.has(this.text())) depth--;
-      this.at++;
+      this.pass();
     } while (depth > 0);
   }
 
@@ -258,7 +264,7 @@ class Walk {
   }
 }
 
-/** For each function of a script, and `main` last: its name, and the line of each of its program points. Only for a script that `compile` takes. */
+/** For each function of a script, and `main` last: its name, and the line of each of its program points. Only for a script that `compile` takes; of another it may throw an Error. */
 export function linesOf(script) {
   const walk = new Walk(script);
   const into = { functions: [], BEGIN: [], patterns: [], END: [] };

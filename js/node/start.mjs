@@ -9,7 +9,8 @@ export const STACK = { stackSizeMb: 64 };
 
 /** A worker, as `startIn` uses it. */
 function newWorker() {
-  const worker = new Worker(new URL("./worker.mjs", import.meta.url), { resourceLimits: STACK });
+  // the caller's options of Node.js, as --input-type, are not for the worker
+  const worker = new Worker(new URL("./worker.mjs", import.meta.url), { execArgv: [], resourceLimits: STACK });
   const adaptor = {
     takesBlobs: false,
     onMessage: () => {},

@@ -55,12 +55,15 @@ function bundled(entry, replaced = new Map()) {
   return `(async () => {\n${bundle.text}})();\n`;
 }
 
+/** A value as it may stand in a script of a page: without `<`, so that nothing in it begins a comment or an element. */
+const literal = (value) => JSON.stringify(value).replaceAll("<", "\\u003c");
+
 /** The page's programs, with all that they need in the text. */
 function programsText(programs, worker) {
-  return `const given = ${JSON.stringify(programs)};
+  return `const given = ${literal(programs)};
 const bytesOf = (base64) => Uint8Array.from(atob(base64), (c) => c.charCodeAt(0));
 export const programs = given.map(({ name, module, script, input }) => ({ name, load: async () => ({ module: bytesOf(module), script, input }) }));
-const worker = ${JSON.stringify(worker)};
+const worker = ${literal(worker)};
 export const workerOf = () => new Worker(URL.createObjectURL(new Blob([worker], { type: "text/javascript" })));
 `;
 }
@@ -88,10 +91,20 @@ export function pageOf(programs) {
     .replace('<script type="module" src="page.mjs"></script>', () => `<script>\n${script}</script>`);
 }
 
-const [out, module, script, input] = process.argv.slice(2);
-if (out === undefined) {
-  console.error("usage: node make.mjs OUT.html [MODULE.wasm SCRIPT.awk [INPUT]]");
+function refuse(text) {
+  console.error(text);
   process.exitCode = 8;
+}
+
+const [out, ...given] = process.argv.slice(2);
+if (out === undefined || given.length === 1 || given.length > 3) {
+  refuse("usage: node make.mjs OUT.html [MODULE.wasm SCRIPT.awk [INPUT]]");
 } else {
-  writeFileSync(out, pageOf(module === undefined ? examples() : own(module, script, input)));
+  try {
+    writeFileSync(out, pageOf(given.length === 0 ? examples() : own(...given)));
+  } catch (error) {
+    // one of the system, as that a file is not there
+    if (error.code === undefined) throw error;
+    refuse(`make.mjs: ${error.message}`);
+  }
 }

@@ -1,4 +1,4 @@
-// What the names of errors mean, in a sentence.
+// What the names of errors mean, in a sentence; and, of an end whose name is the engine's or the module's own, what its kind means.
 
 export const MEANINGS = {
   __proto__: null,
@@ -12,7 +12,7 @@ export const MEANINGS = {
   EreTooLarge: "A regular expression is too large or nested too deeply.",
   TextLimit: "A text would be longer than 64 MiB.",
   OpenInput: "A file that is to be read is not among the input files.",
-  ReadFailed: "Reading an input failed.",
+  ReadFailed: "Reading an input failed. A file may have changed since it was added.",
   OpenOutput: "A file that is to be written did not open.",
   WriteFailed: "A write failed.",
   TooManyStreams: "More than 256 files are open at once.",
@@ -20,6 +20,9 @@ export const MEANINGS = {
   BadAssignment: "An assignment among the words names something that can not be assigned to.",
   Exhausted: "Calls of functions are nested too deeply.",
   OutOfSteps: "The limit on steps is reached.",
-  OutOfTime: "The time limit is reached.",
+  OutOfTime: "The time limit is reached. With fewer steps as the limit, the page shows the line.",
   NoMemory: "Memory ran out.",
+  refused: "The file is not a module that awkwasm compiled.",
+  trap: "The module did what no module does that awkwasm compiled.",
+  failed: "The run could not start, or it broke off.",
 };

@@ -48,6 +48,29 @@ test("a limit of steps ends a script that goes on for ever", () => {
   assert.equal(ran("copy", { limits: { steps: 10_000 }, files: { standard: "a\n" } }).end.kind, "ended");
 });
 
+test("a limit of steps is a whole number from 0 on, or none", () => {
+  assert.equal(ran("copy", { limits: { steps: 0 } }).end.kind, "steps");
+  for (const steps of [null, undefined, Infinity, 2n ** 70n]) assert.equal(ran("copy", { limits: { steps } }).end.kind, "ended");
+  for (const steps of [-1, 0.5, NaN]) assert.throws(() => load(module("copy"), { steps }), RangeError);
+});
+
+test("a text with characters that are no bytes is refused", () => {
+  for (const given of [{ operands: ["€"] }, { assigns: [["x", "€"]] }, { files: { standard: "€" } }]) assert.throws(() => ran("copy", given), TypeError);
+  assert.equal(ran("half", { operands: [utf8("€=1")], files: { standard: "8\n" } }).end.name, "OpenInput");
+});
+
+test("of a script that compile refuses the lines are an error, or some lines", () => {
+  const scripts = ["{ print (", "{", "}", "(", "function", "function f(", "BEGIN { if (", "{ for (;;", "{ for (i in", "{ a[", '{ "abc', "/abc", "{ do", "a,", "{ print ) }", "BEGIN", "{ if (x) }",
+    "{ nextfile", "@include", "{ { { {", "else", "function f(a) { return (a }"];
+  for (const script of scripts) {
+    try {
+      assert.ok(Array.isArray(linesOf(script)));
+    } catch (error) {
+      assert.match(error.message, /not one that compile takes/, script);
+    }
+  }
+});
+
 test("a write past the limit on output fails after what fits", () => {
   let out = "";
   const files = withMostOutput(filesInMemory({ output: (part) => { out += textOfBytes(part); } }), 10);
@@ -73,6 +96,12 @@ test("a record of many parts takes time in proportion to its length", () => {
   const { end, out } = ran("copy", { files: { standard: () => ({ read: () => (left-- > 0 ? part : null) }) } });
   assert.equal(end.kind, "ended");
   assert.equal(out.length, 300 * 65_536 + 4);
+});
+
+test("fields that are set one at a time take time in proportion to their number", () => {
+  const before = process.cpuUsage().user;
+  assert.equal(ran("fields", { files: { standard: `${"1 ".repeat(300_000)}\n` } }).out, "2\n");
+  assert.ok(process.cpuUsage().user - before < 20e6);
 });
 
 test("nothing is read before it is needed", () => {
@@ -121,7 +150,7 @@ test("a handle that is not there traps, and a trap is no fault", () => {
 });
 
 test("a module that is loaded once runs often", () => {
-  const loaded = load(module("copy"));
+  const loaded = load(new Uint8Array(module("copy")).buffer);
   for (const text of ["a", "b\nc"]) assert.equal(run(loaded, {}, filesInMemory({ standard: text })).kind, "ended");
 });
 
@@ -135,6 +164,11 @@ function plain({ memory, locals, main }) {
     ...section(7, [1, ...named("main"), 0, 0]), ...section(10, code),
   ]);
 }
+
+test("calls that nest deeply with many locals end as Exhausted", () => {
+  const end = run(plain({ memory: [1, 0, 0], locals: [1, 0xd0, 0x86, 3, I64], main: [0x10, 0] }), {}, filesInMemory());
+  assert.deepEqual([end.kind, end.status, end.name], ["depth", 6, "Exhausted"]);
+});
 
 test("memory grows to 256 pages at most, and a function may have 50,000 locals", () => {
   const grow = (by) => [0x41, ...by, 0x40, 0, 0x41, 1, 0x6a];

@@ -1,11 +1,12 @@
 import assert from "node:assert/strict";
 import { execFileSync, spawn, spawnSync } from "node:child_process";
-import { chmodSync, mkdtempSync, readFileSync, rmSync, symlinkSync, writeFileSync } from "node:fs";
+import { chmodSync, existsSync, mkdtempSync, readFileSync, rmSync, symlinkSync, writeFileSync } from "node:fs";
 import { tmpdir } from "node:os";
 import { fileURLToPath } from "node:url";
 import { after, test } from "node:test";
 
 import { fenced, files, run, sourceOf, start, textOfBytes } from "awkwasm/node";
+import { requestOf } from "../node/cli.mjs";
 
 const path = (name) => fileURLToPath(new URL(`./modules/${name}.wasm`, import.meta.url));
 const module = (name) => readFileSync(path(name));
@@ -32,6 +33,30 @@ test("errors have the statuses and lines of the program", () => {
   assert.equal(called([]).status, 8);
   assert.equal(called(["none.wasm"]).status, 8);
   assert.equal(called(["-v"]).status, 8);
+});
+
+test("options are taken as they stand, and wherever they stand", () => {
+  const printed = (...words) => called([path("words"), ...words]).out;
+  assert.equal(printed("-F="), "[=] 0 awk\n");
+  assert.equal(printed("-F=="), "[==] 0 awk\n");
+  assert.equal(printed("-F=:"), "[=:] 0 awk\n");
+  assert.equal(printed("-Ft"), "[t] 0 awk\n");
+  assert.equal(printed("-F", ",", "a", "-v", "FS=x"), "[,] 0 awk 1 a\n");
+  assert.equal(printed("a", "--", "--no-files", "--", "-F"), "[ ] 0 awk 1 a 2 --no-files 3 -- 4 -F\n");
+  assert.equal(called([path("half"), "--no-files", "f"]).said, "awkwasm: OpenInput\n");
+  for (const words of [["-F", "-+"], ["-F"], ["-x"], ["--no-files", "--no-files"]]) assert.equal(called([path("words"), ...words]).status, 8, words.join(" "));
+  assert.deepEqual(called(["-v=x=1", path("words")]), { status: 2, out: "", said: "awkwasm: BadAssignment\n" });
+});
+
+test("a refused command line is told without control characters, and help that can not be written has a status", () => {
+  const told = called(["--x\x1b[31m", path("half")]);
+  assert.equal(told.status, 8);
+  assert.match(told.said, /^awk\.mjs: unknown option --x\\033\[31m\n\nusage: /);
+  assert.deepEqual(called(["no\x1b.wasm"]), { status: 8, out: "", said: "awk.mjs: cannot read no\\033.wasm (ENOENT)\n" });
+  assert.match(called(["-h"]).out, /^usage: /);
+  if (!existsSync("/dev/full")) return;
+  const { status, stderr } = spawnSync("sh", ["-c", `'${process.execPath}' '${awk}' --help >/dev/full`], { encoding: "utf8" });
+  assert.deepEqual([status, stderr], [8, "awk.mjs: cannot write (ENOSPC)\n"]);
 });
 
 test("a slow pipe, and one that another process has made non-blocking", () => {
@@ -80,6 +105,14 @@ test("fences keep files from a script", () => {
   assert.deepEqual(called(["--only-operands", path("half"), "f"]), { status: 0, out: "0\n", said: "" });
 });
 
+test("a fence of many operands is asked in a time that does not grow with them", () => {
+  const names = Array.from({ length: 100_000 }, (_, n) => `none/${n}`);
+  const before = process.cpuUsage().user;
+  const [fence] = requestOf(["--only-operands", "module", ...names]).fences;
+  assert.ok(names.every((name) => fence.mayRead(name)) && !fence.mayRead("module"));
+  assert.ok(process.cpuUsage().user - before < 5e6);
+});
+
 test("a fence of one's own", () => {
   const inner = { ...files, standard: () => sourceOf("a\n"), output: { write() {} } };
   const elsewhere = fenced({ mayWrite: (name) => name === "elsewhere" }, inner);
@@ -107,6 +140,43 @@ test("a worker reads a ReadableStream, a Blob and files", async () => {
   assert.equal(textOfBytes((await start({ module: module("half"), standard: stream }).end).output), "4\n3\n");
   const given = { module: module("half"), files: { é: new Blob(["10\n"]), f: "2\n" }, operands: ["é", "f"] };
   assert.equal(textOfBytes((await start(given).end).output), "5\n1\n");
+});
+
+test("the end of a run ends its stream", async () => {
+  const closed = [];
+  async function* lines() {
+    try {
+      for (;;) yield "a\n";
+    } finally {
+      closed.push("generator");
+    }
+  }
+  assert.equal((await start({ module: module("endless"), standard: lines(), limits: { output: 10 } }).end).name, "WriteFailed");
+  assert.equal((await start({ module: module("copy"), standard: lines(), limits: { output: 10 } }).end).name, "WriteFailed");
+  const silent = new ReadableStream({ cancel: () => { closed.push("silent stream"); } });
+  assert.equal((await start({ module: module("copy"), standard: silent, limits: { seconds: 0.5 } }).end).kind, "time");
+  assert.deepEqual(closed, ["generator", "silent stream"]);
+});
+
+test("a program whose standard input stays open can end", async () => {
+  const text = `import { start } from ${JSON.stringify(new URL("../node/index.mjs", import.meta.url))}; import { readFileSync } from "node:fs";
+    const { end } = start({ module: readFileSync(${JSON.stringify(path("copy"))}), standard: process.stdin, limits: { seconds: 0.5 } });
+    console.log((await end).kind);`;
+  const child = spawn(process.execPath, ["--input-type=module", "-e", text], { cwd: folder, stdio: ["pipe", "pipe", "inherit"] });
+  child.stdin.write("a\n");
+  let out = "";
+  child.stdout.on("data", (part) => { out += part; });
+  assert.equal(await new Promise((resolve) => child.on("exit", resolve)), 0);
+  assert.equal(out, "time\n");
+});
+
+test("an error of the caller's function ends the run", async () => {
+  const onOutput = () => { throw new Error("mine"); };
+  await assert.rejects(start({ module: module("endless"), onOutput }).end, new Error("mine"));
+});
+
+test("a time that is longer than timers go is no short one", async () => {
+  assert.equal((await start({ module: module("half"), standard: "8\n", limits: { seconds: 1e9, steps: Infinity } }).end).kind, "ended");
 });
 
 test("limits on time, steps and output, and a stop", async () => {

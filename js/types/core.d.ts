@@ -68,13 +68,13 @@ export class Loaded {
 }
 
 /**
- * Makes a module ready to run. `steps` limits each run: a step is a program point, a turn of a loop or a call. Throws a LoadError, or the engine's
- * CompileError.
+ * Makes a module ready to run. `steps` limits each run: a step is a program point, a turn of a loop or a call. Throws a LoadError, the engine's
+ * CompileError, or a RangeError if the limit is not a whole number from 0 on.
  */
-export function load(bytes: Uint8Array, limits?: { steps?: number | bigint | null }): Loaded;
+export function load(bytes: Uint8Array | ArrayBuffer, limits?: { steps?: number | bigint | null }): Loaded;
 
-/** Runs a module to its end. Throws a LoadError, or the engine's CompileError. */
-export function run(module: Loaded | Uint8Array, invocation: Invocation, files: Files, host?: Host): End;
+/** Runs a module to its end. Throws a LoadError, the engine's CompileError, or a TypeError if a text has a character above 255. */
+export function run(module: Loaded | Uint8Array | ArrayBuffer, invocation: Invocation, files: Files, host?: Host): End;
 
 /** The state of a host. It serves one run. */
 export class Host {
@@ -100,7 +100,7 @@ export function sourceOf(bytes: Bytes): Source;
 /** The same files, with a limit on what is written to all of them together: a write past it fails after what fits. */
 export function withMostOutput(files: Files, most: number): Files & { isReached(): boolean };
 
-/** For each function of a script, and `main` last: its name, and the line of each of its program points. */
+/** For each function of a script, and `main` last: its name, and the line of each of its program points. Of a script that `compile` refuses it may throw an Error. */
 export function linesOf(script: string): { name: string; lines: number[] }[];
 
 export function textOfBytes(bytes: Uint8Array, from?: number, to?: number): Text;

@@ -23,7 +23,7 @@ export interface StartOptions {
     /** Program points, turns of loops and calls. */
     steps?: number;
   };
-  /** Gets each part of the standard output. Without it, `output` has all of it at the end. */
+  /** Gets each part of the standard output. Without it, `output` has all of it at the end. If it throws, `end` is rejected. */
   onOutput?: (bytes: Uint8Array) => void;
 }
 
@@ -33,7 +33,9 @@ interface InWorker {
   isOutputFull: boolean;
   /** The files that were written. Names are texts of bytes. */
   written: [string, Uint8Array][];
+  /** How long it ran, and how many program points each function of the module has, `main` last: both only if the module ran to an end. */
   milliseconds?: number;
+  places?: number[];
 }
 
 /** How a run in a worker ended: as any run, or because it was refused, its time was over, or it was stopped. */

@@ -3,6 +3,9 @@
 import { joined, utf8 } from "../core/bytes.mjs";
 import { newPipe, partsOf, pipeFeeder } from "./pipe.mjs";
 
+// engines take a longer time for none
+const LONGEST_TIMER = 2 ** 31 - 1;
+
 const isStream = (given) => typeof given?.getReader === "function" || given?.[Symbol.asyncIterator] !== undefined;
 
 /** All of a stream, for engines in which a page can not share memory with a worker. */
@@ -24,10 +27,11 @@ async function plainOf(given, worker) {
 
 /** What the worker gets as the standard input, and what feeds it. */
 async function standardOf(standard, worker) {
-  if (!isStream(standard)) return { standard: await plainOf(standard, worker), feed: () => {} };
-  if (typeof SharedArrayBuffer === "undefined") return { standard: await wholeOf(standard), feed: () => {} };
+  const nothing = { feed() {}, close() {} };
+  if (!isStream(standard)) return { standard: await plainOf(standard, worker), ...nothing };
+  if (typeof SharedArrayBuffer === "undefined") return { standard: await wholeOf(standard), ...nothing };
   const pipe = newPipe();
-  return { standard: { pipe }, feed: pipeFeeder(pipe, standard) };
+  return { standard: { pipe }, ...pipeFeeder(pipe, standard) };
 }
 
 const pairsOf = (given) => (Array.isArray(given) ? given : Object.entries(given)).map((pair) => pair.map((word) => utf8(word)));
@@ -38,19 +42,26 @@ async function messageOf({ module, operands = [], assigns = [], environment = []
   const named = await Promise.all(listed.map(async ([name, given]) => [utf8(name), await plainOf(given, worker)]));
   const input = await standardOf(standard, worker);
   const bytes = module instanceof Uint8Array ? module : new Uint8Array(module);
-  return { message: { module: bytes, invocation, files: named, standard: input.standard, limits }, feed: input.feed };
+  return { message: { module: bytes, invocation, files: named, standard: input.standard, limits }, feed: input.feed, close: input.close };
 }
 
 /** Posts the job, and follows the worker up to its end. */
 function follow(worker, { message, feed }, onOutput, stopped) {
   return new Promise((resolve, reject) => {
     stopped.resolve = resolve;
-    worker.onMessage = (told) => {
-      if (told.output !== undefined) onOutput(told.output);
-      else if (told.wants) feed();
-      else resolve(told.end);
+    worker.onError = (error) => {
+      worker.onMessage = () => {};
+      reject(error);
     };
-    worker.onError = reject;
+    worker.onMessage = (told) => {
+      try {
+        if (told.output !== undefined) onOutput(told.output);
+        else if (told.wants) feed();
+        else resolve(told.end);
+      } catch (error) {
+        worker.onError(error);
+      }
+    };
     worker.post(message);
   });
 }
@@ -75,14 +86,17 @@ export function startIn(newWorker, options) {
     const worker = newWorker();
     const { seconds } = options.limits ?? {};
     let timer;
+    let job;
     try {
-      const job = await messageOf(options, worker);
+      job = await messageOf(options, worker);
       if (stopped.end !== null) return stopped.end;
-      if (seconds !== undefined) timer = setTimeout(() => stopAs(endOf("time", "OutOfTime")), 1000 * seconds);
+      if (seconds !== undefined) timer = setTimeout(() => stopAs(endOf("time", "OutOfTime")), Math.min(1000 * seconds, LONGEST_TIMER));
       return await follow(worker, job, onOutput, stopped);
     } finally {
       clearTimeout(timer);
       worker.terminate();
+      // a stream that fails now fails nobody
+      Promise.resolve(job?.close()).catch(() => {});
     }
   };
   const end = whole().then((it) => ({ ...it, output: joined(parts) }));

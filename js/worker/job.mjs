@@ -57,7 +57,8 @@ function standardOf(standard, output, post) {
 
 function ended(module, invocation, files, limits) {
   try {
-    return run(load(module, { steps: limits.steps ?? null }), invocation, files);
+    const loaded = load(module, { steps: limits.steps ?? null });
+    return { ...run(loaded, invocation, files), places: loaded.places };
   } catch (error) {
     if (error instanceof LoadError || error instanceof WebAssembly.CompileError) return { kind: "refused", status: STATUS.refused, name: error.message };
     throw error;

@@ -29,7 +29,10 @@ export function pipeSource(pipe, ask) {
   };
 }
 
-/** Gives a pipe what a stream has, a part each time that the function is called. The stream is a ReadableStream, or anything to be read by `for await`. */
+/**
+ * Gives a pipe what a stream has: `feed` gives a part, and `close` lets the stream go. The stream is a ReadableStream, or anything to be read by
+ * `for await`.
+ */
 export function pipeFeeder(pipe, stream) {
   const control = new Int32Array(pipe, 0, 2);
   const parts = partsOf(stream);
@@ -39,7 +42,7 @@ export function pipeFeeder(pipe, stream) {
     Atomics.store(control, TURN, GIVEN);
     Atomics.notify(control, TURN);
   };
-  return async () => {
+  const feed = async () => {
     try {
       while (rest.length === 0) {
         const { done, value } = await parts.next();
@@ -54,11 +57,18 @@ export function pipeFeeder(pipe, stream) {
       return give(FAILED);
     }
   };
+  return { feed, close: () => parts.close() };
 }
 
-/** The parts of a stream. Not every browser can read a ReadableStream by `for await`. */
+/**
+ * The parts of a stream, and `close`, which ends it also while a part is awaited. Not every browser can read a ReadableStream by `for await`, and a loop
+ * that waits can not be left.
+ */
 export function partsOf(stream) {
-  if (stream[Symbol.asyncIterator] !== undefined) return stream[Symbol.asyncIterator]();
-  const reader = stream.getReader();
-  return { next: () => reader.read() };
+  if (typeof stream.getReader === "function") {
+    const reader = stream.getReader();
+    return { next: () => reader.read(), close: () => reader.cancel() };
+  }
+  const parts = stream[Symbol.asyncIterator]();
+  return { next: () => parts.next(), close: () => (stream.destroy === undefined ? parts.return?.() : stream.destroy()) };
 }
