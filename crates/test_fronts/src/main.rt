@@ -3,9 +3,13 @@
 //! A line is a script, in which a byte 1 stands for a newline. A line `# tokens`, `# words`, `# trees`, `# parentheses` or `# names` says what is asked of the
 //! lines behind it: the tokens (there a backslash begins an escape, as in awk's strings); which reserved word it is; whether there is a tree, of a script or
 //! of one with so many parentheses; the kinds of names.
+//!
+//! Beside it stand scripts whose runs are computed from the definition of the language and from their mid code, from their bytes to what they put out, and
+//! programs whose modules are run on the machine over values: definitions and examples, and two laws.
 #![tactic(auto)]
 
 mod kinds;
+pub mod laws;
 mod names;
 mod show;
 mod token_lists;
