@@ -1,2 +1,3 @@
 pub mod Uses
 pub mod View
+pub mod Matters
