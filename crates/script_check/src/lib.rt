@@ -3,11 +3,13 @@
 
 mod judged;
 mod matter;
+mod places;
 mod uses;
 mod walk;
 mod walk_stmt;
 
 pub use judged::matters;
 pub use matter::Matter;
+pub use places::{starts, told as told_tokens};
 pub use uses::{Deed, Use};
 pub use walk_stmt::uses_of;
