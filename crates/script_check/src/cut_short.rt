@@ -49,7 +49,9 @@ fn may_stop(fault: TokenFault, byte: u8) -> bool {
 }
 
 /// Whether the bytes before a place are cut into tokens.
-fn are_cut(alloc: Global, script: &[u8], place: usize) -> Result<bool, AllocError> {
+fn are_cut(alloc: Global, script: &[u8], place: usize) -> Result<bool, AllocError>
+    requires { place ≤ length script.now }
+{
     match tokens(alloc, &script[..place]) {
         Ok(_) => Ok(true),
         Err(TokenFault::NoMemory) => Err(AllocError),
@@ -67,11 +69,11 @@ fn stop_in(
     ensures { IfOk result (λ place. IfSome place (λ n. n < length script.now)) }
 {
     let start = line_start(script, line);
-    let mut place = line_end(script, start);
-    let mut tries = 0;
-    while place > start && tries < MAX_TRIES {
-        place -= 1;
-        if may_stop(fault, script[place]) {
+    let end = line_end(script, start);
+    let mut tries: usize = 0;
+    for back in 0..end - start {
+        let place = end - 1 - back;
+        if tries < MAX_TRIES && may_stop(fault, script[place]) {
             tries += 1;
             if are_cut(alloc, script, place)? {
                 return Ok(Some(place));
@@ -94,11 +96,13 @@ fn said_of_byte(rest: &[u8]) -> &'static str {
 
 /// How many bytes a character has that begins there.
 fn character_length(rest: &[u8]) -> usize {
-    let mut length = 1;
-    while length < rest.len() && length < 4 && rest[length] >= 0x80 && rest[length] < 0xc0 {
-        length += 1;
+    for length in 1..4 {
+        match rest.get(length) {
+            Some(byte) if *byte >= 0x80 && *byte < 0xc0 => {}
+            _ => return length,
+        }
     }
-    length
+    4
 }
 
 /// The finding of a script that is not cut into tokens.

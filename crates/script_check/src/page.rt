@@ -21,11 +21,13 @@ fn line_start(script: &[u8], place: usize) -> usize
     requires { place ≤ length script.now }
     ensures { result ≤ place }
 {
-    let mut start = place;
-    while start > 0 && script[start - 1] != b'\n' {
-        start -= 1;
+    for back in 0..place {
+        let before = place - 1 - back;
+        if script[before] == b'\n' {
+            return before + 1;
+        }
     }
-    start
+    0
 }
 
 /// Adds a number.

@@ -67,63 +67,101 @@ fn begins_no_operand(kind: TokenKind) -> bool {
     )
 }
 
-/// Whether this token never stands in parentheses or brackets.
-fn stands_outside(kind: TokenKind) -> bool {
+/// Whether this token begins an item of a script, and nothing else.
+fn begins_item(kind: TokenKind) -> bool {
     matches!(
         kind,
-        TokenKind::Punctuator(Punctuator::OpenBrace | Punctuator::CloseBrace)
-            | TokenKind::Keyword(Keyword::Function | Keyword::Begin | Keyword::End)
+        TokenKind::Keyword(Keyword::Function | Keyword::Begin | Keyword::End)
     )
+}
+
+/// Whether this token never stands in parentheses or brackets.
+fn stands_outside(kind: TokenKind) -> bool {
+    begins_item(kind)
+        || matches!(
+            kind,
+            TokenKind::Punctuator(Punctuator::OpenBrace | Punctuator::CloseBrace)
+        )
+}
+
+/// What a token does to parentheses, brackets and braces.
+#[derive(Clone, Copy)]
+enum Turn {
+    Opens,
+    Closes,
+    Neither,
+}
+
+fn turn_of(token: Option<&Token<'_>>) -> Turn {
+    let Some(token) = token else {
+        return Turn::Neither;
+    };
+    match token.kind {
+        TokenKind::Punctuator(
+            Punctuator::OpenParen | Punctuator::OpenBracket | Punctuator::OpenBrace,
+        ) => Turn::Opens,
+        TokenKind::Punctuator(
+            Punctuator::CloseParen | Punctuator::CloseBracket | Punctuator::CloseBrace,
+        ) => Turn::Closes,
+        _ => Turn::Neither,
+    }
 }
 
 /// The number of the innermost parenthesis, bracket or brace that is open behind so many tokens.
 fn innermost(tokens: &[Token<'_>], end: usize) -> Option<usize> {
     let mut closed: usize = 0;
-    let mut i = if end <= tokens.len() {
-        end
-    } else {
-        tokens.len()
-    };
-    while i > 0 {
-        i -= 1;
-        match tokens[i].kind {
-            TokenKind::Punctuator(
-                Punctuator::CloseParen | Punctuator::CloseBracket | Punctuator::CloseBrace,
-            ) => closed = closed.saturating_add(1),
-            TokenKind::Punctuator(
-                Punctuator::OpenParen | Punctuator::OpenBracket | Punctuator::OpenBrace,
-            ) => {
+    for back in 0..end {
+        let i = end - 1 - back;
+        match turn_of(tokens.get(i)) {
+            Turn::Closes => closed = closed.saturating_add(1),
+            Turn::Opens => {
                 if closed == 0 {
                     return Some(i);
                 }
                 closed -= 1;
             }
-            _ => {}
+            Turn::Neither => {}
         }
     }
     None
+}
+
+/// Whether a parenthesis is that of a `for`, in which semicolons stand.
+fn is_for(tokens: &[Token<'_>], open: usize) -> bool {
+    if open == 0 {
+        return false;
+    }
+    match tokens.get(open - 1) {
+        Some(token) => matches!(token.kind, TokenKind::Keyword(Keyword::For)),
+        None => false,
+    }
+}
+
+/// What closes an opening, where a token of this kind cannot stand in it.
+fn closer(open: TokenKind, of_for: bool, kind: TokenKind, at_end: bool) -> Option<&'static str> {
+    let ends_statement = matches!(kind, TokenKind::Punctuator(Punctuator::Semicolon));
+    match open {
+        TokenKind::Punctuator(Punctuator::OpenParen)
+            if stands_outside(kind) || (ends_statement && !of_for) => {
+            Some(") is missing, opened in line")
+        }
+        TokenKind::Punctuator(Punctuator::OpenBracket) if stands_outside(kind) || ends_statement =>
+            { Some("] is missing, opened in line") }
+        TokenKind::Punctuator(Punctuator::OpenBrace) if at_end || begins_item(kind) => {
+            Some("} is missing, opened in line")
+        }
+        _ => None,
+    }
 }
 
 /// What closes the innermost opening, where the token at which reading stopped cannot stand in it.
 fn closing(tokens: &[Token<'_>], stop: usize) -> Option<Missing> {
     let kind = tokens.get(stop)?.kind;
     let at_end = stop + 1 == tokens.len();
-    let open = tokens.get(innermost(tokens, if at_end { tokens.len() } else { stop })?)?;
-    match open.kind {
-        TokenKind::Punctuator(Punctuator::OpenParen) if stands_outside(kind) => {
-            Some((") is missing, opened in line", Some(open.line)))
-        }
-        TokenKind::Punctuator(Punctuator::OpenBracket) if stands_outside(kind) => {
-            Some(("] is missing, opened in line", Some(open.line)))
-        }
-        TokenKind::Punctuator(Punctuator::OpenBrace)
-            if at_end
-                || matches!(
-                    kind,
-                    TokenKind::Keyword(Keyword::Function | Keyword::Begin | Keyword::End)
-                ) => { Some(("} is missing, opened in line", Some(open.line))) }
-        _ => None,
-    }
+    let number = innermost(tokens, if at_end { tokens.len() } else { stop })?;
+    let open = tokens.get(number)?;
+    let text = closer(open.kind, is_for(tokens, number), kind, at_end)?;
+    Some((text, Some(open.line)))
 }
 
 /// What is missing at the token at which reading stopped, where that is sure.
