@@ -10,7 +10,7 @@ use Rattle.script_check.specs.declared.uses.Use.{Use}
 use Rattle.script_check.specs.declared.matter.Matter.{Matter}
 use Rattle.script_check.specs.declared.matter.Matter.TheVariants.{UnknownFunction, ArgCount, NeverCalled, NeverAssigned, NeverRead, OnlyJoins, AssignedCondition, UnevenQuotient}
 use Rattle.script_check.specs.declared.matter.Aspect.{Aspect}
-use Rattle.script_check.specs.declared.matter.Aspect.TheVariants.{Calling, Asking, Setting, Filling}
+use Rattle.script_check.specs.declared.matter.Aspect.TheVariants.{Calling, Asking, Setting}
 use Rattle.script_check.specs.Uses.{Told}
 use Rattle.script_check.specs.View.{view_use, view_uses}
 
@@ -34,20 +34,10 @@ abbrev pub calls : Deed → Bool
 calls (Calls n) = true
 calls _ = false
 
-abbrev pub gives : Deed → Bool
-gives Gives = true
-gives _ = false
-
 abbrev pub shows : Aspect → Deed → Bool
 shows Calling d = calls d
 shows Asking d = asks d
 shows Setting d = sets d
-shows Filling d = sets d || gives d
-
--- an array that is given to a function may be filled there
-abbrev pub setting : (array : Bool) → Aspect
-setting true = Filling
-setting false = Setting
 
 -- a matter, if it is so
 abbrev pub only_if : Bool → Matter → Option Matter
@@ -83,9 +73,9 @@ module _ (items : List Item) where
       else only_if (takes_fewer (parameters_of (heads items) f) n) ArgCount
 
   -- a use of a variable, behind these and among all
-  abbrev pub never_assigned : Bool → (before all : List Told) → Told → Bool
-  never_assigned array before all u =
-      is_whole Asking u.name u && (not (has_whole (setting array) u.name all) && not (has_whole Asking u.name before))
+  abbrev pub never_assigned : (before all : List Told) → Told → Bool
+  never_assigned before all u =
+      is_whole Asking u.name u && (not (has_whole Setting u.name all) && not (has_whole Asking u.name before))
 
   abbrev pub never_read : (before all : List Told) → Told → Bool
   never_read before all u =
@@ -94,7 +84,7 @@ module _ (items : List Item) where
   abbrev pub global_matter : (before all : List Told) → Told → Option Bool → Option Matter
   global_matter before all u None = None
   global_matter before all u (Some array) =
-      if never_assigned array before all u then Some NeverAssigned else only_if (never_read before all u) NeverRead
+      if not array && never_assigned before all u then Some NeverAssigned else only_if (never_read before all u) NeverRead
 
   abbrev pub matter_by : List Name → (before all : List Told) → Told → Deed → Option Matter
   matter_by globals before all u (Calls n) = call_matter u.name n

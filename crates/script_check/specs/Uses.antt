@@ -29,7 +29,7 @@ abbrev pub scalar_deed : Way → Deed
 scalar_deed Asked = Reads
 scalar_deed Assigned = Sets
 scalar_deed Changed = Changes
-scalar_deed Filled = SetsArray
+scalar_deed Filled = ChangesArray
 scalar_deed Given = Gives
 scalar_deed Joined = Joins
 scalar_deed Condition = Reads
@@ -98,6 +98,8 @@ is_uneven a b = texts_leave_rest (number_in a) (number_in b)
 
 -- ---- uses
 
+-- What `getline`, `split` and the head of a loop over keys assign to counts as asked for too: often only their answers are wanted.
+
 module _ (place : Option (List ℕ)) where
   abbrev pub does : Deed → List ℕ → Told
   does deed name = record { deed = deed; place = place; name = name }
@@ -138,9 +140,9 @@ module _ (place : Option (List ℕ)) where
     uses w (HasList t ts x) = uses Asked t ++ (all_uses Asked ts ++ does ReadsArray x ∷ [])
     uses w (Cond c a b) = uses Asked c ++ (uses Asked a ++ uses Asked b)
     uses w Get = []
-    uses w (GetInto v) = uses Assigned v
+    uses w (GetInto v) = uses Changed v
     uses w (GetFrom s) = uses Asked s
-    uses w (GetIntoFrom v s) = uses Assigned v ++ uses Asked s
+    uses w (GetIntoFrom v s) = uses Changed v ++ uses Asked s
 
     pub all_uses : Way → Trees → List Told
     all_uses w NoTree = []
@@ -185,7 +187,7 @@ module _ (place : Option (List ℕ)) where
     stmt_uses (While c s) = uses Condition c ++ stmt_uses s
     stmt_uses (Do s c) = stmt_uses s ++ uses Condition c
     stmt_uses (For i c p s) = maybe_plain_uses i ++ (maybe_uses Condition c ++ (maybe_plain_uses p ++ stmt_uses s))
-    stmt_uses (ForIn k x s) = does Sets k ∷ (does ReadsArray x ∷ stmt_uses s)
+    stmt_uses (ForIn k x s) = does Changes k ∷ (does ReadsArray x ∷ stmt_uses s)
     stmt_uses (Jumping j) = []
     stmt_uses (Leave l t) = maybe_uses Asked t
 

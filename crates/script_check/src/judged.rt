@@ -4,7 +4,7 @@ ghost use Rattle.std.specs.Prelude.{◌≡◌, IfOk, length, option_map};
 ghost use Rattle.awk_grammar.specs.Kinds.{has_name, heads, parameters_of};
 ghost use Rattle.awk_grammar.specs.ViewStmt.{view_names, view_script};
 ghost use Rattle.awk_resolve.specs.ViewKinds.{view_name_kinds};
-ghost use Rattle.script_check.specs.Matters.{asks, call_matter, global_matter, has_whole, is_local, is_whole, kind_of, matter, matters, never_assigned, never_read, only_if, sets, setting, shows};
+ghost use Rattle.script_check.specs.Matters.{asks, call_matter, global_matter, has_whole, is_local, is_whole, kind_of, matter, matters, never_assigned, never_read, only_if, sets, shows};
 ghost use Rattle.script_check.specs.View.{view_place, view_use, view_uses};
 
 use crate::matter::{Aspect, Matter};
@@ -46,17 +46,6 @@ fn shows(aspect: Aspect, deed: Deed) -> bool
         Aspect::Calling => matches!(deed, Deed::Calls(_)),
         Aspect::Asking => asks(deed),
         Aspect::Setting => sets(deed),
-        Aspect::Filling => sets(deed) || matches!(deed, Deed::Gives),
-    }
-}
-
-fn setting(array: bool) -> Aspect
-    ensures { result ≡ setting array }
-{
-    if array {
-        Aspect::Filling
-    } else {
-        Aspect::Setting
     }
 }
 
@@ -148,18 +137,12 @@ fn kind_of(globals: &[NameKind<'_>], name: &[u8]) -> Option<bool>
 }
 
 /// Whether a variable is never assigned to, and this is the first use that asks for it.
-fn never_assigned(
-    script: &Script,
-    array: bool,
-    before: &[Use<'_>],
-    all: &[Use<'_>],
-    used: &Use<'_>,
-) -> bool
-    ensures { result ≡ never_assigned (view_script script.now) array (view_uses before.now)
+fn never_assigned(script: &Script, before: &[Use<'_>], all: &[Use<'_>], used: &Use<'_>) -> bool
+    ensures { result ≡ never_assigned (view_script script.now) (view_uses before.now)
         (view_uses all.now) (view_use used.now) }
 {
     is_whole(script, Aspect::Asking, used.name, used)
-        && !has_whole(script, setting(array), used.name, all)
+        && !has_whole(script, Aspect::Setting, used.name, all)
         && !has_whole(script, Aspect::Asking, used.name, before)
 }
 
@@ -185,7 +168,7 @@ fn global_matter(
         (view_uses all.now) (view_use used.now) kind }
 {
     let array = kind?;
-    if never_assigned(script, array, before, all, used) {
+    if !array && never_assigned(script, before, all, used) {
         return Some(Matter::NeverAssigned);
     }
     only_if(never_read(script, before, all, used), Matter::NeverRead)

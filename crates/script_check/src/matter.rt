@@ -9,7 +9,7 @@ pub enum Matter {
     ArgCount,
     /// A function that the script defines and does not call.
     NeverCalled,
-    /// A variable that the script asks for and does not assign to: the first place where it asks.
+    /// A variable, no array, that the script asks for and does not assign to: the first place where it asks.
     NeverAssigned,
     /// A variable that the script assigns to and does not ask for: the first place where it assigns.
     NeverRead,
@@ -30,6 +30,4 @@ pub(crate) enum Aspect {
     Asking,
     /// It assigns to the variable.
     Setting,
-    /// It assigns to the array, or gives it to a function, which may.
-    Filling,
 }

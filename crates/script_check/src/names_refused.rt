@@ -137,14 +137,17 @@ fn push_clash<'a>(
     let Some(at) = first_clash(script, uses, name) else {
         return Ok(());
     };
+    let Some(used) = uses.get(at) else {
+        return Ok(());
+    };
     out.push((
         at,
         Said::error("KindClash", &[], "it is an array and a variable"),
     ))?;
-    if let Some(array) = first_as(script, uses, &uses[at], true) {
+    if let Some(array) = first_as(script, uses, used, true) {
         out.push((array, Said::note(&[], "an array here")))?;
     }
-    if let Some(scalar) = first_as(script, uses, &uses[at], false) {
+    if let Some(scalar) = first_as(script, uses, used, false) {
         out.push((scalar, Said::note(&[], "a variable here")))?;
     }
     Ok(())

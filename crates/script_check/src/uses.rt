@@ -32,7 +32,7 @@ pub enum Deed {
     Reads,
     /// Assigns to the scalar.
     Sets,
-    /// Asks for the scalar's value, and assigns to it.
+    /// Asks for the scalar's value, and assigns to it; or `getline` or the head of a loop over keys assigns to it.
     Changes,
     /// Asks for the scalar's value, at the left end of a statement that only joins texts.
     Joins,
@@ -40,9 +40,9 @@ pub enum Deed {
     Gives,
     /// Asks for an element, or whether there is one, or walks over the keys.
     ReadsArray,
-    /// Assigns to an element, or fills the array.
+    /// Assigns to an element.
     SetsArray,
-    /// Asks for an element, and assigns to it.
+    /// Asks for an element, and assigns to it; or a built-in function fills the array.
     ChangesArray,
     /// Empties the array, or drops an element.
     Clears,

@@ -32,7 +32,7 @@ fn scalar_deed(way: Way) -> Deed
         Way::Asked | Way::Condition => Deed::Reads,
         Way::Assigned => Deed::Sets,
         Way::Changed => Deed::Changes,
-        Way::Filled => Deed::SetsArray,
+        Way::Filled => Deed::ChangesArray,
         Way::Given => Deed::Gives,
         Way::Joined => Deed::Joins,
     }
@@ -164,10 +164,9 @@ pub(crate) fn push_expr<'a>(out: &mut Uses<'a>, place: Option<&'a [u8]>, way: Wa
         | Expr::Group(inner)
         | Expr::Unary(_, inner)
         | Expr::GetlineFrom(inner) => push_expr(out, place, Way::Asked, inner),
-        Expr::PreStep(_, inner) | Expr::PostStep(_, inner) => {
+        Expr::PreStep(_, inner) | Expr::PostStep(_, inner) | Expr::GetlineInto(inner) => {
             push_expr(out, place, Way::Changed, inner)
         }
-        Expr::GetlineInto(inner) => push_expr(out, place, Way::Assigned, inner),
         Expr::Call(name, arguments) => push_call(out, place, name, arguments),
         Expr::Apply(function, arguments) => push_operands(out, place, *function, arguments),
         Expr::Binary(op, a, b) => {
@@ -181,7 +180,7 @@ pub(crate) fn push_expr<'a>(out: &mut Uses<'a>, place: Option<&'a [u8]>, way: Wa
             push_expr(out, place, Way::Asked, b);
         }
         Expr::GetlineIntoFrom(a, b) => {
-            push_expr(out, place, Way::Assigned, a);
+            push_expr(out, place, Way::Changed, a);
             push_expr(out, place, Way::Asked, b);
         }
         Expr::In(subscript, array) => {

@@ -116,7 +116,7 @@ fn push_stmt<'a>(out: &mut Uses<'a>, place: Option<&'a [u8]>, s: &'a Stmt)
             push_stmt(out, place, s);
         }
         Stmt::ForIn(key, array, s) => {
-            put(out, place, Deed::Sets, key);
+            put(out, place, Deed::Changes, key);
             put(out, place, Deed::ReadsArray, array);
             push_stmt(out, place, s);
         }
