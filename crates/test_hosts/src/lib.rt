@@ -4,6 +4,8 @@
 #[cfg(test)]
 mod beginnings;
 #[cfg(test)]
+mod limits;
+#[cfg(test)]
 mod real_files;
 #[cfg(test)]
 mod worlds;
