@@ -5,3 +5,4 @@ pub mod Topics
 pub mod Examples
 pub mod TopicExamples
 pub mod WhereTexts
+pub mod Escapes
