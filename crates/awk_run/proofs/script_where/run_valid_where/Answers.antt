@@ -20,11 +20,11 @@ returns-clause-answers g c = λ job shown.
     let after = told c.into_world-2.result in
     let whole = view_module c.args.valid in
     let start = host_form told c.args.host in
-    let left = host_form told c.run_seen.result.2 in
+    let left = host_form told c.run_seen-end.result.2 in
     let a = c.in-Ok.machine in
-    let end = c.run_seen.result.0 in
-    let conf = c.run_seen.new.machine.conf in
-    let did = c.run_seen.ensures.did in
+    let end = c.run_seen-end.result.0 in
+    let conf = c.run_seen-end.new.machine.conf in
+    let did = c.run_seen-end.ensures.did in
     let e : c.run_end.result ≡ run_end left.fault end = c.run_end.ensures ∙ ap (λ (k : Option Fault). run_end k end) c.kept_fault.ensures in
     subst (λ (z : RunEnd). RunAnswers tells whole job c.args.steps before z after) (sym e)
     (did_answers tells whole job c.args.steps before after a n start shown end conf left did
@@ -35,4 +35,4 @@ returns-clause-answers g c = λ job shown.
 
 pub returns-clause-seen : goal.returns-clause-seen
 returns-clause-seen g c = λ job shown.
-    of_some c.run_seen.result.1 (λ w s. record { machine = c.in-Ok.machine; is_new = c.in-Ok.ensures.ok; start = host_form g.W.World.state c.args.host; begins = shown; seen = s }) c.run_seen.ensures.seen
+    of_some c.run_seen-end.result.1 (λ w s. record { machine = c.in-Ok.machine; is_new = c.in-Ok.ensures.ok; start = host_form g.W.World.state c.args.host; begins = shown; seen = s }) c.run_seen-end.ensures.seen
