@@ -6,7 +6,7 @@ use Rattle.host_calls.specs.Forms.{host_form}
 use Rattle.host_step.specs.Starts.{state_at_start}
 use Rattle.wasm_types.specs.View.{view_module}
 use Rattle.awk_run.specs.ModuleRun.{RunAnswers}
-use Rattle.awk_run.specs.Seen.{IsSeenOf, IsSeenOfBytes}
+use Rattle.awk_run.specs.Seen.{IsSeenOf}
 use Rattle.awk_run.proofs.Pausing.{of_some}
 use Rattle.awk_run.proofs.Runs.{typed_answers}
 use Rattle.awk_run.proofs.script_where.run_module_where.Goals as goal

@@ -5,7 +5,6 @@ use Rattle.host_calls.specs.Forms.{host_form}
 use Rattle.host_step.specs.Starts.{state_at_start}
 use Rattle.wasm_types.specs.View.{view_module}
 use Rattle.awk_run.specs.ModuleRun.{RunAnswers, run_end}
-use Rattle.awk_run.specs.Seen.{IsSeenOf}
 use Rattle.run_report.specs.declared.end.RunEnd.{RunEnd}
 use Rattle.awk_run.proofs.Pausing.{of_some}
 use Rattle.awk_run.proofs.Runs.{did_answers}

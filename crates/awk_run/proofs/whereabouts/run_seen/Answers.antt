@@ -5,7 +5,7 @@ use Rattle.wasm_model.specs.Machines.{ProgramForm}
 use Rattle.wasm_model.specs.Runs.{Did, lasting}
 use Rattle.wasm_model.specs.declared.ends.MachineEnd.{MachineEnd}
 use Rattle.wasm_model.specs.declared.ends.MachineEnd.TheVariants as ends
-use Rattle.awk_run.specs.Seen.{IsSeen, Tells}
+use Rattle.awk_run.specs.Seen.{Tells}
 use Rattle.awk_run.proofs.Pausing.{of_some, was_over, went_on}
 use Rattle.awk_run.proofs.whereabouts.run_seen.Goals as goal
 

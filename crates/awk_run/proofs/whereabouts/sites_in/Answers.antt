@@ -1,8 +1,7 @@
-use Rattle.std.proofs.Common.{◌≡◌, ◌∷◌, ◌++◌, [], ◌∙◌, List, ap, length, length-append, map, subst, sym, arith}
+use Rattle.std.proofs.Common.{◌≡◌, ◌∷◌, ◌++◌, [], ◌∙◌, ap, length, length-append, map, subst, sym, arith}
 use Rattle.awk_grammar.specs.ViewStmt.{view_script}
 use Rattle.awk_tokens.specs.Views.{spelled}
 use Rattle.wasm_machine.specs.Places.{StandsAt, frame_at}
-use Rattle.run_report.specs.declared.whereabouts.CallSite.{CallSite}
 use Rattle.awk_run.specs.Seen.{AreSites}
 use Rattle.awk_run.proofs.Sites.{no_sites, with_site}
 use Rattle.awk_run.proofs.whereabouts.sites_in.Goals as goal
