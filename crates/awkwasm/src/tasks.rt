@@ -1,9 +1,12 @@
 //! What the command line asks for, over real files.
-ghost use Rattle.std.specs.Prelude.{◌≡◌, ◌⊎◌, ℕ, List, map, IfErr, IfOk};
+ghost use Rattle.std.specs.Prelude.{◌≡◌, ◌⊎◌, ℕ, List, [], Some, map, IfErr, IfOk};
 ghost use Rattle.script_compiler.specs.Compiled.{IsCompiled};
 ghost use Rattle.awk_run.specs.ModuleRun.{Answers};
 ghost use Rattle.awk_run.specs.ScriptRuns.{ScriptAnswers};
 ghost use Rattle.run_report.specs.EndTexts.{exit_code};
+ghost use Rattle.run_report.specs.WhereTexts.{where_text};
+ghost use Rattle.run_report.specs.declared.whereabouts.Whereabouts.{Whereabouts as AnyWhereabouts};
+ghost use Rattle.command_line.specs.declared.Request.TheVariants.{Run};
 ghost use Rattle.awkwasm.specs.Done.{Compiles, Exits, IsExplained, IsNotExplained, IsUnbegun, IsUnread, IsUnwritten, RunsModule, RunsScript};
 ghost use Rattle.awkwasm.specs.Uncompiled.{IsUncompiled};
 ghost use Rattle.run_report.specs.declared.end.RunEnd.TheVariants.{Ended};
@@ -16,10 +19,12 @@ ghost use Rattle.host_names.specs.Forms.{pair_of};
 use crate::environment::environment_of;
 use crate::explanations::{explanation_text, names_text};
 use crate::imports::imports_text;
-use awk_run::{CompileFault, Refusal, RunEnd, compile, run_module, run_script};
+use awk_run::{
+    CompileFault, Refusal, RunEnd, Whereabouts, compile, run_module, run_script, run_script_where,
+};
 use command_line::{Request, Task};
 use host_calls::NamedText;
-use run_report::{FileFault, fault_text, no_memory_text, status_of, topic_named};
+use run_report::{FileFault, fault_text, no_memory_text, status_of, topic_named, where_text};
 use run_tasks::{Undone, job_on, listed, os_world_of, undone_status, undone_text};
 use script_code::MAX_SCRIPT_BYTES;
 use std::alloc::Global;
@@ -97,6 +102,27 @@ fn script_on<'a, W: World>(
     }
 }
 
+/// Runs a script as a task says, as above, and sees where it was.
+fn script_on_where<'a, W: World>(
+    alloc: Global,
+    script: &[u8],
+    task: &Task<'_>,
+    environment: Vec<NamedText>,
+    state: RandomState,
+    world: FencedWorld<W, FileFence<'a>>,
+) -> (RunEnd, Option<Whereabouts>, FencedWorld<W, FileFence<'a>>)
+    requires { form_of world.fence ≡ fence_of_task task.now }
+    ensures { ScriptAnswers (W.tells × ⊥) script.now
+        (job_of_task task.now (map pair_of environment.items)) task.now.steps
+        (behind (lets_read (fence_of_task task.now)) (W.state world.entry.inner)) result.0
+        (behind (lets_read (form_of result.2.fence)) (W.state result.2.inner)) }
+{
+    match job_on(alloc, task, environment) {
+        Ok(job) => run_script_where(alloc, script, &job, state, world, task.steps),
+        Err(_) => (RunEnd::NoMemory, None, world),
+    }
+}
+
 /// What the keys of arrays are hashed with. No script can know it.
 fn random_state(rt: &HostRuntime) -> Result<RandomState, Undone>
     ensures { IfErr result IsUnbegun }
@@ -120,6 +146,23 @@ fn run_task(rt: &HostRuntime, task: &Task<'_>) -> Result<RunEnd, Undone>
     let script = task.subject.as_bytes();
     let (end, _) = script_on(rt.alloc(), script, task, environment, state, world);
     Ok(end)
+}
+
+/// Runs the script of a task, as above, and sees where it was.
+fn run_task_where(
+    rt: &HostRuntime,
+    task: &Task<'_>,
+) -> Result<(RunEnd, Option<Whereabouts>), Undone>
+    ensures ok { IfOk result (λ r. RunsScript task.now r.0) }
+    ensures err { IfErr result IsUnbegun }
+{
+    let environment = environment_of(rt)?;
+    let state = random_state(rt)?;
+    let output = io::writer(rt);
+    let world = os_world_of(rt.alloc(), rt, rt.stdin(), output, rt.stderr(), task)?;
+    let script = task.subject.as_bytes();
+    let (end, found, _) = script_on_where(rt.alloc(), script, task, environment, state, world);
+    Ok((end, found))
 }
 
 /// Runs the module of these bytes as a task says, over real files, behind the fence of the task.
@@ -247,10 +290,49 @@ pub(crate) fn tell_task(rt: &HostRuntime, done: Result<RunEnd, Undone>) -> u8
     }
 }
 
+/// What is told of where a script was; nothing for want of memory.
+fn where_lines(alloc: Global, end: &RunEnd, found: Option<Whereabouts>) -> Vec<u8>
+    ensures { (result.items ≡ []) ⊎ ((w : AnyWhereabouts) × (found ≡ Some w)
+        × (result.items ≡ where_text end.now w)) }
+{
+    let Some(found) = found else {
+        return Vec::new(alloc);
+    };
+    match where_text(alloc, end, &found) {
+        Ok(lines) => lines,
+        Err(_) => Vec::new(alloc),
+    }
+}
+
+/// Tells how a run ended, and then where the script was; the answer is the exit status.
+fn tell_where(rt: &HostRuntime, end: RunEnd, found: Option<Whereabouts>) -> u8
+    ensures { result ≡ exit_code end }
+{
+    let lines = where_lines(rt.alloc(), &end, found);
+    let status = tell_end(rt, end);
+    tell(rt, lines.as_slice());
+    status
+}
+
+/// Runs the script of a task, and tells where it was; the answer is the exit status.
+fn run_and_tell(rt: &HostRuntime, task: &Task<'_>) -> u8
+    ensures { Exits (Run task.now) result }
+{
+    match run_task_where(rt, task) {
+        Ok((end, found)) => tell_where(rt, end, found),
+        Err(undone) => tell_task(rt, Err(undone)),
+    }
+}
+
 /// Does what a command line asks for, over real files; the answer is the exit status.
 pub(crate) fn carry_out(rt: &HostRuntime, request: &Request) -> u8
     ensures { Exits request.now result }
 {
+    if let Request::Run(task) = request {
+        if task.tells_where {
+            return run_and_tell(rt, task);
+        }
+    }
     let done = match request {
         Request::Compile { script_file, out } => compile_file(rt, script_file, out),
         Request::Run(task) => run_task(rt, task),

@@ -73,6 +73,10 @@ limits_app name = with_rule (with_rule (with_rule (names_app name) (number_rule 
 abbrev pub task_app : Text → Text → App
 task_app name subject = with_rule (with_rule (limits_app name) (single subject)) words_rule
 
+-- `run`, with `[--where]`
+abbrev pub run_app : App
+run_app = with_rule (task_app (codes "run") (codes "script")) (flag_rule (codes "where"))
+
 -- `imports MODULE`
 abbrev pub imports_app : App
 imports_app = with_rule (new_app (codes "imports")) (single (codes "module"))
@@ -89,7 +93,7 @@ top_app = on_top (λ s. record s { has_version = true; subcommand_required = tru
 abbrev pub line_app : App
 line_app =
     with_subcommand (with_subcommand (with_subcommand (with_subcommand (with_subcommand top_app compile_app.top)
-    (task_app (codes "run") (codes "script")).top) (task_app (codes "exec") (codes "module")).top) imports_app.top) explain_app.top
+    run_app.top) (task_app (codes "exec") (codes "module")).top) imports_app.top) explain_app.top
 
 -- the exit status of a line that asks for nothing
 abbrev pub status_of_kind : ErrorKind → ℕ

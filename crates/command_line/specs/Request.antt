@@ -43,6 +43,7 @@ pub record IsTask (of : Text) (rows : List Row) (t : Task) : Type 0 where
   pub separators : texts t.separators.items ≡ words_at (codes "separator") rows
   pub assigns : texts t.assigns.items ≡ words_at (codes "assign") rows
   pub steps : IsNumber (one_of (codes "steps") rows) t.steps
+  pub tells_where : IsFlag (one_of (codes "where") rows) t.tells_where
   pub fences : IsFences rows t.fences
   pub may_read : texts t.may_read.items ≡ words_at (codes "may-read") rows
   pub may_write : texts t.may_write.items ≡ words_at (codes "may-write") rows

@@ -5,7 +5,7 @@ ghost use Rattle.std.specs.Prelude.{◌≡◌, ◌↔◌, IfOk, IfSome, IsTrue, 
 ghost use Rattle.std.specs.Prelude.{Ok, Some, map, option_map, true, IfErr, codes};
 ghost use Rattle.clap.specs.Words.{App, Rule, app_of, rule_of, takes, kind_of, rows_of, found_of, matches_of, one_of, first_of, new_app, new_rule, subcommand_rows_of, subcommand_of, with_rule, with_subcommand};
 ghost use Rattle.command_line.specs.Request.{Asks, IsFences, IsFlag, IsLimits, IsNumber, IsTask, texts, word_at, words_at};
-ghost use Rattle.command_line.specs.Line.{Builds, single, flag_rule, names_rule, number_rule, options_app, fences_app, names_app, limits_app, compile_app, task_app, explain_app, imports_app, top_app, line_app, is_file_option, has_file_option, status_of_kind, takes_text, text_apart};
+ghost use Rattle.command_line.specs.Line.{Builds, single, flag_rule, names_rule, number_rule, options_app, fences_app, names_app, limits_app, compile_app, run_app, task_app, explain_app, imports_app, top_app, line_app, is_file_option, has_file_option, status_of_kind, takes_text, text_apart};
 
 mod spelling;
 
@@ -64,6 +64,8 @@ pub struct Task<'a> {
     pub assigns: Vec<&'a str>,
     /// The greatest number of steps to take; without `--steps` the greatest of 64 bits.
     pub steps: u64,
+    /// `--where`, which `run` takes alone: tell where the script was where it faults or is stopped.
+    pub tells_where: bool,
     /// Which files are kept out.
     pub fences: FenceOptions,
     /// The names of `--may-read`, in order: files that may be read.
@@ -258,10 +260,12 @@ fn task_command<'a>(
 }
 
 fn run_command<'a>(alloc: Global) -> Result<Command<'a>, AllocError>
-    ensures { IfOk result (Builds (task_app (codes "run") (codes "script"))) }
+    ensures { IfOk result (Builds run_app) }
 {
     let help = "The script's text; of a file: \"$(cat prog.awk)\"";
-    task_command(alloc, "run", "Run a script", "script", help)
+    let command = task_command(alloc, "run", "Run a script", "script", help);
+    let help = "Say where the script was where it faults or is stopped";
+    with_arg(command, flag_arg(alloc, "where", help))
 }
 
 fn exec_command<'a>(alloc: Global) -> Result<Command<'a>, AllocError>
@@ -525,6 +529,7 @@ fn task_of<'a>(
         separators: texts(alloc, matches, "separator")?,
         assigns: texts(alloc, matches, "assign")?,
         steps: number(matches, "steps"),
+        tells_where: flag(matches, "where"),
         fences: fences(matches),
         may_read: texts(alloc, matches, "may-read")?,
         may_write: texts(alloc, matches, "may-write")?,
