@@ -55,48 +55,6 @@ fn file_of(rt: &HostRuntime, path: &str, limit: u64) -> Result<Vec<u8>, Undone>
     }
 }
 
-/// Runs a module as a task says, in an environment, in a world behind the fence of the task.
-fn module_on<'a, W: World>(
-    alloc: Global,
-    bytes: &[u8],
-    task: &Task<'_>,
-    environment: Vec<NamedText>,
-    state: RandomState,
-    world: FencedWorld<W, FileFence<'a>>,
-) -> (RunEnd, FencedWorld<W, FileFence<'a>>)
-    requires { form_of world.fence ≡ fence_of_task task.now }
-    ensures { Answers (W.tells × ⊥) bytes.now
-        (job_of_task task.now (map pair_of environment.items)) task.now.steps
-        (behind (lets_read (fence_of_task task.now)) (W.state world.entry.inner)) result.0
-        (behind (lets_read (form_of result.1.fence)) (W.state result.1.inner)) }
-{
-    match job_on(alloc, task, environment) {
-        Ok(job) => run_module(alloc, bytes, &job, state, world, task.steps),
-        Err(_) => (RunEnd::NoMemory, world),
-    }
-}
-
-/// Runs a script as a task says, in an environment, in a world behind the fence of the task.
-fn script_on<'a, W: World>(
-    alloc: Global,
-    script: &[u8],
-    task: &Task<'_>,
-    environment: Vec<NamedText>,
-    state: RandomState,
-    world: FencedWorld<W, FileFence<'a>>,
-) -> (RunEnd, FencedWorld<W, FileFence<'a>>)
-    requires { form_of world.fence ≡ fence_of_task task.now }
-    ensures { ScriptAnswers (W.tells × ⊥) script.now
-        (job_of_task task.now (map pair_of environment.items)) task.now.steps
-        (behind (lets_read (fence_of_task task.now)) (W.state world.entry.inner)) result.0
-        (behind (lets_read (form_of result.1.fence)) (W.state result.1.inner)) }
-{
-    match job_on(alloc, task, environment) {
-        Ok(job) => run_script(alloc, script, &job, state, world, task.steps),
-        Err(_) => (RunEnd::NoMemory, world),
-    }
-}
-
 /// What the keys of arrays are hashed with. No script can know it.
 fn random_state(rt: &HostRuntime) -> Result<RandomState, Undone>
     ensures { IfErr result IsUnbegun }
@@ -108,29 +66,41 @@ fn random_state(rt: &HostRuntime) -> Result<RandomState, Undone>
     }
 }
 
-/// Runs the script of a task over real files, behind the fence of the task.
-fn run_task(rt: &HostRuntime, task: &Task<'_>) -> Result<RunEnd, Undone>
-    ensures ok { IfOk result (RunsScript task.now) }
+/// The surroundings of a run: real files, the standard streams, and the environment.
+fn surroundings<'a>(rt: &'a HostRuntime) -> Result<Around<'a>, Undone>
+    ensures order { IfOk result (λ around. IsSortedByName around.environment.items) }
     ensures err { IfErr result IsUnbegun }
 {
     let environment = environment_of(rt)?;
     let state = random_state(rt)?;
-    let world = os_world_of(rt.alloc(), rt, rt.stdin(), io::writer(rt), task);
-    let script = task.subject.as_bytes();
-    let (end, _) = script_on(rt.alloc(), script, task, environment, state, world);
-    Ok(end)
+    Ok(Surroundings {
+        files: rt,
+        input: rt.stdin(),
+        output: io::writer(rt),
+        errors: rt.stderr(),
+        environment,
+        state,
+    })
+}
+
+/// Runs the script of a task over real files, behind the fence of the task.
+fn run_task(rt: &HostRuntime, task: &Task<'_>) -> Result<RunEnd, Undone>
+    ensures ok { IfOk result (λ e. (environment : List NamedText) × IsSortedByName environment
+        × RunsScript task.now (map pair_of environment) e) }
+    ensures err { IfErr result IsUnbegun }
+{
+    let around = surroundings(rt)?;
+    Ok(script_end(rt.alloc(), task, around))
 }
 
 /// Runs the module of these bytes as a task says, over real files, behind the fence of the task.
 fn exec_bytes(rt: &HostRuntime, task: &Task<'_>, bytes: &[u8]) -> Result<RunEnd, Undone>
-    ensures ok { IfOk result (RunsModule task.now bytes.now) }
+    ensures ok { IfOk result (λ e. (environment : List NamedText) × IsSortedByName environment
+        × RunsModule task.now bytes.now (map pair_of environment) e) }
     ensures err { IfErr result IsUnbegun }
 {
-    let environment = environment_of(rt)?;
-    let state = random_state(rt)?;
-    let world = os_world_of(rt.alloc(), rt, rt.stdin(), io::writer(rt), task);
-    let (end, _) = module_on(rt.alloc(), bytes, task, environment, state, world);
-    Ok(end)
+    let around = surroundings(rt)?;
+    Ok(module_end(rt.alloc(), task, bytes, around))
 }
 
 /// Runs the module in the file of a task.

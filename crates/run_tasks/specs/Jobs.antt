@@ -34,6 +34,9 @@ fence_of_task task = record {
   no_files = task.fences.no_files;
   read_only = task.fences.read_only;
   operands = if task.fences.only_operands then Some (texts task.words.items) else None;
+  may_read = texts task.may_read.items;
+  may_write = texts task.may_write.items;
+  streams = task.streams;
 }
 
 -- What is told of real files behind the fence of a task: the fence alone. Nothing is told of what they hold.

@@ -12,12 +12,12 @@ pub enum Undone {
     File(FileFault),
     /// An argument is not UTF-8.
     Arguments,
-    /// The environment is not UTF-8.
-    Environment,
     /// The system gives no random numbers, with which the keys of arrays are hashed.
     RandomNumbers,
     /// The line has the option `-f` of other awks.
     ScriptFile,
+    /// A text that begins with a hyphen comes after its option, and is not attached to it.
+    TextApart,
     /// There is nothing of this name to explain.
     Unexplained,
     /// Memory ran out.
@@ -39,6 +39,10 @@ impl From<AllocError> for Undone {
 const SCRIPT_FILE: &str =
     "awkwasm: no option -f: give the file's text, as awkwasm run \"$(cat prog.awk)\" .., or compile it and then exec\n";
 
+/// What to do where clap reads the text of an option as another option.
+const TEXT_APART: &str =
+    "awkwasm: attach a text that begins with a hyphen to its option: -F-x in place of -F -x\n";
+
 /// The line for the standard error.
 pub fn undone_text(undone: &Undone) -> &'static [u8]
     ensures { result.now ≡ undone_text undone.now }
@@ -46,9 +50,9 @@ pub fn undone_text(undone: &Undone) -> &'static [u8]
     match undone {
         Undone::File(fault) => file_fault_text(fault),
         Undone::Arguments => "awkwasm: an argument is not UTF-8\n".as_bytes(),
-        Undone::Environment => "awkwasm: the environment is not UTF-8\n".as_bytes(),
         Undone::RandomNumbers => "awkwasm: the system gives no random numbers\n".as_bytes(),
         Undone::ScriptFile => SCRIPT_FILE.as_bytes(),
+        Undone::TextApart => TEXT_APART.as_bytes(),
         Undone::Unexplained =>
             "awkwasm: no such name; awkwasm explain lists the names\n".as_bytes(),
         Undone::NoMemory => no_memory_text(),
@@ -63,9 +67,9 @@ pub fn undone_status(undone: &Undone) -> u8
         Undone::NoMemory => 5,
         Undone::File(_)
         | Undone::Arguments
-        | Undone::Environment
         | Undone::RandomNumbers
         | Undone::ScriptFile
+        | Undone::TextApart
         | Undone::Unexplained => 8,
     }
 }
