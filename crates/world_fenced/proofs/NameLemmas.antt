@@ -1,7 +1,6 @@
 -- Names in order: what a search finds, and that it is what the list has.
-use Rattle.std.proofs.Common.{◌≡◌, ◌∙◌, ℕ, ◌==◌, ◌<◌, List, [], ◌∷◌, length, get_or, map, ◌||◌, Bool, true, false, Bor, Result, Ok, Err, inl, inr, Less, Equal, Greater, Ordering, refl, sym, ap, arith}
+use Rattle.std.proofs.Common.{◌≡◌, ◌∙◌, ℕ, ◌==◌, List, [], ◌∷◌, length, get_or, map, ◌||◌, Bool, true, false, Bor, Result, Ok, Err, inl, inr, Less, Equal, Greater, Ordering, refl, sym, ap, arith}
 use Rattle.std.specs.Prelude.{is_ok}
-use Rattle.std.specs.List.{list_any}
 use Rattle.std.specs.List.Sorted.{IsBinarySearchResult, IsNonDecreasingBy, IsSearchInRange}
 use Rattle.std.specs.Ordering.{is_eq, nat_cmp, ordering_index}
 use Rattle.std.specs.Cmp.Lexicographic.{pointwise, slice_cmp}

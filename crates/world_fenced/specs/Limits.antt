@@ -4,6 +4,7 @@ use Rattle.world_core.specs.declared.world.Ending.TheVariants.{End, Fails}
 use Rattle.world_core.specs.declared.world.WorldFault.{WorldFault}
 use Rattle.world_core.specs.declared.world.WorldFault.TheVariants.{Failed, NoMemory}
 use Rattle.world_core.specs.WorldState.{State}
+use Rattle.world_fenced.specs.declared.limits.LimitedWorld.{LimitedWorld}
 use Rattle.world_fenced.specs.declared.meter.Meter.{Meter}
 
 -- how many bytes a call moved
@@ -14,6 +15,15 @@ moved (Err fault) = 0
 -- how many more bytes may pass
 abbrev pub left : Meter → ℕ
 left meter = meter.most - meter.passed
+
+-- nothing is written or read yet, and these limits are set
+pub record StartsWith {W : Type 0} (out inp : ℕ) (world : LimitedWorld W) : Type 0 where
+  pub most_output : world.output.most ≡ out
+  pub most_input : world.input.most ≡ inp
+  pub written : world.output.passed ≡ 0
+  pub read : world.input.passed ≡ 0
+  pub not_over : world.input_is_over ≡ false
+  pub refused : world.refused ≡ 0
 
 -- some of a text may pass, or there is nothing to pass
 abbrev pub MayPass : Meter → ℕ → Type 0

@@ -1,7 +1,7 @@
 //! A world of which so many bytes are read and written at most.
 ghost use Rattle.std.specs.Prelude.{◌≡◌, ◌<◌, ◌≤◌, ◌+◌, ◌%◌, ◌^◌, ◌≢◌, ℕ, true, take, length, Err, IfOk, OnErr};
 ghost use Rattle.world_core.specs.Calls.{Closed, Closes, Opens, OpensToRead, OpensToWrite, Reading, Reads, Writes, Writing, next_count, set_kind};
-ghost use Rattle.world_fenced.specs.Limits.{AtLimit, MayPass, left, moved};
+ghost use Rattle.world_fenced.specs.Limits.{AtLimit, MayPass, StartsWith, left, moved};
 
 use crate::meter::Meter;
 use world_core::{World, WorldFault};
@@ -21,11 +21,7 @@ impl<W: World> LimitedWorld<W> {
     /// A world of which so many bytes are written, and so many are read, at most. It takes no memory.
     pub fn new(inner: W, most_output: u64, most_input: u64) -> LimitedWorld<W>
         ensures inner { result.inner ≡ inner }
-        ensures most_output { result.output.most ≡ most_output }
-        ensures most_input { result.input.most ≡ most_input }
-        ensures written { result.output.passed ≡ 0 }
-        ensures read { result.input.passed ≡ 0 }
-        ensures refused { result.refused ≡ 0 }
+        ensures limits { StartsWith most_output most_input result }
     {
         LimitedWorld {
             inner,
@@ -60,6 +56,7 @@ impl<W: World> LimitedWorld<W> {
         ensures told { W.tells → AtLimit id (W.state self.old.inner) self.old.input_is_over result }
         ensures over { self.old.input_is_over ≡ true
             → (result ≡ Err WorldFault.Failed) × (self.new.inner ≡ self.old.inner) }
+        ensures stays { self.old.input_is_over ≡ true → self.new.input_is_over ≡ true }
         ensures output { self.new.output ≡ self.old.output }
         ensures input { self.new.input ≡ self.old.input }
     {
@@ -98,6 +95,7 @@ impl<W: World> World for LimitedWorld<W> {
             → OpensToRead name.now (W.state self.old.inner) result (W.state self.new.inner) }
         ensures output { self.new.output ≡ self.old.output }
         ensures input { self.new.input ≡ self.old.input }
+        ensures over { self.new.input_is_over ≡ self.old.input_is_over }
     {
         self.inner.open_read(name)
     }
@@ -112,6 +110,7 @@ impl<W: World> World for LimitedWorld<W> {
             (W.state self.new.inner) }
         ensures output { self.new.output ≡ self.old.output }
         ensures input { self.new.input ≡ self.old.input }
+        ensures over { self.new.input_is_over ≡ self.old.input_is_over }
     {
         self.inner.open_write(name, append)
     }
@@ -130,6 +129,10 @@ impl<W: World> World for LimitedWorld<W> {
             (take (left self.old.input) buffer.new) (W.state self.new.inner) }
         ensures at_limit { left self.old.input ≡ 0 → 0 < length buffer.old → W.tells
             → AtLimit id (W.state self.old.inner) self.old.input_is_over result }
+        ensures over { self.old.input_is_over ≡ true → left self.old.input ≡ 0
+            → 0 < length buffer.old
+            → (result ≡ Err WorldFault.Failed) × (self.new.inner ≡ self.old.inner) }
+        ensures stays { self.old.input_is_over ≡ true → self.new.input_is_over ≡ true }
         ensures output { self.new.output ≡ self.old.output }
     {
         let room = self.input.room(buffer.len());
@@ -157,6 +160,7 @@ impl<W: World> World for LimitedWorld<W> {
         ensures full { left self.old.output ≡ 0 → 0 < length text.now
             → (result ≡ Err WorldFault.Failed) × (self.new.inner ≡ self.old.inner) }
         ensures input { self.new.input ≡ self.old.input }
+        ensures over { self.new.input_is_over ≡ self.old.input_is_over }
     {
         let room = self.output.room(text.len());
         if room == 0 && !text.is_empty() {
@@ -176,6 +180,7 @@ impl<W: World> World for LimitedWorld<W> {
         ensures inner { W.tells → Closes id (W.state self.old.inner) (W.state self.new.inner) }
         ensures output { self.new.output ≡ self.old.output }
         ensures input { self.new.input ≡ self.old.input }
+        ensures over { self.new.input_is_over ≡ self.old.input_is_over }
     {
         self.inner.close(id)
     }

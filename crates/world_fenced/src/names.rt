@@ -4,8 +4,8 @@ ghost use Rattle.world_fenced.specs.Named.{IsInOrder, is_one_borrowed};
 ghost use Rattle.std.specs.Ordering.{nat_cmp};
 ghost use Rattle.std.specs.Cmp.Lexicographic.{slice_cmp};
 
-use std::cmp::Ordering;
 use std::alloc::{AllocError, Global};
+use std::cmp::Ordering;
 
 /// Some names: as they are listed, and in the order of their bytes, so that a look compares few of them.
 #[derive(Drop)]
@@ -41,9 +41,7 @@ fn is_in(sorted: &[&str], name: &[u8]) -> bool
     requires { IsInOrder sorted.now }
     ensures { result ≡ is_one_borrowed sorted.now name.now }
 {
-    sorted
-        .binary_search_by(|n| order(n, name))
-        .is_ok()
+    sorted.binary_search_by(|n| order(n, name)).is_ok()
 }
 
 impl<'a> Names<'a> {

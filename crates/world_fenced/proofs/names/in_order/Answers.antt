@@ -1,4 +1,4 @@
-use Rattle.std.proofs.Common.{◌≡◌, ◌==◌, ◌∙◌, ◌++◌, ap, sym}
+use Rattle.std.proofs.Common.{◌==◌, ◌∙◌, ◌++◌, ap, sym}
 use Rattle.std.specs.Cmp.Lexicographic.{pointwise}
 use Rattle.std.proofs.lemmas.List.Sorted.{list_any-IsPermutation}
 use Rattle.world_fenced.specs.Named.{is_one_borrowed}

@@ -1,4 +1,4 @@
-use Rattle.std.proofs.Common.{◌≡◌, ◌∙◌, ap}
+use Rattle.std.proofs.Common.{◌∙◌, ap}
 use Rattle.world_fenced.specs.Named.{is_one_borrowed}
 use Rattle.world_fenced.proofs.NameLemmas.{one_of_borrowed}
 use Rattle.world_fenced.proofs.names.Names.contains.Goals as goal
