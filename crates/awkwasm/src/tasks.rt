@@ -1,35 +1,33 @@
 //! What the command line asks for, over real files.
 ghost use Rattle.std.specs.Prelude.{◌≡◌, ◌⊎◌, ℕ, List, map, IfErr, IfOk};
-ghost use Rattle.script_compiler.specs.Compiled.{IsCompiled};
-ghost use Rattle.awk_run.specs.ModuleRun.{Answers};
-ghost use Rattle.awk_run.specs.ScriptRuns.{ScriptAnswers};
-ghost use Rattle.run_report.specs.EndTexts.{exit_code};
-ghost use Rattle.awkwasm.specs.Done.{Compiles, Exits, IsExplained, IsNotExplained, IsUnbegun, IsUnread, IsUnwritten, RunsModule, RunsScript};
-ghost use Rattle.awkwasm.specs.Uncompiled.{IsUncompiled};
-ghost use Rattle.run_report.specs.declared.end.RunEnd.TheVariants.{Ended};
-ghost use Rattle.run_tasks.specs.Jobs.{fence_of_task, job_of_task};
-ghost use Rattle.run_tasks.specs.Tasks.{IsUnreadable, task_code};
-ghost use Rattle.world_fenced.specs.Behind.{behind};
-ghost use Rattle.world_fenced.specs.Fences.{form_of, lets_read};
+ghost use Rattle.awkwasm.specs.Done.{Compiles, Exits, IsExplained, IsNotExplained, IsUnbegun, IsUnread, IsUnwritten};
+ghost use Rattle.awkwasm.specs.Environment.{IsSortedByName};
 ghost use Rattle.host_names.specs.Forms.{pair_of};
+ghost use Rattle.host_names.specs.declared.names.NamedText.{NamedText};
+ghost use Rattle.run_report.specs.EndTexts.{exit_code};
+ghost use Rattle.run_report.specs.declared.end.RunEnd.TheVariants.{Ended};
+ghost use Rattle.run_tasks.specs.Runs.{RunsModule, RunsScript};
+ghost use Rattle.run_tasks.specs.Tasks.{IsUnreadable, task_code};
 
 use crate::environment::environment_of;
 use crate::explanations::{explanation_text, names_text};
 use crate::imports::imports_text;
-use awk_run::{CompileFault, Refusal, RunEnd, compile, run_module, run_script};
+use crate::output::{print_text, tell, write_module};
 use command_line::{Request, Task};
-use host_calls::NamedText;
-use run_report::{FileFault, fault_text, no_memory_text, status_of, topic_named};
-use run_tasks::{Undone, job_on, listed, os_world_of, undone_status, undone_text};
+use run_report::{FileFault, RunEnd, no_memory_text, status_of, tell_end, topic_named};
+use run_tasks::{
+    Surroundings, Undone, compiled, listed, module_end, script_end, undone_status, undone_text,
+};
 use script_code::MAX_SCRIPT_BYTES;
 use std::alloc::Global;
 use std::hash::RandomState;
-use std::io::{Print, Read};
+use std::io::{Printer, Read, Stderr, Stdin};
 use std::rt::Files;
 use std::{fs, io};
 use wasm_types::MAX_MODULE_BYTES;
-use world_core::World;
-use world_fenced::{FencedWorld, FileFence};
+
+/// What a run of the program is in.
+type Around<'a> = Surroundings<'a, HostRuntime, Stdin, Printer<'a, HostRuntime>, Stderr>;
 
 /// How many bytes of a script's file are read at most: one past the greatest length of a script.
 const SCRIPT_LIMIT: u64 = MAX_SCRIPT_BYTES as u64 + 1;
@@ -105,27 +103,21 @@ fn exec_bytes(rt: &HostRuntime, task: &Task<'_>, bytes: &[u8]) -> Result<RunEnd,
 
 /// Runs the module in the file of a task.
 fn exec_task(rt: &HostRuntime, task: &Task<'_>) -> Result<RunEnd, Undone>
-    ensures ok { IfOk result (λ e. (bytes : List ℕ) × RunsModule task.now bytes e) }
+    ensures ok { IfOk result (λ e. (bytes : List ℕ) × (environment : List NamedText)
+        × IsSortedByName environment × RunsModule task.now bytes (map pair_of environment) e) }
     ensures err { IfErr result (λ undone. IsUnread undone ⊎ IsUnbegun undone) }
 {
     let bytes = file_of(rt, task.subject, MODULE_LIMIT)?;
     exec_bytes(rt, task, &bytes)
 }
 
-/// The module of a script; else what is told of it.
-fn compiled(alloc: Global, script: &[u8]) -> Result<Vec<u8>, RunEnd>
-    ensures ok { IfOk result (λ bytes. IsCompiled script.now bytes.items) }
-    ensures err { IfErr result (IsUncompiled script.now) }
-{
-    match compile(alloc, script) {
-        Ok(module) => Ok(module),
-        Err(CompileFault::NoMemory) => Err(RunEnd::NoMemory),
-        Err(fault) => Err(RunEnd::Refused(Refusal::Compile(fault))),
-    }
-}
-
 /// Compiles a script to a module's file. Nothing is written unless the script is accepted.
-fn compile_bytes(rt: &HostRuntime, script: &[u8], out: &str) -> Result<RunEnd, Undone>
+fn compile_bytes(
+    rt: &HostRuntime,
+    script: &[u8],
+    script_file: &str,
+    out: &str,
+) -> Result<RunEnd, Undone>
     ensures ok { IfOk result (Compiles script.now) }
     ensures err { IfErr result IsUnwritten }
 {
@@ -133,10 +125,8 @@ fn compile_bytes(rt: &HostRuntime, script: &[u8], out: &str) -> Result<RunEnd, U
         Ok(module) => module,
         Err(end) => return Ok(end),
     };
-    match fs::write(rt, out, &module) {
-        Ok(()) => Ok(RunEnd::Ended(0)),
-        Err(_) => Err(Undone::File(FileFault::CannotWrite)),
-    }
+    write_module(rt, script_file, out, &module)?;
+    Ok(RunEnd::Ended(0))
 }
 
 /// Compiles a script's file to a module's.
@@ -145,7 +135,7 @@ fn compile_file(rt: &HostRuntime, script_file: &str, out: &str) -> Result<RunEnd
     ensures err { IfErr result (λ undone. IsUnread undone ⊎ IsUnwritten undone) }
 {
     let script = file_of(rt, script_file, SCRIPT_LIMIT)?;
-    compile_bytes(rt, &script, out)
+    compile_bytes(rt, &script, script_file, out)
 }
 
 /// What is asked of `explain`: what a name means, or which names there are.
@@ -161,19 +151,19 @@ fn explained(alloc: Global, name: Option<&str>) -> Result<String, Undone>
     }
 }
 
-/// Prints what is asked of `explain`. A failing standard output changes no status.
+/// Prints what is asked of `explain`.
 fn explain_task(rt: &HostRuntime, name: Option<&str>) -> Result<RunEnd, Undone>
     ensures { IsExplained result }
 {
     let text = explained(rt.alloc(), name)?;
-    let _ = print!(rt; "{text}");
+    print_text(rt, text.as_str())?;
     Ok(RunEnd::Ended(0))
 }
 
-/// Prints what a module imports, and what follows. A failing standard output changes no status.
+/// Prints what a module imports, and what follows.
 fn imports_task(rt: &HostRuntime, file: &str) -> Result<RunEnd, Undone>
     ensures ok { IfOk result (λ e. (e ≡ Ended 0) ⊎ ((bytes : List ℕ) × IsUnreadable bytes e)) }
-    ensures err { IfErr result IsUnread }
+    ensures err { IfErr result (λ undone. IsUnread undone ⊎ IsUnwritten undone) }
 {
     let bytes = file_of(rt, file, MODULE_LIMIT)?;
     let imports = match listed(rt.alloc(), &bytes) {
@@ -181,23 +171,18 @@ fn imports_task(rt: &HostRuntime, file: &str) -> Result<RunEnd, Undone>
         Err(end) => return Ok(end),
     };
     let text = imports_text(rt.alloc(), &imports)?;
-    let _ = print!(rt; "{text}");
+    print_text(rt, text.as_str())?;
     Ok(RunEnd::Ended(0))
 }
 
-/// Writes a line to the standard error. That it fails changes nothing.
-fn tell(rt: &HostRuntime, line: &[u8]) {
-    let _ = rt.stderr().write_all(line);
-}
-
 /// Tells how a run ended; the answer is its exit status.
-fn tell_end(rt: &HostRuntime, end: RunEnd) -> u8
+fn tell_run(rt: &HostRuntime, end: RunEnd) -> u8
     ensures { result ≡ exit_code end }
 {
     if let RunEnd::NoMemory = end {
         tell(rt, no_memory_text());
-    } else if let Ok(line) = fault_text(rt.alloc(), &end) {
-        tell(rt, line.as_slice());
+    } else {
+        let _ = tell_end(rt.alloc(), &mut rt.stderr(), &end);
     }
     status_of(&end)
 }
@@ -207,7 +192,7 @@ pub(crate) fn tell_task(rt: &HostRuntime, done: Result<RunEnd, Undone>) -> u8
     ensures { result ≡ task_code done }
 {
     match done {
-        Ok(end) => tell_end(rt, end),
+        Ok(end) => tell_run(rt, end),
         Err(undone) => {
             tell(rt, undone_text(&undone));
             undone_status(&undone)
