@@ -5,7 +5,8 @@ ghost use Rattle.awkwasm.specs.Done.{IsUnwritten};
 use run_report::FileFault;
 use run_tasks::Undone;
 use std::alloc::AllocError;
-use std::fs::{File, MetadataExt, OpenOptions, Permissions};
+use std::fs::{File, OpenOptions, Permissions};
+use std::os::unix::fs::MetadataExt;
 use std::io::{ErrorKind, Print, Write};
 use std::{fs, io, process};
 

@@ -59,7 +59,7 @@ fn limited_world<'a, R: Files, I: Read + Drop, O: Write + Drop, E: Write + Drop>
 pub(crate) fn os_world_of<'a, R: Files, I: Read + Drop, O: Write + Drop, E: Write + Drop>(
     alloc: Global,
     files: &'a R,
-    (input, output, errors): (I, O, E),
+    own: (I, O, E),
     task: &'a Task<'_>,
 ) -> Result<FencedWorld<LimitedWorld<OsWorld<'a, R, I, O, E>>, FileFence<'a>>, AllocError>
     ensures fence { IfOk result (λ world. form_of world.fence ≡ fence_of_task task.now) }
@@ -70,6 +70,7 @@ pub(crate) fn os_world_of<'a, R: Files, I: Read + Drop, O: Write + Drop, E: Writ
     ensures limits { IfOk result (λ world. StartsWith task.now.limits.most_output
         task.now.limits.most_input world.inner) }
 {
+    let (input, output, errors) = own;
     let own = OwnStreams {
         input,
         output,
