@@ -1,10 +1,13 @@
 //! The environment of a run.
 ghost use Rattle.std.specs.Prelude.{◌≡◌, option_map, IfErr, IfOk};
+ghost use Rattle.std.specs.Cmp.Lexicographic.{slice_cmp};
 ghost use Rattle.std.specs.List.Sorted.{IsPermutation};
+ghost use Rattle.std.specs.Ordering.{nat_cmp};
 ghost use Rattle.awkwasm.specs.Done.{IsUnbegun};
 ghost use Rattle.awkwasm.specs.Environment.{IsSortedByName, pair_in};
 ghost use Rattle.host_names.specs.Forms.{pair_of};
 
+use std::cmp::Ordering;
 use run_tasks::{NamedText, Undone, named_text};
 use std::alloc::{AllocError, Global};
 use std::env::{Env, FillError};
@@ -57,13 +60,20 @@ fn pairs(rt: &HostRuntime) -> Result<Vec<NamedText>, AllocError> {
     Ok(pairs)
 }
 
+/// How two pairs are in order.
+fn by_name(one: &NamedText, other: &NamedText) -> Ordering
+    ensures { result ≡ slice_cmp nat_cmp (pair_of one.now).0 (pair_of other.now).0 }
+{
+    one.name.as_slice().cmp(other.name.as_slice())
+}
+
 /// The same pairs, sorted by name. Pairs of one name stay in their order.
 fn sorted(pairs: Vec<NamedText>) -> Result<Vec<NamedText>, AllocError>
     ensures order { IfOk result (λ texts. IsSortedByName texts.items) }
     ensures all { IfOk result (λ texts. IsPermutation pairs.items texts.items) }
 {
     let mut texts = pairs;
-    texts.sort_by(|a, b| a.name.as_slice().cmp(&b.name.as_slice()))?;
+    texts.sort_by(|a, b| by_name(a, b))?;
     Ok(texts)
 }
 
