@@ -7,9 +7,9 @@ ghost use Rattle.awkwasm.specs.Done.{IsUnbegun};
 ghost use Rattle.awkwasm.specs.Environment.{IsSortedByName, pair_in};
 ghost use Rattle.host_names.specs.Forms.{pair_of};
 
-use std::cmp::Ordering;
 use run_tasks::{NamedText, Undone, named_text};
 use std::alloc::{AllocError, Global};
+use std::cmp::Ordering;
 use std::env::{Env, FillError};
 
 /// How many bytes are made room for at first, for an entry.
@@ -64,7 +64,7 @@ fn pairs(rt: &HostRuntime) -> Result<Vec<NamedText>, AllocError> {
 fn by_name(one: &NamedText, other: &NamedText) -> Ordering
     ensures { result ≡ slice_cmp nat_cmp (pair_of one.now).0 (pair_of other.now).0 }
 {
-    one.name.as_slice().cmp(other.name.as_slice())
+    one.name.as_slice().cmp(&other.name.as_slice())
 }
 
 /// The same pairs, sorted by name. Pairs of one name stay in their order.

@@ -6,8 +6,8 @@ use run_report::FileFault;
 use run_tasks::Undone;
 use std::alloc::AllocError;
 use std::fs::{File, OpenOptions, Permissions};
-use std::os::unix::fs::MetadataExt;
 use std::io::{ErrorKind, Print, Write};
+use std::os::unix::fs::MetadataExt;
 use std::{fs, io, process};
 
 /// Writes to the standard error. That it fails changes nothing.

@@ -12,5 +12,5 @@ pub returns-clause-order : goal.returns-clause-order
 returns-clause-order c =
     let ranks = ranks_by nat_list_cmp_total (λ (t : NamedText). (pair_of t).0) in
     c.in_ok-sort_by.ensures.sorted _ ranks (answers_always _ _ _ (λ f a r f' called.
-      let same : r ≡ slice_cmp nat_cmp (pair_of a.0.now).0 (pair_of a.1.0.now).0 = search rules in
-      ap is_lt same))
+    let same : r ≡ slice_cmp nat_cmp (pair_of a.0.now).0 (pair_of a.1.0.now).0 = search rules in
+    ap is_lt same))
