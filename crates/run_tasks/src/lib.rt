@@ -9,7 +9,7 @@ mod imports;
 mod job;
 pub mod laws;
 mod powers;
-mod runs;
+mod sandbox;
 mod undone;
 
 pub use fences::fence_of;
@@ -17,5 +17,5 @@ pub use host_names::NamedText;
 pub use imports::listed;
 pub use job::{job_on, named_text};
 pub use powers::{Reads, Writes, reads_of, writes_of};
-pub use runs::{Surroundings, compiled, module_end, script_end};
+pub use sandbox::{Surroundings, compiled, module_end, script_end};
 pub use undone::{Undone, undone_status, undone_text};

@@ -3,7 +3,7 @@ use Rattle.world_fenced.specs.Behind.{behind}
 use Rattle.world_fenced.specs.Fences.{FenceForm, form_of, lets_read}
 use Rattle.awk_run.specs.ModuleRun.{Answers}
 use Rattle.run_tasks.proofs.Moved.{moved}
-use Rattle.run_tasks.proofs.runs.module_behind.Goals as goal
+use Rattle.run_tasks.proofs.sandbox.module_behind.Goals as goal
 
 pub returns-in-Ok : goal.returns-in-Ok
 returns-in-Ok g c = moved (λ job fence. Answers (g.W.World.tells × ⊥) c.args.bytes.now job c.args.task.now.steps

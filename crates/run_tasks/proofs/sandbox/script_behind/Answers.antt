@@ -5,7 +5,7 @@ use Rattle.awk_run.specs.ScriptRuns.{ScriptAnswers}
 use Rattle.run_tasks.specs.Jobs.{job_of_task}
 use Rattle.host_names.specs.Forms.{pair_of}
 use Rattle.run_tasks.proofs.Moved.{at, moved}
-use Rattle.run_tasks.proofs.runs.script_behind.Goals as goal
+use Rattle.run_tasks.proofs.sandbox.script_behind.Goals as goal
 
 pub returns-in-Ok : goal.returns-in-Ok
 returns-in-Ok g c = moved (λ job fence. ScriptAnswers (g.W.World.tells × ⊥) c.args.task.now.subject.now job c.args.task.now.steps
