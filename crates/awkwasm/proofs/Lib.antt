@@ -1,2 +1,3 @@
-pub mod Kinds
+pub mod Printing
 pub mod Spelled
+pub mod Equals

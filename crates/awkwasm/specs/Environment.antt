@@ -1,10 +1,10 @@
 -- The environment: what an entry is, and the order of its pairs.
-use Rattle.std.specs.Prelude.{ℕ, ◌==◌, ◌&&◌, Bool, not, List, length, Option, Some, None, if◌then◌else◌}
+use Rattle.std.specs.Prelude.{◌≡◌, ℕ, ◌==◌, ◌&&◌, Bool, not, List, length, Option, Some, None, if◌then◌else◌}
 use Rattle.std.specs.List.{after_first, before_first, list_any}
 use Rattle.std.specs.List.Sorted.{IsSortedByKey}
 use Rattle.std.specs.Ordering.{nat_cmp}
 use Rattle.std.specs.Cmp.Lexicographic.{slice_cmp}
-use Rattle.std.specs.Str.{is_utf8}
+use Rattle.std.specs.Str.{IsUtf8}
 use Rattle.host_names.specs.Forms.{pair_of}
 use Rattle.host_names.specs.declared.names.NamedText.{NamedText}
 use Rattle.run_tasks.specs.Jobs.{is_equals}
@@ -15,8 +15,9 @@ named_pair entry = if list_any is_equals entry && not (length (before_first is_e
     then Some (before_first is_equals entry, after_first is_equals entry) else None
 
 -- the pair that an entry is; none of an entry that is not UTF-8
-abbrev pub pair_in : List ℕ → Option (List ℕ × List ℕ)
-pair_in entry = if is_utf8 entry then named_pair entry else None
+abbrev pub IsPairIn : List ℕ → Option (List ℕ × List ℕ) → Type 0
+IsPairIn entry (Some pair) = IsUtf8 entry × (named_pair entry ≡ Some pair)
+IsPairIn entry None = IsUtf8 entry → named_pair entry ≡ None
 
 -- in the order of the bytes of their names
 abbrev pub IsSortedByName : List NamedText → Type 0

@@ -4,7 +4,7 @@ ghost use Rattle.std.specs.Cmp.Lexicographic.{slice_cmp};
 ghost use Rattle.std.specs.List.Sorted.{IsPermutation};
 ghost use Rattle.std.specs.Ordering.{nat_cmp};
 ghost use Rattle.awkwasm.specs.Done.{IsUnbegun};
-ghost use Rattle.awkwasm.specs.Environment.{IsSortedByName, pair_in};
+ghost use Rattle.awkwasm.specs.Environment.{IsPairIn, IsSortedByName, named_pair};
 ghost use Rattle.host_names.specs.Forms.{pair_of};
 
 use run_tasks::{NamedText, Undone, named_text};
@@ -33,16 +33,24 @@ fn entry_at(rt: &HostRuntime, number: usize) -> Result<Option<Vec<u8>>, AllocErr
     Err(AllocError)
 }
 
-/// The name and the text of an entry. An entry that is not UTF-8, or has no name or no `=`, is left out.
-fn pair_in(alloc: Global, entry: &[u8]) -> Result<Option<NamedText>, AllocError>
-    ensures { IfOk result (λ pair. option_map pair_of pair ≡ pair_in entry.now) }
+/// The name and the text around the first `=` of an entry; none where it has no name or no `=`.
+fn pair_of_text(alloc: Global, entry: &str) -> Result<Option<NamedText>, AllocError>
+    ensures { IfOk result (λ pair. option_map pair_of pair ≡ named_pair entry.now) }
 {
-    let Ok(text) = str::from_utf8(entry) else {
-        return Ok(None);
-    };
-    match text.split_once('=') {
-        Some((name, text)) if !name.is_empty() => Ok(Some(named_text(alloc, name, text)?)),
-        _ => Ok(None),
+    match entry.split_once('=') {
+        None => Ok(None),
+        Some((name, _)) if name.is_empty() => Ok(None),
+        Some((name, text)) => Ok(Some(named_text(alloc, name, text)?)),
+    }
+}
+
+/// The name and the text of an entry. An entry that is not UTF-8 is left out.
+fn pair_in(alloc: Global, entry: &[u8]) -> Result<Option<NamedText>, AllocError>
+    ensures { IfOk result (λ pair. IsPairIn entry.now (option_map pair_of pair)) }
+{
+    match str::from_utf8(entry) {
+        Ok(text) => pair_of_text(alloc, text),
+        Err(_) => Ok(None),
     }
 }
 

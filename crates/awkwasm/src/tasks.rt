@@ -152,7 +152,7 @@ fn explained(alloc: Global, name: Option<&str>) -> Result<String, Undone>
 }
 
 /// Prints what is asked of `explain`.
-#[tactic(auto, using(crate::proofs::Kinds::unprinted))]
+#[tactic(auto, using(crate::proofs::Printing::unprinted))]
 fn explain_task(rt: &HostRuntime, name: Option<&str>) -> Result<RunEnd, Undone>
     ensures { IsExplained result }
 {
