@@ -72,10 +72,10 @@ fn answer(rt: &HostRuntime, words: &[&str]) -> Result<u8, Undone>
         Err(error) if is_no_memory(&error) => Err(Undone::NoMemory),
         Err(error) if is_script_file(&error, words) => Err(Undone::ScriptFile),
         Err(error) if is_text_apart(&error, words) => Err(Undone::TextApart),
-        Err(error) => {
-            let status = tell_refused(rt, &error)?;
-            Ok(status)
-        }
+        Err(error) => match tell_refused(rt, &error) {
+            Ok(status) => Ok(status),
+            Err(undone) => Err(undone),
+        },
         Ok(request) => Ok(carry_out(rt, &request)),
     }
 }
