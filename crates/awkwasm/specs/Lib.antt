@@ -1,4 +1,4 @@
+pub mod Environment
 pub mod Done
 pub mod Lines
 pub mod Printed
-pub mod Uncompiled

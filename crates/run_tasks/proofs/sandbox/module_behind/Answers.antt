@@ -2,8 +2,8 @@ use Rattle.std.proofs.Common.{ap, inr}
 use Rattle.world_fenced.specs.Behind.{behind}
 use Rattle.world_fenced.specs.Fences.{FenceForm, form_of, lets_read}
 use Rattle.awk_run.specs.ModuleRun.{Answers}
-use Rattle.awkwasm.proofs.Moved.{moved}
-use Rattle.awkwasm.proofs.tasks.module_on.Goals as goal
+use Rattle.run_tasks.proofs.Moved.{moved}
+use Rattle.run_tasks.proofs.sandbox.module_behind.Goals as goal
 
 pub returns-in-Ok : goal.returns-in-Ok
 returns-in-Ok g c = moved (λ job fence. Answers (g.W.World.tells × ⊥) c.args.bytes.now job c.args.task.now.steps
