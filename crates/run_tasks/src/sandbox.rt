@@ -131,8 +131,13 @@ pub fn script_seen<R: Files, I: Read + Drop, O: Write + Drop, E: Write + Drop>(
     let streams = (around.input, around.output, around.errors);
     match os_world_of(alloc, around.files, streams, task) {
         Ok(world) => {
-            let (end, found, _) =
-                script_seen_behind(alloc, task, around.environment, around.state, world);
+            let (end, found, _) = script_seen_behind(
+                alloc,
+                task,
+                around.environment,
+                around.state,
+                world,
+            );
             (end, found)
         }
         Err(_) => (RunEnd::NoMemory, None),
