@@ -4,8 +4,6 @@
 #[cfg(test)]
 mod beginnings;
 #[cfg(test)]
-mod limits;
-#[cfg(test)]
 mod real_files;
 #[cfg(test)]
 mod worlds;

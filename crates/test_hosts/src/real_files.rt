@@ -61,39 +61,3 @@ fn real_files(rt: HostRuntime) -> Result<(), Fail> {
     assert!(rt; world.failures() == 7);
     Ok(())
 }
-
-/// Writes to the names of the program's own streams, and reads from one: here they are three files.
-fn own_streams_by_name(rt: &HostRuntime) -> Result<bool, Fail> {
-    let own = OwnStreams {
-        input: fs::open(rt, "own_input.txt")?,
-        output: fs::create(rt, "own_output.txt")?,
-        errors: fs::create(rt, "own_errors.txt")?,
-        named: true,
-    };
-    let mut world = OsWorld::new(rt.alloc(), rt, own);
-    let first = world.write(1, b"a")? == 1;
-    let second = written(&mut world, b"/dev/stdout", false, b"bc")? == 2;
-    let third = world.write(1, b"d")? == 1;
-    let errors = written(&mut world, b"/dev/stderr", false, b"e")? == 1;
-    let again = written(&mut world, b"/dev/stderr", true, b"f")? == 1;
-    let read = two_reads(&mut world, b"/dev/stdin")? == (2, 0, *b"in\0\0\0\0\0\0");
-    Ok(first && second && third && errors && again && read && world.failures() == 0)
-}
-
-#[test]
-fn own_streams(rt: HostRuntime) -> Result<(), Fail> {
-    fs::write(&rt, "own_input.txt", b"in")?;
-    assert!(rt; own_streams_by_name(&rt)?);
-    assert_eq!(rt;
-        fs::read(&rt, "own_output.txt")?.as_slice(),
-        b"abcd".as_slice()
-    );
-    assert_eq!(rt;
-        fs::read(&rt, "own_errors.txt")?.as_slice(),
-        b"ef".as_slice()
-    );
-    for name in ["own_input.txt", "own_output.txt", "own_errors.txt"] {
-        fs::remove_file(&rt, name)?;
-    }
-    Ok(())
-}
