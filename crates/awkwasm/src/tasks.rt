@@ -115,7 +115,8 @@ fn run_task(rt: &HostRuntime, task: &Task<'_>) -> Result<RunEnd, Undone>
 {
     let environment = environment_of(rt)?;
     let state = random_state(rt)?;
-    let world = os_world_of(rt.alloc(), rt, rt.stdin(), io::writer(rt), task);
+    let output = io::writer(rt);
+    let world = os_world_of(rt.alloc(), rt, rt.stdin(), output, rt.stderr(), task)?;
     let script = task.subject.as_bytes();
     let (end, _) = script_on(rt.alloc(), script, task, environment, state, world);
     Ok(end)
@@ -128,7 +129,8 @@ fn exec_bytes(rt: &HostRuntime, task: &Task<'_>, bytes: &[u8]) -> Result<RunEnd,
 {
     let environment = environment_of(rt)?;
     let state = random_state(rt)?;
-    let world = os_world_of(rt.alloc(), rt, rt.stdin(), io::writer(rt), task);
+    let output = io::writer(rt);
+    let world = os_world_of(rt.alloc(), rt, rt.stdin(), output, rt.stderr(), task)?;
     let (end, _) = module_on(rt.alloc(), bytes, task, environment, state, world);
     Ok(end)
 }

@@ -1,54 +1,67 @@
 //! What a task may open.
-ghost use Rattle.std.specs.Prelude.{◌≡◌, []};
+ghost use Rattle.std.specs.Prelude.{◌≡◌, [], IfOk, false};
 ghost use Rattle.run_tasks.specs.Jobs.{fence_of_task};
 ghost use Rattle.world_fenced.specs.Fences.{form_of};
+ghost use Rattle.world_fenced.specs.Limits.{StartsWith};
 
 use command_line::Task;
-use std::alloc::Global;
+use std::alloc::{AllocError, Global};
 use std::io::{Read, Write};
 use std::rt::Files;
-use world_core::World;
-use world_fenced::{FencedWorld, FileFence};
-use world_os::OsWorld;
+use world_fenced::{FencedWorld, FileFence, LimitedWorld, Names};
+use world_os::{OsWorld, OwnStreams};
 
 /// The fence that a task's options set up.
-pub fn fence_of<'a>(task: &'a Task<'_>) -> FileFence<'a>
-    ensures { form_of result ≡ fence_of_task task.now }
+///
+/// # Errors
+///
+/// If memory runs out.
+pub fn fence_of<'a>(alloc: Global, task: &'a Task<'_>) -> Result<FileFence<'a>, AllocError>
+    ensures { IfOk result (λ fence. form_of fence ≡ fence_of_task task.now) }
 {
     let operands = if task.fences.only_operands {
-        Some(task.words.as_slice())
+        Some(Names::new(alloc, task.words.as_slice())?)
     } else {
         None
     };
-    FileFence {
+    Ok(FileFence {
         no_files: task.fences.no_files,
         read_only: task.fences.read_only,
         operands,
-    }
+        may_read: Names::none(alloc),
+        may_write: Names::none(alloc),
+        streams: false,
+    })
 }
 
-/// A world in which a task opens only what its options let through.
-fn world_of<'a, W: World>(world: W, task: &'a Task<'_>) -> FencedWorld<W, FileFence<'a>>
-    ensures inner { result.inner ≡ world }
-    ensures fence { form_of result.fence ≡ fence_of_task task.now }
-    ensures kept_out { result.kept_out ≡ 0 }
-{
-    FencedWorld::new(world, fence_of(task))
-}
-
-/// Real files, a standard input and a standard output, of which a task opens only what its options let through. Nothing is open but the standard
-/// streams, and nothing has failed. It takes no memory.
-pub fn os_world_of<'a, R: Files, I: Read + Drop, O: Write + Drop>(
+/// Real files and the program's own streams: an input, an output and errors. A task opens of them only what its options let through. Nothing is open but
+/// the standard streams, nothing is read or written, and nothing has failed.
+///
+/// # Errors
+///
+/// If memory runs out.
+pub fn os_world_of<'a, R: Files, I: Read + Drop, O: Write + Drop, E: Write + Drop>(
     alloc: Global,
     files: &'a R,
     input: I,
     output: O,
+    errors: E,
     task: &'a Task<'_>,
-) -> FencedWorld<OsWorld<'a, R, I, O>, FileFence<'a>>
-    ensures fence { form_of result.fence ≡ fence_of_task task.now }
-    ensures kept_out { result.kept_out ≡ 0 }
-    ensures streams { result.inner.streams.items ≡ [] }
-    ensures count { result.inner.failures ≡ 0 }
+) -> Result<FencedWorld<LimitedWorld<OsWorld<'a, R, I, O, E>>, FileFence<'a>>, AllocError>
+    ensures fence { IfOk result (λ world. form_of world.fence ≡ fence_of_task task.now) }
+    ensures kept_out { IfOk result (λ world. world.kept_out ≡ 0) }
+    ensures streams { IfOk result (λ world. world.inner.inner.streams.items ≡ []) }
+    ensures count { IfOk result (λ world. world.inner.inner.failures ≡ 0) }
+    ensures named { IfOk result (λ world. world.inner.inner.named ≡ false) }
+    ensures limits { IfOk result (λ world. StartsWith u64.MAX u64.MAX world.inner) }
 {
-    world_of(OsWorld::new(alloc, files, input, output), task)
+    let own = OwnStreams {
+        input,
+        output,
+        errors,
+        named: false,
+    };
+    let files = OsWorld::new(alloc, files, own);
+    let limited = LimitedWorld::new(files, u64::MAX, u64::MAX);
+    Ok(FencedWorld::new(limited, fence_of(alloc, task)?))
 }

@@ -2,7 +2,7 @@
 use std::test::Fail;
 use std::{fs, io};
 use world_core::{World, WorldFault};
-use world_os::OsWorld;
+use world_os::{OsWorld, OwnStreams};
 
 const NAME: &str = "world_os.txt";
 
@@ -40,7 +40,13 @@ static NO_FILES: [&[u8]; 3] = [b"", b"\xff", b"absent/file"];
 #[test]
 fn real_files(rt: HostRuntime) -> Result<(), Fail> {
     let name = NAME.as_bytes();
-    let mut world = OsWorld::new(rt.alloc(), &rt, rt.stdin(), io::writer(&rt));
+    let own = OwnStreams {
+        input: rt.stdin(),
+        output: io::writer(&rt),
+        errors: rt.stderr(),
+        named: false,
+    };
+    let mut world = OsWorld::new(rt.alloc(), &rt, own);
     let old = written(&mut world, name, false, b"old text")? == 8;
     let emptied = written(&mut world, name, false, b"ab")? == 2;
     let appended = written(&mut world, name, true, b"\xff\n")? == 2;

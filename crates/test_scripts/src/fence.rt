@@ -2,7 +2,7 @@
 use crate::outside::RowWorld;
 use crate::row::Row;
 use std::alloc::{AllocError, Global};
-use world_fenced::{FencedWorld, FileFence};
+use world_fenced::{FencedWorld, FileFence, Names};
 
 /// The operands of a row, as words; one that is not UTF-8 is empty.
 pub(crate) fn operands_of(alloc: Global, row: &Row) -> Result<Vec<&str>, AllocError> {
@@ -23,10 +23,13 @@ pub(crate) fn world_of<'a>(
         no_files: row.fences.no_files,
         read_only: row.fences.read_only,
         operands: if row.fences.only_operands {
-            Some(operands)
+            Some(Names::new(alloc, operands)?)
         } else {
             None
         },
+        may_read: Names::none(alloc),
+        may_write: Names::none(alloc),
+        streams: false,
     };
     Ok(FencedWorld::new(row.outside.world(alloc)?, fence))
 }

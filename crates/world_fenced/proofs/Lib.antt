@@ -1,2 +1,2 @@
 mod BehindLemmas
-mod NameLemmas
+pub mod NameLemmas

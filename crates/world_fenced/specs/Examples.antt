@@ -25,7 +25,7 @@ let_through = refl
 
 -- the fences of `--no-files`, `--read-only` and `--only-operands f`
 abbrev pub unset : FenceForm
-unset = record { no_files = false; read_only = false; operands = None }
+unset = record { no_files = false; read_only = false; operands = None; may_read = []; may_write = []; streams = false }
 
 abbrev pub no_files : FenceForm
 no_files = record unset { no_files = true }
@@ -67,3 +67,46 @@ operand_write = refl
 -- of two fences each takes names away
 pub both_read : lets_read (record only_f { no_files = true }) (codes "f") ≡ false
 both_read = refl
+
+-- a name that is listed is let through by every fence
+pub listed_read : lets_read (record no_files { may_read = codes "f" ∷ [] }) (codes "f") ≡ true
+listed_read = refl
+
+pub listed_write : lets_write (record read_only { may_write = codes "f" ∷ [] }) (codes "f") ≡ true
+listed_write = refl
+
+-- of no fence beside it a list keeps all others out, one way
+pub unlisted_read : lets_read (record unset { may_read = codes "f" ∷ [] }) (codes "g") ≡ false
+unlisted_read = refl
+
+pub unlisted_write : lets_write (record unset { may_write = codes "f" ∷ [] }) (codes "g") ≡ false
+unlisted_write = refl
+
+pub written_not_read : lets_read (record no_files { may_write = codes "f" ∷ [] }) (codes "f") ≡ false
+written_not_read = refl
+
+pub read_where_written : lets_read (record unset { may_write = codes "f" ∷ [] }) (codes "g") ≡ true
+read_where_written = refl
+
+-- operands stay, beside a list
+pub operand_beside_list : lets_read (record only_f { may_read = codes "g" ∷ [] }) (codes "f") ≡ true
+operand_beside_list = refl
+
+-- the program's own streams are no files: they are let through one way, by every fence
+abbrev pub with_streams : FenceForm
+with_streams = record no_files { streams = true }
+
+pub stream_read : lets_read with_streams (codes "/dev/stdin") ≡ true
+stream_read = refl
+
+pub stream_written : lets_write with_streams (codes "/dev/stdout") ≡ true
+stream_written = refl
+
+pub errors_written : lets_write with_streams (codes "/dev/stderr") ≡ true
+errors_written = refl
+
+pub input_not_written : lets_write with_streams (codes "/dev/stdin") ≡ false
+input_not_written = refl
+
+pub stream_is_a_file : lets_write no_files (codes "/dev/stdout") ≡ false
+stream_is_a_file = refl

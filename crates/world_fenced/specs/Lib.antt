@@ -1,3 +1,5 @@
+pub mod Named
 pub mod Fences
 pub mod Behind
+pub mod Limits
 pub mod Examples

@@ -1,6 +1,9 @@
 //! Fences: which names may be opened.
-ghost use Rattle.std.specs.Prelude.{◌≡◌, ℕ, List, Bool};
-ghost use Rattle.world_fenced.specs.Fences.{is_one_borrowed, lets_read, lets_write, no_name};
+ghost use Rattle.std.specs.Prelude.{◌≡◌, ℕ, List, Bool, ◌&&◌, not, option_map};
+ghost use Rattle.world_fenced.specs.Fences.{is_absent, is_empty, is_open, lets_read, lets_write, list_of, no_name};
+
+use crate::Names;
+use world_os::{names_errors, names_input, names_output};
 
 /// Which names may be opened, for reading and for writing. The standard streams have no names: no fence is about them.
 pub trait Fence: Drop {
@@ -50,22 +53,48 @@ impl Fence for NoFiles {
     ghost both = { λ _ _ _. refl };
 }
 
-/// The fence of a command line. Each part that is set takes names away; without any every name is let through.
-#[derive(Clone, Copy, Drop)]
+/// The fence of a command line. Without any part every name is let through. Of the parts that are set each takes names away, but for names that are listed
+/// and names of the program's own streams: these are let through by all parts.
+#[derive(Drop)]
 pub struct FileFence<'a> {
     /// No name is let through.
     pub no_files: bool,
     /// No name is let through for writing.
     pub read_only: bool,
     /// None but these names are let through for reading, and none for writing.
-    pub operands: Option<&'a [&'a str]>,
+    pub operands: Option<Names<'a>>,
+    /// The names that are listed for reading. If there are some, no others but operands are let through for reading.
+    pub may_read: Names<'a>,
+    /// The names that are listed for writing. If there are some, no others are let through for writing.
+    pub may_write: Names<'a>,
+    /// Names mean the program's own streams: they are no files.
+    pub streams: bool,
 }
 
-/// Whether a name is one of these.
-fn is_one_of(names: &[&str], name: &[u8]) -> bool
-    ensures { result ≡ is_one_borrowed names.now name.now }
-{
-    names.iter().any(|n| n.as_bytes() == name)
+impl<'a> FileFence<'a> {
+    /// Whether a name may be read that is not listed and means no stream.
+    fn reads_unlisted(&self, name: &[u8]) -> bool
+        ensures { result ≡ (not self.now.no_files
+            && is_open (option_map list_of self.now.operands) (list_of self.now.may_read) name.now) }
+    {
+        if self.no_files {
+            return false;
+        }
+        match &self.operands {
+            Some(operands) => operands.contains(name),
+            None => self.may_read.is_empty(),
+        }
+    }
+
+    /// Whether a name may be written that is not listed and means no stream.
+    fn writes_unlisted(&self) -> bool
+        ensures { result ≡ (not self.now.no_files
+            && (not self.now.read_only && (is_absent (option_map list_of self.now.operands)
+            && is_empty (list_of self.now.may_write)))) }
+    {
+        let fenced = self.no_files || self.read_only || self.operands.is_some();
+        !fenced && self.may_write.is_empty()
+    }
 }
 
 impl<'a> Fence for FileFence<'a> {
@@ -77,19 +106,16 @@ impl<'a> Fence for FileFence<'a> {
 
     ghost writes = { λ fence. lets_write (form_of fence) };
 
-    #[tactic(auto, using(crate::proofs::NameLemmas::one_of_borrowed))]
     fn lets_read(&self, name: &[u8]) -> bool {
-        if self.no_files {
-            return false;
-        }
-        match self.operands {
-            Some(operands) => is_one_of(operands, name),
-            None => true,
-        }
+        (self.streams && names_input(name))
+            || self.may_read.contains(name)
+            || self.reads_unlisted(name)
     }
 
-    fn lets_write(&self, _name: &[u8]) -> bool {
-        !self.no_files && !self.read_only && self.operands.is_none()
+    fn lets_write(&self, name: &[u8]) -> bool {
+        (self.streams && (names_output(name) || names_errors(name)))
+            || self.may_write.contains(name)
+            || self.writes_unlisted()
     }
 
     ghost both = { λ no. absurd no };

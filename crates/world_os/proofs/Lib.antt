@@ -1,1 +1,2 @@
 pub mod OsStreamLemmas
+pub mod PathLemmas

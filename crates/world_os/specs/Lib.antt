@@ -1,1 +1,2 @@
+pub mod StreamNames
 pub mod OsStreams

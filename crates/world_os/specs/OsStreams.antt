@@ -1,5 +1,5 @@
 -- The streams of a world over real files: what each is open for, and which names are paths.
-use Rattle.std.specs.Prelude.{◌≡◌, ◌≢◌, ℕ, zero, suc, ◌<◌, List, [], length, get_or, Bool, true, not, Option, None}
+use Rattle.std.specs.Prelude.{◌≡◌, ◌≢◌, ℕ, zero, suc, ◌<◌, List, [], length, get_or, Bool, true, ◌&&◌, not, if◌then◌else◌, Option, None, Some}
 use Rattle.std.specs.Fs.{new_options, with_append, with_create, with_truncate, with_write}
 use Rattle.std.specs.declared.fs.options.OpenOptions.{OpenOptions}
 use Rattle.std.specs.Str.{IsUtf8}
@@ -7,7 +7,8 @@ use Rattle.world_core.specs.Calls.{Kind, Closed as NotOpen, Reading, Writing}
 use Rattle.world_core.specs.WorldState.{State, Standard, absent}
 use Rattle.world_core.specs.declared.world.Ending.TheVariants.{End}
 use Rattle.world_os.specs.declared.world.OsStream.{OsStream}
-use Rattle.world_os.specs.declared.world.OsStream.TheVariants.{Closed, Reader, Writer}
+use Rattle.world_os.specs.declared.world.OsStream.TheVariants.{Closed, Errors, Input, Output, Reader, Writer}
+use Rattle.world_os.specs.StreamNames.{is_errors, is_input, is_output}
 
 -- a name is a path where it is not empty and UTF-8
 abbrev pub IsPath : List ℕ → Type 0
@@ -17,6 +18,9 @@ abbrev pub os_kind : {F : Type 0} → OsStream F → Kind
 os_kind Closed = NotOpen
 os_kind (Reader file) = Reading
 os_kind (Writer file) = Writing
+os_kind Input = Reading
+os_kind Output = Writing
+os_kind Errors = Writing
 
 -- streams 0 and 1 are the standard ones
 abbrev pub os_kinds : {F : Type 0} → List (OsStream F) → ℕ → Kind
@@ -39,12 +43,41 @@ abbrev pub left_of : {F : Type 0} → (F → Option (List ℕ)) → OsStream F �
 left_of remaining Closed = None
 left_of remaining (Reader file) = remaining file
 left_of remaining (Writer file) = None
+left_of remaining Input = None
+left_of remaining Output = None
+left_of remaining Errors = None
 
 -- what the file of a stream holds, where the file tells
 abbrev pub held_by : {F : Type 0} → (F → Option (List ℕ)) → OsStream F → Option (List ℕ)
 held_by contents Closed = None
 held_by contents (Reader file) = None
 held_by contents (Writer file) = contents file
+held_by contents Input = None
+held_by contents Output = None
+held_by contents Errors = None
+
+-- what a name means where it is opened: a file, or one of the program's own streams
+pub data Meaning : Type 0 where
+  File : Meaning
+  OwnInput : Meaning
+  OwnOutput : Meaning
+  OwnErrors : Meaning
+
+-- opened for reading, where names of streams mean the streams or do not
+abbrev pub read_as : Bool → List ℕ → Meaning
+read_as named name = if named && is_input name then OwnInput else File
+
+-- opened for writing
+abbrev pub written_as : Bool → List ℕ → Meaning
+written_as named name = if named && is_output name then OwnOutput else if named && is_errors name then OwnErrors else File
+
+abbrev pub meaning_of : {F : Type 0} → OsStream F → Option Meaning
+meaning_of Closed = None
+meaning_of (Reader file) = Some File
+meaning_of (Writer file) = Some File
+meaning_of Input = Some OwnInput
+meaning_of Output = Some OwnOutput
+meaning_of Errors = Some OwnErrors
 
 -- how a file is opened for writing: created where it is absent, and at its end or emptied
 abbrev pub writing : Bool → OpenOptions

@@ -1,9 +1,10 @@
 //! A world over real files, which tells nothing of what they hold.
-ghost use Rattle.std.specs.Prelude.{◌≡◌, ◌≢◌, ◌<◌, ◌≤◌, [], length, Err, IfErr, IfOk, MatchOption, OnErr};
-ghost use Rattle.world_os.specs.OsStreams.{held_by, IsPath, left_of, os_kind, os_kinds, OthersStay, stream_at, writing};
+ghost use Rattle.std.specs.Prelude.{◌≡◌, ◌≢◌, ◌<◌, ◌≤◌, [], length, Err, IfErr, IfNone, IfOk, IfSome, MatchOption, OnErr, Some};
+ghost use Rattle.world_os.specs.OsStreams.{File, held_by, IsPath, left_of, meaning_of, os_kind, os_kinds, OthersStay, read_as, stream_at, writing, written_as};
 ghost use Rattle.std.specs.Io.KnownBytes.{ReadConsumes, WriteAppends};
 ghost use Rattle.world_core.specs.Calls.{Closed, next_count, Opens, Reading, set_kind, Writing};
 
+use crate::names::{names_errors, names_input, names_output};
 use std::alloc::Global;
 use std::fs;
 use std::fs::OpenOptions;
@@ -60,11 +61,15 @@ fn counted_write<O: Write>(to: &mut O, text: &[u8], failures: &mut u64) -> Resul
     }
 }
 
+/// A stream of a name: a file, or one of the program's own streams.
 #[derive(Drop)]
 pub(crate) enum OsStream<F: Drop> {
     Closed,
     Reader(F),
     Writer(F),
+    Input,
+    Output,
+    Errors,
 }
 
 /// How a file is opened for writing: created where it is absent, and at its end or emptied.
@@ -80,8 +85,18 @@ fn write_options(append: bool) -> OpenOptions
     options
 }
 
-fn open_to_write<R: Files>(files: &R, path: &str, append: bool) -> Option<R::File> {
-    write_options(append).open(files, path).ok()
+/// The file of a name, opened for reading.
+fn open_to_read<R: Files>(files: &R, name: &[u8]) -> Option<R::File>
+    ensures { IfSome result (λ file. IsPath name.now) }
+{
+    fs::open(files, path_of(name)?).ok()
+}
+
+/// The file of a name, opened for writing, at its end or emptied.
+fn open_to_write<R: Files>(files: &R, name: &[u8], append: bool) -> Option<R::File>
+    ensures { IfSome result (λ file. IsPath name.now) }
+{
+    write_options(append).open(files, path_of(name)?).ok()
 }
 
 /// Puts a stream behind the others, and gives its number.
@@ -91,6 +106,7 @@ fn add_stream<F: Drop>(
 ) -> Result<u32, WorldFault>
     ensures opened { IfOk result (λ id. Opens (os_kind stream) id (os_kinds streams.old.items)
         (os_kinds streams.new.items)) }
+    ensures stream { IfOk result (λ id. stream_at streams.new.items id ≡ stream) }
     ensures others { IfOk result (λ id. OthersStay id streams.old.items streams.new.items) }
     ensures err { OnErr result (streams.new.items ≡ streams.old.items) }
     ensures not_failed { IfErr result (λ fault. fault ≡ WorldFault.NoMemory) }
@@ -105,33 +121,86 @@ fn add_stream<F: Drop>(
     Ok(id)
 }
 
-/// A world over real files, a standard input and a standard output. It keeps nothing back: each write is one call of the system.
+/// The program's own streams, as a world is given them.
 #[derive(Drop)]
-pub struct OsWorld<'a, R: Files, I: Read + Drop, O: Write + Drop> {
+pub struct OwnStreams<I: Read + Drop, O: Write + Drop, E: Write + Drop> {
+    /// The standard input.
+    pub input: I,
+    /// The standard output.
+    pub output: O,
+    /// The standard error.
+    pub errors: E,
+    /// Whether the file names `/dev/stdin`, `/dev/stdout` and `/dev/stderr` mean these streams.
+    pub named: bool,
+}
+
+/// A world over real files and the program's own streams. It keeps nothing back: each write is one call of the system.
+#[derive(Drop)]
+pub struct OsWorld<'a, R: Files, I: Read + Drop, O: Write + Drop, E: Write + Drop> {
     files: &'a R,
     input: I,
     output: O,
+    errors: E,
+    named: bool,
     streams: Vec<OsStream<R::File>>,
     failures: u64,
 }
 
-impl<'a, R: Files, I: Read + Drop, O: Write + Drop> OsWorld<'a, R, I, O> {
+impl<'a, R: Files, I: Read + Drop, O: Write + Drop, E: Write + Drop> OsWorld<'a, R, I, O, E> {
     /// A world with nothing open but the standard streams, in which nothing has failed. It takes no memory.
-    pub fn new(alloc: Global, files: &'a R, input: I, output: O) -> OsWorld<'a, R, I, O>
+    pub fn new(alloc: Global, files: &'a R, own: OwnStreams<I, O, E>) -> OsWorld<'a, R, I, O, E>
         ensures streams { result.streams.items ≡ [] }
         ensures count { result.failures ≡ 0 }
+        ensures named { result.named ≡ own.named }
+        ensures input { result.input ≡ own.input }
+        ensures output { result.output ≡ own.output }
+        ensures errors { result.errors ≡ own.errors }
     {
         OsWorld {
             files,
-            input,
-            output,
+            input: own.input,
+            output: own.output,
+            errors: own.errors,
+            named: own.named,
             streams: Vec::new(alloc),
             failures: 0,
         }
     }
+
+    /// The stream of a name, opened for reading; none where the name does not open.
+    fn to_read(&self, name: &[u8]) -> Option<OsStream<R::File>>
+        ensures kind { IfSome result (λ stream. os_kind stream ≡ Reading) }
+        ensures path { IfSome result (λ stream. IsPath name.now) }
+        ensures means { IfSome result
+            (λ stream. meaning_of stream ≡ Some (read_as self.now.named name.now)) }
+        ensures file { IfNone result (read_as self.now.named name.now ≡ File) }
+    {
+        if self.named && names_input(name) {
+            return Some(OsStream::Input);
+        }
+        Some(OsStream::Reader(open_to_read(self.files, name)?))
+    }
+
+    /// The stream of a name, opened for writing; none where the name does not open.
+    fn to_write(&self, name: &[u8], append: bool) -> Option<OsStream<R::File>>
+        ensures kind { IfSome result (λ stream. os_kind stream ≡ Writing) }
+        ensures path { IfSome result (λ stream. IsPath name.now) }
+        ensures means { IfSome result
+            (λ stream. meaning_of stream ≡ Some (written_as self.now.named name.now)) }
+        ensures file { IfNone result (written_as self.now.named name.now ≡ File) }
+    {
+        if self.named && names_output(name) {
+            return Some(OsStream::Output);
+        }
+        if self.named && names_errors(name) {
+            return Some(OsStream::Errors);
+        }
+        Some(OsStream::Writer(open_to_write(self.files, name, append)?))
+    }
 }
 
-impl<'a, R: Files, I: Read + Drop, O: Write + Drop> World for OsWorld<'a, R, I, O> {
+impl<'a, R: Files, I: Read + Drop, O: Write + Drop, E: Write + Drop> World
+    for OsWorld<'a, R, I, O, E> {
     ghost use Rattle.std.specs.Prelude.{refl};
     ghost use Rattle.world_os.specs.OsStreams.{os_kinds, no_state};
 
@@ -154,15 +223,16 @@ impl<'a, R: Files, I: Read + Drop, O: Write + Drop> World for OsWorld<'a, R, I, 
         ensures others { IfOk result
             (λ id. OthersStay id self.old.streams.items self.new.streams.items) }
         ensures stay { OnErr result (self.new.streams.items ≡ self.old.streams.items) }
+        ensures means { IfOk result (λ id. meaning_of (stream_at self.new.streams.items id)
+            ≡ Some (read_as self.old.named name.now)) }
+        ensures own { result ≡ Err WorldFault.Failed → read_as self.old.named name.now ≡ File }
         ensures input { self.new.input ≡ self.old.input }
         ensures output { self.new.output ≡ self.old.output }
+        ensures errors { self.new.errors ≡ self.old.errors }
+        ensures named { self.new.named ≡ self.old.named }
     {
-        let opened = match path_of(name) {
-            Some(path) => fs::open(self.files, path).ok(),
-            None => None,
-        };
-        match opened {
-            Some(file) => add_stream(&mut self.streams, OsStream::Reader(file)),
+        match self.to_read(name) {
+            Some(stream) => add_stream(&mut self.streams, stream),
             None => failed(&mut self.failures),
         }
     }
@@ -178,15 +248,16 @@ impl<'a, R: Files, I: Read + Drop, O: Write + Drop> World for OsWorld<'a, R, I, 
         ensures others { IfOk result
             (λ id. OthersStay id self.old.streams.items self.new.streams.items) }
         ensures stay { OnErr result (self.new.streams.items ≡ self.old.streams.items) }
+        ensures means { IfOk result (λ id. meaning_of (stream_at self.new.streams.items id)
+            ≡ Some (written_as self.old.named name.now)) }
+        ensures own { result ≡ Err WorldFault.Failed → written_as self.old.named name.now ≡ File }
         ensures input { self.new.input ≡ self.old.input }
         ensures output { self.new.output ≡ self.old.output }
+        ensures errors { self.new.errors ≡ self.old.errors }
+        ensures named { self.new.named ≡ self.old.named }
     {
-        let opened = match path_of(name) {
-            Some(path) => open_to_write(self.files, path, append),
-            None => None,
-        };
-        match opened {
-            Some(file) => add_stream(&mut self.streams, OsStream::Writer(file)),
+        match self.to_write(name, append) {
+            Some(stream) => add_stream(&mut self.streams, stream),
             None => failed(&mut self.failures),
         }
     }
@@ -201,14 +272,21 @@ impl<'a, R: Files, I: Read + Drop, O: Write + Drop> World for OsWorld<'a, R, I, 
         ensures own { 1 < id
             → ReadConsumes (left_of R.File.remaining (stream_at self.old.streams.items id))
             (left_of R.File.remaining (stream_at self.new.streams.items id)) result buffer.new }
+        ensures from_input { stream_at self.old.streams.items id ≡ OsStream.Input
+            → ReadConsumes (I.remaining self.old.input) (I.remaining self.new.input) result
+            buffer.new }
         ensures others { OthersStay id self.old.streams.items self.new.streams.items }
-        ensures input { 1 < id → self.new.input ≡ self.old.input }
+        ensures input { id ≢ 0 → stream_at self.old.streams.items id ≢ OsStream.Input
+            → self.new.input ≡ self.old.input }
         ensures output { self.new.output ≡ self.old.output }
+        ensures errors { self.new.errors ≡ self.old.errors }
+        ensures named { self.new.named ≡ self.old.named }
     {
         if id == 0 {
             return counted_read(&mut self.input, buffer, &mut self.failures);
         }
         match &mut self.streams[id as usize - 2] {
+            OsStream::Input => counted_read(&mut self.input, buffer, &mut self.failures),
             OsStream::Reader(file) => counted_read(file, buffer, &mut self.failures),
             _ => unreachable!(),
         }
@@ -225,14 +303,24 @@ impl<'a, R: Files, I: Read + Drop, O: Write + Drop> World for OsWorld<'a, R, I, 
         ensures own { 1 < id
             → WriteAppends (held_by R.File.contents (stream_at self.old.streams.items id))
             (held_by R.File.contents (stream_at self.new.streams.items id)) result text.now }
+        ensures to_output { stream_at self.old.streams.items id ≡ OsStream.Output → WriteAppends
+            (O.contents self.old.output) (O.contents self.new.output) result text.now }
+        ensures to_errors { stream_at self.old.streams.items id ≡ OsStream.Errors → WriteAppends
+            (E.contents self.old.errors) (E.contents self.new.errors) result text.now }
         ensures others { OthersStay id self.old.streams.items self.new.streams.items }
         ensures input { self.new.input ≡ self.old.input }
-        ensures output { 1 < id → self.new.output ≡ self.old.output }
+        ensures output { id ≢ 1 → stream_at self.old.streams.items id ≢ OsStream.Output
+            → self.new.output ≡ self.old.output }
+        ensures errors { stream_at self.old.streams.items id ≢ OsStream.Errors
+            → self.new.errors ≡ self.old.errors }
+        ensures named { self.new.named ≡ self.old.named }
     {
         if id == 1 {
             return counted_write(&mut self.output, text, &mut self.failures);
         }
         match &mut self.streams[id as usize - 2] {
+            OsStream::Output => counted_write(&mut self.output, text, &mut self.failures),
+            OsStream::Errors => counted_write(&mut self.errors, text, &mut self.failures),
             OsStream::Writer(file) => counted_write(file, text, &mut self.failures),
             _ => unreachable!(),
         }
@@ -247,6 +335,8 @@ impl<'a, R: Files, I: Read + Drop, O: Write + Drop> World for OsWorld<'a, R, I, 
         ensures others { OthersStay id self.old.streams.items self.new.streams.items }
         ensures input { self.new.input ≡ self.old.input }
         ensures output { self.new.output ≡ self.old.output }
+        ensures errors { self.new.errors ≡ self.old.errors }
+        ensures named { self.new.named ≡ self.old.named }
     {
         self.streams[id as usize - 2] = OsStream::Closed;
     }

@@ -3,5 +3,5 @@ use Rattle.world_core.specs.Calls.{Writing}
 use Rattle.world_os.proofs.OsStreamLemmas.{kept, writer_above, not_writing}
 use Rattle.world_os.proofs.world.OsWorldWorld.write.Goals as goal
 
-pub returns-clause-kinds : goal.returns-clause-kinds
-returns-clause-kinds g c = kept c.args.self.now.streams.items c.args.id _ Writing not_writing (writer_above c.args.self.now.streams.items c.args.id c.if-id-eq1.false c.requires) c.requires refl
+pub returns-in-Writer-clause-kinds : goal.returns-in-Writer-clause-kinds
+returns-in-Writer-clause-kinds g c = kept c.args.self.now.streams.items c.args.id _ Writing not_writing (writer_above c.args.self.now.streams.items c.args.id c.if-id-eq1.false c.requires) c.requires refl
