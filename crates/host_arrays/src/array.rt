@@ -10,6 +10,9 @@ use std::alloc::{AllocError, Global};
 use std::hash::RandomState;
 use std::marker::Model;
 
+/// An array of at most so many pairs keeps its room when it is cleared.
+const SMALL: usize = 256;
+
 /// A value, and the place of its key in the order.
 #[derive(Drop)]
 pub(crate) struct Held {
@@ -49,6 +52,21 @@ fn copy_of(value: &Value) -> Result<Value, AllocError>
     ensures { IfOk result (λ copy. copy ≡ value.now) }
 {
     value.clone()
+}
+
+/// A text that is stored may keep a text in memory that is longer by this many bytes than twice its own length.
+const MOST_MORE: usize = 256;
+
+/// The same text, to be stored where texts may be parts of others of up to `longest` bytes: a copy, unless what it may keep in memory is little more than
+/// twice its bytes.
+pub(crate) fn stored(alloc: Global, text: &Bytes, longest: usize) -> Result<Bytes, AllocError>
+    ensures { IfOk result (λ stored. stored ≡ text.now) }
+{
+    if longest > MOST_MORE && (longest - MOST_MORE) / 2 > text.len() {
+        Bytes::from_slice(alloc, text.as_slice())
+    } else {
+        text.clone()
+    }
 }
 
 /// Whether a key stands at this place of the map.
@@ -120,15 +138,29 @@ impl Array {
         }
     }
 
+    /// Takes all pairs out, and keeps the room that they took.
+    pub(crate) fn clear(&mut self)
+        ensures { self.new ≡ [] }
+    {
+        self.pairs.clear();
+        self.order.clear();
+        self.last = 0;
+    }
+
+    /// Whether it takes little room.
+    pub(crate) fn is_small(&self) -> bool {
+        self.pairs.capacity() <= SMALL && self.order.capacity() <= SMALL
+    }
+
     /// Adds a pair of a key that has none, or hands the value back.
-    fn add(&mut self, key: &Bytes, value: Value) -> Result<(), Value>
+    fn add(&mut self, key: &Bytes, value: Value, longest: usize) -> Result<(), Value>
         requires { get_pair key.now self.old ≡ None }
         ensures added { OnOk result (self.new ≡ set_pair key.now value self.old) }
         ensures refused { OnErr result (self.new ≡ self.old) }
         ensures handed_back { IfErr result (λ v. v ≡ value) }
     {
         let place = self.order.len();
-        let Ok(own) = key.kept(*self.pairs.allocator()) else {
+        let Ok(own) = stored(*self.pairs.allocator(), key, longest) else {
             return Err(value);
         };
         let Ok(listed) = own.clone() else {
@@ -147,8 +179,8 @@ impl Array {
         }
     }
 
-    /// Puts a value at a key, or hands it back.
-    pub(crate) fn set(&mut self, key: &Bytes, value: Value) -> Result<(), Value>
+    /// Puts a value at a key, or hands it back. Texts may be parts of others of up to `longest` bytes.
+    pub(crate) fn set(&mut self, key: &Bytes, value: Value, longest: usize) -> Result<(), Value>
         ensures set { OnOk result (self.new ≡ set_pair key.now value self.old) }
         ensures refused { OnErr result (self.new ≡ self.old) }
         ensures handed_back { IfErr result (λ v. v ≡ value) }
@@ -161,11 +193,11 @@ impl Array {
             held.value = value;
             return Ok(());
         }
-        self.add(key, value)
+        self.add(key, value, longest)
     }
 
-    /// A copy of the value at a key, which is created where it is missing.
-    pub(crate) fn get_or_create(&mut self, key: &Bytes) -> Result<Value, AllocError>
+    /// A copy of the value at a key, which is created where it is missing. Keys may be parts of texts of up to `longest` bytes.
+    pub(crate) fn get_or_create(&mut self, key: &Bytes, longest: usize) -> Result<Value, AllocError>
         ensures value { IfOk result (λ v. v ≡ value_or_uninit (get_pair key.now self.old)) }
         ensures created { OnOk result (self.new ≡ created key.now self.old) }
         ensures refused { OnErr result (self.new ≡ self.old) }
@@ -176,7 +208,7 @@ impl Array {
             return Ok(copy);
         }
         let place = self.pairs.len();
-        let Ok(()) = self.add(key, Value::Uninit) else {
+        let Ok(()) = self.add(key, Value::Uninit, longest) else {
             return Err(AllocError);
         };
         self.last = place;

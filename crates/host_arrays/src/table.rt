@@ -6,7 +6,7 @@ ghost use Rattle.std.specs.Map.{keys_of};
 ghost use Rattle.std.specs.Borrow.{Lends, sem};
 ghost use Rattle.host_arrays.specs.Pairs.{Pairs, get_pair, set_pair, delete_pair, pairs_at, created, first_arrays, value_or_uninit};
 
-use crate::array::Array;
+use crate::array::{Array, stored};
 use awk_values::{Bytes, Value};
 use host_handles::MAX_SLOTS;
 use slab::Slab;
@@ -39,18 +39,22 @@ impl Model for Arrays {
     ghost view = { λ t. table t.slab.slots };
 }
 
-/// The same value, to be kept for long ([`Value::kept`]), or handed back where there is no memory. What is no text is kept as it is.
+/// The same value, to be stored where texts may be parts of others of up to `longest` bytes; or handed back where there is no memory.
 #[inline(always)]
-fn to_keep(alloc: Global, value: Value) -> Result<Value, Value>
+fn to_keep(alloc: Global, value: Value, longest: usize) -> Result<Value, Value>
     ensures kept { IfOk result (λ kept. kept ≡ value) }
     ensures handed_back { IfErr result (λ v. v ≡ value) }
 {
     match value {
         Value::Uninit => Ok(Value::Uninit),
         Value::Num(number) => Ok(Value::Num(number)),
-        text => match text.kept(alloc) {
-            Ok(kept) => Ok(kept),
-            Err(_) => Err(text),
+        Value::Text(text) => match stored(alloc, &text, longest) {
+            Ok(kept) => Ok(Value::Text(kept)),
+            Err(_) => Err(Value::Text(text)),
+        },
+        Value::StrNum(text) => match stored(alloc, &text, longest) {
+            Ok(kept) => Ok(Value::StrNum(kept)),
+            Err(_) => Err(Value::StrNum(text)),
         },
     }
 }
@@ -169,12 +173,18 @@ impl Arrays {
         self.array(number).get(key)
     }
 
-    /// A copy of the value at a key of the array. A key without a pair is created uninitialised, and goes last.
+    /// A copy of the value at a key of the array. A key without a pair is created uninitialised, and goes last. The key may be a part of a text of up to
+    /// `longest` bytes; what is stored of it is then a copy, unless it keeps at most 256 bytes more than twice its own in memory.
     ///
     /// # Errors
     ///
     /// There is no memory; nothing changes.
-    pub fn get_or_create(&mut self, number: i32, key: &Bytes) -> Result<Value, AllocError>
+    pub fn get_or_create(
+        &mut self,
+        number: i32,
+        key: &Bytes,
+        longest: usize,
+    ) -> Result<Value, AllocError>
         requires { map.contains_key self.old number ≡ true }
         ensures value { IfOk result
             (λ v. v ≡ value_or_uninit (get_pair key.now (pairs_at self.old number))) }
@@ -182,24 +192,30 @@ impl Arrays {
             (self.new ≡ map.insert self.old number (created key.now (pairs_at self.old number))) }
         ensures refused { OnErr result (self.new ≡ self.old) }
     {
-        self.array_mut(number).get_or_create(key)
+        self.array_mut(number).get_or_create(key, longest)
     }
 
-    /// Puts a value at a key of the array. A key that has a pair keeps its place; a new one goes last. What is stored keeps no large text in memory for a
-    /// small part of it ([`Bytes::kept`]).
+    /// Puts a value at a key of the array. A key that has a pair keeps its place; a new one goes last. Key and value may be parts of texts of up to `longest`
+    /// bytes; what is stored of them is then a copy, unless it keeps at most 256 bytes more than twice its own in memory.
     ///
     /// # Errors
     ///
     /// The value is handed back where there is no memory; nothing changes.
-    pub fn set(&mut self, number: i32, key: &Bytes, value: Value) -> Result<(), Value>
+    pub fn set(
+        &mut self,
+        number: i32,
+        key: &Bytes,
+        value: Value,
+        longest: usize,
+    ) -> Result<(), Value>
         requires { map.contains_key self.old number ≡ true }
         ensures set { OnOk result (self.new
             ≡ map.insert self.old number (set_pair key.now value (pairs_at self.old number))) }
         ensures refused { OnErr result (self.new ≡ self.old) }
         ensures handed_back { IfErr result (λ v. v ≡ value) }
     {
-        let kept = to_keep(self.alloc, value)?;
-        self.array_mut(number).set(key, kept)
+        let kept = to_keep(self.alloc, value, longest)?;
+        self.array_mut(number).set(key, kept, longest)
     }
 
     /// Takes a key out of the array, where it has one. The others keep their order. It takes no memory, and the time of a few calls on average.
@@ -211,11 +227,15 @@ impl Arrays {
         self.array_mut(number).delete(key);
     }
 
-    /// Takes all keys out of the array. It takes no memory.
+    /// Takes all keys out of the array. It takes no memory. A small array keeps the room of its pairs.
     pub fn clear(&mut self, number: i32)
         requires { map.contains_key self.old number ≡ true }
         ensures { self.new ≡ map.insert self.old number [] }
     {
+        if self.array(number).is_small() {
+            self.array_mut(number).clear();
+            return;
+        }
         let none = Array::new(self.alloc, self.state);
         *self.array_mut(number) = none;
     }

@@ -104,6 +104,8 @@ pub struct Record {
     /// Room for the text of `$0` that is yet to be built.
     room: Vec<u8>,
     last: Option<LastSep>,
+    /// The length of the longest text that `$0` was set to.
+    longest: usize,
 }
 
 /// `$0` gets another text.
@@ -149,6 +151,7 @@ impl Record {
             spare_between: Vec::new(alloc),
             room: Vec::new(alloc),
             last: None,
+            longest: 0,
         }
     }
 
@@ -169,6 +172,7 @@ impl Record {
                 let newlines = do_newlines_separate(fs, rs);
                 self.own.clear();
                 self.form = Form::Later(by, newlines);
+                self.longest = self.longest.max(text.len());
                 put_text(&mut self.whole, text);
                 return Ok(());
             }
@@ -197,6 +201,7 @@ impl Record {
         swap(&mut self.spans, &mut self.spare);
         self.own.clear();
         self.form = Form::Parts;
+        self.longest = self.longest.max(text.len());
         put_text(&mut self.whole, text);
         Ok(())
     }
@@ -255,6 +260,12 @@ impl Record {
         swap(&mut self.between, &mut self.spare_between);
         self.form = Form::Unbuilt(size);
         Ok(())
+    }
+
+    /// The length of the longest text that `$0` was set to: a field's text is a part of one at most as long.
+    #[inline(always)]
+    pub fn longest(&self) -> usize {
+        self.longest
     }
 
     /// `$0`. It takes no memory.

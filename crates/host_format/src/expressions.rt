@@ -1,5 +1,5 @@
 //! The expressions that were met last.
-ghost use Rattle.std.specs.Prelude.{◌≡◌, IfErr, IfOk, IsSome, OnOk, Some, true};
+ghost use Rattle.std.specs.Prelude.{◌≡◌, ◌<◌, IfErr, IfOk, IfSome, IsSome, OnOk, Some, length, slice_get, true};
 ghost use Rattle.sem_primitives.specs.FirstMatch.{expression_of};
 ghost use Rattle.host_format.specs.Outcomes.{IsStopOf};
 
@@ -8,18 +8,23 @@ use awk_values::{Bytes, Stop};
 use lru::LruCache;
 use std::alloc::{AllocError, Global};
 use std::marker::Model;
-use std::mem::replace;
+use std::mem::{replace, swap};
 use std::num::NonZeroUsize;
 
-/// How many are kept beside the last one.
-const MANY: usize = 63;
+/// How many are near.
+const NEAR: usize = 3;
+
+/// How many are kept beside the last one and those near.
+const MANY: usize = 60;
 
 /// The matchers of the last texts that were asked for. They change no answer, so a clause sees nothing of them.
 #[derive(Drop)]
 pub struct Expressions {
     /// The one that was asked for last: a script asks for most again at once, and then no text is hashed.
     last: Option<Matcher>,
-    /// Those that were asked for before it.
+    /// A few that were asked for before it, in any order. They are found by their texts, without a hash.
+    near: Vec<Matcher>,
+    /// Those that were asked for before them.
     before: LruCache<Bytes, Matcher>,
 }
 
@@ -74,10 +79,20 @@ fn keep(before: &mut LruCache<Bytes, Matcher>, matcher: Matcher) {
     }
 }
 
+/// Keeps the matcher that was the last one near, in place of one that is kept apart.
+fn move_near(near: &mut Vec<Matcher>, before: &mut LruCache<Bytes, Matcher>, former: Matcher) {
+    if near.len() < NEAR {
+        let _ = near.push(former);
+        return;
+    }
+    keep(before, replace(&mut near[0], former));
+}
+
 /// Puts the matcher of a text in the place of the last one, which is kept. It stands apart for its large locals.
 #[inline(never)]
 fn fetch(
     last: &mut Option<Matcher>,
+    near: &mut Vec<Matcher>,
     before: &mut LruCache<Bytes, Matcher>,
     alloc: Global,
     text: &Bytes,
@@ -87,15 +102,52 @@ fn fetch(
 {
     let matcher = take_or_make(before, alloc, text)?;
     if let Some(former) = replace(last, Some(matcher)) {
-        keep(before, former);
+        move_near(near, before, former);
     }
     Ok(())
+}
+
+/// The place of the matcher of a text near, where it is there.
+fn place_near(near: &[Matcher], text: &Bytes) -> Option<usize>
+    ensures { IfSome result (λ place. slice_get near.now place ≡ Some text.now) }
+{
+    for place in 0..near.len() {
+        if near[place].is_of(text) {
+            return Some(place);
+        }
+    }
+    None
+}
+
+/// Makes the matcher at this place near the last one, in exchange for the former one.
+fn exchange(last: &mut Option<Matcher>, near: &mut [Matcher], place: usize) -> bool
+    requires { place < length near.old }
+    ensures { result ≡ true → last.new ≡ slice_get near.old place }
+{
+    match last {
+        Some(matcher) => {
+            swap(matcher, &mut near[place]);
+            true
+        }
+        None => false,
+    }
+}
+
+/// Makes the matcher of a text the last one, where it is near.
+fn recall_near(last: &mut Option<Matcher>, near: &mut Vec<Matcher>, text: &Bytes) -> bool
+    ensures { result ≡ true → last.new ≡ Some text.now }
+{
+    match place_near(near, text) {
+        Some(place) => exchange(last, near, place),
+        None => false,
+    }
 }
 
 /// Makes the matcher of a text the last one.
 #[inline(always)]
 fn recall(
     last: &mut Option<Matcher>,
+    near: &mut Vec<Matcher>,
     before: &mut LruCache<Bytes, Matcher>,
     alloc: Global,
     text: &Bytes,
@@ -106,7 +158,10 @@ fn recall(
     if is_last(last, text) {
         return Ok(());
     }
-    fetch(last, before, alloc, text)
+    if recall_near(last, near, text) {
+        return Ok(());
+    }
+    fetch(last, near, before, alloc, text)
 }
 
 impl Expressions {
@@ -118,6 +173,7 @@ impl Expressions {
     pub fn new(alloc: Global) -> Result<Expressions, AllocError> {
         Ok(Expressions {
             last: None,
+            near: Vec::new(alloc),
             before: LruCache::sparse(alloc, NonZeroUsize::new(MANY).unwrap())?,
         })
     }
@@ -131,7 +187,13 @@ impl Expressions {
         ensures ok { IfOk result (λ matcher. matcher.now ≡ text.now) }
         ensures err { IfErr result (IsStopOf (expression_of text.now)) }
     {
-        recall(&mut self.last, &mut self.before, alloc, text)?;
+        recall(
+            &mut self.last,
+            &mut self.near,
+            &mut self.before,
+            alloc,
+            text,
+        )?;
         Ok(lend(&mut self.last))
     }
 }

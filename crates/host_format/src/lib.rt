@@ -28,4 +28,4 @@ pub use matcher::Matcher;
 pub use sep::{Plain, Sep};
 pub use span::Span;
 pub use substitution::{Substituted, substitute};
-pub use text::{index_of, lower, substr, upper};
+pub use text::{index_of, lower, substr, substr_span, upper};

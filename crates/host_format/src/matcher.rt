@@ -21,7 +21,8 @@ use std::marker::Model;
 #[derive(Drop)]
 pub struct Matcher {
     text: Bytes,
-    auto: Auto,
+    /// In a box, since matchers are moved.
+    auto: Box<Auto>,
 }
 
 impl Model for Matcher {
@@ -32,7 +33,7 @@ impl Model for Matcher {
 
     ghost view = { λ m. m.text };
 
-    ghost invariant = { λ m. IsExpression m.text m.auto };
+    ghost invariant = { λ m. IsExpression m.text m.auto.value };
 }
 
 impl Matcher {
@@ -46,7 +47,10 @@ impl Matcher {
         ensures err { IfErr result (IsStopOf (expression_of text)) }
     {
         let auto = expression(alloc, text.as_slice())?;
-        Ok(Matcher { text, auto })
+        match Box::new(alloc, auto) {
+            Ok(auto) => Ok(Matcher { text, auto }),
+            Err(_) => Err(Stop::NoMemory),
+        }
     }
 
     /// Its text, shared.

@@ -144,6 +144,16 @@ fn put_replaced(
     Ok(1)
 }
 
+/// The text of these bytes, which keeps no more memory than twice their length and 256 bytes.
+fn text_of(alloc: Global, bytes: Vec<u8>) -> Result<Bytes, AllocError>
+    ensures { IfOk result (λ text. text ≡ bytes.items) }
+{
+    if bytes.capacity() / 2 > bytes.len() + 128 {
+        return Bytes::from_slice(alloc, bytes.as_slice());
+    }
+    Bytes::from_vec(bytes)
+}
+
 /// What a substitution gives where there is no match: the text itself, which is shared.
 fn unchanged(text: &Bytes) -> Result<Substituted, Stop>
     ensures ok { (t : Tree) (by : List ℕ) (all : Bool) → IsNextPlace t text.now 0 None None
@@ -184,6 +194,6 @@ pub fn substitute(
     let bytes = Vec::with_capacity(alloc, text.len())?;
     let mut out = Growing { bytes, stop: None };
     let count = put_replaced(&mut out, auto, by, text.as_slice(), all, first)?;
-    let text = Bytes::from_vec(out.all()?)?;
+    let text = text_of(alloc, out.all()?)?;
     Ok(Substituted { count, text })
 }

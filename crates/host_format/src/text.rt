@@ -1,5 +1,5 @@
 //! Parts of texts, places in them, and letters.
-ghost use Rattle.std.specs.Prelude.{◌≡◌, ◌≤◌, ℕ, IfErr, IfOk, int_lt, length, map, nat_le, pos};
+ghost use Rattle.std.specs.Prelude.{◌≡◌, ◌≤◌, ℕ, IfErr, IfOk, int_lt, length, map, nat_le, pos, slice_range};
 ghost use Rattle.sem_primitives.specs.TextMeaning.{lower, place_of, upper};
 ghost use Rattle.awk_values.specs.declared.fault.Stop.TheVariants as stops;
 ghost use Rattle.host_format.specs.Parts.{is_before_end, part};
@@ -39,9 +39,19 @@ fn places_before_end(text: &[u8], start: i64, len: Option<i64>) -> usize
 pub fn substr(text: &[u8], start: i64, len: Option<i64>) -> &[u8]
     ensures { result.now ≡ part text.now start len }
 {
+    let (first, past) = substr_span(text, start, len);
+    &text[first..past]
+}
+
+/// The same part, as the place of its first byte and the place behind its last one.
+pub fn substr_span(text: &[u8], start: i64, len: Option<i64>) -> (usize, usize)
+    ensures part { slice_range text.now result.0 result.1 ≡ part text.now start len }
+    ensures order { result.0 ≤ result.1 }
+    ensures inside { result.1 ≤ length text.now }
+{
     let first = places_before(text, i128::from(start));
     let past = places_before_end(text, start, len).max(first);
-    &text[first..past]
+    (first, past)
 }
 
 /// The first place, counted from 1, at which `wanted` stands in the text; 0 where there is none, and where `wanted` is empty.

@@ -33,7 +33,14 @@ impl Tables {
         ensures { (f : HostForm) (memory : List ℕ) → IsTableCall (Import.Of row.Elem)
             (of_tables self.old f) words.now memory result (of_tables self.new f) }
     {
-        elem(self.alloc, &mut self.arrays, &mut self.handles, words)
+        elem(
+            &mut self.key_texts,
+            self.alloc,
+            &mut self.arrays,
+            &mut self.handles,
+            words,
+            self.texts.held.longest(),
+        )
     }
 
     /// `set_elem`: gives an element a value.
@@ -47,7 +54,14 @@ impl Tables {
         ensures { (f : HostForm) (memory : List ℕ) → IsTableCall (Import.Of row.SetElem)
             (of_tables self.old f) words.now memory result (of_tables self.new f) }
     {
-        set_elem(self.alloc, &mut self.arrays, &mut self.handles, words)
+        set_elem(
+            &mut self.key_texts,
+            self.alloc,
+            &mut self.arrays,
+            &mut self.handles,
+            words,
+            self.texts.held.longest(),
+        )
     }
 
     /// `has`: whether an array has an element.
@@ -61,7 +75,13 @@ impl Tables {
         ensures { (f : HostForm) (memory : List ℕ) → IsTableCall (Import.Of row.Has)
             (of_tables self.old f) words.now memory result (of_tables self.new f) }
     {
-        has(self.alloc, &self.arrays, &mut self.handles, words)
+        has(
+            &mut self.key_texts,
+            self.alloc,
+            &self.arrays,
+            &mut self.handles,
+            words,
+        )
     }
 
     /// Takes an element away, where there is one.
@@ -70,7 +90,13 @@ impl Tables {
         ensures { (f : HostForm) (memory : List ℕ) → IsTableCall (Import.Of row.Delete)
             (of_tables self.old f) words.now memory result (of_tables self.new f) }
     {
-        delete(self.alloc, &mut self.arrays, &mut self.handles, words)
+        delete(
+            &mut self.key_texts,
+            self.alloc,
+            &mut self.arrays,
+            &mut self.handles,
+            words,
+        )
     }
 
     /// Takes all elements away.

@@ -1,5 +1,5 @@
 //! An array takes the pieces of a text.
-ghost use Rattle.std.specs.Prelude.{◌≡◌, ◌+◌, None, OnErr, OnOk, decimal, map, true};
+ghost use Rattle.std.specs.Prelude.{◌≡◌, ◌+◌, IfOk, None, OnErr, OnOk, decimal, map, true};
 ghost use Rattle.std.specs.FinMap as maps;
 ghost use Rattle.std.specs.List.{All};
 ghost use Rattle.sem_primitives.specs.ArrayMeaning.{numbered};
@@ -8,14 +8,19 @@ ghost use Rattle.host_arrays.specs.Pairs.{pairs_at, set_pair};
 ghost use Rattle.host_format.specs.Spans.{IsInside, span_text};
 ghost use Rattle.host_values.specs.Calls.{spare};
 
-use awk_text::text_of;
+use crate::byte_texts::ByteTexts;
 use awk_values::{Bytes, Value};
 use host_arrays::Arrays;
 use host_format::Span;
+use host_values::KeyTexts;
 use std::alloc::{AllocError, Global};
 
-/// Puts a text at the key that a number is.
+/// A part of a text that is longer by more than this many bytes than twice the part is copied.
+const MOST_MORE: usize = 256;
+
+/// Puts a text, which is no part of another, at the key that a number is.
 pub(crate) fn put_text(
+    keys: &mut KeyTexts,
     alloc: Global,
     arrays: &mut Arrays,
     array: i32,
@@ -30,16 +35,39 @@ pub(crate) fn put_text(
     let Ok(number) = i64::try_from(number) else {
         return Err(AllocError);
     };
-    let key = Bytes::from_slice(alloc, text_of(number).as_bytes())?;
-    match arrays.set(array, &key, Value::StrNum(text)) {
+    let key = keys.text(alloc, number)?;
+    match arrays.set(array, &key, Value::StrNum(text), 0) {
         Ok(()) => Ok(()),
         Err(_) => Err(AllocError),
     }
 }
 
-/// The array holds these parts of a text, by their numbers from 1 on, and nothing else.
-pub(crate) fn fill(
+/// A part of a text, to be stored, where the text may be a part of one of up to `longest` bytes.
+fn piece(
+    bytes: &mut ByteTexts,
     alloc: Global,
+    longest: usize,
+    text: &Bytes,
+    span: Span,
+) -> Result<Bytes, AllocError>
+    requires { IsInside text.now span }
+    ensures { IfOk result (λ piece. piece ≡ span_text text.now span) }
+{
+    if longest <= MOST_MORE || (longest - MOST_MORE) / 2 <= span.end - span.start {
+        return text.part(span.start, span.end);
+    }
+    match &text.as_slice()[span.start..span.end] {
+        [byte] => bytes.text(alloc, *byte),
+        part => Bytes::from_slice(alloc, part),
+    }
+}
+
+/// The array holds these parts of a text, by their numbers from 1 on, and nothing else. The text may be a part of one of up to `longest` bytes.
+pub(crate) fn fill(
+    keys: &mut KeyTexts,
+    bytes: &mut ByteTexts,
+    alloc: Global,
+    longest: usize,
     arrays: &mut Arrays,
     array: i32,
     text: &Bytes,
@@ -52,9 +80,10 @@ pub(crate) fn fill(
     ensures spare { maps.get arrays.old spare ≡ None → maps.get arrays.new spare ≡ None }
 {
     arrays.clear(array);
+    let longest = longest.max(text.len());
     for (at, span) in spans.iter().enumerate() {
-        let piece = text.part(span.start, span.end)?;
-        put_text(alloc, arrays, array, at + 1, piece)?;
+        let piece = piece(bytes, alloc, longest, text, *span)?;
+        put_text(keys, alloc, arrays, array, at + 1, piece)?;
     }
     Ok(())
 }

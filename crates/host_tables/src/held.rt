@@ -3,11 +3,12 @@ ghost use Rattle.std.specs.Prelude.{◌≡◌, None};
 ghost use Rattle.std.specs.FinMap as map;
 ghost use Rattle.host_values.specs.Calls.{spare};
 
+use crate::byte_texts::ByteTexts;
 use awk_values::{Fault, Value};
 use host_arrays::Arrays;
 use host_handles::Handles;
 use host_texts::Texts;
-use host_values::{Iterators, Literals};
+use host_values::{Iterators, KeyTexts, Literals};
 use smallvec::SmallVec;
 use std::alloc::Global;
 
@@ -24,6 +25,10 @@ pub struct Tables {
     pub arguments: SmallVec<Value, 8>,
     /// The texts of literals that were asked for last.
     pub literals: Literals,
+    /// The texts of numbers that were keys last.
+    pub key_texts: KeyTexts,
+    /// The texts of single bytes.
+    pub byte_texts: ByteTexts,
     /// The fault that is kept.
     pub fault: Option<Fault>,
     ghost free_handle: { map.get handles spare ≡ None },

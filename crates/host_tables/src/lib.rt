@@ -4,6 +4,7 @@
 #![tactic(auto)]
 
 mod answers;
+mod byte_texts;
 mod calls;
 mod elements;
 mod families;
@@ -19,6 +20,7 @@ mod table_families;
 mod words;
 
 pub use answers::{refusal, refuses, told};
+pub use byte_texts::ByteTexts;
 pub use families::{append, format_last, on_texts, on_values, release};
 pub use held::Tables;
 pub use job::Job;

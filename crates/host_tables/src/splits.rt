@@ -11,6 +11,7 @@ ghost use Rattle.host_values.specs.ElementCalls.{IsTableCall, with_arrays};
 ghost use Rattle.host_values.specs.Forms.{HostForm};
 ghost use Rattle.host_tables.specs.Splits.{IsFilled};
 
+use crate::byte_texts::ByteTexts;
 use crate::filling::fill;
 use crate::pieces::split_outcome;
 use crate::words::split_front;
@@ -19,13 +20,16 @@ use host_arrays::Arrays;
 use host_format::{Expressions, Span};
 use host_handles::Handles;
 use host_texts::counted;
-use host_values::Refusal;
+use host_values::{KeyTexts, Refusal};
 use std::alloc::Global;
 use wasm_store::Word;
 
-/// The array holds these parts of a text and nothing else; how many they are is answered.
+/// The array holds these parts of a text and nothing else; how many they are is answered. The text may be a part of one of up to `longest` bytes.
 fn take_pieces(
+    keys: &mut KeyTexts,
+    bytes: &mut ByteTexts,
     alloc: Global,
+    longest: usize,
     arrays: &mut Arrays,
     array: i32,
     text: &Bytes,
@@ -37,19 +41,23 @@ fn take_pieces(
         (numbered 1 (map (span_text text.now) spans.now))) arrays.new }
     ensures spare { maps.get arrays.old spare ≡ None → maps.get arrays.new spare ≡ None }
 {
-    match fill(alloc, arrays, array, text, spans) {
+    match fill(keys, bytes, alloc, longest, arrays, array, text, spans) {
         Ok(()) => Ok(Some(Word::I64(counted(spans.len()).cast_unsigned()))),
         Err(_) => Err(Refusal::NoMemory),
     }
 }
 
 /// Splits a text at a separator, or at the matches of an expression, which is kept: the array holds the pieces, by their numbers from 1 on, and nothing else.
+/// The text may be a part of one of up to `longest` bytes.
 ///
 /// # Errors
 ///
 /// A trap, which changes nothing; a fault, which is to be kept, and changes no array; or want of memory.
 pub fn split(
+    keys: &mut KeyTexts,
+    bytes: &mut ByteTexts,
     alloc: Global,
+    longest: usize,
     expressions: &mut Expressions,
     arrays: &mut Arrays,
     handles: &mut Handles,
@@ -71,7 +79,16 @@ pub fn split(
     handles.take(first);
     handles.take(second);
     match found {
-        Ok((text, spans)) => take_pieces(alloc, arrays, array, &text, spans.as_slice()),
+        Ok((text, spans)) => take_pieces(
+            keys,
+            bytes,
+            alloc,
+            longest,
+            arrays,
+            array,
+            &text,
+            spans.as_slice(),
+        ),
         Err(fault) => Err(Refusal::Fault(fault)),
     }
 }

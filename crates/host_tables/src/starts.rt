@@ -6,10 +6,11 @@ ghost use Rattle.host_tables.specs.Starts.{form_of};
 ghost use Rattle.host_values.specs.Calls.{spare};
 ghost use Rattle.host_tables.specs.Forms.{of_tables_and_names};
 
+use crate::byte_texts::ByteTexts;
 use crate::held::Tables;
 use crate::start::FirstTables;
 use host_names::Names;
-use host_values::Literals;
+use host_values::{KeyTexts, Literals};
 use std::alloc::Global;
 
 impl Tables {
@@ -31,6 +32,8 @@ impl Tables {
             texts: first.texts,
             arguments: first.arguments,
             literals: Literals::new(alloc),
+            key_texts: KeyTexts::new(alloc),
+            byte_texts: ByteTexts::new(alloc),
             fault: first.fault,
         };
         (tables, first.names)

@@ -98,7 +98,10 @@ impl Tables {
             (of_tables self.old f) words.now memory result (of_tables self.new f) }
     {
         split(
+            &mut self.key_texts,
+            &mut self.byte_texts,
             self.alloc,
+            self.texts.held.longest(),
             &mut self.texts.expressions,
             &mut self.arrays,
             &mut self.handles,

@@ -17,7 +17,7 @@ use crate::spent::Spent;
 use crate::texts::Texts;
 use crate::words::{one_value, two_values};
 use awk_values::{Bytes, Value};
-use host_format::{index_of, lower, substr, upper};
+use host_format::{index_of, lower, substr, substr_span, upper};
 use host_handles::Handles;
 use host_values::{Refusal, ends, number_front, text_len, value_front, value_text};
 use std::alloc::{AllocError, Global};
@@ -78,13 +78,34 @@ fn upper_case(alloc: Global, handles: &Handles, words: &[Word]) -> Result<Evalua
     }
 }
 
+/// A part of a text of at most so many bytes shares it.
+const SHORT: usize = 256;
+
+/// A part of a text, which is shared where it is short.
+fn part_of(alloc: Global, text: &Bytes, from: i64, count: Option<i64>) -> Result<Bytes, AllocError>
+    ensures { IfOk result (λ new. new ≡ part text.now from count) }
+{
+    let (first, past) = substr_span(text.as_slice(), from, count);
+    if text.len() <= SHORT {
+        return text.part(first, past);
+    }
+    Bytes::from_slice(alloc, &text.as_slice()[first..past])
+}
+
 /// A part of a value's text.
 fn part(alloc: Global, value: &Value, from: i64, count: Option<i64>) -> Result<Value, AllocError>
     ensures { IfOk result (λ new. new ≡ Value.Text (part (text_of_value value.now) from count)) }
 {
-    let text = value_text(alloc, value)?;
-    let part = Bytes::from_slice(alloc, substr(text.as_slice(), from, count))?;
-    Ok(Value::Text(part))
+    match value {
+        Value::Text(text) | Value::StrNum(text) => {
+            Ok(Value::Text(part_of(alloc, text, from, count)?))
+        }
+        Value::Uninit | Value::Num(_) => {
+            let text = value_text(alloc, value)?;
+            let part = Bytes::from_slice(alloc, substr(text.as_slice(), from, count))?;
+            Ok(Value::Text(part))
+        }
+    }
 }
 
 fn substr_of(alloc: Global, handles: &Handles, words: &[Word]) -> Result<Evaluated, Refusal>

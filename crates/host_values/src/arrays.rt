@@ -1,22 +1,25 @@
 //! Calls on arrays and their keys.
-ghost use Rattle.std.specs.Prelude.{◌≡◌, List, [], ℕ, None, true};
+ghost use Rattle.std.specs.Prelude.{◌≡◌, List, [], ℕ, IfOk, None, true};
 ghost use Rattle.std.specs.FinMap as map;
 ghost use Rattle.sem_primitives.specs.declared.table.Primitive.TheVariants as row;
+ghost use Rattle.awk_values.specs.Values.{text_of_value};
 ghost use Rattle.host_imports.specs.declared.import.Import.{Import};
 ghost use Rattle.host_values.specs.Calls.{spare};
 ghost use Rattle.host_values.specs.ElementCalls.{IsNumbered, IsPut, IsTableCall, with_arrays};
 ghost use Rattle.host_values.specs.Forms.{HostForm};
+ghost use Rattle.host_values.specs.Texts.{shown};
 ghost use Rattle.host_arrays.specs.Pairs.{pairs_at, set_pair};
 
 use crate::calls::give;
 use crate::element_words::{array_and_key, array_key_value, only_array};
+use crate::key_texts::KeyTexts;
 use crate::reply::{Refusal, Reply};
-use crate::text::value_text;
+use crate::text::{ValueText, shared_text};
 use crate::words::ends;
 use awk_values::{Bytes, Value};
 use host_arrays::Arrays;
 use host_handles::Handles;
-use std::alloc::Global;
+use std::alloc::{AllocError, Global};
 use wasm_store::{TrapKind, Word};
 
 /// What is answered where nothing else is to be said.
@@ -52,17 +55,39 @@ pub fn new_array(arrays: &mut Arrays, words: &[Word]) -> Result<Option<Word>, Re
     }
 }
 
-/// A copy of an element, which is made where there is none.
+/// The text of a key, which is lent where the key is a text, and kept where it is a number.
+///
+/// # Errors
+///
+/// There is no memory for the text of a number.
+#[inline(always)]
+fn key_text<'a>(
+    texts: &mut KeyTexts,
+    alloc: Global,
+    value: &'a Value,
+) -> Result<ValueText<'a>, AllocError>
+    ensures { IfOk result (λ text. shown text ≡ text_of_value value.now) }
+{
+    match value {
+        Value::Text(text) | Value::StrNum(text) => Ok(ValueText::Own(text)),
+        Value::Num(number) => Ok(ValueText::Made(texts.text(alloc, *number)?)),
+        Value::Uninit => Ok(ValueText::Made(shared_text(alloc, value)?)),
+    }
+}
+
+/// A copy of an element, which is made where there is none. Keys may be parts of texts of up to `longest` bytes.
 ///
 /// # Errors
 ///
 /// A trap, which changes nothing, or want of memory.
 #[inline(always)]
 pub fn elem(
+    texts: &mut KeyTexts,
     alloc: Global,
     arrays: &mut Arrays,
     handles: &mut Handles,
     words: &[Word],
+    longest: usize,
 ) -> Result<Option<Word>, Refusal>
     requires { map.get handles.old spare ≡ None }
     ensures step { (f : HostForm) (memory : List ℕ) → f.fault ≡ None
@@ -75,10 +100,10 @@ pub fn elem(
         Ok(read) => read,
         Err(kind) => return Err(Refusal::Trap(kind)),
     };
-    let Ok(key) = value_text(alloc, value) else {
+    let Ok(key) = key_text(texts, alloc, value) else {
         return Err(Refusal::NoMemory);
     };
-    let Ok(found) = arrays.get_or_create(array, key.bytes()) else {
+    let Ok(found) = arrays.get_or_create(array, key.bytes(), longest) else {
         return Err(Refusal::NoMemory);
     };
     drop(key);
@@ -87,29 +112,37 @@ pub fn elem(
 }
 
 /// Puts a value at a key.
-fn put(arrays: &mut Arrays, array: i32, key: &Bytes, value: Value) -> Result<Option<Word>, Refusal>
+fn put(
+    arrays: &mut Arrays,
+    array: i32,
+    key: &Bytes,
+    value: Value,
+    longest: usize,
+) -> Result<Option<Word>, Refusal>
     requires { map.contains_key arrays.old array ≡ true }
     ensures put { IsPut result (map.insert arrays.old array
         (set_pair key.now value (pairs_at arrays.old array))) arrays.new }
     ensures spare_array { map.get arrays.old spare ≡ None → map.get arrays.new spare ≡ None }
 {
-    match arrays.set(array, key, value) {
+    match arrays.set(array, key, value, longest) {
         Ok(()) => Ok(Some(DONE)),
         Err(_) => Err(Refusal::NoMemory),
     }
 }
 
-/// Gives an element a value.
+/// Gives an element a value. Key and value may be parts of texts of up to `longest` bytes.
 ///
 /// # Errors
 ///
 /// A trap, which changes nothing, or want of memory.
 #[inline(always)]
 pub fn set_elem(
+    texts: &mut KeyTexts,
     alloc: Global,
     arrays: &mut Arrays,
     handles: &mut Handles,
     words: &[Word],
+    longest: usize,
 ) -> Result<Option<Word>, Refusal>
     ensures step { (f : HostForm) (memory : List ℕ) → f.fault ≡ None
         → IsTableCall (Import.Of row.SetElem) (with_arrays handles.old arrays.old f) words.now
@@ -127,10 +160,10 @@ pub fn set_elem(
     let Some(value) = handles.take(second) else {
         unreachable!();
     };
-    let Ok(text) = value_text(alloc, &key) else {
+    let Ok(text) = key_text(texts, alloc, &key) else {
         return Err(Refusal::NoMemory);
     };
-    put(arrays, array, text.bytes(), value)
+    put(arrays, array, text.bytes(), value, longest)
 }
 
 /// Whether an array has an element; none is made.
@@ -140,6 +173,7 @@ pub fn set_elem(
 /// A trap, which changes nothing, or want of memory.
 #[inline(always)]
 pub fn has(
+    texts: &mut KeyTexts,
     alloc: Global,
     arrays: &Arrays,
     handles: &mut Handles,
@@ -154,7 +188,7 @@ pub fn has(
         Ok(read) => read,
         Err(kind) => return Err(Refusal::Trap(kind)),
     };
-    let Ok(key) = value_text(alloc, value) else {
+    let Ok(key) = key_text(texts, alloc, value) else {
         return Err(Refusal::NoMemory);
     };
     let found = arrays.has(array, key.bytes());
@@ -169,6 +203,7 @@ pub fn has(
 ///
 /// A trap, which changes nothing, or want of memory.
 pub fn delete(
+    texts: &mut KeyTexts,
     alloc: Global,
     arrays: &mut Arrays,
     handles: &mut Handles,
@@ -184,7 +219,7 @@ pub fn delete(
         Ok(read) => read,
         Err(kind) => return Err(Refusal::Trap(kind)),
     };
-    let Ok(key) = value_text(alloc, value) else {
+    let Ok(key) = key_text(texts, alloc, value) else {
         return Err(Refusal::NoMemory);
     };
     arrays.delete(array, key.bytes());

@@ -19,7 +19,7 @@ pub returns-clause-step : goal.returns-clause-step
 returns-clause-step c f memory none =
     let gone : c.take.new.self ≡ map.remove c.args.handles.now c.in-Ok.read.1 = search rules in
     let deleted : c.delete.new.self ≡ map.insert c.args.arrays.now c.in-Ok.read.0 (delete_pair c.bytes.result.now (pairs_at c.args.arrays.now c.in-Ok.read.0)) = search rules in
-    delete_call (with_arrays c.args.handles.now c.args.arrays.now f) c.args.words.now memory none _ _ _ (sym c.in-Ok.ensures.value) c.in-Ok.ensures.there _ _ _ gone (c.bytes.ensures ∙ c.in-Ok-value_text.ensures) deleted
+    delete_call (with_arrays c.args.handles.now c.args.arrays.now f) c.args.words.now memory none _ _ _ (sym c.in-Ok.ensures.value) c.in-Ok.ensures.there _ _ _ gone (c.bytes.ensures ∙ c.in-Ok-key_text.ensures) deleted
 
 pub returns-clause-spare : goal.returns-clause-spare
 returns-clause-spare c free = ap (λ m. map.get m spare) c.take.ensures.rest ∙ spare_removed c.args.handles.now _ free

@@ -23,7 +23,7 @@ returns-clause-step c f memory none =
     let gone : c.take.new.self ≡ map.remove c.args.handles.now c.in-Ok.read.1 = search rules in
     let made : c.get_or_create.new.self ≡ map.insert c.args.arrays.now c.in-Ok.read.0 (created c.bytes.result.now (pairs_at c.args.arrays.now c.in-Ok.read.0)) = search rules in
     let found : c.in-Ok-get_or_create.found ≡ value_or_uninit (get_pair c.bytes.result.now (pairs_at c.args.arrays.now c.in-Ok.read.0)) = search rules in
-    elem_call (with_arrays c.args.handles.now c.args.arrays.now f) c.args.words.now memory none _ _ _ (sym c.in-Ok.ensures.value) c.in-Ok.ensures.there _ _ _ _ _ c.give.result c.requires gone (c.bytes.ensures ∙ c.in-Ok-value_text.ensures)
+    elem_call (with_arrays c.args.handles.now c.args.arrays.now f) c.args.words.now memory none _ _ _ (sym c.in-Ok.ensures.value) c.in-Ok.ensures.there _ _ _ _ _ c.give.result c.requires gone (c.bytes.ensures ∙ c.in-Ok-key_text.ensures)
     made found c.give.ensures.answer
 
 pub returns-in_default-get_or_create-clause-step : goal.returns-in_default-get_or_create-clause-step

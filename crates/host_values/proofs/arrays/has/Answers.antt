@@ -16,7 +16,7 @@ returns-in_default-clause-step c f memory none = has_memory (with_arrays c.args.
 pub returns-clause-step : goal.returns-clause-step
 returns-clause-step c f memory none =
     let gone : c.take.new.self ≡ map.remove c.args.handles.now c.in-Ok.read.1 = search rules in
-    has_call (with_arrays c.args.handles.now c.args.arrays.now f) c.args.words.now memory none _ _ _ (sym c.in-Ok.ensures.value) c.in-Ok.ensures.there _ _ _ gone (c.bytes.ensures ∙ c.in-Ok-value_text.ensures) (search rules)
+    has_call (with_arrays c.args.handles.now c.args.arrays.now f) c.args.words.now memory none _ _ _ (sym c.in-Ok.ensures.value) c.in-Ok.ensures.there _ _ _ gone (c.bytes.ensures ∙ c.in-Ok-key_text.ensures) (search rules)
 
 pub returns-clause-spare : goal.returns-clause-spare
 returns-clause-spare c free = ap (λ m. map.get m spare) c.take.ensures.rest ∙ spare_removed c.args.handles.now _ free

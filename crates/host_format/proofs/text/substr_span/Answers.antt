@@ -3,10 +3,10 @@ use Rattle.std.specs.Int.{w64, w128}
 use Rattle.std.proofs.lemmas.Int.{ints}
 use Rattle.host_format.specs.Parts.{is_before_end}
 use Rattle.host_format.proofs.Chosen.{part_is}
-use Rattle.host_format.proofs.text.substr.Goals as goal
+use Rattle.host_format.proofs.text.substr_span.Goals as goal
 
-pub returns : goal.returns
-returns c =
+pub returns-clause-part : goal.returns-clause-part
+returns-clause-part c =
     let first : to_z w128 (of_z w128 c.from.result) ≡ c.args.start = omega (arith, ints) in
     let end : to_z w64 (of_z w64 c.args.start) ≡ c.args.start = omega (arith, ints) in
     rw c.max-past.ensures (part_is c.args.text.now c.args.start c.args.len c.places_before-first.result c.places_before_end.result

@@ -1,0 +1,1 @@
+{ c += gsub(/[aeiou]+/, "<&>"); b += length($0) } END { print c, b }

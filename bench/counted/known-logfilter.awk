@@ -1,0 +1,1 @@
+/error/ && $3 > 500 { n++; b += length($0) } END { print n, b }

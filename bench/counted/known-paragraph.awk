@@ -1,0 +1,1 @@
+BEGIN { RS = ""; FS = "\n" } { f += NF; b += length($1) } END { print NR, f, b }
