@@ -1,7 +1,8 @@
 -- The command line of awkwasm, as the words of clap's specification say it.
-use Rattle.std.specs.Prelude.{ℕ, ◌≡◌, ◌==◌, ◌^◌, ◌-◌, List, Bool, Some, true, false, codes}
+use Rattle.std.specs.Prelude.{ℕ, ◌≡◌, ◌==◌, ◌^◌, ◌-◌, ◌&&◌, ◌||◌, List, [], ◌∷◌, Bool, Some, true, false, codes}
 use Rattle.std.specs.Borrow.{Bor}
 use Rattle.std.specs.List.{list_any, starts_with}
+use Rattle.std.specs.Str.{bytes_eq}
 use Rattle.clap.specs.Words.{App, Rule, Text, app_of, new_app, new_rule, with_rule, with_subcommand}
 use Rattle.clap.specs.Simple.{on_top}
 use Rattle.clap.specs.declared.builder.command.Command.{Command}
@@ -28,9 +29,13 @@ separator_rule = record (new_rule (codes "separator")) { short = Some 70; action
 abbrev pub assign_rule : Rule
 assign_rule = record (new_rule (codes "assign")) { short = Some 118; action = Some Append; value_names = 1 }
 
--- `--steps N`, a number of 64 bits
-abbrev pub steps_rule : Rule
-steps_rule = record (new_rule (codes "steps")) { long = Some (codes "steps"); action = Some Set; value_names = 1; parser = Some (Unsigned 0 (2 ^ 64 - 1)) }
+-- an option with a number of 64 bits, as `--steps N`
+abbrev pub number_rule : Text → Rule
+number_rule name = record (new_rule name) { long = Some name; action = Some Set; value_names = 1; parser = Some (Unsigned 0 (2 ^ 64 - 1)) }
+
+-- an option with a name, as `--may-read NAME`, any number of times
+abbrev pub names_rule : Text → Rule
+names_rule name = record (new_rule name) { long = Some name; action = Some Append; value_names = 1 }
 
 -- an option without a value, as `--no-files`
 abbrev pub flag_rule : Text → Rule
@@ -49,16 +54,24 @@ compile_app = with_rule (with_rule (new_app (codes "compile")) (single (codes "s
 
 -- `NAME [-F s] [-v n=t].. [--steps N]`
 abbrev pub options_app : Text → App
-options_app name = with_rule (with_rule (with_rule (new_app name) separator_rule) assign_rule) steps_rule
+options_app name = with_rule (with_rule (with_rule (new_app name) separator_rule) assign_rule) (number_rule (codes "steps"))
 
 -- `NAME [-F s] [-v n=t].. [--steps N] [--no-files] [--read-only] [--only-operands]`
 abbrev pub fences_app : Text → App
 fences_app name = with_rule (with_rule (with_rule (options_app name) (flag_rule (codes "no-files"))) (flag_rule (codes "read-only")))
     (flag_rule (codes "only-operands"))
 
--- `NAME [-F s] [-v n=t].. [--steps N] [--no-files] [--read-only] [--only-operands] SUBJECT WORDS..`
+-- and `[--may-read NAME].. [--may-write NAME]..`
+abbrev pub names_app : Text → App
+names_app name = with_rule (with_rule (fences_app name) (names_rule (codes "may-read"))) (names_rule (codes "may-write"))
+
+-- and `[--most-input BYTES] [--most-output BYTES] [--streams]`
+abbrev pub limits_app : Text → App
+limits_app name = with_rule (with_rule (with_rule (names_app name) (number_rule (codes "most-input"))) (number_rule (codes "most-output"))) (flag_rule (codes "streams"))
+
+-- all these options, and then `SUBJECT WORDS..`
 abbrev pub task_app : Text → Text → App
-task_app name subject = with_rule (with_rule (fences_app name) (single subject)) words_rule
+task_app name subject = with_rule (with_rule (limits_app name) (single subject)) words_rule
 
 -- `imports MODULE`
 abbrev pub imports_app : App
@@ -91,3 +104,12 @@ is_file_option word = starts_with ◌==◌ word (codes "-f")
 
 abbrev pub has_file_option : List (Bor Text) → Bool
 has_file_option words = list_any (λ word. is_file_option word.now) words
+
+-- an option of one letter whose text may be the next word
+abbrev pub takes_text : Text → Bool
+takes_text word = bytes_eq word (codes "-F") || bytes_eq word (codes "-v")
+
+-- A word begins with a hyphen and comes after such an option: clap reads it as an option. The first says whether such an option came before the words.
+unfoldable pub text_apart : Bool → List Text → Bool
+text_apart waits [] = false
+text_apart waits (word ∷ rest) = (waits && starts_with ◌==◌ word (codes "-")) || text_apart (takes_text word) rest

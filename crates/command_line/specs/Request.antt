@@ -7,6 +7,7 @@ use Rattle.command_line.specs.declared.Request.{Request}
 use Rattle.command_line.specs.declared.Request.TheVariants.{Compile, Run, Exec, Imports, Explain}
 use Rattle.command_line.specs.declared.Task.{Task}
 use Rattle.command_line.specs.declared.FenceOptions.{FenceOptions}
+use Rattle.command_line.specs.declared.Limits.{Limits}
 
 -- the words of an argument that may be given often
 abbrev pub words_at : Text → List Row → List Text
@@ -17,9 +18,9 @@ abbrev pub word_at : Text → List Row → Text
 word_at id rows = unwrap_or (first_of id rows) []
 
 -- without the option it is the greatest number of 64 bits
-abbrev pub IsSteps : Option Text → ℕ → Type 0
-IsSteps None n = n ≡ 2 ^ 64 - 1
-IsSteps (Some t) n = IsNumeral 10 (without_leading_plus t) → digits_value 10 (without_leading_plus t) < 2 ^ 64 → n ≡ digits_value 10 (without_leading_plus t)
+abbrev pub IsNumber : Option Text → ℕ → Type 0
+IsNumber None n = n ≡ 2 ^ 64 - 1
+IsNumber (Some t) n = IsNumeral 10 (without_leading_plus t) → digits_value 10 (without_leading_plus t) < 2 ^ 64 → n ≡ digits_value 10 (without_leading_plus t)
 
 -- an option without a value is given or not; clap has it as `true` or `false`
 abbrev pub IsFlag : Option Text → Bool → Type 0
@@ -31,14 +32,22 @@ pub record IsFences (rows : List Row) (f : FenceOptions) : Type 0 where
   pub read_only : IsFlag (one_of (codes "read-only") rows) f.read_only
   pub only_operands : IsFlag (one_of (codes "only-operands") rows) f.only_operands
 
+pub record IsLimits (rows : List Row) (l : Limits) : Type 0 where
+  pub most_input : IsNumber (one_of (codes "most-input") rows) l.most_input
+  pub most_output : IsNumber (one_of (codes "most-output") rows) l.most_output
+
 abbrev pub texts : List (Bor Text) → List Text
 texts = map (λ s. s.now)
 
 pub record IsTask (of : Text) (rows : List Row) (t : Task) : Type 0 where
   pub separators : texts t.separators.items ≡ words_at (codes "separator") rows
   pub assigns : texts t.assigns.items ≡ words_at (codes "assign") rows
-  pub steps : IsSteps (one_of (codes "steps") rows) t.steps
+  pub steps : IsNumber (one_of (codes "steps") rows) t.steps
   pub fences : IsFences rows t.fences
+  pub may_read : texts t.may_read.items ≡ words_at (codes "may-read") rows
+  pub may_write : texts t.may_write.items ≡ words_at (codes "may-write") rows
+  pub limits : IsLimits rows t.limits
+  pub streams : IsFlag (one_of (codes "streams") rows) t.streams
   pub subject : t.subject.now ≡ word_at of rows
   pub words : texts t.words.items ≡ words_at (codes "words") rows
 

@@ -4,12 +4,15 @@
 ghost use Rattle.std.specs.Prelude.{◌≡◌, ◌↔◌, IfOk, IfSome, IsTrue, false};
 ghost use Rattle.std.specs.Prelude.{Ok, Some, map, option_map, true, IfErr, codes};
 ghost use Rattle.clap.specs.Words.{App, Rule, app_of, rule_of, takes, kind_of, rows_of, found_of, matches_of, one_of, first_of, new_app, new_rule, subcommand_rows_of, subcommand_of, with_rule, with_subcommand};
-ghost use Rattle.command_line.specs.Request.{Asks, IsFences, IsFlag, IsSteps, IsTask, texts, word_at, words_at};
-ghost use Rattle.command_line.specs.Line.{Builds, single, steps_rule, flag_rule, options_app, fences_app, compile_app, task_app, explain_app, imports_app, top_app, line_app, is_file_option, has_file_option, status_of_kind};
+ghost use Rattle.command_line.specs.Request.{Asks, IsFences, IsFlag, IsLimits, IsNumber, IsTask, texts, word_at, words_at};
+ghost use Rattle.command_line.specs.Line.{Builds, single, flag_rule, names_rule, number_rule, options_app, fences_app, names_app, limits_app, compile_app, task_app, explain_app, imports_app, top_app, line_app, is_file_option, has_file_option, status_of_kind, takes_text, text_apart};
+
+mod spelling;
 
 use clap::builder::ValueParser;
 use clap::error::ErrorKind;
 use clap::{Arg, ArgAction, ArgMatches, Command, Error};
+pub use spelling::spelled_line;
 use std::alloc::{AllocError, Global};
 
 /// What the help of the whole line says at its end.
@@ -17,6 +20,11 @@ const AFTER_HELP: &str = "\
 The awk of POSIX over whole numbers from -2^53 to 2^53, with text as bytes. A script starts no
 command and opens no connection. It opens files by their names, unless --no-files, --read-only or
 --only-operands keep them out. SCRIPT is the script's text; of a file it is \"$(cat prog.awk)\".
+
+A word that begins with a hyphen is an option wherever it is, also after SCRIPT or MODULE. After
+-- no word is an option. So write -- before names that you do not know: awkwasm run SCRIPT -- *
+Attach a text that begins with a hyphen to its option: -F-, not -F -. An = after -F or -v belongs
+to the text: -F= separates fields by =.
 
 The exit status is the script's own, or 2 a fault, 3 refused, 4 out of steps, 5 no memory,
 6 calls nested too deeply, 7 a trap of the module, 8 a wrong command line or file. With 2 to 7
@@ -38,6 +46,15 @@ pub struct FenceOptions {
     pub only_operands: bool,
 }
 
+/// How many bytes a run may take in and give out.
+#[derive(Clone, Copy, Drop)]
+pub struct Limits {
+    /// `--most-input`: the greatest number of bytes that are read; without it the greatest of 64 bits.
+    pub most_input: u64,
+    /// `--most-output`: the greatest number of bytes that are written; without it the greatest of 64 bits.
+    pub most_output: u64,
+}
+
 /// A run that is asked for: of what, and on what.
 #[derive(Drop)]
 pub struct Task<'a> {
@@ -49,6 +66,14 @@ pub struct Task<'a> {
     pub steps: u64,
     /// Which files are kept out.
     pub fences: FenceOptions,
+    /// The names of `--may-read`, in order: files that may be read.
+    pub may_read: Vec<&'a str>,
+    /// The names of `--may-write`, in order: files that may be written.
+    pub may_write: Vec<&'a str>,
+    /// How many bytes may be read and written.
+    pub limits: Limits,
+    /// `--streams`: names of the standard streams, as `/dev/stdout`, are the program's own streams.
+    pub streams: bool,
     /// The script's text for `run`, the module's file name for `exec`.
     pub subject: &'a str,
     /// The operands.
@@ -102,15 +127,25 @@ fn letter_arg<'a>(
         .value_name(value)
 }
 
-fn steps_arg<'a>(alloc: Global) -> Arg<'a>
-    ensures rule { rule_of result ≡ steps_rule }
+/// An option whose value is a number of 64 bits.
+fn number_arg<'a>(alloc: Global, name: &'a str, help: &'a str, value: &'a str) -> Arg<'a>
+    ensures rule { rule_of result ≡ number_rule name.now }
     ensures local { result.global ≡ false }
 {
-    let help = "Stop after this many steps of the module";
-    free_arg(alloc, "steps", help, ArgAction::Set)
-        .long("steps")
-        .value_name("N")
+    free_arg(alloc, name, help, ArgAction::Set)
+        .long(name)
+        .value_name(value)
         .value_parser(ValueParser::unsigned(0, u64::MAX))
+}
+
+/// An option whose value is a file's name, which may be given often.
+fn names_arg<'a>(alloc: Global, name: &'a str, help: &'a str) -> Arg<'a>
+    ensures rule { rule_of result ≡ names_rule name.now }
+    ensures local { result.global ≡ false }
+{
+    free_arg(alloc, name, help, ArgAction::Append)
+        .long(name)
+        .value_name("NAME")
 }
 
 fn flag_arg<'a>(alloc: Global, name: &'a str, help: &'a str) -> Arg<'a>
@@ -155,7 +190,8 @@ fn options_command<'a>(
     let assign = letter_arg(alloc, "assign", 'v', help, "NAME=TEXT");
     let command = with_arg(Ok(named_command(alloc, name, about)), separator);
     let command = with_arg(command, assign);
-    with_arg(command, steps_arg(alloc))
+    let help = "Stop after this many steps of the module";
+    with_arg(command, number_arg(alloc, "steps", help, "N"))
 }
 
 fn fences_command<'a>(
@@ -175,6 +211,36 @@ fn fences_command<'a>(
     with_arg(command, flag_arg(alloc, "only-operands", help))
 }
 
+fn names_command<'a>(
+    alloc: Global,
+    name: &'a str,
+    about: &'a str,
+) -> Result<Command<'a>, AllocError>
+    ensures { IfOk result (Builds (names_app name.now)) }
+{
+    let command = fences_command(alloc, name, about);
+    let help = "Open this file for reading, and no others but those that an option above allows";
+    let command = with_arg(command, names_arg(alloc, "may-read", help));
+    let help = "Open this file for writing, and no others";
+    with_arg(command, names_arg(alloc, "may-write", help))
+}
+
+fn limits_command<'a>(
+    alloc: Global,
+    name: &'a str,
+    about: &'a str,
+) -> Result<Command<'a>, AllocError>
+    ensures { IfOk result (Builds (limits_app name.now)) }
+{
+    let command = names_command(alloc, name, about);
+    let help = "Read at most this many bytes";
+    let command = with_arg(command, number_arg(alloc, "most-input", help, "BYTES"));
+    let help = "Write at most this many bytes";
+    let command = with_arg(command, number_arg(alloc, "most-output", help, "BYTES"));
+    let help = "/dev/stdin, /dev/stdout and /dev/stderr are the program's own streams";
+    with_arg(command, flag_arg(alloc, "streams", help))
+}
+
 /// `run` or `exec`: the options, what is run, and the operands.
 fn task_command<'a>(
     alloc: Global,
@@ -185,7 +251,7 @@ fn task_command<'a>(
 ) -> Result<Command<'a>, AllocError>
     ensures { IfOk result (Builds (task_app name.now subject.now)) }
 {
-    let command = fences_command(alloc, name, about);
+    let command = limits_command(alloc, name, about);
     let command = with_arg(command, single_arg(alloc, subject, help));
     let help = "Files to read, - for standard input, and assignments NAME=TEXT";
     with_arg(command, free_arg(alloc, "words", help, ArgAction::Append))
@@ -347,6 +413,39 @@ pub fn is_script_file(error: &Error, words: &[&str]) -> bool
     }
 }
 
+/// Whether a word is an option that takes a text.
+fn takes_text(word: &str) -> bool
+    ensures { result ≡ takes_text word.now }
+{
+    word == "-F" || word == "-v"
+}
+
+/// Whether a word that begins with a hyphen comes after such an option.
+#[tactic(auto, unfolding(crate::specs::Line::text_apart))]
+fn has_text_apart(words: &[&str]) -> bool
+    ensures { result ≡ text_apart false (texts words.now) }
+{
+    let mut waits = false;
+    for word in words {
+        if waits && word.starts_with("-") {
+            return true;
+        }
+        waits = takes_text(word);
+    }
+    false
+}
+
+/// Whether a line is refused for an unknown option, and has a word that begins with a hyphen after `-F` or `-v`. As their text it is to be attached to them.
+pub fn is_text_apart(error: &Error, words: &[&str]) -> bool
+    ensures { IsTrue result ↔ (kind_of error.now ≡ ErrorKind.UnknownArgument)
+        × (text_apart false (texts words.now) ≡ true) }
+{
+    match error.kind() {
+        ErrorKind::UnknownArgument => has_text_apart(words),
+        _ => false,
+    }
+}
+
 /// The words of an argument that may be given often.
 fn texts<'a>(alloc: Global, matches: &ArgMatches<'a>, id: &str) -> Result<Vec<&'a str>, AllocError>
     ensures { IfOk result
@@ -368,11 +467,11 @@ fn text<'a>(matches: &ArgMatches<'a>, id: &str) -> &'a str
     }
 }
 
-/// The number of `--steps`.
-fn steps(matches: &ArgMatches<'_>) -> u64
-    ensures { IsSteps (one_of (codes "steps") (rows_of (found_of matches.now))) result }
+/// The number of an option.
+fn number(matches: &ArgMatches<'_>, id: &str) -> u64
+    ensures { IsNumber (one_of id.now (rows_of (found_of matches.now))) result }
 {
-    match matches.get_one::<u64>("steps") {
+    match matches.get_one::<u64>(id) {
         Some(number) => number,
         None => u64::MAX,
     }
@@ -396,6 +495,16 @@ fn fences(matches: &ArgMatches<'_>) -> FenceOptions
     }
 }
 
+/// How many bytes the options allow.
+fn limits_of(matches: &ArgMatches<'_>) -> Limits
+    ensures { IsLimits (rows_of (found_of matches.now)) result }
+{
+    Limits {
+        most_input: number(matches, "most-input"),
+        most_output: number(matches, "most-output"),
+    }
+}
+
 /// The name that is to be explained.
 fn topic<'a>(matches: &ArgMatches<'a>) -> Option<&'a str>
     ensures { option_map (λ name. name.now) result
@@ -415,8 +524,12 @@ fn task_of<'a>(
     Ok(Task {
         separators: texts(alloc, matches, "separator")?,
         assigns: texts(alloc, matches, "assign")?,
-        steps: steps(matches),
+        steps: number(matches, "steps"),
         fences: fences(matches),
+        may_read: texts(alloc, matches, "may-read")?,
+        may_write: texts(alloc, matches, "may-write")?,
+        limits: limits_of(matches),
+        streams: flag(matches, "streams"),
         subject: text(matches, subject),
         words: texts(alloc, matches, "words")?,
     })
@@ -440,7 +553,7 @@ fn request_in<'a>(alloc: Global, matches: &ArgMatches<'a>) -> Result<Request<'a>
     }
 }
 
-/// The request of a command line, whose first word is the program's name.
+/// The request of a command line, whose first word is the program's name. Its words are those of [`spelled_line`].
 ///
 /// # Errors
 ///

@@ -1,5 +1,5 @@
 -- Lines and statuses of ends, computed from the definitions.
-use Rattle.std.specs.Prelude.{◌≡◌, [], Some, codes, refl}
+use Rattle.std.specs.Prelude.{◌≡◌, [], ◌∷◌, Some, codes, refl}
 use Rattle.std.specs.Fmt.{digits}
 use Rattle.run_report.specs.declared.end.Refusal.TheVariants.{Compile, Decode, Invalid, Link}
 use Rattle.run_report.specs.declared.compile_fault.CompileFault.TheVariants.{Token, Parse, Ere, Resolve, TooLarge}
@@ -18,6 +18,7 @@ use Rattle.module_validator.specs.declared.valid.InvalidFault.TheVariants.{BadTy
 use Rattle.wasm_model.specs.declared.fault.LinkFault.TheVariants.{NoMain}
 use Rattle.wasm_store.specs.declared.trap.TrapKind.TheVariants.{BadHandle}
 use Rattle.run_report.specs.declared.report.FileFault.TheVariants.{CannotRead}
+use Rattle.run_report.specs.Escapes.{shown, shown_after}
 use Rattle.run_report.specs.EndTexts.{end_text, exit_code, file_text, left_out_word, line_of}
 
 pub range_line : end_text (Faulted Range) ≡ codes "awkwasm: Range\n"
@@ -137,3 +138,8 @@ exhausted_status = refl
 pub unread_line : file_text CannotRead ≡ codes "awkwasm: CannotRead\n"
 unfolding line_of
 unread_line = refl
+
+-- texts for a terminal
+pub escape_is_shown : shown (97 ∷ (27 ∷ codes "[31m\n")) ≡ codes "a\\x1b[31m\n"
+unfolding shown_after
+escape_is_shown = refl

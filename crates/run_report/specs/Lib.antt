@@ -4,3 +4,4 @@ pub mod Parts
 pub mod Topics
 pub mod Examples
 pub mod TopicExamples
+pub mod Escapes

@@ -1,5 +1,5 @@
 -- Each topic is found by its name, so no two topics have the same.
-use Rattle.std.specs.Prelude.{◌≡◌, Some, refl}
+use Rattle.std.specs.Prelude.{◌≡◌, None, Some, codes, refl}
 use Rattle.awk_values.specs.declared.fault.Fault.TheVariants as faults
 use Rattle.wasm_store.specs.declared.trap.TrapKind.TheVariants as traps
 use Rattle.run_report.specs.declared.report.FileFault.TheVariants as files
@@ -79,3 +79,13 @@ each_is_found (Status statuses.NoMemory) = refl
 each_is_found (Status statuses.Exhausted) = refl
 each_is_found (Status statuses.Trapped) = refl
 each_is_found (Status statuses.Line) = refl
+
+-- a line as it is on the standard error, small letters, and a name that does not exist
+pub line_is_found : named (codes "awkwasm: LeftOut 1 system") ≡ Some (Script scripts.LeftOut)
+line_is_found = refl
+
+pub small_is_found : named (codes "fraction") ≡ Some (Fault faults.Fraction)
+small_is_found = refl
+
+pub other_is_not_found : named (codes "awkwasm:") ≡ None
+other_is_not_found = refl

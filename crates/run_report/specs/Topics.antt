@@ -1,7 +1,7 @@
 -- Topics: the names that lines for the standard error begin with, and the exit statuses.
-use Rattle.std.specs.Prelude.{ℕ, ◌==◌, List, [], ◌∷◌, Bool, Option, codes, ◌≡◌, ◌++◌, length, take}
-use Rattle.std.specs.List.{find}
-use Rattle.std.specs.Cmp.Lexicographic.{pointwise}
+use Rattle.std.specs.Prelude.{ℕ, ◌==◌, List, [], ◌∷◌, Bool, Option, codes, ◌≡◌, ◌++◌, drop, if◌then◌else◌, length, take}
+use Rattle.std.specs.List.{before_first, find, starts_with}
+use Rattle.std.specs.Str.{str_eq_ignore_ascii_case}
 use Rattle.awk_values.specs.Faults.{fault_name}
 use Rattle.awk_values.specs.declared.fault.Fault.TheVariants as faults
 use Rattle.wasm_store.specs.declared.trap.TrapKind.TheVariants as traps
@@ -109,12 +109,24 @@ all_topics =
     ∷ Status statuses.Trapped ∷
     Status statuses.Line ∷ []
 
-abbrev pub is_named : List ℕ → Topic → Bool
-is_named name topic = pointwise ◌==◌ (topic_name topic) name
+abbrev pub is_space : ℕ → Bool
+is_space byte = byte == 32
 
--- the first topic of a name
+-- a line without the program's name before it
+abbrev pub without_program : List ℕ → List ℕ
+without_program text = if starts_with ◌==◌ text (codes "awkwasm: ") then drop 9 text else text
+
+-- the name in a line, or alone: it ends at the first space
+abbrev pub name_of_line : List ℕ → List ℕ
+name_of_line text = before_first is_space (without_program text)
+
+-- capital letters or small ones
+abbrev pub is_named : List ℕ → Topic → Bool
+is_named name topic = str_eq_ignore_ascii_case (topic_name topic) name
+
+-- the first topic of the name in a line
 abbrev pub named : List ℕ → Option Topic
-named name = find (is_named name) all_topics
+named text = find (is_named (name_of_line text)) all_topics
 
 -- the name among what is told: it comes first
 abbrev pub name_in : List (List ℕ) → List ℕ

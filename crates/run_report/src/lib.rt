@@ -5,6 +5,7 @@
 
 mod compile_fault;
 mod end;
+mod escapes;
 mod explained;
 mod faults;
 mod line;
@@ -13,8 +14,9 @@ mod topic;
 
 pub use compile_fault::CompileFault;
 pub use end::{Refusal, RunEnd};
+pub use escapes::shown;
 pub use explained::{Explanation, explain};
-pub use report::{FileFault, fault_text, file_fault_text, no_memory_text, status_of};
+pub use report::{FileFault, fault_text, file_fault_text, no_memory_text, status_of, tell_end};
 pub use topic::{
     EndTopic, ModuleTopic, ScriptTopic, StatusTopic, TOPICS, Topic, topic_named, topic_of,
 };

@@ -2,9 +2,12 @@
 ghost use Rattle.std.specs.Prelude.{◌≡◌, [], ◌∷◌, ◌++◌, IfOk, OnOk};
 ghost use Rattle.run_report.specs.EndTexts.{alone, line_of, named, numbered, spaced};
 ghost use Rattle.run_report.specs.Parts.{maybe_word, word_of, words_of};
+ghost use Rattle.std.specs.Io.KnownBytes.{Appends};
 
 use itoa::Buffer;
 use std::alloc::{AllocError, Global};
+use std::io;
+use std::io::Write;
 
 /// A part of what a name carries: a word of our own, a number, or a name of a script.
 #[derive(Clone, Copy, Drop)]
@@ -104,4 +107,46 @@ pub(crate) fn line_of(alloc: Global, told: Told<'_>) -> Result<Vec<u8>, AllocErr
     push_maybe(&mut line, told.second)?;
     line.push(b'\n')?;
     Ok(line)
+}
+
+/// Writes a part, after a space.
+#[tactic(auto, using(crate::proofs::Written::both))]
+fn write_part<W: Write>(to: &mut W, part: Part<'_>) -> io::Result<()>
+    ensures { OnOk result (Appends (W.contents to.old) (W.contents to.new)
+        (spaced (word_of part.entry ∷ []))) }
+{
+    to.write_all(" ".as_bytes())?;
+    match part {
+        Part::Word(word) => to.write_all(word.as_bytes()),
+        Part::Number(number) => {
+            let mut digits = Buffer::new();
+            to.write_all(digits.format(number).as_bytes())
+        }
+        Part::Name(name) => to.write_all(name),
+    }
+}
+
+/// Writes a part, after a space, if there is one.
+#[tactic(auto, using(crate::proofs::Written::none))]
+fn write_maybe<W: Write>(to: &mut W, part: Option<Part<'_>>) -> io::Result<()>
+    ensures { OnOk result (Appends (W.contents to.old) (W.contents to.new)
+        (spaced (maybe_word part.entry))) }
+{
+    match part {
+        Some(part) => write_part(to, part),
+        None => Ok(()),
+    }
+}
+
+/// Writes the line of a name and what it carries, in parts. It takes no memory.
+#[tactic(auto, using(crate::proofs::Written::both), unfolding(crate::specs::EndTexts::line_of))]
+pub(crate) fn write_line<W: Write>(to: &mut W, told: Told<'_>) -> io::Result<()>
+    ensures { OnOk result (Appends (W.contents to.old) (W.contents to.new)
+        (line_of (words_of told.entry))) }
+{
+    to.write_all("awkwasm:".as_bytes())?;
+    write_part(to, Part::Word(told.name))?;
+    write_maybe(to, told.first)?;
+    write_maybe(to, told.second)?;
+    to.write_all("\n".as_bytes())
 }

@@ -1,12 +1,15 @@
 //! What is told of a run's end and of a file: the exit status, and a line for the standard error.
-ghost use Rattle.std.specs.Prelude.{◌≡◌, option_map, IfOk};
+ghost use Rattle.std.specs.Io.KnownBytes.{Appends};
+ghost use Rattle.std.specs.Prelude.{◌≡◌, option_map, IfOk, OnOk};
 ghost use Rattle.run_report.specs.EndTexts.{end_text, end_words, exit_code, file_text};
 ghost use Rattle.run_report.specs.Parts.{words_of};
 
 use crate::end::RunEnd;
 use crate::faults::{refusal_words, trap_word};
-use crate::line::{Told, line_of};
+use crate::line::{Told, line_of, write_line};
 use std::alloc::{AllocError, Global};
+use std::io;
+use std::io::Write;
 
 /// What failed of a file that the command line names.
 #[derive(Clone, Copy, Debug, PartialEq, Eq, Drop)]
@@ -61,6 +64,31 @@ pub fn fault_text(alloc: Global, end: &RunEnd) -> Result<Vec<u8>, AllocError>
     match told_of(end) {
         Some(told) => line_of(alloc, told),
         None => Ok(Vec::new(alloc)),
+    }
+}
+
+/// Writes the line of an end in parts. It takes no memory.
+#[tactic(auto, using(crate::proofs::Written::none))]
+fn write_parts<W: Write>(to: &mut W, end: &RunEnd) -> io::Result<()>
+    ensures { OnOk result (Appends (W.contents to.old) (W.contents to.new) (end_text end.now)) }
+{
+    match told_of(end) {
+        Some(told) => write_line(to, told),
+        None => Ok(()),
+    }
+}
+
+/// Writes the line that tells a run's end, as [`fault_text`] has it: at once, or in parts where memory is wanting for it.
+///
+/// # Errors
+///
+/// Where it is not written.
+pub fn tell_end<W: Write>(alloc: Global, to: &mut W, end: &RunEnd) -> io::Result<()>
+    ensures { OnOk result (Appends (W.contents to.old) (W.contents to.new) (end_text end.now)) }
+{
+    match fault_text(alloc, end) {
+        Ok(line) => to.write_all(line.as_slice()),
+        Err(_) => write_parts(to, end),
     }
 }
 

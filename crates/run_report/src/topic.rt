@@ -1,7 +1,7 @@
 //! Topics: the names that lines for the standard error begin with, and the exit statuses.
 ghost use Rattle.std.specs.Prelude.{◌≡◌, ℕ, option_map};
 ghost use Rattle.run_report.specs.EndTexts.{compile_words, decode_words, end_words, ere_words, invalid_words, link_words, parse_words, refusal_words, resolve_words, token_words};
-ghost use Rattle.run_report.specs.Topics.{end_name, file_name, module_name, name_in, named, script_name, status_name, topic_name};
+ghost use Rattle.run_report.specs.Topics.{end_name, file_name, is_named, module_name, name_in, name_of_line, named, without_program, script_name, status_name, topic_name};
 
 use crate::compile_fault::CompileFault;
 use crate::end::{Refusal, RunEnd};
@@ -394,12 +394,38 @@ pub fn topic_of(end: &RunEnd) -> Option<Topic>
     Some(topic)
 }
 
-/// The topic of a name.
-pub fn topic_named(name: &str) -> Option<Topic>
-    ensures { result ≡ named name.now }
+/// A line without the program's name before it.
+fn without_program(text: &str) -> &str
+    ensures { result.now ≡ without_program text.now }
 {
-    TOPICS
-        .iter()
-        .copied()
-        .find(|topic| topic.name().as_bytes() == name.as_bytes())
+    match text.strip_prefix("awkwasm: ") {
+        Some(rest) => rest,
+        None => text,
+    }
+}
+
+/// The name in a line, or alone.
+fn name_of_line(text: &str) -> &str
+    ensures { result.now ≡ name_of_line text.now }
+{
+    let told = without_program(text);
+    match told.split_once(' ') {
+        Some((name, _)) => name,
+        None => told,
+    }
+}
+
+/// Whether a topic has this name, in capital letters or small ones.
+fn is_named(topic: Topic, name: &str) -> bool
+    ensures { result ≡ is_named name.now topic }
+{
+    topic.name().eq_ignore_ascii_case(name)
+}
+
+/// The topic of a name, in capital letters or small ones; or of the name in a line, as it is on the standard error.
+pub fn topic_named(text: &str) -> Option<Topic>
+    ensures { result ≡ named text.now }
+{
+    let name = name_of_line(text);
+    TOPICS.iter().copied().find(|topic| is_named(*topic, name))
 }

@@ -1,5 +1,5 @@
 -- What a script or a module is run with, as the words of the command line say it.
-use Rattle.std.specs.Prelude.{ℕ, Bool, ◌==◌, List, [], ◌++◌, if◌then◌else◌, codes, map, Some, None, false}
+use Rattle.std.specs.Prelude.{ℕ, Bool, ◌==◌, List, [], ◌++◌, if◌then◌else◌, codes, map, Some, None}
 use Rattle.std.specs.List.{list_any, before_first, after_first}
 use Rattle.sem_primitives.specs.Jobs.{JobForm}
 use Rattle.world_core.specs.WorldState.{State}
@@ -34,9 +34,9 @@ fence_of_task task = record {
   no_files = task.fences.no_files;
   read_only = task.fences.read_only;
   operands = if task.fences.only_operands then Some (texts task.words.items) else None;
-  may_read = [];
-  may_write = [];
-  streams = false;
+  may_read = texts task.may_read.items;
+  may_write = texts task.may_write.items;
+  streams = task.streams;
 }
 
 -- What is told of real files behind the fence of a task: the fence alone. Nothing is told of what they hold.

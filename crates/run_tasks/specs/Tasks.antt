@@ -9,7 +9,7 @@ use Rattle.run_report.specs.declared.end.RunEnd.TheVariants.{Refused}
 use Rattle.run_report.specs.declared.end.RunEnd.TheVariants as end
 use Rattle.run_report.specs.EndTexts.{end_text, exit_code, file_text}
 use Rattle.run_tasks.specs.declared.undone.Undone.{Undone}
-use Rattle.run_tasks.specs.declared.undone.Undone.TheVariants.{Arguments, Environment, File, NoMemory, RandomNumbers, ScriptFile, Unexplained}
+use Rattle.run_tasks.specs.declared.undone.Undone.TheVariants.{Arguments, Environment, File, NoMemory, RandomNumbers, ScriptFile, TextApart, Unexplained}
 
 -- what is told of a module whose imports are not listed: what is told of it where it is run
 abbrev pub IsUnreadable : List ℕ → RunEnd → Type 0
@@ -26,6 +26,7 @@ undone_text Arguments = codes "awkwasm: an argument is not UTF-8\n"
 undone_text Environment = codes "awkwasm: the environment is not UTF-8\n"
 undone_text RandomNumbers = codes "awkwasm: the system gives no random numbers\n"
 undone_text ScriptFile = codes "awkwasm: no option -f: give the file's text, as awkwasm run \"$(cat prog.awk)\" .., or compile it and then exec\n"
+undone_text TextApart = codes "awkwasm: attach a text that begins with a hyphen to its option: -F-x in place of -F -x\n"
 undone_text Unexplained = codes "awkwasm: no such name; awkwasm explain lists the names\n"
 undone_text NoMemory = end_text end.NoMemory
 
@@ -35,6 +36,7 @@ undone_code Arguments = 8
 undone_code Environment = 8
 undone_code RandomNumbers = 8
 undone_code ScriptFile = 8
+undone_code TextApart = 8
 undone_code Unexplained = 8
 undone_code NoMemory = 5
 

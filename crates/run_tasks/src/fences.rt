@@ -1,5 +1,5 @@
 //! What a task may open.
-ghost use Rattle.std.specs.Prelude.{◌≡◌, [], IfOk, false};
+ghost use Rattle.std.specs.Prelude.{◌≡◌, [], IfOk};
 ghost use Rattle.run_tasks.specs.Jobs.{fence_of_task};
 ghost use Rattle.world_fenced.specs.Fences.{form_of};
 ghost use Rattle.world_fenced.specs.Limits.{StartsWith};
@@ -28,14 +28,14 @@ pub fn fence_of<'a>(alloc: Global, task: &'a Task<'_>) -> Result<FileFence<'a>, 
         no_files: task.fences.no_files,
         read_only: task.fences.read_only,
         operands,
-        may_read: Names::none(alloc),
-        may_write: Names::none(alloc),
-        streams: false,
+        may_read: Names::new(alloc, task.may_read.as_slice())?,
+        may_write: Names::new(alloc, task.may_write.as_slice())?,
+        streams: task.streams,
     })
 }
 
-/// Real files and the program's own streams: an input, an output and errors. A task opens of them only what its options let through. Nothing is open but
-/// the standard streams, nothing is read or written, and nothing has failed.
+/// Real files and the program's own streams: an input, an output and errors. A task opens only what its options let through, and reads and writes so many
+/// bytes at most as they allow. Nothing is open but the standard streams, nothing is read or written, and nothing has failed.
 ///
 /// # Errors
 ///
@@ -52,16 +52,17 @@ pub fn os_world_of<'a, R: Files, I: Read + Drop, O: Write + Drop, E: Write + Dro
     ensures kept_out { IfOk result (λ world. world.kept_out ≡ 0) }
     ensures streams { IfOk result (λ world. world.inner.inner.streams.items ≡ []) }
     ensures count { IfOk result (λ world. world.inner.inner.failures ≡ 0) }
-    ensures named { IfOk result (λ world. world.inner.inner.named ≡ false) }
-    ensures limits { IfOk result (λ world. StartsWith u64.MAX u64.MAX world.inner) }
+    ensures named { IfOk result (λ world. world.inner.inner.named ≡ task.now.streams) }
+    ensures limits { IfOk result (λ world. StartsWith task.now.limits.most_output
+        task.now.limits.most_input world.inner) }
 {
     let own = OwnStreams {
         input,
         output,
         errors,
-        named: false,
+        named: task.streams,
     };
     let files = OsWorld::new(alloc, files, own);
-    let limited = LimitedWorld::new(files, u64::MAX, u64::MAX);
+    let limited = LimitedWorld::new(files, task.limits.most_output, task.limits.most_input);
     Ok(FencedWorld::new(limited, fence_of(alloc, task)?))
 }

@@ -22,7 +22,12 @@ fn operands_of(alloc: Global, words: &[&str]) -> Result<Vec<Bytes>, AllocError>
     Ok(operands)
 }
 
-fn named_text(alloc: Global, name: &str, text: &str) -> Result<NamedText, AllocError>
+/// A name and a text, as bytes.
+///
+/// # Errors
+///
+/// If memory runs out.
+pub fn named_text(alloc: Global, name: &str, text: &str) -> Result<NamedText, AllocError>
     ensures { IfOk result (λ pair. pair_of pair ≡ (name.now, text.now)) }
 {
     Ok(NamedText {

@@ -12,7 +12,8 @@ mod powers;
 mod undone;
 
 pub use fences::{fence_of, os_world_of};
+pub use host_names::NamedText;
 pub use imports::listed;
-pub use job::{job_on, named_texts};
+pub use job::{job_on, named_text, named_texts};
 pub use powers::{Reads, Writes, reads_of, writes_of};
 pub use undone::{Undone, undone_status, undone_text};

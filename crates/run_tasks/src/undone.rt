@@ -18,6 +18,8 @@ pub enum Undone {
     RandomNumbers,
     /// The line has the option `-f` of other awks.
     ScriptFile,
+    /// A text that begins with a hyphen comes after its option, and is not attached to it.
+    TextApart,
     /// There is nothing of this name to explain.
     Unexplained,
     /// Memory ran out.
@@ -39,6 +41,10 @@ impl From<AllocError> for Undone {
 const SCRIPT_FILE: &str =
     "awkwasm: no option -f: give the file's text, as awkwasm run \"$(cat prog.awk)\" .., or compile it and then exec\n";
 
+/// What to do where clap reads the text of an option as another option.
+const TEXT_APART: &str =
+    "awkwasm: attach a text that begins with a hyphen to its option: -F-x in place of -F -x\n";
+
 /// The line for the standard error.
 pub fn undone_text(undone: &Undone) -> &'static [u8]
     ensures { result.now ≡ undone_text undone.now }
@@ -49,6 +55,7 @@ pub fn undone_text(undone: &Undone) -> &'static [u8]
         Undone::Environment => "awkwasm: the environment is not UTF-8\n".as_bytes(),
         Undone::RandomNumbers => "awkwasm: the system gives no random numbers\n".as_bytes(),
         Undone::ScriptFile => SCRIPT_FILE.as_bytes(),
+        Undone::TextApart => TEXT_APART.as_bytes(),
         Undone::Unexplained =>
             "awkwasm: no such name; awkwasm explain lists the names\n".as_bytes(),
         Undone::NoMemory => no_memory_text(),
@@ -66,6 +73,7 @@ pub fn undone_status(undone: &Undone) -> u8
         | Undone::Environment
         | Undone::RandomNumbers
         | Undone::ScriptFile
+        | Undone::TextApart
         | Undone::Unexplained => 8,
     }
 }

@@ -16,7 +16,7 @@ const FRACTION: Explanation = Explanation {
     meaning: "A text was used as a number, and the number that it writes is not whole.",
     command: "echo 0.5 | awkwasm run '{ print $1 + 1 }'",
     shown: "awkwasm: Fraction",
-    advice: "int($1) cuts it to a whole number. A field that is only printed stays the text that it is.",
+    advice: "int($1) cuts it to a whole number. A field that is only printed stays the text that it is. For money in cents: examples/recipes/money. For percentages: examples/recipes/percentages.",
 };
 
 const DIVISION_BY_ZERO: Explanation = Explanation {
@@ -30,7 +30,7 @@ const INEXACT: Explanation = Explanation {
     meaning: "A quotient, or a power with a negative exponent, is not whole.",
     command: "awkwasm run 'BEGIN { print 7 / 2 }'",
     shown: "awkwasm: Inexact",
-    advice: "int(7 / 2) is the quotient without its rest, and 7 % 2 is the rest.",
+    advice: "int(7 / 2) is the quotient without its rest, and 7 % 2 is the rest. With decimals: examples/recipes/percentages. Means and rounding: examples/recipes/rounding.",
 };
 
 const FIELD_NUMBER: Explanation = Explanation {

@@ -13,10 +13,10 @@ const CANNOT_READ: Explanation = Explanation {
 };
 
 const CANNOT_WRITE: Explanation = Explanation {
-    meaning: "The module could not be written.",
+    meaning: "The module could not be written, or the text of imports, explain, --help or --version.",
     command: "echo 'BEGIN { }' | awkwasm compile /dev/stdin /",
     shown: "awkwasm: CannotWrite",
-    advice: "Look whether the folder is there and may be written to, and whether the disk has room.",
+    advice: "Look whether the folder is there and may be written to, and whether the disk has room. compile writes no module over its script.",
 };
 
 /// What is said of such a file.

@@ -9,7 +9,7 @@ const BAD_HEADER: Explanation = Explanation {
     meaning: "The file is no module: it does not begin with the 8 bytes of WebAssembly, version 1.",
     command: "echo 'BEGIN { print 2 }' | awkwasm exec /dev/stdin",
     shown: "awkwasm: BadHeader",
-    advice: "exec takes what compile wrote: awkwasm compile prog.awk prog.wasm; awkwasm exec prog.wasm",
+    advice: "exec takes what compile wrote: awkwasm compile prog.awk prog.wasm; awkwasm exec prog.wasm. A script runs without it: awkwasm run \"$(cat prog.awk)\"",
 };
 
 const TRUNCATED: Explanation = Explanation {
