@@ -12,13 +12,13 @@ _awkwasm() {
       arguments='files files'
       ;;
     run)
-      options='-F -v --steps --no-files --read-only --only-operands -h --help'
-      values='-F=nothing -v=variables --steps=nothing'
+      options='-F -v --steps --no-files --read-only --only-operands --may-read --may-write --most-input --most-output --streams -h --help'
+      values='-F=nothing -v=variables --steps=nothing --may-read=files --may-write=files --most-input=nothing --most-output=nothing'
       arguments='nothing files+'
       ;;
     exec)
-      options='-F -v --steps --no-files --read-only --only-operands -h --help'
-      values='-F=nothing -v=variables --steps=nothing'
+      options='-F -v --steps --no-files --read-only --only-operands --may-read --may-write --most-input --most-output --streams -h --help'
+      values='-F=nothing -v=variables --steps=nothing --may-read=files --may-write=files --most-input=nothing --most-output=nothing'
       arguments='modules files+'
       ;;
     imports)

@@ -39,7 +39,7 @@ async function main() {
   const words = given();
   let wrong = 0;
   try {
-    for (const compare of [compareRows, compareExamples, compareCommandLines, compareCalls, compareRandom]) wrong += await differencesOf(compare, words);
+    for (const compare of [compareExamples, compareCommandLines, compareRows, compareCalls, compareRandom]) wrong += await differencesOf(compare, words);
   } finally {
     rmSync(words.work, { recursive: true, force: true });
   }
