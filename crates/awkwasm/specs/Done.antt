@@ -2,7 +2,7 @@
 use Rattle.std.specs.Prelude.{◌≡◌, ◌⊎◌, ℕ, List, Result, Ok, Err, IfErr, IfOk}
 use Rattle.world_core.specs.WorldState.{State}
 use Rattle.command_line.specs.declared.Request.{Request}
-use Rattle.command_line.specs.declared.Request.TheVariants.{Compile, Run, Exec, Imports, Explain}
+use Rattle.command_line.specs.declared.Request.TheVariants.{Check, Compile, Run, Exec, Imports, Explain}
 use Rattle.command_line.specs.declared.Task.{Task}
 use Rattle.script_compiler.specs.Compiled.{IsCompiled}
 use Rattle.awk_run.specs.ModuleRun.{Answers}
@@ -50,7 +50,13 @@ abbrev pub IsUnwritten : Undone → Type 0
 IsUnwritten (File fault) = fault ≡ CannotWrite
 IsUnwritten _ = ⊥
 
--- The script of these bytes is compiled, and the answer is status 0; else it is why it is not compiled.
+-- what is found in a script is not printed
+abbrev pub IsUnprinted : Undone → Type 0
+IsUnprinted (File fault) = fault ≡ CannotWrite
+IsUnprinted NoMemory = Unit {0}
+IsUnprinted _ = ⊥
+
+-- The script of these bytes can be compiled, and the answer is status 0; else it is why it is not compiled.
 abbrev pub Compiles : List ℕ → RunEnd → Type 0
 Compiles bytes e = ((e ≡ Ended 0) × ((compiled : List ℕ) × IsCompiled bytes compiled)) ⊎ IsUncompiled bytes e
 
@@ -68,6 +74,8 @@ IsExplained (Err undone) = IsNotExplained undone
 abbrev pub Does : Request → Result RunEnd Undone → Type 0
 Does (Compile script_file out) (Ok e) = (bytes : List ℕ) × Compiles bytes e
 Does (Compile script_file out) (Err undone) = IsUnread undone ⊎ IsUnwritten undone
+Does (Check script_file) (Ok e) = (bytes : List ℕ) × Compiles bytes e
+Does (Check script_file) (Err undone) = IsUnread undone ⊎ IsUnprinted undone
 Does (Run task) (Ok e) = RunsScript task e
 Does (Run task) (Err undone) = IsUnbegun undone
 Does (Exec task) (Ok e) = (bytes : List ℕ) × RunsModule task bytes e

@@ -1,3 +1,4 @@
+pub mod Checked
 pub mod Done
 pub mod Lines
 pub mod Printed

@@ -13,6 +13,7 @@ ghost use Rattle.world_fenced.specs.Behind.{behind};
 ghost use Rattle.world_fenced.specs.Fences.{form_of, lets_read};
 ghost use Rattle.host_names.specs.Forms.{pair_of};
 
+use crate::checking::check_file;
 use crate::environment::environment_of;
 use crate::explanations::{explanation_text, names_text};
 use crate::imports::imports_text;
@@ -32,7 +33,7 @@ use world_core::World;
 use world_fenced::{FencedWorld, FileFence};
 
 /// How many bytes of a script's file are read at most: one past the greatest length of a script.
-const SCRIPT_LIMIT: u64 = MAX_SCRIPT_BYTES as u64 + 1;
+pub(crate) const SCRIPT_LIMIT: u64 = MAX_SCRIPT_BYTES as u64 + 1;
 
 /// How many bytes of a module's file are read at most: one past the greatest length of a module.
 const MODULE_LIMIT: u64 = MAX_MODULE_BYTES as u64 + 1;
@@ -45,7 +46,7 @@ fn read_file<R: Files>(alloc: Global, files: &R, path: &str, limit: u64) -> io::
 }
 
 /// The first bytes of a file that the line names.
-fn file_of(rt: &HostRuntime, path: &str, limit: u64) -> Result<Vec<u8>, Undone>
+pub(crate) fn file_of(rt: &HostRuntime, path: &str, limit: u64) -> Result<Vec<u8>, Undone>
     ensures { IfErr result IsUnread }
 {
     match read_file(rt.alloc(), rt, path, limit) {
@@ -145,7 +146,7 @@ fn exec_task(rt: &HostRuntime, task: &Task<'_>) -> Result<RunEnd, Undone>
 }
 
 /// The module of a script; else what is told of it.
-fn compiled(alloc: Global, script: &[u8]) -> Result<Vec<u8>, RunEnd>
+pub(crate) fn compiled(alloc: Global, script: &[u8]) -> Result<Vec<u8>, RunEnd>
     ensures ok { IfOk result (λ bytes. IsCompiled script.now bytes.items) }
     ensures err { IfErr result (IsUncompiled script.now) }
 {
@@ -253,6 +254,7 @@ pub(crate) fn carry_out(rt: &HostRuntime, request: &Request) -> u8
 {
     let done = match request {
         Request::Compile { script_file, out } => compile_file(rt, script_file, out),
+        Request::Check(script_file) => check_file(rt, script_file),
         Request::Run(task) => run_task(rt, task),
         Request::Exec(task) => exec_task(rt, task),
         Request::Imports(file) => imports_task(rt, file),
