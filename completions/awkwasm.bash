@@ -3,13 +3,17 @@ _awkwasm() {
   local word="${COMP_WORDS[COMP_CWORD]}" options='' values='' arguments='' kind='' place=0 at last
   COMPREPLY=()
   if [ "$COMP_CWORD" = 1 ]; then
-    mapfile -t COMPREPLY < <(compgen -W 'compile run exec imports explain help -h --help -V --version' -- "$word")
+    mapfile -t COMPREPLY < <(compgen -W 'compile check run exec imports explain help -h --help -V --version' -- "$word")
     return
   fi
   case ${COMP_WORDS[1]} in
     compile)
       options='-h --help'
       arguments='files files'
+      ;;
+    check)
+      options='-h --help'
+      arguments='files'
       ;;
     run)
       options='-F -v --steps --no-files --read-only --only-operands --may-read --may-write --most-input --most-output --streams -h --help'
@@ -71,7 +75,7 @@ _awkwasm() {
       mapfile -t COMPREPLY < <(compgen -W 'CONVFMT= FS= OFMT= OFS= ORS= RS= SUBSEP=' -- "$word")
       ;;
     names) mapfile -t COMPREPLY < <(compgen -W "$(awkwasm explain 2>/dev/null)" -- "$word") ;;
-    commands) mapfile -t COMPREPLY < <(compgen -W 'compile run exec imports explain help' -- "$word") ;;
+    commands) mapfile -t COMPREPLY < <(compgen -W 'compile check run exec imports explain help' -- "$word") ;;
   esac
 }
 complete -F _awkwasm awkwasm

@@ -1,7 +1,7 @@
 -- What became of what a command line asks for: what each command answers, and the exit status.
 use Rattle.std.specs.Prelude.{◌≡◌, ◌⊎◌, ℕ, List, map, Result, Ok, Err, IfErr, IfOk}
 use Rattle.command_line.specs.declared.Request.{Request}
-use Rattle.command_line.specs.declared.Request.TheVariants.{Compile, Run, Exec, Imports, Explain}
+use Rattle.command_line.specs.declared.Request.TheVariants.{Check, Compile, Run, Exec, Imports, Explain}
 use Rattle.command_line.specs.declared.Task.{Task}
 use Rattle.script_compiler.specs.Compiled.{IsCompiled}
 use Rattle.run_report.specs.declared.end.RunEnd.{RunEnd}
@@ -33,7 +33,7 @@ IsUnwritten (File fault) = fault ≡ CannotWrite
 IsUnwritten NoMemory = Unit {0}
 IsUnwritten _ = ⊥
 
--- The script of these bytes is compiled, and the answer is status 0; else it is why it is not compiled.
+-- The script of these bytes can be compiled, and the answer is status 0; else it is why it is not compiled.
 abbrev pub Compiles : List ℕ → RunEnd → Type 0
 Compiles bytes e = ((e ≡ Ended 0) × ((compiled : List ℕ) × IsCompiled bytes compiled)) ⊎ IsUncompiled bytes e
 
@@ -52,6 +52,8 @@ IsExplained (Err undone) = IsNotExplained undone
 abbrev pub Does : Request → Result RunEnd Undone → Type 0
 Does (Compile script_file out) (Ok e) = (bytes : List ℕ) × Compiles bytes e
 Does (Compile script_file out) (Err undone) = IsUnread undone ⊎ IsUnwritten undone
+Does (Check script_file) (Ok e) = (bytes : List ℕ) × Compiles bytes e
+Does (Check script_file) (Err undone) = IsUnread undone ⊎ IsUnwritten undone
 Does (Run task) (Ok e) = (environment : List NamedText) × IsSortedByName environment × RunsScript task (map pair_of environment) e
 Does (Run task) (Err undone) = IsUnbegun undone
 Does (Exec task) (Ok e) = (bytes : List ℕ) × (environment : List NamedText) × IsSortedByName environment × RunsModule task bytes (map pair_of environment) e

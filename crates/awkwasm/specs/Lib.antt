@@ -1,3 +1,4 @@
+pub mod Checked
 pub mod Environment
 pub mod Done
 pub mod Lines

@@ -9,6 +9,7 @@ ghost use Rattle.command_line.specs.Request.{texts};
 ghost use Rattle.run_tasks.specs.declared.undone.Undone.TheVariants.{NoMemory};
 ghost use Rattle.awkwasm.specs.Lines.{Carries, Refuses};
 
+mod checking;
 mod environment;
 mod explanations;
 mod imports;

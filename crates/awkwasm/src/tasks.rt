@@ -12,6 +12,7 @@ ghost use Rattle.run_report.specs.declared.end.RunEnd.TheVariants.{Ended};
 ghost use Rattle.run_tasks.specs.Runs.{RunsModule, RunsScript};
 ghost use Rattle.run_tasks.specs.Tasks.{IsUnreadable, task_code};
 
+use crate::checking::check_file;
 use crate::environment::environment_of;
 use crate::explanations::{explanation_text, names_text};
 use crate::imports::imports_text;
@@ -36,7 +37,7 @@ use wasm_types::MAX_MODULE_BYTES;
 type Around<'a> = Surroundings<'a, HostRuntime, Stdin, Printer<'a, HostRuntime>, Stderr>;
 
 /// How many bytes of a script's file are read at most: one past the greatest length of a script.
-const SCRIPT_LIMIT: u64 = MAX_SCRIPT_BYTES as u64 + 1;
+pub(crate) const SCRIPT_LIMIT: u64 = MAX_SCRIPT_BYTES as u64 + 1;
 
 /// How many bytes of a module's file are read at most: one past the greatest length of a module.
 const MODULE_LIMIT: u64 = MAX_MODULE_BYTES as u64 + 1;
@@ -49,7 +50,7 @@ fn read_file<R: Files>(alloc: Global, files: &R, path: &str, limit: u64) -> io::
 }
 
 /// The first bytes of a file that the line names.
-fn file_of(rt: &HostRuntime, path: &str, limit: u64) -> Result<Vec<u8>, Undone>
+pub(crate) fn file_of(rt: &HostRuntime, path: &str, limit: u64) -> Result<Vec<u8>, Undone>
     ensures { IfErr result IsUnread }
 {
     match read_file(rt.alloc(), rt, path, limit) {
@@ -265,6 +266,7 @@ pub(crate) fn carry_out(rt: &HostRuntime, request: &Request) -> u8
     }
     let done = match request {
         Request::Compile { script_file, out } => compile_file(rt, script_file, out),
+        Request::Check(script_file) => check_file(rt, script_file),
         Request::Run(task) => run_task(rt, task),
         Request::Exec(task) => exec_task(rt, task),
         Request::Imports(file) => imports_task(rt, file),

@@ -52,6 +52,10 @@ topic_rule = record (new_rule (codes "name")) { action = Some Set }
 abbrev pub compile_app : App
 compile_app = with_rule (with_rule (new_app (codes "compile")) (single (codes "scriptfile"))) (single (codes "out"))
 
+-- `check SCRIPTFILE`
+abbrev pub check_app : App
+check_app = with_rule (new_app (codes "check")) (single (codes "scriptfile"))
+
 -- `NAME [-F s] [-v n=t].. [--steps N]`
 abbrev pub options_app : Text → App
 options_app name = with_rule (with_rule (with_rule (new_app name) separator_rule) assign_rule) (number_rule (codes "steps"))
@@ -92,7 +96,7 @@ top_app = on_top (λ s. record s { has_version = true; subcommand_required = tru
 -- the whole line
 abbrev pub line_app : App
 line_app =
-    with_subcommand (with_subcommand (with_subcommand (with_subcommand (with_subcommand top_app compile_app.top)
+    with_subcommand (with_subcommand (with_subcommand (with_subcommand (with_subcommand (with_subcommand top_app compile_app.top) check_app.top)
     run_app.top) (task_app (codes "exec") (codes "module")).top) imports_app.top) explain_app.top
 
 -- the exit status of a line that asks for nothing

@@ -5,7 +5,7 @@ ghost use Rattle.std.specs.Prelude.{◌≡◌, ◌↔◌, IfOk, IfSome, IsTrue, 
 ghost use Rattle.std.specs.Prelude.{Ok, Some, map, option_map, true, IfErr, codes};
 ghost use Rattle.clap.specs.Words.{App, Rule, app_of, rule_of, takes, kind_of, rows_of, found_of, matches_of, one_of, first_of, new_app, new_rule, subcommand_rows_of, subcommand_of, with_rule, with_subcommand};
 ghost use Rattle.command_line.specs.Request.{Asks, IsFences, IsFlag, IsLimits, IsNumber, IsTask, texts, word_at, words_at};
-ghost use Rattle.command_line.specs.Line.{Builds, single, flag_rule, names_rule, number_rule, options_app, fences_app, names_app, limits_app, compile_app, run_app, task_app, explain_app, imports_app, top_app, line_app, is_file_option, has_file_option, status_of_kind, takes_text, text_apart};
+ghost use Rattle.command_line.specs.Line.{Builds, single, flag_rule, names_rule, number_rule, options_app, fences_app, names_app, limits_app, check_app, compile_app, run_app, task_app, explain_app, imports_app, top_app, line_app, is_file_option, has_file_option, status_of_kind, takes_text, text_apart};
 
 mod spelling;
 
@@ -87,6 +87,8 @@ pub struct Task<'a> {
 pub enum Request<'a> {
     /// `compile SCRIPTFILE OUT`: the names of two files.
     Compile { script_file: &'a str, out: &'a str },
+    /// `check SCRIPTFILE`: all that is to be said of a script before it runs.
+    Check(&'a str),
     /// `run SCRIPT WORDS..`
     Run(Task<'a>),
     /// `exec MODULE WORDS..`
@@ -290,6 +292,14 @@ fn compile_command<'a>(alloc: Global) -> Result<Command<'a>, AllocError>
     with_arg(command, out)
 }
 
+fn check_command<'a>(alloc: Global) -> Result<Command<'a>, AllocError>
+    ensures { IfOk result (Builds check_app) }
+{
+    let about = "Say of a script why it is refused, and what looks like a slip, with the places";
+    let script = single_arg(alloc, "scriptfile", "The script's file");
+    with_arg(Ok(named_command(alloc, "check", about)), script)
+}
+
 fn imports_command<'a>(alloc: Global) -> Result<Command<'a>, AllocError>
     ensures { IfOk result (Builds imports_app) }
 {
@@ -352,6 +362,7 @@ fn command<'a>(alloc: Global) -> Result<Command<'a>, AllocError>
     ensures { IfOk result (λ c. app_of c ≡ line_app) }
 {
     let line = with_subcommand(Ok(top_command(alloc)), compile_command(alloc));
+    let line = with_subcommand(line, check_command(alloc));
     let line = with_subcommand(line, run_command(alloc));
     let line = with_subcommand(line, exec_command(alloc));
     let line = with_subcommand(line, imports_command(alloc));
@@ -550,6 +561,7 @@ fn request_in<'a>(alloc: Global, matches: &ArgMatches<'a>) -> Result<Request<'a>
             script_file: text(inner, "scriptfile"),
             out: text(inner, "out"),
         }),
+        Some(("check", inner)) => Ok(Request::Check(text(inner, "scriptfile"))),
         Some(("run", inner)) => Ok(Request::Run(task_of(alloc, inner, "script")?)),
         Some(("imports", inner)) => Ok(Request::Imports(text(inner, "module"))),
         Some(("explain", inner)) => Ok(Request::Explain(topic(inner))),

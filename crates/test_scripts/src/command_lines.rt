@@ -61,6 +61,7 @@ fn asked(alloc: Global, words: &[&str]) -> Result<String, AllocError> {
         Ok(Request::Compile { script_file, out }) => format!(in alloc;
             "compile {script_file:?} {out:?}\n"
         ),
+        Ok(Request::Check(script_file)) => format!(in alloc; "check {script_file:?}\n"),
         Ok(Request::Run(task)) => described(alloc, "run", &task),
         Ok(Request::Exec(task)) => described(alloc, "exec", &task),
         Ok(Request::Imports(file)) => format!(in alloc; "imports {file:?}\n"),
