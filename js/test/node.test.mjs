@@ -260,6 +260,30 @@ test("limits on time, steps and output, and a stop", async () => {
   assert.equal((await soon.end).kind, "stopped");
 });
 
+/** A module of so many functions of 50,000 locals, each of 9 bytes, and of a `main` that answers 0. */
+function ofManyLocals(functions) {
+  const number = (n) => (n < 128 ? [n] : [(n & 127) | 128, ...number(n >> 7)]);
+  const section = (id, ...body) => [id, ...number(body.flat().length), ...body.flat()];
+  const each = (entry) => Array.from({ length: functions }, () => entry).flat();
+  const [I32, I64] = [0x7f, 0x7e];
+  const one = [8, 1, ...number(50_000), I64, 0x41, 0, 0x0b];
+  return Uint8Array.from([
+    0, 0x61, 0x73, 0x6d, 1, 0, 0, 0, ...section(1, [1, 0x60, 0, 1, I32]), ...section(3, number(functions + 1), each([0]), [0]),
+    ...section(7, [1, 4, ...Buffer.from("main"), 0], number(functions)), ...section(10, number(functions + 1), each(one), [4, 0, 0x41, 0, 0x0b]),
+  ]);
+}
+
+test("a module of many locals takes memory in proportion to its bytes", () => {
+  const bytes = ofManyLocals(15_000);
+  writeFileSync(`${folder}/locals.wasm`, bytes);
+  const text = `import { readFileSync } from "node:fs"; import { filesInMemory, load, run } from ${JSON.stringify(new URL("../core/index.mjs", import.meta.url))};
+    const { kind } = run(load(readFileSync("locals.wasm")), {}, filesInMemory()); console.log(kind, process.resourceUsage().maxRSS);`;
+  const [kind, kilobytes] = execFileSync(process.execPath, ["--input-type=module", "-e", text], { cwd: folder, encoding: "utf8" }).split(" ");
+  assert.equal(kind, "ended");
+  // the engine takes some 50 MB without a module; with a byte for each local it would be 800 MB
+  assert.ok(Number(kilobytes) < 300_000, kilobytes);
+});
+
 test("a worker says why a module is refused", async () => {
   const { kind, status } = await start({ module: Buffer.from("no module") }).end;
   assert.deepEqual([kind, status], ["refused", 3]);
