@@ -16,7 +16,7 @@ _awkwasm() {
       arguments='files'
       ;;
     run)
-      options='-F -v --steps --no-files --read-only --only-operands --may-read --may-write --most-input --most-output --streams -h --help'
+      options='-F -v --steps --no-files --read-only --only-operands --may-read --may-write --most-input --most-output --streams --where -h --help'
       values='-F=nothing -v=variables --steps=nothing --may-read=files --may-write=files --most-input=nothing --most-output=nothing'
       arguments='nothing files+'
       ;;
