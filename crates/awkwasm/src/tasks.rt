@@ -1,13 +1,12 @@
 //! What the command line asks for, over real files.
-ghost use Rattle.std.specs.Prelude.{◌≡◌, ◌⊎◌, ℕ, List, [], Some, map, IfErr, IfOk};
-ghost use Rattle.awkwasm.specs.Done.{Compiles, Exits, IsExplained, IsNotExplained, IsUnbegun, IsUnread, IsUnwritten};
+ghost use Rattle.std.specs.Prelude.{◌≡◌, ◌⊎◌, ℕ, List, [], map, IfErr, IfOk};
+ghost use Rattle.awkwasm.specs.Done.{Compiles, Does, Exits, IsExplained, IsNotExplained, IsUnbegun, IsUnread, IsUnwritten};
 ghost use Rattle.awkwasm.specs.Environment.{IsSortedByName};
 ghost use Rattle.command_line.specs.declared.Request.TheVariants.{Run};
 ghost use Rattle.host_names.specs.Forms.{pair_of};
 ghost use Rattle.host_names.specs.declared.names.NamedText.{NamedText};
 ghost use Rattle.run_report.specs.EndTexts.{exit_code};
 ghost use Rattle.run_report.specs.WhereTexts.{where_text};
-ghost use Rattle.run_report.specs.declared.whereabouts.Whereabouts.{Whereabouts as AnyWhereabouts};
 ghost use Rattle.run_report.specs.declared.end.RunEnd.TheVariants.{Ended};
 ghost use Rattle.run_tasks.specs.Runs.{RunsModule, RunsScript};
 ghost use Rattle.run_tasks.specs.Tasks.{IsUnreadable, task_code};
@@ -221,38 +220,47 @@ pub(crate) fn tell_task(rt: &HostRuntime, done: Result<RunEnd, Undone>) -> u8
     }
 }
 
-/// What is told of where a script was; nothing for want of memory.
-fn where_lines(alloc: Global, end: &RunEnd, found: Option<Whereabouts>) -> Vec<u8>
-    ensures { (result.items ≡ []) ⊎ ((w : AnyWhereabouts) × (found ≡ Some w)
-        × (result.items ≡ where_text end.now w)) }
+/// What is told of where a script was as its run ended so; nothing for want of memory.
+fn lines_of(alloc: Global, end: &RunEnd, found: &Whereabouts) -> Vec<u8>
+    ensures { (result.items ≡ []) ⊎ (result.items ≡ where_text end.now found.now) }
 {
-    let Some(found) = found else {
-        return Vec::new(alloc);
-    };
-    match where_text(alloc, end, &found) {
+    match where_text(alloc, end, found) {
         Ok(lines) => lines,
         Err(_) => Vec::new(alloc),
     }
 }
 
-/// Tells how a run ended, and then where the script was; the answer is the exit status.
-fn tell_where(rt: &HostRuntime, end: RunEnd, found: Option<Whereabouts>) -> u8
-    ensures { result ≡ exit_code end }
-{
-    let lines = where_lines(rt.alloc(), &end, found);
-    let status = tell_run(rt, end);
-    tell(rt, lines.as_slice());
-    status
+/// What is told of where a script was, if it was run and that was seen.
+fn where_lines(
+    alloc: Global,
+    done: &Result<RunEnd, Undone>,
+    found: &Option<Whereabouts>,
+) -> Vec<u8> {
+    match (done, found) {
+        (Ok(end), Some(found)) => lines_of(alloc, end, found),
+        _ => Vec::new(alloc),
+    }
 }
 
-/// Runs the script of a task, and tells where it was; the answer is the exit status.
+/// Runs the script of a task, and sees where it was.
+fn seen_run(rt: &HostRuntime, task: &Task<'_>) -> (Result<RunEnd, Undone>, Option<Whereabouts>)
+    ensures { Does (Run task.now) result.0 }
+{
+    match run_task_where(rt, task) {
+        Ok((end, found)) => (Ok(end), found),
+        Err(undone) => (Err(undone), None),
+    }
+}
+
+/// Runs the script of a task, and tells how it ended and where it was; the answer is the exit status.
 fn run_and_tell(rt: &HostRuntime, task: &Task<'_>) -> u8
     ensures { Exits (Run task.now) result }
 {
-    match run_task_where(rt, task) {
-        Ok((end, found)) => tell_where(rt, end, found),
-        Err(undone) => tell_task(rt, Err(undone)),
-    }
+    let (done, found) = seen_run(rt, task);
+    let lines = where_lines(rt.alloc(), &done, &found);
+    let status = tell_task(rt, done);
+    tell(rt, lines.as_slice());
+    status
 }
 
 /// Does what a command line asks for, over real files; the answer is the exit status.
