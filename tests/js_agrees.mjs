@@ -35,11 +35,19 @@ async function differencesOf(compare, words) {
   return differing.length;
 }
 
+const COMPARISONS = [compareExamples, compareCommandLines, compareRows, compareCalls, compareRandom];
+
+/** Each takes half of the time that is left at most, and the last one takes all of it. So some of each is run also on a busy machine. */
+function untilFor(compare, until) {
+  const now = Date.now();
+  return compare === COMPARISONS.at(-1) ? until : now + (until - now) / 2;
+}
+
 async function main() {
   const words = given();
   let wrong = 0;
   try {
-    for (const compare of [compareRows, compareExamples, compareCommandLines, compareCalls, compareRandom]) wrong += await differencesOf(compare, words);
+    for (const compare of COMPARISONS) wrong += await differencesOf(compare, { ...words, until: untilFor(compare, words.until) });
   } finally {
     rmSync(words.work, { recursive: true, force: true });
   }

@@ -2,17 +2,17 @@
 
 import { mkdirSync, rmSync, writeFileSync } from "node:fs";
 
-import { Counts, each } from "./js_compare.mjs";
+import { Counts, eachInTime } from "./js_compare.mjs";
 import { byPackage, byProgram, difference } from "./js_random.mjs";
 import { randomCalls } from "./random_calls.mjs";
 
 const WORDS = [[], ["f"], ["x=5", "-", "g"], ["RS=,", "f", "-"]];
 
-export async function compareCalls({ program, work, lanes, scripts, seed }) {
+export async function compareCalls({ program, work, scripts, seed, ...bounds }) {
   const counts = new Counts();
   const differing = [];
   const count = Math.ceil(scripts / 6);
-  await each(randomCalls(count, seed), lanes, async (bytes, n, lane) => {
+  await eachInTime(randomCalls(count, seed), bounds, counts, async (bytes, n, lane) => {
     const folder = `${work}/calls.${lane}`;
     rmSync(folder, { recursive: true, force: true });
     mkdirSync(folder, { recursive: true });

@@ -2,7 +2,7 @@
 
 import { existsSync, mkdirSync, readFileSync, readdirSync, rmSync, symlinkSync, writeFileSync } from "node:fs";
 
-import { Counts, each, ran } from "./js_compare.mjs";
+import { Counts, eachInTime, ran } from "./js_compare.mjs";
 
 const INPUT = "a b c\n1 22 3\n\nx=1 0.5 abba\n10 1e1 10.0\n";
 
@@ -24,12 +24,12 @@ async function answerOf(command, before, { words }, module, folder) {
   return { status, out, said: status === 8 ? "" : said, files };
 }
 
-export async function compareCommandLines({ top, program, work, lanes }) {
+export async function compareCommandLines({ top, program, work, ...bounds }) {
   const counts = new Counts();
   const differing = [];
   const link = `${work}/awk.mjs`;
   symlinkSync(`${top}js/awk.mjs`, link);
-  await each(casesOf(top), lanes, async (it, n, lane) => {
+  await eachInTime(casesOf(top), bounds, counts, async (it, n, lane) => {
     const folder = `${work}/lines.${lane}`;
     mkdirSync(folder, { recursive: true });
     writeFileSync(`${folder}/script`, it.script);

@@ -39,3 +39,11 @@ export class Counts extends Map {
     this.set(name, (this.get(name) ?? 0) + 1);
   }
 }
+
+/** Calls a function for each item, so many at a time, while there is time; what is not run is counted as such. */
+export function eachInTime(items, { lanes, until }, counts, act) {
+  return each(items, lanes, async (item, n, lane) => {
+    if (Date.now() > until) counts.add("NOT RUN, since the time is over");
+    else await act(item, n, lane);
+  });
+}

@@ -4,7 +4,7 @@ import { existsSync, readFileSync, readdirSync } from "node:fs";
 import { basename } from "node:path";
 
 import { filesInMemory, load, run, textOfBytes } from "../js/core/index.mjs";
-import { Counts, compiled, ran } from "./js_compare.mjs";
+import { Counts, compiled, eachInTime, ran } from "./js_compare.mjs";
 
 /** The scripts beside which a module is kept: folder and name, without the ending. */
 function scriptsOf(top) {
@@ -32,19 +32,22 @@ async function compareReport(top, counts, differing) {
   else differing.push(`examples/embedding/report.mjs: ${out}`);
 }
 
-export async function compareExamples({ top, program, work }) {
+/** One script: the module that is kept beside it, and what that prints. */
+async function compareExample({ top, program, work }, { folder, name }, counts, differing) {
+  const { bytes } = await compiled(program, `${work}/examples`, readFileSync(`${folder}/${name}.awk`, "latin1"));
+  const kept = `${folder}/${name}.wasm`;
+  if (existsSync(kept) && bytes !== undefined && readFileSync(kept).equals(bytes)) counts.add("same module");
+  else differing.push(`${kept} is not what compile writes: tests/make_example_modules`);
+  if (bytes === undefined || !existsSync(`${folder}/output`)) return;
+  const { out, status } = printed(bytes, readFileSync(`${folder}/input`, "latin1"));
+  if (out === readFileSync(`${folder}/output`, "latin1") && status === statusOf(top, basename(folder))) counts.add("same output");
+  else differing.push(`${folder}: status ${status}\n${out}`);
+}
+
+export async function compareExamples(given) {
   const counts = new Counts();
   const differing = [];
-  await compareReport(top, counts, differing);
-  for (const { folder, name } of scriptsOf(top)) {
-    const { bytes } = await compiled(program, `${work}/examples`, readFileSync(`${folder}/${name}.awk`, "latin1"));
-    const kept = `${folder}/${name}.wasm`;
-    if (existsSync(kept) && bytes !== undefined && readFileSync(kept).equals(bytes)) counts.add("same module");
-    else differing.push(`${kept} is not what compile writes: tests/make_example_modules`);
-    if (bytes === undefined || !existsSync(`${folder}/output`)) continue;
-    const { out, status } = printed(bytes, readFileSync(`${folder}/input`, "latin1"));
-    if (out === readFileSync(`${folder}/output`, "latin1") && status === statusOf(top, basename(folder))) counts.add("same output");
-    else differing.push(`${folder}: status ${status}\n${out}`);
-  }
+  await compareReport(given.top, counts, differing);
+  await eachInTime(scriptsOf(given.top), { lanes: 1, until: given.until }, counts, (it) => compareExample(given, it, counts, differing));
   return { what: "examples", counts, differing };
 }

@@ -5,7 +5,7 @@ import { mkdirSync, readFileSync, readdirSync, writeFileSync } from "node:fs";
 import { bytesOfText, filesInMemory, load, run, textOfBytes } from "../js/core/index.mjs";
 import { linesOf } from "../js/core/places.mjs";
 import { fenced } from "../js/node/index.mjs";
-import { Counts, compiled, each, ran } from "./js_compare.mjs";
+import { Counts, compiled, eachInTime, ran } from "./js_compare.mjs";
 import { randomScripts } from "./random_scripts.mjs";
 
 const INPUT = "a b\nb c d\n\n12 0.5\n a,b  c\nx=1 3 -7\n";
@@ -63,13 +63,12 @@ async function compared(script, words, program, folder) {
   return { came: ours.kind, why: difference(theirs, ours) || (!pointsAgree(script, made.bytes) && "other program points") };
 }
 
-export async function compareRandom({ program, work, lanes, scripts, seed, until }) {
+export async function compareRandom({ program, work, scripts, seed, ...bounds }) {
   const counts = new Counts();
   const differing = [];
-  await each(randomScripts(scripts, seed), lanes, async (script, n, lane) => {
+  await eachInTime(randomScripts(scripts, seed), bounds, counts, async (script, n, lane) => {
     const words = WORDS[n % WORDS.length];
-    const late = Date.now() > until;
-    const { came, why } = late ? { came: "not run, since the time is over", why: false } : await compared(script, words, program, `${work}/random.${lane}`);
+    const { came, why } = await compared(script, words, program, `${work}/random.${lane}`);
     counts.add(came);
     if (why) differing.push(`script ${n}, words ${JSON.stringify(words)}: ${why}\n${script}`);
   });

@@ -4,7 +4,7 @@ import { readFileSync } from "node:fs";
 
 import { FAULTS, LoadError, bytesOfText, filesInMemory, load, run, textOfBytes } from "../js/core/index.mjs";
 import { fenced } from "../js/node/index.mjs";
-import { Counts, compiled, each } from "./js_compare.mjs";
+import { Counts, compiled, eachInTime } from "./js_compare.mjs";
 import { pointsAgree } from "./js_random.mjs";
 
 /** Fields for which a world of its own is needed, or steps of the program: failing calls, a limit of steps, output without an end, cut modules. */
@@ -121,13 +121,13 @@ function agrees(row, lines, due) {
   return status === "3" ? ourName === "CompileError" || FAULTS.includes(name) : OWN_WORDS[name]?.test(ourName) ?? false;
 }
 
-export async function compareRows({ top, program, work, lanes }) {
+export async function compareRows({ top, program, work, ...bounds }) {
   const read = (name) => readFileSync(`${top}crates/test_scripts/${name}`, "latin1").split("\n").slice(0, -1);
   const rows = read("stdin").map(rowOf);
   const plain = paired(rows, read("stdout"));
   const counts = new Counts([["special", rows.length - plain.length]]);
   const differing = [];
-  await each(plain, lanes, async ({ row, due }, n, lane) => {
+  await eachInTime(plain, bounds, counts, async ({ row, due }, n, lane) => {
     const made = row.isModule ? { bytes: row.bytes() } : await compiled(program, `${work}/rows.${lane}`, row.script);
     if (made.bytes === undefined) {
       counts.add("refused by compile");

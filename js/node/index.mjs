@@ -35,8 +35,8 @@ class FileSource {
     this.descriptor = descriptor;
   }
 
-  read() {
-    const part = new Uint8Array(PART);
+  read(most = PART) {
+    const part = new Uint8Array(Math.min(most, PART));
     const length = waiting(() => this.readSome(part));
     return length === 0 ? null : part.subarray(0, length);
   }
@@ -80,6 +80,9 @@ function opened(Kind, name, flags) {
     return null;
   }
 }
+
+/** The standard error of the process. */
+export const errors = new FileOutlet(2);
 
 /** The files of the machine, and the standard streams of the process. */
 export const files = {

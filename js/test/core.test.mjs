@@ -2,7 +2,7 @@ import assert from "node:assert/strict";
 import { readFileSync, readdirSync } from "node:fs";
 import { test } from "node:test";
 
-import { LoadError, filesInMemory, linesOf, load, run, shown, sourceOf, textOfBytes, utf8, withMostOutput } from "awkwasm/core";
+import { LoadError, filesInMemory, linesOf, load, run, shown, sourceOf, textOfBytes, utf8, withMostInput, withMostOutput, withStreams } from "awkwasm/core";
 
 const file = (name) => readFileSync(new URL(`./modules/${name}`, import.meta.url));
 const module = (name) => file(`${name}.wasm`);
@@ -76,6 +76,60 @@ test("a write past the limit on output fails after what fits", () => {
   const files = withMostOutput(filesInMemory({ output: (part) => { out += textOfBytes(part); } }), 10);
   const end = run(module("endless"), {}, files);
   assert.deepEqual([end.name, out, files.isReached()], ["WriteFailed", "a line\na l", true]);
+});
+
+/** A source of these parts, which notes how many bytes it is asked for. */
+function asked(texts, seen) {
+  const parts = texts.map((text) => Buffer.from(text));
+  return () => ({ read: (most) => (seen.push(most), parts.shift() ?? null) });
+}
+
+/** A run of a module over a standard input and a file `f`, of which so many bytes are read. */
+function readingAtMost(most, name, { standard, f }) {
+  let out = "";
+  const files = withMostInput(filesInMemory({ standard, named: [["f", f]], output: (part) => { out += textOfBytes(part); } }), most);
+  return [run(module(name), {}, files).name, out];
+}
+
+test("a read past the limit on input fails, and the end of the input is no failure", () => {
+  for (const [most, wanted, due] of [
+    [6, [6, 4, 3, 1], null], [5, [5, 3, 2], "ReadFailed"], [2, [2, 1], "ReadFailed"], [0, [1], "ReadFailed"],
+  ]) {
+    const seen = [];
+    const [name, out] = readingAtMost(most, "copy", { standard: asked(["a\n", "b", "\nc\n"], seen), f: "" });
+    assert.deepEqual([name, seen], [due, wanted], most);
+    assert.equal(out, ["1: a\n", "2: b\n", "3: c\n"].slice(0, [0, 0, 1, 1, 1, 2, 3][most]).join(""));
+  }
+});
+
+test("a source that gives more than it is asked for is cut at the limit on input", () => {
+  const whole = "a\nb\nc\n";
+  assert.deepEqual(readingAtMost(4, "copy", { standard: whole, f: "" }), ["ReadFailed", "1: a\n2: b\n"]);
+  assert.deepEqual(readingAtMost(6, "copy", { standard: whole, f: "" }), [null, "1: a\n2: b\n3: c\n"]);
+});
+
+test("the limit on input is one of all that is read", () => {
+  // the standard input has 5 bytes, and the file 4
+  const given = { standard: "a\n\nb\n", f: "x\n\ny" };
+  assert.deepEqual(readingAtMost(9, "paragraphs", given), [null, "1 a a\nx\n2 b b\ny\n"]);
+  assert.deepEqual(readingAtMost(8, "paragraphs", given), [null, "1 a a\nx\n2 b b\nx\n"]);
+  // after a failure no read is tried, not even for the end of the standard input
+  assert.deepEqual(readingAtMost(7, "paragraphs", given), ["ReadFailed", "1 a a\n\n"]);
+});
+
+test("names of streams are the streams themselves", () => {
+  const seen = [];
+  const parts = ["a\nb\n", "c\n"].map((part) => Buffer.from(part));
+  const memory = filesInMemory({ standard: () => ({ read: () => parts.shift() ?? null }), output: (part) => seen.push(`out ${textOfBytes(part)}`) });
+  const files = withStreams(memory, { write: (part) => seen.push(`err ${textOfBytes(part)}`) });
+  assert.equal(run(module("streams"), {}, files).kind, "ended");
+  // what the reader of the main input has taken in stays with it
+  const due = (line) => [`out main ${line}\n`, "err to errors\n", "out to output\n", "out named c\n", "out closed 0\n"];
+  assert.deepEqual(seen, [...due("a"), ...due("b")]);
+  assert.deepEqual(memory.written(), []);
+  const without = filesInMemory({ standard: "a\n" });
+  assert.equal(run(module("streams"), {}, without).kind, "ended");
+  assert.deepEqual(without.written().map(([name]) => name), ["/dev/stderr", "/dev/stdout"]);
 });
 
 test("input in parts gives the records of the whole", () => {

@@ -6,7 +6,7 @@ import { fileURLToPath } from "node:url";
 import { after, test } from "node:test";
 
 import { fenced, files, run, sourceOf, start, textOfBytes } from "awkwasm/node";
-import { requestOf } from "../node/cli.mjs";
+import { requestOf } from "../node/request.mjs";
 
 const path = (name) => fileURLToPath(new URL(`./modules/${name}.wasm`, import.meta.url));
 const module = (name) => readFileSync(path(name));
@@ -44,7 +44,7 @@ test("options are taken as they stand, and wherever they stand", () => {
   assert.equal(printed("-F", ",", "a", "-v", "FS=x"), "[,] 0 awk 1 a\n");
   assert.equal(printed("a", "--", "--no-files", "--", "-F"), "[ ] 0 awk 1 a 2 --no-files 3 -- 4 -F\n");
   assert.equal(called([path("half"), "--no-files", "f"]).said, "awkwasm: OpenInput\n");
-  for (const words of [["-F", "-+"], ["-F"], ["-x"], ["--no-files", "--no-files"]]) assert.equal(called([path("words"), ...words]).status, 8, words.join(" "));
+  for (const words of [["-F", "-+"], ["-F"], ["-x"], ["--no-files", "--no-files"], ["--streams="], ["--may-read"], ["--stream"]]) assert.equal(called([path("words"), ...words]).status, 8, words.join(" "));
   assert.deepEqual(called(["-v=x=1", path("words")]), { status: 2, out: "", said: "awkwasm: BadAssignment\n" });
 });
 
@@ -105,10 +105,77 @@ test("fences keep files from a script", () => {
   assert.deepEqual(called(["--only-operands", path("half"), "f"]), { status: 0, out: "0\n", said: "" });
 });
 
+test("each option takes names away, but for those that are listed", () => {
+  const cases = [
+    // options, and which of d, o, the operand p and another name may be read and written
+    [[], "dopx", "dopx"],
+    [["--may-write", "o"], "dopx", "o"],
+    [["--may-read", "d"], "d", "dopx"],
+    [["--may-read=d", "--may-read=x"], "dx", "dopx"],
+    [["--read-only"], "dopx", ""],
+    [["--read-only", "--may-write", "o"], "dopx", "o"],
+    [["--no-files"], "", ""],
+    [["--no-files", "--may-read", "d"], "d", ""],
+    [["--no-files", "--may-read", "d", "--may-write", "o"], "d", "o"],
+    [["--only-operands"], "p", ""],
+    [["--only-operands", "--may-read", "d"], "dp", ""],
+    [["--only-operands", "--may-write", "o"], "p", "o"],
+    [["--only-operands", "--no-files"], "", ""],
+  ];
+  const taken = (fence) => [fence.mayRead, fence.mayWrite].map((may) => [..."dopx"].filter((name) => may(name)).join(""));
+  for (const [options, ...due] of cases) assert.deepEqual(taken(requestOf([...options, "module", "p"]).fence), due, options.join(" "));
+});
+
+test("names of streams pass every fence, and are names of files without --streams", () => {
+  const names = ["/dev/stdin", "/dev/stdout", "/dev/stderr"];
+  const taken = (...options) => {
+    const { mayRead, mayWrite } = requestOf(["--no-files", ...options, "module"]).fence;
+    return [names.filter(mayRead), names.filter(mayWrite)];
+  };
+  assert.deepEqual(taken(), [[], []]);
+  assert.deepEqual(taken("--streams"), [[names[0]], names.slice(1)]);
+});
+
+test("lists of names let files through", () => {
+  writeFileSync(`${folder}/f`, "8\n");
+  writeFileSync(`${folder}/g`, "6\n");
+  assert.deepEqual(called(["--may-read", "f", path("half"), "f", "g"]), { status: 2, out: "4\n", said: "awkwasm: OpenInput\n" });
+  assert.deepEqual(called(["--no-files", "--may-read=f", "--may-read=g", path("half"), "f", "g"]), { status: 0, out: "4\n3\n", said: "" });
+  assert.deepEqual(called(["--read-only", "--may-write", "out", path("copy"), "f"]), { status: 0, out: "1: 8\n", said: "" });
+  assert.equal(called(["--may-write", "./out", path("copy"), "f"]).said, "awkwasm: OpenOutput\n");
+});
+
+test("limits on input and output", () => {
+  writeFileSync(`${folder}/f`, "8\n6\n");
+  assert.deepEqual(called(["--most-input", "4", path("half"), "f"]), { status: 0, out: "4\n3\n", said: "" });
+  assert.deepEqual(called(["--most-input=3", path("half"), "f"]), { status: 2, out: "4\n", said: "awkwasm: ReadFailed\n" });
+  assert.deepEqual(called(["--most-output", "3", path("half"), "f"]), { status: 2, out: "4\n3", said: "awkwasm: WriteFailed\n" });
+  assert.deepEqual(called(["--most-output=4", path("half"), "f"]), { status: 0, out: "4\n3\n", said: "" });
+  // "1: 8" with its newline, "8\n", and 2 of the 5 bytes of the second line
+  assert.deepEqual(called(["--most-output", "9", path("copy"), "f"]), { status: 2, out: "1: 8\n2:", said: "awkwasm: WriteFailed\n" });
+  assert.equal(readFileSync(`${folder}/out`, "utf8"), "8\n");
+  for (const words of [["-1"], ["1.5"], [""], ["18446744073709551616"], []]) assert.equal(called([path("half"), "--most-input", ...words]).status, 8, words.join());
+  assert.equal(called(["--most-input", "18446744073709551615", path("half"), "f"]).status, 0);
+});
+
+test("no more than one byte past the limit on input is taken from a stream that others read too", () => {
+  const line = `printf '8\\n6\\n4\\n' >six; ('${process.execPath}' '${awk}' --most-input 2 '${path("half")}' 2>&1; cat) <six`;
+  assert.equal(execFileSync("sh", ["-c", line], { cwd: folder, encoding: "utf8" }), "4\nawkwasm: ReadFailed\n\n4\n");
+});
+
+test("with --streams the names of streams mean them, in order with the other output", () => {
+  const line = (...options) => `printf 'a\\nb\\n' | '${process.execPath}' '${awk}' ${options.join(" ")} '${path("streams")}' >both 2>&1`;
+  execFileSync("sh", ["-c", line("--streams", "--no-files")], { cwd: folder });
+  const due = (it) => `main ${it}\nto errors\nto output\nnamed \nclosed 0\n`;
+  assert.equal(readFileSync(`${folder}/both`, "utf8"), due("a") + due("b"));
+  assert.throws(() => execFileSync("sh", ["-c", line("--no-files")], { cwd: folder }), { status: 2 });
+  assert.equal(readFileSync(`${folder}/both`, "utf8"), "main a\nawkwasm: OpenOutput\n");
+});
+
 test("a fence of many operands is asked in a time that does not grow with them", () => {
   const names = Array.from({ length: 100_000 }, (_, n) => `none/${n}`);
   const before = process.cpuUsage().user;
-  const [fence] = requestOf(["--only-operands", "module", ...names]).fences;
+  const { fence } = requestOf(["--only-operands", "module", ...names]);
   assert.ok(names.every((name) => fence.mayRead(name)) && !fence.mayRead("module"));
   assert.ok(process.cpuUsage().user - before < 5e6);
 });
@@ -191,6 +258,30 @@ test("limits on time, steps and output, and a stop", async () => {
   const soon = start({ module: module("forever") });
   soon.stop();
   assert.equal((await soon.end).kind, "stopped");
+});
+
+/** A module of so many functions of 50,000 locals, each of 9 bytes, and of a `main` that answers 0. */
+function ofManyLocals(functions) {
+  const number = (n) => (n < 128 ? [n] : [(n & 127) | 128, ...number(n >> 7)]);
+  const section = (id, ...body) => [id, ...number(body.flat().length), ...body.flat()];
+  const each = (entry) => Array.from({ length: functions }, () => entry).flat();
+  const [I32, I64] = [0x7f, 0x7e];
+  const one = [8, 1, ...number(50_000), I64, 0x41, 0, 0x0b];
+  return Uint8Array.from([
+    0, 0x61, 0x73, 0x6d, 1, 0, 0, 0, ...section(1, [1, 0x60, 0, 1, I32]), ...section(3, number(functions + 1), each([0]), [0]),
+    ...section(7, [1, 4, ...Buffer.from("main"), 0], number(functions)), ...section(10, number(functions + 1), each(one), [4, 0, 0x41, 0, 0x0b]),
+  ]);
+}
+
+test("a module of many locals takes memory in proportion to its bytes", () => {
+  const bytes = ofManyLocals(15_000);
+  writeFileSync(`${folder}/locals.wasm`, bytes);
+  const text = `import { readFileSync } from "node:fs"; import { filesInMemory, load, run } from ${JSON.stringify(new URL("../core/index.mjs", import.meta.url))};
+    const { kind } = run(load(readFileSync("locals.wasm")), {}, filesInMemory()); console.log(kind, process.resourceUsage().maxRSS);`;
+  const [kind, kilobytes] = execFileSync(process.execPath, ["--input-type=module", "-e", text], { cwd: folder, encoding: "utf8" }).split(" ");
+  assert.equal(kind, "ended");
+  // the engine takes some 50 MB without a module; with a byte for each local it would be 800 MB
+  assert.ok(Number(kilobytes) < 300_000, kilobytes);
 });
 
 test("a worker says why a module is refused", async () => {

@@ -2,9 +2,12 @@
 
 export type Text = string;
 
-/** What is read. `read` gives at least one byte, or null at the end, and throws if reading fails. */
+/**
+ * What is read. `read` gives at least one byte, or null at the end, and throws if reading fails. Behind a limit on input it is told how many bytes are
+ * wanted at most; what it gives beyond them is lost.
+ */
 export interface Source {
-  read(): Uint8Array | null;
+  read(most?: number): Uint8Array | null;
   close?(): void;
 }
 
@@ -99,6 +102,12 @@ export function sourceOf(bytes: Bytes): Source;
 
 /** The same files, with a limit on what is written to all of them together: a write past it fails after what fits. */
 export function withMostOutput(files: Files, most: number): Files & { isReached(): boolean };
+
+/** The same files, with a limit on what is read of all of them together: a read past it fails. At the limit a source is asked for one byte, to see its end. */
+export function withMostInput(files: Files, most: number): Files;
+
+/** The same files, in which the names /dev/stdin, /dev/stdout and /dev/stderr mean the standard streams, the last one `errors`. */
+export function withStreams(files: Files, errors: Outlet): Files;
 
 /** For each function of a script, and `main` last: its name, and the line of each of its program points. Of a script that `compile` refuses it may throw an Error. */
 export function linesOf(script: string): { name: string; lines: number[] }[];

@@ -1,3 +1,4 @@
 pub mod ModuleRun
 pub mod ScriptRuns
 pub mod Examples
+pub mod Seen

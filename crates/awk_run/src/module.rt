@@ -30,7 +30,7 @@ fn undecoded(fault: DecodeFault) -> RunEnd
 }
 
 /// The module that the bytes are, typed; else what is answered.
-fn read(alloc: Global, bytes: &[u8]) -> Result<ValidModule, RunEnd>
+pub(crate) fn read(alloc: Global, bytes: &[u8]) -> Result<ValidModule, RunEnd>
     ensures ok { IfOk result (λ v. IsTyped bytes.now (view_module v)) }
     ensures err { IfErr result (Unread bytes.now) }
 {

@@ -1,1 +1,3 @@
-mod Moved
+pub mod Printing
+pub mod Spelled
+pub mod Equals

@@ -1,4 +1,5 @@
+pub mod Checked
+pub mod Environment
 pub mod Done
 pub mod Lines
 pub mod Printed
-pub mod Uncompiled

@@ -1,22 +1,94 @@
 //! The environment of a run.
-ghost use Rattle.std.specs.Prelude.{IfErr};
+ghost use Rattle.std.specs.Prelude.{◌≡◌, option_map, IfErr, IfOk};
+ghost use Rattle.std.specs.Cmp.Lexicographic.{slice_cmp};
+ghost use Rattle.std.specs.List.Sorted.{IsPermutation};
+ghost use Rattle.std.specs.Ordering.{nat_cmp};
 ghost use Rattle.awkwasm.specs.Done.{IsUnbegun};
+ghost use Rattle.awkwasm.specs.Environment.{IsPairIn, IsSortedByName, named_pair};
+ghost use Rattle.host_names.specs.Forms.{pair_of};
 
-use host_calls::NamedText;
-use run_tasks::{Undone, named_texts};
-use std::env;
-use std::env::VarError;
+use run_tasks::{NamedText, Undone, named_text};
+use std::alloc::{AllocError, Global};
+use std::cmp::Ordering;
+use std::env::{Env, FillError};
 
-/// The environment, sorted by name.
-pub(crate) fn environment_of(rt: &HostRuntime) -> Result<Vec<NamedText>, Undone>
-    ensures { IfErr result IsUnbegun }
+/// How many bytes are made room for at first, for an entry.
+const ROOM: usize = 256;
+
+/// The bytes of the entry of this number; none past the last.
+fn entry_at(rt: &HostRuntime, number: usize) -> Result<Option<Vec<u8>>, AllocError> {
+    let mut bytes = Vec::new(rt.alloc());
+    let mut room = ROOM;
+    for _ in 0..usize::BITS {
+        bytes.resize(room, 0)?;
+        match rt.var_at(number, bytes.as_mut_slice()) {
+            Ok(length) => {
+                bytes.truncate(length);
+                return Ok(Some(bytes));
+            }
+            Err(FillError::NotPresent) => return Ok(None),
+            Err(FillError::TooLong) => room = room.saturating_mul(2),
+        }
+    }
+    Err(AllocError)
+}
+
+/// The name and the text around the first `=` of an entry; none where it has no name or no `=`.
+fn pair_of_text(alloc: Global, entry: &str) -> Result<Option<NamedText>, AllocError>
+    ensures { IfOk result (λ pair. option_map pair_of pair ≡ named_pair entry.now) }
 {
-    let pairs = match env::vars(rt) {
-        Ok(pairs) => pairs,
-        Err(VarError::OutOfMemory) => return Err(Undone::NoMemory),
-        Err(_) => return Err(Undone::Environment),
-    };
-    let mut sorted: Vec<(String, String)> = pairs.collect(rt.alloc())?;
-    sorted.sort_by(|a, b| a.0.cmp(&b.0))?;
-    Ok(named_texts(rt.alloc(), &sorted)?)
+    match entry.split_once('=') {
+        None => Ok(None),
+        Some((name, _)) if name.is_empty() => Ok(None),
+        Some((name, text)) => Ok(Some(named_text(alloc, name, text)?)),
+    }
+}
+
+/// The name and the text of an entry. An entry that is not UTF-8 is left out.
+fn pair_in(alloc: Global, entry: &[u8]) -> Result<Option<NamedText>, AllocError>
+    ensures { IfOk result (λ pair. IsPairIn entry.now (option_map pair_of pair)) }
+{
+    match str::from_utf8(entry) {
+        Ok(text) => pair_of_text(alloc, text),
+        Err(_) => Ok(None),
+    }
+}
+
+/// The environment, as the system has it.
+fn pairs(rt: &HostRuntime) -> Result<Vec<NamedText>, AllocError> {
+    let mut pairs = Vec::new(rt.alloc());
+    for number in 0..usize::MAX {
+        let Some(entry) = entry_at(rt, number)? else {
+            break;
+        };
+        if let Some(pair) = pair_in(rt.alloc(), &entry)? {
+            pairs.push(pair)?;
+        }
+    }
+    Ok(pairs)
+}
+
+/// How two pairs are in order.
+fn by_name(one: &NamedText, other: &NamedText) -> Ordering
+    ensures { result ≡ slice_cmp nat_cmp (pair_of one.now).0 (pair_of other.now).0 }
+{
+    one.name.as_slice().cmp(&other.name.as_slice())
+}
+
+/// The same pairs, sorted by name. Pairs of one name stay in their order.
+fn sorted(pairs: Vec<NamedText>) -> Result<Vec<NamedText>, AllocError>
+    ensures order { IfOk result (λ texts. IsSortedByName texts.items) }
+    ensures all { IfOk result (λ texts. IsPermutation pairs.items texts.items) }
+{
+    let mut texts = pairs;
+    texts.sort_by(|a, b| by_name(a, b))?;
+    Ok(texts)
+}
+
+/// The environment, sorted by name, but for entries that are not UTF-8.
+pub(crate) fn environment_of(rt: &HostRuntime) -> Result<Vec<NamedText>, Undone>
+    ensures order { IfOk result (λ texts. IsSortedByName texts.items) }
+    ensures err { IfErr result IsUnbegun }
+{
+    Ok(sorted(pairs(rt)?)?)
 }

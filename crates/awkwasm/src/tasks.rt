@@ -1,38 +1,42 @@
 //! What the command line asks for, over real files.
-ghost use Rattle.std.specs.Prelude.{◌≡◌, ◌⊎◌, ℕ, List, map, IfErr, IfOk};
-ghost use Rattle.script_compiler.specs.Compiled.{IsCompiled};
-ghost use Rattle.awk_run.specs.ModuleRun.{Answers};
-ghost use Rattle.awk_run.specs.ScriptRuns.{ScriptAnswers};
-ghost use Rattle.run_report.specs.EndTexts.{exit_code};
-ghost use Rattle.awkwasm.specs.Done.{Compiles, Exits, IsExplained, IsNotExplained, IsUnbegun, IsUnread, IsUnwritten, RunsModule, RunsScript};
-ghost use Rattle.awkwasm.specs.Uncompiled.{IsUncompiled};
-ghost use Rattle.run_report.specs.declared.end.RunEnd.TheVariants.{Ended};
-ghost use Rattle.run_tasks.specs.Jobs.{fence_of_task, job_of_task};
-ghost use Rattle.run_tasks.specs.Tasks.{IsUnreadable, task_code};
-ghost use Rattle.world_fenced.specs.Behind.{behind};
-ghost use Rattle.world_fenced.specs.Fences.{form_of, lets_read};
+ghost use Rattle.std.specs.Prelude.{◌≡◌, ◌⊎◌, ℕ, List, [], map, IfErr, IfOk};
+ghost use Rattle.awkwasm.specs.Done.{Compiles, Does, Exits, IsExplained, IsNotExplained, IsUnbegun, IsUnread, IsUnwritten};
+ghost use Rattle.awkwasm.specs.Environment.{IsSortedByName};
+ghost use Rattle.command_line.specs.declared.Request.TheVariants.{Run};
 ghost use Rattle.host_names.specs.Forms.{pair_of};
+ghost use Rattle.host_names.specs.declared.names.NamedText.{NamedText};
+ghost use Rattle.run_report.specs.EndTexts.{exit_code};
+ghost use Rattle.run_report.specs.WhereTexts.{where_text};
+ghost use Rattle.run_report.specs.declared.end.RunEnd.TheVariants.{Ended};
+ghost use Rattle.run_tasks.specs.Runs.{RunsModule, RunsScript};
+ghost use Rattle.run_tasks.specs.Tasks.{IsUnreadable, task_code};
 
+use crate::checking::check_file;
 use crate::environment::environment_of;
 use crate::explanations::{explanation_text, names_text};
 use crate::imports::imports_text;
-use awk_run::{CompileFault, Refusal, RunEnd, compile, run_module, run_script};
+use crate::output::{print_text, tell, write_module};
 use command_line::{Request, Task};
-use host_calls::NamedText;
-use run_report::{FileFault, fault_text, no_memory_text, status_of, topic_named};
-use run_tasks::{Undone, job_on, listed, os_world_of, undone_status, undone_text};
+use run_report::{
+    FileFault, RunEnd, Whereabouts, no_memory_text, status_of, tell_end, topic_named, where_text,
+};
+use run_tasks::{
+    Surroundings, Undone, compiled, listed, module_end, script_end, script_seen, undone_status,
+    undone_text,
+};
 use script_code::MAX_SCRIPT_BYTES;
 use std::alloc::Global;
 use std::hash::RandomState;
-use std::io::{Print, Read};
+use std::io::{Printer, Read, Stderr, Stdin};
 use std::rt::Files;
 use std::{fs, io};
 use wasm_types::MAX_MODULE_BYTES;
-use world_core::World;
-use world_fenced::{FencedWorld, FileFence};
+
+/// What a run of the program is in.
+type Around<'a> = Surroundings<'a, HostRuntime, Stdin, Printer<'a, HostRuntime>, Stderr>;
 
 /// How many bytes of a script's file are read at most: one past the greatest length of a script.
-const SCRIPT_LIMIT: u64 = MAX_SCRIPT_BYTES as u64 + 1;
+pub(crate) const SCRIPT_LIMIT: u64 = MAX_SCRIPT_BYTES as u64 + 1;
 
 /// How many bytes of a module's file are read at most: one past the greatest length of a module.
 const MODULE_LIMIT: u64 = MAX_MODULE_BYTES as u64 + 1;
@@ -45,55 +49,13 @@ fn read_file<R: Files>(alloc: Global, files: &R, path: &str, limit: u64) -> io::
 }
 
 /// The first bytes of a file that the line names.
-fn file_of(rt: &HostRuntime, path: &str, limit: u64) -> Result<Vec<u8>, Undone>
+pub(crate) fn file_of(rt: &HostRuntime, path: &str, limit: u64) -> Result<Vec<u8>, Undone>
     ensures { IfErr result IsUnread }
 {
     match read_file(rt.alloc(), rt, path, limit) {
         Ok(bytes) => Ok(bytes),
         Err(error) if error.kind() == io::ErrorKind::OutOfMemory => Err(Undone::NoMemory),
         Err(_) => Err(Undone::File(FileFault::CannotRead)),
-    }
-}
-
-/// Runs a module as a task says, in an environment, in a world behind the fence of the task.
-fn module_on<'a, W: World>(
-    alloc: Global,
-    bytes: &[u8],
-    task: &Task<'_>,
-    environment: Vec<NamedText>,
-    state: RandomState,
-    world: FencedWorld<W, FileFence<'a>>,
-) -> (RunEnd, FencedWorld<W, FileFence<'a>>)
-    requires { form_of world.fence ≡ fence_of_task task.now }
-    ensures { Answers (W.tells × ⊥) bytes.now
-        (job_of_task task.now (map pair_of environment.items)) task.now.steps
-        (behind (lets_read (fence_of_task task.now)) (W.state world.entry.inner)) result.0
-        (behind (lets_read (form_of result.1.fence)) (W.state result.1.inner)) }
-{
-    match job_on(alloc, task, environment) {
-        Ok(job) => run_module(alloc, bytes, &job, state, world, task.steps),
-        Err(_) => (RunEnd::NoMemory, world),
-    }
-}
-
-/// Runs a script as a task says, in an environment, in a world behind the fence of the task.
-fn script_on<'a, W: World>(
-    alloc: Global,
-    script: &[u8],
-    task: &Task<'_>,
-    environment: Vec<NamedText>,
-    state: RandomState,
-    world: FencedWorld<W, FileFence<'a>>,
-) -> (RunEnd, FencedWorld<W, FileFence<'a>>)
-    requires { form_of world.fence ≡ fence_of_task task.now }
-    ensures { ScriptAnswers (W.tells × ⊥) script.now
-        (job_of_task task.now (map pair_of environment.items)) task.now.steps
-        (behind (lets_read (fence_of_task task.now)) (W.state world.entry.inner)) result.0
-        (behind (lets_read (form_of result.1.fence)) (W.state result.1.inner)) }
-{
-    match job_on(alloc, task, environment) {
-        Ok(job) => run_script(alloc, script, &job, state, world, task.steps),
-        Err(_) => (RunEnd::NoMemory, world),
     }
 }
 
@@ -108,56 +70,73 @@ fn random_state(rt: &HostRuntime) -> Result<RandomState, Undone>
     }
 }
 
-/// Runs the script of a task over real files, behind the fence of the task.
-fn run_task(rt: &HostRuntime, task: &Task<'_>) -> Result<RunEnd, Undone>
-    ensures ok { IfOk result (RunsScript task.now) }
+/// The surroundings of a run: real files, the standard streams, and the environment.
+fn surroundings<'a>(rt: &'a HostRuntime) -> Result<Around<'a>, Undone>
+    ensures order { IfOk result (λ around. IsSortedByName around.environment.items) }
     ensures err { IfErr result IsUnbegun }
 {
     let environment = environment_of(rt)?;
     let state = random_state(rt)?;
-    let output = io::writer(rt);
-    let world = os_world_of(rt.alloc(), rt, rt.stdin(), output, rt.stderr(), task)?;
-    let script = task.subject.as_bytes();
-    let (end, _) = script_on(rt.alloc(), script, task, environment, state, world);
-    Ok(end)
+    Ok(Surroundings {
+        files: rt,
+        input: rt.stdin(),
+        output: io::writer(rt),
+        errors: rt.stderr(),
+        environment,
+        state,
+    })
+}
+
+/// Runs the script of a task over real files, behind the fence of the task.
+fn run_task(rt: &HostRuntime, task: &Task<'_>) -> Result<RunEnd, Undone>
+    ensures ok { IfOk result (λ e. (environment : List NamedText) × IsSortedByName environment
+        × RunsScript task.now (map pair_of environment) e) }
+    ensures err { IfErr result IsUnbegun }
+{
+    let around = surroundings(rt)?;
+    Ok(script_end(rt.alloc(), task, around))
+}
+
+/// Runs the script of a task, as above, and sees where it was.
+fn run_task_where(
+    rt: &HostRuntime,
+    task: &Task<'_>,
+) -> Result<(RunEnd, Option<Whereabouts>), Undone>
+    ensures ok { IfOk result (λ r. (environment : List NamedText) × IsSortedByName environment
+        × RunsScript task.now (map pair_of environment) r.0) }
+    ensures err { IfErr result IsUnbegun }
+{
+    let around = surroundings(rt)?;
+    Ok(script_seen(rt.alloc(), task, around))
 }
 
 /// Runs the module of these bytes as a task says, over real files, behind the fence of the task.
 fn exec_bytes(rt: &HostRuntime, task: &Task<'_>, bytes: &[u8]) -> Result<RunEnd, Undone>
-    ensures ok { IfOk result (RunsModule task.now bytes.now) }
+    ensures ok { IfOk result (λ e. (environment : List NamedText) × IsSortedByName environment
+        × RunsModule task.now bytes.now (map pair_of environment) e) }
     ensures err { IfErr result IsUnbegun }
 {
-    let environment = environment_of(rt)?;
-    let state = random_state(rt)?;
-    let output = io::writer(rt);
-    let world = os_world_of(rt.alloc(), rt, rt.stdin(), output, rt.stderr(), task)?;
-    let (end, _) = module_on(rt.alloc(), bytes, task, environment, state, world);
-    Ok(end)
+    let around = surroundings(rt)?;
+    Ok(module_end(rt.alloc(), task, bytes, around))
 }
 
 /// Runs the module in the file of a task.
 fn exec_task(rt: &HostRuntime, task: &Task<'_>) -> Result<RunEnd, Undone>
-    ensures ok { IfOk result (λ e. (bytes : List ℕ) × RunsModule task.now bytes e) }
+    ensures ok { IfOk result (λ e. (bytes : List ℕ) × (environment : List NamedText)
+        × IsSortedByName environment × RunsModule task.now bytes (map pair_of environment) e) }
     ensures err { IfErr result (λ undone. IsUnread undone ⊎ IsUnbegun undone) }
 {
     let bytes = file_of(rt, task.subject, MODULE_LIMIT)?;
     exec_bytes(rt, task, &bytes)
 }
 
-/// The module of a script; else what is told of it.
-fn compiled(alloc: Global, script: &[u8]) -> Result<Vec<u8>, RunEnd>
-    ensures ok { IfOk result (λ bytes. IsCompiled script.now bytes.items) }
-    ensures err { IfErr result (IsUncompiled script.now) }
-{
-    match compile(alloc, script) {
-        Ok(module) => Ok(module),
-        Err(CompileFault::NoMemory) => Err(RunEnd::NoMemory),
-        Err(fault) => Err(RunEnd::Refused(Refusal::Compile(fault))),
-    }
-}
-
 /// Compiles a script to a module's file. Nothing is written unless the script is accepted.
-fn compile_bytes(rt: &HostRuntime, script: &[u8], out: &str) -> Result<RunEnd, Undone>
+fn compile_bytes(
+    rt: &HostRuntime,
+    script: &[u8],
+    script_file: &str,
+    out: &str,
+) -> Result<RunEnd, Undone>
     ensures ok { IfOk result (Compiles script.now) }
     ensures err { IfErr result IsUnwritten }
 {
@@ -165,10 +144,8 @@ fn compile_bytes(rt: &HostRuntime, script: &[u8], out: &str) -> Result<RunEnd, U
         Ok(module) => module,
         Err(end) => return Ok(end),
     };
-    match fs::write(rt, out, &module) {
-        Ok(()) => Ok(RunEnd::Ended(0)),
-        Err(_) => Err(Undone::File(FileFault::CannotWrite)),
-    }
+    write_module(rt, script_file, out, &module)?;
+    Ok(RunEnd::Ended(0))
 }
 
 /// Compiles a script's file to a module's.
@@ -177,7 +154,7 @@ fn compile_file(rt: &HostRuntime, script_file: &str, out: &str) -> Result<RunEnd
     ensures err { IfErr result (λ undone. IsUnread undone ⊎ IsUnwritten undone) }
 {
     let script = file_of(rt, script_file, SCRIPT_LIMIT)?;
-    compile_bytes(rt, &script, out)
+    compile_bytes(rt, &script, script_file, out)
 }
 
 /// What is asked of `explain`: what a name means, or which names there are.
@@ -193,19 +170,20 @@ fn explained(alloc: Global, name: Option<&str>) -> Result<String, Undone>
     }
 }
 
-/// Prints what is asked of `explain`. A failing standard output changes no status.
+/// Prints what is asked of `explain`.
+#[tactic(auto, using(crate::proofs::Printing::unprinted))]
 fn explain_task(rt: &HostRuntime, name: Option<&str>) -> Result<RunEnd, Undone>
     ensures { IsExplained result }
 {
     let text = explained(rt.alloc(), name)?;
-    let _ = print!(rt; "{text}");
+    print_text(rt, text.as_str())?;
     Ok(RunEnd::Ended(0))
 }
 
-/// Prints what a module imports, and what follows. A failing standard output changes no status.
+/// Prints what a module imports, and what follows.
 fn imports_task(rt: &HostRuntime, file: &str) -> Result<RunEnd, Undone>
     ensures ok { IfOk result (λ e. (e ≡ Ended 0) ⊎ ((bytes : List ℕ) × IsUnreadable bytes e)) }
-    ensures err { IfErr result IsUnread }
+    ensures err { IfErr result (λ undone. IsUnread undone ⊎ IsUnwritten undone) }
 {
     let bytes = file_of(rt, file, MODULE_LIMIT)?;
     let imports = match listed(rt.alloc(), &bytes) {
@@ -213,23 +191,18 @@ fn imports_task(rt: &HostRuntime, file: &str) -> Result<RunEnd, Undone>
         Err(end) => return Ok(end),
     };
     let text = imports_text(rt.alloc(), &imports)?;
-    let _ = print!(rt; "{text}");
+    print_text(rt, text.as_str())?;
     Ok(RunEnd::Ended(0))
 }
 
-/// Writes a line to the standard error. That it fails changes nothing.
-fn tell(rt: &HostRuntime, line: &[u8]) {
-    let _ = rt.stderr().write_all(line);
-}
-
 /// Tells how a run ended; the answer is its exit status.
-fn tell_end(rt: &HostRuntime, end: RunEnd) -> u8
+fn tell_run(rt: &HostRuntime, end: RunEnd) -> u8
     ensures { result ≡ exit_code end }
 {
     if let RunEnd::NoMemory = end {
         tell(rt, no_memory_text());
-    } else if let Ok(line) = fault_text(rt.alloc(), &end) {
-        tell(rt, line.as_slice());
+    } else {
+        let _ = tell_end(rt.alloc(), &mut rt.stderr(), &end);
     }
     status_of(&end)
 }
@@ -239,7 +212,7 @@ pub(crate) fn tell_task(rt: &HostRuntime, done: Result<RunEnd, Undone>) -> u8
     ensures { result ≡ task_code done }
 {
     match done {
-        Ok(end) => tell_end(rt, end),
+        Ok(end) => tell_run(rt, end),
         Err(undone) => {
             tell(rt, undone_text(&undone));
             undone_status(&undone)
@@ -247,12 +220,61 @@ pub(crate) fn tell_task(rt: &HostRuntime, done: Result<RunEnd, Undone>) -> u8
     }
 }
 
+/// What is told of where a script was as its run ended so; nothing for want of memory.
+fn lines_of(alloc: Global, end: &RunEnd, found: &Whereabouts) -> Vec<u8>
+    ensures { (result.items ≡ []) ⊎ (result.items ≡ where_text end.now found.now) }
+{
+    match where_text(alloc, end, found) {
+        Ok(lines) => lines,
+        Err(_) => Vec::new(alloc),
+    }
+}
+
+/// What is told of where a script was, if it was run and that was seen.
+fn where_lines(
+    alloc: Global,
+    done: &Result<RunEnd, Undone>,
+    found: &Option<Whereabouts>,
+) -> Vec<u8> {
+    match (done, found) {
+        (Ok(end), Some(found)) => lines_of(alloc, end, found),
+        _ => Vec::new(alloc),
+    }
+}
+
+/// Runs the script of a task, and sees where it was.
+fn seen_run(rt: &HostRuntime, task: &Task<'_>) -> (Result<RunEnd, Undone>, Option<Whereabouts>)
+    ensures { Does (Run task.now) result.0 }
+{
+    match run_task_where(rt, task) {
+        Ok((end, found)) => (Ok(end), found),
+        Err(undone) => (Err(undone), None),
+    }
+}
+
+/// Runs the script of a task, and tells how it ended and where it was; the answer is the exit status.
+fn run_and_tell(rt: &HostRuntime, task: &Task<'_>) -> u8
+    ensures { Exits (Run task.now) result }
+{
+    let (done, found) = seen_run(rt, task);
+    let lines = where_lines(rt.alloc(), &done, &found);
+    let status = tell_task(rt, done);
+    tell(rt, lines.as_slice());
+    status
+}
+
 /// Does what a command line asks for, over real files; the answer is the exit status.
 pub(crate) fn carry_out(rt: &HostRuntime, request: &Request) -> u8
     ensures { Exits request.now result }
 {
+    if let Request::Run(task) = request {
+        if task.tells_where {
+            return run_and_tell(rt, task);
+        }
+    }
     let done = match request {
         Request::Compile { script_file, out } => compile_file(rt, script_file, out),
+        Request::Check(script_file) => check_file(rt, script_file),
         Request::Run(task) => run_task(rt, task),
         Request::Exec(task) => exec_task(rt, task),
         Request::Imports(file) => imports_task(rt, file),

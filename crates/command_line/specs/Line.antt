@@ -52,6 +52,10 @@ topic_rule = record (new_rule (codes "name")) { action = Some Set }
 abbrev pub compile_app : App
 compile_app = with_rule (with_rule (new_app (codes "compile")) (single (codes "scriptfile"))) (single (codes "out"))
 
+-- `check SCRIPTFILE`
+abbrev pub check_app : App
+check_app = with_rule (new_app (codes "check")) (single (codes "scriptfile"))
+
 -- `NAME [-F s] [-v n=t].. [--steps N]`
 abbrev pub options_app : Text → App
 options_app name = with_rule (with_rule (with_rule (new_app name) separator_rule) assign_rule) (number_rule (codes "steps"))
@@ -73,6 +77,10 @@ limits_app name = with_rule (with_rule (with_rule (names_app name) (number_rule 
 abbrev pub task_app : Text → Text → App
 task_app name subject = with_rule (with_rule (limits_app name) (single subject)) words_rule
 
+-- `run`, with `[--where]`
+abbrev pub run_app : App
+run_app = with_rule (task_app (codes "run") (codes "script")) (flag_rule (codes "where"))
+
 -- `imports MODULE`
 abbrev pub imports_app : App
 imports_app = with_rule (new_app (codes "imports")) (single (codes "module"))
@@ -88,8 +96,8 @@ top_app = on_top (λ s. record s { has_version = true; subcommand_required = tru
 -- the whole line
 abbrev pub line_app : App
 line_app =
-    with_subcommand (with_subcommand (with_subcommand (with_subcommand (with_subcommand top_app compile_app.top)
-    (task_app (codes "run") (codes "script")).top) (task_app (codes "exec") (codes "module")).top) imports_app.top) explain_app.top
+    with_subcommand (with_subcommand (with_subcommand (with_subcommand (with_subcommand (with_subcommand top_app compile_app.top) check_app.top)
+    run_app.top) (task_app (codes "exec") (codes "module")).top) imports_app.top) explain_app.top
 
 -- the exit status of a line that asks for nothing
 abbrev pub status_of_kind : ErrorKind → ℕ

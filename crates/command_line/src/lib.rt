@@ -5,7 +5,7 @@ ghost use Rattle.std.specs.Prelude.{◌≡◌, ◌↔◌, IfOk, IfSome, IsTrue, 
 ghost use Rattle.std.specs.Prelude.{Ok, Some, map, option_map, true, IfErr, codes};
 ghost use Rattle.clap.specs.Words.{App, Rule, app_of, rule_of, takes, kind_of, rows_of, found_of, matches_of, one_of, first_of, new_app, new_rule, subcommand_rows_of, subcommand_of, with_rule, with_subcommand};
 ghost use Rattle.command_line.specs.Request.{Asks, IsFences, IsFlag, IsLimits, IsNumber, IsTask, texts, word_at, words_at};
-ghost use Rattle.command_line.specs.Line.{Builds, single, flag_rule, names_rule, number_rule, options_app, fences_app, names_app, limits_app, compile_app, task_app, explain_app, imports_app, top_app, line_app, is_file_option, has_file_option, status_of_kind, takes_text, text_apart};
+ghost use Rattle.command_line.specs.Line.{Builds, single, flag_rule, names_rule, number_rule, options_app, fences_app, names_app, limits_app, check_app, compile_app, run_app, task_app, explain_app, imports_app, top_app, line_app, is_file_option, has_file_option, status_of_kind, takes_text, text_apart};
 
 mod spelling;
 
@@ -64,6 +64,8 @@ pub struct Task<'a> {
     pub assigns: Vec<&'a str>,
     /// The greatest number of steps to take; without `--steps` the greatest of 64 bits.
     pub steps: u64,
+    /// `--where`, which `run` takes alone: tell where the script was where it faults or is stopped.
+    pub tells_where: bool,
     /// Which files are kept out.
     pub fences: FenceOptions,
     /// The names of `--may-read`, in order: files that may be read.
@@ -85,6 +87,8 @@ pub struct Task<'a> {
 pub enum Request<'a> {
     /// `compile SCRIPTFILE OUT`: the names of two files.
     Compile { script_file: &'a str, out: &'a str },
+    /// `check SCRIPTFILE`: all that is to be said of a script before it runs.
+    Check(&'a str),
     /// `run SCRIPT WORDS..`
     Run(Task<'a>),
     /// `exec MODULE WORDS..`
@@ -258,10 +262,12 @@ fn task_command<'a>(
 }
 
 fn run_command<'a>(alloc: Global) -> Result<Command<'a>, AllocError>
-    ensures { IfOk result (Builds (task_app (codes "run") (codes "script"))) }
+    ensures { IfOk result (Builds run_app) }
 {
     let help = "The script's text; of a file: \"$(cat prog.awk)\"";
-    task_command(alloc, "run", "Run a script", "script", help)
+    let command = task_command(alloc, "run", "Run a script", "script", help);
+    let help = "Say where the script was where it faults or is stopped";
+    with_arg(command, flag_arg(alloc, "where", help))
 }
 
 fn exec_command<'a>(alloc: Global) -> Result<Command<'a>, AllocError>
@@ -284,6 +290,14 @@ fn compile_command<'a>(alloc: Global) -> Result<Command<'a>, AllocError>
     let out = single_arg(alloc, "out", "The file to write the module to");
     let command = with_arg(Ok(named_command(alloc, "compile", about)), script);
     with_arg(command, out)
+}
+
+fn check_command<'a>(alloc: Global) -> Result<Command<'a>, AllocError>
+    ensures { IfOk result (Builds check_app) }
+{
+    let about = "Say of a script why it is refused, and what looks like a slip, with the places";
+    let script = single_arg(alloc, "scriptfile", "The script's file");
+    with_arg(Ok(named_command(alloc, "check", about)), script)
 }
 
 fn imports_command<'a>(alloc: Global) -> Result<Command<'a>, AllocError>
@@ -348,6 +362,7 @@ fn command<'a>(alloc: Global) -> Result<Command<'a>, AllocError>
     ensures { IfOk result (λ c. app_of c ≡ line_app) }
 {
     let line = with_subcommand(Ok(top_command(alloc)), compile_command(alloc));
+    let line = with_subcommand(line, check_command(alloc));
     let line = with_subcommand(line, run_command(alloc));
     let line = with_subcommand(line, exec_command(alloc));
     let line = with_subcommand(line, imports_command(alloc));
@@ -525,6 +540,7 @@ fn task_of<'a>(
         separators: texts(alloc, matches, "separator")?,
         assigns: texts(alloc, matches, "assign")?,
         steps: number(matches, "steps"),
+        tells_where: flag(matches, "where"),
         fences: fences(matches),
         may_read: texts(alloc, matches, "may-read")?,
         may_write: texts(alloc, matches, "may-write")?,
@@ -545,6 +561,7 @@ fn request_in<'a>(alloc: Global, matches: &ArgMatches<'a>) -> Result<Request<'a>
             script_file: text(inner, "scriptfile"),
             out: text(inner, "out"),
         }),
+        Some(("check", inner)) => Ok(Request::Check(text(inner, "scriptfile"))),
         Some(("run", inner)) => Ok(Request::Run(task_of(alloc, inner, "script")?)),
         Some(("imports", inner)) => Ok(Request::Imports(text(inner, "module"))),
         Some(("explain", inner)) => Ok(Request::Explain(topic(inner))),

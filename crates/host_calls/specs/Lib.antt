@@ -1,3 +1,4 @@
 pub mod Held
 pub mod Forms
 pub mod Calls
+pub mod Pauses

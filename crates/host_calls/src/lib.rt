@@ -12,8 +12,11 @@ mod on_values;
 mod on_world;
 mod outputs;
 mod start;
+mod watched;
 
 pub use host::Host;
 pub use host_imports::{IMPORTS, Import, Listing, type_of};
 pub use host_names::NamedText;
 pub use host_tables::Job;
+pub use sem_primitives::Special;
+pub use watched::Watched;

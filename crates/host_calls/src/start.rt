@@ -2,15 +2,17 @@
 ghost use Rattle.std.specs.Prelude.{◌≡◌, IfErr, IfOk};
 ghost use Rattle.std.specs.FinMap as map;
 ghost use Rattle.host_values.specs.Shown.{Shown};
+ghost use Rattle.awk_values.specs.Values.{text_of_value};
 ghost use Rattle.host_calls.specs.Forms.{host_form};
 ghost use Rattle.host_step.specs.Starts.{state_at_start};
 ghost use Rattle.host_tables.specs.Starts.{job_of};
 
 use crate::host::Host;
-use awk_values::Fault;
+use awk_values::{Bytes, Fault, Stop, to_text};
 use host_imports::Links;
 use host_tables::{FirstTables, Job, Tables};
 use host_worlds::Input;
+use sem_primitives::Special;
 use std::alloc::Global;
 use std::hash::RandomState;
 use world_core::World;
@@ -58,6 +60,19 @@ impl<W: World> Host<W> {
         ensures { result ≡ self.now.tables.fault }
     {
         self.tables.fault()
+    }
+
+    /// The text of a special variable. NF has none: it is the number of fields.
+    ///
+    /// # Errors
+    ///
+    /// Where memory is wanting.
+    pub fn special_text(&self, special: Special) -> Result<Bytes, Stop>
+        ensures ok { IfOk result (λ text. text
+            ≡ text_of_value ((host_form W.state self.now).shared.inner.specials special)) }
+        ensures err { IfErr result (λ stop. stop ≡ Stop.NoMemory) }
+    {
+        to_text(self.alloc, self.tables.texts.specials.get(special))
     }
 
     /// How many values have a handle.

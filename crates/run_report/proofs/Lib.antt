@@ -1,2 +1,3 @@
+pub mod WhereLemmas
 pub mod Named
 pub mod Written

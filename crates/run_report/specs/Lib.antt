@@ -4,4 +4,5 @@ pub mod Parts
 pub mod Topics
 pub mod Examples
 pub mod TopicExamples
+pub mod WhereTexts
 pub mod Escapes

@@ -11,6 +11,7 @@ mod faults;
 mod line;
 mod report;
 mod topic;
+mod whereabouts;
 
 pub use compile_fault::CompileFault;
 pub use end::{Refusal, RunEnd};
@@ -20,3 +21,4 @@ pub use report::{FileFault, fault_text, file_fault_text, no_memory_text, status_
 pub use topic::{
     EndTopic, ModuleTopic, ScriptTopic, StatusTopic, TOPICS, Topic, topic_named, topic_of,
 };
+pub use whereabouts::{CallSite, Whereabouts, where_text};

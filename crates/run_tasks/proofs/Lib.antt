@@ -5,3 +5,4 @@ mod Listing
 mod Silent
 mod Unlisting
 mod Equals
+mod Moved

@@ -4,3 +4,4 @@ pub mod ImportExamples
 pub mod Jobs
 pub mod Examples
 pub mod Tasks
+pub mod Runs

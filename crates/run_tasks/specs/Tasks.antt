@@ -9,7 +9,7 @@ use Rattle.run_report.specs.declared.end.RunEnd.TheVariants.{Refused}
 use Rattle.run_report.specs.declared.end.RunEnd.TheVariants as end
 use Rattle.run_report.specs.EndTexts.{end_text, exit_code, file_text}
 use Rattle.run_tasks.specs.declared.undone.Undone.{Undone}
-use Rattle.run_tasks.specs.declared.undone.Undone.TheVariants.{Arguments, Environment, File, NoMemory, RandomNumbers, ScriptFile, TextApart, Unexplained}
+use Rattle.run_tasks.specs.declared.undone.Undone.TheVariants.{Arguments, File, NoMemory, RandomNumbers, ScriptFile, TextApart, Unexplained}
 
 -- what is told of a module whose imports are not listed: what is told of it where it is run
 abbrev pub IsUnreadable : List ℕ → RunEnd → Type 0
@@ -23,7 +23,6 @@ IsUnreadable bytes _ = ⊥
 abbrev pub undone_text : Undone → List ℕ
 undone_text (File fault) = file_text fault
 undone_text Arguments = codes "awkwasm: an argument is not UTF-8\n"
-undone_text Environment = codes "awkwasm: the environment is not UTF-8\n"
 undone_text RandomNumbers = codes "awkwasm: the system gives no random numbers\n"
 undone_text ScriptFile = codes "awkwasm: no option -f: give the file's text, as awkwasm run \"$(cat prog.awk)\" .., or compile it and then exec\n"
 undone_text TextApart = codes "awkwasm: attach a text that begins with a hyphen to its option: -F-x in place of -F -x\n"
@@ -33,7 +32,6 @@ undone_text NoMemory = end_text end.NoMemory
 abbrev pub undone_code : Undone → ℕ
 undone_code (File fault) = 8
 undone_code Arguments = 8
-undone_code Environment = 8
 undone_code RandomNumbers = 8
 undone_code ScriptFile = 8
 undone_code TextApart = 8

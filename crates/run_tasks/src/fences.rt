@@ -1,4 +1,4 @@
-//! What a task may open.
+//! What a task may open, read and write.
 ghost use Rattle.std.specs.Prelude.{◌≡◌, [], IfOk};
 ghost use Rattle.run_tasks.specs.Jobs.{fence_of_task};
 ghost use Rattle.world_fenced.specs.Fences.{form_of};
@@ -34,18 +34,32 @@ pub fn fence_of<'a>(alloc: Global, task: &'a Task<'_>) -> Result<FileFence<'a>, 
     })
 }
 
-/// Real files and the program's own streams: an input, an output and errors. A task opens only what its options let through, and reads and writes so many
-/// bytes at most as they allow. Nothing is open but the standard streams, nothing is read or written, and nothing has failed.
+/// Real files, with the program's own streams, of which a task's limits let so many bytes through.
+fn limited_world<'a, R: Files, I: Read + Drop, O: Write + Drop, E: Write + Drop>(
+    alloc: Global,
+    files: &'a R,
+    own: OwnStreams<I, O, E>,
+    task: &Task<'_>,
+) -> LimitedWorld<OsWorld<'a, R, I, O, E>>
+    ensures streams { result.inner.streams.items ≡ [] }
+    ensures count { result.inner.failures ≡ 0 }
+    ensures named { result.inner.named ≡ own.named }
+    ensures limits { StartsWith task.now.limits.most_output task.now.limits.most_input result }
+{
+    let files = OsWorld::new(alloc, files, own);
+    LimitedWorld::new(files, task.limits.most_output, task.limits.most_input)
+}
+
+/// Real files and the program's own streams. A task opens only what its options let through, and so many bytes are read and written at most as they allow.
+/// Nothing is open but the standard streams, nothing is read or written, and nothing has failed.
 ///
 /// # Errors
 ///
 /// If memory runs out.
-pub fn os_world_of<'a, R: Files, I: Read + Drop, O: Write + Drop, E: Write + Drop>(
+pub(crate) fn os_world_of<'a, R: Files, I: Read + Drop, O: Write + Drop, E: Write + Drop>(
     alloc: Global,
     files: &'a R,
-    input: I,
-    output: O,
-    errors: E,
+    own: (I, O, E),
     task: &'a Task<'_>,
 ) -> Result<FencedWorld<LimitedWorld<OsWorld<'a, R, I, O, E>>, FileFence<'a>>, AllocError>
     ensures fence { IfOk result (λ world. form_of world.fence ≡ fence_of_task task.now) }
@@ -56,13 +70,13 @@ pub fn os_world_of<'a, R: Files, I: Read + Drop, O: Write + Drop, E: Write + Dro
     ensures limits { IfOk result (λ world. StartsWith task.now.limits.most_output
         task.now.limits.most_input world.inner) }
 {
+    let (input, output, errors) = own;
     let own = OwnStreams {
         input,
         output,
         errors,
         named: task.streams,
     };
-    let files = OsWorld::new(alloc, files, own);
-    let limited = LimitedWorld::new(files, task.limits.most_output, task.limits.most_input);
-    Ok(FencedWorld::new(limited, fence_of(alloc, task)?))
+    let fence = fence_of(alloc, task)?;
+    Ok(FencedWorld::new(limited_world(alloc, files, own, task), fence))
 }

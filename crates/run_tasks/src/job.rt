@@ -1,5 +1,5 @@
 //! What a script or a module is run with: operands, assignments and the environment.
-ghost use Rattle.std.specs.Prelude.{◌≡◌, ◌++◌, IfOk, OnOk, map, string_bytes};
+ghost use Rattle.std.specs.Prelude.{◌≡◌, ◌++◌, IfOk, OnOk, map};
 ghost use Rattle.run_tasks.specs.Jobs.{assignment, job_of_task, separator};
 ghost use Rattle.command_line.specs.Request.{texts};
 ghost use Rattle.host_names.specs.Forms.{pair_of};
@@ -26,7 +26,7 @@ fn operands_of(alloc: Global, words: &[&str]) -> Result<Vec<Bytes>, AllocError>
 ///
 /// # Errors
 ///
-/// If memory runs out.
+/// Where memory is wanting.
 pub fn named_text(alloc: Global, name: &str, text: &str) -> Result<NamedText, AllocError>
     ensures { IfOk result (λ pair. pair_of pair ≡ (name.now, text.now)) }
 {
@@ -94,21 +94,4 @@ pub fn job_on(
         assigns,
         environment,
     })
-}
-
-/// The pairs, in order, as bytes.
-///
-/// # Errors
-///
-/// Where memory is wanting.
-pub fn named_texts(alloc: Global, pairs: &[(String, String)]) -> Result<Vec<NamedText>, AllocError>
-    ensures { IfOk result
-        (λ texts. map pair_of texts.items
-        ≡ map (λ pair. (string_bytes pair.0, string_bytes pair.1)) pairs.now) }
-{
-    let mut texts = Vec::new(alloc);
-    for (name, text) in pairs {
-        texts.push(named_text(alloc, name.as_str(), text.as_str())?)?;
-    }
-    Ok(texts)
 }

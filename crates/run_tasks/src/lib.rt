@@ -9,11 +9,13 @@ mod imports;
 mod job;
 pub mod laws;
 mod powers;
+mod sandbox;
 mod undone;
 
-pub use fences::{fence_of, os_world_of};
+pub use fences::fence_of;
 pub use host_names::NamedText;
 pub use imports::listed;
-pub use job::{job_on, named_text, named_texts};
+pub use job::{job_on, named_text};
 pub use powers::{Reads, Writes, reads_of, writes_of};
+pub use sandbox::{Surroundings, compiled, module_end, script_end, script_seen};
 pub use undone::{Undone, undone_status, undone_text};

@@ -12,8 +12,6 @@ pub enum Undone {
     File(FileFault),
     /// An argument is not UTF-8.
     Arguments,
-    /// The environment is not UTF-8.
-    Environment,
     /// The system gives no random numbers, with which the keys of arrays are hashed.
     RandomNumbers,
     /// The line has the option `-f` of other awks.
@@ -52,7 +50,6 @@ pub fn undone_text(undone: &Undone) -> &'static [u8]
     match undone {
         Undone::File(fault) => file_fault_text(fault),
         Undone::Arguments => "awkwasm: an argument is not UTF-8\n".as_bytes(),
-        Undone::Environment => "awkwasm: the environment is not UTF-8\n".as_bytes(),
         Undone::RandomNumbers => "awkwasm: the system gives no random numbers\n".as_bytes(),
         Undone::ScriptFile => SCRIPT_FILE.as_bytes(),
         Undone::TextApart => TEXT_APART.as_bytes(),
@@ -70,7 +67,6 @@ pub fn undone_status(undone: &Undone) -> u8
         Undone::NoMemory => 5,
         Undone::File(_)
         | Undone::Arguments
-        | Undone::Environment
         | Undone::RandomNumbers
         | Undone::ScriptFile
         | Undone::TextApart

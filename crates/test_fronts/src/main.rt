@@ -1,17 +1,23 @@
-//! Says of each script on standard input which tokens it has, whether it has a tree, or which kinds its names have.
+//! Says of each script on standard input which tokens it has, whether it has a tree, which kinds its names have, or what is found in it.
 //!
-//! A line is a script, in which a byte 1 stands for a newline. A line `# tokens`, `# words`, `# trees`, `# parentheses` or `# names` says what is asked of the
-//! lines behind it: the tokens (there a backslash begins an escape, as in awk's strings); which reserved word it is; whether there is a tree, of a script or
-//! of one with so many parentheses; the kinds of names.
+//! A line is a script, in which a byte 1 stands for a newline. A line `# tokens`, `# words`, `# trees`, `# parentheses`, `# names` or `# findings` says
+//! what is asked of the lines behind it: the tokens (there a backslash begins an escape, as in awk's strings); which reserved word it is; whether there is a
+//! tree, of a script or of one with so many parentheses; the kinds of names; what is found in a script.
+//!
+//! Beside it stand scripts whose runs are computed from the definition of the language and from their mid code, from their bytes to what they put out, and
+//! programs whose modules are run on the machine over values: definitions and examples, and two laws.
 #![tactic(auto)]
 
+mod found;
 mod kinds;
+pub mod laws;
 mod names;
 mod show;
 mod token_lists;
 mod trees;
 
 use awk_text::unescape;
+use found::found_page;
 use kinds::reserved_text;
 use names::names_or_refusal;
 use std::alloc::{AllocError, Global};
@@ -27,6 +33,7 @@ enum Question {
     Trees,
     Parentheses,
     Names,
+    Findings,
 }
 
 /// The question that a line names.
@@ -37,6 +44,7 @@ fn question_of(line: &str) -> Option<Question> {
         "# trees" => Some(Question::Trees),
         "# parentheses" => Some(Question::Parentheses),
         "# names" => Some(Question::Names),
+        "# findings" => Some(Question::Findings),
         _ => None,
     }
 }
@@ -64,6 +72,7 @@ fn answer(alloc: Global, question: Question, line: &str) -> Result<String, Alloc
         Question::Trees => tree_or_fault(alloc, &script_of(alloc, line)?),
         Question::Parentheses => of_parentheses(alloc, line),
         Question::Names => names_or_refusal(alloc, &script_of(alloc, line)?),
+        Question::Findings => found_page(alloc, &script_of(alloc, line)?),
     }
 }
 

@@ -1,5 +1,5 @@
 //! Command lines, and what they ask for.
-use command_line::{FenceOptions, Request, Task, exit_status, request_of};
+use command_line::{FenceOptions, Limits, Request, Task, exit_status, request_of, spelled_line};
 use std::alloc::{AllocError, Global};
 
 /// The options that keep files out, each after a space.
@@ -17,11 +17,40 @@ fn fences_text(alloc: Global, fences: FenceOptions) -> Result<String, AllocError
     Ok(text)
 }
 
+/// The limits, each after a space, where they are set.
+fn limits_text(alloc: Global, limits: Limits) -> Result<String, AllocError> {
+    let mut text = String::new(alloc);
+    if limits.most_input < u64::MAX {
+        write!(text, " most-input {}", limits.most_input)?;
+    }
+    if limits.most_output < u64::MAX {
+        write!(text, " most-output {}", limits.most_output)?;
+    }
+    Ok(text)
+}
+
+/// The names that are listed, each list after a space, where there are some.
+fn lists_text(alloc: Global, task: &Task<'_>) -> Result<String, AllocError> {
+    let mut text = String::new(alloc);
+    if !task.may_read.is_empty() {
+        write!(text, " may-read {:?}", task.may_read)?;
+    }
+    if !task.may_write.is_empty() {
+        write!(text, " may-write {:?}", task.may_write)?;
+    }
+    if task.streams {
+        text.push_str(" streams")?;
+    }
+    Ok(text)
+}
+
 /// What a task is, as text.
 fn described(alloc: Global, what: &str, task: &Task<'_>) -> Result<String, AllocError> {
     let fences = fences_text(alloc, task.fences)?;
+    let lists = lists_text(alloc, task)?;
+    let limits = limits_text(alloc, task.limits)?;
     format!(in alloc;
-        "{what} {:?} {:?} {} {:?} {:?}{fences}\n",
+        "{what} {:?} {:?} {} {:?} {:?}{fences}{lists}{limits}\n",
         task.separators, task.assigns, task.steps, task.subject, task.words
     )
 }
@@ -32,6 +61,7 @@ fn asked(alloc: Global, words: &[&str]) -> Result<String, AllocError> {
         Ok(Request::Compile { script_file, out }) => format!(in alloc;
             "compile {script_file:?} {out:?}\n"
         ),
+        Ok(Request::Check(script_file)) => format!(in alloc; "check {script_file:?}\n"),
         Ok(Request::Run(task)) => described(alloc, "run", &task),
         Ok(Request::Exec(task)) => described(alloc, "exec", &task),
         Ok(Request::Imports(file)) => format!(in alloc; "imports {file:?}\n"),
@@ -50,5 +80,6 @@ pub(crate) fn answer_to_words(alloc: Global, line: &str) -> Result<String, Alloc
     for word in line.split('\t') {
         words.push(word)?;
     }
-    asked(alloc, &words)
+    let spelled = spelled_line(alloc, &words)?;
+    asked(alloc, &spelled)
 }

@@ -68,9 +68,9 @@ cut_is rs (x ∷ xs) = by (begins rs (x ∷ xs)) refl (cut rs xs) (cut_is rs xs)
     by false e (Some p) h = (
       ap (x ∷◌) h.0,
       λ front rest is.
-        let there = not_here rs x xs front rest e is in
-        let before = h.1 there.1 rest there.3 in
-        subst (λ z. suc (length p.0) ≤ length z) (sym there.2) (omega (arith, before)),
+          let there = not_here rs x xs front rest e is in
+          let before = h.1 there.1 rest there.3 in
+          subst (λ z. suc (length p.0) ≤ length z) (sym there.2) (omega (arith, before)),
     )
 
 -- ---- and there is no other
@@ -93,7 +93,7 @@ cut_there (Some b) [] rest none = ap (λ c. cond c (Some ([], rest)) (onto b (cu
 cut_there None [] rest none = refl
 cut_there rs (x ∷ xs) rest none =
     ap (λ c. cond c (Some ([], drop (width rs) (x ∷ (xs ++ (separator rs ++ rest))))) (onto x (cut rs (xs ++ (separator rs ++ rest)))))
-      (head_none rs x (xs ++ (separator rs ++ rest)) (length xs) none)
+    (head_none rs x (xs ++ (separator rs ++ rest)) (length xs) none)
     ∙ ap (onto x) (cut_there rs xs rest (tail_none rs x (xs ++ (separator rs ++ rest)) (length xs) none))
 
 cut_none : (rs : Option ℕ) (bytes : List ℕ) → NoneIn rs bytes → cut rs bytes ≡ None
@@ -224,7 +224,7 @@ gives_at rs front rest ending s = by (cut rs rest) (cut_is rs rest)
     separated_fits : (text behind : List ℕ) → AreSkipped rs front (text ++ (separator rs ++ behind)) → NoneBefore rs (length text) (text ++ (separator rs ++ behind))
         → (b : Bool) → nat_le (length front + length text) most_text ≡ b
         → GivesFirst rs (record { rest = front ++ (text ++ (separator rs ++ behind)); ending = ending })
-            (if b then Ok (Record text, record { rest = behind; ending = ending }) else Err TextLimit)
+        (if b then Ok (Record text, record { rest = behind; ending = ending }) else Err TextLimit)
     separated_fits text behind skips none true e = separated front text behind skips none (leb-true _ _ e)
     separated_fits text behind skips none false e = too_long front text behind skips none (leb-false _ _ e)
 
@@ -239,7 +239,7 @@ gives rs source = by (parts rs source.rest)
     by : AreParts rs source.rest → GivesFirst rs source (first_record rs source)
     by p = subst (λ z. GivesFirst rs (record { rest = z; ending = source.ending }) (first_record rs (record { rest = z; ending = source.ending }))) (sym p.whole)
         (subst (GivesFirst rs (record { rest = p.front ++ p.rest; ending = source.ending })) (sym (value rs p.front p.rest source.ending p.skips))
-          (gives_at rs p.front p.rest source.ending p.skips))
+        (gives_at rs p.front p.rest source.ending p.skips))
 
 -- ---- and there is no other
 

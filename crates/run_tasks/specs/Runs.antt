@@ -1,0 +1,32 @@
+-- What a task runs, and what is told of a script that is not compiled.
+use Rattle.std.specs.Prelude.{ℕ, List}
+use Rattle.world_core.specs.WorldState.{State}
+use Rattle.command_line.specs.declared.Task.{Task}
+use Rattle.awk_run.specs.ModuleRun.{Answers}
+use Rattle.awk_run.specs.ScriptRuns.{ScriptAnswers}
+use Rattle.run_report.specs.declared.end.Refusal.TheVariants.{Compile}
+use Rattle.run_report.specs.declared.end.RunEnd.{RunEnd}
+use Rattle.run_report.specs.declared.end.RunEnd.TheVariants.{Refused}
+use Rattle.run_report.specs.declared.end.RunEnd.TheVariants as end
+use Rattle.run_tasks.specs.Jobs.{files_of_task, job_of_task}
+use Rattle.script_compiler.specs.Refusals.{IsNotCompiled}
+
+-- nothing is told of real files, and nothing of them behind a fence
+abbrev pub Told : Type 0
+Told = ⊥ × ⊥
+
+-- The task's script is run, in the job of the task with this environment, over real files behind the task's fence, and this is answered.
+pub record RunsScript (task : Task) (environment : List (List ℕ × List ℕ)) (e : RunEnd) : Type 0 where
+  pub after : State
+  pub answers : ScriptAnswers Told task.subject.now (job_of_task task environment) task.steps (files_of_task task) e after
+
+-- The module of these bytes is run so.
+pub record RunsModule (task : Task) (bytes : List ℕ) (environment : List (List ℕ × List ℕ)) (e : RunEnd) : Type 0 where
+  pub after : State
+  pub answers : Answers Told bytes (job_of_task task environment) task.steps (files_of_task task) e after
+
+-- the refusal of the compiler, or want of memory
+abbrev pub IsUncompiled : List ℕ → RunEnd → Type 0
+IsUncompiled bytes (Refused (Compile fault)) = IsNotCompiled bytes fault
+IsUncompiled bytes end.NoMemory = Unit {0}
+IsUncompiled bytes _ = ⊥

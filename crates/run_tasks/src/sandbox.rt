@@ -1,0 +1,187 @@
+//! What a task runs: its script or a module, over real files, behind its fence.
+ghost use Rattle.std.specs.Prelude.{◌≡◌, map, IfErr, IfOk};
+ghost use Rattle.awk_run.specs.ModuleRun.{Answers};
+ghost use Rattle.awk_run.specs.ScriptRuns.{ScriptAnswers};
+ghost use Rattle.host_names.specs.Forms.{pair_of};
+ghost use Rattle.run_tasks.specs.Jobs.{fence_of_task, job_of_task};
+ghost use Rattle.run_tasks.specs.Runs.{IsUncompiled, RunsModule, RunsScript};
+ghost use Rattle.script_compiler.specs.Compiled.{IsCompiled};
+ghost use Rattle.world_fenced.specs.Behind.{behind};
+ghost use Rattle.world_fenced.specs.Fences.{form_of, lets_read};
+
+use crate::fences::os_world_of;
+use crate::job::job_on;
+use awk_run::{CompileFault, Whereabouts, compile, run_module, run_script, run_script_where};
+use command_line::Task;
+use host_names::NamedText;
+use run_report::{Refusal, RunEnd};
+use std::alloc::Global;
+use std::hash::RandomState;
+use std::io::{Read, Write};
+use std::rt::Files;
+use world_core::World;
+use world_fenced::{FencedWorld, FileFence};
+
+/// What a task is run in: files, the three standard streams, the environment, and what the keys of arrays are hashed with.
+#[derive(Drop)]
+pub struct Surroundings<'a, R: Files, I: Read + Drop, O: Write + Drop, E: Write + Drop> {
+    /// The files of the system.
+    pub files: &'a R,
+    /// The standard input.
+    pub input: I,
+    /// The standard output.
+    pub output: O,
+    /// The standard error.
+    pub errors: E,
+    /// The environment.
+    pub environment: Vec<NamedText>,
+    /// It seeds the tables of arrays, and shows in no answer.
+    pub state: RandomState,
+}
+
+/// Runs a task's script in an environment, in a world behind the fence of the task.
+fn script_behind<'a, W: World>(
+    alloc: Global,
+    task: &Task<'_>,
+    environment: Vec<NamedText>,
+    state: RandomState,
+    world: FencedWorld<W, FileFence<'a>>,
+) -> (RunEnd, FencedWorld<W, FileFence<'a>>)
+    requires { form_of world.fence ≡ fence_of_task task.now }
+    ensures { ScriptAnswers (W.tells × ⊥) task.now.subject.now
+        (job_of_task task.now (map pair_of environment.items)) task.now.steps
+        (behind (lets_read (fence_of_task task.now)) (W.state world.entry.inner)) result.0
+        (behind (lets_read (form_of result.1.fence)) (W.state result.1.inner)) }
+{
+    let script = task.subject.as_bytes();
+    match job_on(alloc, task, environment) {
+        Ok(job) => run_script(alloc, script, &job, state, world, task.steps),
+        Err(_) => (RunEnd::NoMemory, world),
+    }
+}
+
+/// Runs a task's script, as above, and sees where it was.
+fn script_seen_behind<'a, W: World>(
+    alloc: Global,
+    task: &Task<'_>,
+    environment: Vec<NamedText>,
+    state: RandomState,
+    world: FencedWorld<W, FileFence<'a>>,
+) -> (RunEnd, Option<Whereabouts>, FencedWorld<W, FileFence<'a>>)
+    requires { form_of world.fence ≡ fence_of_task task.now }
+    ensures { ScriptAnswers (W.tells × ⊥) task.now.subject.now
+        (job_of_task task.now (map pair_of environment.items)) task.now.steps
+        (behind (lets_read (fence_of_task task.now)) (W.state world.entry.inner)) result.0
+        (behind (lets_read (form_of result.2.fence)) (W.state result.2.inner)) }
+{
+    let script = task.subject.as_bytes();
+    match job_on(alloc, task, environment) {
+        Ok(job) => run_script_where(alloc, script, &job, state, world, task.steps),
+        Err(_) => (RunEnd::NoMemory, None, world),
+    }
+}
+
+/// Runs a module as a task says, in an environment, in a world behind the fence of the task.
+fn module_behind<'a, W: World>(
+    alloc: Global,
+    bytes: &[u8],
+    task: &Task<'_>,
+    environment: Vec<NamedText>,
+    state: RandomState,
+    world: FencedWorld<W, FileFence<'a>>,
+) -> (RunEnd, FencedWorld<W, FileFence<'a>>)
+    requires { form_of world.fence ≡ fence_of_task task.now }
+    ensures { Answers (W.tells × ⊥) bytes.now
+        (job_of_task task.now (map pair_of environment.items)) task.now.steps
+        (behind (lets_read (fence_of_task task.now)) (W.state world.entry.inner)) result.0
+        (behind (lets_read (form_of result.1.fence)) (W.state result.1.inner)) }
+{
+    match job_on(alloc, task, environment) {
+        Ok(job) => run_module(alloc, bytes, &job, state, world, task.steps),
+        Err(_) => (RunEnd::NoMemory, world),
+    }
+}
+
+/// Runs the script of a task over real files, behind the fence and within the limits of the task.
+pub fn script_end<R: Files, I: Read + Drop, O: Write + Drop, E: Write + Drop>(
+    alloc: Global,
+    task: &Task<'_>,
+    around: Surroundings<'_, R, I, O, E>,
+) -> RunEnd
+    ensures { RunsScript task.now (map pair_of around.entry.environment.items) result }
+{
+    let streams = (around.input, around.output, around.errors);
+    match os_world_of(alloc, around.files, streams, task) {
+        Ok(world) => {
+            let (end, _) = script_behind(alloc, task, around.environment, around.state, world);
+            end
+        }
+        Err(_) => RunEnd::NoMemory,
+    }
+}
+
+/// Runs the script of a task, as above, and sees where it was.
+pub fn script_seen<R: Files, I: Read + Drop, O: Write + Drop, E: Write + Drop>(
+    alloc: Global,
+    task: &Task<'_>,
+    around: Surroundings<'_, R, I, O, E>,
+) -> (RunEnd, Option<Whereabouts>)
+    ensures { RunsScript task.now (map pair_of around.entry.environment.items) result.0 }
+{
+    let streams = (around.input, around.output, around.errors);
+    match os_world_of(alloc, around.files, streams, task) {
+        Ok(world) => {
+            let (end, found, _) = script_seen_behind(
+                alloc,
+                task,
+                around.environment,
+                around.state,
+                world,
+            );
+            (end, found)
+        }
+        Err(_) => (RunEnd::NoMemory, None),
+    }
+}
+
+/// Runs the module of these bytes as a task says, over real files, behind the fence and within the limits of the task.
+pub fn module_end<R: Files, I: Read + Drop, O: Write + Drop, E: Write + Drop>(
+    alloc: Global,
+    task: &Task<'_>,
+    bytes: &[u8],
+    around: Surroundings<'_, R, I, O, E>,
+) -> RunEnd
+    ensures { RunsModule task.now bytes.now (map pair_of around.entry.environment.items) result }
+{
+    let streams = (around.input, around.output, around.errors);
+    match os_world_of(alloc, around.files, streams, task) {
+        Ok(world) => {
+            let (end, _) = module_behind(
+                alloc,
+                bytes,
+                task,
+                around.environment,
+                around.state,
+                world,
+            );
+            end
+        }
+        Err(_) => RunEnd::NoMemory,
+    }
+}
+
+/// The module of a script.
+///
+/// # Errors
+///
+/// How a run of the script would end: with the refusal of `awk_run::compile`, or for want of memory.
+pub fn compiled(alloc: Global, script: &[u8]) -> Result<Vec<u8>, RunEnd>
+    ensures ok { IfOk result (λ bytes. IsCompiled script.now bytes.items) }
+    ensures err { IfErr result (IsUncompiled script.now) }
+{
+    match compile(alloc, script) {
+        Ok(module) => Ok(module),
+        Err(CompileFault::NoMemory) => Err(RunEnd::NoMemory),
+        Err(fault) => Err(RunEnd::Refused(Refusal::Compile(fault))),
+    }
+}

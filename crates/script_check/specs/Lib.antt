@@ -1,0 +1,4 @@
+pub mod Uses
+pub mod View
+pub mod Matters
+pub mod Places
