@@ -36,14 +36,14 @@ function partsOf(word) {
   return at < 0 ? [word, null] : [word.slice(0, at), word.slice(at + 1)];
 }
 
-/** The value of an option, which is attached to it or the next word. */
+/** The value of an option, which is attached to it or the next word. The words that follow are in reverse order. */
 function valueOf(option, attached, words) {
   if (attached !== null) return attached;
-  if (words.length === 0 || isOption(words[0])) throw new UsageError(`a value is missing after ${option}; attach one that begins with a hyphen`);
-  return words.shift();
+  if (words.length === 0 || isOption(words.at(-1))) throw new UsageError(`a value is missing after ${option}; attach one that begins with a hyphen`);
+  return words.pop();
 }
 
-/** Takes an option, with its value from the words that follow it. */
+/** Takes an option, with its value from the words that follow it, in reverse order. */
 function takeOption(word, words, given) {
   const [option, attached] = partsOf(word);
   const { value, often = false } = OPTIONS.get(option) ?? {};
@@ -57,11 +57,12 @@ function takeOption(word, words, given) {
 /** The options, and the words that are none: all that stand after the first `--`. */
 function sorted(words) {
   const found = { given: new Map(), help: false, plainWords: [] };
-  while (words.length > 0 && !found.help) {
-    const word = words.shift();
-    if (word === "--") found.plainWords.push(...words.splice(0));
+  const left = [...words].reverse();
+  while (left.length > 0 && !found.help) {
+    const word = left.pop();
+    if (word === "--") found.plainWords = found.plainWords.concat(left.splice(0).reverse());
     else if (word === "--help" || /^-h/.test(word)) found.help = true;
-    else if (isOption(word)) takeOption(word, words, found.given);
+    else if (isOption(word)) takeOption(word, left, found.given);
     else found.plainWords.push(word);
   }
   return found;
