@@ -10,6 +10,9 @@ use std::io::{ErrorKind, Print, Write};
 use std::os::unix::fs::MetadataExt;
 use std::{fs, io, process};
 
+/// How many names are tried for a new file.
+const MOST_NAMES: u32 = 1000;
+
 /// Writes to the standard error. That it fails changes nothing.
 pub(crate) fn tell(rt: &HostRuntime, text: &[u8]) {
     let _ = rt.stderr().write_all(text);
@@ -46,9 +49,22 @@ fn is_same_file(rt: &HostRuntime, one: &str, other: &str) -> bool {
 }
 
 /// The name of a new file beside another one.
-fn name_beside(rt: &HostRuntime, out: &str) -> Result<String, AllocError> {
+fn name_beside(rt: &HostRuntime, out: &str, number: u32) -> Result<String, AllocError> {
     let own = process::id(rt.process());
-    format!(in rt.alloc(); "{out}.{own}.new")
+    format!(in rt.alloc(); "{out}.{own}.{number}.new")
+}
+
+/// A new file beside another one, with its name: that of the first number whose file is not there.
+fn new_beside(rt: &HostRuntime, out: &str) -> io::Result<(File, String)> {
+    for number in 0..MOST_NAMES {
+        let beside = name_beside(rt, out, number)?;
+        match File::create_new(rt, beside.as_str()) {
+            Ok(file) => return Ok((file, beside)),
+            Err(error) if error.kind() == ErrorKind::AlreadyExists => {}
+            Err(error) => return Err(error),
+        }
+    }
+    Err(io::Error::from(ErrorKind::AlreadyExists))
 }
 
 /// Writes a new file, which then takes the place of another one.
@@ -65,9 +81,8 @@ fn write_by_new(
     bytes: &[u8],
     former: Option<Permissions>,
 ) -> io::Result<()> {
-    let beside = name_beside(rt, out)?;
-    let file = match File::create_new(rt, beside.as_str()) {
-        Ok(file) => file,
+    let (file, beside) = match new_beside(rt, out) {
+        Ok(made) => made,
         Err(error) if error.kind() == ErrorKind::PermissionDenied => {
             return fs::write(rt, out, bytes);
         }
