@@ -6,21 +6,21 @@ use crate::explained::Explanation;
 use crate::topic::EndTopic;
 
 const OUT_OF_STEPS: Explanation = Explanation {
-    meaning: "All steps of --steps were taken. What was put out by then is how the script's output begins.",
+    meaning: "The run took all the steps that --steps allows. What the script printed is the beginning of its output.",
     command: "awkwasm run --steps 1000 'BEGIN { while (1) n++ }'",
     shown: "awkwasm: OutOfSteps",
-    advice: "Allow more steps, or look for a loop without an end.",
+    advice: "Allow more steps, or look for an endless loop.",
 };
 
 const EXHAUSTED: Explanation = Explanation {
-    meaning: "Calls are nested too deeply: a function was called while 9,999 calls waited.",
+    meaning: "Calls are nested too deeply: a function was called while 9,999 calls were waiting.",
     command: "awkwasm run 'function f(n) { return f(n + 1) } BEGIN { f(0) }'",
     shown: "awkwasm: Exhausted",
-    advice: "Look for a recursion without an end, or write it as a loop.",
+    advice: "Look for endless recursion, or use a loop.",
 };
 
 const NO_MEMORY: Explanation = Explanation {
-    meaning: "Memory ran out. What was put out by then is how the script's output begins.",
+    meaning: "Memory ran out. What the script printed is the beginning of its output.",
     command: "(ulimit -v 100000; awkwasm run 'BEGIN { while (1) a[n++] = n }')",
     shown: "awkwasm: NoMemory",
     advice: "Allow more memory, or keep less: delete elements, and close files.",

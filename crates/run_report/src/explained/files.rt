@@ -6,17 +6,17 @@ use crate::explained::Explanation;
 use crate::report::FileFault;
 
 const CANNOT_READ: Explanation = Explanation {
-    meaning: "The file of the script or of the module could not be read.",
+    meaning: "The file of the script or module could not be read.",
     command: "awkwasm compile nosuch out.wasm",
     shown: "awkwasm: CannotRead",
-    advice: "Look whether the name is right and the file may be read.",
+    advice: "Check that the name is right and that you may read the file.",
 };
 
 const CANNOT_WRITE: Explanation = Explanation {
-    meaning: "The module could not be written, or the text of imports, explain, --help or --version.",
+    meaning: "The module could not be written, or the text of imports, explain, check, --help or --version could not be printed.",
     command: "echo 'BEGIN { }' | awkwasm compile /dev/stdin /",
     shown: "awkwasm: CannotWrite",
-    advice: "Look whether the folder is there and may be written to, and whether the disk has room. compile writes no module over its script.",
+    advice: "Check that the folder exists, that you may write there, and that the disk has room. compile does not overwrite its script.",
 };
 
 /// What is said of such a file.
