@@ -3,12 +3,12 @@ _awkwasm() {
   local word="${COMP_WORDS[COMP_CWORD]}" options='' values='' arguments='' kind='' place=0 at last
   COMPREPLY=()
   if [ "$COMP_CWORD" = 1 ]; then
-    mapfile -t COMPREPLY < <(compgen -W 'compile check run exec imports explain help -h --help -V --version' -- "$word")
+    mapfile -t COMPREPLY < <(compgen -W 'compile check run count exec imports explain help -h --help -V --version' -- "$word")
     return
   fi
   case ${COMP_WORDS[1]} in
     compile)
-      options='-h --help'
+      options='--lines -h --help'
       arguments='files files'
       ;;
     check)
@@ -16,12 +16,17 @@ _awkwasm() {
       arguments='files'
       ;;
     run)
-      options='-F -v --steps --no-files --read-only --only-operands --may-read --may-write --most-input --most-output --streams --where -h --help'
+      options='-F -v --steps --no-files --read-only --only-operands --may-read --may-write --most-input --most-output --streams --where --stats -h --help'
       values='-F=nothing -v=variables --steps=nothing --may-read=files --may-write=files --most-input=nothing --most-output=nothing'
       arguments='nothing files+'
       ;;
-    exec)
+    count)
       options='-F -v --steps --no-files --read-only --only-operands --may-read --may-write --most-input --most-output --streams -h --help'
+      values='-F=nothing -v=variables --steps=nothing --may-read=files --may-write=files --most-input=nothing --most-output=nothing'
+      arguments='files files+'
+      ;;
+    exec)
+      options='-F -v --steps --no-files --read-only --only-operands --may-read --may-write --most-input --most-output --streams --where -h --help'
       values='-F=nothing -v=variables --steps=nothing --may-read=files --may-write=files --most-input=nothing --most-output=nothing'
       arguments='modules files+'
       ;;
@@ -75,7 +80,7 @@ _awkwasm() {
       mapfile -t COMPREPLY < <(compgen -W 'CONVFMT= FS= OFMT= OFS= ORS= RS= SUBSEP=' -- "$word")
       ;;
     names) mapfile -t COMPREPLY < <(compgen -W "$(awkwasm explain 2>/dev/null)" -- "$word") ;;
-    commands) mapfile -t COMPREPLY < <(compgen -W 'compile check run exec imports explain help' -- "$word") ;;
+    commands) mapfile -t COMPREPLY < <(compgen -W 'compile check run count exec imports explain help' -- "$word") ;;
   esac
 }
 complete -F _awkwasm awkwasm

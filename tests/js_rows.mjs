@@ -7,8 +7,8 @@ import { fenced } from "../js/node/index.mjs";
 import { Counts, compiled, eachInTime } from "./js_compare.mjs";
 import { pointsAgree } from "./js_random.mjs";
 
-/** Fields for which a world of its own is needed, or steps of the program: failing calls, a limit of steps, output without an end, cut modules. */
-const SPECIAL = new Set(["c", "d", "s", "u", "b"]);
+/** Fields for which a world of its own is needed, or the program: failing calls, a limit of steps, output without an end, cut modules, what is alive. */
+const SPECIAL = new Set(["c", "d", "s", "u", "b", "h"]);
 
 const unescaped = (field) =>
   field.replace(/\\([0-7]{3}|.)/g, (_, c) => ({ n: "\n", t: "\t", "\\": "\\" })[c] ?? (c.length === 3 ? String.fromCharCode(parseInt(c, 8)) : c));
@@ -51,7 +51,7 @@ function paired(rows, answers) {
   const last = rows.findIndex((row) => row.all("d").length > 0);
   let at = 0;
   return rows.slice(0, last < 0 ? rows.length : last).map((row) => {
-    const lines = row.isWords ? 1 : 1 + row.shown.length + row.all("b").length;
+    const lines = row.isWords ? 1 : 1 + row.shown.length + row.all("b").length + row.all("h").length;
     at += lines;
     return { row, due: answers.slice(at - lines, at) };
   }).filter(({ row }) => !row.isSpecial);

@@ -30,7 +30,7 @@ function* scripts() {
   for (const [n, script] of randomScripts(RANDOM, SEED).entries()) yield { name: `random script ${n}`, script, input: INPUT };
 }
 
-/** A section of names: `main` and the functions of a script, after so many imports. */
+/** The section of names that is due: the functions of a script and `main`, after so many imports. */
 function namesSection(script, imports) {
   const names = linesOf(script).map(({ name }) => name);
   const counted = (bytes) => [...leb(bytes.length), ...bytes];
@@ -59,7 +59,9 @@ function wrongOf({ script, input }, work) {
   if (!readFileSync(module).equals(readFileSync(back))) return "wasm2wat and back";
   const bytes = readFileSync(module);
   const imports = WebAssembly.Module.imports(new WebAssembly.Module(bytes)).length;
-  writeFileSync(named, Buffer.concat([bytes, namesSection(script, imports)]));
+  tool(program, "compile", "--lines", `${work}/script`, named);
+  const withNames = Buffer.concat([bytes, namesSection(script, imports)]);
+  if (!readFileSync(named).subarray(0, withNames.length).equals(withNames)) return "the section of names";
   tool("wasm-validate", ...OLD, named);
   const listed = tool("wasm-objdump", "-x", "-j", "Function", named);
   const isListed = ({ name }, n) => listed.includes(`func[${imports + n}] sig=`) && listed.includes(`<${name}>`);

@@ -15,9 +15,9 @@ begins with a hyphen is an option wherever it stands, but not after --.
   -v NAME=TEXT         Assign to a variable before the script begins
   --no-files           Open no file
   --read-only          Open no file for writing
-  --only-operands      Open no file but those among WORDS, and no file for writing
-  --may-read NAME      Open this file for reading, and no others but those that an option above allows
-  --may-write NAME     Open this file for writing, and no others
+  --only-operands      Open only files named in WORDS, for reading
+  --may-read NAME      Allow reading this file; others only as the options above allow
+  --may-write NAME     Allow writing this file, and no others
   --most-input BYTES   Read at most this many bytes
   --most-output BYTES  Write at most this many bytes
   --streams            /dev/stdin, /dev/stdout and /dev/stderr are the program's own streams

@@ -11,7 +11,7 @@ use Rattle.run_report.specs.declared.whereabouts.CallSite.{CallSite}
 use Rattle.awk_run.specs.Seen.{AreSites, IsSite}
 
 -- an element of a list with one more at its end
-one_more : {A : Type 0} (xs : List A) (x y : A) (n : ℕ) → slice_get (xs ++ x ∷ []) n ≡ Some y → (slice_get xs n ≡ Some y) ⊎ ((n ≡ length xs) × (x ≡ y))
+pub one_more : {A : Type 0} (xs : List A) (x y : A) (n : ℕ) → slice_get (xs ++ x ∷ []) n ≡ Some y → (slice_get xs n ≡ Some y) ⊎ ((n ≡ length xs) × (x ≡ y))
 one_more [] x y zero e = inr (refl, (let z : Some x ≡ Some y = e in cc))
 one_more [] x y (suc n) e = let z : None ≡ Some y = e in absurd cc
 one_more (z ∷ xs) x y zero e = inl e

@@ -1,10 +1,14 @@
 -- Where a script was: what is told of a run at some point of it.
-use Rattle.std.specs.Prelude.{◌≡◌, ◌≢◌, ◌≤◌, ◌+◌, ℕ, Bool, true, List, Option, Some, Ok, is_some, length, option_and_then, slice_get}
+use Rattle.std.specs.Prelude.{◌≡◌, ◌≢◌, ◌≤◌, ◌+◌, ◌⊎◌, ℕ, Bool, true, List, Option, None, Some, Ok, Err, IfSome, is_some, length, option_and_then, slice_get}
 use Rattle.awk_grammar.specs.Item.{Item}
 use Rattle.awk_parse.specs.Parsing.{IsParsed}
 use Rattle.awk_tokens.specs.Cutting.{IsTokens, Spelled}
 use Rattle.awk_tree.specs.Lines.{function_names, line_of}
-use Rattle.awk_values.specs.Values.{text_of_value}
+use Rattle.awk_values.specs.Values.{number_of_value, text_of_value, truncated_of_value}
+use Rattle.awk_values.specs.declared.fault.Fault.{Fault}
+use Rattle.awk_values.specs.declared.fault.Fault.TheVariants.{OpenInput, OpenOutput, ReadFailed, WriteFailed}
+use Rattle.awk_values.specs.declared.value.Value.TheVariants.{Text}
+use Rattle.sem_primitives.specs.FirstMatch.{expression_of}
 use Rattle.sem_primitives.specs.Jobs.{JobForm}
 use Rattle.sem_primitives.specs.declared.constants.Special.TheVariants.{Filename, Fnr, Nr}
 use Rattle.world_core.specs.WorldState.{State}
@@ -21,6 +25,8 @@ use Rattle.host_step.specs.Starts.{state_at_start}
 use Rattle.host_values.specs.Forms.{HostForm}
 use Rattle.host_values.specs.FormMeaning.{Told, form_meaning}
 use Rattle.host_values.specs.Shown.{Shown}
+use Rattle.run_report.specs.declared.subject.Subject.{Subject}
+use Rattle.run_report.specs.declared.subject.Subject.TheVariants.{Expression, File, StandardInput, StandardOutput, Value}
 use Rattle.run_report.specs.declared.whereabouts.CallSite.{CallSite}
 use Rattle.run_report.specs.declared.whereabouts.Whereabouts.{Whereabouts}
 use Rattle.script_compiler.specs.Compiled.{IsCompiled}
@@ -40,8 +46,34 @@ AreSites tokens script whole conf sites = (n : ℕ) (site : CallSite) → slice_
 abbrev pub OfSource : List ℕ → (List Spelled → List Item → Type 0) → Type 0
 OfSource bytes holds = (tokens : List Spelled) × (script : List Item) × IsTokens bytes (Ok tokens) × IsParsed tokens script × holds tokens script
 
+-- what is told of is a file, or a standard stream
+abbrev pub IsFile : Subject → Type 0
+IsFile (File name) = Unit {0}
+IsFile StandardInput = Unit {0}
+IsFile StandardOutput = Unit {0}
+IsFile _ = ⊥
+
+-- an error of opening, reading and writing
+abbrev pub IsOfFile : Fault → Type 0
+IsOfFile OpenInput = Unit {0}
+IsOfFile ReadFailed = Unit {0}
+IsOfFile OpenOutput = Unit {0}
+IsOfFile WriteFailed = Unit {0}
+IsOfFile _ = ⊥
+
+-- What an error was about has this error: a value as a number, whole or cut at its point, and an expression as one. A file is told of errors of files alone;
+-- which file it is is not said here.
+abbrev pub IsAbout : Fault → Subject → Type 0
+IsAbout fault (Value text) = (number_of_value (Text text) ≡ Err fault) ⊎ (truncated_of_value (Text text) ≡ Err fault)
+IsAbout fault (Expression text) = expression_of text ≡ Err fault
+IsAbout fault _ = IsOfFile fault
+
+abbrev pub IsAboutKept : Option Fault → Subject → Type 0
+IsAboutKept None subject = ⊥
+IsAboutKept (Some fault) subject = IsAbout fault subject
+
 -- What is told of a configuration of the script's module over a host: of its frames eight at most, all others counted, but for the first one, in which `main`
--- is called; and the texts of three special variables.
+-- is called; the texts of three special variables; and what the error that is kept was about, if that is known.
 pub record Tells (bytes : List ℕ) (whole : ModuleForm) (conf : Conf) (form : HostForm) (found : Whereabouts) : Type 0 where
   pub sites : OfSource bytes (λ tokens script. AreSites tokens script whole conf found.sites.items)
   pub count : length found.sites.items + found.more ≡ length conf.callers
@@ -49,6 +81,7 @@ pub record Tells (bytes : List ℕ) (whole : ModuleForm) (conf : Conf) (form : H
   pub nr : found.nr ≡ text_of_value (form.shared.inner.specials Nr)
   pub fnr : found.fnr ≡ text_of_value (form.shared.inner.specials Fnr)
   pub filename : found.filename ≡ text_of_value (form.shared.inner.specials Filename)
+  pub about : IfSome found.about (IsAboutKept form.fault)
 
 -- Of a run of so many steps at most it is told where it stood at its end, or where it paused: there a fault was kept.
 pub record IsSeen (tells : Type 0) (bytes : List ℕ) (program : ProgramForm) (steps : ℕ) (start : Conf) (first : HostForm) (found : Whereabouts) : Type 0 where

@@ -1,16 +1,28 @@
 //! Compiles scripts, and runs scripts and modules in the sandbox's host.
 #![tactic(auto)]
 
+mod argument;
+mod code_before;
+mod counting;
 mod end;
 mod laws;
+mod line_counts;
 mod module;
+mod module_sights;
+mod module_where;
+mod noted_world;
 mod script;
 mod script_where;
+mod stepping;
+mod tally;
 mod whereabouts;
 
-pub use laws::compiled_scripts_are_sound;
+pub use counting::count_script;
+pub use laws::{compiled_scripts_are_sound, counted_places_are_passed};
 pub use module::run_module;
-pub use run_report::{CallSite, Refusal, RunEnd, Whereabouts};
+pub use module_sights::ModuleWhereabouts;
+pub use module_where::run_module_where;
+pub use run_report::{CallSite, PlaceCount, Refusal, RunCounts, RunEnd, Subject, Whereabouts};
 pub use script::run_script;
 pub use script_compiler::{CompileFault, compile};
 pub use script_where::run_script_where;

@@ -13,6 +13,7 @@ ghost use Rattle.wasm_types.specs.View.{view_module};
 
 use crate::end::run_end;
 use crate::module::read;
+use crate::noted_world::{KnowsFailed, NotedWorld};
 use crate::whereabouts::run_seen;
 use host_calls::{Host, Job};
 use module_validator::ValidModule;
@@ -24,7 +25,7 @@ use wasm_machine::{LinkFault, Machine};
 use world_core::World;
 
 /// Links a module with a host, and runs it.
-fn run_valid_where<W: World>(
+fn run_valid_where<W: World + KnowsFailed>(
     alloc: Global,
     script: &[u8],
     valid: ValidModule,
@@ -55,7 +56,7 @@ fn run_valid_where<W: World>(
 
 /// Runs the module of a script in a job.
 #[tactic(auto, using(crate::proofs::Runs::unread_answers))]
-fn run_module_where<W: World>(
+fn run_module_where<W: World + KnowsFailed>(
     alloc: Global,
     script: &[u8],
     bytes: &[u8],
@@ -80,6 +81,26 @@ fn run_module_where<W: World>(
     run_valid_where(alloc, script, valid, host, steps)
 }
 
+/// The same in any world, whose failures are noted.
+fn run_module_noted<W: World>(
+    alloc: Global,
+    script: &[u8],
+    bytes: &[u8],
+    job: &Job,
+    state: RandomState,
+    world: W,
+    steps: u64,
+) -> (RunEnd, Option<Whereabouts>, W)
+    ensures answers { Answers W.tells bytes.now (job_of job.now) steps (W.state world) result.0
+        (W.state result.2) }
+    ensures seen { IfSome result.1 (IsSeenOfBytes W.tells script.now bytes.now (job_of job.now)
+        steps (W.state world)) }
+{
+    let noted = NotedWorld::new(alloc, world);
+    let (end, found, noted) = run_module_where(alloc, script, bytes, job, state, noted, steps);
+    (end, found, noted.into_inner())
+}
+
 /// As `run_script`, and tells where the script was: where its run kept the first fault, or else where it ended. None is told of a script that is not run, or
 /// for want of memory.
 #[tactic(auto, using(crate::proofs::ScriptRuns::script_answers))]
@@ -97,7 +118,7 @@ pub fn run_script_where<W: World>(
         (W.state world)) }
 {
     match compile(alloc, script) {
-        Ok(module) => run_module_where(alloc, script, &module, job, state, world, steps),
+        Ok(module) => run_module_noted(alloc, script, &module, job, state, world, steps),
         Err(CompileFault::NoMemory) => (RunEnd::NoMemory, None, world),
         Err(fault) => (RunEnd::Refused(Refusal::Compile(fault)), None, world),
     }

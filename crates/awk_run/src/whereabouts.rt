@@ -1,7 +1,7 @@
 //! Where a script was.
 ghost use Rattle.std.specs.Prelude.{◌≡◌, ◌≤◌, IfOk, IfSome, None, length, map, option_and_then, slice_get};
 ghost use Rattle.awk_grammar.specs.ViewStmt.{view_script};
-ghost use Rattle.awk_run.specs.Seen.{AreSites, IsSeen, IsSite, OfSource, Tells};
+ghost use Rattle.awk_run.specs.Seen.{AreSites, IsAbout, IsAboutKept, IsSeen, IsSite, OfSource, Tells};
 ghost use Rattle.awk_tokens.specs.Views.{spelled};
 ghost use Rattle.awk_tree.specs.Lines.{function_names, line_of};
 ghost use Rattle.host_calls.specs.Forms.{host_form};
@@ -10,12 +10,14 @@ ghost use Rattle.host_values.specs.FormMeaning.{Told, form_meaning};
 ghost use Rattle.wasm_model.specs.Runs.{Did};
 ghost use Rattle.wasm_model.specs.Typed.{Linked};
 
+use crate::argument::argument;
+use crate::noted_world::KnowsFailed;
 use awk_parse::parse;
 use awk_tokens::{Token, tokens};
 use awk_tree::{Script, function_named, line_of};
-use awk_values::Bytes;
+use awk_values::{Bytes, Fault};
 use host_calls::{Host, Import, Special, Watched};
-use run_report::{CallSite, Whereabouts};
+use run_report::{CallSite, Subject, Whereabouts};
 use sem_primitives::Primitive;
 use std::alloc::{AllocError, Global};
 use wasm_machine::{Machine, MachineEnd, Place};
@@ -131,15 +133,49 @@ fn told_of(waiting: usize) -> usize
     }
 }
 
+/// What a fault was about which the last step of a machine kept, where that is known.
+fn about<W: World + KnowsFailed>(
+    alloc: Global,
+    machine: &Machine,
+    host: &mut Host<W>,
+    fault: Fault,
+) -> Option<Subject>
+    ensures same { host_form W.state host.new ≡ host_form W.state host.old }
+    ensures about { IfSome result (IsAbout fault) }
+{
+    match fault {
+        Fault::OpenInput | Fault::ReadFailed | Fault::OpenOutput | Fault::WriteFailed => {
+            host.world().failed(alloc)
+        }
+        fault => argument(alloc, machine, host, fault),
+    }
+}
+
+/// What the fault was about that a host keeps, where that is known.
+fn kept_about<W: World + KnowsFailed>(
+    alloc: Global,
+    machine: &Machine,
+    host: &mut Host<W>,
+) -> Option<Subject>
+    ensures same { host_form W.state host.new ≡ host_form W.state host.old }
+    ensures about { IfSome result (IsAboutKept host.old.tables.fault) }
+{
+    match host.kept_fault() {
+        Some(fault) => about(alloc, machine, host, fault),
+        None => None,
+    }
+}
+
 /// What is told of where a machine stands over a host; none where memory is wanting.
-fn seen_at<W: World>(
+fn seen_at<W: World + KnowsFailed>(
     alloc: Global,
     script: &[u8],
     machine: &Machine,
-    host: &Host<W>,
+    host: &mut Host<W>,
 ) -> Option<Whereabouts>
-    ensures { IfSome result (Tells script.now machine.now.program.whole machine.now.conf
-        (host_form W.state host.now)) }
+    ensures same { host_form W.state host.new ≡ host_form W.state host.old }
+    ensures told { IfSome result (Tells script.now machine.now.program.whole machine.now.conf
+        (host_form W.state host.old)) }
 {
     let waiting = machine.waiting();
     let count = told_of(waiting);
@@ -161,11 +197,12 @@ fn seen_at<W: World>(
         nr,
         fnr,
         filename,
+        about: kept_about(alloc, machine, host),
     })
 }
 
 /// Runs a machine from its beginning, and sees where it stands where a fault is kept, or else at its end. It is one run: after the pause it goes on.
-pub(crate) fn run_seen<W: World>(
+pub(crate) fn run_seen<W: World + KnowsFailed>(
     alloc: Global,
     script: &[u8],
     machine: &mut Machine,
@@ -182,7 +219,7 @@ pub(crate) fn run_seen<W: World>(
 {
     let mut watched = Watched { host };
     let (end, left) = machine.run_to_pause(&mut watched, steps);
-    let found = seen_at(alloc, script, machine, &watched.host);
+    let found = seen_at(alloc, script, machine, &mut watched.host);
     let Watched { host } = watched;
     if end != MachineEnd::OutOfSteps {
         return (end, found, host);

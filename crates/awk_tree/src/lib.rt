@@ -22,5 +22,5 @@ pub use awk_grammar::{
     syntax_means_no_script, takes, well_formed_scripts_are_read,
 };
 pub use check_stmt::is_well_formed;
-pub use lines::{function_named, line_of};
+pub use lines::{function_named, line_of, places_of};
 pub use printer::print_tokens;

@@ -2,7 +2,7 @@
 ghost use Rattle.std.specs.Prelude.{◌≡◌, IfOk, map, option_map, slice_get};
 ghost use Rattle.awk_grammar.specs.ViewStmt.{view_items, view_script};
 ghost use Rattle.awk_tokens.specs.Views.{spelled};
-ghost use Rattle.awk_tree.specs.Lines.{function_names, line_of};
+ghost use Rattle.awk_tree.specs.Lines.{function_names, line_of, places_in};
 
 mod items;
 mod statements;
@@ -53,4 +53,16 @@ pub fn line_of(
         Some(token) => Ok(Some(token.line)),
         None => Ok(None),
     }
+}
+
+/// How many tokens stand before each place of a function of a script's module, in order. `function` is its number, `main` after those of the script.
+///
+/// # Errors
+///
+/// Where memory is wanting.
+pub fn places_of(alloc: Global, script: &Script, function: usize) -> Result<Vec<usize>, AllocError>
+    ensures { IfOk result (λ places. places.items
+        ≡ places_in (view_script script.now) function) }
+{
+    places_in(alloc, &script.items, function)
 }

@@ -1,13 +1,14 @@
 -- What became of what a command line asks for: what each command answers, and the exit status.
-use Rattle.std.specs.Prelude.{◌≡◌, ◌⊎◌, ℕ, List, map, Result, Ok, Err, IfErr, IfOk}
+use Rattle.std.specs.Prelude.{◌≡◌, ◌⊎◌, ℕ, Bool, true, false, List, map, Result, Ok, Err, IfErr, IfOk}
 use Rattle.command_line.specs.declared.Request.{Request}
-use Rattle.command_line.specs.declared.Request.TheVariants.{Check, Compile, Run, Exec, Imports, Explain}
+use Rattle.command_line.specs.declared.Request.TheVariants.{Check, Compile, Run, Count, Exec, Imports, Explain}
 use Rattle.command_line.specs.declared.Task.{Task}
 use Rattle.script_compiler.specs.Compiled.{IsCompiled}
+use Rattle.script_lines.specs.Lined.{IsLined}
 use Rattle.run_report.specs.declared.end.RunEnd.{RunEnd}
 use Rattle.run_report.specs.declared.end.RunEnd.TheVariants.{Ended}
 use Rattle.run_report.specs.declared.report.FileFault.TheVariants.{CannotRead, CannotWrite}
-use Rattle.run_tasks.specs.Runs.{IsUncompiled, RunsModule, RunsScript}
+use Rattle.run_tasks.specs.Runs.{IsUncompiled, IsUnlined, RunsModule, RunsScript, RunsText}
 use Rattle.run_tasks.specs.Tasks.{IsUnreadable, task_code}
 use Rattle.run_tasks.specs.declared.undone.Undone.{Undone}
 use Rattle.run_tasks.specs.declared.undone.Undone.TheVariants.{File, NoMemory, RandomNumbers, Unexplained}
@@ -33,9 +34,22 @@ IsUnwritten (File fault) = fault ≡ CannotWrite
 IsUnwritten NoMemory = Unit {0}
 IsUnwritten _ = ⊥
 
+-- The bytes are what a script is compiled to: with lines, they have these sections behind those of the module.
+abbrev pub CompilesTo : (has_lines : Bool) → List ℕ → List ℕ → Type 0
+CompilesTo false bytes compiled = IsCompiled bytes compiled
+CompilesTo true bytes compiled = IsCompiled bytes compiled × IsLined bytes compiled
+
+-- why it is not compiled
+abbrev pub IsUncompiledSo : (has_lines : Bool) → List ℕ → RunEnd → Type 0
+IsUncompiledSo false bytes e = IsUncompiled bytes e
+IsUncompiledSo true bytes e = IsUnlined bytes e
+
 -- The script of these bytes can be compiled, and the answer is status 0; else it is why it is not compiled.
+abbrev pub CompilesSo : (has_lines : Bool) → List ℕ → RunEnd → Type 0
+CompilesSo has_lines bytes e = ((e ≡ Ended 0) × ((compiled : List ℕ) × CompilesTo has_lines bytes compiled)) ⊎ IsUncompiledSo has_lines bytes e
+
 abbrev pub Compiles : List ℕ → RunEnd → Type 0
-Compiles bytes e = ((e ≡ Ended 0) × ((compiled : List ℕ) × IsCompiled bytes compiled)) ⊎ IsUncompiled bytes e
+Compiles bytes e = CompilesSo false bytes e
 
 -- why nothing is explained
 abbrev pub IsNotExplained : Undone → Type 0
@@ -50,12 +64,14 @@ IsExplained (Err undone) = IsNotExplained undone
 
 -- what becomes of a request
 abbrev pub Does : Request → Result RunEnd Undone → Type 0
-Does (Compile script_file out) (Ok e) = (bytes : List ℕ) × Compiles bytes e
-Does (Compile script_file out) (Err undone) = IsUnread undone ⊎ IsUnwritten undone
+Does (Compile script_file out has_lines) (Ok e) = (bytes : List ℕ) × CompilesSo has_lines bytes e
+Does (Compile script_file out has_lines) (Err undone) = IsUnread undone ⊎ IsUnwritten undone
 Does (Check script_file) (Ok e) = (bytes : List ℕ) × Compiles bytes e
 Does (Check script_file) (Err undone) = IsUnread undone ⊎ IsUnwritten undone
 Does (Run task) (Ok e) = (environment : List NamedText) × IsSortedByName environment × RunsScript task (map pair_of environment) e
 Does (Run task) (Err undone) = IsUnbegun undone
+Does (Count task) (Ok e) = (bytes : List ℕ) × (environment : List NamedText) × IsSortedByName environment × RunsText task bytes (map pair_of environment) e
+Does (Count task) (Err undone) = IsUnread undone ⊎ IsUnbegun undone
 Does (Exec task) (Ok e) = (bytes : List ℕ) × (environment : List NamedText) × IsSortedByName environment × RunsModule task bytes (map pair_of environment) e
 Does (Exec task) (Err undone) = IsUnread undone ⊎ IsUnbegun undone
 Does (Imports file) (Ok e) = (e ≡ Ended 0) ⊎ ((bytes : List ℕ) × IsUnreadable bytes e)
@@ -67,3 +83,8 @@ pub record Exits (request : Request) (code : ℕ) : Type 0 where
   pub done : Result RunEnd Undone
   pub does : Does request done
   pub code_of : code ≡ task_code done
+
+-- of a run that was counted, how it ended
+abbrev pub end_of : {A : Type 0} → Result (RunEnd × A) Undone → Result RunEnd Undone
+end_of (Ok r) = Ok r.0
+end_of (Err undone) = Err undone

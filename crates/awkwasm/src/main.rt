@@ -10,9 +10,12 @@ ghost use Rattle.run_tasks.specs.declared.undone.Undone.TheVariants.{NoMemory};
 ghost use Rattle.awkwasm.specs.Lines.{Carries, Refuses};
 
 mod checking;
+mod compiling;
+mod counting;
 mod environment;
 mod explanations;
 mod imports;
+mod module_sight;
 mod output;
 mod standard;
 mod tasks;

@@ -1,6 +1,6 @@
 //! What the command line asks for, over real files.
 ghost use Rattle.std.specs.Prelude.{◌≡◌, ◌⊎◌, ℕ, List, [], map, IfErr, IfOk};
-ghost use Rattle.awkwasm.specs.Done.{Compiles, Does, Exits, IsExplained, IsNotExplained, IsUnbegun, IsUnread, IsUnwritten};
+ghost use Rattle.awkwasm.specs.Done.{Does, Exits, IsExplained, IsNotExplained, IsUnbegun, IsUnread, IsUnwritten};
 ghost use Rattle.awkwasm.specs.Environment.{IsSortedByName};
 ghost use Rattle.command_line.specs.declared.Request.TheVariants.{Run};
 ghost use Rattle.host_names.specs.Forms.{pair_of};
@@ -12,17 +12,19 @@ ghost use Rattle.run_tasks.specs.Runs.{RunsModule, RunsScript};
 ghost use Rattle.run_tasks.specs.Tasks.{IsUnreadable, task_code};
 
 use crate::checking::check_file;
+use crate::compiling::compile_file;
+use crate::counting::{count_and_tell, stats_and_tell};
 use crate::environment::environment_of;
 use crate::explanations::{explanation_text, names_text};
 use crate::imports::imports_text;
-use crate::output::{print_text, tell, write_module};
+use crate::module_sight::exec_and_tell;
+use crate::output::{print_text, tell};
 use command_line::{Request, Task};
 use run_report::{
     FileFault, RunEnd, Whereabouts, no_memory_text, status_of, tell_end, topic_named, where_text,
 };
 use run_tasks::{
-    Surroundings, Undone, compiled, listed, module_end, script_end, script_seen, undone_status,
-    undone_text,
+    Surroundings, Undone, listed, module_end, script_end, script_seen, undone_status, undone_text,
 };
 use script_code::MAX_SCRIPT_BYTES;
 use std::alloc::Global;
@@ -33,13 +35,13 @@ use std::{fs, io};
 use wasm_types::MAX_MODULE_BYTES;
 
 /// What a run of the program is in.
-type Around<'a> = Surroundings<'a, HostRuntime, Stdin, Printer<'a, HostRuntime>, Stderr>;
+pub(crate) type Around<'a> = Surroundings<'a, HostRuntime, Stdin, Printer<'a, HostRuntime>, Stderr>;
 
 /// How many bytes of a script's file are read at most: one past the greatest length of a script.
 pub(crate) const SCRIPT_LIMIT: u64 = MAX_SCRIPT_BYTES as u64 + 1;
 
 /// How many bytes of a module's file are read at most: one past the greatest length of a module.
-const MODULE_LIMIT: u64 = MAX_MODULE_BYTES as u64 + 1;
+pub(crate) const MODULE_LIMIT: u64 = MAX_MODULE_BYTES as u64 + 1;
 
 /// The first bytes of a file, so many at most.
 fn read_file<R: Files>(alloc: Global, files: &R, path: &str, limit: u64) -> io::Result<Vec<u8>> {
@@ -71,7 +73,7 @@ fn random_state(rt: &HostRuntime) -> Result<RandomState, Undone>
 }
 
 /// The surroundings of a run: real files, the standard streams, and the environment.
-fn surroundings<'a>(rt: &'a HostRuntime) -> Result<Around<'a>, Undone>
+pub(crate) fn surroundings<'a>(rt: &'a HostRuntime) -> Result<Around<'a>, Undone>
     ensures order { IfOk result (λ around. IsSortedByName around.environment.items) }
     ensures err { IfErr result IsUnbegun }
 {
@@ -128,33 +130,6 @@ fn exec_task(rt: &HostRuntime, task: &Task<'_>) -> Result<RunEnd, Undone>
 {
     let bytes = file_of(rt, task.subject, MODULE_LIMIT)?;
     exec_bytes(rt, task, &bytes)
-}
-
-/// Compiles a script to a module's file. Nothing is written unless the script is accepted.
-fn compile_bytes(
-    rt: &HostRuntime,
-    script: &[u8],
-    script_file: &str,
-    out: &str,
-) -> Result<RunEnd, Undone>
-    ensures ok { IfOk result (Compiles script.now) }
-    ensures err { IfErr result IsUnwritten }
-{
-    let module = match compiled(rt.alloc(), script) {
-        Ok(module) => module,
-        Err(end) => return Ok(end),
-    };
-    write_module(rt, script_file, out, &module)?;
-    Ok(RunEnd::Ended(0))
-}
-
-/// Compiles a script's file to a module's.
-fn compile_file(rt: &HostRuntime, script_file: &str, out: &str) -> Result<RunEnd, Undone>
-    ensures ok { IfOk result (λ e. (bytes : List ℕ) × Compiles bytes e) }
-    ensures err { IfErr result (λ undone. IsUnread undone ⊎ IsUnwritten undone) }
-{
-    let script = file_of(rt, script_file, SCRIPT_LIMIT)?;
-    compile_bytes(rt, &script, script_file, out)
 }
 
 /// What is asked of `explain`: what a name means, or which names there are.
@@ -268,14 +243,27 @@ pub(crate) fn carry_out(rt: &HostRuntime, request: &Request) -> u8
     ensures { Exits request.now result }
 {
     if let Request::Run(task) = request {
+        if task.tells_stats {
+            return stats_and_tell(rt, task);
+        }
         if task.tells_where {
             return run_and_tell(rt, task);
         }
     }
+    if let Request::Exec(task) = request {
+        if task.tells_where {
+            return exec_and_tell(rt, task);
+        }
+    }
     let done = match request {
-        Request::Compile { script_file, out } => compile_file(rt, script_file, out),
+        Request::Compile {
+            script_file,
+            out,
+            has_lines,
+        } => compile_file(rt, script_file, out, *has_lines),
         Request::Check(script_file) => check_file(rt, script_file),
         Request::Run(task) => run_task(rt, task),
+        Request::Count(task) => return count_and_tell(rt, task),
         Request::Exec(task) => exec_task(rt, task),
         Request::Imports(file) => imports_task(rt, file),
         Request::Explain(name) => explain_task(rt, *name),

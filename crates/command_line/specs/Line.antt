@@ -48,9 +48,9 @@ words_rule = record (new_rule (codes "words")) { action = Some Append }
 abbrev pub topic_rule : Rule
 topic_rule = record (new_rule (codes "name")) { action = Some Set }
 
--- `compile SCRIPTFILE OUT`
+-- `compile [--lines] SCRIPTFILE OUT`
 abbrev pub compile_app : App
-compile_app = with_rule (with_rule (new_app (codes "compile")) (single (codes "scriptfile"))) (single (codes "out"))
+compile_app = with_rule (with_rule (with_rule (new_app (codes "compile")) (single (codes "scriptfile"))) (single (codes "out"))) (flag_rule (codes "lines"))
 
 -- `check SCRIPTFILE`
 abbrev pub check_app : App
@@ -77,9 +77,17 @@ limits_app name = with_rule (with_rule (with_rule (names_app name) (number_rule 
 abbrev pub task_app : Text → Text → App
 task_app name subject = with_rule (with_rule (limits_app name) (single subject)) words_rule
 
--- `run`, with `[--where]`
+-- `run`, with `[--where] [--stats]`
 abbrev pub run_app : App
-run_app = with_rule (task_app (codes "run") (codes "script")) (flag_rule (codes "where"))
+run_app = with_rule (with_rule (task_app (codes "run") (codes "script")) (flag_rule (codes "where"))) (flag_rule (codes "stats"))
+
+-- `count [..] SCRIPTFILE WORDS..`
+abbrev pub count_app : App
+count_app = task_app (codes "count") (codes "scriptfile")
+
+-- `exec`, with `[--where]`
+abbrev pub exec_app : App
+exec_app = with_rule (task_app (codes "exec") (codes "module")) (flag_rule (codes "where"))
 
 -- `imports MODULE`
 abbrev pub imports_app : App
@@ -96,8 +104,8 @@ top_app = on_top (λ s. record s { has_version = true; subcommand_required = tru
 -- the whole line
 abbrev pub line_app : App
 line_app =
-    with_subcommand (with_subcommand (with_subcommand (with_subcommand (with_subcommand (with_subcommand top_app compile_app.top) check_app.top)
-    run_app.top) (task_app (codes "exec") (codes "module")).top) imports_app.top) explain_app.top
+    with_subcommand (with_subcommand (with_subcommand (with_subcommand (with_subcommand (with_subcommand (with_subcommand top_app compile_app.top) check_app.top)
+    run_app.top) count_app.top) exec_app.top) imports_app.top) explain_app.top
 
 -- the exit status of a line that asks for nothing
 abbrev pub status_of_kind : ErrorKind → ℕ

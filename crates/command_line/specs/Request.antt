@@ -4,7 +4,7 @@ use Rattle.std.specs.Borrow.{Bor}
 use Rattle.std.specs.Str.Parse.{IsNumeral, digits_value, without_leading_plus}
 use Rattle.clap.specs.Words.{Row, Text, all_of, first_of, one_of}
 use Rattle.command_line.specs.declared.Request.{Request}
-use Rattle.command_line.specs.declared.Request.TheVariants.{Check, Compile, Run, Exec, Imports, Explain}
+use Rattle.command_line.specs.declared.Request.TheVariants.{Check, Compile, Run, Count, Exec, Imports, Explain}
 use Rattle.command_line.specs.declared.Task.{Task}
 use Rattle.command_line.specs.declared.FenceOptions.{FenceOptions}
 use Rattle.command_line.specs.declared.Limits.{Limits}
@@ -44,6 +44,7 @@ pub record IsTask (of : Text) (rows : List Row) (t : Task) : Type 0 where
   pub assigns : texts t.assigns.items ≡ words_at (codes "assign") rows
   pub steps : IsNumber (one_of (codes "steps") rows) t.steps
   pub tells_where : IsFlag (one_of (codes "where") rows) t.tells_where
+  pub tells_stats : IsFlag (one_of (codes "stats") rows) t.tells_stats
   pub fences : IsFences rows t.fences
   pub may_read : texts t.may_read.items ≡ words_at (codes "may-read") rows
   pub may_write : texts t.may_write.items ≡ words_at (codes "may-write") rows
@@ -52,13 +53,14 @@ pub record IsTask (of : Text) (rows : List Row) (t : Task) : Type 0 where
   pub subject : t.subject.now ≡ word_at of rows
   pub words : texts t.words.items ≡ words_at (codes "words") rows
 
--- What is asked for, by the subcommand's name and what is found for it. The line has six subcommands.
+-- What is asked for, by the subcommand's name and what is found for it. The line has seven subcommands.
 abbrev pub Asks : Text → List Row → Request → Type 0
-Asks name rows (Compile script_file out) = (name ≡ codes "compile") × (script_file.now ≡ word_at (codes "scriptfile") rows)
-    × (out.now ≡ word_at (codes "out") rows)
+Asks name rows (Compile script_file out has_lines) = (name ≡ codes "compile") × (script_file.now ≡ word_at (codes "scriptfile") rows)
+    × (out.now ≡ word_at (codes "out") rows) × IsFlag (one_of (codes "lines") rows) has_lines
 Asks name rows (Check script_file) = (name ≡ codes "check") × (script_file.now ≡ word_at (codes "scriptfile") rows)
 Asks name rows (Run task) = (name ≡ codes "run") × IsTask (codes "script") rows task
-Asks name rows (Exec task) = (name ≡ codes "compile" → ⊥) × (name ≡ codes "check" → ⊥) × (name ≡ codes "run" → ⊥) × (name ≡ codes "imports" → ⊥) × (name ≡ codes "explain" → ⊥)
+Asks name rows (Count task) = (name ≡ codes "count") × IsTask (codes "scriptfile") rows task
+Asks name rows (Exec task) = (name ≡ codes "compile" → ⊥) × (name ≡ codes "check" → ⊥) × (name ≡ codes "run" → ⊥) × (name ≡ codes "count" → ⊥) × (name ≡ codes "imports" → ⊥) × (name ≡ codes "explain" → ⊥)
     × IsTask (codes "module") rows task
 Asks name rows (Imports file) = (name ≡ codes "imports") × (file.now ≡ word_at (codes "module") rows)
 Asks name rows (Explain topic) = (name ≡ codes "explain") × (option_map (λ t. t.now) topic ≡ first_of (codes "name") rows)

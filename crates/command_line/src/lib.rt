@@ -5,7 +5,7 @@ ghost use Rattle.std.specs.Prelude.{◌≡◌, ◌↔◌, IfOk, IfSome, IsTrue, 
 ghost use Rattle.std.specs.Prelude.{Ok, Some, map, option_map, true, IfErr, codes};
 ghost use Rattle.clap.specs.Words.{App, Rule, app_of, rule_of, takes, kind_of, rows_of, found_of, matches_of, one_of, first_of, new_app, new_rule, subcommand_rows_of, subcommand_of, with_rule, with_subcommand};
 ghost use Rattle.command_line.specs.Request.{Asks, IsFences, IsFlag, IsLimits, IsNumber, IsTask, texts, word_at, words_at};
-ghost use Rattle.command_line.specs.Line.{Builds, single, flag_rule, names_rule, number_rule, options_app, fences_app, names_app, limits_app, check_app, compile_app, run_app, task_app, explain_app, imports_app, top_app, line_app, is_file_option, has_file_option, status_of_kind, takes_text, text_apart};
+ghost use Rattle.command_line.specs.Line.{Builds, single, flag_rule, names_rule, number_rule, options_app, fences_app, names_app, limits_app, check_app, compile_app, count_app, run_app, exec_app, task_app, explain_app, imports_app, top_app, line_app, is_file_option, has_file_option, status_of_kind, takes_text, text_apart};
 
 mod spelling;
 
@@ -26,7 +26,7 @@ A word that begins with a hyphen is an option wherever it is, also after SCRIPT 
 Attach a text that begins with a hyphen to its option: -F-, not -F -. An = after -F or -v belongs
 to the text: -F= separates fields by =.
 
-The exit status is the script's own, or 2 a fault, 3 refused, 4 out of steps, 5 no memory,
+The exit status is the script's own, or 2 runtime error, 3 refused, 4 out of steps, 5 no memory,
 6 calls nested too deeply, 7 a trap of the module, 8 a wrong command line or file. With 2 to 7
 comes a line 'awkwasm: NAME ..' on the standard error: 'awkwasm explain NAME' says what to do.
 
@@ -64,8 +64,10 @@ pub struct Task<'a> {
     pub assigns: Vec<&'a str>,
     /// The greatest number of steps to take; without `--steps` the greatest of 64 bits.
     pub steps: u64,
-    /// `--where`, which `run` takes alone: tell where the script was where it faults or is stopped.
+    /// `--where`: tell where the script or the module was where it faults or is stopped.
     pub tells_where: bool,
+    /// `--stats`, which `run` takes alone: tell what the run took.
+    pub tells_stats: bool,
     /// Which files are kept out.
     pub fences: FenceOptions,
     /// The names of `--may-read`, in order: files that may be read.
@@ -76,7 +78,7 @@ pub struct Task<'a> {
     pub limits: Limits,
     /// `--streams`: names of the standard streams, as `/dev/stdout`, are the program's own streams.
     pub streams: bool,
-    /// The script's text for `run`, the module's file name for `exec`.
+    /// The script's text for `run`, the script's file name for `count`, the module's file name for `exec`.
     pub subject: &'a str,
     /// The operands.
     pub words: Vec<&'a str>,
@@ -85,12 +87,18 @@ pub struct Task<'a> {
 /// What a command line asks for.
 #[derive(Drop)]
 pub enum Request<'a> {
-    /// `compile SCRIPTFILE OUT`: the names of two files.
-    Compile { script_file: &'a str, out: &'a str },
+    /// `compile [--lines] SCRIPTFILE OUT`: the names of two files, and whether the module is to have the lines of the script.
+    Compile {
+        script_file: &'a str,
+        out: &'a str,
+        has_lines: bool,
+    },
     /// `check SCRIPTFILE`: all that is to be said of a script before it runs.
     Check(&'a str),
     /// `run SCRIPT WORDS..`
     Run(Task<'a>),
+    /// `count SCRIPTFILE WORDS..`: how often the statements of each line are executed.
+    Count(Task<'a>),
     /// `exec MODULE WORDS..`
     Exec(Task<'a>),
     /// `imports MODULE`: what a module imports.
@@ -205,7 +213,7 @@ fn fences_command<'a>(
 ) -> Result<Command<'a>, AllocError>
     ensures { IfOk result (Builds (fences_app name.now)) }
 {
-    let help = "Open no file but those among WORDS, and no file for writing";
+    let help = "Open only files named in WORDS, for reading";
     let command = options_command(alloc, name, about);
     let command = with_arg(command, flag_arg(alloc, "no-files", "Open no file"));
     let command = with_arg(
@@ -223,9 +231,9 @@ fn names_command<'a>(
     ensures { IfOk result (Builds (names_app name.now)) }
 {
     let command = fences_command(alloc, name, about);
-    let help = "Open this file for reading, and no others but those that an option above allows";
+    let help = "Allow reading this file; others only as the options above allow";
     let command = with_arg(command, names_arg(alloc, "may-read", help));
-    let help = "Open this file for writing, and no others";
+    let help = "Allow writing this file, and no others";
     with_arg(command, names_arg(alloc, "may-write", help))
 }
 
@@ -245,7 +253,7 @@ fn limits_command<'a>(
     with_arg(command, flag_arg(alloc, "streams", help))
 }
 
-/// `run` or `exec`: the options, what is run, and the operands.
+/// `run`, `count` or `exec`: the options, what is run, and the operands.
 fn task_command<'a>(
     alloc: Global,
     name: &'a str,
@@ -266,20 +274,26 @@ fn run_command<'a>(alloc: Global) -> Result<Command<'a>, AllocError>
 {
     let help = "The script's text; of a file: \"$(cat prog.awk)\"";
     let command = task_command(alloc, "run", "Run a script", "script", help);
-    let help = "Say where the script was where it faults or is stopped";
-    with_arg(command, flag_arg(alloc, "where", help))
+    let help = "After an error, say at which line of the script it happened";
+    let command = with_arg(command, flag_arg(alloc, "where", help));
+    let help = "After the run, print how many steps, records and values it took";
+    with_arg(command, flag_arg(alloc, "stats", help))
+}
+
+fn count_command<'a>(alloc: Global) -> Result<Command<'a>, AllocError>
+    ensures { IfOk result (Builds count_app) }
+{
+    let about = "Run a script, and list its lines with how often they were executed";
+    task_command(alloc, "count", about, "scriptfile", "The script's file")
 }
 
 fn exec_command<'a>(alloc: Global) -> Result<Command<'a>, AllocError>
-    ensures { IfOk result (Builds (task_app (codes "exec") (codes "module"))) }
+    ensures { IfOk result (Builds exec_app) }
 {
-    task_command(
-        alloc,
-        "exec",
-        "Run a compiled module",
-        "module",
-        "The module's file",
-    )
+    let about = "Run a compiled module";
+    let command = task_command(alloc, "exec", about, "module", "The module's file");
+    let help = "After an error, say at which line it happened, by the lines of compile --lines";
+    with_arg(command, flag_arg(alloc, "where", help))
 }
 
 fn compile_command<'a>(alloc: Global) -> Result<Command<'a>, AllocError>
@@ -289,13 +303,15 @@ fn compile_command<'a>(alloc: Global) -> Result<Command<'a>, AllocError>
     let script = single_arg(alloc, "scriptfile", "The script's file");
     let out = single_arg(alloc, "out", "The file to write the module to");
     let command = with_arg(Ok(named_command(alloc, "compile", about)), script);
-    with_arg(command, out)
+    let command = with_arg(command, out);
+    let help = "Append the names of the script's functions and the lines of its statements";
+    with_arg(command, flag_arg(alloc, "lines", help))
 }
 
 fn check_command<'a>(alloc: Global) -> Result<Command<'a>, AllocError>
     ensures { IfOk result (Builds check_app) }
 {
-    let about = "Say of a script why it is refused, and what looks like a slip, with the places";
+    let about = "Report the errors and likely mistakes in a script, with their places";
     let script = single_arg(alloc, "scriptfile", "The script's file");
     with_arg(Ok(named_command(alloc, "check", about)), script)
 }
@@ -311,7 +327,7 @@ fn imports_command<'a>(alloc: Global) -> Result<Command<'a>, AllocError>
 fn explain_command<'a>(alloc: Global) -> Result<Command<'a>, AllocError>
     ensures { IfOk result (Builds explain_app) }
 {
-    let about = "Say what the name of a fault, a refusal or an end means, and what to do";
+    let about = "Explain an error or an exit status, and say what to do";
     let help = "The name after 'awkwasm: ', or an exit status; without it all names are listed";
     let name = free_arg(alloc, "name", help, ArgAction::Set);
     with_arg(Ok(named_command(alloc, "explain", about)), name)
@@ -364,6 +380,7 @@ fn command<'a>(alloc: Global) -> Result<Command<'a>, AllocError>
     let line = with_subcommand(Ok(top_command(alloc)), compile_command(alloc));
     let line = with_subcommand(line, check_command(alloc));
     let line = with_subcommand(line, run_command(alloc));
+    let line = with_subcommand(line, count_command(alloc));
     let line = with_subcommand(line, exec_command(alloc));
     let line = with_subcommand(line, imports_command(alloc));
     with_subcommand(line, explain_command(alloc))
@@ -528,7 +545,7 @@ fn topic<'a>(matches: &ArgMatches<'a>) -> Option<&'a str>
     matches.get_str("name")
 }
 
-/// What is asked of `run` and `exec`.
+/// What is asked of `run`, `count` and `exec`.
 fn task_of<'a>(
     alloc: Global,
     matches: &ArgMatches<'a>,
@@ -541,6 +558,7 @@ fn task_of<'a>(
         assigns: texts(alloc, matches, "assign")?,
         steps: number(matches, "steps"),
         tells_where: flag(matches, "where"),
+        tells_stats: flag(matches, "stats"),
         fences: fences(matches),
         may_read: texts(alloc, matches, "may-read")?,
         may_write: texts(alloc, matches, "may-write")?,
@@ -560,9 +578,11 @@ fn request_in<'a>(alloc: Global, matches: &ArgMatches<'a>) -> Result<Request<'a>
         Some(("compile", inner)) => Ok(Request::Compile {
             script_file: text(inner, "scriptfile"),
             out: text(inner, "out"),
+            has_lines: flag(inner, "lines"),
         }),
         Some(("check", inner)) => Ok(Request::Check(text(inner, "scriptfile"))),
         Some(("run", inner)) => Ok(Request::Run(task_of(alloc, inner, "script")?)),
+        Some(("count", inner)) => Ok(Request::Count(task_of(alloc, inner, "scriptfile")?)),
         Some(("imports", inner)) => Ok(Request::Imports(text(inner, "module"))),
         Some(("explain", inner)) => Ok(Request::Explain(topic(inner))),
         Some((_, inner)) => Ok(Request::Exec(task_of(alloc, inner, "module")?)),

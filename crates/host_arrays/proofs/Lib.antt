@@ -1,3 +1,4 @@
 pub mod PairLemmas
 pub mod PlaceLemmas
+pub mod ListingLemmas
 pub mod NumberLemmas

@@ -4,8 +4,10 @@ ghost use Rattle.std.specs.Map.{keys_of};
 ghost use Rattle.host_arrays.specs.Pairs.{get_pair, set_pair, delete_pair, created, value_or_uninit};
 ghost use Rattle.host_arrays.specs.Order.{Changes, IsOnce, SpecHeld, StandsIn, held_in, kept_value, place_in};
 
+use crate::key::Key;
+use crate::listing::texts_of;
 use awk_values::{Bytes, Value};
-use indexmap::IndexMap;
+use indexmap::{Equivalent, IndexMap};
 use std::alloc::{AllocError, Global};
 use std::hash::RandomState;
 use std::marker::Model;
@@ -26,8 +28,8 @@ pub(crate) struct Held {
 /// closed.
 #[derive(Drop)]
 pub(crate) struct Array {
-    pairs: IndexMap<Bytes, Held, RandomState>,
-    order: Vec<Option<Bytes>>,
+    pairs: IndexMap<Key, Held, RandomState>,
+    order: Vec<Option<Key>>,
     /// Where in the map the key stands that was read last: most often that key is written next, and then it is not hashed again.
     last: usize,
 }
@@ -54,33 +56,18 @@ fn copy_of(value: &Value) -> Result<Value, AllocError>
     value.clone()
 }
 
-/// A text that is stored may keep a text in memory that is longer by this many bytes than twice its own length.
-const MOST_MORE: usize = 256;
-
-/// The same text, to be stored where texts may be parts of others of up to `longest` bytes: a copy, unless what it may keep in memory is little more than
-/// twice its bytes.
-pub(crate) fn stored(alloc: Global, text: &Bytes, longest: usize) -> Result<Bytes, AllocError>
-    ensures { IfOk result (λ stored. stored ≡ text.now) }
-{
-    if longest > MOST_MORE && (longest - MOST_MORE) / 2 > text.len() {
-        Bytes::from_slice(alloc, text.as_slice())
-    } else {
-        text.clone()
-    }
-}
-
 /// Whether a key stands at this place of the map.
-fn stands_in(pairs: &IndexMap<Bytes, Held, RandomState>, place: usize, key: &Bytes) -> bool
+fn stands_in(pairs: &IndexMap<Key, Held, RandomState>, place: usize, key: &Bytes) -> bool
     ensures { result ≡ true → StandsIn pairs.now.entries place key.now }
 {
     match pairs.get_index(place) {
-        Some(entry) => *entry.0 == *key,
+        Some(entry) => key.equivalent(entry.0),
         None => false,
     }
 }
 
 /// Writes the value of the key at this place of the map.
-fn write_at(pairs: &mut IndexMap<Bytes, Held, RandomState>, place: usize, value: Value)
+fn write_at(pairs: &mut IndexMap<Key, Held, RandomState>, place: usize, value: Value)
     ensures { (k : List ℕ) (h : SpecHeld) → slice_get pairs.old.entries place ≡ Some (k, h)
         → Changes (held_in pairs.old.entries) (held_in pairs.new.entries) k
         (Some (record { value = value; place = h.place })) }
@@ -91,7 +78,7 @@ fn write_at(pairs: &mut IndexMap<Bytes, Held, RandomState>, place: usize, value:
 }
 
 /// Gives each key its place in an order without holes.
-fn renumber(pairs: &mut IndexMap<Bytes, Held, RandomState>, order: &[Option<Bytes>])
+fn renumber(pairs: &mut IndexMap<Key, Held, RandomState>, order: &[Option<Key>])
     requires once { IsOnce order.now }
     requires held { (k : List ℕ) (i : ℕ) → get_or order.now i None ≡ Some k
         → IsSome (held_in pairs.old.entries k) }
@@ -160,7 +147,7 @@ impl Array {
         ensures handed_back { IfErr result (λ v. v ≡ value) }
     {
         let place = self.order.len();
-        let Ok(own) = stored(*self.pairs.allocator(), key, longest) else {
+        let Ok(own) = Key::new(*self.pairs.allocator(), key, longest) else {
             return Err(value);
         };
         let Ok(listed) = own.clone() else {
@@ -239,12 +226,6 @@ impl Array {
     pub(crate) fn keys(&self, alloc: Global) -> Result<Vec<Bytes>, AllocError>
         ensures { IfOk result (λ keys. keys.items ≡ keys_of self.now) }
     {
-        let mut keys = Vec::with_capacity(alloc, self.pairs.len())?;
-        for slot in &self.order {
-            if let Some(key) = slot {
-                keys.push(key.clone()?)?;
-            }
-        }
-        Ok(keys)
+        texts_of(alloc, self.order.as_slice(), self.pairs.len())
     }
 }

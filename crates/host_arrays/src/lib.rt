@@ -2,6 +2,9 @@
 #![tactic(auto)]
 
 mod array;
+mod key;
+mod listing;
+mod stored;
 mod table;
 
 pub use table::Arrays;

@@ -6,7 +6,8 @@ ghost use Rattle.std.specs.Map.{keys_of};
 ghost use Rattle.std.specs.Borrow.{Lends, sem};
 ghost use Rattle.host_arrays.specs.Pairs.{Pairs, get_pair, set_pair, delete_pair, pairs_at, created, first_arrays, value_or_uninit};
 
-use crate::array::{Array, stored};
+use crate::array::Array;
+use crate::stored::stored;
 use awk_values::{Bytes, Value};
 use host_handles::MAX_SLOTS;
 use slab::Slab;

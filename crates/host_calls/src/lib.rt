@@ -5,6 +5,7 @@ mod answers;
 mod calls;
 mod host;
 mod inputs;
+mod looks;
 mod names;
 mod on_arrays;
 mod on_texts;

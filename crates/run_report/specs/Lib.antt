@@ -4,5 +4,7 @@ pub mod Parts
 pub mod Topics
 pub mod Examples
 pub mod TopicExamples
+pub mod SubjectTexts
 pub mod WhereTexts
 pub mod Escapes
+pub mod CountTexts

@@ -2,6 +2,7 @@
 use Rattle.std.specs.Prelude.{ℕ, zero, suc, Bool, true, false, List, [], ◌∷◌, ◌++◌, Option, Some, None, codes, decimal, map, nat_eq, nat_lt, ◌||◌, if◌then◌else◌}
 use Rattle.run_report.specs.declared.end.RunEnd.{RunEnd}
 use Rattle.run_report.specs.declared.end.RunEnd.TheVariants.{Ended, Refused}
+use Rattle.run_report.specs.SubjectTexts.{about_text}
 use Rattle.run_report.specs.declared.whereabouts.CallSite.{CallSite}
 use Rattle.run_report.specs.declared.whereabouts.Whereabouts.{Whereabouts}
 
@@ -41,10 +42,10 @@ abbrev pub more_text : ℕ → List ℕ
 more_text zero = []
 more_text (suc n) = codes "  and " ++ (decimal (suc n) ++ codes " more calls\n")
 
--- the first site is what was at work; the others are calls that waited
+-- the first site is what was at work; the others are calls that waited; then what the error was about
 abbrev pub sites_text : Whereabouts → List CallSite → List ℕ
 sites_text w [] = []
-sites_text w (s ∷ ss) = codes "  at " ++ (site_text s ++ (read_text w ++ (calls_text ss ++ more_text w.more)))
+sites_text w (s ∷ ss) = codes "  at " ++ (site_text s ++ (read_text w ++ (calls_text ss ++ (more_text w.more ++ about_text w.about))))
 
 abbrev pub told_text : Whereabouts → List ℕ
 told_text w = sites_text w w.sites.items

@@ -20,7 +20,7 @@ fn hex_digit(n: u8) -> u8
 }
 
 /// Adds a byte, or the escape that is shown for it.
-fn push_shown(text: &mut Vec<u8>, before: u8, byte: u8) -> Result<(), AllocError>
+pub(crate) fn push_shown(text: &mut Vec<u8>, before: u8, byte: u8) -> Result<(), AllocError>
     ensures { OnOk result (text.new.items ≡ text.old.items ++ shown_byte before byte) }
 {
     if is_control(before, byte) {

@@ -3,6 +3,7 @@ ghost use Rattle.std.specs.Prelude.{◌≡◌, ◌++◌, IfOk, OnOk, decimal};
 ghost use Rattle.run_report.specs.WhereTexts.{call_text, calls_text, function_text, is_told, line_text, more_text, name_text, plain, plain_byte, read_text, site_text, told_text, where_text};
 
 use crate::end::RunEnd;
+use crate::subject::{Subject, push_about};
 use awk_values::Bytes;
 use itoa::Buffer;
 use std::alloc::{AllocError, Global};
@@ -26,9 +27,11 @@ pub struct Whereabouts {
     pub nr: Bytes,
     pub fnr: Bytes,
     pub filename: Bytes,
+    /// What its error was about, if that is known.
+    pub about: Option<Subject>,
 }
 
-fn push_number(text: &mut Vec<u8>, number: usize) -> Result<(), AllocError>
+pub(crate) fn push_number(text: &mut Vec<u8>, number: usize) -> Result<(), AllocError>
     ensures { OnOk result (text.new.items ≡ text.old.items ++ decimal number) }
 {
     let mut digits = Buffer::new();
@@ -36,14 +39,14 @@ fn push_number(text: &mut Vec<u8>, number: usize) -> Result<(), AllocError>
 }
 
 /// The byte that is told for one of a text that a script or its input made: `?` for one that would end the line or steer a terminal.
-fn plain_byte(byte: u8) -> u8
+pub(crate) fn plain_byte(byte: u8) -> u8
     ensures { result ≡ plain_byte byte }
 {
     if byte < 32 || byte == 127 { b'?' } else { byte }
 }
 
 /// Adds a text that a script or its input made.
-fn push_plain(text: &mut Vec<u8>, bytes: &[u8]) -> Result<(), AllocError>
+pub(crate) fn push_plain(text: &mut Vec<u8>, bytes: &[u8]) -> Result<(), AllocError>
     ensures { OnOk result (text.new.items ≡ text.old.items ++ plain bytes.now) }
 {
     for byte in bytes {
@@ -142,7 +145,8 @@ fn push_told(text: &mut Vec<u8>, found: &Whereabouts) -> Result<(), AllocError>
     push_site(text, first)?;
     push_read(text, found)?;
     push_calls(text, calls)?;
-    push_more(text, found.more)
+    push_more(text, found.more)?;
+    push_about(text, &found.about)
 }
 
 /// Whether of such an end it is told where the script was: not where it ended by itself, and not where it did not begin.

@@ -3,8 +3,8 @@ use Rattle.std.specs.Prelude.{ℕ, Bool, ◌==◌, List, [], ◌++◌, if◌then
 use Rattle.std.specs.List.{list_any, before_first, after_first}
 use Rattle.sem_primitives.specs.Jobs.{JobForm}
 use Rattle.world_core.specs.WorldState.{State}
-use Rattle.world_fenced.specs.Behind.{behind}
-use Rattle.world_fenced.specs.Fences.{FenceForm, lets_read}
+use Rattle.world_os.specs.Behind.{behind}
+use Rattle.world_os.specs.Fences.{FenceForm, lets_read}
 use Rattle.world_os.specs.OsStreams.{no_state}
 use Rattle.command_line.specs.Request.{texts}
 use Rattle.command_line.specs.declared.Task.{Task}

@@ -5,3 +5,4 @@ pub mod Jobs
 pub mod Examples
 pub mod Tasks
 pub mod Runs
+pub mod ModuleWhereTexts

@@ -10,6 +10,7 @@ use Rattle.run_report.specs.declared.end.RunEnd.TheVariants.{Refused}
 use Rattle.run_report.specs.declared.end.RunEnd.TheVariants as end
 use Rattle.run_tasks.specs.Jobs.{files_of_task, job_of_task}
 use Rattle.script_compiler.specs.Refusals.{IsNotCompiled}
+use Rattle.script_lines.specs.Lined.{IsNotLined}
 
 -- nothing is told of real files, and nothing of them behind a fence
 abbrev pub Told : Type 0
@@ -19,6 +20,11 @@ Told = ⊥ × ⊥
 pub record RunsScript (task : Task) (environment : List (List ℕ × List ℕ)) (e : RunEnd) : Type 0 where
   pub after : State
   pub answers : ScriptAnswers Told task.subject.now (job_of_task task environment) task.steps (files_of_task task) e after
+
+-- A script of these bytes is run so.
+pub record RunsText (task : Task) (script : List ℕ) (environment : List (List ℕ × List ℕ)) (e : RunEnd) : Type 0 where
+  pub after : State
+  pub answers : ScriptAnswers Told script (job_of_task task environment) task.steps (files_of_task task) e after
 
 -- The module of these bytes is run so.
 pub record RunsModule (task : Task) (bytes : List ℕ) (environment : List (List ℕ × List ℕ)) (e : RunEnd) : Type 0 where
@@ -30,3 +36,9 @@ abbrev pub IsUncompiled : List ℕ → RunEnd → Type 0
 IsUncompiled bytes (Refused (Compile fault)) = IsNotCompiled bytes fault
 IsUncompiled bytes end.NoMemory = Unit {0}
 IsUncompiled bytes _ = ⊥
+
+-- the same of a script that is compiled with its lines; the module may have no room for them
+abbrev pub IsUnlined : List ℕ → RunEnd → Type 0
+IsUnlined bytes (Refused (Compile fault)) = IsNotLined bytes fault
+IsUnlined bytes end.NoMemory = Unit {0}
+IsUnlined bytes _ = ⊥

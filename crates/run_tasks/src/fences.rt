@@ -1,15 +1,14 @@
 //! What a task may open, read and write.
 ghost use Rattle.std.specs.Prelude.{◌≡◌, [], IfOk};
 ghost use Rattle.run_tasks.specs.Jobs.{fence_of_task};
-ghost use Rattle.world_fenced.specs.Fences.{form_of};
-ghost use Rattle.world_fenced.specs.Limits.{StartsWith};
+ghost use Rattle.world_os.specs.Fences.{form_of};
+ghost use Rattle.world_os.specs.Limits.{StartsWith};
 
 use command_line::Task;
 use std::alloc::{AllocError, Global};
 use std::io::{Read, Write};
 use std::rt::Files;
-use world_fenced::{FencedWorld, FileFence, LimitedWorld, Names};
-use world_os::{OsWorld, OwnStreams};
+use world_os::{FencedWorld, FileFence, LimitedWorld, Names, OsWorld, OwnStreams};
 
 /// The fence that a task's options set up.
 ///

@@ -4,18 +4,27 @@
 #![tactic(auto)]
 
 mod checks;
+mod counting;
 mod fences;
 mod imports;
 mod job;
 pub mod laws;
+mod lined;
+mod module_sight;
 mod powers;
 mod sandbox;
 mod undone;
+mod where_text;
 
+pub use awk_run::ModuleWhereabouts;
+pub use counting::script_counted;
 pub use fences::fence_of;
 pub use host_names::NamedText;
 pub use imports::listed;
 pub use job::{job_on, named_text};
+pub use lined::compiled_with_lines;
+pub use module_sight::module_seen;
 pub use powers::{Reads, Writes, reads_of, writes_of};
 pub use sandbox::{Surroundings, compiled, module_end, script_end, script_seen};
 pub use undone::{Undone, undone_status, undone_text};
+pub use where_text::module_where_text;

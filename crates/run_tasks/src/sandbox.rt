@@ -6,8 +6,8 @@ ghost use Rattle.host_names.specs.Forms.{pair_of};
 ghost use Rattle.run_tasks.specs.Jobs.{fence_of_task, job_of_task};
 ghost use Rattle.run_tasks.specs.Runs.{IsUncompiled, RunsModule, RunsScript};
 ghost use Rattle.script_compiler.specs.Compiled.{IsCompiled};
-ghost use Rattle.world_fenced.specs.Behind.{behind};
-ghost use Rattle.world_fenced.specs.Fences.{form_of, lets_read};
+ghost use Rattle.world_os.specs.Behind.{behind};
+ghost use Rattle.world_os.specs.Fences.{form_of, lets_read};
 
 use crate::fences::os_world_of;
 use crate::job::job_on;
@@ -20,7 +20,7 @@ use std::hash::RandomState;
 use std::io::{Read, Write};
 use std::rt::Files;
 use world_core::World;
-use world_fenced::{FencedWorld, FileFence};
+use world_os::{FencedWorld, FileFence};
 
 /// What a task is run in: files, the three standard streams, the environment, and what the keys of arrays are hashed with.
 #[derive(Drop)]

@@ -2,3 +2,13 @@ pub mod Uses
 pub mod View
 pub mod Matters
 pub mod Places
+pub mod Remarks
+pub mod Page
+pub mod PageExamples
+pub mod Layout
+pub mod Stopped
+pub mod Refused
+pub mod Troubles
+pub mod Uncut
+pub mod Findings
+pub mod FindingExamples

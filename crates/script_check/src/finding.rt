@@ -1,8 +1,10 @@
 //! What is found in a script.
 
-ghost use Rattle.std.specs.Prelude.{◌≡◌, ◌+◌, ◌≤◌};
+ghost use Rattle.std.specs.Prelude.{◌≡◌, ◌++◌, ◌+◌, ◌≤◌, OnOk, codes, option_map, option_to_list};
+ghost use Rattle.script_check.specs.Remarks.{Gains, bounded, error, matter_remark, note, trouble_remark, view_finding, view_said, warning};
 
-use crate::matter::Matter;
+use crate::matter::{Matter, Trouble};
+use std::alloc::AllocError;
 
 /// How grave a finding is.
 #[derive(Clone, Copy, Debug, PartialEq, Eq)]
@@ -36,7 +38,9 @@ pub struct Finding<'a> {
 
 impl<'a> Said<'a> {
     /// A refusal.
-    pub(crate) fn error(word: &'static str, name: &'a [u8], text: &'static str) -> Said<'a> {
+    pub(crate) fn error(word: &'static str, name: &'a [u8], text: &'static str) -> Said<'a>
+        ensures { view_said result ≡ error word.now name.now text.now }
+    {
         Said {
             severity: Severity::Error,
             word,
@@ -47,7 +51,9 @@ impl<'a> Said<'a> {
     }
 
     /// A slip.
-    pub(crate) fn warning(name: &'a [u8], text: &'static str) -> Said<'a> {
+    pub(crate) fn warning(name: &'a [u8], text: &'static str) -> Said<'a>
+        ensures { view_said result ≡ warning name.now text.now }
+    {
         Said {
             severity: Severity::Warning,
             word: "",
@@ -58,19 +64,23 @@ impl<'a> Said<'a> {
     }
 
     /// What belongs to the finding before.
-    pub(crate) fn note(name: &'a [u8], text: &'static str) -> Said<'a> {
+    pub(crate) fn note(text: &'static str) -> Said<'a>
+        ensures { view_said result ≡ note text.now }
+    {
         Said {
             severity: Severity::Note,
             word: "",
-            name,
+            name: &[],
             text,
             line: None,
         }
     }
 }
 
-/// What is said of a use.
-pub(crate) fn said_of(matter: Matter, name: &[u8]) -> Said<'_> {
+/// What is said of a use of this name.
+pub(crate) fn said_of(matter: Matter, name: &[u8]) -> Said<'_>
+    ensures { view_said result ≡ matter_remark matter name.now }
+{
     match matter {
         Matter::UnknownFunction => {
             Said::error(
@@ -97,10 +107,31 @@ pub(crate) fn said_of(matter: Matter, name: &[u8]) -> Said<'_> {
     }
 }
 
+/// What is said of a use of this name where a script is refused for its names.
+pub(crate) fn said_of_trouble(trouble: Trouble, name: &[u8]) -> Said<'_>
+    ensures { view_said result ≡ trouble_remark trouble name.now }
+{
+    match trouble {
+        Trouble::TooMany => {
+            Said::error(
+                "TooMany",
+                name,
+                "more than 1,000 functions, or more than 100 parameters",
+            )
+        }
+        Trouble::DuplicateName => {
+            Said::error("DuplicateName", name, "the name stands for two things")
+        }
+        Trouble::KindClash => Said::error("KindClash", name, "it is an array and a variable"),
+        Trouble::AsArray => Said::note("an array here"),
+        Trouble::AsScalar => Said::note("a variable here"),
+    }
+}
+
 /// A finding about bytes of a script that has so many: as far as they are within it.
 pub(crate) fn bounded(size: usize, start: usize, length: usize, said: Said<'_>) -> Finding<'_>
     ensures within { result.start + result.length ≤ size }
-    ensures said { result.said ≡ said.entry }
+    ensures value { view_finding result ≡ bounded size start length (view_said said.entry) }
 {
     let start = if start <= size { start } else { size };
     let length = if length <= size - start {
@@ -113,4 +144,18 @@ pub(crate) fn bounded(size: usize, start: usize, length: usize, said: Said<'_>) 
         length,
         said,
     }
+}
+
+/// Adds a finding, if there is one.
+pub(crate) fn push_found<'a>(
+    out: &mut Vec<Finding<'a>>,
+    found: Option<Finding<'a>>,
+) -> Result<(), AllocError>
+    ensures { OnOk result (Gains out.old.items out.new.items
+        (option_to_list (option_map view_finding found.entry))) }
+{
+    if let Some(found) = found {
+        out.push(found)?;
+    }
+    Ok(())
 }

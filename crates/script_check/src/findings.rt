@@ -1,187 +1,262 @@
 //! All that is found in a script.
 
-ghost use Rattle.std.specs.Prelude.{◌+◌, ◌≤◌, All, IfOk, length};
+ghost use Rattle.std.specs.Prelude.{◌≡◌, ◌<◌, IfOk, OnOk, length, map, option_map, slice_get};
+ghost use Rattle.awk_grammar.specs.ViewStmt.{view_script};
+ghost use Rattle.awk_resolve.specs.ViewKinds.{view_name_kinds};
+ghost use Rattle.awk_tokens.specs.Cutting.{IsTokens};
+ghost use Rattle.awk_tokens.specs.Views.{spelled};
+ghost use Rattle.script_check.specs.Findings.{AreFound, AreOfTree, is_refusal, is_stream, is_stream_text, is_text, is_wanted, is_write, matter_found, matter_in, matters_found, names_found, stream_found, streams_found, uses_found};
+ghost use Rattle.script_check.specs.Layout.{use_found, view_text};
+ghost use Rattle.script_check.specs.Remarks.{Gains, matter_remark, view_finding, view_findings};
 
-use crate::cut_short::open_end;
-use crate::finding::{Finding, Said, said_of};
+use crate::finding::{Finding, Said, push_found, said_of};
 use crate::judged::matters;
 use crate::matter::Matter;
-use crate::names_refused::{AtUse, of_names};
 use crate::places::{renumbered, starts, told};
-use crate::tree_refused::{at_token, push_eres, push_refusal};
+use crate::refused::{eres_of, push_refused};
+use crate::text::{Text, found_at, kind_at, text_at, use_place};
+use crate::troubles::push_refusal;
+use crate::uncut::uncut_found;
 use crate::uses::Use;
 use crate::walk_stmt::uses_of;
 use awk_grammar::Script;
 use awk_parse::parse;
-use awk_resolve::resolve;
-use awk_tokens::{Punctuator, Token, TokenKind, tokens};
+use awk_resolve::{NameKind, ResolveFault, resolve};
+use awk_tokens::{Punctuator, Token, TokenFault, TokenKind, tokens};
 use std::alloc::{AllocError, Global};
 
-/// The tokens of a script, where each begins, and at which of them uses stand.
-#[derive(Clone, Copy)]
-struct Text<'s, 'a> {
-    size: usize,
-    tokens: &'s [Token<'a>],
-    starts: &'s [usize],
-    told: &'s [usize],
-}
-
-/// What is said of a token, with its text as the name where what is said of has one of its own.
-fn named<'a>(said: Said<'a>, name: &'a [u8]) -> Said<'a> {
-    let mut said = said;
-    said.name = name;
-    said
-}
-
-/// Adds a finding at a use, by its number.
-fn push_at_use<'a>(
-    out: &mut Vec<Finding<'a>>,
-    text: &Text<'_, 'a>,
-    at: usize,
-    said: Said<'a>,
-    with_name: bool,
-) -> Result<(), AllocError> {
-    let Some(number) = text.told.get(at) else {
-        return Ok(());
-    };
-    let Some(token) = text.tokens.get(*number) else {
-        return Ok(());
-    };
-    let said = if with_name {
-        named(said, token.text)
-    } else {
-        said
-    };
-    out.push(at_token(text.size, text.starts, text.tokens, *number, said))?;
-    Ok(())
-}
-
 /// Whether what is said of a use is a refusal.
-fn is_refusal(matter: Matter) -> bool {
+fn is_refusal(matter: Matter) -> bool
+    ensures { result ≡ is_refusal matter }
+{
     matches!(matter, Matter::UnknownFunction | Matter::ArgCount)
 }
 
-/// Whether what is said of a use is said of its name.
-fn has_name(matter: Matter) -> bool {
-    !matches!(matter, Matter::AssignedCondition | Matter::UnevenQuotient)
+/// Whether it is a refusal, where those are wanted, or else a slip.
+fn is_wanted(refusals: bool, matter: Matter) -> bool
+    ensures { result ≡ is_wanted refusals matter }
+{
+    if refusals {
+        is_refusal(matter)
+    } else {
+        !is_refusal(matter)
+    }
 }
 
-/// Adds the findings of uses: the refusals, or the slips.
+/// What is found at a use, by its number.
+fn matter_at<'a>(text: &Text<'_, 'a>, at: usize, matter: Matter) -> Option<Finding<'a>>
+    ensures { option_map view_finding result
+        ≡ use_found (view_text text.now) at (matter_remark matter) }
+{
+    let place = use_place(text, at)?;
+    Some(found_at(text, place.number, said_of(matter, place.name)))
+}
+
+/// What is found at a use, if it is wanted.
+fn matter_found<'a>(
+    text: &Text<'_, 'a>,
+    refusals: bool,
+    at: usize,
+    matter: Option<Matter>,
+) -> Option<Finding<'a>>
+    ensures { option_map view_finding result
+        ≡ matter_found (view_text text.now) refusals at matter }
+{
+    let matter = matter?;
+    if is_wanted(refusals, matter) {
+        matter_at(text, at, matter)
+    } else {
+        None
+    }
+}
+
+/// What is to be said of the use of this number.
+fn matter_in(found: &[Option<Matter>], at: usize) -> Option<Matter>
+    ensures { result ≡ matter_in (slice_get found.now at) }
+{
+    if at < found.len() { found[at] } else { None }
+}
+
+/// Adds what is found at the uses: the refusals, or the slips.
 fn push_matters<'a>(
     out: &mut Vec<Finding<'a>>,
     text: &Text<'_, 'a>,
-    found: &[Option<Matter>],
     refusals: bool,
-) -> Result<(), AllocError> {
+    found: &[Option<Matter>],
+) -> Result<(), AllocError>
+    ensures { OnOk result (Gains out.old.items out.new.items
+        (matters_found (view_text text.now) refusals found.now)) }
+{
     for at in 0..found.len() {
-        if let Some(matter) = found[at] {
-            if is_refusal(matter) == refusals {
-                push_at_use(out, text, at, said_of(matter, &[]), has_name(matter))?;
-            }
-        }
+        push_found(out, matter_found(text, refusals, at, matter_in(found, at)))?;
     }
     Ok(())
 }
 
-/// Whether a token is a text that names a stream.
-fn names_stream(token: &Token<'_>) -> bool {
-    matches!(token.kind, TokenKind::Str)
-        && (token.text == "\"/dev/stderr\"".as_bytes()
-            || token.text == "\"/dev/stdout\"".as_bytes())
+/// Adds what is found at the uses, first the refusals.
+fn push_uses<'a>(
+    out: &mut Vec<Finding<'a>>,
+    alloc: Global,
+    text: &Text<'_, 'a>,
+    script: &Script,
+    uses: &[Use<'_>],
+    globals: &[NameKind<'_>],
+) -> Result<(), AllocError>
+    ensures { OnOk result (Gains out.old.items out.new.items (uses_found (view_text text.now)
+        (view_script script.now) uses.now (view_name_kinds globals.now))) }
+{
+    let found = matters(alloc, script, globals, uses)?;
+    push_matters(out, text, true, &found)?;
+    push_matters(out, text, false, &found)
 }
 
-/// Whether a token writes to a file.
-fn writes(token: &Token<'_>) -> bool {
-    matches!(token.kind, TokenKind::Punctuator(Punctuator::Greater))
-}
-
-/// Adds a finding for each `>` to a stream's name.
-fn push_streams<'a>(out: &mut Vec<Finding<'a>>, text: &Text<'_, 'a>) -> Result<(), AllocError> {
-    let tokens = text.tokens;
-    for number in 1..tokens.len() {
-        if writes(&tokens[number - 1]) && names_stream(&tokens[number]) {
-            let said = Said::warning(
-                tokens[number].text,
-                "names a file without --streams, and > empties it",
-            );
-            out.push(at_token(text.size, text.starts, tokens, number, said))?;
-        }
-    }
-    Ok(())
-}
-
-/// Adds the findings of names.
+/// Adds what is found at names.
 fn push_names<'a>(
     out: &mut Vec<Finding<'a>>,
     alloc: Global,
     text: &Text<'_, 'a>,
     script: &Script,
     uses: &[Use<'_>],
-) -> Result<(), AllocError> {
-    let found = match resolve(alloc, script) {
-        Ok(names) => matters(alloc, script, &names.globals, uses)?,
+) -> Result<(), AllocError>
+    ensures { OnOk result (Gains out.old.items out.new.items
+        (names_found (view_text text.now) (view_script script.now) uses.now)) }
+{
+    match resolve(alloc, script) {
+        Ok(names) => push_uses(out, alloc, text, script, uses, &names.globals),
+        Err(ResolveFault::NoMemory) => Err(AllocError),
         Err(fault) => {
-            let refused: Vec<AtUse<'a>> = of_names(alloc, script, uses, &fault)?;
-            for (at, said) in &refused {
-                let with_name = !said.word.is_empty();
-                push_at_use(out, text, *at, *said, with_name)?;
-            }
-            matters(alloc, script, &[], uses)?
+            push_refusal(out, text, script, uses, &fault)?;
+            push_uses(out, alloc, text, script, uses, &[])
         }
-    };
-    push_matters(out, text, &found, true)?;
-    push_matters(out, text, &found, false)
+    }
 }
 
-/// Adds the findings of a script that has a tree.
-fn push_all<'a>(
-    out: &mut Vec<Finding<'a>>,
+fn is_write(kind: Option<TokenKind>) -> bool
+    ensures { result ≡ is_write kind }
+{
+    matches!(kind, Some(TokenKind::Punctuator(Punctuator::Greater)))
+}
+
+fn is_text(kind: Option<TokenKind>) -> bool
+    ensures { result ≡ is_text kind }
+{
+    matches!(kind, Some(TokenKind::Str))
+}
+
+/// Whether a text names a stream.
+fn is_stream_text(text: &[u8]) -> bool
+    ensures { result ≡ is_stream_text text.now }
+{
+    text == "\"/dev/stderr\"".as_bytes() || text == "\"/dev/stdout\"".as_bytes()
+}
+
+/// Whether the name of a stream stands behind a `>`, which is the token of this number.
+fn is_stream(tokens: &[Token<'_>], number: usize) -> bool
+    requires { number < length tokens.now }
+    ensures { result ≡ is_stream tokens.now number }
+{
+    is_write(kind_at(tokens, number))
+        && is_text(kind_at(tokens, number + 1))
+        && is_stream_text(text_at(tokens, number + 1))
+}
+
+/// What is found at the name of a stream behind a `>`.
+fn stream_found<'a>(text: &Text<'_, 'a>, number: usize) -> Option<Finding<'a>>
+    requires { number < length text.now.tokens.now }
+    ensures { option_map view_finding result ≡ stream_found (view_text text.now) number }
+{
+    if !is_stream(text.tokens, number) {
+        return None;
+    }
+    let said = Said::warning(
+        text_at(text.tokens, number + 1),
+        "names a file without --streams, and > empties it",
+    );
+    Some(found_at(text, number + 1, said))
+}
+
+/// Adds what is found at each name of a stream behind a `>`.
+fn push_streams<'a>(out: &mut Vec<Finding<'a>>, text: &Text<'_, 'a>) -> Result<(), AllocError>
+    ensures { OnOk result (Gains out.old.items out.new.items (streams_found (view_text text.now))) }
+{
+    for number in 0..text.tokens.len() {
+        push_found(out, stream_found(text, number))?;
+    }
+    Ok(())
+}
+
+/// All that is found in a script that has a tree.
+fn of_tree<'a>(
     alloc: Global,
     text: &Text<'_, 'a>,
     script: &Script,
-) -> Result<(), AllocError> {
-    push_eres(out, alloc, text.size, text.starts, text.tokens)?;
+) -> Result<Vec<Finding<'a>>, AllocError>
+    ensures { IfOk result (λ found.
+        AreOfTree (view_text text.now) (view_script script.now) (view_findings found.items)) }
+{
+    let mut out = eres_of(alloc, text)?;
     let uses = uses_of(alloc, script)?;
-    push_names(out, alloc, text, script, &uses)?;
-    push_streams(out, text)
+    push_names(&mut out, alloc, text, script, &uses)?;
+    push_streams(&mut out, text)?;
+    Ok(out)
 }
 
-/// The findings of a script that is cut into tokens.
+/// All that is found in a script that is cut into tokens.
 fn of_tokens<'a>(
     alloc: Global,
-    script: &'a [u8],
+    script: &[u8],
     tokens: &[Token<'a>],
-) -> Result<Vec<Finding<'a>>, AllocError> {
+) -> Result<Vec<Finding<'a>>, AllocError>
+    ensures { IsTokens script.now (Ok (map spelled tokens.now))
+        → IfOk result (λ found. AreFound script.now (view_findings found.items)) }
+{
     let starts = starts(alloc, script, tokens)?;
     let told = told(alloc, tokens)?;
+    let numbered = renumbered(alloc, tokens)?;
     let text = Text {
         size: script.len(),
         tokens,
         starts: &starts,
         told: &told,
     };
-    let mut out = Vec::new(alloc);
-    let numbered = renumbered(alloc, tokens)?;
     match parse(alloc, &numbered) {
-        Ok(script) => push_all(&mut out, alloc, &text, &script)?,
-        Err(fault) => push_refusal(&mut out, alloc, text.size, text.starts, tokens, fault)?,
+        Ok(script) => of_tree(alloc, &text, &script),
+        Err(fault) => {
+            let mut out = Vec::new(alloc);
+            push_refused(&mut out, alloc, &text, fault)?;
+            Ok(out)
+        }
     }
+}
+
+/// All that is found in a script that is not cut into tokens.
+fn of_uncut<'a>(
+    alloc: Global,
+    script: &[u8],
+    fault: TokenFault,
+) -> Result<Vec<Finding<'a>>, AllocError>
+    ensures { IsTokens script.now (Err fault)
+        → IfOk result (λ found. AreFound script.now (view_findings found.items)) }
+{
+    let found = uncut_found(alloc, script, fault)?;
+    let mut out = Vec::new(alloc);
+    out.push(found)?;
     Ok(out)
 }
 
-/// All that is found in a script: first what it is refused for, and then what looks like a slip, each in the order of the places. A script that has no tokens,
-/// or no tree, is refused for that alone.
+/// All that is found in a script, with the place of each: of a script that has a tree, first each regular expression that is refused; then what a refusal for a
+/// name means, each call that is refused, and what looks like a slip, in the order of uses; then each `>` to a stream's name. Of tokens that have no tree, where
+/// reading stopped, or each token that is refused by itself. Of a script that has no tokens, where the cutting stops.
 ///
 /// # Errors
 ///
 /// Where memory is wanting.
-pub fn findings_of<'a>(alloc: Global, script: &'a [u8]) -> Result<Vec<Finding<'a>>, AllocError> {
+pub fn findings_of<'a>(alloc: Global, script: &'a [u8]) -> Result<Vec<Finding<'a>>, AllocError>
+    ensures { IfOk result (λ found. AreFound script.now (view_findings found.items)) }
+{
     match tokens(alloc, script) {
         Ok(tokens) => of_tokens(alloc, script, &tokens),
-        Err(fault) => {
-            let mut out = Vec::new(alloc);
-            out.push(open_end(alloc, script, fault)?)?;
-            Ok(out)
-        }
+        Err(TokenFault::NoMemory) => Err(AllocError),
+        Err(fault) => of_uncut(alloc, script, fault),
     }
 }

@@ -1,16 +1,18 @@
 //! What is to be said of a script before it runs: the place of each refusal, and what looks like a slip.
 #![tactic(auto)]
 
-mod cut_short;
 mod finding;
 mod findings;
 mod judged;
+mod lines;
 mod matter;
-mod names_refused;
 mod page;
 mod places;
+mod refused;
 mod stopped;
-mod tree_refused;
+mod text;
+mod troubles;
+mod uncut;
 mod uses;
 mod walk;
 mod walk_stmt;

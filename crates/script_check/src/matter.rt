@@ -21,6 +21,21 @@ pub enum Matter {
     UnevenQuotient,
 }
 
+/// What is to be said of a use where a script is refused for its names, but for calls.
+#[derive(Clone, Copy)]
+pub(crate) enum Trouble {
+    /// A function after 1,000 others, or one of more than 100 parameters.
+    TooMany,
+    /// The name stands for two things.
+    DuplicateName,
+    /// The variable is an array and a scalar.
+    KindClash,
+    /// It is an array here.
+    AsArray,
+    /// It is a scalar here.
+    AsScalar,
+}
+
 /// What a script may do with a name.
 #[derive(Clone, Copy)]
 pub(crate) enum Aspect {

@@ -27,6 +27,7 @@ pub mod Sizes
 pub mod SizeExamples
 pub mod Counting
 pub mod CountExamples
+pub mod StepExamples
 pub mod CallExamples
 pub mod QuickExamples
 pub mod HandExamples

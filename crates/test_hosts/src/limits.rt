@@ -5,7 +5,7 @@ ghost use Rattle.world_core.specs.Calls.{Reading, Writing};
 use std::alloc::{AllocError, Global};
 use std::test::Fail;
 use world_core::{MemFile, MemWorld, World, WorldFault};
-use world_fenced::{Fence, FileFence, LimitedWorld, Names};
+use world_os::{Fence, FileFence, LimitedWorld, Names};
 
 /// A world whose standard input is `abcdef`, of which so many bytes are written, and read, at most.
 fn limited(

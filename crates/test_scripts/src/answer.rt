@@ -1,4 +1,5 @@
 //! What is answered to a row.
+use crate::alive::alive_after;
 use crate::beginnings::refused_beginnings;
 use crate::field::push_escaped;
 use crate::row::{Row, row_of};
@@ -64,6 +65,21 @@ fn push_beginnings(
     text.push_str(&line)
 }
 
+/// Adds how many values, arrays and iterators are alive where the script has ended.
+fn push_alive(
+    text: &mut String,
+    alloc: Global,
+    state: RandomState,
+    row: &Row,
+) -> Result<(), AllocError> {
+    let alive = alive_after(alloc, state, row)?;
+    let (values, arrays, iterators) = (alive.values, alive.arrays, alive.iterators);
+    let line = format!(in alloc;
+        "alive: values {values}, arrays {arrays}, iterators {iterators}\n"
+    )?;
+    text.push_str(&line)
+}
+
 /// Adds the row's name, if it has one.
 fn push_name(text: &mut String, row: &Row) -> Result<(), AllocError> {
     if row.name.is_empty() {
@@ -89,6 +105,9 @@ fn push_told(
     }
     if row.shows_beginnings {
         push_beginnings(text, alloc, state, row)?;
+    }
+    if row.shows_alive {
+        push_alive(text, alloc, state, row)?;
     }
     Ok(())
 }

@@ -29,7 +29,7 @@ fn limits_text(alloc: Global, limits: Limits) -> Result<String, AllocError> {
     Ok(text)
 }
 
-/// The names that are listed, each list after a space, where there are some.
+/// The names that are listed, each list after a space, where there are some, and the last options.
 fn lists_text(alloc: Global, task: &Task<'_>) -> Result<String, AllocError> {
     let mut text = String::new(alloc);
     if !task.may_read.is_empty() {
@@ -40,6 +40,12 @@ fn lists_text(alloc: Global, task: &Task<'_>) -> Result<String, AllocError> {
     }
     if task.streams {
         text.push_str(" streams")?;
+    }
+    if task.tells_where {
+        text.push_str(" where")?;
+    }
+    if task.tells_stats {
+        text.push_str(" stats")?;
     }
     Ok(text)
 }
@@ -58,11 +64,16 @@ fn described(alloc: Global, what: &str, task: &Task<'_>) -> Result<String, Alloc
 /// What words ask for, as text, or the status of a line that asks for nothing.
 fn asked(alloc: Global, words: &[&str]) -> Result<String, AllocError> {
     match request_of(alloc, words) {
-        Ok(Request::Compile { script_file, out }) => format!(in alloc;
-            "compile {script_file:?} {out:?}\n"
-        ),
+        Ok(
+            Request::Compile {
+                script_file,
+                out,
+                has_lines,
+            },
+        ) => format!(in alloc; "compile {script_file:?} {out:?} {has_lines}\n"),
         Ok(Request::Check(script_file)) => format!(in alloc; "check {script_file:?}\n"),
         Ok(Request::Run(task)) => described(alloc, "run", &task),
+        Ok(Request::Count(task)) => described(alloc, "count", &task),
         Ok(Request::Exec(task)) => described(alloc, "exec", &task),
         Ok(Request::Imports(file)) => format!(in alloc; "imports {file:?}\n"),
         Ok(Request::Explain(Some(name))) => format!(in alloc; "explain {name:?}\n"),

@@ -2,7 +2,7 @@
 use crate::outside::RowWorld;
 use crate::row::Row;
 use std::alloc::{AllocError, Global};
-use world_fenced::{FencedWorld, FileFence, Names};
+use world_os::{FencedWorld, FileFence, Names};
 
 /// The operands of a row, as words; one that is not UTF-8 is empty.
 pub(crate) fn operands_of(alloc: Global, row: &Row) -> Result<Vec<&str>, AllocError> {

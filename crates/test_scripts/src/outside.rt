@@ -1,10 +1,11 @@
 //! The world of a row.
+use crate::slow::SlowWorld;
 use awk_text::number_of;
 use std::alloc::{AllocError, Global};
 use world_core::{Ending, FaultyWorld, MemFile, MemWorld};
 
 /// The world that rows run over.
-pub(crate) type RowWorld = FaultyWorld<MemWorld>;
+pub(crate) type RowWorld = FaultyWorld<SlowWorld<MemWorld>>;
 
 /// A file that is there before the run; one that does not open has no text.
 #[derive(Drop)]
@@ -23,6 +24,7 @@ pub(crate) struct Outside {
     room: Option<usize>,
     files: Vec<File>,
     call: u64,
+    most_read: usize,
 }
 
 /// What is before the first `=` and what is after it; all is before it where there is none.
@@ -59,6 +61,7 @@ impl Outside {
             room: None,
             files: Vec::new(alloc),
             call: 0,
+            most_read: usize::MAX,
         }
     }
 
@@ -103,6 +106,7 @@ impl Outside {
             b'x' => self.ending = Ending::Fails,
             b'r' => self.room = Some(count_of(text) as usize),
             b'c' => self.call = count_of(text),
+            b'y' => self.most_read = count_of(text) as usize,
             _ => {}
         }
         Ok(())
@@ -118,7 +122,7 @@ impl Outside {
         for file in &self.files {
             add_to(&mut world, file)?;
         }
-        Ok(FaultyWorld::new(world, self.call))
+        Ok(FaultyWorld::new(SlowWorld::new(world, self.most_read), self.call))
     }
 }
 

@@ -23,6 +23,8 @@ pub(crate) struct Row {
     /// What the output may be, again and again.
     pub(crate) again: Option<Vec<u8>>,
     pub(crate) shows_beginnings: bool,
+    /// Whether a line says what is alive where the script has ended.
+    pub(crate) shows_alive: bool,
     /// Whether each call of the world fails, one in each run.
     pub(crate) fails_in_turn: bool,
     /// The row's name, which comes before its answers.
@@ -82,6 +84,7 @@ impl Row {
         match letter {
             b's' => self.steps = count_of(text),
             b'b' => self.shows_beginnings = true,
+            b'h' => self.shows_alive = true,
             b'd' => self.fails_in_turn = true,
             b't' => self.name = Vec::from_slice(alloc, text)?,
             b'k' => keep_out(&mut self.fences, text),
@@ -99,7 +102,7 @@ impl Row {
             b'e' => push_named(alloc, &mut self.job.environment, text),
             b'l' => push_name(alloc, &mut self.shown, text),
             b'p' => push_times(&mut self.code, text),
-            b's' | b'b' | b'd' | b't' | b'k' | b'u' => self.set(alloc, letter, text),
+            b's' | b'b' | b'd' | b'h' | b't' | b'k' | b'u' => self.set(alloc, letter, text),
             _ => self.outside.add(alloc, letter, text),
         }
     }
@@ -135,6 +138,7 @@ fn row_on(alloc: Global, code: Option<&str>, input: Option<&str>) -> Result<Row,
         shown: Vec::new(alloc),
         again: None,
         shows_beginnings: false,
+        shows_alive: false,
         fails_in_turn: false,
         name: Vec::new(alloc),
     })

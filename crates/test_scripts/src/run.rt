@@ -33,7 +33,7 @@ pub(crate) fn run(
     };
     let faulty = world.into_inner();
     let failures = faulty.failures();
-    let world = faulty.into_inner();
+    let world = faulty.into_inner().into_inner();
     Ok(Ran {
         end,
         met_failure: failures != world.failures(),

@@ -1,5 +1,5 @@
 //! Machines.
-ghost use Rattle.std.specs.Prelude.{◌≡◌, ◌≢◌, ◌≤◌, ◌-◌, length, true, IfErr, IfOk, IfSome, MatchOption, None, Some};
+ghost use Rattle.std.specs.Prelude.{◌≡◌, ◌≢◌, ◌≤◌, ◌-◌, length, true, IfErr, IfOk, IfSome, MatchOption, None, Some, slice_get};
 ghost use Rattle.wasm_machine.specs.Places.{StandsAt, frame_at};
 ghost use Rattle.wasm_model.specs.Links.{IsNew, Refuses};
 ghost use Rattle.wasm_model.specs.Reductions.{Reduced};
@@ -19,6 +19,7 @@ use std::marker::Model;
 use wasm_loader::fast::Fast;
 use wasm_model::{End, HostCalls, LinkFault, MachineEnd, RunEnd};
 use wasm_store::{TrapKind, Word};
+use wasm_types::Simple;
 
 /// What a machine tells of a run's end.
 fn tell(end: RunEnd) -> MachineEnd
@@ -182,6 +183,40 @@ impl Machine {
             Some(frame) => Some(place_of(frame)),
             None => None,
         }
+    }
+
+    /// The instruction at a place of the flat code, if there is one without a body.
+    pub fn instruction(&self, place: Place) -> Option<Simple> {
+        self.program.instruction(place)
+    }
+
+    /// The number that the host has for the import that is called at a place, if one is.
+    pub fn import(&self, place: Place) -> Option<u32> {
+        self.program.import(place)
+    }
+
+    /// Whether the innermost block around a place also stands around another place of that function.
+    pub fn encloses(&self, outer: Place, inner: usize) -> bool {
+        self.program.encloses(outer, inner)
+    }
+
+    /// The word of a local of the frame at work.
+    pub fn local(&self, number: u32) -> Option<Word> {
+        self.state.frames.local(number)
+    }
+
+    /// The value of a global.
+    pub fn global(&self, number: u32) -> Option<Word>
+        ensures { result ≡ slice_get self.now.conf.globals number }
+    {
+        self.state.globals.get(number)
+    }
+
+    /// The bytes of the memory.
+    pub fn memory(&self) -> &[u8]
+        ensures { result.now ≡ self.now.conf.memory.bytes }
+    {
+        self.state.memory.bytes()
     }
 
     /// The number of the `nop` with which the statement begins that is at work at a place, among those of its function's code: the last one before the place in

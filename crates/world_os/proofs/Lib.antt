@@ -1,2 +1,4 @@
 pub mod OsStreamLemmas
 pub mod PathLemmas
+mod BehindLemmas
+pub mod NameLemmas

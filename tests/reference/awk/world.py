@@ -30,7 +30,8 @@ class MemReading:
 
 
 class MemWorld:
-    def __init__(self, given=None, output=None):
+    def __init__(self, given=None, output=None, most=PIECE):
+        self.most = most
         self.out = output or MemFile()
         self.files = {}
         self.streams = [MemReading(given or MemFile()), self.out]
@@ -64,11 +65,11 @@ class MemWorld:
         return self.opened(file)
 
     def read(self, number):
-        """At least a byte, or nothing at the end."""
+        """At least a byte, at most so many as a read gives, or nothing at the end."""
         stream = self.streams[number]
         if stream.fails and not stream.rest:
             raise Failed
-        piece, stream.rest = stream.rest[:PIECE], stream.rest[PIECE:]
+        piece, stream.rest = stream.rest[: self.most], stream.rest[self.most :]
         return piece
 
     def write(self, number, text):

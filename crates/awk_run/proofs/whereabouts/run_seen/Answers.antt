@@ -1,5 +1,6 @@
-use Rattle.std.proofs.Common.{rules, ◌≡◌, ◌≢◌, ◌-◌, ◌∙◌, ap, subst, arith}
+use Rattle.std.proofs.Common.{rules, ◌≡◌, ◌≢◌, ◌-◌, ◌∙◌, ap, subst, sym, arith}
 use Rattle.host_calls.specs.Forms.{host_form}
+use Rattle.host_values.specs.Forms.{HostForm}
 use Rattle.host_values.specs.FormMeaning.{Told, form_meaning}
 use Rattle.wasm_model.specs.Machines.{ProgramForm}
 use Rattle.wasm_model.specs.Runs.{Did, lasting}
@@ -13,9 +14,12 @@ pub returns-then-ne-clause-did : goal.returns-then-ne-clause-did
 returns-then-ne-clause-did g c =
     let told = g.W.World.state in
     let other : c.run_to_pause-end.result.0 ≢ ends.OutOfSteps = search rules in
-    was_over (form_meaning g.W.World.tells) c.args.machine.now.program c.args.steps c.run_to_pause-end.result.1 c.run_to_pause-end.ensures.within
-    c.args.machine.now.conf (Told (host_form told c.args.host)) c.run_to_pause-end.new.self.conf (Told (host_form told c.run_to_pause-end.new.host.host)) c.run_to_pause-end.result.0 other
-    (c.run_to_pause-end.ensures.run c.requires.going)
+    let paused = c.run_to_pause-end.new.host.host in
+    subst (λ (f : HostForm). Did (form_meaning g.W.World.tells) c.args.machine.now.program c.args.steps c.args.machine.now.conf (Told (host_form told c.args.host)) c.run_to_pause-end.result.0
+    c.run_to_pause-end.new.self.conf (Told f)) (sym c.seen_at-found.ensures.same)
+    (was_over (form_meaning g.W.World.tells) c.args.machine.now.program c.args.steps c.run_to_pause-end.result.1 c.run_to_pause-end.ensures.within
+    c.args.machine.now.conf (Told (host_form told c.args.host)) c.run_to_pause-end.new.self.conf (Told (host_form told paused)) c.run_to_pause-end.result.0 other
+    (c.run_to_pause-end.ensures.run c.requires.going))
 
 pub returns-then-ne-clause-seen : goal.returns-then-ne-clause-seen
 returns-then-ne-clause-seen g c =
@@ -33,7 +37,7 @@ returns-then-ne-clause-seen g c =
       did = c.run_to_pause-end.ensures.run c.requires.going;
       why = λ some. c.run_to_pause-end.ensures.paused c.requires.going (λ none. some (omega (arith, none)));
       told = subst (λ (q : ProgramForm). Tells c.args.script.now q.whole conf form w) c.run_to_pause-end.ensures.program t;
-    }) c.seen_at-found.ensures
+    }) c.seen_at-found.ensures.told
 
 pub returns-clause-did : goal.returns-clause-did
 returns-clause-did g c =
@@ -43,12 +47,14 @@ returns-clause-did g c =
     let left = c.run_to_pause-end.result.1 in
     let start = Told (host_form told c.args.host) in
     let conf = c.run_to_pause-end.new.self.conf in
-    let host = Told (host_form told c.run_to_pause-end.new.host.host) in
+    let host = Told (host_form told c.seen_at-found.new.host) in
     let last = c.run-end.new.self.conf in
     let kept = Told (host_form told c.run-end.new.host) in
     let out : c.run_to_pause-end.result.0 ≡ ends.OutOfSteps = search rules in
     went_on M m c.args.steps left c.run_to_pause-end.ensures.within c.args.machine.now.conf start conf host c.run-end.result last kept
-    (subst (λ (e : MachineEnd). Did M m (c.args.steps - left) c.args.machine.now.conf start e conf host) out (c.run_to_pause-end.ensures.run c.requires.going))
+    (subst (λ (e : MachineEnd). Did M m (c.args.steps - left) c.args.machine.now.conf start e conf host) out
+    (subst (λ (f : HostForm). Did M m (c.args.steps - left) c.args.machine.now.conf start c.run_to_pause-end.result.0 conf (Told f)) (sym c.seen_at-found.ensures.same)
+    (c.run_to_pause-end.ensures.run c.requires.going)))
     (subst (λ (q : ProgramForm). Did M q left conf host c.run-end.result last kept) c.run_to_pause-end.ensures.program
     (c.run-end.ensures.run (c.run_to_pause-end.ensures.ended c.requires.going ∙ ap lasting out)))
 
@@ -68,4 +74,4 @@ returns-clause-seen g c =
       did = c.run_to_pause-end.ensures.run c.requires.going;
       why = λ some. c.run_to_pause-end.ensures.paused c.requires.going (λ none. some (omega (arith, none)));
       told = subst (λ (q : ProgramForm). Tells c.args.script.now q.whole conf form w) c.run_to_pause-end.ensures.program t;
-    }) c.seen_at-found.ensures
+    }) c.seen_at-found.ensures.told

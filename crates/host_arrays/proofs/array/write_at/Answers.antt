@@ -1,4 +1,4 @@
-use Rattle.std.proofs.Common.{◌≡◌, Some, None, ap, cond, subst, sym, ◌∙◌}
+use Rattle.std.proofs.Common.{◌≡◌, Some, ap, cond, subst, sym, ◌∙◌}
 use Rattle.std.specs.Cmp.Lexicographic.{nat_list_eq_equiv}
 use Rattle.std.specs.Option.{option_copied_mut}
 use Rattle.indexmap.proofs.CallerLemmas.{updates-with_value_at}

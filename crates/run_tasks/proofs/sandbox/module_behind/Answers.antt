@@ -1,6 +1,6 @@
 use Rattle.std.proofs.Common.{ap, inr}
-use Rattle.world_fenced.specs.Behind.{behind}
-use Rattle.world_fenced.specs.Fences.{FenceForm, form_of, lets_read}
+use Rattle.world_os.specs.Behind.{behind}
+use Rattle.world_os.specs.Fences.{FenceForm, form_of, lets_read}
 use Rattle.awk_run.specs.ModuleRun.{Answers}
 use Rattle.run_tasks.proofs.Moved.{moved}
 use Rattle.run_tasks.proofs.sandbox.module_behind.Goals as goal

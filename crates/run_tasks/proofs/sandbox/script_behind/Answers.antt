@@ -1,6 +1,6 @@
 use Rattle.std.proofs.Common.{ap, inr, List, ℕ}
-use Rattle.world_fenced.specs.Behind.{behind}
-use Rattle.world_fenced.specs.Fences.{FenceForm, form_of, lets_read}
+use Rattle.world_os.specs.Behind.{behind}
+use Rattle.world_os.specs.Fences.{FenceForm, form_of, lets_read}
 use Rattle.awk_run.specs.ScriptRuns.{ScriptAnswers}
 use Rattle.host_tables.specs.Starts.{job_of}
 use Rattle.run_tasks.proofs.Moved.{at, moved}

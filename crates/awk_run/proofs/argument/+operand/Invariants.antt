@@ -1,0 +1,4 @@
+use Rattle.awk_run.proofs.argument.+operand.Given as goal
+
+abbrev pub decreases-operand : goal.decreases-operand
+decreases-operand g l = l.nested

@@ -1,0 +1,45 @@
+use Rattle.std.proofs.Common.{◌≡◌, sym, ap, ◌∙◌, subst, Option}
+use Rattle.awk_values.specs.declared.fault.Fault.{Fault}
+use Rattle.agreement.proofs.RunsLemmas.Telling.{anyhow_run, did_find, did_tell}
+use Rattle.host_calls.specs.Forms.{host_form}
+use Rattle.host_step.specs.Starts.{state_at_start}
+use Rattle.wasm_types.specs.Syntax.{ModuleForm}
+use Rattle.wasm_types.specs.declared.module.Module.{Module}
+use Rattle.wasm_types.specs.View.{view_module}
+use Rattle.awk_run.specs.Counted.{nops_in}
+use Rattle.awk_run.specs.ModuleRun.{RunAnswers, run_end}
+use Rattle.run_report.specs.declared.end.RunEnd.{RunEnd}
+use Rattle.awk_run.proofs.Pausing.{of_some}
+use Rattle.awk_run.proofs.Runs.{did_answers}
+use Rattle.awk_run.proofs.counting.run_valid_counted.Goals as goal
+
+-- the machine's module is the one that was tallied
+pub run_counted-end-requires-clause-nops : goal.run_counted-end-requires-clause-nops
+run_counted-end-requires-clause-nops g c =
+    c.in-Ok.ensures.nops ∙ ap (λ (m : Module). nops_in (view_module m)) c.get.ensures.same ∙ ap nops_in (sym c.in-Ok-new.ensures.ok.whole)
+
+pub returns-clause-answers : goal.returns-clause-answers
+returns-clause-answers g c = λ job shown.
+    let tells = g.W.World.tells in
+    let told = g.W.World.state in
+    let n = c.in-Ok-new.ensures.ok in
+    let before = told c.args.host.world in
+    let after = told c.into_world-2.result in
+    let whole = view_module c.args.valid in
+    let start = host_form told c.args.host in
+    let left = host_form told c.run_counted-end.result.2 in
+    let a = c.in-Ok-new.machine in
+    let end = c.run_counted-end.result.0 in
+    let conf = c.run_counted-end.new.machine.conf in
+    let did = c.run_counted-end.ensures.did in
+    let e : c.run_end.result ≡ run_end left.fault end = c.run_end.ensures ∙ ap (λ (k : Option Fault). run_end k end) c.kept_fault.ensures in
+    subst (λ (z : RunEnd). RunAnswers tells whole job c.args.steps before z after) (sym e)
+    (did_answers tells whole job c.args.steps before after a n start shown end conf left did
+    (ap (λ w. (told w).outside) c.into_world-2.ensures)
+    (λ t. did_tell whole c.requires a n job (before.readers 0) before.outside tells t start shown c.args.steps end conf left did)
+    (did_find whole c.requires a n job (before.readers 0) before.outside tells start shown c.args.steps end conf left did)
+    (λ out r ne ran. anyhow_run tells a.program c.args.steps a.conf start out r conf left (state_at_start job (before.readers 0) before.outside) shown ne ran))
+
+pub returns-clause-counted : goal.returns-clause-counted
+returns-clause-counted g c = λ job shown.
+    of_some c.run_counted-end.result.1 (λ w s. record { machine = c.in-Ok-new.machine; is_new = c.in-Ok-new.ensures.ok; start = host_form g.W.World.state c.args.host; begins = shown; counted = s }) c.run_counted-end.ensures.counted

@@ -1,0 +1,16 @@
+use Rattle.std.proofs.Common.{◌≡◌, ◌++◌, ◌∙◌, List, ap, length, arith}
+use Rattle.std.proofs.lemmas.List.{length-map}
+use Rattle.awk_grammar.specs.ViewStmt.{view_script}
+use Rattle.awk_tree.specs.Lines.{places_in}
+use Rattle.run_report.specs.declared.counts.PlaceCount.{PlaceCount}
+use Rattle.awk_run.specs.Counted.{counted_from, counted_in}
+use Rattle.awk_run.specs.Tallied.{rows_of}
+use Rattle.awk_run.proofs.Listed.{one_function}
+use Rattle.awk_run.proofs.line_counts.places_in.Goals as goal
+
+pub loop-function-preserved : goal.loop-function-preserved
+loop-function-preserved c = λ moments tallied.
+    let script = view_script c.args.tree.now in
+    let nops = rows_of c.args.tally.now.nops.items in
+    let f = c.loop-function.function in
+    c.in_ok-add_function.ensures moments tallied ∙ (ap (λ (ps : List PlaceCount). ps ++ counted_from nops moments f 0 (places_in script f)) (c.loop-function.invariant moments tallied) ∙ one_function script nops moments f)

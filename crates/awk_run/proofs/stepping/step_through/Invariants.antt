@@ -1,0 +1,14 @@
+use Rattle.std.proofs.Common.{◌≡◌}
+use Rattle.host_calls.specs.Forms.{host_form}
+use Rattle.wasm_model.specs.Runs.{lasting}
+use Rattle.awk_run.specs.Tallied.{IsTallied, rows_of}
+use Rattle.awk_run.proofs.stepping.step_through.Given as goal
+
+abbrev pub invariant-loop-taken : goal.invariant-loop-taken
+invariant-loop-taken g l = record {
+  program : l.machine.program ≡ l.fn.machine.program;
+  ended : l.machine.ended ≡ lasting l.end;
+  nops : l.tally.nops ≡ l.fn.tally.nops;
+  tallied : IsTallied g.W.World.tells l.fn.machine.program l.taken l.taken l.fn.machine.conf (host_form g.W.World.state l.fn.host) l.end l.machine.conf (host_form g.W.World.state l.host)
+      (rows_of l.tally.rows.items) l.tally.values;
+}

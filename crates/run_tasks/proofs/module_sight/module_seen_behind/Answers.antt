@@ -1,0 +1,15 @@
+use Rattle.std.proofs.Common.{ap, inr}
+use Rattle.world_os.specs.Behind.{behind}
+use Rattle.world_os.specs.Fences.{FenceForm, form_of, lets_read}
+use Rattle.awk_run.specs.ModuleRun.{Answers}
+use Rattle.run_tasks.proofs.Moved.{moved}
+use Rattle.run_tasks.proofs.module_sight.module_seen_behind.Goals as goal
+
+pub returns-in-Ok : goal.returns-in-Ok
+returns-in-Ok g c = moved (λ job fence. Answers (g.W.World.tells × ⊥) c.args.bytes.now job c.args.task.now.steps
+    (behind (lets_read fence) (g.W.World.state c.args.world.inner)) c.run_module_where.result.0
+    (behind (lets_read (form_of c.run_module_where.result.2.fence)) (g.W.World.state c.run_module_where.result.2.inner))) c.in-Ok.ensures c.requires c.run_module_where.ensures.answers
+
+-- nothing is run for want of memory
+pub returns-in-Err : goal.returns-in-Err
+returns-in-Err g c = inr (ap (λ (fence : FenceForm). behind (lets_read fence) (g.W.World.state c.args.world.inner)) c.requires)

@@ -1,2 +1,0 @@
-mod BehindLemmas
-pub mod NameLemmas

@@ -1,5 +1,0 @@
-pub mod Named
-pub mod Fences
-pub mod Behind
-pub mod Limits
-pub mod Examples
