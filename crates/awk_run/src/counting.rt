@@ -19,6 +19,7 @@ ghost use Rattle.wasm_types.specs.View.{view_module};
 use crate::end::run_end;
 use crate::line_counts::counts_of;
 use crate::module::read;
+use crate::noted_world::NotedWorld;
 use crate::stepping::step_through;
 use crate::tally::Tally;
 use host_calls::{Host, Job};
@@ -117,6 +118,26 @@ fn run_module_counted<W: World>(
     run_valid_counted(alloc, script, valid, host, steps)
 }
 
+/// The same in any world, by the code that other runs use.
+fn run_module_noted<W: World>(
+    alloc: Global,
+    script: &[u8],
+    bytes: &[u8],
+    job: &Job,
+    state: RandomState,
+    world: W,
+    steps: u64,
+) -> (RunEnd, Option<RunCounts>, W)
+    ensures answers { Answers W.tells bytes.now (job_of job.now) steps (W.state world) result.0
+        (W.state result.2) }
+    ensures counted { IfSome result.1 (IsCountedOfBytes W.tells script.now bytes.now
+        (job_of job.now) steps (W.state world)) }
+{
+    let noted = NotedWorld::new(alloc, world);
+    let (end, counts, noted) = run_module_counted(alloc, script, bytes, job, state, noted, steps);
+    (end, counts, noted.into_inner())
+}
+
 /// As `run_script`, and counts: how often each line's first statement was executed, and what the run took. It is slower, since the module is run a step at a
 /// time. Nothing is counted of a script that is not run, or for want of memory.
 #[tactic(auto, using(crate::proofs::ScriptRuns::script_answers))]
@@ -134,7 +155,7 @@ pub fn count_script<W: World>(
         (W.state world)) }
 {
     match compile(alloc, script) {
-        Ok(module) => run_module_counted(alloc, script, &module, job, state, world, steps),
+        Ok(module) => run_module_noted(alloc, script, &module, job, state, world, steps),
         Err(CompileFault::NoMemory) => (RunEnd::NoMemory, None, world),
         Err(fault) => (RunEnd::Refused(Refusal::Compile(fault)), None, world),
     }

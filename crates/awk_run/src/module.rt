@@ -10,6 +10,7 @@ ghost use Rattle.wasm_types.specs.Typing.{ModuleOk};
 ghost use Rattle.wasm_types.specs.View.{view_module};
 
 use crate::end::run_end;
+use crate::noted_world::NotedWorld;
 use host_calls::{Host, Job};
 use module_decoder::{DecodeFault, decode};
 use module_validator::{InvalidFault, ValidModule, validate};
@@ -63,14 +64,9 @@ fn run_valid<W: World>(alloc: Global, valid: ValidModule, host: Host<W>, steps: 
     (run_end(host.kept_fault(), end), host.into_world())
 }
 
-/// Runs a module in a job over a world, for so many steps at most, and gives the world back. `state` seeds the tables of its arrays, and shows in
-/// no answer.
-///
-/// The answer is [`RunEnd::Refused`] where the bytes are no module, the typing rules do not allow it, or it does not link with the host, in
-/// this order; nothing is done to the world then. [`RunEnd::NoMemory`] may come instead of any other answer, where memory was wanting.
-/// Any other answer is how the run ended; the world has its output. Without a kept fault the status is `main`'s result modulo 256.
+/// Runs a module in a job over a world.
 #[tactic(auto, using(crate::proofs::Runs::unread_answers))]
-pub fn run_module<W: World>(
+fn run_over<W: World>(
     alloc: Global,
     bytes: &[u8],
     job: &Job,
@@ -90,4 +86,26 @@ pub fn run_module<W: World>(
         Err(world) => return (RunEnd::NoMemory, world),
     };
     run_valid(alloc, valid, host, steps)
+}
+
+/// Runs a module in a job over a world, for so many steps at most, and gives the world back. `state` seeds the tables of its arrays, and shows in
+/// no answer.
+///
+/// The answer is [`RunEnd::Refused`] where the bytes are no module, the typing rules do not allow it, or it does not link with the host, in
+/// this order; nothing is done to the world then. [`RunEnd::NoMemory`] may come instead of any other answer, where memory was wanting.
+/// Any other answer is how the run ended; the world has its output. Without a kept fault the status is `main`'s result modulo 256.
+pub fn run_module<W: World>(
+    alloc: Global,
+    bytes: &[u8],
+    job: &Job,
+    state: RandomState,
+    world: W,
+    steps: u64,
+) -> (RunEnd, W)
+    ensures { Answers W.tells bytes.now (job_of job.now) steps (W.state world) result.0
+        (W.state result.1) }
+{
+    let noted = NotedWorld::new(alloc, world);
+    let (end, noted) = run_over(alloc, bytes, job, state, noted, steps);
+    (end, noted.into_inner())
 }

@@ -14,6 +14,7 @@ ghost use Rattle.wasm_types.specs.View.{view_module};
 use crate::end::run_end;
 use crate::module::read;
 use crate::module_sights::{ModuleWhereabouts, run_module_seen};
+use crate::noted_world::NotedWorld;
 use host_calls::{Host, Job};
 use module_validator::ValidModule;
 use run_report::{Refusal, RunEnd};
@@ -62,10 +63,9 @@ fn run_valid_seen<W: World>(
     (run_end(host.kept_fault(), end), found, host.into_world())
 }
 
-/// As `run_module`, and tells where the module was: where its run kept the first fault, or else where it ended. None is told of a module that is not run, or for
-/// want of memory. The lines are those that are behind the module's bytes.
+/// Runs a module over a world, and tells where it was.
 #[tactic(auto, using(crate::proofs::Runs::unread_answers))]
-pub fn run_module_where<W: World>(
+fn run_seen_over<W: World>(
     alloc: Global,
     bytes: &[u8],
     job: &Job,
@@ -90,4 +90,24 @@ pub fn run_module_where<W: World>(
         Err(world) => return (RunEnd::NoMemory, None, world),
     };
     run_valid_seen(alloc, &table, valid, host, steps)
+}
+
+/// As `run_module`, and tells where the module was: where its run kept the first fault, or else where it ended. None is told of a module that is not run, or for
+/// want of memory. The lines are those that are behind the module's bytes.
+pub fn run_module_where<W: World>(
+    alloc: Global,
+    bytes: &[u8],
+    job: &Job,
+    state: RandomState,
+    world: W,
+    steps: u64,
+) -> (RunEnd, Option<ModuleWhereabouts>, W)
+    ensures answers { Answers W.tells bytes.now (job_of job.now) steps (W.state world) result.0
+        (W.state result.2) }
+    ensures seen { IfSome result.1 (IsModuleSeenIn W.tells bytes.now (job_of job.now) steps
+        (W.state world)) }
+{
+    let noted = NotedWorld::new(alloc, world);
+    let (end, found, noted) = run_seen_over(alloc, bytes, job, state, noted, steps);
+    (end, found, noted.into_inner())
 }

@@ -11,7 +11,7 @@ use Rattle.script_lines.specs.Lines.{FunctionForm, form_of}
 use Rattle.script_lines.specs.Reading.{table_in}
 use Rattle.awk_run.proofs.Pausing.{of_some}
 use Rattle.awk_run.proofs.Runs.{typed_answers}
-use Rattle.awk_run.proofs.module_where.run_module_where.Goals as goal
+use Rattle.awk_run.proofs.module_where.run_seen_over.Goals as goal
 
 pub returns-clause-answers : goal.returns-clause-answers
 returns-clause-answers g c =

@@ -6,7 +6,7 @@ use Rattle.host_step.specs.Starts.{state_at_start}
 use Rattle.wasm_types.specs.View.{view_module}
 use Rattle.awk_run.specs.ModuleRun.{RunAnswers}
 use Rattle.awk_run.proofs.Runs.{typed_answers}
-use Rattle.awk_run.proofs.module.run_module.Goals as goal
+use Rattle.awk_run.proofs.module.run_over.Goals as goal
 
 pub returns : goal.returns
 returns g c =
