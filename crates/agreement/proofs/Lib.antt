@@ -12,3 +12,5 @@ mod TwinsLemmas
 mod TextsLemmas
 mod StoresLemmas
 mod InputLemmas
+mod FormatsLemmas
+mod IntegersLemmas

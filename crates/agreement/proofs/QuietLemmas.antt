@@ -6,3 +6,4 @@ pub mod Statements
 pub mod Written
 pub mod Whole
 pub mod Laned
+pub mod Spots

@@ -4,3 +4,5 @@ pub mod Items
 pub mod Scripts
 pub mod Silent
 pub mod Passing
+pub mod Ordered
+pub mod InOrder

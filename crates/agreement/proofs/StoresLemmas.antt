@@ -1,3 +1,4 @@
 pub mod Elements
 pub mod Fields
 pub mod Files
+pub mod Walks

@@ -11,3 +11,5 @@ pub mod Runs
 pub mod Texts
 pub mod Stores
 pub mod Input
+pub mod Formats
+pub mod Integers

@@ -1,6 +1,6 @@
 pub mod Places
 pub mod Existence
-pub mod Kept
+pub mod NoLeaks
 pub mod Statements
 pub mod Assigned
 pub mod Nodes

@@ -3,3 +3,5 @@ pub mod Sums
 pub mod Statements
 pub mod Laned
 pub mod Examples
+pub mod Spots
+pub mod SpotExamples

@@ -1,7 +1,10 @@
 //! Script and module agree: laws alone, each the contract of a function that does nothing.
 #![tactic(auto)]
 
+pub mod formats;
 pub mod input;
+pub mod integers;
+pub mod job_words;
 pub mod modules;
 pub mod passed;
 pub mod places;
@@ -13,4 +16,3 @@ pub mod stores;
 pub mod texts;
 pub mod twins;
 pub mod typed;
-pub mod words;

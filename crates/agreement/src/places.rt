@@ -3,7 +3,7 @@
 //! Laws of the runs of modules, each the contract of a function that does nothing.
 ghost use Rattle.std.specs.List.{All};
 ghost use Rattle.std.specs.Prelude.{◌≡◌, ◌≤◌, true, ℕ, List, None, Some, length, slice_get};
-ghost use Rattle.sem_primitives.specs.Jobs.{JobForm, Surroundings};
+ghost use Rattle.sem_primitives.specs.Jobs.{JobForm, Environment};
 ghost use Rattle.awk_grammar.specs.Item.{Item};
 ghost use Rattle.awk_grammar.specs.Kinds.{most_parameters, refusal};
 ghost use Rattle.host_step.specs.HostState.{HostState};
@@ -24,7 +24,7 @@ ghost use Rattle.wasm_types.specs.ModuleGrammar.{IsModule};
 ghost use Rattle.world_core.specs.WorldState.{Source};
 ghost use Rattle.agreement.specs.Places.Assigned.{HasWord, IsAssigned};
 ghost use Rattle.agreement.specs.Places.Existence.{HasRuns};
-ghost use Rattle.agreement.specs.Places.Kept.{AtReturn, AtStatement, Reached, begins_statement};
+ghost use Rattle.agreement.specs.Places.NoLeaks.{AtReturn, AtStatement, Reached, begins_statement};
 ghost use Rattle.agreement.specs.Places.Places.{IsSmall};
 ghost use Rattle.agreement.specs.Places.Statements.{main_places, main_starts, routine_starts, starts_in};
 
@@ -33,11 +33,11 @@ ghost use Rattle.agreement.specs.Places.Statements.{main_places, main_starts, ro
 /// than 100 parameters.
 pub fn modules_run()
     ensures small { (p : Program) → IsSorted p → IsSmall p
-        → (job : JobForm) (input : Source) (outside : Surroundings)
+        → (job : JobForm) (input : Source) (outside : Environment)
         → HasRuns (module_of p) job input outside }
     ensures spelled { (p : Program) → IsSorted p → (bytes : List ℕ) → IsModule bytes (module_of p)
         → All (λ r. length r.parameters ≤ most_parameters) p.routines
-        → (job : JobForm) (input : Source) (outside : Surroundings)
+        → (job : JobForm) (input : Source) (outside : Environment)
         → HasRuns (module_of p) job input outside }
 {}
 
@@ -45,12 +45,12 @@ pub fn modules_run()
 /// of the function at work, and locals of callers. Where `main` has returned names alone hold something. So it is after every way out of a function too.
 pub fn nothing_kept()
     ensures statement { (p : Program) → IsSorted p
-        → (job : JobForm) (input : Source) (outside : Surroundings)
+        → (job : JobForm) (input : Source) (outside : Environment)
         → (m : MachineForm) (c : Conf) (s : HostState)
         → Reached (module_of p) job input outside m c s → begins_statement c.frame.code ≡ true
         → AtStatement p c s }
     ensures returned { (p : Program) → IsSorted p
-        → (job : JobForm) (input : Source) (outside : Surroundings)
+        → (job : JobForm) (input : Source) (outside : Environment)
         → (m : MachineForm) (c : Conf) (s : HostState)
         → Reached (module_of p) job input outside m c s
         → (n : ℕ) → turn m.program c ≡ Ends (ends.Returned (Some (I32 n))) → AtReturn p c s }
@@ -60,7 +60,7 @@ pub fn nothing_kept()
 /// such an assignment alone.
 pub fn names_get_no_handle()
     ensures { (p : Program) → IsSorted p
-        → (job : JobForm) (input : Source) (outside : Surroundings)
+        → (job : JobForm) (input : Source) (outside : Environment)
         → (m : MachineForm) (c : Conf) (s : HostState)
         → (reached : Reached (module_of p) job input outside m c s)
         → begins_statement c.frame.code ≡ true
@@ -72,7 +72,7 @@ pub fn names_get_no_handle()
 /// element that ARGV then had assigned.
 pub fn assignments_come_from_words()
     ensures { (p : Program) → IsSorted p
-        → (job : JobForm) (input : Source) (outside : Surroundings)
+        → (job : JobForm) (input : Source) (outside : Environment)
         → (m : MachineForm) (c : Conf) (s : HostState)
         → (reached : Reached (module_of p) job input outside m c s)
         → (i : ℕ) → IsAssigned reached i → HasWord reached i }

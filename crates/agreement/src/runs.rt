@@ -19,19 +19,19 @@ ghost use Rattle.host_values.specs.FormMeaning.{FormState, form_meaning};
 ghost use Rattle.host_values.specs.Shown.{Shown};
 ghost use Rattle.sem_scripts.specs.ScriptRun.{Ending, Setting};
 ghost use Rattle.agreement.specs.Modules.Agreement.{Agreement};
-ghost use Rattle.agreement.specs.Runs.ToldRuns.{AnyhowRun, DoesSo, DoesSoThere, FoundRun, GoesOnThere, ToldRun, told_by};
+ghost use Rattle.agreement.specs.Runs.ToldRuns.{InAnyWorldRun, DoesSo, DoesSoThere, FoundRun, GoesOnThere, ToldRun, told_by};
 
 use world_core::World;
 
-/// Over a world that tells what it holds, what a machine did with a typed module is how the module may end over a host of the table: with the same
+/// Over a modelled world, what a machine did with a typed module is how the module may end over a host of the table: with the same
 /// output and the same fault, where the host shows the state at the start of a job. Where memory was wanting, its output is how that of another run
 /// begins.
 pub fn did<W: World>()
-    ensures { W.tells → (m : ModuleForm) → ModuleOk m → (a : MachineForm) → IsNew host_finds m a
+    ensures { W.is_modelled → (m : ModuleForm) → ModuleOk m → (a : MachineForm) → IsNew host_finds m a
         → (job : JobForm) (input : Source) (outside : Outside)
         → (f : HostForm) → Shown f (state_at_start job input outside)
         → (steps : ℕ) (e : MachineEnd) (c : Conf) (g : HostForm)
-        → Did (form_meaning W.tells) a.program steps a.conf (FormState.Told f) e c
+        → Did (form_meaning W.is_modelled) a.program steps a.conf (FormState.Told f) e c
         (FormState.Told g)
         → ToldRun m job input outside steps e g }
 {}
@@ -45,21 +45,21 @@ pub fn does_so()
 {}
 
 /// Over any world, each call of a run that did not want memory is as it is said of every world.
-pub fn anyhow<W: World>()
+pub fn in_any_world<W: World>()
     ensures { (m : ProgramForm) (steps : ℕ) (c : Conf) (f : HostForm) (output : List Action)
         (e : RunEnd) (c' : Conf) (g : HostForm) (s : HostState) → Shown f s → e ≢ RunEnd.NoMemory
-        → Ran (form_meaning W.tells) m steps c (FormState.Told f) output e c' (FormState.Told g)
-        → AnyhowRun m steps c s output e c' g }
+        → Ran (form_meaning W.is_modelled) m steps c (FormState.Told f) output e c' (FormState.Told g)
+        → InAnyWorldRun m steps c s output e c' g }
 {}
 
-/// Over any world, what a machine did with a typed module is how the module may end in surroundings that others change too, over a host of the table: there
+/// Over any world, what a machine did with a typed module is how the module may end in an environment that others change too, over a host of the table: there
 /// each opening, read and write finds the next of some list. Where memory was wanting, another run begins so.
 pub fn found<W: World>()
     ensures { (m : ModuleForm) → ModuleOk m → (a : MachineForm) → IsNew host_finds m a
         → (job : JobForm) (input : Source) (outside : Outside)
         → (f : HostForm) → Shown f (state_at_start job input outside)
         → (steps : ℕ) (e : MachineEnd) (c : Conf) (g : HostForm)
-        → Did (form_meaning W.tells) a.program steps a.conf (FormState.Told f) e c
+        → Did (form_meaning W.is_modelled) a.program steps a.conf (FormState.Told f) e c
         (FormState.Told g)
         → FoundRun m job steps e g }
 {}

@@ -3,16 +3,29 @@ ghost use Rattle.std.specs.Prelude.{◌≡◌, ℕ, suc, List, ◌++◌, None, O
 ghost use Rattle.awk_values.specs.declared.value.Value.{Value};
 ghost use Rattle.world_core.specs.WorldState.{Target};
 ghost use Rattle.sem_primitives.specs.SharedState.{Inner, Pairs, Shared};
-ghost use Rattle.sem_primitives.specs.ArrayMeaning.{stored, without};
+ghost use Rattle.sem_primitives.specs.ArrayMeaning.{array, iterate_row, keys, stored, without};
 ghost use Rattle.sem_primitives.specs.FieldMeaning.{with_count, with_field};
 ghost use Rattle.agreement.specs.Stores.Elements.{IsDeleted, IsStored};
 ghost use Rattle.agreement.specs.Stores.Fields.{CountIsAssigned, FieldIsAssigned};
+ghost use Rattle.agreement.specs.Stores.Walks.{AreDistinct, Gives, IsKept};
 ghost use Rattle.agreement.specs.Stores.Files.{Print, Succeed, base, held, is_open, texts_to};
 
 /// An array is a finite map that remembers the order in which its keys were made.
 pub fn arrays_are_maps()
     ensures stored { (key : List ℕ) (v : Value) (ps : Pairs) → IsStored key v ps (stored key v ps) }
     ensures deleted { (key : List ℕ) (ps : Pairs) → IsDeleted key ps (without key ps) }
+{}
+
+/// No key comes twice, and a walk gives each key that the array has when it begins, in the order in which they were made, whatever becomes of the array
+/// meanwhile (POSIX.1-2017 awk, "Actions", the `for` over a name in an array).
+pub fn walks_give_keys()
+    ensures stored { (key : List ℕ) (v : Value) (ps : Pairs) → AreDistinct (keys ps)
+        → AreDistinct (keys (stored key v ps)) }
+    ensures deleted { (key : List ℕ) (ps : Pairs) → AreDistinct (keys ps)
+        → AreDistinct (keys (without key ps)) }
+    ensures walked { (a : ℕ) (inner later : Inner) (all : List (List ℕ))
+        → IsKept (iterate_row a inner).1 (iterate_row a inner).0 later
+        → Gives (iterate_row a inner).1 later all → all ≡ keys (array a inner) }
 {}
 
 /// An assignment to a field, or to NF, changes just that, and joins `$0` anew.

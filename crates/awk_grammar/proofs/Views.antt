@@ -11,7 +11,7 @@ use Rattle.awk_grammar.specs.declared.tree.Stmt.TheBlock.{hidden-the_row-Stmt-0}
 use Rattle.std.specs.declared.vec.Vec.{Vec}
 use Rattle.std.specs.declared.boxed.Box.{Box}
 use Rattle.std.specs.declared.alloc.Global.{Global}
-use Rattle.awk_tokens.specs.declared.words.Builtin.{Builtin}
+use Rattle.awk_tokens.specs.declared.reserved_words.Builtin.{Builtin}
 use Rattle.awk_grammar.specs.declared.tree.Expr.TheBlock.{hidden-the_row-Expr-0}
 use Rattle.awk_grammar.specs.declared.tree.Expr.{Expr, Element, Call, Apply, InList, Row_of-Expr, end_of-Expr, more_of-Expr, items-the_row-Expr, items_hidden-the_row-Expr-0}
 

@@ -1,6 +1,6 @@
 -- Worked rows, computed from the definition.
 use Rattle.std.specs.Prelude.{◌≡◌, ℕ, zero, suc, true, false, codes, List, [], ◌∷◌, Some, None, refl}
-use Rattle.awk_tokens.specs.declared.words.Builtin.TheVariants.{Split}
+use Rattle.awk_tokens.specs.declared.reserved_words.Builtin.TheVariants.{Split}
 use Rattle.awk_grammar.specs.Token.{Number, Set, Assign}
 use Rattle.awk_grammar.specs.Tree.{Tree, Leaf, Var, Index, Group, Call, Apply, Bin, Other, Has, Trees, NoTree, Then}
 use Rattle.awk_grammar.specs.Stmt.{Eval, Simple, Stmt, Stmts, NoStmt, And}

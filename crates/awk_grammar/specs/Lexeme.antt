@@ -1,8 +1,8 @@
 -- What a token says to the grammar: its kind, and its text where it is a name, a number, a string or an ERE.
 use Rattle.std.specs.Prelude.{ℕ, Bool, true, false, List, [], ◌∷◌, map}
 use Rattle.awk_grammar.specs.Token.{Plus, Minus, Increment, Decrement, Less, LessEqual, Equal, NotEqual, Greater, GreaterEqual, Matches, Differs, Times, Over, Modulo, Set, SetSum, SetProduct, SetPower, Assign, Or, And, Match, Compare, Mul, Pow, Number, Quoted, Ere, BeginWord, EndWord, FunctionWord, IfWord, ElseWord, WhileWord, ForWord, DoWord, BreakWord, ContinueWord, NextWord, NextFileWord, ExitWord, ReturnWord, DeleteWord, PrintWord, PrintfWord, Token, Lit, Name, FuncName, Word, GetlineWord, InWord, Dollar, Open, Close, OpenBracket, CloseBracket, OpenBrace, CloseBrace, Comma, Semicolon, Question, Colon, SignMark, NotMark, StepMark, Infix, Append, Key, Outside}
-use Rattle.awk_tokens.specs.declared.words.Keyword.{Keyword}
-use Rattle.awk_tokens.specs.declared.words.Keyword.TheVariants.{Begin, End, Function, If, Else, While, For, Do, Break, Continue, Next, NextFile, Exit, Return, Delete, In, Getline, Print, Printf}
+use Rattle.awk_tokens.specs.declared.reserved_words.Keyword.{Keyword}
+use Rattle.awk_tokens.specs.declared.reserved_words.Keyword.TheVariants.{Begin, End, Function, If, Else, While, For, Do, Break, Continue, Next, NextFile, Exit, Return, Delete, In, Getline, Print, Printf}
 use Rattle.awk_tokens.specs.declared.token.Punctuator.{Punctuator}
 use Rattle.awk_tokens.specs.declared.token.Punctuator.TheVariants as marks
 use Rattle.awk_tokens.specs.declared.token.TokenKind.{TokenKind}

@@ -1,6 +1,6 @@
 -- Tokens, by what they say. Texts are lists of bytes.
 use Rattle.std.specs.Prelude.{ℕ, List}
-use Rattle.awk_tokens.specs.declared.words.Builtin.{Builtin}
+use Rattle.awk_tokens.specs.declared.reserved_words.Builtin.{Builtin}
 
 pub data Sign : Type 0 where
   Plus : Sign

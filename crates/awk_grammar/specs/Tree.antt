@@ -1,8 +1,8 @@
 -- Expressions, their tokens, and which are well formed.
 use Rattle.std.specs.Prelude.{◌≡◌, ℕ, ◌+◌, ◌≤◌, min, max, Bool, true, false, ◌||◌, ◌&&◌, nat_le, List, [], ◌∷◌, ◌++◌}
 use Rattle.awk_grammar.specs.Token.{Sign, Prefix, Not, Signed, Step, Less, Greater, Symbol, Assign, Or, And, Match, Compare, Mul, Pow, Literal, Token, Lit, Name, FuncName, Word, GetlineWord, InWord, Dollar, Open, Close, OpenBracket, CloseBracket, Comma, Question, Colon, SignMark, NotMark, StepMark, Infix}
-use Rattle.awk_tokens.specs.declared.words.Builtin.{Builtin}
-use Rattle.awk_tokens.specs.declared.words.Builtin.TheVariants.{Length as LengthOf, Substr, Index as IndexOf, Split, Sub, Gsub, Match as MatchOf, Sprintf, ToLower, ToUpper, Int as IntOf, Close as CloseOf, Fflush as FflushOf}
+use Rattle.awk_tokens.specs.declared.reserved_words.Builtin.{Builtin}
+use Rattle.awk_tokens.specs.declared.reserved_words.Builtin.TheVariants.{Length as LengthOf, Substr, Index as IndexOf, Split, Sub, Gsub, Match as MatchOf, Sprintf, ToLower, ToUpper, Int as IntOf, Close as CloseOf, Fflush as FflushOf}
 
 -- what joins two expressions
 pub data Op : Type 0 where

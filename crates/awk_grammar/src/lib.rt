@@ -3,12 +3,12 @@
 //! What the names of a script are, from its tree: definitions alone, no function.
 #![tactic(auto)]
 
-mod laws;
+mod grammar_laws;
 mod printed;
 mod shape;
 mod tree;
 
-pub use laws::{
+pub use grammar_laws::{
     one_script, read_scripts_are_well_formed, syntax_means_no_script, well_formed_scripts_are_read,
 };
 pub use printed::Printed;

@@ -11,9 +11,9 @@ use Rattle.awk_grammar.specs.declared.tree.Stmt.{Stmt}
 use Rattle.awk_parse.specs.declared.refusal.Refusal.{Refusal}
 use Rattle.awk_parse.specs.declared.refusal.Refusal.TheVariants.{Syntax as SyntaxRefusal}
 use Rattle.awk_parse.specs.Bodies.{stmts_then, with_one}
-use Rattle.awk_parse.specs.Went.{At, stands, ended, Went, is_read}
+use Rattle.awk_parse.specs.Parsed.{At, stands, ended, Parsed, is_read}
 use Rattle.awk_parse.specs.Bodies.{Held}
-use Rattle.awk_parse.proofs.Went.{then, stays, came, fails_here, goes_as}
+use Rattle.awk_parse.proofs.ParsedLemmas.{then, stays, came, fails_here, goes_as}
 use Rattle.awk_parse.proofs.HeldLemmas.{none_went}
 
 pub stmts_push : (ss : List Stmt) (s : Stmt) → view_stmts (ss ++ (s ∷ [])) ≡ stmts_then (view_stmts ss) (And (view_stmt s) NoStmt)
@@ -63,24 +63,24 @@ stmts_more stmt i n front ts lt e =
 abbrev pub left_stmts : StmtReader → Stmts → ℕ → List Token → Read Stmts
 left_stmts stmt front w ts = with_stmts front (stmts_at stmt w ts)
 
-pub stmts_begin : (stmt : StmtReader) (front v : Stmts) (n : ℕ) (ts : List Token) (o : Option Refusal) (s : At) → front ≡ NoStmt → n ≡ length ts → Went v (stands ts o) s (left_stmts stmt front n) → Went v (stands ts o) s (λ us. stmts_at stmt (length us) us)
+pub stmts_begin : (stmt : StmtReader) (front v : Stmts) (n : ℕ) (ts : List Token) (o : Option Refusal) (s : At) → front ≡ NoStmt → n ≡ length ts → Parsed v (stands ts o) s (left_stmts stmt front n) → Parsed v (stands ts o) s (λ us. stmts_at stmt (length us) us)
 stmts_begin stmt front v n ts o s e q w = goes_as ts o (λ us. stmts_at stmt (length us) us) (left_stmts stmt front n) (rw (e, q) (sym (stmts_start (stmts_at stmt (length ts) ts)))) w
 
-pub stmts_next : (stmt : StmtReader) (front next v : Stmts) (x : PlainStmt) (i n : ℕ) (ts : List Token) (o : Option Refusal) (s1 s2 s3 : At) → i < n → brace_at ts ≡ None → Went x (stands ts o) s1 stmt → Went next s1 s2 (is_read (stmts_then front (And x NoStmt)))
-    → Went v s2 s3 (left_stmts stmt next (n - (i + 1))) → Went v (stands ts o) s3 (left_stmts stmt front (n - i))
+pub stmts_next : (stmt : StmtReader) (front next v : Stmts) (x : PlainStmt) (i n : ℕ) (ts : List Token) (o : Option Refusal) (s1 s2 s3 : At) → i < n → brace_at ts ≡ None → Parsed x (stands ts o) s1 stmt → Parsed next s1 s2 (is_read (stmts_then front (And x NoStmt)))
+    → Parsed v s2 s3 (left_stmts stmt next (n - (i + 1))) → Parsed v (stands ts o) s3 (left_stmts stmt front (n - i))
 stmts_next stmt front next v x i n ts o s1 s2 s3 lt e w p h =
     goes_as ts o (left_stmts stmt front (n - i)) (λ us. with_one stmt front us >>= λ y. left_stmts stmt y.0 (n - (i + 1)) y.1) (stmts_more stmt i n front ts lt e)
     (then (λ y. left_stmts stmt y.0 (n - (i + 1)) y.1) (then (λ y. Ok (stmts_then front (And y.0 NoStmt), y.1)) w p) h)
 
-pub stmts_added : (new old : List Stmt) (x : Stmt) (s0 s1 : At) → Went new s0 s1 (is_read (old ++ (x ∷ []))) → Went (view_stmts new) s0 s1 (is_read (stmts_then (view_stmts old) (And (view_stmt x) NoStmt)))
-stmts_added new old x s0 s1 w = subst (λ (u : Stmts). Went (view_stmts new) s0 s1 (is_read u)) (stmts_push old x) (then (λ y. is_read (view_stmts y.0) y.1) w (stays (view_stmts new) s1))
+pub stmts_added : (new old : List Stmt) (x : Stmt) (s0 s1 : At) → Parsed new s0 s1 (is_read (old ++ (x ∷ []))) → Parsed (view_stmts new) s0 s1 (is_read (stmts_then (view_stmts old) (And (view_stmt x) NoStmt)))
+stmts_added new old x s0 s1 w = subst (λ (u : Stmts). Parsed (view_stmts new) s0 s1 (is_read u)) (stmts_push old x) (then (λ y. is_read (view_stmts y.0) y.1) w (stays (view_stmts new) s1))
 
-pub stmts_closed : (stmt : StmtReader) (front : Stmts) (i n : ℕ) (ts us : List Token) (o : Option Refusal) (s : At) → i < n → brace_at ts ≡ Some us → s ≡ stands us o → Went front (stands ts o) s (left_stmts stmt front (n - i))
+pub stmts_closed : (stmt : StmtReader) (front : Stmts) (i n : ℕ) (ts us : List Token) (o : Option Refusal) (s : At) → i < n → brace_at ts ≡ Some us → s ≡ stands us o → Parsed front (stands ts o) s (left_stmts stmt front (n - i))
 stmts_closed stmt front i n ts us o s lt e q = came front ts us o s (left_stmts stmt front (n - i)) q (ap (with_stmts front) (stmts_end stmt i n ts us lt e) ∙ ap (λ (u : Stmts). Ok (u, us)) (stmts_none front))
 
-pub stmts_over : (stmt : StmtReader) (front : Stmts) (w : ℕ) (ts : List Token) (o : Option Refusal) (line : Option ℕ) (e : Refusal) (s : At) → w ≡ 0 → e ≡ SyntaxRefusal line → s ≡ ended (stands ts o) e → Went front (stands ts o) s (left_stmts stmt front w)
+pub stmts_over : (stmt : StmtReader) (front : Stmts) (w : ℕ) (ts : List Token) (o : Option Refusal) (line : Option ℕ) (e : Refusal) (s : At) → w ≡ 0 → e ≡ SyntaxRefusal line → s ≡ ended (stands ts o) e → Parsed front (stands ts o) s (left_stmts stmt front w)
 stmts_over stmt front w ts o line e s z r q = fails_here front ts o e s (left_stmts stmt front w) q (rw (r, z) refl)
 
-pub stmts_stopped : (stmt : StmtReader) (front : Stmts) (x : PlainStmt) (i n : ℕ) (ts : List Token) (o : Option Refusal) (s : At) → i < n → brace_at ts ≡ None → Went x (stands ts o) s stmt → Held {A = Box Stmt Global} None s → Went front (stands ts o) s (left_stmts stmt front (n - i))
+pub stmts_stopped : (stmt : StmtReader) (front : Stmts) (x : PlainStmt) (i n : ℕ) (ts : List Token) (o : Option Refusal) (s : At) → i < n → brace_at ts ≡ None → Parsed x (stands ts o) s stmt → Held {A = Box Stmt Global} None s → Parsed front (stands ts o) s (left_stmts stmt front (n - i))
 stmts_stopped stmt front x i n ts o s lt e w h =
     stmts_next stmt front front front x i n ts o s s s lt e w (none_went {X = Box Stmt Global} front None s (is_read (stmts_then front (And x NoStmt))) refl h) (none_went {X = Box Stmt Global} front None s (left_stmts stmt front (n - (i + 1))) refl h)

@@ -6,8 +6,8 @@ use Rattle.awk_grammar.specs.Reading.{◌>>=◌, Read, Reader, Link, link_at, st
 use Rattle.awk_grammar.proofs.Sound.{that_is}
 use Rattle.awk_parse.specs.declared.refusal.Refusal.{Refusal}
 use Rattle.awk_parse.specs.Operands.{done, fitted_at, joining_by, joining_at}
-use Rattle.awk_parse.specs.Went.{At, stands, Went}
-use Rattle.awk_parse.proofs.Went.{then, came, goes_on as moved_on, goes_as, reads_as}
+use Rattle.awk_parse.specs.Parsed.{At, stands, Parsed}
+use Rattle.awk_parse.proofs.ParsedLemmas.{then, came, goes_on as moved_on, goes_as, reads_as}
 
 -- ---- one link
 
@@ -45,20 +45,20 @@ checked_then limit go x = by (ltb limit (depth x.0))
 
 -- ---- in a loop
 
-pub climb_begin : (expr : Reader) (g : Bool) (limit n l : ℕ) (t v : Tree) (ts : List Token) (o : Option Refusal) (s : At) → n ≡ length ts → Went v (stands ts o) s (climb expr g limit n l t) → Went v (stands ts o) s (λ us. climb expr g limit (length us) l t us)
+pub climb_begin : (expr : Reader) (g : Bool) (limit n l : ℕ) (t v : Tree) (ts : List Token) (o : Option Refusal) (s : At) → n ≡ length ts → Parsed v (stands ts o) s (climb expr g limit n l t) → Parsed v (stands ts o) s (λ us. climb expr g limit (length us) l t us)
 climb_begin expr g limit n l t v ts o s q w = goes_as ts o (λ us. climb expr g limit (length us) l t us) (climb expr g limit n l t) (rw q refl) w
 
-pub climb_next : (expr : Reader) (g : Bool) (limit i n l : ℕ) (t x v : Tree) (ts us : List Token) (k : Link) (o : Option Refusal) (s0 s1 s2 s3 : At) → i < n → joining_at g l t ts ≡ Some (k, us) → s0 ≡ stands us o → Went x s0 s1 (after expr g t k) → Went x s1 s2 (λ vs. checked limit done (x, vs))
-    → Went v s2 s3 (climb expr g limit (n - (i + 1)) l x) → Went v (stands ts o) s3 (climb expr g limit (n - i) l t)
+pub climb_next : (expr : Reader) (g : Bool) (limit i n l : ℕ) (t x v : Tree) (ts us : List Token) (k : Link) (o : Option Refusal) (s0 s1 s2 s3 : At) → i < n → joining_at g l t ts ≡ Some (k, us) → s0 ≡ stands us o → Parsed x s0 s1 (after expr g t k) → Parsed x s1 s2 (λ vs. checked limit done (x, vs))
+    → Parsed v s2 s3 (climb expr g limit (n - (i + 1)) l x) → Parsed v (stands ts o) s3 (climb expr g limit (n - i) l t)
 climb_next expr g limit i n l t x v ts us k o s0 s1 s2 s3 lt e q w c h =
     let go = climb expr g limit (n - (i + 1)) l in
     moved_on ts us o (climb expr g limit (n - i) l t) (λ vs. after expr g t k vs >>= checked limit go) q (climb_more expr g limit i n l t ts (k, us) lt e)
     (then (checked limit go) w (reads_as (λ vs. checked limit go (x, vs)) (λ vs. checked limit done (x, vs) >>= λ y. go y.0 y.1) (λ vs. checked_then limit go (x, vs)) (then (λ y. go y.0 y.1) c h)))
 
-pub climb_end : (expr : Reader) (g : Bool) (limit w l : ℕ) (t : Tree) (ts : List Token) (o : Option Refusal) → joining_at g l t ts ≡ None → Went t (stands ts o) (stands ts o) (climb expr g limit w l t)
+pub climb_end : (expr : Reader) (g : Bool) (limit w l : ℕ) (t : Tree) (ts : List Token) (o : Option Refusal) → joining_at g l t ts ≡ None → Parsed t (stands ts o) (stands ts o) (climb expr g limit w l t)
 climb_end expr g limit w l t ts o e = came t ts ts o (stands ts o) (climb expr g limit w l t) refl (climb_none expr g limit w l t ts e)
 
-pub climb_over : (expr : Reader) (g : Bool) (limit w l : ℕ) (t : Tree) (ts : List Token) (o : Option Refusal) → w ≡ 0 → Went t (stands ts o) (stands ts o) (climb expr g limit w l t)
+pub climb_over : (expr : Reader) (g : Bool) (limit w l : ℕ) (t : Tree) (ts : List Token) (o : Option Refusal) → w ≡ 0 → Parsed t (stands ts o) (stands ts o) (climb expr g limit w l t)
 climb_over expr g limit w l t ts o e = came t ts ts o (stands ts o) (climb expr g limit w l t) refl (rw e refl)
 
 -- ---- the whole
@@ -86,8 +86,8 @@ expr_is limit g m ts h = expr_some limit g m ts h ∙ by (first_at (expr_at (lim
     by (Ok x) = within (fitting m (posted m x))
     by (Err f) = refl
 
-pub expr_went : (limit : ℕ) (g : Bool) (m : Mode) (l : ℕ) (b t v : Tree) (s0 s1 s2 s3 : At) → 0 < limit → l ≡ floor m → Went b s0 s1 (first_at (expr_at (limit - 1)) g m) → Went t s1 s2 (λ ts. fitted_at limit m (b, ts)) → Went v s2 s3 (λ ts. climb (expr_at (limit - 1)) g limit (length ts) l t ts) → Went v s0 s3 (expr_at limit g m)
+pub expr_went : (limit : ℕ) (g : Bool) (m : Mode) (l : ℕ) (b t v : Tree) (s0 s1 s2 s3 : At) → 0 < limit → l ≡ floor m → Parsed b s0 s1 (first_at (expr_at (limit - 1)) g m) → Parsed t s1 s2 (λ ts. fitted_at limit m (b, ts)) → Parsed v s2 s3 (λ ts. climb (expr_at (limit - 1)) g limit (length ts) l t ts) → Parsed v s0 s3 (expr_at limit g m)
 expr_went limit g m l b t v s0 s1 s2 s3 h e first fit more =
-    let rest = subst (λ (n : ℕ). Went v s2 s3 (λ ts. climb (expr_at (limit - 1)) g limit (length ts) n t ts)) e more in
+    let rest = subst (λ (n : ℕ). Parsed v s2 s3 (λ ts. climb (expr_at (limit - 1)) g limit (length ts) n t ts)) e more in
     reads_as (expr_at limit g m) (λ ts. first_at (expr_at (limit - 1)) g m ts >>= λ x. fitted_at limit m x >>= λ z. rest_of limit g m z.0 z.1) (λ ts. expr_is limit g m ts h)
     (then (λ x. fitted_at limit m x >>= λ z. rest_of limit g m z.0 z.1) first (then (λ z. rest_of limit g m z.0 z.1) fit rest))

@@ -10,12 +10,12 @@ use Rattle.awk_grammar.specs.ViewStmt.{view_stmt}
 use Rattle.awk_grammar.specs.declared.tree.Stmt.{Stmt}
 use Rattle.awk_parse.specs.declared.refusal.Refusal.{Refusal}
 use Rattle.awk_parse.specs.declared.refusal.Refusal.TheVariants.{NoMemory}
-use Rattle.awk_parse.specs.Went.{At, ended, Went, is_read}
-use Rattle.awk_parse.proofs.Went.{stays, no_memory, kept_then}
+use Rattle.awk_parse.specs.Parsed.{At, ended, Parsed, is_read}
+use Rattle.awk_parse.proofs.ParsedLemmas.{stays, no_memory, kept_then}
 use Rattle.awk_parse.specs.Bodies.{Held, view_boxed}
 
 -- where nothing is held reading stopped before
-pub none_went : {A X : Type 0} (a : A) (o : Option X) (s : At) (r : List Token → Read A) → o ≡ None → Held o s → Went a s s r
+pub none_went : {A X : Type 0} (a : A) (o : Option X) (s : At) (r : List Token → Read A) → o ≡ None → Held o s → Parsed a s s r
 none_went {A} {X} a o (Ok us) r e h = absurd (subst (λ (x : Option X). Held x (Ok us)) e h)
 none_went a o (Err d) r e h = record { went = refl }
 
@@ -23,10 +23,10 @@ ended_held : (X : Type 0) (s0 s1 : At) (e : Refusal) → s1 ≡ ended s0 e → H
 ended_held X (Ok ts) s1 e q = rw q tt
 ended_held X (Err d) s1 e q = rw q tt
 
-pub kept : {A X : Type 0} (f : X → A) (x y : X) (s0 s1 : At) → (x ≡ y) × (s1 ≡ s0) → Went (f x) s0 s1 (is_read (f y))
+pub kept : {A X : Type 0} (f : X → A) (x y : X) (s0 s1 : At) → (x ≡ y) × (s1 ≡ s0) → Parsed (f x) s0 s1 (is_read (f y))
 kept f x y s0 s1 h = kept_then (λ z. is_read (f z)) x y s0 s1 s1 h (stays (f x) s1)
 
-pub boxed_went : (o : Option (Box Stmt Global)) (v : Stmt) (s0 s1 : At) → MatchOption o (s1 ≡ ended s0 NoMemory) (λ b. (b.value ≡ v) × (s1 ≡ s0)) → Went (view_boxed o) s0 s1 (is_read (view_stmt v))
+pub boxed_went : (o : Option (Box Stmt Global)) (v : Stmt) (s0 s1 : At) → MatchOption o (s1 ≡ ended s0 NoMemory) (λ b. (b.value ≡ v) × (s1 ≡ s0)) → Parsed (view_boxed o) s0 s1 (is_read (view_stmt v))
 boxed_went (Some b) v s0 s1 h = kept view_stmt b.value v s0 s1 h
 boxed_went None v s0 s1 h = no_memory Empty s0 s1 (is_read (view_stmt v)) h
 

@@ -1,8 +1,8 @@
 -- The words of jumps among a script's tokens are as many as the jumps of its tree.
 use Rattle.std.proofs.Common.{◌≡◌, ℕ, zero, suc, ◌+◌, Bool, true, false, None, Some, Option, List, [], ◌∷◌, ◌++◌, length, length-append, arith, refl, sym, ap, ◌∙◌}
 use Rattle.awk_tokens.specs.Cutting.{Spelled}
-use Rattle.awk_tokens.specs.declared.words.Keyword.{Keyword}
-use Rattle.awk_tokens.specs.declared.words.Keyword.TheVariants as words_of
+use Rattle.awk_tokens.specs.declared.reserved_words.Keyword.{Keyword}
+use Rattle.awk_tokens.specs.declared.reserved_words.Keyword.TheVariants as words_of
 use Rattle.awk_tokens.specs.declared.token.Punctuator.{Punctuator}
 use Rattle.awk_tokens.specs.declared.token.Punctuator.TheVariants as marks
 use Rattle.awk_tokens.specs.declared.token.TokenKind.{TokenKind}

@@ -3,7 +3,7 @@ pub mod Fits
 pub mod Lists
 pub mod Marks
 pub mod Starts
-pub mod Went
+pub mod ParsedLemmas
 pub mod Blocks
 pub mod Closed
 pub mod HeldLemmas

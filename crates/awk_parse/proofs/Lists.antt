@@ -8,8 +8,8 @@ use Rattle.awk_grammar.specs.declared.tree.Expr.{Expr}
 use Rattle.awk_parse.specs.declared.refusal.Refusal.{Refusal}
 use Rattle.awk_parse.specs.Depths.{capped}
 use Rattle.awk_parse.specs.Operands.{followed_by}
-use Rattle.awk_parse.specs.Went.{At, stands, Went, Passed, is_read}
-use Rattle.awk_parse.proofs.Went.{then, past, stays, came, goes_on, goes_as}
+use Rattle.awk_parse.specs.Parsed.{At, stands, Parsed, Passed, is_read}
+use Rattle.awk_parse.proofs.ParsedLemmas.{then, past, stays, came, goes_on, goes_as}
 
 views_push : (es : List Expr) (e : Expr) → views (es ++ (e ∷ [])) ≡ followed_by (views es) (Then (view e) NoTree)
 views_push [] e = refl
@@ -74,23 +74,23 @@ trees_more expr g front i n ts us lt e =
     by (Ok x) = step x.0 (more_at expr g (n - (i + 1)) x.1)
     by (Err f) = refl
 
-pub trees_begin : (expr : Reader) (g : Bool) (items : List Expr) (front v : Trees) (x : Tree) (n : ℕ) (ts : List Token) (o : Option Refusal) (s0 s1 s : At) → items ≡ [] → n ≡ length ts → Went x s0 s1 (expr g Whole) → Went front s1 (stands ts o) (is_read (followed_by (views items) (Then x NoTree)))
-    → Went v (stands ts o) s (left_trees expr g front n) → Went v s0 s (list_at expr g)
+pub trees_begin : (expr : Reader) (g : Bool) (items : List Expr) (front v : Trees) (x : Tree) (n : ℕ) (ts : List Token) (o : Option Refusal) (s0 s1 s : At) → items ≡ [] → n ≡ length ts → Parsed x s0 s1 (expr g Whole) → Parsed front s1 (stands ts o) (is_read (followed_by (views items) (Then x NoTree)))
+    → Parsed v (stands ts o) s (left_trees expr g front n) → Parsed v s0 s (list_at expr g)
 trees_begin expr g items front v x n ts o s0 s1 s e q first one w =
-    let added : Went front s1 (stands ts o) (is_read (Then x NoTree)) = subst (λ (es : List Expr). Went front s1 (stands ts o) (is_read (followed_by (views es) (Then x NoTree)))) e one in
+    let added : Parsed front s1 (stands ts o) (is_read (Then x NoTree)) = subst (λ (es : List Expr). Parsed front s1 (stands ts o) (is_read (followed_by (views es) (Then x NoTree)))) e one in
     let rest = goes_as ts o (λ us. left_trees expr g front (length us) us) (left_trees expr g front n) (rw q refl) w in
     then (λ y. more_at expr g (length y.1) y.1 >>= λ z. Ok (Then y.0 z.0, z.1)) first (then (λ y. left_trees expr g y.0 (length y.1) y.1) added rest)
 
-pub trees_next : (expr : Reader) (g : Bool) (front next v : Trees) (x : Tree) (i n : ℕ) (ts us : List Token) (o : Option Refusal) (s0 s1 s2 s3 : At) → i < n → comma_at ts ≡ Some us → s0 ≡ stands us o → Went x s0 s1 (expr g Whole) → Went next s1 s2 (is_read (followed_by front (Then x NoTree)))
-    → Went v s2 s3 (left_trees expr g next (n - (i + 1))) → Went v (stands ts o) s3 (left_trees expr g front (n - i))
+pub trees_next : (expr : Reader) (g : Bool) (front next v : Trees) (x : Tree) (i n : ℕ) (ts us : List Token) (o : Option Refusal) (s0 s1 s2 s3 : At) → i < n → comma_at ts ≡ Some us → s0 ≡ stands us o → Parsed x s0 s1 (expr g Whole) → Parsed next s1 s2 (is_read (followed_by front (Then x NoTree)))
+    → Parsed v s2 s3 (left_trees expr g next (n - (i + 1))) → Parsed v (stands ts o) s3 (left_trees expr g front (n - i))
 trees_next expr g front next v x i n ts us o s0 s1 s2 s3 lt e q w p h =
     goes_on ts us o (left_trees expr g front (n - i)) (λ vs. one_tree expr g front vs >>= λ y. left_trees expr g y.0 (n - (i + 1)) y.1) q (trees_more expr g front i n ts us lt e)
     (then (λ y. left_trees expr g y.0 (n - (i + 1)) y.1) (then (λ y. is_read (followed_by front (Then y.0 NoTree)) y.1) w p) h)
 
-pub trees_end : (expr : Reader) (g : Bool) (front : Trees) (w : ℕ) (ts : List Token) (o : Option Refusal) → comma_at ts ≡ None → Went front (stands ts o) (stands ts o) (left_trees expr g front w)
+pub trees_end : (expr : Reader) (g : Bool) (front : Trees) (w : ℕ) (ts : List Token) (o : Option Refusal) → comma_at ts ≡ None → Parsed front (stands ts o) (stands ts o) (left_trees expr g front w)
 trees_end expr g front w ts o e = came front ts ts o (stands ts o) (left_trees expr g front w) refl (trees_none expr g front w ts e)
 
-pub trees_over : (expr : Reader) (g : Bool) (front : Trees) (w : ℕ) (ts : List Token) (o : Option Refusal) → w ≡ 0 → Went front (stands ts o) (stands ts o) (left_trees expr g front w)
+pub trees_over : (expr : Reader) (g : Bool) (front : Trees) (w : ℕ) (ts : List Token) (o : Option Refusal) → w ≡ 0 → Parsed front (stands ts o) (stands ts o) (left_trees expr g front w)
 trees_over expr g front w ts o e = came front ts ts o (stands ts o) (left_trees expr g front w) refl (trees_done expr g front w ts e)
 
 -- ---- arguments
@@ -103,8 +103,8 @@ arguments_some : (expr : Reader) (ts : List Token) → close_at ts ≡ Err Synta
 arguments_some expr (Close ∷ ts) e = absurd cc
 arguments_some expr _ e = refl
 
-pub no_arguments : (expr : Reader) (items : List Expr) (ts us : List Token) (o : Option Refusal) (s : At) → items ≡ [] → close_at ts ≡ Ok us → s ≡ stands us o → Went (views items) (stands ts o) s (arguments_at expr)
+pub no_arguments : (expr : Reader) (items : List Expr) (ts us : List Token) (o : Option Refusal) (s : At) → items ≡ [] → close_at ts ≡ Ok us → s ≡ stands us o → Parsed (views items) (stands ts o) s (arguments_at expr)
 no_arguments expr items ts us o s z e q = rw z (came NoTree ts us o s (arguments_at expr) q (arguments_none expr ts us e))
 
-pub some_arguments : (expr : Reader) (v : Trees) (ts : List Token) (o : Option Refusal) (s1 s2 : At) → close_at ts ≡ Err Syntax → Went v (stands ts o) s1 (list_at expr true) → Passed s1 s2 close_at → Went v (stands ts o) s2 (arguments_at expr)
+pub some_arguments : (expr : Reader) (v : Trees) (ts : List Token) (o : Option Refusal) (s1 s2 : At) → close_at ts ≡ Err Syntax → Parsed v (stands ts o) s1 (list_at expr true) → Passed s1 s2 close_at → Parsed v (stands ts o) s2 (arguments_at expr)
 some_arguments expr v ts o s1 s2 e w p = goes_as ts o (arguments_at expr) (λ us. list_at expr true us >>= λ x. close_at x.1 >>= λ vs. Ok (x.0, vs)) (arguments_some expr ts e) (then (λ x. close_at x.1 >>= λ vs. Ok (x.0, vs)) w (past (λ vs. Ok (v, vs)) p (stays v s2)))

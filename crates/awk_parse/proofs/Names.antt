@@ -11,8 +11,8 @@ use Rattle.awk_grammar.specs.ViewStmt.{view_names}
 use Rattle.awk_grammar.proofs.Sound.{name_ok}
 use Rattle.awk_parse.specs.declared.refusal.Refusal.{Refusal}
 use Rattle.awk_parse.specs.Names.{with_names}
-use Rattle.awk_parse.specs.Went.{At, stands, Went, is_read}
-use Rattle.awk_parse.proofs.Went.{then, stays, came, goes_on, goes_as}
+use Rattle.awk_parse.specs.Parsed.{At, stands, Parsed, is_read}
+use Rattle.awk_parse.proofs.ParsedLemmas.{then, stays, came, goes_on, goes_as}
 
 -- names and one more
 abbrev one_name : List (List ℕ) → List Token → Read (List (List ℕ))
@@ -61,23 +61,23 @@ params_none _ e = refl
 abbrev pub left_names : List (List ℕ) → ℕ → List Token → Read (List (List ℕ))
 left_names front w ts = with_names front (names_at w ts)
 
-pub names_begin : (front v : List (List ℕ)) (n : ℕ) (ts : List Token) (o : Option Refusal) (s : At) → n ≡ length ts → Went v (stands ts o) s (left_names front n) → Went v (stands ts o) s (λ us. left_names front (length us) us)
+pub names_begin : (front v : List (List ℕ)) (n : ℕ) (ts : List Token) (o : Option Refusal) (s : At) → n ≡ length ts → Parsed v (stands ts o) s (left_names front n) → Parsed v (stands ts o) s (λ us. left_names front (length us) us)
 names_begin front v n ts o s q w = goes_as ts o (λ us. left_names front (length us) us) (left_names front n) (rw q refl) w
 
-pub names_next : (front next v : List (List ℕ)) (x : List ℕ) (i n : ℕ) (ts us : List Token) (o : Option Refusal) (s0 s1 s2 s3 : At) → i < n → comma_at ts ≡ Some us → s0 ≡ stands us o → Went x s0 s1 name_at → Went next s1 s2 (is_read (front ++ (x ∷ []))) → Went v s2 s3 (left_names next (n - (i + 1)))
-    → Went v (stands ts o) s3 (left_names front (n - i))
+pub names_next : (front next v : List (List ℕ)) (x : List ℕ) (i n : ℕ) (ts us : List Token) (o : Option Refusal) (s0 s1 s2 s3 : At) → i < n → comma_at ts ≡ Some us → s0 ≡ stands us o → Parsed x s0 s1 name_at → Parsed next s1 s2 (is_read (front ++ (x ∷ []))) → Parsed v s2 s3 (left_names next (n - (i + 1)))
+    → Parsed v (stands ts o) s3 (left_names front (n - i))
 names_next front next v x i n ts us o s0 s1 s2 s3 lt e q w p h =
     goes_on ts us o (left_names front (n - i)) (λ vs. one_name front vs >>= λ y. left_names y.0 (n - (i + 1)) y.1) q (names_more front i n ts us lt e)
     (then (λ y. left_names y.0 (n - (i + 1)) y.1) (then (λ y. is_read (front ++ (y.0 ∷ [])) y.1) w p) h)
 
-pub names_added : (new old : List (Vec ℕ Global)) (x : Vec ℕ Global) (s0 s1 : At) → Went new s0 s1 (is_read (old ++ (x ∷ []))) → Went (view_names new) s0 s1 (is_read (view_names old ++ (x.items ∷ [])))
-names_added new old x s0 s1 w = subst (λ (u : List (List ℕ)). Went (view_names new) s0 s1 (is_read u)) (view_names_push old x) (then (λ y. is_read (view_names y.0) y.1) w (stays (view_names new) s1))
+pub names_added : (new old : List (Vec ℕ Global)) (x : Vec ℕ Global) (s0 s1 : At) → Parsed new s0 s1 (is_read (old ++ (x ∷ []))) → Parsed (view_names new) s0 s1 (is_read (view_names old ++ (x.items ∷ [])))
+names_added new old x s0 s1 w = subst (λ (u : List (List ℕ)). Parsed (view_names new) s0 s1 (is_read u)) (view_names_push old x) (then (λ y. is_read (view_names y.0) y.1) w (stays (view_names new) s1))
 
-pub first_added : (new old : List (Vec ℕ Global)) (x : Vec ℕ Global) (s0 s1 : At) → old ≡ [] → Went new s0 s1 (is_read (old ++ (x ∷ []))) → Went (view_names new) s0 s1 (is_read (x.items ∷ []))
-first_added new old x s0 s1 e w = subst (λ (u : List (Vec ℕ Global)). Went (view_names new) s0 s1 (is_read (view_names u ++ (x.items ∷ [])))) e (names_added new old x s0 s1 w)
+pub first_added : (new old : List (Vec ℕ Global)) (x : Vec ℕ Global) (s0 s1 : At) → old ≡ [] → Parsed new s0 s1 (is_read (old ++ (x ∷ []))) → Parsed (view_names new) s0 s1 (is_read (x.items ∷ []))
+first_added new old x s0 s1 e w = subst (λ (u : List (Vec ℕ Global)). Parsed (view_names new) s0 s1 (is_read (view_names u ++ (x.items ∷ [])))) e (names_added new old x s0 s1 w)
 
-pub names_end : (front : List (List ℕ)) (w : ℕ) (ts : List Token) (o : Option Refusal) → comma_at ts ≡ None → Went front (stands ts o) (stands ts o) (left_names front w)
+pub names_end : (front : List (List ℕ)) (w : ℕ) (ts : List Token) (o : Option Refusal) → comma_at ts ≡ None → Parsed front (stands ts o) (stands ts o) (left_names front w)
 names_end front w ts o e = came front ts ts o (stands ts o) (left_names front w) refl (names_none front w ts e)
 
-pub names_over : (front : List (List ℕ)) (w : ℕ) (ts : List Token) (o : Option Refusal) → w ≡ 0 → Went front (stands ts o) (stands ts o) (left_names front w)
+pub names_over : (front : List (List ℕ)) (w : ℕ) (ts : List Token) (o : Option Refusal) → w ≡ 0 → Parsed front (stands ts o) (stands ts o) (left_names front w)
 names_over front w ts o e = came front ts ts o (stands ts o) (left_names front w) refl (names_done front w ts e)

@@ -9,8 +9,8 @@ use Rattle.awk_grammar.specs.ReadStmt.{Read, starts_expr, open_here, comma_here,
 use Rattle.awk_parse.specs.declared.refusal.Refusal.{Refusal}
 use Rattle.awk_parse.specs.declared.refusal.Refusal.TheVariants as refusals
 use Rattle.awk_parse.specs.Bodies.{enclosed_args_at}
-use Rattle.awk_parse.specs.Went.{At, stands, Went, IsSyntax, IsNoSyntax}
-use Rattle.awk_parse.proofs.Went.{binds, goes_as, goes_nowhere}
+use Rattle.awk_parse.specs.Parsed.{At, stands, Parsed, IsSyntax, IsNoSyntax}
+use Rattle.awk_parse.proofs.ParsedLemmas.{binds, goes_as, goes_nowhere}
 
 abbrev enclosing : (Tree × Trees) × List Token → Read Args
 enclosing x = Ok (Enclosed x.0.0 x.0.1, x.1)
@@ -42,7 +42,7 @@ without expr ts (Err TooDeep) e = absurd cc
 without expr ts (Err Syntax) e = refl
 
 -- the form in parentheses
-pub args_enclosed : (expr : Reader) (p : Printing) (a : Args) (ts us : List Token) (o k : Option Refusal) → starts_expr ts ≡ true → IsNoSyntax k → Went a (stands ts o) (stands us k) (enclosed_args_at expr) → Went a (stands ts o) (stands us k) (args_at expr p)
+pub args_enclosed : (expr : Reader) (p : Printing) (a : Args) (ts us : List Token) (o k : Option Refusal) → starts_expr ts ≡ true → IsNoSyntax k → Parsed a (stands ts o) (stands us k) (enclosed_args_at expr) → Parsed a (stands ts o) (stands us k) (args_at expr p)
 args_enclosed expr p a ts us (Some d) k b n h = goes_nowhere (args_at expr p) (enclosed_args_at expr) h
 args_enclosed expr p a ts us None None b n h = record { went = rw b (in_parentheses expr ts (enclosed_at expr ts) (a, us) (sym (enclosed_is expr ts) ∙ h.went)) }
 args_enclosed expr p a ts us None (Some (refusals.Syntax line)) b n h = absurd n
@@ -50,10 +50,10 @@ args_enclosed expr p a ts us None (Some (refusals.TooDeep line)) b n h = record 
 args_enclosed expr p a ts us None (Some refusals.NoMemory) b n h = record { went = tt }
 
 -- the form without
-pub args_listed : (expr : Reader) (p : Printing) (a b : Args) (ts us : List Token) (o k : Option Refusal) (s1 s2 : At) → starts_expr ts ≡ true → IsSyntax k → Went a (stands ts o) (stands us k) (enclosed_args_at expr) → s1 ≡ stands ts o → Went b s1 s2 (listed_at expr) → Went b (stands ts o) s2 (args_at expr p)
-args_listed expr p a b ts us o k s1 s2 t i h e w = by o k i h (subst (λ (s : At). Went b s s2 (listed_at expr)) e w)
+pub args_listed : (expr : Reader) (p : Printing) (a b : Args) (ts us : List Token) (o k : Option Refusal) (s1 s2 : At) → starts_expr ts ≡ true → IsSyntax k → Parsed a (stands ts o) (stands us k) (enclosed_args_at expr) → s1 ≡ stands ts o → Parsed b s1 s2 (listed_at expr) → Parsed b (stands ts o) s2 (args_at expr p)
+args_listed expr p a b ts us o k s1 s2 t i h e w = by o k i h (subst (λ (s : At). Parsed b s s2 (listed_at expr)) e w)
   where
-    by : (o k : Option Refusal) → IsSyntax k → Went a (stands ts o) (stands us k) (enclosed_args_at expr) → Went b (stands ts o) s2 (listed_at expr) → Went b (stands ts o) s2 (args_at expr p)
+    by : (o k : Option Refusal) → IsSyntax k → Parsed a (stands ts o) (stands us k) (enclosed_args_at expr) → Parsed b (stands ts o) s2 (listed_at expr) → Parsed b (stands ts o) s2 (args_at expr p)
     by (Some d) k i h w = goes_nowhere (args_at expr p) (listed_at expr) w
     by None None i h w = absurd i
     by None (Some (refusals.Syntax line)) i h w = goes_as ts None (args_at expr p) (listed_at expr) (rw t (without expr ts (enclosed_at expr ts) (sym (enclosed_is expr ts) ∙ h.went))) w

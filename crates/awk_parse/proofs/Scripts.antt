@@ -13,8 +13,8 @@ use Rattle.awk_parse.specs.declared.refusal.Refusal.{Refusal}
 use Rattle.awk_parse.specs.declared.refusal.Refusal.TheVariants.{Syntax as SyntaxRefusal}
 use Rattle.awk_parse.specs.Seen.{Fails}
 use Rattle.awk_parse.specs.Marks.{open_brace_at}
-use Rattle.awk_parse.specs.Went.{At, stands, ended, Went, Ends, is_read}
-use Rattle.awk_parse.proofs.Went.{then, then_ends, stays, all_came, fails_all, ends_as}
+use Rattle.awk_parse.specs.Parsed.{At, stands, ended, Parsed, Ends, is_read}
+use Rattle.awk_parse.proofs.ParsedLemmas.{then, then_ends, stays, all_came, fails_all, ends_as}
 
 pub body_some : (d : ℕ) (ts us : List Token) → open_brace_at ts ≡ Some us → body_at d ts ≡ stmts_at (stmt_at d) (length us) us
 body_some d (OpenBrace ∷ ts) us e = let q : ts ≡ us = cc in rw q refl
@@ -95,14 +95,14 @@ left_items front w ts = with_items front (items_at 1000 w ts)
 pub items_begin : (front v : List Item) (n : ℕ) (ts : List Token) (o : Option Refusal) (s : At) → front ≡ [] → n ≡ length ts + 1 → Ends v (stands ts o) s (left_items front n) → Ends v (stands ts o) s (script_at 1000)
 items_begin front v n ts o s e q w = ends_as ts o (script_at 1000) (left_items front n) (rw (e, q) (script_is ts ∙ sym (items_start (items_at 1000 (length ts + 1) ts)))) w
 
-pub items_next : (front next v : List Item) (x : Item) (i n : ℕ) (ts : List Token) (o : Option Refusal) (s1 s2 s3 : At) → i < n → 0 < length ts → Went x (stands ts o) s1 (item_at 1000) → Went next s1 s2 (is_read (front ++ (x ∷ []))) → Ends v s2 s3 (left_items next (n - (i + 1)))
+pub items_next : (front next v : List Item) (x : Item) (i n : ℕ) (ts : List Token) (o : Option Refusal) (s1 s2 s3 : At) → i < n → 0 < length ts → Parsed x (stands ts o) s1 (item_at 1000) → Parsed next s1 s2 (is_read (front ++ (x ∷ []))) → Ends v s2 s3 (left_items next (n - (i + 1)))
     → Ends v (stands ts o) s3 (left_items front (n - i))
 items_next front next v x i n ts o s1 s2 s3 lt l w p h =
     ends_as ts o (left_items front (n - i)) (λ us. one_item front us >>= λ y. left_items y.0 (n - (i + 1)) y.1) (items_more front i n ts lt l)
     (then_ends (λ y. left_items y.0 (n - (i + 1)) y.1) (then (λ y. is_read (front ++ (y.0 ∷ [])) y.1) w p) h)
 
-pub items_added : (new old : List ScriptItem) (x : ScriptItem) (s0 s1 : At) → Went new s0 s1 (is_read (old ++ (x ∷ []))) → Went (view_items new) s0 s1 (is_read (view_items old ++ (view_item x ∷ [])))
-items_added new old x s0 s1 w = subst (λ (u : List Item). Went (view_items new) s0 s1 (is_read u)) (view_items_push old x) (then (λ y. is_read (view_items y.0) y.1) w (stays (view_items new) s1))
+pub items_added : (new old : List ScriptItem) (x : ScriptItem) (s0 s1 : At) → Parsed new s0 s1 (is_read (old ++ (x ∷ []))) → Parsed (view_items new) s0 s1 (is_read (view_items old ++ (view_item x ∷ [])))
+items_added new old x s0 s1 w = subst (λ (u : List Item). Parsed (view_items new) s0 s1 (is_read u)) (view_items_push old x) (then (λ y. is_read (view_items y.0) y.1) w (stays (view_items new) s1))
 
 pub items_over : (front : List Item) (w : ℕ) (ts : List Token) (o : Option Refusal) (line : Option ℕ) (e : Refusal) (s : At) → w ≡ 0 → e ≡ SyntaxRefusal line → s ≡ ended (stands ts o) e → Ends front (stands ts o) s (left_items front w)
 items_over front w ts o line e s z r q = fails_all front ts o e s (left_items front w) q (rw (r, z) refl)

@@ -10,7 +10,7 @@ use Rattle.awk_parse.specs.declared.statement_start.LoopWord.TheVariants as loop
 use Rattle.awk_parse.specs.declared.statement_start.Short.{Short}
 use Rattle.awk_parse.specs.declared.statement_start.Short.TheVariants as shorts
 use Rattle.awk_parse.specs.Bodies.{Opened, keyed_by, closed_at, looped_at, loop_by, short_at}
-use Rattle.awk_parse.proofs.Went.{binds}
+use Rattle.awk_parse.proofs.ParsedLemmas.{binds}
 use Rattle.awk_parse.specs.StatementStarts.{redirected_at, target_by, deleted_by, deed_at, plain_by, Start, lead_at, one_by, view_short, opening_at, item_by}
 
 pub target_is : (expr : Reader) (ts : List Token) → target_at expr ts ≡ target_by expr ts (redirected_at ts)

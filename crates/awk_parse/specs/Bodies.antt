@@ -10,7 +10,7 @@ use Rattle.awk_grammar.specs.ReadStmt.{Read, StmtReader, is_in, open_here, comma
 use Rattle.awk_grammar.specs.ViewStmt.{view_stmt, view_maybe, view_maybe_simple, view_jump, view_leaving}
 use Rattle.awk_grammar.specs.View.{view}
 use Rattle.awk_grammar.specs.declared.tree.Stmt.{Stmt as ScriptStmt}
-use Rattle.awk_parse.specs.Went.{At}
+use Rattle.awk_parse.specs.Parsed.{At}
 use Rattle.awk_parse.specs.declared.head.Head.{Head}
 use Rattle.awk_parse.specs.declared.head.Lead.{Lead}
 use Rattle.awk_parse.specs.declared.head.Lead.TheVariants as leads

@@ -1,7 +1,7 @@
 -- Where `next`, `nextfile`, `break`, `continue` and `return` may stand.
 use Rattle.std.specs.Prelude.{ℕ, Bool, true, false, not, Option, Some, None, List, [], ◌∷◌, ◌++◌}
 use Rattle.awk_tokens.specs.Cutting.{Spelled}
-use Rattle.awk_tokens.specs.declared.words.Keyword.TheVariants.{Break as BreakWord, Continue as ContinueWord, Next as NextWord, NextFile as NextFileWord, Return as ReturnWord}
+use Rattle.awk_tokens.specs.declared.reserved_words.Keyword.TheVariants.{Break as BreakWord, Continue as ContinueWord, Next as NextWord, NextFile as NextFileWord, Return as ReturnWord}
 use Rattle.awk_tokens.specs.declared.token.TokenKind.{TokenKind}
 use Rattle.awk_tokens.specs.declared.token.TokenKind.TheVariants.{Keyword}
 use Rattle.awk_grammar.specs.Stmt.{Jump, Break, Continue, Next, NextFile, Leaving, Exit, Return, Stmt, Block, Empty, Simple, If, IfElse, While, Do, For, ForIn, Jumping, Leave, Stmts, NoStmt, And}

@@ -3,7 +3,7 @@ pub mod Operands
 pub mod Seen
 pub mod Starts
 pub mod Marks
-pub mod Went
+pub mod Parsed
 pub mod Bodies
 pub mod Names
 pub mod StatementStarts

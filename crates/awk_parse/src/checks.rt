@@ -5,7 +5,7 @@ ghost use Rattle.awk_grammar.specs.Reading.{posted, suited, bare, checked};
 ghost use Rattle.awk_grammar.specs.View.{view, views, view_step};
 ghost use Rattle.awk_parse.specs.Operands.{done, fitted_at, post_at};
 ghost use Rattle.awk_parse.specs.Seen.{seen, view_mode};
-ghost use Rattle.awk_parse.specs.Went.{at, Went};
+ghost use Rattle.awk_parse.specs.Parsed.{at, Parsed};
 
 use crate::deep::{Deep, DeepList, length};
 use crate::depth::above;
@@ -20,7 +20,7 @@ use awk_tokens::Token;
 /// Refuses an expression that is deeper than this.
 #[inline(never)]
 pub(crate) fn bounded(source: &mut Source<'_>, limit: u32, read: &Deep)
-    ensures { Went (view read.now.tree) (at source.old) (at source.new)
+    ensures { Parsed (view read.now.tree) (at source.old) (at source.new)
         (λ ts. checked limit done (view read.now.tree, ts)) }
 {
     if read.depth > u64::from(limit) {
@@ -45,7 +45,7 @@ fn step_after<'a>(
 
 /// An operand with the step after it, if there is one and it may stand there.
 fn with_step(source: &mut Source<'_>, mode: Mode, bare: Deep) -> Deep
-    ensures { Went (view result.tree) (at source.old) (at source.new)
+    ensures { Parsed (view result.tree) (at source.old) (at source.new)
         (λ ts. Ok (posted (view_mode mode) (view bare.tree, ts))) }
 {
     let Some((op, rest)) = step_after(mode, &bare.tree, source.rest) else {
@@ -70,7 +70,7 @@ pub(crate) fn fitted<'a>(
     bare: Deep,
     start: &'a [Token<'a>],
 ) -> Deep
-    ensures { Went (view result.tree) (at source.old) (at source.new)
+    ensures { Parsed (view result.tree) (at source.old) (at source.new)
         (λ ts. fitted_at limit (view_mode mode) (view bare.tree, ts)) }
 {
     let first = with_step(source, mode, bare);
@@ -89,7 +89,7 @@ pub(crate) fn suited<'a>(
     arguments: DeepList,
     start: &'a [Token<'a>],
 ) -> Deep
-    ensures { Went (view result.tree) (at source.old) (at source.new)
+    ensures { Parsed (view result.tree) (at source.old) (at source.new)
         (λ ts. suited function (views arguments.trees.items, ts)) }
 {
     if !suits(function, &arguments.trees) {
@@ -101,7 +101,7 @@ pub(crate) fn suited<'a>(
 /// A built-in function without parentheses.
 #[inline(never)]
 pub(crate) fn bare(source: &mut Source<'_>, function: Builtin) -> Deep
-    ensures { Went (view result.tree) (at source.old) (at source.new) (bare function) }
+    ensures { Parsed (view result.tree) (at source.old) (at source.new) (bare function) }
 {
     if !matches!(function, Builtin::Length) {
         source.refuse(stopped(source.rest));

@@ -9,7 +9,7 @@ ghost use Rattle.awk_grammar.specs.View.{view, views};
 ghost use Rattle.awk_parse.specs.Operands.{paren_at, conditional_at, view_variable};
 ghost use Rattle.awk_parse.specs.Seen.{view_mode, view_link};
 ghost use Rattle.awk_parse.specs.Starts.{prefixed_at, view_prefix};
-ghost use Rattle.awk_parse.specs.Went.{at, Went};
+ghost use Rattle.awk_parse.specs.Parsed.{at, Parsed};
 
 use crate::checks::{bare, bounded, fitted, suited};
 use crate::contains::{contained, in_array};
@@ -28,7 +28,7 @@ use awk_grammar::{Builtin, Expr};
 /// An expression of at most this depth, where `greater` says whether `>` may stand outside parentheses and brackets.
 #[inline(never)]
 pub fn expression(source: &mut Source<'_>, limit: u32, greater: bool, mode: Mode) -> Expr
-    ensures { Went (view result) (at source.old) (at source.new)
+    ensures { Parsed (view result) (at source.old) (at source.new)
         (expr_at limit greater (view_mode mode)) }
 {
     let Deep { tree, depth: _ } = read(source, limit, greater, mode);
@@ -38,7 +38,7 @@ pub fn expression(source: &mut Source<'_>, limit: u32, greater: bool, mode: Mode
 /// One expression or more of at most this depth, with commas between them.
 #[inline(never)]
 pub fn list(source: &mut Source<'_>, limit: u32, greater: bool) -> Vec<Expr>
-    ensures { Went (views result.items) (at source.old) (at source.new)
+    ensures { Parsed (views result.items) (at source.old) (at source.new)
         (list_at (expr_at limit) greater) }
 {
     let DeepList { trees, depth: _ } = read_list(source, limit, greater);
@@ -49,7 +49,7 @@ pub fn list(source: &mut Source<'_>, limit: u32, greater: bool) -> Vec<Expr>
 #[cycle(expr)]
 #[inline(never)]
 fn read(source: &mut Source<'_>, limit: u32, greater: bool, mode: Mode) -> Deep
-    ensures { Went (view result.tree) (at source.old) (at source.new)
+    ensures { Parsed (view result.tree) (at source.old) (at source.new)
         (expr_at limit greater (view_mode mode)) }
 {
     if limit == 0 {
@@ -67,7 +67,7 @@ fn read(source: &mut Source<'_>, limit: u32, greater: bool, mode: Mode) -> Deep
 #[inline(never)]
 fn chain(source: &mut Source<'_>, limit: u32, greater: bool, least: u8, first: Deep) -> Deep
     requires { 0 < limit }
-    ensures { Went (view result.tree) (at source.old) (at source.new)
+    ensures { Parsed (view result.tree) (at source.old) (at source.new)
         (λ ts. climb (expr_at (limit - 1)) greater limit (length ts) least (view first.tree) ts) }
 {
     let mut left = first;
@@ -87,7 +87,7 @@ fn chain(source: &mut Source<'_>, limit: u32, greater: bool, least: u8, first: D
 #[cycle(expr)]
 #[inline(never)]
 fn linked(source: &mut Source<'_>, limit: u32, greater: bool, left: Deep, link: Link) -> Deep
-    ensures { Went (view result.tree) (at source.old) (at source.new)
+    ensures { Parsed (view result.tree) (at source.old) (at source.new)
         (after (expr_at limit) greater (view left.tree) (view_link link)) }
 {
     let Some(left) = part(source, left) else {
@@ -107,7 +107,7 @@ fn linked(source: &mut Source<'_>, limit: u32, greater: bool, left: Deep, link: 
 #[cycle(expr)]
 #[inline(never)]
 fn conditional(source: &mut Source<'_>, limit: u32, greater: bool, condition: Part) -> Deep
-    ensures { Went (view result.tree) (at source.old) (at source.new)
+    ensures { Parsed (view result.tree) (at source.old) (at source.new)
         (conditional_at (expr_at limit) greater (view condition.tree.value)) }
 {
     let then = read(source, limit, greater, Mode::Whole);
@@ -123,7 +123,7 @@ fn conditional(source: &mut Source<'_>, limit: u32, greater: bool, condition: Pa
 #[cycle(expr)]
 #[inline(never)]
 fn read_list(source: &mut Source<'_>, limit: u32, greater: bool) -> DeepList
-    ensures { Went (views result.trees.items) (at source.old) (at source.new)
+    ensures { Parsed (views result.trees.items) (at source.old) (at source.new)
         (list_at (expr_at limit) greater) }
 {
     let first = read(source, limit, greater, Mode::Whole);
@@ -144,7 +144,7 @@ fn read_list(source: &mut Source<'_>, limit: u32, greater: bool) -> DeepList
 #[cycle(expr)]
 #[inline(never)]
 fn arguments(source: &mut Source<'_>, limit: u32) -> DeepList
-    ensures { Went (views result.trees.items) (at source.old) (at source.new)
+    ensures { Parsed (views result.trees.items) (at source.old) (at source.new)
         (arguments_at (expr_at limit)) }
 {
     if let Some(rest) = after(Mark::Close, source.rest) {
@@ -160,7 +160,7 @@ fn arguments(source: &mut Source<'_>, limit: u32) -> DeepList
 #[cycle(expr)]
 #[inline(never)]
 fn named(source: &mut Source<'_>, limit: u32, text: &[u8]) -> Deep
-    ensures { Went (view result.tree) (at source.old) (at source.new)
+    ensures { Parsed (view result.tree) (at source.old) (at source.new)
         (λ ts. indexed_by (expr_at limit) text.now ts (index_at ts)) }
 {
     let name = source.copied(text);
@@ -177,7 +177,7 @@ fn named(source: &mut Source<'_>, limit: u32, text: &[u8]) -> Deep
 #[cycle(expr)]
 #[inline(never)]
 fn call(source: &mut Source<'_>, limit: u32, text: &[u8]) -> Deep
-    ensures { Went (view result.tree) (at source.old) (at source.new)
+    ensures { Parsed (view result.tree) (at source.old) (at source.new)
         (λ ts. call_by (expr_at limit) text.now (open_at ts)) }
 {
     let function = source.copied(text);
@@ -190,7 +190,7 @@ fn call(source: &mut Source<'_>, limit: u32, text: &[u8]) -> Deep
 #[cycle(expr)]
 #[inline(never)]
 fn applied(source: &mut Source<'_>, limit: u32, function: Builtin) -> Deep
-    ensures { Went (view result.tree) (at source.old) (at source.new)
+    ensures { Parsed (view result.tree) (at source.old) (at source.new)
         (λ ts. applied_by (expr_at limit) function ts (open_at ts)) }
 {
     let start = source.rest;
@@ -206,7 +206,7 @@ fn applied(source: &mut Source<'_>, limit: u32, function: Builtin) -> Deep
 #[cycle(expr)]
 #[inline(never)]
 fn parenthesised(source: &mut Source<'_>, limit: u32) -> Deep
-    ensures { Went (view result.tree) (at source.old) (at source.new) (paren_at (expr_at limit)) }
+    ensures { Parsed (view result.tree) (at source.old) (at source.new) (paren_at (expr_at limit)) }
 {
     let first = read(source, limit, true, Mode::Whole);
     let Some(first) = part(source, first) else {
@@ -225,7 +225,7 @@ fn parenthesised(source: &mut Source<'_>, limit: u32) -> Deep
 #[cycle(expr)]
 #[inline(never)]
 fn getline(source: &mut Source<'_>, limit: u32, greater: bool) -> Deep
-    ensures { Went (view result.tree) (at source.old) (at source.new)
+    ensures { Parsed (view result.tree) (at source.old) (at source.new)
         (getline_at (expr_at limit) greater) }
 {
     if !begins_lvalue(source.rest) {
@@ -240,7 +240,7 @@ fn getline(source: &mut Source<'_>, limit: u32, greater: bool) -> Deep
 #[cycle(expr)]
 #[inline(never)]
 fn from_file(source: &mut Source<'_>, limit: u32, greater: bool, variable: Option<Part>) -> Deep
-    ensures { Went (view result.tree) (at source.old) (at source.new)
+    ensures { Parsed (view result.tree) (at source.old) (at source.new)
         (λ ts. from_by (expr_at limit) greater (view_variable variable) ts (less_at ts)) }
 {
     let Some(rest) = after(Mark::Less, source.rest) else {
@@ -255,7 +255,7 @@ fn from_file(source: &mut Source<'_>, limit: u32, greater: bool, variable: Optio
 #[cycle(expr)]
 #[inline(never)]
 fn prefixed(source: &mut Source<'_>, limit: u32, greater: bool, mode: Mode, prefix: Prefix) -> Deep
-    ensures { Went (view result.tree) (at source.old) (at source.new)
+    ensures { Parsed (view result.tree) (at source.old) (at source.new)
         (prefixed_at (expr_at limit) greater (view_mode mode) (view_prefix prefix)) }
 {
     let inner = read(source, limit, greater, mode_below(mode, prefix));
@@ -266,7 +266,7 @@ fn prefixed(source: &mut Source<'_>, limit: u32, greater: bool, mode: Mode, pref
 #[cycle(expr)]
 #[inline(never)]
 fn operand(source: &mut Source<'_>, limit: u32, greater: bool, mode: Mode) -> Deep
-    ensures { Went (view result.tree) (at source.old) (at source.new)
+    ensures { Parsed (view result.tree) (at source.old) (at source.new)
         (first_at (expr_at limit) greater (view_mode mode)) }
 {
     let Some((start, rest)) = start_of(source.rest) else {

@@ -7,7 +7,7 @@ ghost use Rattle.std.specs.Prelude.{length};
 ghost use Rattle.awk_grammar.specs.Reading.{expr_at};
 ghost use Rattle.awk_grammar.specs.ReadStmt.{stmts_at, if_at, simple_at, stmt_at};
 ghost use Rattle.awk_grammar.specs.ViewStmt.{view_stmt, view_stmts};
-ghost use Rattle.awk_parse.specs.Went.{at, Went};
+ghost use Rattle.awk_parse.specs.Parsed.{at, Parsed};
 ghost use Rattle.awk_parse.specs.Bodies.{Held, view_boxed, looped_at, short_at, ended_at};
 
 use crate::head::{Lead, loop_lead};
@@ -24,7 +24,7 @@ use awk_grammar::Stmt;
 #[cycle(flow)]
 #[inline(never)]
 pub(crate) fn statement(source: &mut Source<'_>, limit: u32) -> Option<Box<Stmt>>
-    ensures read { Went (view_boxed result) (at source.old) (at source.new) (stmt_at limit) }
+    ensures read { Parsed (view_boxed result) (at source.old) (at source.new) (stmt_at limit) }
     ensures held { Held result (at source.new) }
 {
     if limit == 0 {
@@ -58,7 +58,7 @@ pub(crate) fn statement(source: &mut Source<'_>, limit: u32) -> Option<Box<Stmt>
 #[cycle(flow)]
 #[inline(never)]
 pub(crate) fn statements(source: &mut Source<'_>, limit: u32) -> Vec<Stmt>
-    ensures { Went (view_stmts result.items) (at source.old) (at source.new)
+    ensures { Parsed (view_stmts result.items) (at source.old) (at source.new)
         (λ ts. stmts_at (stmt_at limit) (length ts) ts) }
 {
     let mut read = Vec::new(source.alloc);
@@ -81,7 +81,7 @@ pub(crate) fn statements(source: &mut Source<'_>, limit: u32) -> Vec<Stmt>
 #[cycle(flow)]
 #[inline(never)]
 fn if_statement(source: &mut Source<'_>, limit: u32) -> Option<Box<Stmt>>
-    ensures read { Went (view_boxed result) (at source.old) (at source.new)
+    ensures read { Parsed (view_boxed result) (at source.old) (at source.new)
         (if_at (expr_at limit) (stmt_at limit)) }
     ensures held { Held result (at source.new) }
 {
@@ -100,7 +100,7 @@ fn if_statement(source: &mut Source<'_>, limit: u32) -> Option<Box<Stmt>>
 #[cycle(flow)]
 #[inline(never)]
 fn loop_statement(source: &mut Source<'_>, limit: u32, word: LoopWord) -> Option<Box<Stmt>>
-    ensures read { Went (view_boxed result) (at source.old) (at source.new)
+    ensures read { Parsed (view_boxed result) (at source.old) (at source.new)
         (looped_at (expr_at limit) (stmt_at limit) word) }
     ensures held { Held result (at source.new) }
 {
@@ -112,7 +112,7 @@ fn loop_statement(source: &mut Source<'_>, limit: u32, word: LoopWord) -> Option
 /// What stands after the word of a statement that is only a word and at most an expression.
 #[inline(never)]
 fn short(source: &mut Source<'_>, limit: u32, start: Short) -> Option<Box<Stmt>>
-    ensures read { Went (view_boxed result) (at source.old) (at source.new)
+    ensures read { Parsed (view_boxed result) (at source.old) (at source.new)
         (short_at (expr_at limit) start) }
     ensures held { Held result (at source.new) }
 {
@@ -128,7 +128,7 @@ fn short(source: &mut Source<'_>, limit: u32, start: Short) -> Option<Box<Stmt>>
 
 #[inline(never)]
 fn simple_statement(source: &mut Source<'_>, limit: u32) -> Option<Box<Stmt>>
-    ensures read { Went (view_boxed result) (at source.old) (at source.new)
+    ensures read { Parsed (view_boxed result) (at source.old) (at source.new)
         (simple_at (expr_at limit)) }
     ensures held { Held result (at source.new) }
 {
@@ -138,7 +138,7 @@ fn simple_statement(source: &mut Source<'_>, limit: u32) -> Option<Box<Stmt>>
 
 /// A statement, and the `;` that ends it.
 fn ended(source: &mut Source<'_>, statement: Stmt) -> Option<Box<Stmt>>
-    ensures read { Went (view_boxed result) (at source.old) (at source.new)
+    ensures read { Parsed (view_boxed result) (at source.old) (at source.new)
         (ended_at (view_stmt statement)) }
     ensures held { Held result (at source.new) }
 {

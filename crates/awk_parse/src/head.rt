@@ -1,7 +1,7 @@
 //! What stands before the statement within another.
 
 ghost use Rattle.awk_grammar.specs.Reading.{expr_at};
-ghost use Rattle.awk_parse.specs.Went.{at, Went};
+ghost use Rattle.awk_parse.specs.Parsed.{at, Parsed};
 ghost use Rattle.awk_parse.specs.Bodies.{view_lead, lead_by, keyed_at, counted_at};
 
 use crate::mark::Mark;
@@ -34,7 +34,7 @@ pub(crate) enum Lead {
 /// What stands between the word of a loop and its body.
 #[inline(never)]
 pub(crate) fn loop_lead(source: &mut Source<'_>, limit: u32, word: LoopWord) -> Lead
-    ensures { Went (view_lead result) (at source.old) (at source.new)
+    ensures { Parsed (view_lead result) (at source.old) (at source.new)
         (lead_by (expr_at limit) word) }
 {
     match word {
@@ -49,7 +49,7 @@ pub(crate) fn loop_lead(source: &mut Source<'_>, limit: u32, word: LoopWord) -> 
 
 /// What stands between `for (` and the body.
 fn keyed(source: &mut Source<'_>, limit: u32) -> Lead
-    ensures { Went (view_lead result) (at source.old) (at source.new) (keyed_at (expr_at limit)) }
+    ensures { Parsed (view_lead result) (at source.old) (at source.new) (keyed_at (expr_at limit)) }
 {
     let Some((key, array, rest)) = keys(source.rest) else {
         return counted(source, limit);
@@ -62,7 +62,7 @@ fn keyed(source: &mut Source<'_>, limit: u32) -> Lead
 
 /// What stands between `for (` and the body of a counted loop.
 fn counted(source: &mut Source<'_>, limit: u32) -> Lead
-    ensures { Went (view_lead result) (at source.old) (at source.new)
+    ensures { Parsed (view_lead result) (at source.old) (at source.new)
         (counted_at (expr_at limit)) }
 {
     let first = optional_simple(source, limit);

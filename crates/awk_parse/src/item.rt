@@ -7,7 +7,7 @@ ghost use Rattle.awk_grammar.specs.Lexeme.{spoken_after};
 ghost use Rattle.awk_grammar.specs.ReadItem.{body_at, names_at, params_at, function_at, pattern_at, rule_at, item_at, script_at};
 ghost use Rattle.awk_grammar.specs.ViewStmt.{view_names, view_pattern, view_item, view_items, view_stmts};
 ghost use Rattle.awk_parse.specs.Seen.{seen, Gives};
-ghost use Rattle.awk_parse.specs.Went.{stands, at, Went, Ends};
+ghost use Rattle.awk_parse.specs.Parsed.{stands, at, Parsed, Ends};
 ghost use Rattle.awk_parse.specs.Names.{with_names};
 
 use crate::expr::expression;
@@ -25,7 +25,7 @@ use std::alloc::Global;
 
 /// Statements in braces.
 fn body(source: &mut Source<'_>) -> Vec<Stmt>
-    ensures { Went (view_stmts result.items) (at source.old) (at source.new)
+    ensures { Parsed (view_stmts result.items) (at source.old) (at source.new)
         (body_at most_depth) }
 {
     let Some(rest) = after(Mark::OpenBrace, source.rest) else {
@@ -38,7 +38,7 @@ fn body(source: &mut Source<'_>) -> Vec<Stmt>
 
 /// The parameters of a function.
 fn params(source: &mut Source<'_>) -> Vec<Vec<u8>>
-    ensures { Went (view_names result.items) (at source.old) (at source.new) params_at }
+    ensures { Parsed (view_names result.items) (at source.old) (at source.new) params_at }
 {
     let mut names = Vec::new(source.alloc);
     let Some((first, rest)) = after_name(source.rest) else {
@@ -52,7 +52,7 @@ fn params(source: &mut Source<'_>) -> Vec<Vec<u8>>
 
 /// Names, and those that follow, each after a comma.
 fn others(source: &mut Source<'_>, front: Vec<Vec<u8>>) -> Vec<Vec<u8>>
-    ensures { Went (view_names result.items) (at source.old) (at source.new)
+    ensures { Parsed (view_names result.items) (at source.old) (at source.new)
         (λ ts. with_names (view_names front.items) (names_at (length ts) ts)) }
 {
     let mut names = front;
@@ -70,7 +70,7 @@ fn others(source: &mut Source<'_>, front: Vec<Vec<u8>>) -> Vec<Vec<u8>>
 
 /// What stands after `function`, where a name may also be one directly before `(`.
 fn function<'a>(source: &mut Source<'a>, tokens: &'a [Token<'a>]) -> Item
-    ensures { Went (view_item result)
+    ensures { Parsed (view_item result)
         (stands (spoken_after true (map spelled tokens.now)) source.old.refused) (at source.new)
         (function_at most_depth) }
 {
@@ -89,7 +89,7 @@ fn function<'a>(source: &mut Source<'a>, tokens: &'a [Token<'a>]) -> Item
 
 /// A pattern.
 fn pattern(source: &mut Source<'_>) -> Pattern
-    ensures { Went (view_pattern result) (at source.old) (at source.new)
+    ensures { Parsed (view_pattern result) (at source.old) (at source.new)
         (pattern_at most_depth) }
 {
     let first = expression(source, MAX_DEPTH, true, Mode::Whole);
@@ -103,7 +103,7 @@ fn pattern(source: &mut Source<'_>) -> Pattern
 
 /// A pattern, and its action or a `;`.
 fn rule(source: &mut Source<'_>) -> Item
-    ensures { Went (view_item result) (at source.old) (at source.new) (rule_at most_depth) }
+    ensures { Parsed (view_item result) (at source.old) (at source.new) (rule_at most_depth) }
 {
     let condition = pattern(source);
     let Some(rest) = after(Mark::Semicolon, source.rest) else {
@@ -116,7 +116,7 @@ fn rule(source: &mut Source<'_>) -> Item
 
 /// An item.
 fn item(source: &mut Source<'_>) -> Item
-    ensures { Went (view_item result) (at source.old) (at source.new) (item_at most_depth) }
+    ensures { Parsed (view_item result) (at source.old) (at source.new) (item_at most_depth) }
 {
     match item_start(source.rest) {
         ItemStart::Function(rest) => function(source, rest),

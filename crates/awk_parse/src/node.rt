@@ -7,7 +7,7 @@ ghost use Rattle.awk_grammar.specs.View.{view, views};
 ghost use Rattle.awk_parse.specs.Operands.{followed_by, view_variable};
 ghost use Rattle.awk_parse.specs.Seen.{view_infix};
 ghost use Rattle.awk_parse.specs.Starts.{below, view_prefix};
-ghost use Rattle.awk_parse.specs.Went.{at, ended, Went, is_read};
+ghost use Rattle.awk_parse.specs.Parsed.{at, ended, Parsed, is_read};
 ghost use Rattle.awk_parse.specs.declared.refusal.Refusal.TheVariants.{NoMemory};
 
 use crate::deep::{Deep, DeepList, Part, length};
@@ -133,7 +133,7 @@ pub(crate) fn got(variable: Option<Part>) -> Deep
 /// What reads a line from a file, into a variable or none.
 #[inline(never)]
 pub(crate) fn got_from(source: &mut Source<'_>, variable: Option<Part>, file: Deep) -> Deep
-    ensures { Went (view result.tree) (at source.old) (at source.new)
+    ensures { Parsed (view result.tree) (at source.old) (at source.new)
         (is_read (getting (view_variable variable) (Some (view file.tree)))) }
 {
     let Some(file) = part(source, file) else {
@@ -154,7 +154,7 @@ pub(crate) fn got_from(source: &mut Source<'_>, variable: Option<Part>, file: De
 /// What stands after `$`, a sign, `!` or a step, with that.
 #[inline(never)]
 pub(crate) fn below(source: &mut Source<'_>, prefix: Prefix, inner: Deep) -> Deep
-    ensures { Went (view result.tree) (at source.old) (at source.new)
+    ensures { Parsed (view result.tree) (at source.old) (at source.new)
         (is_read (below (view_prefix prefix) (view inner.tree))) }
 {
     let Some(Part { tree, depth }) = part(source, inner) else {
@@ -184,7 +184,7 @@ fn between(op: Infix, left: Box<Expr>, right: Box<Expr>) -> Expr
 /// A left side, an operator and what was read after it.
 #[inline(never)]
 pub(crate) fn joined(source: &mut Source<'_>, op: Infix, left: Part, right: Deep) -> Deep
-    ensures { Went (view result.tree) (at source.old) (at source.new)
+    ensures { Parsed (view result.tree) (at source.old) (at source.new)
         (is_read (Bin (view_infix op) (view left.tree.value) (view right.tree))) }
 {
     let Some(right) = part(source, right) else {
@@ -199,7 +199,7 @@ pub(crate) fn joined(source: &mut Source<'_>, op: Infix, left: Part, right: Deep
 /// A condition and its two sides.
 #[inline(never)]
 pub(crate) fn choice(source: &mut Source<'_>, condition: Part, then: Part, last: Deep) -> Deep
-    ensures { Went (view result.tree) (at source.old) (at source.new)
+    ensures { Parsed (view result.tree) (at source.old) (at source.new)
         (is_read (Cond (view condition.tree.value) (view then.tree.value) (view last.tree))) }
 {
     let Some(last) = part(source, last) else {
@@ -214,7 +214,7 @@ pub(crate) fn choice(source: &mut Source<'_>, condition: Part, then: Part, last:
 /// Expressions and one more.
 #[inline(never)]
 pub(crate) fn with_one(source: &mut Source<'_>, list: DeepList, next: Deep) -> DeepList
-    ensures { Went (views result.trees.items) (at source.old) (at source.new)
+    ensures { Parsed (views result.trees.items) (at source.old) (at source.new)
         (is_read (followed_by (views list.trees.items) (Then (view next.tree) NoTree))) }
 {
     let DeepList { mut trees, depth } = list;

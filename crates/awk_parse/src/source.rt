@@ -5,7 +5,7 @@ ghost use Rattle.awk_grammar.specs.Reading.{name_at};
 ghost use Rattle.awk_parse.specs.Marks.{mark_at};
 ghost use Rattle.awk_parse.specs.Seen.{seen};
 ghost use Rattle.awk_parse.specs.declared.refusal.Refusal.TheVariants.{NoMemory};
-ghost use Rattle.awk_parse.specs.Went.{stands, at, ended, Went, Passed, is_read, IsSyntax, IsNoSyntax};
+ghost use Rattle.awk_parse.specs.Parsed.{stands, at, ended, Parsed, Passed, is_read, IsSyntax, IsNoSyntax};
 
 use crate::mark::{Mark, after};
 use crate::peek::{after_name, stopped};
@@ -55,7 +55,7 @@ impl<'a> Source<'a> {
     /// A name.
     #[inline(never)]
     pub fn name(&mut self) -> Vec<u8>
-        ensures { Went result.items (at self.old) (at self.new) name_at }
+        ensures { Parsed result.items (at self.old) (at self.new) name_at }
     {
         let Some((text, rest)) = after_name(self.rest) else {
             self.refuse(stopped(self.rest));
@@ -67,7 +67,7 @@ impl<'a> Source<'a> {
 
     /// A text that was read, on the heap.
     pub fn copied(&mut self, text: &[u8]) -> Vec<u8>
-        ensures { Went result.items (at self.old) (at self.new) (is_read text.now) }
+        ensures { Parsed result.items (at self.old) (at self.new) (is_read text.now) }
     {
         match text.to_vec(self.alloc) {
             Ok(text) => text,
@@ -112,7 +112,7 @@ impl<'a> Source<'a> {
     /// Adds an item to a list.
     #[inline(never)]
     pub fn push<T: Drop>(&mut self, items: &mut Vec<T>, item: T)
-        ensures { Went items.new.items (at self.old) (at self.new)
+        ensures { Parsed items.new.items (at self.old) (at self.new)
             (is_read (items.old.items ++ item ∷ [])) }
     {
         if push(items, item).is_err() {
@@ -123,7 +123,7 @@ impl<'a> Source<'a> {
     /// Adds an item to a list, which comes boxed.
     #[inline(never)]
     pub fn push_boxed<T: Drop>(&mut self, items: &mut Vec<T>, item: Box<T>)
-        ensures { Went items.new.items (at self.old) (at self.new)
+        ensures { Parsed items.new.items (at self.old) (at self.new)
             (is_read (items.old.items ++ item.value ∷ [])) }
     {
         self.push(items, Box::into_inner(item));

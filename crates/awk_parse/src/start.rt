@@ -6,7 +6,7 @@ ghost use Rattle.awk_grammar.specs.Tree.{Leaf};
 ghost use Rattle.awk_grammar.specs.View.{view};
 ghost use Rattle.awk_parse.specs.Seen.{seen, view_mode};
 ghost use Rattle.awk_parse.specs.Starts.{start_at, view_start, view_prefix, view_literal, mode_below};
-ghost use Rattle.awk_parse.specs.Went.{at, Went, is_read};
+ghost use Rattle.awk_parse.specs.Parsed.{at, Parsed, is_read};
 
 use crate::deep::Deep;
 use crate::mode::{Mode, under};
@@ -107,7 +107,7 @@ fn tree_of(literal: Literal, text: Vec<u8>) -> Expr
 /// What stands for itself, as an expression.
 #[inline(never)]
 pub(crate) fn constant(source: &mut Source<'_>, literal: Literal, text: &[u8]) -> Deep
-    ensures { Went (view result.tree) (at source.old) (at source.new)
+    ensures { Parsed (view result.tree) (at source.old) (at source.new)
         (is_read (Leaf (view_literal literal text.now))) }
 {
     let text = source.copied(text);

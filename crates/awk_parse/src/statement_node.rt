@@ -4,7 +4,7 @@ ghost use Rattle.std.specs.Prelude.{◌≡◌, MatchOption, None, Some};
 ghost use Rattle.awk_grammar.specs.Reading.{expr_at};
 ghost use Rattle.awk_grammar.specs.Stmt.{Block};
 ghost use Rattle.awk_grammar.specs.ViewStmt.{view_stmt, view_stmts};
-ghost use Rattle.awk_parse.specs.Went.{at, Went, is_read};
+ghost use Rattle.awk_parse.specs.Parsed.{at, Parsed, is_read};
 ghost use Rattle.awk_parse.specs.Bodies.{Held, view_boxed, view_lead, closed_at};
 
 use crate::head::{Head, Lead};
@@ -16,7 +16,7 @@ use awk_grammar::Stmt;
 /// A statement on the heap; none where reading stopped.
 #[inline(never)]
 pub(crate) fn on_heap(source: &mut Source<'_>, statement: Stmt) -> Option<Box<Stmt>>
-    ensures read { Went (view_boxed result) (at source.old) (at source.new)
+    ensures read { Parsed (view_boxed result) (at source.old) (at source.new)
         (is_read (view_stmt statement)) }
     ensures held { Held result (at source.new) }
 {
@@ -25,7 +25,7 @@ pub(crate) fn on_heap(source: &mut Source<'_>, statement: Stmt) -> Option<Box<St
 
 #[inline(never)]
 pub(crate) fn block_of(source: &mut Source<'_>, inner: Vec<Stmt>) -> Option<Box<Stmt>>
-    ensures read { Went (view_boxed result) (at source.old) (at source.new)
+    ensures read { Parsed (view_boxed result) (at source.old) (at source.new)
         (is_read (Block (view_stmts inner.items))) }
     ensures held { Held result (at source.new) }
 {
@@ -51,7 +51,7 @@ pub(crate) fn closed(
     body: Option<Box<Stmt>>,
 ) -> Option<Box<Stmt>>
     requires { Held body (at source.old) }
-    ensures read { Went (view_boxed result) (at source.old) (at source.new)
+    ensures read { Parsed (view_boxed result) (at source.old) (at source.new)
         (closed_at (expr_at limit) (view_lead lead) (view_boxed body)) }
     ensures held { Held result (at source.new) }
 {

@@ -6,7 +6,7 @@ ghost use Rattle.awk_grammar.specs.ReadStmt.{args_at, target_at, delete_at, plai
 ghost use Rattle.awk_grammar.specs.View.{view};
 ghost use Rattle.awk_grammar.specs.ViewStmt.{view_word, view_args, view_target, view_simple, view_maybe, view_maybe_simple};
 ghost use Rattle.awk_parse.specs.Seen.{seen};
-ghost use Rattle.awk_parse.specs.Went.{at, Went, Passed};
+ghost use Rattle.awk_parse.specs.Parsed.{at, Parsed, Passed};
 ghost use Rattle.awk_parse.specs.Bodies.{no_in, enclosed_args_at};
 
 use crate::expr::{expression, list};
@@ -30,7 +30,7 @@ fn no_in(source: &mut Source<'_>)
 
 /// Two expressions or more in parentheses that no `in` follows.
 fn enclosed(source: &mut Source<'_>, limit: u32) -> PrintArgs
-    ensures { Went (view_args result) (at source.old) (at source.new)
+    ensures { Parsed (view_args result) (at source.old) (at source.new)
         (enclosed_args_at (expr_at limit)) }
 {
     source.expect(Mark::Open);
@@ -44,7 +44,7 @@ fn enclosed(source: &mut Source<'_>, limit: u32) -> PrintArgs
 
 /// What is printed. The form in parentheses is tried first; where there is none, the list is read from the same place.
 fn print_args(source: &mut Source<'_>, limit: u32, word: PrintWord) -> PrintArgs
-    ensures { Went (view_args result) (at source.old) (at source.new)
+    ensures { Parsed (view_args result) (at source.old) (at source.new)
         (args_at (expr_at limit) (view_word word)) }
 {
     if !begins_expr(source.rest) {
@@ -63,7 +63,7 @@ fn print_args(source: &mut Source<'_>, limit: u32, word: PrintWord) -> PrintArgs
 
 /// Where it is printed.
 fn print_target(source: &mut Source<'_>, limit: u32) -> PrintTarget
-    ensures { Went (view_target result) (at source.old) (at source.new)
+    ensures { Parsed (view_target result) (at source.old) (at source.new)
         (target_at (expr_at limit)) }
 {
     let Some((way, rest)) = redirected(source.rest) else {
@@ -75,7 +75,7 @@ fn print_target(source: &mut Source<'_>, limit: u32) -> PrintTarget
 
 /// What stands after `delete`: a name and the subscripts of an element, or the name alone where all elements are deleted.
 fn deletion(source: &mut Source<'_>, limit: u32) -> SimpleStmt
-    ensures { Went (view_simple result) (at source.old) (at source.new)
+    ensures { Parsed (view_simple result) (at source.old) (at source.new)
         (delete_at (expr_at limit)) }
 {
     let array = source.name();
@@ -90,7 +90,7 @@ fn deletion(source: &mut Source<'_>, limit: u32) -> SimpleStmt
 
 /// A simple statement.
 pub(crate) fn simple(source: &mut Source<'_>, limit: u32) -> SimpleStmt
-    ensures { Went (view_simple result) (at source.old) (at source.new)
+    ensures { Parsed (view_simple result) (at source.old) (at source.new)
         (plain_at (expr_at limit)) }
 {
     match plain_start(source.rest) {
@@ -110,7 +110,7 @@ pub(crate) fn simple(source: &mut Source<'_>, limit: u32) -> SimpleStmt
 
 /// An expression, if one may begin here.
 pub(crate) fn optional(source: &mut Source<'_>, limit: u32) -> Option<Expr>
-    ensures { Went (view_maybe result) (at source.old) (at source.new)
+    ensures { Parsed (view_maybe result) (at source.old) (at source.new)
         (maybe_at (expr_at limit)) }
 {
     if !begins_expr(source.rest) {
@@ -134,7 +134,7 @@ fn begins_simple(tokens: &[Token<'_>]) -> bool
 
 /// A simple statement, if one may begin here.
 pub(crate) fn optional_simple(source: &mut Source<'_>, limit: u32) -> Option<SimpleStmt>
-    ensures { Went (view_maybe_simple result) (at source.old) (at source.new)
+    ensures { Parsed (view_maybe_simple result) (at source.old) (at source.new)
         (maybe_plain_at (expr_at limit)) }
 {
     if !begins_simple(source.rest) {
@@ -145,7 +145,7 @@ pub(crate) fn optional_simple(source: &mut Source<'_>, limit: u32) -> Option<Sim
 
 /// A condition in parentheses.
 pub(crate) fn condition(source: &mut Source<'_>, limit: u32) -> Expr
-    ensures { Went (view result) (at source.old) (at source.new) (condition_at (expr_at limit)) }
+    ensures { Parsed (view result) (at source.old) (at source.new) (condition_at (expr_at limit)) }
 {
     source.expect(Mark::Open);
     let test = expression(source, limit, true, Mode::Whole);

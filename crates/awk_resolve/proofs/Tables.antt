@@ -1,7 +1,6 @@
 -- Tables of the numbers of names.
 use Rattle.std.proofs.Common.{◌≡◌, ℕ, suc, ◌<◌, length, get_or, Bool, true, false, List, [], ◌∷◌, ◌++◌, Option, Some, None, refl, ap, sym, subst, ◌∙◌, cond, if◌then◌else◌, is_some, true≢false, arith}
 use Rattle.std.specs.Borrow.{Bor}
-use Rattle.std.specs.Option.{IfSome}
 use Rattle.awk_grammar.specs.ViewStmt.{view_names}
 use Rattle.awk_grammar.specs.Kinds.{or_else, parameters_of, same_name}
 use Rattle.awk_resolve.specs.ViewNames.{head_names, view_heads}
@@ -69,10 +68,6 @@ place_small (n ∷ ns) x i h = by (same_name n x) (place_of ns x) (λ k e. place
     by true o e g = let z : 0 ≡ i = cc in omega (arith, z)
     by false None e g = absurd (cc)
     by false (Some k) e g = let z : suc k ≡ i = cc in let s = e k refl in omega (arith, z, s)
-
-pub place_within : (ns : List (List ℕ)) (x : List ℕ) (o : Option ℕ) (m : ℕ) → o ≡ place_of ns x → length ns ≡ m → IfSome o (λ n. n < m)
-place_within ns x None m e f = tt
-place_within ns x (Some i) m e f = let s = place_small ns x i (sym e) in omega (arith, s, f)
 
 -- The parameters of a function by its place.
 

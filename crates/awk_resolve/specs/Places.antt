@@ -1,8 +1,8 @@
 -- The place of a name in a list. Of two of one name it is the first.
-use Rattle.std.specs.Prelude.{◌≡◌, ℕ, suc, if◌then◌else◌, List, [], ◌∷◌, map, Option, Some, None}
+use Rattle.std.specs.Prelude.{◌≡◌, ℕ, suc, if◌then◌else◌, List, [], ◌∷◌, Option, Some, None}
 use Rattle.std.specs.Borrow.{Bor}
 use Rattle.std.specs.Map.{lookup}
-use Rattle.awk_grammar.specs.Kinds.{Name, Function, same_name}
+use Rattle.awk_grammar.specs.Kinds.{same_name}
 
 abbrev pub next_place : Option ℕ → Option ℕ
 next_place (Some i) = Some (suc i)
@@ -11,13 +11,6 @@ next_place None = None
 abbrev pub place_of : List (List ℕ) → List ℕ → Option ℕ
 place_of [] x = None
 place_of (n ∷ ns) x = if same_name n x then Some 0 else next_place (place_of ns x)
-
--- the number of a global or of a parameter
-abbrev pub place_in : List Name → List ℕ → Option ℕ
-place_in ns x = place_of (map (λ n. n.name) ns) x
-
-abbrev pub function_in : List Function → List ℕ → Option ℕ
-function_in fs x = place_of (map (λ f. f.name) fs) x
 
 -- what a table of numbers has at a name
 abbrev pub number_in : List (Bor (List ℕ) × ℕ) → List ℕ → Option ℕ

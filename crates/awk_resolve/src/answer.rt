@@ -67,14 +67,12 @@ fn listed<'a>(
         ≡ globals_by (arrays_in kinds.now) (variables_in kinds.now)) }
     ensures script { IfOk result (λ names. names.script.now ≡ script.now) }
 {
-    let (functions, function_places) = listed_functions(alloc, kinds, &scopes.heads)?;
-    let (globals, global_places) = listed_globals(alloc, kinds)?;
+    let functions = listed_functions(alloc, kinds, &scopes.heads)?;
+    let globals = listed_globals(alloc, kinds)?;
     Ok(Resolved {
         script,
         functions,
         globals,
-        function_places,
-        global_places,
     })
 }
 

@@ -4,17 +4,15 @@ ghost use Rattle.std.specs.Prelude.{◌≡◌, true, false, map, IfOk, MatchOpti
 ghost use Rattle.awk_grammar.specs.ViewStmt.{view_names};
 ghost use Rattle.awk_grammar.specs.Kinds.{name_of, is_global, named, head_keys, functions_by, globals_by};
 ghost use Rattle.awk_resolve.specs.ViewNames.{view_heads, view_variable};
-ghost use Rattle.awk_resolve.specs.Places.{function_in, place_in, ArePlaces};
 ghost use Rattle.awk_resolve.specs.ViewKinds.{view_name_kinds};
 ghost use Rattle.awk_resolve.specs.ViewFunctions.{view_functions};
 ghost use Rattle.awk_resolve.specs.ViewSets.{variables_in, arrays_in};
 
 use crate::function_names::{FunctionNames, NameKind};
-use crate::placed::Placed;
 use crate::scopes::{Head, Variable};
 use crate::sets::Kinds;
 use crate::special::is_special;
-use indexmap::IndexMap;
+use latched::LatchedVec;
 use std::alloc::{AllocError, Global};
 
 /// A function with the kinds of its parameters.
@@ -28,36 +26,33 @@ fn function_names<'a>(
         (λ found. view_name_kinds found.parameters.items ≡ map (named (arrays_in kinds.now))
         (head_keys head.entry.name.now (view_names head.entry.parameters.now))) }
 {
-    let mut all = Placed::new(alloc);
+    let mut all = LatchedVec::new(alloc);
     for parameter in head.parameters {
         let name = parameter.as_slice();
         let is_array = kinds.is_array(Variable::Inside(head.name, name));
-        all.put(name, Ok(NameKind { name, is_array }));
+        all.push(NameKind { name, is_array });
     }
-    let (parameters, places) = all.all()?;
+    let parameters = all.into_vec()?;
     Ok(FunctionNames {
         name: head.name,
         parameters,
-        places,
     })
 }
 
-/// The functions with the kinds of their parameters, and their places.
+/// The functions with the kinds of their parameters.
 pub(crate) fn listed_functions<'a>(
     alloc: Global,
     kinds: &Kinds<'a>,
     heads: &[Head<'a>],
-) -> Result<(Vec<FunctionNames<'a>>, IndexMap<&'a [u8], usize>), AllocError>
-    ensures functions { IfOk result (λ found. view_functions found.0.items
+) -> Result<Vec<FunctionNames<'a>>, AllocError>
+    ensures { IfOk result (λ found. view_functions found.items
         ≡ functions_by (arrays_in kinds.now) (view_heads heads.now)) }
-    ensures places { IfOk result
-        (λ found. ArePlaces found.1.entries (function_in (view_functions found.0.items))) }
 {
-    let mut all = Placed::new(alloc);
+    let mut all = LatchedVec::new(alloc);
     for head in heads {
-        all.put(head.name, function_names(alloc, kinds, *head));
+        all.push_made(function_names(alloc, kinds, *head));
     }
-    all.all()
+    all.into_vec()
 }
 
 /// The name of a variable that is neither special nor a parameter.
@@ -72,25 +67,23 @@ fn global_name<'a>(variable: Variable<'a>) -> Option<&'a [u8]>
     }
 }
 
-/// The globals with their kinds, and their places.
+/// The globals with their kinds.
 pub(crate) fn listed_globals<'a>(
     alloc: Global,
     kinds: &Kinds<'a>,
-) -> Result<(Vec<NameKind<'a>>, IndexMap<&'a [u8], usize>), AllocError>
-    ensures globals { IfOk result (λ found. view_name_kinds found.0.items
+) -> Result<Vec<NameKind<'a>>, AllocError>
+    ensures { IfOk result (λ found. view_name_kinds found.items
         ≡ globals_by (arrays_in kinds.now) (variables_in kinds.now)) }
-    ensures places { IfOk result
-        (λ found. ArePlaces found.1.entries (place_in (view_name_kinds found.0.items))) }
 {
-    let mut all = Placed::new(alloc);
+    let mut all = LatchedVec::new(alloc);
     for variable in kinds.variables.as_slice() {
         match global_name(*variable) {
             None => {}
             Some(name) => {
                 let is_array = kinds.is_array(*variable);
-                all.put(name, Ok(NameKind { name, is_array }));
+                all.push(NameKind { name, is_array });
             }
         }
     }
-    all.all()
+    all.into_vec()
 }

@@ -1,12 +1,18 @@
 -- Two runs of one machine, of which the first paused, are one run of all its steps.
-use Rattle.std.proofs.Common.{◌≡◌, ◌≢◌, ◌≤◌, ◌+◌, ◌-◌, ℕ, Option, Some, None, Result, Ok, Err, subst, arith}
+use Rattle.std.proofs.Common.{◌≡◌, ◌≢◌, ◌≤◌, ◌+◌, ◌-◌, ℕ, false, Option, Some, None, Result, Ok, Err, subst, arith}
 use Rattle.std.specs.Prelude.{IfOk, IfSome}
 use Rattle.wasm_model.specs.Hosts.{Meaning}
-use Rattle.wasm_model.specs.Machines.{Conf, ProgramForm}
-use Rattle.wasm_model.specs.Runs.{Did}
+use Rattle.wasm_model.specs.Machines.{Asks, Conf, Ends, Goes, ProgramForm, Turn, turn}
+use Rattle.wasm_model.specs.Runs.{Did, Steps, TakenAs}
 use Rattle.wasm_model.specs.declared.ends.MachineEnd.{MachineEnd}
 use Rattle.wasm_model.specs.declared.ends.MachineEnd.TheVariants as told
 use Rattle.wasm_model.proofs.Chains.{did_less, did_on}
+use Rattle.wasm_machine.specs.StateStretches.{CalledLast}
+use Rattle.wasm_loader.proofs.Options.{not_some}
+use Rattle.host_calls.specs.Pauses.{keeps_fault}
+use Rattle.host_values.specs.Forms.{HostForm}
+use Rattle.host_values.specs.FormMeaning.{FormState, Told, Untold, form_meaning}
+use Rattle.awk_run.specs.FaultStep.{FaultStep}
 
 module _ {H O : Type 0} (M : Meaning H O) (m : ProgramForm) (steps left : ℕ) (within : left ≤ steps) (c : Conf) (h : H) (c1 : Conf) (h1 : H) where
   all : (steps - left) + left ≡ steps
@@ -28,3 +34,29 @@ of_some (Some x) f h = f x h
 pub of_ok : {A E : Type 0} {P Q : A → Type 0} (r : Result A E) → ((x : A) → P x → Q x) → IfOk r P → IfOk r Q
 of_ok (Ok x) f h = f x h
 of_ok (Err e) f h = tt
+
+-- the call of the host that was the last step, of the steps that were taken
+pub fault_step : (tells : Type 0) (m : ProgramForm) (steps left : ℕ) (c : Conf) (first : HostForm) (d : Conf) (last : HostForm)
+    → CalledLast (form_meaning tells) m keeps_fault steps left c (Told first) d (Told last) → FaultStep tells m (steps - left) c first d last
+fault_step tells m steps left c first d last l = by l.3 l.4.3 l.5 l.7 where
+  by : (h : FormState) → Steps (form_meaning tells) m l.4.1 c (Told first) l.4.0 l.2 h → keeps_fault h ≡ false
+      → TakenAs (form_meaning tells) (turn m l.2) h l.2.memory l.6 d (Told last) → FaultStep tells m (steps - left) c first d last
+  by (Told form) ran none taken =
+      let one = l.1 in
+      let all = l.4.2 in
+      record {
+        before = l.4.1;
+        one_more = omega (arith, one, all);
+        reached = l.2;
+        host = form;
+        output = l.4.0;
+        ran = ran;
+        none = not_some form.fault none;
+        added = l.6;
+        taken = taken;
+      }
+  by Untold ran none taken = absurd (untold (turn m l.2) taken) where
+    untold : (t : Turn) → TakenAs (form_meaning tells) t Untold l.2.memory l.6 d (Told last) → ⊥
+    untold (Goes e) t = (let same : Told last ≡ Untold = t.1 in cc)
+    untold (Ends e) t = t
+    untold (Asks i args e) t = t.1

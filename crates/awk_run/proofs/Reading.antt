@@ -1,7 +1,7 @@
 -- A frame that stands at the place of a `nop` in flat code is about to pass the place of that number: whatever the flat code is that reads back as the function's body.
 use Rattle.std.proofs.Common.{◌≡◌, ℕ, zero, suc, ◌+◌, Bool, true, false, cond, List, [], ◌∷◌, ◌++◌, Option, Some, None, drop, length, length-append, refl, sym, ap, ◌∙◌, subst, arith}
 use Rattle.std.specs.Prelude.{nat_eq, slice_get}
-use Rattle.std.proofs.lemmas.List.{append-nil, drop-drop}
+use Rattle.std.proofs.lemmas.List.{drop-drop}
 use Rattle.wasm_types.specs.Syntax as tree
 use Rattle.wasm_types.specs.Syntax.{FuncForm, Instruction, Instructions, Done, ModuleForm, Then}
 use Rattle.wasm_types.specs.declared.types.ValType.{ValType}
@@ -9,12 +9,13 @@ use Rattle.wasm_model.specs.Frames.{FrameForm}
 use Rattle.wasm_model.specs.Stacks.{rest_of}
 use Rattle.wasm_loader.specs.Flat.{Form, Plain, BrTable, Block, Loop, If, End, decode, first, second, third, flat, flat_one}
 use Rattle.wasm_loader.specs.Landings.{framed_at}
+use Rattle.wasm_loader.proofs.Flattening.{code_flat}
 use Rattle.wasm_machine.specs.Places.{StandsAt}
 use Rattle.wasm_machine.specs.declared.places.Place.{Place}
 use Rattle.lower_model.specs.Boundaries.{is_nop}
-use Rattle.lower_model.specs.Small.{does}
+use Rattle.lower_model.specs.Small.{emit}
 use Rattle.agreement.specs.Places.Statements.{starts_in, starts_of}
-use Rattle.awk_run.specs.Counted.{nop_at, nops_from, nops_of}
+use Rattle.awk_run.specs.Counted.{nops_from, nops_of}
 use Rattle.awk_run.proofs.Walking.{nops_append}
 
 -- Past a body, and past an instruction.
@@ -155,7 +156,7 @@ mutual
   matched_one : (i : Instruction) (p : ℕ) (fs : List Form) (rest : Instructions) → first (decode fs) ≡ Then i rest → Matches p fs (nops_from p (flat_one p i)) (starts_of i rest)
   matched_one (tree.Plain s) p fs rest e = by (nat_eq (is_nop s) 0) refl
     where
-      by : (b : Bool) → nat_eq (is_nop s) 0 ≡ b → Matches p fs (cond b [] (p ∷ []) ++ []) (cond b [] (does s rest ∷ []))
+      by : (b : Bool) → nat_eq (is_nop s) 0 ≡ b → Matches p fs (cond b [] (p ∷ []) ++ []) (cond b [] (emit s rest ∷ []))
       by true q = tt
       by false q = ((0, omega arith, sym e), tt)
   matched_one (tree.BrTable ms m) p fs rest e = tt
@@ -179,13 +180,19 @@ found p fs (m ∷ ns) (c ∷ cs) (suc k) n h e = found p fs ns cs k n h.1 e
 found p fs [] (c ∷ cs) k n h e = absurd h
 found p fs (m ∷ ns) [] k n h e = absurd h
 
+-- the code at the `nop` of a number is that of the place of this number
+pub code_of_place : (func : FuncForm) (fs : List Form) → first (decode fs) ≡ func.body → (k at : ℕ) → slice_get (nops_of func) k ≡ Some at
+    → slice_get (starts_in func.body) k ≡ Some (first (decode (drop at fs)))
+code_of_place func fs body k at is =
+    let place_found = found 0 fs (nops_of func) (starts_in func.body) k at (matched func.body 0 fs body) is in
+    let same : at ≡ place_found.0 = omega (arith, place_found.1) in
+    place_found.2 ∙ ap (λ (j : ℕ). Some (first (decode (drop j fs)))) (sym same)
+
 -- where a frame stands at the `nop` of a number, the code that comes next is that of the place of this number
 pub stands_at_place : (whole : ModuleForm) (place : Place) (frame : FrameForm) (func : FuncForm) (k : ℕ) → StandsAt whole place (Some frame) → slice_get whole.funcs place.function ≡ Some func
     → slice_get (nops_of func) k ≡ Some place.at → slice_get (starts_in func.body) k ≡ Some frame.code
 stands_at_place whole place frame func k stands there at =
-    let body = stands.body func there in
     let fs = stands.code.forms in
-    let place_found = found 0 fs (nops_of func) (starts_in func.body) k place.at (matched func.body 0 fs body) at in
-    let same : place.at ≡ place_found.0 = omega (arith, place_found.1) in
+    let body = code_flat fs func.body (stands.body func there) in
     let next : frame ≡ framed_at stands.code stands.words place.at = cc (stands.stands) in
-    place_found.2 ∙ ap (λ (j : ℕ). Some (first (decode (drop j fs)))) (sym same) ∙ ap (λ (f : FrameForm). Some f.code) (sym next)
+    code_of_place func fs body k place.at at ∙ ap (λ (f : FrameForm). Some f.code) (sym next)

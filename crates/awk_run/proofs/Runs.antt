@@ -23,7 +23,7 @@ use Rattle.host_step.specs.Starts.{state_at_start}
 use Rattle.host_values.specs.Forms.{HostForm}
 use Rattle.host_values.specs.FormMeaning.{Told, form_meaning}
 use Rattle.host_values.specs.Shown.{Shown}
-use Rattle.agreement.specs.Runs.ToldRuns.{AnyhowRun, FoundRun, ToldRun}
+use Rattle.agreement.specs.Runs.ToldRuns.{InAnyWorldRun, FoundRun, ToldRun}
 use Rattle.awk_run.specs.ModuleRun.{run_end, undecoded, IsRefused, IsRunOf, RunAnswers, Answers, IsTyped, Unread}
 use Rattle.run_report.specs.declared.end.Refusal.TheVariants.{Compile, Decode, Invalid, Link}
 use Rattle.run_report.specs.declared.end.RunEnd.{RunEnd}
@@ -47,9 +47,9 @@ module _ (tells : Type 0) (whole : ModuleForm) (job : JobForm) (steps : ℕ) (be
       → Did (form_meaning tells) a.program steps a.conf (Told f) t c (Told g) → after.outside ≡ g.shared.outside
       → (tells → ToldRun whole job (before.readers 0) before.outside steps t g) → FoundRun whole job steps t g
       → ((out : List Action) (e : MachineRunEnd) → e ≢ chain.NoMemory → Ran (form_meaning tells) a.program steps a.conf (Told f) out e c (Told g)
-      → AnyhowRun a.program steps a.conf start out e c g)
+      → InAnyWorldRun a.program steps a.conf start out e c g)
       → RunAnswers tells whole job steps before (run_end g.fault t) after
-  did_answers a n f h t c g d o over there anyhow =
+  did_answers a n f h t c g d o over there in_any_world =
       told g.fault t (record {
         machine = a;
         is_new = n;
@@ -66,7 +66,7 @@ module _ (tells : Type 0) (whole : ModuleForm) (job : JobForm) (steps : ℕ) (be
         outside = o;
         over_table = over;
         there = there;
-        anyhow = λ ne. anyhow d.0 d.1 ne d.3;
+        in_any_world = λ ne. in_any_world d.0 d.1 ne d.3;
       })
 
 -- bytes that the decoder refuses are no module

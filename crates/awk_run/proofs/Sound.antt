@@ -33,10 +33,10 @@ abbrev ok_of : {A E : Type 0} → A → Result A E → A
 ok_of d (Ok x) = x
 ok_of d (Err e) = d
 
-same_tokens : (bytes : List ℕ) (ts us : List Spelled) → IsTokens bytes (Ok ts) → IsTokens bytes (Ok us) → ts ≡ us
+pub same_tokens : (bytes : List ℕ) (ts us : List Spelled) → IsTokens bytes (Ok ts) → IsTokens bytes (Ok us) → ts ≡ us
 same_tokens bytes ts us p q = ap (ok_of ts) (one_outcome bytes (Ok ts) (Ok us) p q)
 
-same_script : (tokens : List Spelled) (a b : List Item) → IsParsed tokens a → IsParsed tokens b → a ≡ b
+pub same_script : (tokens : List Spelled) (a b : List Item) → IsParsed tokens a → IsParsed tokens b → a ≡ b
 same_script tokens a b p q = one_script a b p.read.tree.fine q.read.tree.fine (p.read.tree.parts ∙ sym q.read.tree.parts)
 
 some_not_none : {A : Type 0} (x : A) → Some x ≡ None → ⊥

@@ -1,7 +1,9 @@
 pub mod ModuleRun
 pub mod ScriptRuns
 pub mod Examples
+pub mod FaultStep
 pub mod Seen
 pub mod ModuleSeen
 pub mod Counted
+pub mod SpotPlaces
 pub mod Tallied

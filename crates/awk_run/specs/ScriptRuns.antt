@@ -24,7 +24,7 @@ told_of run.NoMemory = PutsOut
 told_of (run.Refused cause) = Never
 told_of (run.Trapped kind) = Never
 
--- The script is compiled, and its module is run so. In a world that tells what it holds the script does so too. In every world it does so in surroundings that
+-- The script is compiled, and its module is run so. In a modelled world the script does so too. In every world it does so in surroundings that
 -- others change too, where each opening, read and write finds the next of some list; and where the steps did not suffice, it is not over there within so many turns as they suffice for,
 -- by the bound of its module.
 pub record IsScriptRun (tells : Type 0) (bytes : List ℕ) (job : JobForm) (steps : ℕ) (before : State) (e : RunEnd) (after : State) : Type 0 where

@@ -11,6 +11,7 @@ use Rattle.awk_values.specs.declared.value.Value.TheVariants.{Text}
 use Rattle.sem_primitives.specs.FirstMatch.{expression_of}
 use Rattle.sem_primitives.specs.Jobs.{JobForm}
 use Rattle.sem_primitives.specs.declared.constants.Special.TheVariants.{Filename, Fnr, Nr}
+use Rattle.sem_primitives.specs.declared.table.Primitive.TheVariants.{NextMain}
 use Rattle.world_core.specs.WorldState.{State}
 use Rattle.wasm_types.specs.Syntax.{ModuleForm}
 use Rattle.wasm_types.specs.ModuleGrammar.{IsModule}
@@ -18,29 +19,37 @@ use Rattle.wasm_model.specs.Links.{IsNew}
 use Rattle.wasm_model.specs.Machines.{Conf, ProgramForm}
 use Rattle.wasm_model.specs.Runs.{Did, MachineForm}
 use Rattle.wasm_model.specs.declared.ends.MachineEnd.{MachineEnd}
-use Rattle.wasm_machine.specs.Places.{StandsAt, frame_at}
+use Rattle.wasm_model.specs.declared.ends.MachineEnd.TheVariants.{OutOfSteps}
+use Rattle.wasm_machine.specs.Places.{HasStatement, StandsAt, frame_at}
 use Rattle.wasm_machine.specs.declared.places.Place.{Place}
-use Rattle.host_imports.specs.Imports.{host_finds}
+use Rattle.host_imports.specs.Imports.{host_finds, import_number}
+use Rattle.host_imports.specs.declared.import.Import.TheVariants.{OfPrimitive}
 use Rattle.host_step.specs.Starts.{state_at_start}
 use Rattle.host_values.specs.Forms.{HostForm}
 use Rattle.host_values.specs.FormMeaning.{Told, form_meaning}
 use Rattle.host_values.specs.Shown.{Shown}
+use Rattle.awk_run.specs.FaultStep.{FaultStep}
 use Rattle.run_report.specs.declared.subject.Subject.{Subject}
 use Rattle.run_report.specs.declared.subject.Subject.TheVariants.{Expression, File, StandardInput, StandardOutput, Value}
 use Rattle.run_report.specs.declared.whereabouts.CallSite.{CallSite}
 use Rattle.run_report.specs.declared.whereabouts.Whereabouts.{Whereabouts}
 use Rattle.script_compiler.specs.Compiled.{IsCompiled}
 
--- What is told of where a frame stands in a function of the module: the line of the statement's place that is told, in that function, or none where it is at no
--- statement; and the name of the function, if it is one of the script's. Which place the statement at work has is not said here.
-pub record IsSite (tokens : List Spelled) (script : List Item) (place : Place) (site : CallSite) : Type 0 where
+-- the import by which the loop over records begins with the next one: outside of all statements, and after those of BEGIN
+abbrev pub next_record : ℕ
+next_record = import_number (OfPrimitive NextMain)
+
+-- What is told of where a frame stands in a function of the module: the place of the statement at work; the line of this place, in that function,
+-- or none where it is at no statement; and the name of the function, if it is one of the script's.
+pub record IsSite (tokens : List Spelled) (script : List Item) (program : ProgramForm) (place : Place) (site : CallSite) : Type 0 where
+  pub statement : HasStatement program next_record place site.place
   pub line : site.line ≡ option_and_then (line_of tokens script place.function) site.place
   pub name : site.function ≡ slice_get (function_names script) place.function
 
 -- each site is told of the frame of its number, the innermost first, at the place where that stands
-abbrev pub AreSites : List Spelled → List Item → ModuleForm → Conf → List CallSite → Type 0
-AreSites tokens script whole conf sites = (n : ℕ) (site : CallSite) → slice_get sites n ≡ Some site
-    → (place : Place) × StandsAt whole place (frame_at conf n) × IsSite tokens script place site
+abbrev pub AreSites : List Spelled → List Item → ProgramForm → Conf → List CallSite → Type 0
+AreSites tokens script program conf sites = (n : ℕ) (site : CallSite) → slice_get sites n ≡ Some site
+    → (place : Place) × StandsAt program.whole place (frame_at conf n) × IsSite tokens script program place site
 
 -- this holds of the tokens and the tree of a text
 abbrev pub OfSource : List ℕ → (List Spelled → List Item → Type 0) → Type 0
@@ -74,8 +83,8 @@ IsAboutKept (Some fault) subject = IsAbout fault subject
 
 -- What is told of a configuration of the script's module over a host: of its frames eight at most, all others counted, but for the first one, in which `main`
 -- is called; the texts of three special variables; and what the error that is kept was about, if that is known.
-pub record Tells (bytes : List ℕ) (whole : ModuleForm) (conf : Conf) (form : HostForm) (found : Whereabouts) : Type 0 where
-  pub sites : OfSource bytes (λ tokens script. AreSites tokens script whole conf found.sites.items)
+pub record Tells (bytes : List ℕ) (program : ProgramForm) (conf : Conf) (form : HostForm) (found : Whereabouts) : Type 0 where
+  pub sites : OfSource bytes (λ tokens script. AreSites tokens script program conf found.sites.items)
   pub count : length found.sites.items + found.more ≡ length conf.callers
   pub most : length found.sites.items ≤ 8
   pub nr : found.nr ≡ text_of_value (form.shared.inner.specials Nr)
@@ -83,7 +92,7 @@ pub record Tells (bytes : List ℕ) (whole : ModuleForm) (conf : Conf) (form : H
   pub filename : found.filename ≡ text_of_value (form.shared.inner.specials Filename)
   pub about : IfSome found.about (IsAboutKept form.fault)
 
--- Of a run of so many steps at most it is told where it stood at its end, or where it paused: there a fault was kept.
+-- Of a run of so many steps at most it is told where it stood at its end, or where it paused: there a fault was kept, in the last of the steps that it took.
 pub record IsSeen (tells : Type 0) (bytes : List ℕ) (program : ProgramForm) (steps : ℕ) (start : Conf) (first : HostForm) (found : Whereabouts) : Type 0 where
   pub taken : ℕ
   pub within : taken ≤ steps
@@ -92,7 +101,8 @@ pub record IsSeen (tells : Type 0) (bytes : List ℕ) (program : ProgramForm) (s
   pub left : HostForm
   pub did : Did (form_meaning tells) program taken start (Told first) end conf (Told left)
   pub why : taken ≢ steps → is_some left.fault ≡ true
-  pub told : Tells bytes program.whole conf left found
+  pub at_once : end ≡ OutOfSteps → first.fault ≡ None → is_some left.fault ≡ true → FaultStep tells program taken start first conf left
+  pub told : Tells bytes program conf left found
 
 -- so of the run of a typed module in a job, from its beginning
 pub record IsSeenOf (tells : Type 0) (bytes : List ℕ) (whole : ModuleForm) (job : JobForm) (steps : ℕ) (before : State) (found : Whereabouts) : Type 0 where

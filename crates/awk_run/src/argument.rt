@@ -6,7 +6,7 @@ ghost use Rattle.host_calls.specs.Forms.{host_form};
 
 use crate::code_before::{CodeBefore, Push};
 use awk_values::{Bytes, Fault, Stop, Value, to_number, to_text, truncated};
-use host_calls::{Host, Import, Listing, Special};
+use host_calls::{Host, Import, Special, VariadicImport};
 use host_format::Matcher;
 use run_report::Subject;
 use sem_primitives::Primitive;
@@ -57,6 +57,14 @@ fn special_of(number: u32) -> Option<Special> {
     }
 }
 
+/// The value of a field; none where its number is out of range, or there is no memory.
+fn field_value<W: World>(alloc: Global, host: &Host<W>, number: i64) -> Option<Value> {
+    match host.field(number) {
+        Ok(view) => view.value(alloc).ok(),
+        Err(_) => None,
+    }
+}
+
 /// The text of an operand that is not made of others.
 fn simple_text<W: World>(
     alloc: Global,
@@ -69,7 +77,7 @@ fn simple_text<W: World>(
     let (text, start, read) = match push {
         Push::Held { start, handle } => (text_of(alloc, host.value(handle)?)?, start, start),
         Push::Field { start, number } => {
-            let value = host.field(number.bits.cast_signed())?;
+            let value = field_value(alloc, host, number.bits.cast_signed())?;
             (text_of(alloc, &value)?, start, number.read.min(start))
         }
         Push::Literal { start, from, size } => {
@@ -269,15 +277,15 @@ fn first_of<W: World>(
 }
 
 /// How many values a format has, and where they end.
-fn formatted(code: &CodeBefore<'_>, listing: Listing) -> Option<(usize, usize)> {
+fn formatted(code: &CodeBefore<'_>, listing: VariadicImport) -> Option<(usize, usize)> {
     let call = code.call;
     let count = match listing {
-        Listing::Sprintf => code.constant(call, 1)?,
-        Listing::Printf => code.constant(call, 2)?,
-        Listing::Print => return None,
+        VariadicImport::Sprintf => code.constant(call, 1)?,
+        VariadicImport::Printf => code.constant(call, 2)?,
+        VariadicImport::Print => return None,
     };
     let end = match (listing, code.constant(call, 1)?) {
-        (Listing::Sprintf, _) | (_, 0) => call,
+        (VariadicImport::Sprintf, _) | (_, 0) => call,
         _ => code.start(code.value(call)?)?,
     };
     Some((count.checked_sub(1)? as usize, end))
@@ -304,18 +312,20 @@ pub(crate) fn argument<W: World>(
     let code = CodeBefore::new(machine)?;
     let call = code.call;
     match code.import(call)? {
-        Import::Of(Primitive::ToNum | Primitive::IntOf | Primitive::SetSpecial) => {
+        Import::OfPrimitive(Primitive::ToNum | Primitive::IntOf | Primitive::SetSpecial) => {
             first_of(alloc, &code, host, call, 1, false, fault)
         }
-        Import::Of(Primitive::Compare) => first_of(alloc, &code, host, call, 2, false, fault),
-        Import::Over(listing) => {
+        Import::OfPrimitive(Primitive::Compare) => first_of(
+            alloc, &code, host, call, 2, false, fault,
+        ),
+        Import::Variadic(listing) => {
             let (count, end) = formatted(&code, listing)?;
             first_of(alloc, &code, host, end, count, true, fault)
         }
-        Import::Of(Primitive::Matches | Primitive::Match | Primitive::Split) => {
+        Import::OfPrimitive(Primitive::Matches | Primitive::Match | Primitive::Split) => {
             tried(alloc, &code, host, value_before(&code, call, 0)?, fault)
         }
-        Import::Of(Primitive::Sub) => {
+        Import::OfPrimitive(Primitive::Sub) => {
             tried(alloc, &code, host, value_before(&code, call, 2)?, fault)
         }
         _ => separator(alloc, host, fault),

@@ -1,5 +1,5 @@
 //! The code before the call of the host that a machine stands after: which instruction put what on the stack.
-use host_calls::{Import, Listing};
+use host_calls::{Import, VariadicImport};
 use sem_primitives::Primitive;
 use wasm_machine::{Machine, Place};
 use wasm_store::Word;
@@ -60,8 +60,8 @@ fn handle_of(word: Word) -> Option<i32> {
 /// Whether an import changes nothing that a script reads.
 fn only_reads(import: Import) -> bool {
     match import {
-        Import::Arg | Import::Over(Listing::Sprintf) => true,
-        Import::Of(primitive) => matches!(
+        Import::Arg | Import::Variadic(VariadicImport::Sprintf) => true,
+        Import::OfPrimitive(primitive) => matches!(
             primitive,
             Primitive::Num
                 | Primitive::Lit
@@ -145,7 +145,7 @@ impl<'a> CodeBefore<'a> {
         let (Some(test), Some(next)) = (at.checked_sub(2), at.checked_add(1)) else {
             return false;
         };
-        let copied = matches!(self.import(next), Some(Import::Of(Primitive::Dup)));
+        let copied = matches!(self.import(next), Some(Import::OfPrimitive(Primitive::Dup)));
         copied && self.asks(at, 2) && self.is_passed(test)
     }
 
@@ -169,8 +169,14 @@ impl<'a> CodeBefore<'a> {
 
     /// Whether a number becomes a value at a place in the last way of two: in the other one there is no number yet.
     fn is_boxed(&self, at: usize) -> bool {
-        let num = matches!(self.import_back(at, 1), Some(Import::Of(Primitive::Num)));
-        let uninit = matches!(self.import_back(at, 5), Some(Import::Of(Primitive::Uninit)));
+        let num = matches!(
+            self.import_back(at, 1),
+            Some(Import::OfPrimitive(Primitive::Num))
+        );
+        let uninit = matches!(
+            self.import_back(at, 5),
+            Some(Import::OfPrimitive(Primitive::Uninit))
+        );
         num && uninit && self.is_joint(at, 3) && self.asks(at, 6)
     }
 
@@ -348,7 +354,7 @@ impl<'a> CodeBefore<'a> {
 
     /// The answer of a call of the host.
     fn answer(&self, at: usize) -> Option<Push> {
-        let Import::Of(primitive) = self.import_back(at, 1)? else {
+        let Import::OfPrimitive(primitive) = self.import_back(at, 1)? else {
             return None;
         };
         let start = at.checked_sub(2)?;
@@ -427,8 +433,8 @@ impl<'a> CodeBefore<'a> {
         match self.back(end, 1)? {
             Simple::LocalSet(_) => end.checked_sub(3),
             Simple::Call(_) => match self.import_back(end, 1)? {
-                Import::Of(Primitive::Lit) => end.checked_sub(3),
-                Import::Of(Primitive::Field | Primitive::Num) => end.checked_sub(2),
+                Import::OfPrimitive(Primitive::Lit) => end.checked_sub(3),
+                Import::OfPrimitive(Primitive::Field | Primitive::Num) => end.checked_sub(2),
                 _ => None,
             },
             _ => None,

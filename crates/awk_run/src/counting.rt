@@ -45,10 +45,10 @@ fn run_counted<W: World>(
     requires nops { rows_of tally.nops.items ≡ nops_in machine.old.program.whole }
     requires rows { AreTallied [] (rows_of tally.rows.items) }
     requires values { tally.values ≡ 0 }
-    ensures did { Did (form_meaning W.tells) machine.old.program steps machine.old.conf
+    ensures did { Did (form_meaning W.is_modelled) machine.old.program steps machine.old.conf
         (Told (host_form W.state host)) result.0 machine.new.conf
         (Told (host_form W.state result.2)) }
-    ensures counted { IfSome result.1 (IsCounted W.tells script.now machine.old.program steps
+    ensures counted { IfSome result.1 (IsCounted W.is_modelled script.now machine.old.program steps
         machine.old.conf (host_form W.state host)) }
 {
     let mut host = host;
@@ -69,11 +69,11 @@ fn run_valid_counted<W: World>(
     requires { ModuleOk (view_module valid) }
     ensures answers { (job : JobForm) → Shown (host_form W.state host)
         (state_at_start job ((W.state host.world).readers 0) (W.state host.world).outside)
-        → RunAnswers W.tells (view_module valid) job steps (W.state host.world) result.0
+        → RunAnswers W.is_modelled (view_module valid) job steps (W.state host.world) result.0
         (W.state result.2) }
     ensures counted { (job : JobForm) → Shown (host_form W.state host)
         (state_at_start job ((W.state host.world).readers 0) (W.state host.world).outside)
-        → IfSome result.1 (IsCountedOf W.tells script.now (view_module valid) job steps
+        → IfSome result.1 (IsCountedOf W.is_modelled script.now (view_module valid) job steps
         (W.state host.world)) }
 {
     let Ok(tally) = Tally::new(alloc, valid.get()) else {
@@ -102,9 +102,9 @@ fn run_module_counted<W: World>(
     world: W,
     steps: u64,
 ) -> (RunEnd, Option<RunCounts>, W)
-    ensures answers { Answers W.tells bytes.now (job_of job.now) steps (W.state world) result.0
+    ensures answers { Answers W.is_modelled bytes.now (job_of job.now) steps (W.state world) result.0
         (W.state result.2) }
-    ensures counted { IfSome result.1 (IsCountedOfBytes W.tells script.now bytes.now
+    ensures counted { IfSome result.1 (IsCountedOfBytes W.is_modelled script.now bytes.now
         (job_of job.now) steps (W.state world)) }
 {
     let valid = match read(alloc, bytes) {
@@ -128,9 +128,9 @@ fn run_module_noted<W: World>(
     world: W,
     steps: u64,
 ) -> (RunEnd, Option<RunCounts>, W)
-    ensures answers { Answers W.tells bytes.now (job_of job.now) steps (W.state world) result.0
+    ensures answers { Answers W.is_modelled bytes.now (job_of job.now) steps (W.state world) result.0
         (W.state result.2) }
-    ensures counted { IfSome result.1 (IsCountedOfBytes W.tells script.now bytes.now
+    ensures counted { IfSome result.1 (IsCountedOfBytes W.is_modelled script.now bytes.now
         (job_of job.now) steps (W.state world)) }
 {
     let noted = NotedWorld::new(alloc, world);
@@ -149,9 +149,9 @@ pub fn count_script<W: World>(
     world: W,
     steps: u64,
 ) -> (RunEnd, Option<RunCounts>, W)
-    ensures answers { ScriptAnswers W.tells script.now (job_of job.now) steps (W.state world)
+    ensures answers { ScriptAnswers W.is_modelled script.now (job_of job.now) steps (W.state world)
         result.0 (W.state result.2) }
-    ensures counted { IfSome result.1 (IsCountedIn W.tells script.now (job_of job.now) steps
+    ensures counted { IfSome result.1 (IsCountedIn W.is_modelled script.now (job_of job.now) steps
         (W.state world)) }
 {
     match compile(alloc, script) {

@@ -3,9 +3,9 @@
 
 mod argument;
 mod code_before;
+mod compiled_laws;
 mod counting;
 mod end;
-mod laws;
 mod line_counts;
 mod module;
 mod module_sights;
@@ -17,8 +17,11 @@ mod stepping;
 mod tally;
 mod whereabouts;
 
+pub use compiled_laws::{
+    compiled_scripts_are_sound, counted_places_are_of_spots, counted_places_are_passed,
+    counts_are_of_spots, lines_are_of_spots, told_places_are_at_work,
+};
 pub use counting::count_script;
-pub use laws::{compiled_scripts_are_sound, counted_places_are_passed};
 pub use module::run_module;
 pub use module_sights::ModuleWhereabouts;
 pub use module_where::run_module_where;

@@ -51,7 +51,7 @@ fn run_valid<W: World>(alloc: Global, valid: ValidModule, host: Host<W>, steps: 
     requires { ModuleOk (view_module valid) }
     ensures { (job : JobForm) → Shown (host_form W.state host)
         (state_at_start job ((W.state host.world).readers 0) (W.state host.world).outside)
-        → RunAnswers W.tells (view_module valid) job steps (W.state host.world) result.0
+        → RunAnswers W.is_modelled (view_module valid) job steps (W.state host.world) result.0
         (W.state result.1) }
 {
     let mut host = host;
@@ -74,7 +74,7 @@ fn run_over<W: World>(
     world: W,
     steps: u64,
 ) -> (RunEnd, W)
-    ensures { Answers W.tells bytes.now (job_of job.now) steps (W.state world) result.0
+    ensures { Answers W.is_modelled bytes.now (job_of job.now) steps (W.state world) result.0
         (W.state result.1) }
 {
     let valid = match read(alloc, bytes) {
@@ -102,7 +102,7 @@ pub fn run_module<W: World>(
     world: W,
     steps: u64,
 ) -> (RunEnd, W)
-    ensures { Answers W.tells bytes.now (job_of job.now) steps (W.state world) result.0
+    ensures { Answers W.is_modelled bytes.now (job_of job.now) steps (W.state world) result.0
         (W.state result.1) }
 {
     let noted = NotedWorld::new(alloc, world);

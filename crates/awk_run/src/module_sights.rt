@@ -63,9 +63,9 @@ fn site_at(
     machine: &Machine,
     at: Place,
 ) -> Result<CallSite, AllocError>
-    ensures { IfOk result (IsLineSite (map form_of table.now) at) }
+    ensures { IfOk result (IsLineSite (map form_of table.now) machine.now.program at) }
 {
-    let next_record = Import::Of(Primitive::NextMain);
+    let next_record = Import::OfPrimitive(Primitive::NextMain);
     let place = machine.statement(at, next_record.number());
     let function = name_at(alloc, table, at.function)?;
     Ok(CallSite {
@@ -83,7 +83,7 @@ fn line_sites(
     count: usize,
 ) -> Result<Vec<CallSite>, AllocError>
     ensures sites { IfOk result (λ sites. AreLineSites (map form_of table.now)
-        machine.now.program.whole machine.now.conf sites.items) }
+        machine.now.program machine.now.conf sites.items) }
     ensures count { IfOk result (λ sites. length sites.items ≡ count) }
 {
     let mut sites = Vec::new(alloc);
@@ -116,7 +116,7 @@ fn lines_seen<W: World>(
     machine: &Machine,
     host: &Host<W>,
 ) -> Option<Whereabouts>
-    ensures { IfSome result (TellsLines (map form_of table.now) machine.now.program.whole
+    ensures { IfSome result (TellsLines (map form_of table.now) machine.now.program
         machine.now.conf (host_form W.state host.now)) }
 {
     let waiting = machine.waiting();
@@ -165,7 +165,7 @@ fn module_seen<W: World>(
     host: &Host<W>,
 ) -> Option<ModuleWhereabouts>
     ensures { IfSome result (TellsModule (option_map (λ rows. map form_of rows.items) table.now)
-        imports machine.now.program.whole machine.now.conf (host_form W.state host.now)) }
+        imports machine.now.program machine.now.conf (host_form W.state host.now)) }
 {
     match table {
         Some(rows) => match lines_seen(alloc, rows, machine, host) {
@@ -187,10 +187,10 @@ pub(crate) fn run_module_seen<W: World>(
 ) -> (MachineEnd, Option<ModuleWhereabouts>, Host<W>)
     requires linked { Linked host_types machine.old.program }
     requires going { machine.old.ended ≡ None }
-    ensures did { Did (form_meaning W.tells) machine.old.program steps machine.old.conf
+    ensures did { Did (form_meaning W.is_modelled) machine.old.program steps machine.old.conf
         (Told (host_form W.state host)) result.0 machine.new.conf
         (Told (host_form W.state result.2)) }
-    ensures seen { IfSome result.1 (IsModuleSeen W.tells
+    ensures seen { IfSome result.1 (IsModuleSeen W.is_modelled
         (option_map (λ rows. map form_of rows.items) table.now) imports machine.old.program steps
         machine.old.conf (host_form W.state host)) }
 {

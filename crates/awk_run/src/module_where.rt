@@ -42,11 +42,11 @@ fn run_valid_seen<W: World>(
     requires { ModuleOk (view_module valid) }
     ensures answers { (job : JobForm) → Shown (host_form W.state host)
         (state_at_start job ((W.state host.world).readers 0) (W.state host.world).outside)
-        → RunAnswers W.tells (view_module valid) job steps (W.state host.world) result.0
+        → RunAnswers W.is_modelled (view_module valid) job steps (W.state host.world) result.0
         (W.state result.2) }
     ensures seen { (job : JobForm) → Shown (host_form W.state host)
         (state_at_start job ((W.state host.world).readers 0) (W.state host.world).outside)
-        → IfSome result.1 (IsModuleSeenOf W.tells
+        → IfSome result.1 (IsModuleSeenOf W.is_modelled
         (option_map (λ rows. map form_of rows.items) table.now) (view_module valid) job steps
         (W.state host.world)) }
 {
@@ -73,9 +73,9 @@ fn run_seen_over<W: World>(
     world: W,
     steps: u64,
 ) -> (RunEnd, Option<ModuleWhereabouts>, W)
-    ensures answers { Answers W.tells bytes.now (job_of job.now) steps (W.state world) result.0
+    ensures answers { Answers W.is_modelled bytes.now (job_of job.now) steps (W.state world) result.0
         (W.state result.2) }
-    ensures seen { IfSome result.1 (IsModuleSeenIn W.tells bytes.now (job_of job.now) steps
+    ensures seen { IfSome result.1 (IsModuleSeenIn W.is_modelled bytes.now (job_of job.now) steps
         (W.state world)) }
 {
     let valid = match read(alloc, bytes) {
@@ -102,9 +102,9 @@ pub fn run_module_where<W: World>(
     world: W,
     steps: u64,
 ) -> (RunEnd, Option<ModuleWhereabouts>, W)
-    ensures answers { Answers W.tells bytes.now (job_of job.now) steps (W.state world) result.0
+    ensures answers { Answers W.is_modelled bytes.now (job_of job.now) steps (W.state world) result.0
         (W.state result.2) }
-    ensures seen { IfSome result.1 (IsModuleSeenIn W.tells bytes.now (job_of job.now) steps
+    ensures seen { IfSome result.1 (IsModuleSeenIn W.is_modelled bytes.now (job_of job.now) steps
         (W.state world)) }
 {
     let noted = NotedWorld::new(alloc, world);

@@ -171,7 +171,7 @@ impl<W: World> NotedWorld<W> {
 }
 
 impl<W: World> World for NotedWorld<W> {
-    ghost tells = { W.tells };
+    ghost is_modelled = { W.is_modelled };
 
     ghost state = { λ w. W.state w.inner };
 

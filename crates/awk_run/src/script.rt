@@ -26,7 +26,7 @@ pub fn run_script<W: World>(
     world: W,
     steps: u64,
 ) -> (RunEnd, W)
-    ensures { ScriptAnswers W.tells script.now (job_of job.now) steps (W.state world) result.0
+    ensures { ScriptAnswers W.is_modelled script.now (job_of job.now) steps (W.state world) result.0
         (W.state result.1) }
 {
     match compile(alloc, script) {

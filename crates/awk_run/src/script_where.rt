@@ -35,11 +35,11 @@ fn run_valid_where<W: World + KnowsFailed>(
     requires { ModuleOk (view_module valid) }
     ensures answers { (job : JobForm) → Shown (host_form W.state host)
         (state_at_start job ((W.state host.world).readers 0) (W.state host.world).outside)
-        → RunAnswers W.tells (view_module valid) job steps (W.state host.world) result.0
+        → RunAnswers W.is_modelled (view_module valid) job steps (W.state host.world) result.0
         (W.state result.2) }
     ensures seen { (job : JobForm) → Shown (host_form W.state host)
         (state_at_start job ((W.state host.world).readers 0) (W.state host.world).outside)
-        → IfSome result.1 (IsSeenOf W.tells script.now (view_module valid) job steps
+        → IfSome result.1 (IsSeenOf W.is_modelled script.now (view_module valid) job steps
         (W.state host.world)) }
 {
     let mut machine = match Machine::new(alloc, valid, &host) {
@@ -65,9 +65,9 @@ fn run_module_where<W: World + KnowsFailed>(
     world: W,
     steps: u64,
 ) -> (RunEnd, Option<Whereabouts>, W)
-    ensures answers { Answers W.tells bytes.now (job_of job.now) steps (W.state world) result.0
+    ensures answers { Answers W.is_modelled bytes.now (job_of job.now) steps (W.state world) result.0
         (W.state result.2) }
-    ensures seen { IfSome result.1 (IsSeenOfBytes W.tells script.now bytes.now (job_of job.now)
+    ensures seen { IfSome result.1 (IsSeenOfBytes W.is_modelled script.now bytes.now (job_of job.now)
         steps (W.state world)) }
 {
     let valid = match read(alloc, bytes) {
@@ -91,9 +91,9 @@ fn run_module_noted<W: World>(
     world: W,
     steps: u64,
 ) -> (RunEnd, Option<Whereabouts>, W)
-    ensures answers { Answers W.tells bytes.now (job_of job.now) steps (W.state world) result.0
+    ensures answers { Answers W.is_modelled bytes.now (job_of job.now) steps (W.state world) result.0
         (W.state result.2) }
-    ensures seen { IfSome result.1 (IsSeenOfBytes W.tells script.now bytes.now (job_of job.now)
+    ensures seen { IfSome result.1 (IsSeenOfBytes W.is_modelled script.now bytes.now (job_of job.now)
         steps (W.state world)) }
 {
     let noted = NotedWorld::new(alloc, world);
@@ -112,9 +112,9 @@ pub fn run_script_where<W: World>(
     world: W,
     steps: u64,
 ) -> (RunEnd, Option<Whereabouts>, W)
-    ensures answers { ScriptAnswers W.tells script.now (job_of job.now) steps (W.state world)
+    ensures answers { ScriptAnswers W.is_modelled script.now (job_of job.now) steps (W.state world)
         result.0 (W.state result.2) }
-    ensures seen { IfSome result.1 (IsSeenIn W.tells script.now (job_of job.now) steps
+    ensures seen { IfSome result.1 (IsSeenIn W.is_modelled script.now (job_of job.now) steps
         (W.state world)) }
 {
     match compile(alloc, script) {

@@ -22,7 +22,7 @@ pub(crate) fn step_through<W: World>(
     requires rows { AreTallied [] (rows_of tally.old.rows.items) }
     requires values { tally.old.values ≡ 0 }
     ensures nops { tally.new.nops ≡ tally.old.nops }
-    ensures tallied { IsTallied W.tells machine.old.program steps result.1 machine.old.conf
+    ensures tallied { IsTallied W.is_modelled machine.old.program steps result.1 machine.old.conf
         (host_form W.state host.old) result.0 machine.new.conf (host_form W.state host.new)
         (rows_of tally.new.rows.items) tally.new.values }
 {

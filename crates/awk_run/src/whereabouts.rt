@@ -65,9 +65,9 @@ fn site_of(
     machine: &Machine,
     at: Place,
 ) -> Result<CallSite, AllocError>
-    ensures { IfOk result (IsSite (map spelled tokens.now) (view_script tree.now) at) }
+    ensures { IfOk result (IsSite (map spelled tokens.now) (view_script tree.now) machine.now.program at) }
 {
-    let next_record = Import::Of(Primitive::NextMain);
+    let next_record = Import::OfPrimitive(Primitive::NextMain);
     let place = machine.statement(at, next_record.number());
     let line = line_in(alloc, tokens, tree, at.function, place)?;
     let function = name_of(alloc, tree, at.function)?;
@@ -87,7 +87,7 @@ fn sites_in(
     count: usize,
 ) -> Result<Vec<CallSite>, AllocError>
     ensures sites { IfOk result (λ sites. AreSites (map spelled tokens.now) (view_script tree.now)
-        machine.now.program.whole machine.now.conf sites.items) }
+        machine.now.program machine.now.conf sites.items) }
     ensures count { IfOk result (λ sites. length sites.items ≡ count) }
 {
     let mut sites = Vec::new(alloc);
@@ -109,7 +109,7 @@ fn sites_of(
     count: usize,
 ) -> Result<Vec<CallSite>, AllocError>
     ensures sites { IfOk result (λ sites. OfSource script.now (λ tokens tree. AreSites tokens tree
-        machine.now.program.whole machine.now.conf sites.items)) }
+        machine.now.program machine.now.conf sites.items)) }
     ensures count { IfOk result (λ sites. length sites.items ≡ count) }
 {
     let Ok(tokens) = tokens(alloc, script) else {
@@ -174,7 +174,7 @@ fn seen_at<W: World + KnowsFailed>(
     host: &mut Host<W>,
 ) -> Option<Whereabouts>
     ensures same { host_form W.state host.new ≡ host_form W.state host.old }
-    ensures told { IfSome result (Tells script.now machine.now.program.whole machine.now.conf
+    ensures told { IfSome result (Tells script.now machine.now.program machine.now.conf
         (host_form W.state host.old)) }
 {
     let waiting = machine.waiting();
@@ -211,10 +211,10 @@ pub(crate) fn run_seen<W: World + KnowsFailed>(
 ) -> (MachineEnd, Option<Whereabouts>, Host<W>)
     requires linked { Linked host_types machine.old.program }
     requires going { machine.old.ended ≡ None }
-    ensures did { Did (form_meaning W.tells) machine.old.program steps machine.old.conf
+    ensures did { Did (form_meaning W.is_modelled) machine.old.program steps machine.old.conf
         (Told (host_form W.state host)) result.0 machine.new.conf
         (Told (host_form W.state result.2)) }
-    ensures seen { IfSome result.1 (IsSeen W.tells script.now machine.old.program steps
+    ensures seen { IfSome result.1 (IsSeen W.is_modelled script.now machine.old.program steps
         machine.old.conf (host_form W.state host)) }
 {
     let mut watched = Watched { host };

@@ -5,8 +5,8 @@
 #![tactic(auto)]
 
 mod escapes;
-pub mod laws;
 mod number;
+pub mod number_laws;
 mod reading;
 mod text;
 

@@ -5,13 +5,16 @@ ghost use Rattle.awk_text.specs.Parts.{parts};
 ghost use Rattle.awk_text.specs.Reading.{AreDigits};
 
 use crate::reading::{Numeral, read_numeral, spaces};
+use thiserror::Error;
 
 /// Why a text has no number.
-#[derive(Clone, Copy, Debug, PartialEq, Eq, Drop)]
+#[derive(Clone, Copy, Debug, PartialEq, Eq, Drop, Error)]
 pub enum NumberFault {
     /// It is whole and outside -2^53 to 2^53.
+    #[error("the number is outside -2^53 to 2^53")]
     Range,
     /// It is not whole.
+    #[error("the number is not whole")]
     Fraction,
 }
 

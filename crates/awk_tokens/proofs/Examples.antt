@@ -1,7 +1,7 @@
 -- Worked scripts: what the longest cutting gives, computed.
 use Rattle.std.proofs.Common.{◌≡◌, Ok, Err, [], ◌∷◌, codes, refl}
-use Rattle.awk_tokens.specs.declared.words.Keyword.TheVariants as words
-use Rattle.awk_tokens.specs.declared.words.Builtin.TheVariants as functions
+use Rattle.awk_tokens.specs.declared.reserved_words.Keyword.TheVariants as words
+use Rattle.awk_tokens.specs.declared.reserved_words.Builtin.TheVariants as functions
 use Rattle.awk_tokens.specs.declared.token.Punctuator.TheVariants as marks
 use Rattle.awk_tokens.specs.declared.token.TokenKind.TheVariants.{Name, FuncName, Number, Str, Ere, Keyword, Builtin, Punctuator}
 use Rattle.awk_tokens.specs.declared.token.TokenFault.TheVariants.{BadByte, OpenString, OpenEre}

@@ -3,8 +3,8 @@ use Rattle.std.specs.Prelude.{◌≡◌, ℕ, zero, suc, ◌+◌, ◌<◌, ◌�
 use Rattle.std.specs.List.{count_by}
 use Rattle.awk_text.specs.Bytes.{newline, quote, open_paren, slash}
 use Rattle.awk_tokens.specs.Pieces.{piece_of}
-use Rattle.awk_tokens.specs.declared.words.Keyword.TheVariants.{Function, If, Else, While, For, Do, Getline}
-use Rattle.awk_tokens.specs.declared.words.Builtin.TheVariants.{Length}
+use Rattle.awk_tokens.specs.declared.reserved_words.Keyword.TheVariants.{Function, If, Else, While, For, Do, Getline}
+use Rattle.awk_tokens.specs.declared.reserved_words.Builtin.TheVariants.{Length}
 use Rattle.awk_tokens.specs.declared.token.Punctuator.TheVariants.{OpenBrace, CloseBrace, OpenParen, CloseParen, CloseBracket, Semicolon, Comma, Increment, Decrement, And, Or}
 use Rattle.awk_tokens.specs.declared.token.TokenKind.{TokenKind}
 use Rattle.awk_tokens.specs.declared.token.TokenKind.TheVariants.{Name, FuncName, Number, Str, Ere, Keyword, Builtin, Punctuator}

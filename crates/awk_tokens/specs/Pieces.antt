@@ -4,8 +4,8 @@ use Rattle.std.specs.Cmp.Lexicographic.{pointwise}
 use Rattle.awk_text.specs.Bytes.{tab, newline, space, quote, hash, point, slash, upper_a, upper_z, backslash, underscore, lower_a, lower_z}
 use Rattle.awk_tokens.specs.Numbers.{is_digit, every, is_number}
 use Rattle.awk_tokens.specs.Words.{entry, reserved_word_of}
-use Rattle.awk_tokens.specs.declared.words.ReservedWord.{ReservedWord}
-use Rattle.awk_tokens.specs.declared.words.ReservedWord.TheVariants.{Keyword as KeywordWord, Builtin as BuiltinWord, LeftOut as LeftOutWord}
+use Rattle.awk_tokens.specs.declared.reserved_words.ReservedWord.{ReservedWord}
+use Rattle.awk_tokens.specs.declared.reserved_words.ReservedWord.TheVariants.{Keyword as KeywordWord, Builtin as BuiltinWord, LeftOut as LeftOutWord}
 use Rattle.awk_tokens.specs.declared.token.Punctuator.{Punctuator as AnyPunctuator}
 use Rattle.awk_tokens.specs.declared.token.Punctuator.TheVariants.{OpenBrace, CloseBrace, OpenParen, CloseParen, OpenBracket, CloseBracket, Semicolon, Comma, Plus, Minus, Star, Slash, Percent, Caret, Bang, Greater, Less, Pipe, Question, Colon, Tilde, Dollar, Assign, PlusAssign, MinusAssign, StarAssign, SlashAssign, PercentAssign, CaretAssign, Equal, LessEqual, GreaterEqual, NotEqual, NotTilde, Increment, Decrement, And, Or, Append}
 use Rattle.awk_tokens.specs.declared.token.TokenKind.{TokenKind}

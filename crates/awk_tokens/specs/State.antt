@@ -1,6 +1,6 @@
 -- What is kept while a script is cut, in place of the kinds before.
 use Rattle.std.specs.Prelude.{◌≡◌, ℕ, Option, Some, None, List, [], ◌∷◌, ◌++◌, reverse, map, length, ◌≤◌, ◌+◌, Result, Ok, Err}
-use Rattle.awk_tokens.specs.declared.words.Keyword.TheVariants.{Function, If, While, For}
+use Rattle.awk_tokens.specs.declared.reserved_words.Keyword.TheVariants.{Function, If, While, For}
 use Rattle.awk_tokens.specs.declared.token.Punctuator.TheVariants.{OpenParen, CloseParen}
 use Rattle.awk_tokens.specs.declared.token.TokenKind.{TokenKind}
 use Rattle.awk_tokens.specs.declared.token.TokenKind.TheVariants.{Name, FuncName, Keyword, Punctuator}

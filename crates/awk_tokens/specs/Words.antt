@@ -1,14 +1,14 @@
 -- The reserved words: each is a text, and every other name is free.
 use Rattle.std.specs.Prelude.{ℕ, ◌==◌, if◌then◌else◌, Option, Some, None, List, [], ◌∷◌, codes}
 use Rattle.std.specs.Cmp.Lexicographic.{pointwise}
-use Rattle.awk_tokens.specs.declared.words.Keyword.{Keyword as AnyKeyword}
-use Rattle.awk_tokens.specs.declared.words.Keyword.TheVariants.{Begin, End, Function, If, Else, While, For, Do, Break, Continue, Next, NextFile, Exit, Return, Delete, In, Getline, Print, Printf}
-use Rattle.awk_tokens.specs.declared.words.Builtin.{Builtin as AnyBuiltin}
-use Rattle.awk_tokens.specs.declared.words.Builtin.TheVariants.{Length, Substr, Index, Split, Sub, Gsub, Match, Sprintf, ToLower, ToUpper, Int, Close, Fflush}
-use Rattle.awk_tokens.specs.declared.words.LeftOut.{LeftOut as AnyLeftOut}
-use Rattle.awk_tokens.specs.declared.words.LeftOut.TheVariants.{Atan2, Cos, Sin, Exp, Log, Sqrt, Rand, Srand, System, Func}
-use Rattle.awk_tokens.specs.declared.words.ReservedWord.{ReservedWord}
-use Rattle.awk_tokens.specs.declared.words.ReservedWord.TheVariants.{Keyword, Builtin, LeftOut}
+use Rattle.awk_tokens.specs.declared.reserved_words.Keyword.{Keyword as AnyKeyword}
+use Rattle.awk_tokens.specs.declared.reserved_words.Keyword.TheVariants.{Begin, End, Function, If, Else, While, For, Do, Break, Continue, Next, NextFile, Exit, Return, Delete, In, Getline, Print, Printf}
+use Rattle.awk_tokens.specs.declared.reserved_words.Builtin.{Builtin as AnyBuiltin}
+use Rattle.awk_tokens.specs.declared.reserved_words.Builtin.TheVariants.{Length, Substr, Index, Split, Sub, Gsub, Match, Sprintf, ToLower, ToUpper, Int, Close, Fflush}
+use Rattle.awk_tokens.specs.declared.reserved_words.LeftOut.{LeftOut as AnyLeftOut}
+use Rattle.awk_tokens.specs.declared.reserved_words.LeftOut.TheVariants.{Atan2, Cos, Sin, Exp, Log, Sqrt, Rand, Srand, System, Func}
+use Rattle.awk_tokens.specs.declared.reserved_words.ReservedWord.{ReservedWord}
+use Rattle.awk_tokens.specs.declared.reserved_words.ReservedWord.TheVariants.{Keyword, Builtin, LeftOut}
 
 -- the first entry for this text
 abbrev pub entry : {A : Type 0} → List ℕ → List (List ℕ × A) → Option A

@@ -5,8 +5,8 @@ ghost use Rattle.awk_tokens.specs.declared.token.TokenKind.{TokenKind as AnyKind
 ghost use Rattle.awk_tokens.specs.Cutting.{divides, drops};
 ghost use Rattle.awk_tokens.specs.State.{Tells, role_by};
 
+use crate::reserved_words::{Builtin, Keyword};
 use crate::token::{Punctuator, Role, TokenKind};
-use crate::words::{Builtin, Keyword};
 use std::alloc::{AllocError, Global};
 
 /// The last two tokens, what the last `)` closed, and what each open `(` was opened for.

@@ -4,8 +4,8 @@ ghost use Rattle.std.specs.Prelude.{◌≡◌, List, IfOk, map, option_map, fals
 ghost use Rattle.awk_tokens.specs.Cutting.{is_semicolon, is_open_brace, is_close_brace, is_lead, leads, without, inserted, is_open_end, is_unended, with_ends};
 ghost use Rattle.awk_tokens.specs.Views.{spelled};
 
+use crate::reserved_words::Keyword;
 use crate::token::{Punctuator, Token, TokenKind};
-use crate::words::Keyword;
 use latched::push;
 use std::alloc::{AllocError, Global};
 

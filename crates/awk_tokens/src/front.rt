@@ -7,8 +7,8 @@ ghost use Rattle.awk_tokens.specs.Pieces.{goes_on, on_line, starts_name, word_ki
 ghost use Rattle.awk_tokens.specs.Reading.{count_while, close_at, joined_at, name_of, punctuator_of, front_of, shorter, with_piece};
 
 use crate::number::number;
+use crate::reserved_words::{ReservedWord, entry, reserved_word};
 use crate::token::{Piece, Punctuator, TokenKind};
-use crate::words::{ReservedWord, entry, reserved_word};
 
 fn begins_name(byte: u8) -> bool
     ensures { result ≡ starts_name byte }

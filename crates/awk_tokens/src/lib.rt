@@ -5,12 +5,12 @@ mod before;
 mod cut;
 mod endings;
 mod front;
-mod laws;
 mod number;
+mod reserved_words;
 mod token;
-mod words;
+mod token_laws;
 
 pub use cut::tokens;
-pub use laws::{one_token_list, some_token_list};
+pub use reserved_words::{Builtin, Keyword, LeftOut, ReservedWord, reserved_word};
 pub use token::{Punctuator, Token, TokenFault, TokenKind};
-pub use words::{Builtin, Keyword, LeftOut, ReservedWord, reserved_word};
+pub use token_laws::{one_token_list, some_token_list};

@@ -1,6 +1,7 @@
 //! Tokens, and why a script has none.
 
-use crate::words::{Builtin, Keyword, LeftOut};
+use crate::reserved_words::{Builtin, Keyword, LeftOut};
+use thiserror::Error;
 
 /// A punctuator. Each is named by its commonest meaning.
 #[derive(Clone, Copy, Debug, PartialEq, Eq)]
@@ -72,15 +73,19 @@ pub struct Token<'a> {
 }
 
 /// Why a script has no tokens. Each but the last carries the line of the first byte of what stopped the reading.
-#[derive(Clone, Copy, Debug, PartialEq, Eq)]
+#[derive(Clone, Copy, Debug, PartialEq, Eq, Error)]
 pub enum TokenFault {
     /// No token, blank, comment or newline begins with this byte.
+    #[error("line {0}: no token begins with this byte")]
     BadByte(usize),
     /// A string is not closed before a newline or the end.
+    #[error("line {0}: the string is not closed")]
     OpenString(usize),
     /// An ERE is not closed before a newline or the end.
+    #[error("line {0}: the regular expression is not closed")]
     OpenEre(usize),
     /// Memory was refused.
+    #[error("out of memory")]
     NoMemory,
 }
 

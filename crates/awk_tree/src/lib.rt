@@ -9,7 +9,7 @@
 
 mod check;
 mod check_stmt;
-pub mod laws;
+pub mod derivation_laws;
 mod lines;
 mod printer;
 mod printer_stmt;

@@ -10,26 +10,26 @@ use Rattle.run_report.specs.declared.end.RunEnd.TheVariants.{Ended}
 use Rattle.run_report.specs.declared.report.FileFault.TheVariants.{CannotRead, CannotWrite}
 use Rattle.run_tasks.specs.Runs.{IsUncompiled, IsUnlined, RunsModule, RunsScript, RunsText}
 use Rattle.run_tasks.specs.Tasks.{IsUnreadable, task_code}
-use Rattle.run_tasks.specs.declared.undone.Undone.{Undone}
-use Rattle.run_tasks.specs.declared.undone.Undone.TheVariants.{File, NoMemory, RandomNumbers, Unexplained}
+use Rattle.run_tasks.specs.declared.task_error.TaskError.{TaskError}
+use Rattle.run_tasks.specs.declared.task_error.TaskError.TheVariants.{File, NoMemory, RandomNumbers, Unexplained}
 use Rattle.host_names.specs.Forms.{pair_of}
 use Rattle.host_names.specs.declared.names.NamedText.{NamedText}
 use Rattle.awkwasm.specs.Environment.{IsSortedByName}
 
 -- a run does not begin
-abbrev pub IsUnbegun : Undone → Type 0
+abbrev pub IsUnbegun : TaskError → Type 0
 IsUnbegun RandomNumbers = Unit {0}
 IsUnbegun NoMemory = Unit {0}
 IsUnbegun _ = ⊥
 
 -- a file is not read
-abbrev pub IsUnread : Undone → Type 0
+abbrev pub IsUnread : TaskError → Type 0
 IsUnread (File fault) = fault ≡ CannotRead
 IsUnread NoMemory = Unit {0}
 IsUnread _ = ⊥
 
 -- a file, or the standard output, is not written
-abbrev pub IsUnwritten : Undone → Type 0
+abbrev pub IsUnwritten : TaskError → Type 0
 IsUnwritten (File fault) = fault ≡ CannotWrite
 IsUnwritten NoMemory = Unit {0}
 IsUnwritten _ = ⊥
@@ -52,18 +52,18 @@ abbrev pub Compiles : List ℕ → RunEnd → Type 0
 Compiles bytes e = CompilesSo false bytes e
 
 -- why nothing is explained
-abbrev pub IsNotExplained : Undone → Type 0
+abbrev pub IsNotExplained : TaskError → Type 0
 IsNotExplained Unexplained = Unit {0}
 IsNotExplained (File fault) = fault ≡ CannotWrite
 IsNotExplained NoMemory = Unit {0}
 IsNotExplained _ = ⊥
 
-abbrev pub IsExplained : Result RunEnd Undone → Type 0
+abbrev pub IsExplained : Result RunEnd TaskError → Type 0
 IsExplained (Ok e) = e ≡ Ended 0
 IsExplained (Err undone) = IsNotExplained undone
 
 -- what becomes of a request
-abbrev pub Does : Request → Result RunEnd Undone → Type 0
+abbrev pub Does : Request → Result RunEnd TaskError → Type 0
 Does (Compile script_file out has_lines) (Ok e) = (bytes : List ℕ) × CompilesSo has_lines bytes e
 Does (Compile script_file out has_lines) (Err undone) = IsUnread undone ⊎ IsUnwritten undone
 Does (Check script_file) (Ok e) = (bytes : List ℕ) × Compiles bytes e
@@ -80,11 +80,11 @@ Does (Explain name) done = IsExplained done
 
 -- The request is carried out so, and this is the exit status of it.
 pub record Exits (request : Request) (code : ℕ) : Type 0 where
-  pub done : Result RunEnd Undone
+  pub done : Result RunEnd TaskError
   pub does : Does request done
   pub code_of : code ≡ task_code done
 
 -- of a run that was counted, how it ended
-abbrev pub end_of : {A : Type 0} → Result (RunEnd × A) Undone → Result RunEnd Undone
+abbrev pub end_of : {A : Type 0} → Result (RunEnd × A) TaskError → Result RunEnd TaskError
 end_of (Ok r) = Ok r.0
 end_of (Err undone) = Err undone

@@ -5,7 +5,7 @@ ghost use Rattle.awkwasm.specs.Done.{Compiles, IsUnread, IsUnwritten};
 
 use crate::tasks::{SCRIPT_LIMIT, file_of};
 use run_report::{FileFault, RunEnd, topic_of};
-use run_tasks::{Undone, compiled};
+use run_tasks::{TaskError, compiled};
 use script_check::{Finding, Said, Severity, findings_of, page_of};
 use script_code::MAX_SCRIPT_BYTES;
 use std::alloc::{AllocError, Global};
@@ -71,18 +71,18 @@ fn print_page(
     name: &str,
     script: &[u8],
     found: &[Finding<'_>],
-) -> Result<(), Undone>
+) -> Result<(), TaskError>
     ensures { IfErr result IsUnwritten }
 {
     let page = page_of(rt.alloc(), name.as_bytes(), script, found)?;
     match rt.stdout().write_all(&page) {
         Ok(()) => Ok(()),
-        Err(_) => Err(Undone::File(FileFault::CannotWrite)),
+        Err(_) => Err(TaskError::File(FileFault::CannotWrite)),
     }
 }
 
 /// Prints what is to be said of a script. The answer is that of its compilation, without the module.
-fn check_bytes(rt: &HostRuntime, name: &str, script: &[u8]) -> Result<RunEnd, Undone>
+fn check_bytes(rt: &HostRuntime, name: &str, script: &[u8]) -> Result<RunEnd, TaskError>
     ensures ok { IfOk result (Compiles script.now) }
     ensures err { IfErr result IsUnwritten }
 {
@@ -92,7 +92,7 @@ fn check_bytes(rt: &HostRuntime, name: &str, script: &[u8]) -> Result<RunEnd, Un
             print_page(rt, name, script, &found)?;
             Ok(RunEnd::Ended(0))
         }
-        Err(RunEnd::NoMemory) => Err(Undone::NoMemory),
+        Err(RunEnd::NoMemory) => Err(TaskError::NoMemory),
         Err(end) => {
             let found = with_error(found, &end)?;
             print_page(rt, name, script, &found)?;
@@ -102,7 +102,7 @@ fn check_bytes(rt: &HostRuntime, name: &str, script: &[u8]) -> Result<RunEnd, Un
 }
 
 /// Prints what is to be said of a script's file.
-pub(crate) fn check_file(rt: &HostRuntime, script_file: &str) -> Result<RunEnd, Undone>
+pub(crate) fn check_file(rt: &HostRuntime, script_file: &str) -> Result<RunEnd, TaskError>
     ensures ok { IfOk result (λ e. (bytes : List ℕ) × Compiles bytes e) }
     ensures err { IfErr result (λ undone. IsUnread undone ⊎ IsUnwritten undone) }
 {

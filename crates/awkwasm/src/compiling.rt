@@ -5,7 +5,7 @@ ghost use Rattle.awkwasm.specs.Done.{CompilesSo, CompilesTo, IsUncompiledSo, IsU
 use crate::output::write_module;
 use crate::tasks::{SCRIPT_LIMIT, file_of};
 use run_report::RunEnd;
-use run_tasks::{Undone, compiled, compiled_with_lines};
+use run_tasks::{TaskError, compiled, compiled_with_lines};
 use std::alloc::Global;
 
 /// The module of a script, with its lines if they are asked for.
@@ -27,7 +27,7 @@ fn compile_bytes(
     script_file: &str,
     out: &str,
     has_lines: bool,
-) -> Result<RunEnd, Undone>
+) -> Result<RunEnd, TaskError>
     ensures ok { IfOk result (CompilesSo has_lines script.now) }
     ensures err { IfErr result IsUnwritten }
 {
@@ -45,7 +45,7 @@ pub(crate) fn compile_file(
     script_file: &str,
     out: &str,
     has_lines: bool,
-) -> Result<RunEnd, Undone>
+) -> Result<RunEnd, TaskError>
     ensures ok { IfOk result (λ e. (bytes : List ℕ) × CompilesSo has_lines bytes e) }
     ensures err { IfErr result (λ undone. IsUnread undone ⊎ IsUnwritten undone) }
 {

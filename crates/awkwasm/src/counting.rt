@@ -13,7 +13,7 @@ use crate::output::tell;
 use crate::tasks::{SCRIPT_LIMIT, file_of, surroundings, tell_task};
 use command_line::Task;
 use run_report::{RunCounts, RunEnd, count_text, stats_text};
-use run_tasks::{Undone, script_counted};
+use run_tasks::{TaskError, script_counted};
 use std::alloc::Global;
 
 /// Runs a script of these bytes as a task says, over real files, behind the fence of the task, and counts.
@@ -21,7 +21,7 @@ fn run_bytes(
     rt: &HostRuntime,
     task: &Task<'_>,
     script: &[u8],
-) -> Result<(RunEnd, Option<RunCounts>), Undone>
+) -> Result<(RunEnd, Option<RunCounts>), TaskError>
     ensures ok { IfOk result (λ r. (environment : List NamedText) × IsSortedByName environment
         × RunsText task.now script.now (map pair_of environment) r.0) }
     ensures err { IfErr result IsUnbegun }
@@ -51,7 +51,7 @@ fn stats_of(alloc: Global, counts: &RunCounts) -> Vec<u8>
 }
 
 /// Runs the script in a task's file, and makes its listing, if it was counted.
-fn count_file(rt: &HostRuntime, task: &Task<'_>) -> Result<(RunEnd, Vec<u8>), Undone>
+fn count_file(rt: &HostRuntime, task: &Task<'_>) -> Result<(RunEnd, Vec<u8>), TaskError>
     ensures ok { IfOk result (λ r. Does (Count task.now) (Ok r.0)) }
     ensures err { IfErr result (λ undone. IsUnread undone ⊎ IsUnbegun undone) }
 {
@@ -65,7 +65,7 @@ fn count_file(rt: &HostRuntime, task: &Task<'_>) -> Result<(RunEnd, Vec<u8>), Un
 }
 
 /// Runs the script of a task, and makes the text of what the run took, if it was counted.
-fn run_with_stats(rt: &HostRuntime, task: &Task<'_>) -> Result<(RunEnd, Vec<u8>), Undone>
+fn run_with_stats(rt: &HostRuntime, task: &Task<'_>) -> Result<(RunEnd, Vec<u8>), TaskError>
     ensures ok { IfOk result (λ r. Does (Run task.now) (Ok r.0)) }
     ensures err { IfErr result IsUnbegun }
 {
@@ -78,7 +78,7 @@ fn run_with_stats(rt: &HostRuntime, task: &Task<'_>) -> Result<(RunEnd, Vec<u8>)
 }
 
 /// Tells what became of a task, and then what was counted; the answer is the exit status.
-fn tell_counted(rt: &HostRuntime, counted: Result<(RunEnd, Vec<u8>), Undone>) -> u8
+fn tell_counted(rt: &HostRuntime, counted: Result<(RunEnd, Vec<u8>), TaskError>) -> u8
     ensures { result ≡ task_code (end_of counted) }
 {
     match counted {

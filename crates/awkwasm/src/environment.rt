@@ -7,7 +7,7 @@ ghost use Rattle.awkwasm.specs.Done.{IsUnbegun};
 ghost use Rattle.awkwasm.specs.Environment.{IsPairIn, IsSortedByName, named_pair};
 ghost use Rattle.host_names.specs.Forms.{pair_of};
 
-use run_tasks::{NamedText, Undone, named_text};
+use run_tasks::{NamedText, TaskError, named_text};
 use std::alloc::{AllocError, Global};
 use std::cmp::Ordering;
 use std::env::{Env, FillError};
@@ -86,7 +86,7 @@ fn sorted(pairs: Vec<NamedText>) -> Result<Vec<NamedText>, AllocError>
 }
 
 /// The environment, sorted by name, but for entries that are not UTF-8.
-pub(crate) fn environment_of(rt: &HostRuntime) -> Result<Vec<NamedText>, Undone>
+pub(crate) fn environment_of(rt: &HostRuntime) -> Result<Vec<NamedText>, TaskError>
     ensures order { IfOk result (λ texts. IsSortedByName texts.items) }
     ensures err { IfErr result IsUnbegun }
 {

@@ -6,7 +6,7 @@ ghost use Rattle.clap.specs.Words.{kind_of, takes};
 ghost use Rattle.command_line.specs.Line.{line_app, status_of_kind};
 ghost use Rattle.command_line.specs.Spelling.{spelled_line};
 ghost use Rattle.command_line.specs.Request.{texts};
-ghost use Rattle.run_tasks.specs.declared.undone.Undone.TheVariants.{NoMemory};
+ghost use Rattle.run_tasks.specs.declared.task_error.TaskError.TheVariants.{NoMemory};
 ghost use Rattle.awkwasm.specs.Lines.{Carries, Refuses};
 
 mod checking;
@@ -28,17 +28,17 @@ use command_line::{
     exit_status, is_no_memory, is_script_file, is_text_apart, request_of, spelled_line,
 };
 use run_report::shown;
-use run_tasks::Undone;
+use run_tasks::TaskError;
 use std::alloc::AllocError;
 use std::io;
 use std::process::ExitCode;
 
 /// The arguments, the program's name first.
-fn arguments(rt: &HostRuntime) -> Result<Vec<String>, Undone> {
+fn arguments(rt: &HostRuntime) -> Result<Vec<String>, TaskError> {
     match std::env::args(rt) {
         Ok(words) => Ok(words.collect(rt.alloc())?),
-        Err(error) if error.kind() == io::ErrorKind::OutOfMemory => Err(Undone::NoMemory),
-        Err(_) => Err(Undone::Arguments),
+        Err(error) if error.kind() == io::ErrorKind::OutOfMemory => Err(TaskError::NoMemory),
+        Err(_) => Err(TaskError::Arguments),
     }
 }
 
@@ -52,7 +52,7 @@ fn words_of<'a>(rt: &HostRuntime, arguments: &'a [String]) -> Result<Vec<&'a str
 }
 
 /// Prints the text of a line that asks for nothing: help and the version to the standard output, else what is wrong to the standard error.
-fn tell_refused(rt: &HostRuntime, error: &Error) -> Result<u8, Undone>
+fn tell_refused(rt: &HostRuntime, error: &Error) -> Result<u8, TaskError>
     ensures { IfOk result (λ code. code ≡ status_of_kind (kind_of error.now)) }
 {
     let text = format!(in rt.alloc(); "{error}")?;
@@ -65,7 +65,7 @@ fn tell_refused(rt: &HostRuntime, error: &Error) -> Result<u8, Undone>
 }
 
 /// Does what the words ask for; the answer is the exit status.
-fn answer(rt: &HostRuntime, words: &[&str]) -> Result<u8, Undone>
+fn answer(rt: &HostRuntime, words: &[&str]) -> Result<u8, TaskError>
     ensures ok { IfOk result
         (λ code. Carries (texts words.now) code ⊎ Refuses (texts words.now) code) }
     ensures err { IfErr result (λ undone. takes line_app (spelled_line (texts words.now)) ≡ true
@@ -73,9 +73,9 @@ fn answer(rt: &HostRuntime, words: &[&str]) -> Result<u8, Undone>
 {
     let line = spelled_line(rt.alloc(), words)?;
     match request_of(rt.alloc(), &line) {
-        Err(error) if is_no_memory(&error) => Err(Undone::NoMemory),
-        Err(error) if is_script_file(&error, words) => Err(Undone::ScriptFile),
-        Err(error) if is_text_apart(&error, words) => Err(Undone::TextApart),
+        Err(error) if is_no_memory(&error) => Err(TaskError::NoMemory),
+        Err(error) if is_script_file(&error, words) => Err(TaskError::ScriptFile),
+        Err(error) if is_text_apart(&error, words) => Err(TaskError::TextApart),
         Err(error) => match tell_refused(rt, &error) {
             Ok(status) => Ok(status),
             Err(undone) => Err(undone),
@@ -84,7 +84,7 @@ fn answer(rt: &HostRuntime, words: &[&str]) -> Result<u8, Undone>
     }
 }
 
-fn status(rt: &HostRuntime) -> Result<u8, Undone> {
+fn status(rt: &HostRuntime) -> Result<u8, TaskError> {
     let arguments = arguments(rt)?;
     let words = words_of(rt, &arguments)?;
     answer(rt, &words)

@@ -12,14 +12,14 @@ use crate::output::tell;
 use crate::tasks::{MODULE_LIMIT, file_of, surroundings, tell_task};
 use command_line::Task;
 use run_report::RunEnd;
-use run_tasks::{ModuleWhereabouts, Undone, module_seen, module_where_text};
+use run_tasks::{ModuleWhereabouts, TaskError, module_seen, module_where_text};
 use std::alloc::Global;
 
 /// How a run ended, and where the module was.
 type Seen = (RunEnd, Option<ModuleWhereabouts>);
 
 /// Runs the module of these bytes as a task says, over real files, behind the fence of the task, and sees where it was.
-fn exec_bytes_where(rt: &HostRuntime, task: &Task<'_>, bytes: &[u8]) -> Result<Seen, Undone>
+fn exec_bytes_where(rt: &HostRuntime, task: &Task<'_>, bytes: &[u8]) -> Result<Seen, TaskError>
     ensures ok { IfOk result (λ r. (environment : List NamedText) × IsSortedByName environment
         × RunsModule task.now bytes.now (map pair_of environment) r.0) }
     ensures err { IfErr result IsUnbegun }
@@ -29,7 +29,7 @@ fn exec_bytes_where(rt: &HostRuntime, task: &Task<'_>, bytes: &[u8]) -> Result<S
 }
 
 /// Runs the module in the file of a task, and sees where it was.
-fn exec_task_where(rt: &HostRuntime, task: &Task<'_>) -> Result<Seen, Undone>
+fn exec_task_where(rt: &HostRuntime, task: &Task<'_>) -> Result<Seen, TaskError>
     ensures ok { IfOk result (λ r. (bytes : List ℕ) × (environment : List NamedText)
         × IsSortedByName environment × RunsModule task.now bytes (map pair_of environment) r.0) }
     ensures err { IfErr result (λ undone. IsUnread undone ⊎ IsUnbegun undone) }
@@ -51,7 +51,7 @@ fn lines_of_module(alloc: Global, end: &RunEnd, found: &ModuleWhereabouts) -> Ve
 /// What is told of where a module was, if it was run and that was seen.
 fn module_lines(
     alloc: Global,
-    done: &Result<RunEnd, Undone>,
+    done: &Result<RunEnd, TaskError>,
     found: &Option<ModuleWhereabouts>,
 ) -> Vec<u8> {
     match (done, found) {
@@ -64,7 +64,7 @@ fn module_lines(
 fn seen_exec(
     rt: &HostRuntime,
     task: &Task<'_>,
-) -> (Result<RunEnd, Undone>, Option<ModuleWhereabouts>)
+) -> (Result<RunEnd, TaskError>, Option<ModuleWhereabouts>)
     ensures { Does (Exec task.now) result.0 }
 {
     match exec_task_where(rt, task) {

@@ -3,7 +3,7 @@ ghost use Rattle.std.specs.Prelude.{IfErr};
 ghost use Rattle.awkwasm.specs.Done.{IsUnwritten};
 
 use run_report::FileFault;
-use run_tasks::Undone;
+use run_tasks::TaskError;
 use std::alloc::AllocError;
 use std::fs::{File, OpenOptions, Permissions};
 use std::io::{ErrorKind, Print, Write};
@@ -19,17 +19,17 @@ pub(crate) fn tell(rt: &HostRuntime, text: &[u8]) {
 }
 
 /// What is told of a file, or of the standard output, that is not written.
-fn unwritten(error: &io::Error) -> Undone
+fn unwritten(error: &io::Error) -> TaskError
     ensures { IsUnwritten result }
 {
     match error.kind() {
-        ErrorKind::OutOfMemory => Undone::NoMemory,
-        _ => Undone::File(FileFault::CannotWrite),
+        ErrorKind::OutOfMemory => TaskError::NoMemory,
+        _ => TaskError::File(FileFault::CannotWrite),
     }
 }
 
 /// Writes a text to the standard output.
-pub(crate) fn print_text(rt: &HostRuntime, text: &str) -> Result<(), Undone>
+pub(crate) fn print_text(rt: &HostRuntime, text: &str) -> Result<(), TaskError>
     ensures { IfErr result IsUnwritten }
 {
     match print!(rt; "{text}") {
@@ -117,11 +117,11 @@ pub(crate) fn write_module(
     script_file: &str,
     out: &str,
     module: &[u8],
-) -> Result<(), Undone>
+) -> Result<(), TaskError>
     ensures { IfErr result IsUnwritten }
 {
     if is_same_file(rt, script_file, out) {
-        return Err(Undone::File(FileFault::CannotWrite));
+        return Err(TaskError::File(FileFault::CannotWrite));
     }
     match write_file(rt, out, module) {
         Ok(()) => Ok(()),

@@ -1,13 +1,16 @@
 //! What the command line asks for, over real files.
-ghost use Rattle.std.specs.Prelude.{◌≡◌, ◌⊎◌, ℕ, List, [], map, IfErr, IfOk};
+ghost use Rattle.std.specs.Prelude.{◌≡◌, ◌⊎◌, ℕ, List, [], map, IfErr, IfOk, MatchOption, Some, string_bytes};
 ghost use Rattle.awkwasm.specs.Done.{Does, Exits, IsExplained, IsNotExplained, IsUnbegun, IsUnread, IsUnwritten};
 ghost use Rattle.awkwasm.specs.Environment.{IsSortedByName};
+ghost use Rattle.awkwasm.specs.Explained.{Explains, topics_text};
 ghost use Rattle.command_line.specs.declared.Request.TheVariants.{Run};
 ghost use Rattle.host_names.specs.Forms.{pair_of};
 ghost use Rattle.host_names.specs.declared.names.NamedText.{NamedText};
 ghost use Rattle.run_report.specs.EndTexts.{exit_code};
+ghost use Rattle.run_report.specs.Topics.{all_topics, named};
 ghost use Rattle.run_report.specs.WhereTexts.{where_text};
 ghost use Rattle.run_report.specs.declared.end.RunEnd.TheVariants.{Ended};
+ghost use Rattle.run_report.specs.declared.topic.Topic.{Topic};
 ghost use Rattle.run_tasks.specs.Runs.{RunsModule, RunsScript};
 ghost use Rattle.run_tasks.specs.Tasks.{IsUnreadable, task_code};
 
@@ -24,7 +27,8 @@ use run_report::{
     FileFault, RunEnd, Whereabouts, no_memory_text, status_of, tell_end, topic_named, where_text,
 };
 use run_tasks::{
-    Surroundings, Undone, listed, module_end, script_end, script_seen, undone_status, undone_text,
+    Surroundings, TaskError, listed, module_end, script_end, script_seen, undone_status,
+    undone_text,
 };
 use script_code::MAX_SCRIPT_BYTES;
 use std::alloc::Global;
@@ -51,29 +55,29 @@ fn read_file<R: Files>(alloc: Global, files: &R, path: &str, limit: u64) -> io::
 }
 
 /// The first bytes of a file that the line names.
-pub(crate) fn file_of(rt: &HostRuntime, path: &str, limit: u64) -> Result<Vec<u8>, Undone>
+pub(crate) fn file_of(rt: &HostRuntime, path: &str, limit: u64) -> Result<Vec<u8>, TaskError>
     ensures { IfErr result IsUnread }
 {
     match read_file(rt.alloc(), rt, path, limit) {
         Ok(bytes) => Ok(bytes),
-        Err(error) if error.kind() == io::ErrorKind::OutOfMemory => Err(Undone::NoMemory),
-        Err(_) => Err(Undone::File(FileFault::CannotRead)),
+        Err(error) if error.kind() == io::ErrorKind::OutOfMemory => Err(TaskError::NoMemory),
+        Err(_) => Err(TaskError::File(FileFault::CannotRead)),
     }
 }
 
 /// What the keys of arrays are hashed with. No script can know it.
-fn random_state(rt: &HostRuntime) -> Result<RandomState, Undone>
+fn random_state(rt: &HostRuntime) -> Result<RandomState, TaskError>
     ensures { IfErr result IsUnbegun }
 {
     match RandomState::new(rt) {
         Ok(state) => Ok(state),
-        Err(error) if error.kind() == io::ErrorKind::OutOfMemory => Err(Undone::NoMemory),
-        Err(_) => Err(Undone::RandomNumbers),
+        Err(error) if error.kind() == io::ErrorKind::OutOfMemory => Err(TaskError::NoMemory),
+        Err(_) => Err(TaskError::RandomNumbers),
     }
 }
 
 /// The surroundings of a run: real files, the standard streams, and the environment.
-pub(crate) fn surroundings<'a>(rt: &'a HostRuntime) -> Result<Around<'a>, Undone>
+pub(crate) fn surroundings<'a>(rt: &'a HostRuntime) -> Result<Around<'a>, TaskError>
     ensures order { IfOk result (λ around. IsSortedByName around.environment.items) }
     ensures err { IfErr result IsUnbegun }
 {
@@ -90,7 +94,7 @@ pub(crate) fn surroundings<'a>(rt: &'a HostRuntime) -> Result<Around<'a>, Undone
 }
 
 /// Runs the script of a task over real files, behind the fence of the task.
-fn run_task(rt: &HostRuntime, task: &Task<'_>) -> Result<RunEnd, Undone>
+fn run_task(rt: &HostRuntime, task: &Task<'_>) -> Result<RunEnd, TaskError>
     ensures ok { IfOk result (λ e. (environment : List NamedText) × IsSortedByName environment
         × RunsScript task.now (map pair_of environment) e) }
     ensures err { IfErr result IsUnbegun }
@@ -103,7 +107,7 @@ fn run_task(rt: &HostRuntime, task: &Task<'_>) -> Result<RunEnd, Undone>
 fn run_task_where(
     rt: &HostRuntime,
     task: &Task<'_>,
-) -> Result<(RunEnd, Option<Whereabouts>), Undone>
+) -> Result<(RunEnd, Option<Whereabouts>), TaskError>
     ensures ok { IfOk result (λ r. (environment : List NamedText) × IsSortedByName environment
         × RunsScript task.now (map pair_of environment) r.0) }
     ensures err { IfErr result IsUnbegun }
@@ -113,7 +117,7 @@ fn run_task_where(
 }
 
 /// Runs the module of these bytes as a task says, over real files, behind the fence of the task.
-fn exec_bytes(rt: &HostRuntime, task: &Task<'_>, bytes: &[u8]) -> Result<RunEnd, Undone>
+fn exec_bytes(rt: &HostRuntime, task: &Task<'_>, bytes: &[u8]) -> Result<RunEnd, TaskError>
     ensures ok { IfOk result (λ e. (environment : List NamedText) × IsSortedByName environment
         × RunsModule task.now bytes.now (map pair_of environment) e) }
     ensures err { IfErr result IsUnbegun }
@@ -123,7 +127,7 @@ fn exec_bytes(rt: &HostRuntime, task: &Task<'_>, bytes: &[u8]) -> Result<RunEnd,
 }
 
 /// Runs the module in the file of a task.
-fn exec_task(rt: &HostRuntime, task: &Task<'_>) -> Result<RunEnd, Undone>
+fn exec_task(rt: &HostRuntime, task: &Task<'_>) -> Result<RunEnd, TaskError>
     ensures ok { IfOk result (λ e. (bytes : List ℕ) × (environment : List NamedText)
         × IsSortedByName environment × RunsModule task.now bytes (map pair_of environment) e) }
     ensures err { IfErr result (λ undone. IsUnread undone ⊎ IsUnbegun undone) }
@@ -133,21 +137,23 @@ fn exec_task(rt: &HostRuntime, task: &Task<'_>) -> Result<RunEnd, Undone>
 }
 
 /// What is asked of `explain`: what a name means, or which names there are.
-fn explained(alloc: Global, name: Option<&str>) -> Result<String, Undone>
-    ensures { IfErr result IsNotExplained }
+fn explained(alloc: Global, name: Option<&str>) -> Result<String, TaskError>
+    ensures text { IfOk result (λ text. MatchOption name.entry (string_bytes text ≡ topics_text all_topics)
+        (λ asked. (topic : Topic) × (named asked.now ≡ Some topic) × Explains topic (string_bytes text))) }
+    ensures err { IfErr result IsNotExplained }
 {
     let Some(name) = name else {
         return Ok(names_text(alloc)?);
     };
     match topic_named(name) {
         Some(topic) => Ok(explanation_text(alloc, topic)?),
-        None => Err(Undone::Unexplained),
+        None => Err(TaskError::Unexplained),
     }
 }
 
 /// Prints what is asked of `explain`.
 #[tactic(auto, using(crate::proofs::Printing::unprinted))]
-fn explain_task(rt: &HostRuntime, name: Option<&str>) -> Result<RunEnd, Undone>
+fn explain_task(rt: &HostRuntime, name: Option<&str>) -> Result<RunEnd, TaskError>
     ensures { IsExplained result }
 {
     let text = explained(rt.alloc(), name)?;
@@ -156,7 +162,7 @@ fn explain_task(rt: &HostRuntime, name: Option<&str>) -> Result<RunEnd, Undone>
 }
 
 /// Prints what a module imports, and what follows.
-fn imports_task(rt: &HostRuntime, file: &str) -> Result<RunEnd, Undone>
+fn imports_task(rt: &HostRuntime, file: &str) -> Result<RunEnd, TaskError>
     ensures ok { IfOk result (λ e. (e ≡ Ended 0) ⊎ ((bytes : List ℕ) × IsUnreadable bytes e)) }
     ensures err { IfErr result (λ undone. IsUnread undone ⊎ IsUnwritten undone) }
 {
@@ -183,7 +189,7 @@ fn tell_run(rt: &HostRuntime, end: RunEnd) -> u8
 }
 
 /// Tells what became of a task where that is no status of its own; the answer is the exit status.
-pub(crate) fn tell_task(rt: &HostRuntime, done: Result<RunEnd, Undone>) -> u8
+pub(crate) fn tell_task(rt: &HostRuntime, done: Result<RunEnd, TaskError>) -> u8
     ensures { result ≡ task_code done }
 {
     match done {
@@ -208,7 +214,7 @@ fn lines_of(alloc: Global, end: &RunEnd, found: &Whereabouts) -> Vec<u8>
 /// What is told of where a script was, if it was run and that was seen.
 fn where_lines(
     alloc: Global,
-    done: &Result<RunEnd, Undone>,
+    done: &Result<RunEnd, TaskError>,
     found: &Option<Whereabouts>,
 ) -> Vec<u8> {
     match (done, found) {
@@ -218,7 +224,7 @@ fn where_lines(
 }
 
 /// Runs the script of a task, and sees where it was.
-fn seen_run(rt: &HostRuntime, task: &Task<'_>) -> (Result<RunEnd, Undone>, Option<Whereabouts>)
+fn seen_run(rt: &HostRuntime, task: &Task<'_>) -> (Result<RunEnd, TaskError>, Option<Whereabouts>)
     ensures { Does (Run task.now) result.0 }
 {
     match run_task_where(rt, task) {

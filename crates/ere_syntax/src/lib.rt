@@ -4,11 +4,11 @@
 mod bracket;
 mod check;
 mod class;
+mod ere_laws;
 mod escape;
 mod fault;
 mod frame;
 mod interval;
-mod laws;
 mod read;
 mod sign;
 mod size;
@@ -16,7 +16,7 @@ mod step;
 mod token;
 mod tree;
 
+pub use ere_laws::{matches_inside, one_tree};
 pub use fault::EreFault;
-pub use laws::{matches_inside, one_tree};
 pub use read::read_ere;
 pub use tree::{ByteSet, Ere, Times};

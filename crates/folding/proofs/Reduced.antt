@@ -10,7 +10,7 @@ use Rattle.mid_program.specs.declared.mid.Operation.TheVariants.{Host, Inline, A
 use Rattle.sem_scripts.specs.Meaning.{Calls}
 use Rattle.sem_scripts.specs.ScriptState.{State, Outcome, Gives, settled}
 use Rattle.sem_scripts.specs.Steps.{field_checked}
-use Rattle.mid_program.specs.Mid.{Kind, Code, Do, Number, Codes, End, At, Form, Answered, a_number, answer_by, form_of}
+use Rattle.mid_program.specs.Mid.{Kind, Code, Do, Number, Codes, End, At, Form, PrimitiveAnswer, a_number, answer_by, form_of}
 use Rattle.mid_program.specs.MidMeaning.{Env, Holds, arithmetic_of, or_zero, evaluated, all_evaluated}
 use Rattle.mid_program.specs.Alike.{Alike, LikeR}
 use Rattle.mid_program.specs.Rewritten.{SameOperations}
@@ -49,7 +49,7 @@ module _ (texts : List (List ℕ)) (qs : List (List Kind)) (n : ℕ) (calls : Ca
   field_does x s = λ i. settled (field_checked (or_zero (number_again x i))) s
 
   abbrev Means : (o : Operation) → Codes → AnyNumber → State → Type 0
-  Means o es r s = LikeR (Alike (Answered (answer_by o)) a_number) (E (Do o es) s) (E (Number r.number) s)
+  Means o es r s = LikeR (Alike (PrimitiveAnswer (answer_by o)) a_number) (E (Do o es) s) (E (Number r.number) s)
 
   one_means : (o : Operation) (a : Code) (x : Option AnyNumber) (r : AnyNumber) (s : State) → constant a ≡ x → of_one o x ≡ Some r → Means o (At a End) r s
   one_means AsNumber a (Some x) r s e h =
@@ -74,9 +74,9 @@ module _ (texts : List (List ℕ)) (qs : List (List Kind)) (n : ℕ) (calls : Ca
   value_means o (At a (At b End)) r s h = two_means o a b (constant a) (constant b) r s refl refl h
   value_means o _ r s h = absurd cc
 
-  reduced_means : (o : Operation) (es : Codes) (v : Option AnyNumber) (s : State) → value_of o es ≡ v → LikeR (Alike (Answered (answer_by o)) (form_of gs (reduced_to v o es))) (E (Do o es) s) (E (reduced_to v o es) s)
+  reduced_means : (o : Operation) (es : Codes) (v : Option AnyNumber) (s : State) → value_of o es ≡ v → LikeR (Alike (PrimitiveAnswer (answer_by o)) (form_of gs (reduced_to v o es))) (E (Do o es) s) (E (reduced_to v o es) s)
   reduced_means o es (Some r) s h = value_means o es r s h
-  reduced_means o es None s h = like_self (Alike (Answered (answer_by o)) (Answered (answer_by o))) (λ a. refl) (E (Do o es) s)
+  reduced_means o es None s h = like_self (Alike (PrimitiveAnswer (answer_by o)) (PrimitiveAnswer (answer_by o))) (λ a. refl) (E (Do o es) s)
 
 pub reduced_same : (texts : List (List ℕ)) (qs : List (List Kind)) (n : ℕ) (calls : Calls) → SameOperations texts qs n calls reduced
 reduced_same texts qs n calls = λ gs env o es s. reduced_means texts qs n calls gs env o es (value_of o es) s refl

@@ -6,7 +6,7 @@ use Rattle.sem_primitives.specs.Numbers.{Number as AnyNumber}
 use Rattle.sem_primitives.specs.declared.table.Primitive.TheVariants.{Pow}
 use Rattle.mid_program.specs.declared.mid.Operation.{Operation}
 use Rattle.mid_program.specs.declared.mid.Operation.TheVariants.{Host, Inline, AsNumber, FieldNumber}
-use Rattle.mid_program.specs.Mid.{Kind, Code, Do, Codes, End, At, Steps, Declared, Routine, Program, Form, Answered, a_number, answer_by, form_of}
+use Rattle.mid_program.specs.Mid.{Kind, Code, Do, Codes, End, At, Steps, Declared, Routine, Program, Form, PrimitiveAnswer, a_number, answer_by, form_of}
 use Rattle.mid_program.specs.Sorted.{Context, Held, held_after, held_after_all, sorted, all_sorted, steps_sorted, context_of, routines_sorted, announced_names, all_differ, parts_sorted, is_sorted, IsSorted}
 use Rattle.mid_program.specs.Stores.{Store, Every, steps_stores}
 use Rattle.mid_program.proofs.Sorted.{Keeps, Stays, from_T, steps_rewritten}
@@ -18,7 +18,7 @@ use Rattle.folding.proofs.Folds.{calls_kept}
 
 -- it answers a number, and moves nothing that is kept
 record Constants (o : Operation) (es : Codes) : Type 0 where
-  answers : Answered (answer_by o) ≡ a_number
+  answers : PrimitiveAnswer (answer_by o) ≡ a_number
   moves : (i : ℕ) (h : Held) → held_after_all i es h ≡ h
 
 one_constant : (o : Operation) (a : Code) (x : Option AnyNumber) (r : AnyNumber) → constant a ≡ x → of_one o x ≡ Some r → Constants o (At a End)
@@ -36,7 +36,7 @@ constants_by o (At a End) r h = one_constant o a (constant a) r refl h
 constants_by o (At a (At b End)) r h = two_constants o a b (constant a) (constant b) r refl refl h
 constants_by o _ r h = absurd cc
 
-form_by : (fs : List Form) (o : Operation) (es : Codes) (v : Option AnyNumber) → value_of o es ≡ v → form_of fs (reduced_to v o es) ≡ Answered (answer_by o)
+form_by : (fs : List Form) (o : Operation) (es : Codes) (v : Option AnyNumber) → value_of o es ≡ v → form_of fs (reduced_to v o es) ≡ PrimitiveAnswer (answer_by o)
 form_by fs o es (Some r) h = sym (constants_by o es r h).answers
 form_by fs o es None h = refl
 

@@ -4,14 +4,18 @@ use Rattle.wasm_model.specs.declared.host.HostAnswer.{HostAnswer}
 use Rattle.awk_values.specs.declared.fault.Fault.{Fault}
 use Rattle.wasm_store.specs.declared.word.Word.{Word}
 use Rattle.world_core.specs.WorldState.{Action, Entry, Outside, State}
+use Rattle.host_step.specs.HostState.{HostState}
 use Rattle.host_step.specs.HostStep.{refuses}
 use Rattle.host_step.specs.Worlds.{reads}
 use Rattle.host_imports.specs.Imports.{lets_go}
 use Rattle.host_imports.specs.declared.import.Import.{Import}
 use Rattle.host_worlds.specs.declared.input.Input.{Input}
-use Rattle.host_values.specs.declared.reply.Refusal.{Refusal}
-use Rattle.host_values.specs.declared.reply.Refusal.TheVariants as why
+use Rattle.host_step.specs.declared.refusal.Refusal.{Refusal}
+use Rattle.host_step.specs.declared.refusal.Refusal.TheVariants as why
 use Rattle.host_values.specs.ElementCalls.{IsTableCall}
+use Rattle.host_values.specs.Calls.{CarriesOut}
+use Rattle.host_values.specs.Evaluations.{Evaluates, Evaluation, Values}
+use Rattle.host_values.specs.declared.reply.Evaluated.{Evaluated}
 use Rattle.host_values.specs.Forms.{HostForm}
 use Rattle.host_names.specs.Forms.{left_after}
 use Rattle.host_values.specs.Findings.{After, Finding, View, form_finding, viewed}
@@ -20,13 +24,14 @@ use Rattle.host_values.specs.TableCalls.{TableCalls, answer_of_call, left_by_cal
 use Rattle.host_values.specs.WorldCalls.{IsCalled}
 use Rattle.host_values.proofs.Faults.{called_too}
 use Rattle.host_values.proofs.Means.{plain_calls}
+use Rattle.host_values.proofs.Steps.{ComesTo as EvaluatesTo}
+use Rattle.host_texts.specs.States.{holding}
+use Rattle.host_texts.specs.declared.texts.Texts.{Texts}
 use Rattle.host_tables.specs.Answers.{told_as}
-use Rattle.host_tables.specs.Calls.{import_of_table}
+use Rattle.host_tables.specs.Families.{of_texts}
 use Rattle.host_tables.specs.Forms.{of_tables}
-use Rattle.host_tables.specs.declared.held.Tables.{Tables}
-use Rattle.host_tables.specs.declared.table_call.TableCall.{TableCall}
-use Rattle.host_tables.proofs.Chosen.{chosen_plain}
-use Rattle.host_tables.proofs.Quiet.{quiet}
+use Rattle.host_tables.specs.declared.tables.Tables.{Tables}
+use Rattle.host_tables.proofs.Bridge.{carried_tables, plain_tables}
 use Rattle.host_tables.proofs.Tellings.{told_means, world_told}
 use Rattle.host_calls.specs.Calls.{ComesTo, MeansSome}
 use Rattle.host_calls.specs.Forms.{form_in}
@@ -89,17 +94,35 @@ told_comes tells i before between after-call words memory r a told left comes =
     (subst (λ (z : HostForm). MeansSome tells i before words memory (told_as i r) z) (sym left) comes)
 
 -- a call on the tables by a function of its own, as it is told
-module _ (tells : Type 0) (call : TableCall) (words : List Word) (memory : List ℕ) (t u : Tables) (i : Input) (state : State) (r : Result (Option Word) Refusal) (a : HostAnswer) (after-call : HostForm)
-    (told : a ≡ told_as (import_of_table call) r) (kept : after-call ≡ left_by_call r (form_in u i state)) where
-  pub table_told : TableCalls (import_of_table call) (form_in t i state) words memory r (form_in u i state) → MeansSome tells (import_of_table call) (form_in t i state) words memory a after-call
+module _ (tells : Type 0) (i : Import) (quiet : reads i ≡ false) (words : List Word) (memory : List ℕ) (t u : Tables) (input : Input) (state : State)
+    (r : Result (Option Word) Refusal) (a : HostAnswer) (after-call : HostForm) (told : a ≡ told_as i r) (kept : after-call ≡ left_by_call r (form_in u input state)) where
+  pub table_told : TableCalls i (form_in t input state) words memory r (form_in u input state)
+      → MeansSome tells i (form_in t input state) words memory a after-call
   table_told calls =
-      told_comes tells (import_of_table call) (form_in t i state) (form_in u i state) after-call words memory r a told kept
-      (table_comes tells (import_of_table call) words memory (quiet call) (form_in t i state) (form_in u i state) r refl refl calls)
+      told_comes tells i (form_in t input state) (form_in u input state) after-call words memory r a told kept
+      (table_comes tells i words memory quiet (form_in t input state) (form_in u input state) r refl refl calls)
 
   -- where no fault is kept
-  pub plain_told : t.fault ≡ None → ((f : HostForm) → IsTableCall (import_of_table call) (of_tables t f) words memory r (of_tables u f))
-      → MeansSome tells (import_of_table call) (form_in t i state) words memory a after-call
-  plain_told none calls = table_told (chosen_plain call call words memory r refl t u (form_in t i state) none calls)
+  pub plain_told : t.fault ≡ None → ((f : HostForm) → IsTableCall i (of_tables t f) words memory r (of_tables u f))
+      → MeansSome tells i (form_in t input state) words memory a after-call
+  plain_told none calls = table_told (plain_tables i words memory r t u (form_in t input state) none calls)
+
+-- a call that came to what its evaluation says, carried out and told
+module _ (tells : Type 0) (i : Import) (quiet : reads i ≡ false) (words : List Word) (memory : List ℕ) (t : Tables) (now : Texts) (input : Input) (state : State)
+    (evaluated : Result Evaluated Refusal) (e : Values → HostState → List Word → Evaluation) (none : t.fault ≡ None)
+    (comes : (s : HostState) → EvaluatesTo i t.handles s words memory (e t.handles s words))
+    (evaluates : (s : HostState) → Evaluates t.handles (holding t.texts s) evaluated (holding now s) (e t.handles (holding t.texts s) words))
+    (a : HostAnswer) (after-call : HostForm) where
+  abbrev Settled : Type 0
+  Settled = (r : Result (Option Word) Refusal) × (values : Values) × CarriesOut evaluated t.handles r values × (a ≡ told_as i r)
+      × (after-call ≡ left_by_call r (of_texts now values (form_in t input state)))
+
+  pub settled_means : Settled → MeansSome tells i (form_in t input state) words memory a after-call
+  settled_means (r, values, carries, told, kept) =
+      let before = form_in t input state in
+      let after = of_texts now values before in
+      told_comes tells i before after after-call words memory r a told kept
+      (table_comes tells i words memory quiet before after r refl refl (carried_tables i words memory t now values evaluated r e none comes evaluates carries before))
 
 -- an answer, by the import that was found
 pub found : (tells : Type 0) (i k : Import) (before : HostForm) (words : List Word) (memory : List ℕ) (a : HostAnswer) (after-call : HostForm) → i ≡ k

@@ -10,11 +10,11 @@ use Rattle.host_step.specs.Answers.{refusal}
 use Rattle.host_step.specs.HostState.{HostState}
 use Rattle.host_step.specs.HostStep.{Comes, Goes, Refuses, StepIf, Traps, comes}
 use Rattle.host_imports.specs.Imports.{import_answer}
-use Rattle.host_step.specs.Worlds.{AnyhowIf, Called, EndsRead, ReadBy, reads, with_output}
+use Rattle.host_step.specs.Worlds.{InAnyWorldIf, Called, EndsRead, ReadBy, reads, with_output}
 use Rattle.host_imports.specs.declared.import.Import.{Import}
-use Rattle.host_imports.specs.declared.import.Import.TheVariants.{Of}
-use Rattle.host_values.specs.declared.reply.Refusal.{Refusal}
-use Rattle.host_values.specs.declared.reply.Refusal.TheVariants as why
+use Rattle.host_imports.specs.declared.import.Import.TheVariants.{OfPrimitive}
+use Rattle.host_step.specs.declared.refusal.Refusal.{Refusal}
+use Rattle.host_step.specs.declared.refusal.Refusal.TheVariants as why
 use Rattle.host_values.specs.Forms.{HostForm, state_of}
 use Rattle.host_values.specs.FormMeaning.{FormMeans}
 use Rattle.host_values.specs.TableCalls.{left_by_call}
@@ -23,8 +23,8 @@ use Rattle.host_tables.proofs.Tellings.{faulted_told, world_told}
 use Rattle.host_tables.specs.Answers.{told_as}
 use Rattle.host_worlds.specs.Calls.{shown_after}
 use Rattle.host_worlds.specs.Givens.{file_primitive, main_primitive}
-use Rattle.host_worlds.specs.declared.input.Keep.{Keep}
-use Rattle.host_worlds.specs.declared.input.Keep.TheVariants.{Line, Record}
+use Rattle.host_worlds.specs.declared.input.ReadInto.{ReadInto}
+use Rattle.host_worlds.specs.declared.input.ReadInto.TheVariants.{Variable, Record}
 use Rattle.host_worlds.specs.declared.input.MainRead.{MainRead}
 use Rattle.host_worlds.specs.declared.input.MainRead.TheVariants.{Getline, Loop}
 
@@ -58,8 +58,8 @@ module _ (tells : Type 0) (i : Import) (is_read : reads i ≡ true) (before : Ho
       step = λ y so_far.
           subst (λ (z : Outside). StepIf (Some i) (with_output so_far s) words memory refused (with_output (so_far ++ []) (state_outside z t)) [])
           (same y) (c.step y so_far);
-      anyhow = subst (λ b. AnyhowIf b i s words memory refused (state_outside o t)) (sym is_read)
-          (read_so (comes i words memory s) (subst (λ b. AnyhowIf b i s words memory refused t) is_read c.anyhow));
+      in_any_world = subst (λ b. InAnyWorldIf b i s words memory refused (state_outside o t)) (sym is_read)
+          (read_so (comes i words memory s) (subst (λ b. InAnyWorldIf b i s words memory refused t) is_read c.in_any_world));
     }
 
   leads_so : (f : HostForm) → f.fault ≡ Some fault → (tells → f.shared.outside ≡ o) → LeadsIn tells i before words memory refused f []
@@ -99,11 +99,11 @@ module _ (tells : Type 0) (i : Import) (is_read : reads i ≡ true) (before afte
         finds_so tells i is_read before none words memory f after-call.shared.outside (record before { values = after-call.values; fault = Some f }) calls.1,
       )
 
-pub main_reads : (how : MainRead) → reads (Of (main_primitive how)) ≡ true
+pub main_reads : (how : MainRead) → reads (OfPrimitive (main_primitive how)) ≡ true
 main_reads Loop = refl
 main_reads (Getline Record) = refl
-main_reads (Getline Line) = refl
+main_reads (Getline Variable) = refl
 
-pub file_reads : (to : Keep) → reads (Of (file_primitive to)) ≡ true
+pub file_reads : (to : ReadInto) → reads (OfPrimitive (file_primitive to)) ≡ true
 file_reads Record = refl
-file_reads Line = refl
+file_reads Variable = refl

@@ -1,4 +1,4 @@
--- Where a call writes, what is left of the main input stays as it was; in a world that does not tell its state, nobody sees whether it does.
+-- Where a call writes, what is left of the main input stays as it was; in a world that is not modelled, nobody sees whether it does.
 use Rattle.std.proofs.Common.{◌≡◌, ℕ, List, ◌++◌, Option, Some, None, Result, Ok, Err, false, refl, sym, ap, ◌∙◌, subst}
 use Rattle.awk_values.specs.declared.fault.Fault.{Fault}
 use Rattle.sem_primitives.specs.SharedState.{MainInput}
@@ -7,17 +7,17 @@ use Rattle.wasm_model.specs.declared.host.HostAnswer.TheVariants as told
 use Rattle.wasm_store.specs.declared.word.Word.{Word}
 use Rattle.world_core.specs.WorldState.{Action, Entry, Outside, State, after as outside_after}
 use Rattle.host_step.specs.HostState.{HostState}
-use Rattle.host_step.specs.Worlds.{AnyhowIf, IsStepInSomeWorld, reads, unseen, unseen_main, unseen_reading}
+use Rattle.host_step.specs.Worlds.{InAnyWorldIf, IsStepInSomeWorld, reads, unseen, unseen_main, unseen_reading}
 use Rattle.host_imports.specs.declared.import.Import.{Import}
-use Rattle.host_values.specs.declared.reply.Refusal.{Refusal}
-use Rattle.host_values.specs.declared.reply.Refusal.TheVariants as why
+use Rattle.host_step.specs.declared.refusal.Refusal.{Refusal}
+use Rattle.host_step.specs.declared.refusal.Refusal.TheVariants as why
 use Rattle.host_values.specs.Forms.{HostForm, Past, Stands, state_of}
 use Rattle.host_streams.specs.Mains.{main_of, reading_of}
 use Rattle.host_streams.specs.declared.main_input.MainInput.{MainInput as Mains}
 use Rattle.host_streams.specs.declared.main_input.Reading.{Reading}
 use Rattle.host_streams.specs.declared.main_input.Reading.TheVariants as reading
 use Rattle.host_values.specs.Findings.{form_finding}
-use Rattle.host_values.specs.FormMeaning.{AnyhowShown, FormCalled, FormMeans, StepShown}
+use Rattle.host_values.specs.FormMeaning.{InAnyWorldShown, FormCalled, FormMeans, StepShown}
 use Rattle.host_values.specs.Shown.{SharesBy, form_with_output}
 use Rattle.host_values.specs.TableCalls.{left_by_call}
 use Rattle.host_values.specs.WorldCalls.{IsCalled}
@@ -46,16 +46,16 @@ module _ (tells : Type 0) (i : Import) (quiet : reads i ≡ false) (before f : H
     shared = record (unseen (state_of (with_main old f) p)).shared { inner = record (unseen (state_of (with_main old f) p)).shared.inner { main = z } };
   }) hidden
 
-  some_world : (a : HostAnswer) (s : HostState) (x y : HostState) → unseen x ≡ unseen y → AnyhowIf (reads i) i s words memory a x
-      → AnyhowIf (reads i) i s words memory a y
-  some_world a s x y e h = subst (λ b. AnyhowIf b i s words memory a y) (sym quiet)
-      (let w : IsStepInSomeWorld i s words memory a x = subst (λ b. AnyhowIf b i s words memory a x) quiet h in
+  some_world : (a : HostAnswer) (s : HostState) (x y : HostState) → unseen x ≡ unseen y → InAnyWorldIf (reads i) i s words memory a x
+      → InAnyWorldIf (reads i) i s words memory a y
+  some_world a s x y e h = subst (λ b. InAnyWorldIf b i s words memory a y) (sym quiet)
+      (let w : IsStepInSomeWorld i s words memory a x = subst (λ b. InAnyWorldIf b i s words memory a x) quiet h in
       record { old = w.old; new = w.new; output = w.output; same_before = w.same_before; same_after = w.same_after ∙ e; step = w.step })
 
-  anyhow_by : (a : HostAnswer) (s state : HostState) (fault : Option Fault) → f.fault ≡ fault → (form : HostForm) → SharesBy fault form (with_main old f)
+  in_any_world_by : (a : HostAnswer) (s state : HostState) (fault : Option Fault) → f.fault ≡ fault → (form : HostForm) → SharesBy fault form (with_main old f)
       → Stands form state
-      → AnyhowIf (reads i) i s words memory a state → AnyhowShown (Some i) s words memory a (with_main new f)
-  anyhow_by a s state None e form same stands any =
+      → InAnyWorldIf (reads i) i s words memory a state → InAnyWorldShown (Some i) s words memory a (with_main new f)
+  in_any_world_by a s state None e form same stands any =
       let x : Stands (with_main old f) state = subst (λ z. Stands z state) same stands in
       let to = state_of (with_main new f) x.past in
       record {
@@ -65,9 +65,9 @@ module _ (tells : Type 0) (i : Import) (quiet : reads i ≡ false) (before f : H
           same = subst (λ z. SharesBy z (with_main new f) (with_main new f)) (sym e) refl;
           stands = record { past = x.past; state = refl; arrays = x.arrays; iterators = x.iterators; first = x.first };
         };
-        anyhow = some_world a s state to (ap unseen x.state ∙ unseen_state x.past) any;
+        in_any_world = some_world a s state to (ap unseen x.state ∙ unseen_state x.past) any;
       }
-  anyhow_by a s state (Some fault) e form same stands any = record {
+  in_any_world_by a s state (Some fault) e form same stands any = record {
     state = state;
     shown = record {
       form = form;
@@ -75,10 +75,10 @@ module _ (tells : Type 0) (i : Import) (quiet : reads i ≡ false) (before f : H
           (record { values = same.values; arrays = same.arrays; iterators = same.iterators; fault = same.fault; outside = same.outside; output = same.output });
       stands = stands;
     };
-    anyhow = any;
+    in_any_world = any;
   }
 
-  -- and so it is in surroundings that others change too
+  -- and so it is in an environment that others change too
   same_finding : (finds : List Entry) (outside : Outside) (so_far : List Action) → form_finding finds outside so_far (with_main old f) ≡ form_finding finds outside so_far (with_main new f)
   same_finding finds outside so_far = ap (λ (z : MainInput). record (form_finding finds outside so_far f) {
     shared = record (form_finding finds outside so_far f).shared { inner = record (form_finding finds outside so_far f).shared.inner { main = z } };
@@ -90,7 +90,7 @@ module _ (tells : Type 0) (i : Import) (quiet : reads i ≡ false) (before f : H
     typed = c.typed;
     step = λ t so_far s h.
         subst (λ m. StepShown (Some i) s words memory a (form_with_output (so_far ++ output) (with_main m f)) output) (same t) (c.step t so_far s h);
-    anyhow = λ s h. let x = c.anyhow s h in anyhow_by a s x.state f.fault refl x.shown.form x.shown.same x.shown.stands x.anyhow;
+    in_any_world = λ s h. let x = c.in_any_world s h in in_any_world_by a s x.state f.fault refl x.shown.form x.shown.same x.shown.stands x.in_any_world;
     finds = record {
       found = c.finds.found;
       output = c.finds.output;

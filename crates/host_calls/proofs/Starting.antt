@@ -14,7 +14,7 @@ use Rattle.host_tables.specs.declared.start.FirstTables.{FirstTables}
 use Rattle.host_values.specs.Shown.{Shown}
 use Rattle.host_values.proofs.Showing.{shown_of}
 use Rattle.host_tables.specs.Forms.{of_tables_and_names}
-use Rattle.host_tables.specs.declared.held.Tables.{Tables}
+use Rattle.host_tables.specs.declared.tables.Tables.{Tables}
 use Rattle.host_calls.specs.Forms.{form_in, form_over, nothing}
 
 -- the lists of arrays and iterators that the form itself has are not looked at

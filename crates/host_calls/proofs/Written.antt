@@ -5,7 +5,7 @@ use Rattle.world_core.specs.Calls.{Kind, Reading}
 use Rattle.world_core.specs.WorldState.{Action, State}
 use Rattle.host_step.specs.Worlds.{reads}
 use Rattle.host_imports.specs.declared.import.Import.{Import}
-use Rattle.host_values.specs.declared.reply.Refusal.{Refusal}
+use Rattle.host_step.specs.declared.refusal.Refusal.{Refusal}
 use Rattle.host_values.specs.Forms.{HostForm}
 use Rattle.host_streams.specs.Mains.{main_of}
 use Rattle.host_streams.specs.OpenFiles.{OthersKeep}

@@ -1,11 +1,14 @@
 -- What a call means, and what it comes to.
-use Rattle.std.specs.Prelude.{ℕ, List, Option, Some, Result}
+use Rattle.std.specs.Prelude.{◌≡◌, ℕ, List, Option, Some, Result}
 use Rattle.wasm_model.specs.declared.host.HostAnswer.{HostAnswer}
 use Rattle.wasm_store.specs.declared.word.Word.{Word}
 use Rattle.world_core.specs.WorldState.{Action, State}
 use Rattle.host_imports.specs.declared.import.Import.{Import}
-use Rattle.host_values.specs.declared.reply.Refusal.{Refusal}
+use Rattle.host_step.specs.declared.refusal.Refusal.{Refusal}
+use Rattle.host_values.specs.Calls.{CarriesOut}
+use Rattle.host_values.specs.Evaluations.{Values}
 use Rattle.host_values.specs.Forms.{HostForm}
+use Rattle.host_values.specs.declared.reply.Evaluated.{Evaluated}
 use Rattle.host_values.specs.FormMeaning.{FormMeans}
 use Rattle.host_values.specs.TableCalls.{left_by_call}
 use Rattle.host_tables.specs.Answers.{told_as}
@@ -23,3 +26,8 @@ ComesTo tells i before words memory outcome after-call = MeansSome tells i befor
 -- the same of hosts, whose world says of its state what the function says
 abbrev pub Means : {W : Type 0} {g : _} → Type 0 → (W → State) → Import → Host W g → List Word → List ℕ → HostAnswer → Host W g → Type 0
 Means tells told i before words memory a after-call = MeansSome tells i (host_form told before) words memory a (host_form told after-call)
+
+-- a call that came to this is carried out over the host's values, and told
+abbrev pub Settles : {W : Type 0} {g : _} → (W → State) → Import → Result Evaluated Refusal → Host W g → HostAnswer → Host W g → Type 0
+Settles told i evaluated before a after-call = (r : Result (Option Word) Refusal) × (values : Values) × CarriesOut evaluated before.tables.handles r values
+    × (a ≡ told_as i r) × (host_form told after-call ≡ left_by_call r (record (host_form told before) { values = values }))

@@ -7,7 +7,7 @@ use Rattle.host_values.specs.Forms.{HostForm}
 use Rattle.host_worlds.specs.States.{Over, with_input}
 use Rattle.host_worlds.specs.declared.input.Input.{Input}
 use Rattle.host_texts.specs.States.{with_texts}
-use Rattle.host_tables.specs.declared.held.Tables.{Tables}
+use Rattle.host_tables.specs.declared.tables.Tables.{Tables}
 use Rattle.host_calls.specs.declared.host.Host.{Host}
 
 -- These tables, with what else a script and its host share. The host keeps no output: the world has it.

@@ -1,20 +1,17 @@
 //! The answer to a call.
-ghost use Rattle.std.specs.Prelude.{◌≡◌, List, ℕ, false};
-ghost use Rattle.host_calls.specs.Calls.{Means};
+ghost use Rattle.std.specs.Prelude.{◌≡◌};
+ghost use Rattle.host_calls.specs.Calls.{Means, Settles};
 ghost use Rattle.host_calls.specs.Forms.{host_form};
 ghost use Rattle.host_imports.specs.Imports.{import_answer};
 ghost use Rattle.host_step.specs.Answers.{refusal};
 ghost use Rattle.host_step.specs.HostStep.{refuses};
 ghost use Rattle.host_values.specs.TableCalls.{left_by_call};
 ghost use Rattle.host_tables.specs.Answers.{told_as};
-ghost use Rattle.host_texts.specs.Primitives.{row_of};
-ghost use Rattle.host_values.specs.Primitives.{primitive_of};
 
 use crate::host::Host;
-use host_imports::{Import, Listing};
+use host_imports::{Import, VariadicImport};
 use host_tables::{refusal, refuses, told};
-use host_texts::TextPrimitive;
-use host_values::{Refusal, ValuePrimitive};
+use host_values::{Evaluated, Refusal, carry_out};
 use sem_primitives::Primitive;
 use wasm_model::HostAnswer;
 use wasm_store::Word;
@@ -44,37 +41,16 @@ impl<W: World> Host<W> {
         told(import, outcome)
     }
 
-    /// Answers a call of a primitive on values that is not refused.
+    /// Carries out what a call came to, and tells it.
     #[inline(always)]
-    pub(crate) fn on_values(
+    pub(crate) fn settle(
         &mut self,
         import: Import,
-        primitive: ValuePrimitive,
-        words: &[Word],
-        memory: &[u8],
+        evaluated: Result<Evaluated, Refusal>,
     ) -> HostAnswer
-        requires same { Import.Of (primitive_of primitive) ≡ import }
-        requires goes { refuses import self.old.tables.fault ≡ false }
-        ensures { Means W.tells W.state import self.old words.now memory.now result self.new }
+        ensures { Settles W.state import evaluated self.old result self.new }
     {
-        let outcome = self.tables.on_values(primitive, words, memory);
-        self.tell(import, outcome)
-    }
-
-    /// Answers a call of a primitive on texts that is not refused.
-    #[inline(always)]
-    pub(crate) fn on_texts(
-        &mut self,
-        import: Import,
-        primitive: TextPrimitive,
-        words: &[Word],
-    ) -> HostAnswer
-        requires same { Import.Of (row_of primitive) ≡ import }
-        requires goes { refuses import self.old.tables.fault ≡ false }
-        ensures { (memory : List ℕ) → Means W.tells W.state import self.old words.now memory result
-            self.new }
-    {
-        let outcome = self.tables.on_texts(primitive, words);
+        let outcome = carry_out(&mut self.tables.handles, evaluated);
         self.tell(import, outcome)
     }
 
@@ -82,7 +58,7 @@ impl<W: World> Host<W> {
     /// loop has one call for all imports.
     #[inline(never)]
     pub(crate) fn answer(&mut self, import: Import, words: &[Word], memory: &[u8]) -> HostAnswer
-        ensures { Means W.tells W.state import self.old words.now memory.now result self.new }
+        ensures { Means W.is_modelled W.state import self.old words.now memory.now result self.new }
     {
         if refuses(import, self.tables.fault()) {
             return refused(import);
@@ -90,60 +66,60 @@ impl<W: World> Host<W> {
         match import {
             Import::Drop => self.on_drop(words),
             Import::Arg => self.on_arg(words),
-            Import::IterFree => self.on_iter_free(words, memory),
-            Import::FreeArray => self.on_free_array(words, memory),
-            Import::Over(Listing::Sprintf) => self.on_sprintf(words, memory),
-            Import::Over(Listing::Print) => self.on_print(words),
-            Import::Over(Listing::Printf) => self.on_printf(words),
-            Import::Of(Primitive::Num) => self.on_num(words, memory),
-            Import::Of(Primitive::Lit) => self.on_lit(words, memory),
-            Import::Of(Primitive::Uninit) => self.on_uninit(words, memory),
-            Import::Of(Primitive::Dup) => self.on_dup(words, memory),
-            Import::Of(Primitive::ToNum) => self.on_to_num(words, memory),
-            Import::Of(Primitive::IntOf) => self.on_int_of(words, memory),
-            Import::Of(Primitive::Truth) => self.on_truth(words, memory),
-            Import::Of(Primitive::Compare) => self.on_compare(words, memory),
-            Import::Of(Primitive::Concat) => self.on_concat(words, memory),
-            Import::Of(Primitive::Pow) => self.on_pow(words, memory),
-            Import::Of(Primitive::Fail) => self.on_fail(words, memory),
-            Import::Of(Primitive::GetSpecial) => self.on_get_special(words),
-            Import::Of(Primitive::SetSpecial) => self.on_set_special(words),
-            Import::Of(Primitive::Field) => self.on_field(words),
-            Import::Of(Primitive::SetField) => self.on_set_field(words),
-            Import::Of(Primitive::Length) => self.on_length(words),
-            Import::Of(Primitive::Matches) => self.on_matches(words),
-            Import::Of(Primitive::Match) => self.on_match(words),
-            Import::Of(Primitive::Sub) => self.on_sub(words),
-            Import::Of(Primitive::SubResult) => self.on_sub_result(words),
-            Import::Of(Primitive::Substr) => self.on_substr(words),
-            Import::Of(Primitive::SubstrFrom) => self.on_substr_from(words),
-            Import::Of(Primitive::Index) => self.on_index(words),
-            Import::Of(Primitive::Lower) => self.on_lower(words),
-            Import::Of(Primitive::Upper) => self.on_upper(words),
-            Import::Of(Primitive::Join) => self.on_join(words),
-            Import::Of(Primitive::Split) => self.on_split(words, memory),
-            Import::Of(Primitive::NewArray) => self.on_new_array(words, memory),
-            Import::Of(Primitive::Elem) => self.on_elem(words),
-            Import::Of(Primitive::SetElem) => self.on_set_elem(words),
-            Import::Of(Primitive::Has) => self.on_has(words),
-            Import::Of(Primitive::Delete) => self.on_delete(words, memory),
-            Import::Of(Primitive::Clear) => self.on_clear(words, memory),
-            Import::Of(Primitive::Iter) => self.on_iter(words, memory),
-            Import::Of(Primitive::IterNext) => self.on_iter_next(words, memory),
-            Import::Of(Primitive::NextMain) => self.on_next_main(words),
-            Import::Of(Primitive::Getline) => self.on_getline(words),
-            Import::Of(Primitive::GetlineVar) => self.on_getline_var(words),
-            Import::Of(Primitive::GetlineFile) => self.on_getline_file(words),
-            Import::Of(Primitive::GetlineVarFile) => self.on_getline_var_file(words),
-            Import::Of(Primitive::Line) => self.on_line(words),
-            Import::Of(Primitive::Declare) => self.on_declare(words, memory),
-            Import::Of(Primitive::StartAssign) => self.on_start_assign(words),
-            Import::Of(Primitive::PendingName) => self.on_pending_name(words),
-            Import::Of(Primitive::PendingValue) => self.on_pending_value(words),
-            Import::Of(Primitive::BeginEnd) => self.on_begin_end(words),
-            Import::Of(Primitive::Close) => self.on_close(words),
-            Import::Of(Primitive::NextFile) => self.on_next_file(words),
-            Import::Of(Primitive::Flush) => self.on_flush(words),
+            Import::IterFree => self.on_iter_free(words),
+            Import::FreeArray => self.on_free_array(words),
+            Import::Variadic(VariadicImport::Sprintf) => self.on_sprintf(words),
+            Import::Variadic(VariadicImport::Print) => self.on_print(words),
+            Import::Variadic(VariadicImport::Printf) => self.on_printf(words),
+            Import::OfPrimitive(Primitive::Num) => self.on_num(words),
+            Import::OfPrimitive(Primitive::Lit) => self.on_lit(words, memory),
+            Import::OfPrimitive(Primitive::Uninit) => self.on_uninit(words),
+            Import::OfPrimitive(Primitive::Dup) => self.on_dup(words),
+            Import::OfPrimitive(Primitive::ToNum) => self.on_to_num(words),
+            Import::OfPrimitive(Primitive::IntOf) => self.on_int_of(words),
+            Import::OfPrimitive(Primitive::Truth) => self.on_truth(words),
+            Import::OfPrimitive(Primitive::Compare) => self.on_compare(words),
+            Import::OfPrimitive(Primitive::Concat) => self.on_concat(words),
+            Import::OfPrimitive(Primitive::Pow) => self.on_pow(words),
+            Import::OfPrimitive(Primitive::Fail) => self.on_fail(words),
+            Import::OfPrimitive(Primitive::GetSpecial) => self.on_get_special(words),
+            Import::OfPrimitive(Primitive::SetSpecial) => self.on_set_special(words),
+            Import::OfPrimitive(Primitive::Field) => self.on_field(words),
+            Import::OfPrimitive(Primitive::SetField) => self.on_set_field(words),
+            Import::OfPrimitive(Primitive::Length) => self.on_length(words),
+            Import::OfPrimitive(Primitive::Matches) => self.on_matches(words),
+            Import::OfPrimitive(Primitive::Match) => self.on_match(words),
+            Import::OfPrimitive(Primitive::Sub) => self.on_sub(words),
+            Import::OfPrimitive(Primitive::SubResult) => self.on_sub_result(words),
+            Import::OfPrimitive(Primitive::Substr) => self.on_substr(words),
+            Import::OfPrimitive(Primitive::SubstrFrom) => self.on_substr_from(words),
+            Import::OfPrimitive(Primitive::Index) => self.on_index(words),
+            Import::OfPrimitive(Primitive::Lower) => self.on_lower(words),
+            Import::OfPrimitive(Primitive::Upper) => self.on_upper(words),
+            Import::OfPrimitive(Primitive::Join) => self.on_join(words),
+            Import::OfPrimitive(Primitive::Split) => self.on_split(words),
+            Import::OfPrimitive(Primitive::NewArray) => self.on_new_array(words),
+            Import::OfPrimitive(Primitive::Elem) => self.on_elem(words),
+            Import::OfPrimitive(Primitive::SetElem) => self.on_set_elem(words),
+            Import::OfPrimitive(Primitive::Has) => self.on_has(words),
+            Import::OfPrimitive(Primitive::Delete) => self.on_delete(words),
+            Import::OfPrimitive(Primitive::Clear) => self.on_clear(words),
+            Import::OfPrimitive(Primitive::Iter) => self.on_iter(words),
+            Import::OfPrimitive(Primitive::IterNext) => self.on_iter_next(words),
+            Import::OfPrimitive(Primitive::NextMain) => self.on_next_main(words),
+            Import::OfPrimitive(Primitive::Getline) => self.on_getline(words),
+            Import::OfPrimitive(Primitive::GetlineVar) => self.on_getline_var(words),
+            Import::OfPrimitive(Primitive::GetlineFile) => self.on_getline_file(words),
+            Import::OfPrimitive(Primitive::GetlineVarFile) => self.on_getline_var_file(words),
+            Import::OfPrimitive(Primitive::Line) => self.on_line(words),
+            Import::OfPrimitive(Primitive::Declare) => self.on_declare(words, memory),
+            Import::OfPrimitive(Primitive::StartAssign) => self.on_start_assign(words),
+            Import::OfPrimitive(Primitive::PendingName) => self.on_pending_name(words),
+            Import::OfPrimitive(Primitive::PendingValue) => self.on_pending_value(words),
+            Import::OfPrimitive(Primitive::BeginEnd) => self.on_begin_end(words),
+            Import::OfPrimitive(Primitive::Close) => self.on_close(words),
+            Import::OfPrimitive(Primitive::NextFile) => self.on_next_file(words),
+            Import::OfPrimitive(Primitive::Flush) => self.on_flush(words),
         }
     }
 }

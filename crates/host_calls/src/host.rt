@@ -21,5 +21,5 @@ pub struct Host<W: World> {
     pub(crate) line: Vec<u8>,
     pub(crate) world: W,
     ghost held: { HoldsInput input (W.kinds world) } by { HoldsInput-prop input (W.kinds world) },
-    ghost goes: { W.tells → WritersGo input.files.writers.items (W.state world) } by { →_prop (WritersGo-prop input.files.writers.items (W.state world)) },
+    ghost goes: { W.is_modelled → WritersGo input.files.writers.items (W.state world) } by { →_prop (WritersGo-prop input.files.writers.items (W.state world)) },
 }

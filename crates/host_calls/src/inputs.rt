@@ -8,7 +8,7 @@ ghost use Rattle.host_calls.specs.Forms.{host_form};
 
 use crate::host::Host;
 use host_values::Refusal;
-use host_worlds::{Keep, MainRead};
+use host_worlds::{MainRead, ReadInto};
 use wasm_store::Word;
 use world_core::World;
 
@@ -21,7 +21,7 @@ impl<W: World> Host<W> {
         words: &[Word],
     ) -> Result<Option<Word>, Refusal>
         requires { self.old.tables.fault ≡ None }
-        ensures { (memory : List ℕ) → ComesTo W.tells (Import.Of (main_primitive how))
+        ensures { (memory : List ℕ) → ComesTo W.is_modelled (Import.OfPrimitive (main_primitive how))
             (host_form W.state self.old) words.now memory result (host_form W.state self.new) }
     {
         host_worlds::read_main(
@@ -36,9 +36,13 @@ impl<W: World> Host<W> {
     }
 
     /// Reads a file (`getline_file`, `getline_var_file`), where no fault is kept.
-    pub(crate) fn read_file(&mut self, to: Keep, words: &[Word]) -> Result<Option<Word>, Refusal>
+    pub(crate) fn read_file(
+        &mut self,
+        to: ReadInto,
+        words: &[Word],
+    ) -> Result<Option<Word>, Refusal>
         requires { self.old.tables.fault ≡ None }
-        ensures { (memory : List ℕ) → ComesTo W.tells (Import.Of (file_primitive to))
+        ensures { (memory : List ℕ) → ComesTo W.is_modelled (Import.OfPrimitive (file_primitive to))
             (host_form W.state self.old) words.now memory result (host_form W.state self.new) }
     {
         host_worlds::read_file(
@@ -55,7 +59,7 @@ impl<W: World> Host<W> {
     /// Gives up the rest of what the main input reads (`next_file`), where no fault is kept.
     pub(crate) fn next_file(&mut self, words: &[Word]) -> Result<Option<Word>, Refusal>
         requires { self.old.tables.fault ≡ None }
-        ensures { (memory : List ℕ) → ComesTo W.tells (Import.Of row.NextFile)
+        ensures { (memory : List ℕ) → ComesTo W.is_modelled (Import.OfPrimitive row.NextFile)
             (host_form W.state self.old) words.now memory result (host_form W.state self.new) }
     {
         host_worlds::next_file(&mut self.world, &mut self.input, words)

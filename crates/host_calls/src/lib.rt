@@ -2,10 +2,10 @@
 #![tactic(auto)]
 
 mod answers;
-mod calls;
 mod host;
 mod inputs;
 mod looks;
+mod module_calls;
 mod names;
 mod on_arrays;
 mod on_texts;
@@ -16,7 +16,7 @@ mod start;
 mod watched;
 
 pub use host::Host;
-pub use host_imports::{IMPORTS, Import, Listing, type_of};
+pub use host_imports::{IMPORTS, Import, VariadicImport, type_of};
 pub use host_names::NamedText;
 pub use host_tables::Job;
 pub use sem_primitives::Special;

@@ -1,12 +1,15 @@
 //! What one sees of a host: values, elements, fields, and its world.
-ghost use Rattle.std.specs.Prelude.{◌≡◌, IfSome, option_copied};
+ghost use Rattle.std.specs.Prelude.{◌≡◌, Err, IfErr, IfOk, option_copied};
 ghost use Rattle.std.specs.FinMap as map;
 ghost use Rattle.host_arrays.specs.Pairs.{get_pair, pairs_at};
 ghost use Rattle.host_calls.specs.Forms.{host_form};
 ghost use Rattle.host_fields.specs.Calls.{Reads};
+ghost use Rattle.host_fields.specs.Views.{viewed};
+ghost use Rattle.sem_primitives.specs.FieldMeaning.{field_number};
 
 use crate::host::Host;
-use awk_values::{Bytes, Value};
+use awk_values::{Bytes, Fault, Value};
+use host_fields::FieldView;
 use world_core::World;
 
 impl<W: World> Host<W> {
@@ -25,15 +28,17 @@ impl<W: World> Host<W> {
         self.tables.arrays.get(array, key)
     }
 
-    /// The value of a field. Nothing changes; none is answered where the number is out of range, or there is no memory.
-    pub fn field(&mut self, number: i64) -> Option<Value>
-        ensures value { IfSome result (Reads number self.old.tables.texts.held) }
-        ensures same { host_form W.state self.new ≡ host_form W.state self.old }
+    /// The field of a number, as the record lends it. It takes no memory.
+    ///
+    /// # Errors
+    ///
+    /// `FieldNumber` where the number is below 0 or above 1,048,576.
+    pub fn field(&self, number: i64) -> Result<FieldView<'_>, Fault>
+        ensures ok { IfOk result (λ view. Reads number self.now.tables.texts.current_record
+            (viewed view)) }
+        ensures err { IfErr result (λ fault. field_number number ≡ Err fault) }
     {
-        match self.tables.texts.held.field(number) {
-            Ok(value) => Some(value),
-            Err(_) => None,
-        }
+        self.tables.texts.current_record.field(number)
     }
 
     /// The world, as it is now.

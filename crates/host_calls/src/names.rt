@@ -16,7 +16,7 @@ impl<W: World> Host<W> {
     /// A name of the script is announced.
     pub(crate) fn declare(&mut self, words: &[Word], memory: &[u8]) -> Result<Option<Word>, Refusal>
         requires { self.old.tables.fault ≡ None }
-        ensures { ComesTo W.tells (Import.Of row.Declare) (host_form W.state self.old) words.now
+        ensures { ComesTo W.is_modelled (Import.OfPrimitive row.Declare) (host_form W.state self.old) words.now
             memory.now result (host_form W.state self.new) }
     {
         declare(self.alloc, &mut self.input.names, words, memory)
@@ -25,7 +25,7 @@ impl<W: World> Host<W> {
     /// The assignments of the command line are made, up to one that the script is to make.
     pub(crate) fn start_assign(&mut self, words: &[Word]) -> Result<Option<Word>, Refusal>
         requires { self.old.tables.fault ≡ None }
-        ensures { (memory : List ℕ) → ComesTo W.tells (Import.Of row.StartAssign)
+        ensures { (memory : List ℕ) → ComesTo W.is_modelled (Import.OfPrimitive row.StartAssign)
             (host_form W.state self.old) words.now memory result (host_form W.state self.new) }
     {
         start_assign(
@@ -39,7 +39,7 @@ impl<W: World> Host<W> {
     /// The number of the name that the script is to assign to.
     pub(crate) fn pending_name(&mut self, words: &[Word]) -> Result<Option<Word>, Refusal>
         requires { self.old.tables.fault ≡ None }
-        ensures { (memory : List ℕ) → ComesTo W.tells (Import.Of row.PendingName)
+        ensures { (memory : List ℕ) → ComesTo W.is_modelled (Import.OfPrimitive row.PendingName)
             (host_form W.state self.old) words.now memory result (host_form W.state self.new) }
     {
         pending_name(&self.input.names, words)
@@ -48,7 +48,7 @@ impl<W: World> Host<W> {
     /// The value that the script is to assign, once.
     pub(crate) fn pending_value(&mut self, words: &[Word]) -> Result<Option<Word>, Refusal>
         requires { self.old.tables.fault ≡ None }
-        ensures { (memory : List ℕ) → ComesTo W.tells (Import.Of row.PendingValue)
+        ensures { (memory : List ℕ) → ComesTo W.is_modelled (Import.OfPrimitive row.PendingValue)
             (host_form W.state self.old) words.now memory result (host_form W.state self.new) }
     {
         pending_value(&mut self.input.names, &mut self.tables.handles, words)
@@ -57,7 +57,7 @@ impl<W: World> Host<W> {
     /// What was read for a variable, once.
     pub(crate) fn line(&mut self, words: &[Word]) -> Result<Option<Word>, Refusal>
         requires { self.old.tables.fault ≡ None }
-        ensures { (memory : List ℕ) → ComesTo W.tells (Import.Of row.Line)
+        ensures { (memory : List ℕ) → ComesTo W.is_modelled (Import.OfPrimitive row.Line)
             (host_form W.state self.old) words.now memory result (host_form W.state self.new) }
     {
         line(&mut self.tables.handles, &mut self.input, words)
@@ -66,7 +66,7 @@ impl<W: World> Host<W> {
     /// The actions of END begin.
     pub(crate) fn begin_end(&mut self, words: &[Word]) -> Result<Option<Word>, Refusal>
         requires { self.old.tables.fault ≡ None }
-        ensures { (memory : List ℕ) → ComesTo W.tells (Import.Of row.BeginEnd)
+        ensures { (memory : List ℕ) → ComesTo W.is_modelled (Import.OfPrimitive row.BeginEnd)
             (host_form W.state self.old) words.now memory result (host_form W.state self.new) }
     {
         begin_end(&mut self.input, words)

@@ -1,15 +1,17 @@
 //! The imports on texts, special variables and the record, each by a function of its own.
 ghost use Rattle.std.specs.Prelude.{◌≡◌, List, ℕ, false};
 ghost use Rattle.sem_primitives.specs.declared.table.Primitive.TheVariants as row;
-ghost use Rattle.host_imports.specs.declared.import.Listing.TheVariants as listing;
-ghost use Rattle.host_imports.specs.declared.import.Import.TheVariants.{Of, Over};
+ghost use Rattle.host_imports.specs.declared.import.VariadicImport.TheVariants as listing;
+ghost use Rattle.host_imports.specs.declared.import.Import.TheVariants.{OfPrimitive, Variadic};
 ghost use Rattle.host_step.specs.HostStep.{refuses};
 ghost use Rattle.host_calls.specs.Calls.{Means};
 
 use crate::host::Host;
-use host_imports::{Import, Listing};
-use host_tables::TableCall;
-use host_texts::TextPrimitive;
+use host_imports::{Import, VariadicImport};
+use host_texts::{
+    field, get_special, index, join_texts, length, lower_case, match_at, matches, set_field,
+    set_special, sub, sub_result, substr_from, substr_of, upper_case,
+};
 use sem_primitives::Primitive;
 use wasm_model::HostAnswer;
 use wasm_store::Word;
@@ -19,176 +21,190 @@ impl<W: World> Host<W> {
     /// The value of a special variable.
     #[inline(never)]
     pub(crate) fn on_get_special(&mut self, words: &[Word]) -> HostAnswer
-        requires { refuses (Of row.GetSpecial) self.old.tables.fault ≡ false }
-        ensures { (memory : List ℕ) → Means W.tells W.state (Of row.GetSpecial) self.old words.now
+        requires { refuses (OfPrimitive row.GetSpecial) self.old.tables.fault ≡ false }
+        ensures { (memory : List ℕ) → Means W.is_modelled W.state (OfPrimitive row.GetSpecial) self.old words.now
             memory result self.new }
     {
-        let import = Import::Of(Primitive::GetSpecial);
-        self.on_texts(import, TextPrimitive::GetSpecial, words)
+        let tables = &mut self.tables;
+        let evaluated = get_special(&tables.handles, &mut tables.texts, words);
+        self.settle(Import::OfPrimitive(Primitive::GetSpecial), evaluated)
     }
 
     /// A special variable gets a value.
     #[inline(never)]
     pub(crate) fn on_set_special(&mut self, words: &[Word]) -> HostAnswer
-        requires { refuses (Of row.SetSpecial) self.old.tables.fault ≡ false }
-        ensures { (memory : List ℕ) → Means W.tells W.state (Of row.SetSpecial) self.old words.now
+        requires { refuses (OfPrimitive row.SetSpecial) self.old.tables.fault ≡ false }
+        ensures { (memory : List ℕ) → Means W.is_modelled W.state (OfPrimitive row.SetSpecial) self.old words.now
             memory result self.new }
     {
-        let import = Import::Of(Primitive::SetSpecial);
-        self.on_texts(import, TextPrimitive::SetSpecial, words)
+        let tables = &mut self.tables;
+        let evaluated = set_special(tables.alloc, &tables.handles, &mut tables.texts, words);
+        self.settle(Import::OfPrimitive(Primitive::SetSpecial), evaluated)
     }
 
     /// The value of a field.
     #[inline(never)]
     pub(crate) fn on_field(&mut self, words: &[Word]) -> HostAnswer
-        requires { refuses (Of row.Field) self.old.tables.fault ≡ false }
-        ensures { (memory : List ℕ) → Means W.tells W.state (Of row.Field) self.old words.now memory
-            result self.new }
+        requires { refuses (OfPrimitive row.Field) self.old.tables.fault ≡ false }
+        ensures { (memory : List ℕ) → Means W.is_modelled W.state (OfPrimitive row.Field) self.old words.now
+            memory result self.new }
     {
-        let import = Import::Of(Primitive::Field);
-        self.on_texts(import, TextPrimitive::Field, words)
+        let tables = &mut self.tables;
+        let evaluated = field(tables.alloc, &tables.handles, &mut tables.texts, words);
+        self.settle(Import::OfPrimitive(Primitive::Field), evaluated)
     }
 
     /// A field gets a value.
     #[inline(never)]
     pub(crate) fn on_set_field(&mut self, words: &[Word]) -> HostAnswer
-        requires { refuses (Of row.SetField) self.old.tables.fault ≡ false }
-        ensures { (memory : List ℕ) → Means W.tells W.state (Of row.SetField) self.old words.now
+        requires { refuses (OfPrimitive row.SetField) self.old.tables.fault ≡ false }
+        ensures { (memory : List ℕ) → Means W.is_modelled W.state (OfPrimitive row.SetField) self.old words.now
             memory result self.new }
     {
-        let import = Import::Of(Primitive::SetField);
-        self.on_texts(import, TextPrimitive::SetField, words)
+        let tables = &mut self.tables;
+        let evaluated = set_field(tables.alloc, &tables.handles, &mut tables.texts, words);
+        self.settle(Import::OfPrimitive(Primitive::SetField), evaluated)
     }
 
     /// The length of a value's text.
     #[inline(never)]
     pub(crate) fn on_length(&mut self, words: &[Word]) -> HostAnswer
-        requires { refuses (Of row.Length) self.old.tables.fault ≡ false }
-        ensures { (memory : List ℕ) → Means W.tells W.state (Of row.Length) self.old words.now
+        requires { refuses (OfPrimitive row.Length) self.old.tables.fault ≡ false }
+        ensures { (memory : List ℕ) → Means W.is_modelled W.state (OfPrimitive row.Length) self.old words.now
             memory result self.new }
     {
-        let import = Import::Of(Primitive::Length);
-        self.on_texts(import, TextPrimitive::Length, words)
+        let evaluated = length(&self.tables.handles, words);
+        self.settle(Import::OfPrimitive(Primitive::Length), evaluated)
     }
 
     /// Whether an expression matches.
     #[inline(never)]
     pub(crate) fn on_matches(&mut self, words: &[Word]) -> HostAnswer
-        requires { refuses (Of row.Matches) self.old.tables.fault ≡ false }
-        ensures { (memory : List ℕ) → Means W.tells W.state (Of row.Matches) self.old words.now
+        requires { refuses (OfPrimitive row.Matches) self.old.tables.fault ≡ false }
+        ensures { (memory : List ℕ) → Means W.is_modelled W.state (OfPrimitive row.Matches) self.old words.now
             memory result self.new }
     {
-        let import = Import::Of(Primitive::Matches);
-        self.on_texts(import, TextPrimitive::Matches, words)
+        let tables = &mut self.tables;
+        let evaluated = matches(
+            tables.alloc,
+            &tables.handles,
+            &mut tables.texts.expressions,
+            words,
+        );
+        self.settle(Import::OfPrimitive(Primitive::Matches), evaluated)
     }
 
     /// Where an expression matches first.
     #[inline(never)]
     pub(crate) fn on_match(&mut self, words: &[Word]) -> HostAnswer
-        requires { refuses (Of row.Match) self.old.tables.fault ≡ false }
-        ensures { (memory : List ℕ) → Means W.tells W.state (Of row.Match) self.old words.now memory
-            result self.new }
+        requires { refuses (OfPrimitive row.Match) self.old.tables.fault ≡ false }
+        ensures { (memory : List ℕ) → Means W.is_modelled W.state (OfPrimitive row.Match) self.old words.now
+            memory result self.new }
     {
-        let import = Import::Of(Primitive::Match);
-        self.on_texts(import, TextPrimitive::Match, words)
+        let tables = &mut self.tables;
+        let evaluated = match_at(tables.alloc, &tables.handles, &mut tables.texts, words);
+        self.settle(Import::OfPrimitive(Primitive::Match), evaluated)
     }
 
     /// A substitution.
     #[inline(never)]
     pub(crate) fn on_sub(&mut self, words: &[Word]) -> HostAnswer
-        requires { refuses (Of row.Sub) self.old.tables.fault ≡ false }
-        ensures { (memory : List ℕ) → Means W.tells W.state (Of row.Sub) self.old words.now memory
-            result self.new }
+        requires { refuses (OfPrimitive row.Sub) self.old.tables.fault ≡ false }
+        ensures { (memory : List ℕ) → Means W.is_modelled W.state (OfPrimitive row.Sub) self.old words.now
+            memory result self.new }
     {
-        let import = Import::Of(Primitive::Sub);
-        self.on_texts(import, TextPrimitive::Sub, words)
+        let tables = &mut self.tables;
+        let evaluated = sub(tables.alloc, &tables.handles, &mut tables.texts, words);
+        self.settle(Import::OfPrimitive(Primitive::Sub), evaluated)
     }
 
     /// The text of the last substitution.
     #[inline(never)]
     pub(crate) fn on_sub_result(&mut self, words: &[Word]) -> HostAnswer
-        requires { refuses (Of row.SubResult) self.old.tables.fault ≡ false }
-        ensures { (memory : List ℕ) → Means W.tells W.state (Of row.SubResult) self.old words.now
+        requires { refuses (OfPrimitive row.SubResult) self.old.tables.fault ≡ false }
+        ensures { (memory : List ℕ) → Means W.is_modelled W.state (OfPrimitive row.SubResult) self.old words.now
             memory result self.new }
     {
-        let import = Import::Of(Primitive::SubResult);
-        self.on_texts(import, TextPrimitive::SubResult, words)
+        let tables = &mut self.tables;
+        let evaluated = sub_result(&tables.handles, &mut tables.texts, words);
+        self.settle(Import::OfPrimitive(Primitive::SubResult), evaluated)
     }
 
     /// A part of a text.
     #[inline(never)]
     pub(crate) fn on_substr(&mut self, words: &[Word]) -> HostAnswer
-        requires { refuses (Of row.Substr) self.old.tables.fault ≡ false }
-        ensures { (memory : List ℕ) → Means W.tells W.state (Of row.Substr) self.old words.now
+        requires { refuses (OfPrimitive row.Substr) self.old.tables.fault ≡ false }
+        ensures { (memory : List ℕ) → Means W.is_modelled W.state (OfPrimitive row.Substr) self.old words.now
             memory result self.new }
     {
-        let import = Import::Of(Primitive::Substr);
-        self.on_texts(import, TextPrimitive::Substr, words)
+        let evaluated = substr_of(self.tables.alloc, &self.tables.handles, words);
+        self.settle(Import::OfPrimitive(Primitive::Substr), evaluated)
     }
 
     /// The rest of a text.
     #[inline(never)]
     pub(crate) fn on_substr_from(&mut self, words: &[Word]) -> HostAnswer
-        requires { refuses (Of row.SubstrFrom) self.old.tables.fault ≡ false }
-        ensures { (memory : List ℕ) → Means W.tells W.state (Of row.SubstrFrom) self.old words.now
+        requires { refuses (OfPrimitive row.SubstrFrom) self.old.tables.fault ≡ false }
+        ensures { (memory : List ℕ) → Means W.is_modelled W.state (OfPrimitive row.SubstrFrom) self.old words.now
             memory result self.new }
     {
-        let import = Import::Of(Primitive::SubstrFrom);
-        self.on_texts(import, TextPrimitive::SubstrFrom, words)
+        let evaluated = substr_from(self.tables.alloc, &self.tables.handles, words);
+        self.settle(Import::OfPrimitive(Primitive::SubstrFrom), evaluated)
     }
 
     /// Where a text stands in another.
     #[inline(never)]
     pub(crate) fn on_index(&mut self, words: &[Word]) -> HostAnswer
-        requires { refuses (Of row.Index) self.old.tables.fault ≡ false }
-        ensures { (memory : List ℕ) → Means W.tells W.state (Of row.Index) self.old words.now memory
-            result self.new }
+        requires { refuses (OfPrimitive row.Index) self.old.tables.fault ≡ false }
+        ensures { (memory : List ℕ) → Means W.is_modelled W.state (OfPrimitive row.Index) self.old words.now
+            memory result self.new }
     {
-        let import = Import::Of(Primitive::Index);
-        self.on_texts(import, TextPrimitive::Index, words)
+        let evaluated = index(self.tables.alloc, &self.tables.handles, words);
+        self.settle(Import::OfPrimitive(Primitive::Index), evaluated)
     }
 
     /// A text in lower case.
     #[inline(never)]
     pub(crate) fn on_lower(&mut self, words: &[Word]) -> HostAnswer
-        requires { refuses (Of row.Lower) self.old.tables.fault ≡ false }
-        ensures { (memory : List ℕ) → Means W.tells W.state (Of row.Lower) self.old words.now memory
-            result self.new }
+        requires { refuses (OfPrimitive row.Lower) self.old.tables.fault ≡ false }
+        ensures { (memory : List ℕ) → Means W.is_modelled W.state (OfPrimitive row.Lower) self.old words.now
+            memory result self.new }
     {
-        let import = Import::Of(Primitive::Lower);
-        self.on_texts(import, TextPrimitive::Lower, words)
+        let evaluated = lower_case(self.tables.alloc, &self.tables.handles, words);
+        self.settle(Import::OfPrimitive(Primitive::Lower), evaluated)
     }
 
     /// A text in upper case.
     #[inline(never)]
     pub(crate) fn on_upper(&mut self, words: &[Word]) -> HostAnswer
-        requires { refuses (Of row.Upper) self.old.tables.fault ≡ false }
-        ensures { (memory : List ℕ) → Means W.tells W.state (Of row.Upper) self.old words.now memory
-            result self.new }
+        requires { refuses (OfPrimitive row.Upper) self.old.tables.fault ≡ false }
+        ensures { (memory : List ℕ) → Means W.is_modelled W.state (OfPrimitive row.Upper) self.old words.now
+            memory result self.new }
     {
-        let import = Import::Of(Primitive::Upper);
-        self.on_texts(import, TextPrimitive::Upper, words)
+        let evaluated = upper_case(self.tables.alloc, &self.tables.handles, words);
+        self.settle(Import::OfPrimitive(Primitive::Upper), evaluated)
     }
 
     /// A key of two texts.
     #[inline(never)]
     pub(crate) fn on_join(&mut self, words: &[Word]) -> HostAnswer
-        requires { refuses (Of row.Join) self.old.tables.fault ≡ false }
-        ensures { (memory : List ℕ) → Means W.tells W.state (Of row.Join) self.old words.now memory
-            result self.new }
+        requires { refuses (OfPrimitive row.Join) self.old.tables.fault ≡ false }
+        ensures { (memory : List ℕ) → Means W.is_modelled W.state (OfPrimitive row.Join) self.old words.now
+            memory result self.new }
     {
-        let import = Import::Of(Primitive::Join);
-        self.on_texts(import, TextPrimitive::Join, words)
+        let tables = &self.tables;
+        let evaluated = join_texts(tables.alloc, &tables.handles, &tables.texts, words);
+        self.settle(Import::OfPrimitive(Primitive::Join), evaluated)
     }
 
     /// The last values of the argument list make a text.
     #[inline(never)]
-    pub(crate) fn on_sprintf(&mut self, words: &[Word], memory: &[u8]) -> HostAnswer
-        requires { refuses (Over listing.Sprintf) self.old.tables.fault ≡ false }
-        ensures { Means W.tells W.state (Over listing.Sprintf) self.old words.now memory.now result
-            self.new }
+    pub(crate) fn on_sprintf(&mut self, words: &[Word]) -> HostAnswer
+        requires { refuses (Variadic listing.Sprintf) self.old.tables.fault ≡ false }
+        ensures { (memory : List ℕ) → Means W.is_modelled W.state (Variadic listing.Sprintf) self.old words.now memory
+            result self.new }
     {
-        let outcome = self.tables.call(TableCall::Sprintf, words, memory);
-        self.tell(Import::Over(Listing::Sprintf), outcome)
+        let outcome = self.tables.sprintf(words);
+        self.tell(Import::Variadic(VariadicImport::Sprintf), outcome)
     }
 }

@@ -1,13 +1,15 @@
 //! The imports on values, each by a function of its own: a call of it takes no more room and registers than that import needs.
 ghost use Rattle.std.specs.Prelude.{◌≡◌, List, ℕ, false};
 ghost use Rattle.sem_primitives.specs.declared.table.Primitive.TheVariants as row;
-ghost use Rattle.host_imports.specs.declared.import.Import.TheVariants.{Arg, Drop, Of};
+ghost use Rattle.host_imports.specs.declared.import.Import.TheVariants.{Arg, Drop, OfPrimitive};
 ghost use Rattle.host_step.specs.HostStep.{refuses};
 ghost use Rattle.host_calls.specs.Calls.{Means};
 
 use crate::host::Host;
 use host_imports::Import;
-use host_values::ValuePrimitive;
+use host_values::{
+    comparison, concat, dup, fail, int_of, lit, num, power, to_num, truth_of, uninit,
+};
 use sem_primitives::Primitive;
 use wasm_model::HostAnswer;
 use wasm_store::Word;
@@ -16,122 +18,129 @@ use world_core::World;
 impl<W: World> Host<W> {
     /// A number as a value.
     #[inline(never)]
-    pub(crate) fn on_num(&mut self, words: &[Word], memory: &[u8]) -> HostAnswer
-        requires { refuses (Of row.Num) self.old.tables.fault ≡ false }
-        ensures { Means W.tells W.state (Of row.Num) self.old words.now memory.now result self.new }
+    pub(crate) fn on_num(&mut self, words: &[Word]) -> HostAnswer
+        requires { refuses (OfPrimitive row.Num) self.old.tables.fault ≡ false }
+        ensures { (memory : List ℕ) → Means W.is_modelled W.state (OfPrimitive row.Num) self.old words.now
+            memory result self.new }
     {
-        let import = Import::Of(Primitive::Num);
-        self.on_values(import, ValuePrimitive::Num, words, memory)
+        let evaluated = num(words);
+        self.settle(Import::OfPrimitive(Primitive::Num), evaluated)
     }
 
     /// The value of a literal.
     #[inline(never)]
     pub(crate) fn on_lit(&mut self, words: &[Word], memory: &[u8]) -> HostAnswer
-        requires { refuses (Of row.Lit) self.old.tables.fault ≡ false }
-        ensures { Means W.tells W.state (Of row.Lit) self.old words.now memory.now result self.new }
+        requires { refuses (OfPrimitive row.Lit) self.old.tables.fault ≡ false }
+        ensures { Means W.is_modelled W.state (OfPrimitive row.Lit) self.old words.now memory.now result self.new }
     {
-        let import = Import::Of(Primitive::Lit);
-        self.on_values(import, ValuePrimitive::Lit, words, memory)
+        let evaluated = lit(self.tables.alloc, &mut self.tables.literals, words, memory);
+        self.settle(Import::OfPrimitive(Primitive::Lit), evaluated)
     }
 
     /// The value of a variable that was never set.
     #[inline(never)]
-    pub(crate) fn on_uninit(&mut self, words: &[Word], memory: &[u8]) -> HostAnswer
-        requires { refuses (Of row.Uninit) self.old.tables.fault ≡ false }
-        ensures { Means W.tells W.state (Of row.Uninit) self.old words.now memory.now result
-            self.new }
+    pub(crate) fn on_uninit(&mut self, words: &[Word]) -> HostAnswer
+        requires { refuses (OfPrimitive row.Uninit) self.old.tables.fault ≡ false }
+        ensures { (memory : List ℕ) → Means W.is_modelled W.state (OfPrimitive row.Uninit) self.old words.now
+            memory result self.new }
     {
-        let import = Import::Of(Primitive::Uninit);
-        self.on_values(import, ValuePrimitive::Uninit, words, memory)
+        let evaluated = uninit(words);
+        self.settle(Import::OfPrimitive(Primitive::Uninit), evaluated)
     }
 
     /// A value once more.
     #[inline(never)]
-    pub(crate) fn on_dup(&mut self, words: &[Word], memory: &[u8]) -> HostAnswer
-        requires { refuses (Of row.Dup) self.old.tables.fault ≡ false }
-        ensures { Means W.tells W.state (Of row.Dup) self.old words.now memory.now result self.new }
+    pub(crate) fn on_dup(&mut self, words: &[Word]) -> HostAnswer
+        requires { refuses (OfPrimitive row.Dup) self.old.tables.fault ≡ false }
+        ensures { (memory : List ℕ) → Means W.is_modelled W.state (OfPrimitive row.Dup) self.old words.now
+            memory result self.new }
     {
-        let import = Import::Of(Primitive::Dup);
-        self.on_values(import, ValuePrimitive::Dup, words, memory)
+        let evaluated = dup(&self.tables.handles, words);
+        self.settle(Import::OfPrimitive(Primitive::Dup), evaluated)
     }
 
     /// The number of a value.
     #[inline(never)]
-    pub(crate) fn on_to_num(&mut self, words: &[Word], memory: &[u8]) -> HostAnswer
-        requires { refuses (Of row.ToNum) self.old.tables.fault ≡ false }
-        ensures { Means W.tells W.state (Of row.ToNum) self.old words.now memory.now result self.new }
+    pub(crate) fn on_to_num(&mut self, words: &[Word]) -> HostAnswer
+        requires { refuses (OfPrimitive row.ToNum) self.old.tables.fault ≡ false }
+        ensures { (memory : List ℕ) → Means W.is_modelled W.state (OfPrimitive row.ToNum) self.old words.now
+            memory result self.new }
     {
-        let import = Import::Of(Primitive::ToNum);
-        self.on_values(import, ValuePrimitive::ToNum, words, memory)
+        let evaluated = to_num(&self.tables.handles, words);
+        self.settle(Import::OfPrimitive(Primitive::ToNum), evaluated)
     }
 
     /// The number of a value without its fraction.
     #[inline(never)]
-    pub(crate) fn on_int_of(&mut self, words: &[Word], memory: &[u8]) -> HostAnswer
-        requires { refuses (Of row.IntOf) self.old.tables.fault ≡ false }
-        ensures { Means W.tells W.state (Of row.IntOf) self.old words.now memory.now result self.new }
+    pub(crate) fn on_int_of(&mut self, words: &[Word]) -> HostAnswer
+        requires { refuses (OfPrimitive row.IntOf) self.old.tables.fault ≡ false }
+        ensures { (memory : List ℕ) → Means W.is_modelled W.state (OfPrimitive row.IntOf) self.old words.now
+            memory result self.new }
     {
-        let import = Import::Of(Primitive::IntOf);
-        self.on_values(import, ValuePrimitive::IntOf, words, memory)
+        let evaluated = int_of(&self.tables.handles, words);
+        self.settle(Import::OfPrimitive(Primitive::IntOf), evaluated)
     }
 
     /// The truth of a value.
     #[inline(never)]
-    pub(crate) fn on_truth(&mut self, words: &[Word], memory: &[u8]) -> HostAnswer
-        requires { refuses (Of row.Truth) self.old.tables.fault ≡ false }
-        ensures { Means W.tells W.state (Of row.Truth) self.old words.now memory.now result self.new }
+    pub(crate) fn on_truth(&mut self, words: &[Word]) -> HostAnswer
+        requires { refuses (OfPrimitive row.Truth) self.old.tables.fault ≡ false }
+        ensures { (memory : List ℕ) → Means W.is_modelled W.state (OfPrimitive row.Truth) self.old words.now
+            memory result self.new }
     {
-        let import = Import::Of(Primitive::Truth);
-        self.on_values(import, ValuePrimitive::Truth, words, memory)
+        let evaluated = truth_of(&self.tables.handles, words);
+        self.settle(Import::OfPrimitive(Primitive::Truth), evaluated)
     }
 
     /// Two values are compared.
     #[inline(never)]
-    pub(crate) fn on_compare(&mut self, words: &[Word], memory: &[u8]) -> HostAnswer
-        requires { refuses (Of row.Compare) self.old.tables.fault ≡ false }
-        ensures { Means W.tells W.state (Of row.Compare) self.old words.now memory.now result
-            self.new }
+    pub(crate) fn on_compare(&mut self, words: &[Word]) -> HostAnswer
+        requires { refuses (OfPrimitive row.Compare) self.old.tables.fault ≡ false }
+        ensures { (memory : List ℕ) → Means W.is_modelled W.state (OfPrimitive row.Compare) self.old words.now
+            memory result self.new }
     {
-        let import = Import::Of(Primitive::Compare);
-        self.on_values(import, ValuePrimitive::Compare, words, memory)
+        let evaluated = comparison(&self.tables.handles, words);
+        self.settle(Import::OfPrimitive(Primitive::Compare), evaluated)
     }
 
     /// The texts of two values as one.
     #[inline(never)]
-    pub(crate) fn on_concat(&mut self, words: &[Word], memory: &[u8]) -> HostAnswer
-        requires { refuses (Of row.Concat) self.old.tables.fault ≡ false }
-        ensures { Means W.tells W.state (Of row.Concat) self.old words.now memory.now result
-            self.new }
+    pub(crate) fn on_concat(&mut self, words: &[Word]) -> HostAnswer
+        requires { refuses (OfPrimitive row.Concat) self.old.tables.fault ≡ false }
+        ensures { (memory : List ℕ) → Means W.is_modelled W.state (OfPrimitive row.Concat) self.old words.now
+            memory result self.new }
     {
-        let import = Import::Of(Primitive::Concat);
-        self.on_values(import, ValuePrimitive::Concat, words, memory)
+        let evaluated = concat(self.tables.alloc, &self.tables.handles, words);
+        self.settle(Import::OfPrimitive(Primitive::Concat), evaluated)
     }
 
     /// A power of numbers.
     #[inline(never)]
-    pub(crate) fn on_pow(&mut self, words: &[Word], memory: &[u8]) -> HostAnswer
-        requires { refuses (Of row.Pow) self.old.tables.fault ≡ false }
-        ensures { Means W.tells W.state (Of row.Pow) self.old words.now memory.now result self.new }
+    pub(crate) fn on_pow(&mut self, words: &[Word]) -> HostAnswer
+        requires { refuses (OfPrimitive row.Pow) self.old.tables.fault ≡ false }
+        ensures { (memory : List ℕ) → Means W.is_modelled W.state (OfPrimitive row.Pow) self.old words.now
+            memory result self.new }
     {
-        let import = Import::Of(Primitive::Pow);
-        self.on_values(import, ValuePrimitive::Pow, words, memory)
+        let evaluated = power(words);
+        self.settle(Import::OfPrimitive(Primitive::Pow), evaluated)
     }
 
     /// The script meets a fault.
     #[inline(never)]
-    pub(crate) fn on_fail(&mut self, words: &[Word], memory: &[u8]) -> HostAnswer
-        requires { refuses (Of row.Fail) self.old.tables.fault ≡ false }
-        ensures { Means W.tells W.state (Of row.Fail) self.old words.now memory.now result self.new }
+    pub(crate) fn on_fail(&mut self, words: &[Word]) -> HostAnswer
+        requires { refuses (OfPrimitive row.Fail) self.old.tables.fault ≡ false }
+        ensures { (memory : List ℕ) → Means W.is_modelled W.state (OfPrimitive row.Fail) self.old words.now
+            memory result self.new }
     {
-        let import = Import::Of(Primitive::Fail);
-        self.on_values(import, ValuePrimitive::Fail, words, memory)
+        let evaluated = fail(words);
+        self.settle(Import::OfPrimitive(Primitive::Fail), evaluated)
     }
 
     /// A value is let go.
     #[inline(never)]
     pub(crate) fn on_drop(&mut self, words: &[Word]) -> HostAnswer
         requires { refuses Drop self.old.tables.fault ≡ false }
-        ensures { (memory : List ℕ) → Means W.tells W.state Drop self.old words.now memory result
+        ensures { (memory : List ℕ) → Means W.is_modelled W.state Drop self.old words.now memory result
             self.new }
     {
         let outcome = self.tables.release(words);
@@ -142,7 +151,7 @@ impl<W: World> Host<W> {
     #[inline(never)]
     pub(crate) fn on_arg(&mut self, words: &[Word]) -> HostAnswer
         requires { refuses Arg self.old.tables.fault ≡ false }
-        ensures { (memory : List ℕ) → Means W.tells W.state Arg self.old words.now memory result
+        ensures { (memory : List ℕ) → Means W.is_modelled W.state Arg self.old words.now memory result
             self.new }
     {
         let outcome = self.tables.arg(words);

@@ -4,7 +4,7 @@ ghost use Rattle.sem_primitives.specs.declared.table.Primitive.TheVariants as ro
 ghost use Rattle.host_calls.specs.Calls.{ComesTo};
 ghost use Rattle.host_calls.specs.Forms.{host_form};
 ghost use Rattle.host_imports.specs.declared.import.Import.{Import};
-ghost use Rattle.host_imports.specs.declared.import.Listing.{Listing};
+ghost use Rattle.host_imports.specs.declared.import.VariadicImport.{VariadicImport};
 
 use crate::host::Host;
 use host_values::Refusal;
@@ -16,7 +16,7 @@ impl<W: World> Host<W> {
     /// The last values of the argument list are printed.
     pub(crate) fn print(&mut self, words: &[Word]) -> Result<Option<Word>, Refusal>
         requires { self.old.tables.fault ≡ None }
-        ensures { (memory : List ℕ) → ComesTo W.tells (Import.Over Listing.Print)
+        ensures { (memory : List ℕ) → ComesTo W.is_modelled (Import.Variadic VariadicImport.Print)
             (host_form W.state self.old) words.now memory result (host_form W.state self.new) }
     {
         print(
@@ -33,7 +33,7 @@ impl<W: World> Host<W> {
     /// The last values of the argument list are printed by a format.
     pub(crate) fn printf(&mut self, words: &[Word]) -> Result<Option<Word>, Refusal>
         requires { self.old.tables.fault ≡ None }
-        ensures { (memory : List ℕ) → ComesTo W.tells (Import.Over Listing.Printf)
+        ensures { (memory : List ℕ) → ComesTo W.is_modelled (Import.Variadic VariadicImport.Printf)
             (host_form W.state self.old) words.now memory result (host_form W.state self.new) }
     {
         printf(
@@ -49,7 +49,7 @@ impl<W: World> Host<W> {
     /// The file of a name is closed.
     pub(crate) fn close(&mut self, words: &[Word]) -> Result<Option<Word>, Refusal>
         requires { self.old.tables.fault ≡ None }
-        ensures { (memory : List ℕ) → ComesTo W.tells (Import.Of row.Close)
+        ensures { (memory : List ℕ) → ComesTo W.is_modelled (Import.OfPrimitive row.Close)
             (host_form W.state self.old) words.now memory result (host_form W.state self.new) }
     {
         close(
@@ -64,7 +64,7 @@ impl<W: World> Host<W> {
     /// Whether the file of a name is open for writing: then all that was printed to it is out.
     pub(crate) fn flush(&mut self, words: &[Word]) -> Result<Option<Word>, Refusal>
         requires { self.old.tables.fault ≡ None }
-        ensures { (memory : List ℕ) → ComesTo W.tells (Import.Of row.Flush)
+        ensures { (memory : List ℕ) → ComesTo W.is_modelled (Import.OfPrimitive row.Flush)
             (host_form W.state self.old) words.now memory result (host_form W.state self.new) }
     {
         flush(

@@ -4,6 +4,7 @@ ghost use Rattle.std.specs.FinMap as map;
 ghost use Rattle.host_values.specs.Shown.{Shown};
 ghost use Rattle.awk_values.specs.Values.{text_of_value};
 ghost use Rattle.host_calls.specs.Forms.{host_form};
+ghost use Rattle.host_step.specs.HostState.{HostState, live_arrays, live_iterators, live_values};
 ghost use Rattle.host_step.specs.Starts.{state_at_start};
 ghost use Rattle.host_tables.specs.Starts.{job_of};
 
@@ -77,21 +78,27 @@ impl<W: World> Host<W> {
 
     /// How many values have a handle.
     pub fn live_values(&self) -> usize
-        ensures { result ≡ map.len (host_form W.state self.now).values }
+        ensures form { result ≡ map.len (host_form W.state self.now).values }
+        ensures counted { (s : HostState) → Shown (host_form W.state self.now) s
+            → result ≡ live_values s }
     {
         self.tables.handles.live()
     }
 
     /// How many arrays there are, ARGV and ENVIRON counted.
     pub fn live_arrays(&self) -> usize
-        ensures { result ≡ map.len (host_form W.state self.now).arrays }
+        ensures form { result ≡ map.len (host_form W.state self.now).arrays }
+        ensures counted { (s : HostState) → Shown (host_form W.state self.now) s
+            → result ≡ live_arrays s }
     {
         self.tables.arrays.live()
     }
 
     /// How many iterators there are.
     pub fn live_iterators(&self) -> usize
-        ensures { result ≡ map.len (host_form W.state self.now).iterators }
+        ensures form { result ≡ map.len (host_form W.state self.now).iterators }
+        ensures counted { (s : HostState) → Shown (host_form W.state self.now) s
+            → result ≡ live_iterators s }
     {
         self.tables.iterators.live()
     }

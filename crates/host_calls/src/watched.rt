@@ -26,7 +26,7 @@ impl<W: World> HostCalls for Watched<W> {
 
     ghost state = { λ h. Told (host_form W.state h.host) };
 
-    ghost meaning = { form_meaning W.tells };
+    ghost meaning = { form_meaning W.is_modelled };
 
     ghost types = { host_types };
 
@@ -50,7 +50,7 @@ impl<W: World> HostCalls for Watched<W> {
 
     ghost found = { host_found };
 
-    ghost typed = { form_typed W.tells };
+    ghost typed = { form_typed W.is_modelled };
 
-    ghost refused = { form_refused W.tells };
+    ghost refused = { form_refused W.is_modelled };
 }

@@ -5,4 +5,6 @@ mod Edits
 mod TextSizes
 mod Made
 mod Later
+mod Finding
+mod Viewing
 mod Assigned

@@ -1,5 +1,5 @@
 -- What calls on the record do, in every state that it may be a part of.
-use Rattle.std.specs.Prelude.{◌≡◌, ℕ, List, Result, Ok, ℤ}
+use Rattle.std.specs.Prelude.{◌≡◌, ◌<◌, ℕ, List, Result, Ok, length, ℤ}
 use Rattle.awk_values.specs.declared.fault.Fault.{Fault}
 use Rattle.awk_values.specs.declared.fault.Stop.{Stop}
 use Rattle.awk_values.specs.declared.value.Value.{Value}
@@ -36,3 +36,7 @@ IsStopOfChange ofs change old stop = (inner : Inner) → special_text Ofs inner 
 -- reading a field gives this value
 abbrev pub Reads : ℤ → Held → Value → Type 0
 Reads n held value = (inner : Inner) → field_read n (with_held held inner) ≡ Ok value
+
+-- the number is past that of the last field
+abbrev pub IsBeyond : ℤ → Held → Type 0
+IsBeyond n held = (number : ℕ) × (field_number n ≡ Ok number) × (length held.fields < number)

@@ -5,7 +5,7 @@ ghost use Rattle.host_format.specs.Separators.{separator_by};
 
 use host_format::Plain;
 
-fn is_blank(byte: u8) -> bool
+pub(crate) fn is_blank(byte: u8) -> bool
     ensures { result ≡ is_blank byte }
 {
     byte == b' ' || byte == b'\t' || byte == b'\n'

@@ -1,16 +1,17 @@
 //! Where the fields of a record stand.
-ghost use Rattle.std.specs.Prelude.{◌≡◌, ℕ, IfOk, List, OnOk, length};
+ghost use Rattle.std.specs.Prelude.{◌≡◌, ℕ, List, OnOk, length, slice_get};
 ghost use Rattle.awk_values.specs.Values.{text_of_value};
 ghost use Rattle.awk_values.specs.declared.value.Value.{Value as AnyValue};
 ghost use Rattle.sem_primitives.specs.Fields.{pieces_of};
 ghost use Rattle.host_format.specs.Separators.{separator_by};
-ghost use Rattle.host_format.specs.Spans.{AreSpans};
-ghost use Rattle.host_fields.specs.Held.{AreHeld, IsMeasured, IsNumericText, IsOwn, IsPartOf, IsSplit, field_at, fields_in, held_in, whole_in};
+ghost use Rattle.host_format.specs.Spans.{AreSpans, span_text};
+ghost use Rattle.host_fields.specs.Held.{AreHeld, IsMeasured, IsNumericText, IsOwn, IsPartOf, IsSplit, fields_in, held_in, whole_in};
 ghost use Rattle.host_fields.specs.Places.{shown};
 ghost use Rattle.host_fields.specs.declared.fields.Form.TheVariants.{Parts};
 
 use crate::counted::count_pieces;
-use crate::view::Place;
+use crate::found::find_part;
+use crate::view::{Part, Place};
 use awk_values::Value;
 use host_format::{Plain, Span, split_plain};
 use std::alloc::AllocError;
@@ -28,13 +29,14 @@ pub(crate) enum Form {
     Unbuilt(usize),
 }
 
-/// A part of `$0`, as a field that shares its text.
-pub(crate) fn part_of(whole: &Value, span: Span) -> Result<Value, AllocError>
+/// A part of `$0`.
+#[inline(always)]
+pub(crate) fn part_of(whole: &Value, span: Span) -> Part<'_>
     requires { IsPartOf whole.now span }
-    ensures { IfOk result (λ field. field ≡ field_at (text_of_value whole.now) span) }
+    ensures { result ≡ span_text (text_of_value whole.now) span }
 {
     match whole {
-        Value::StrNum(text) => Ok(Value::StrNum(text.part(span.start, span.end)?)),
+        Value::StrNum(text) => Part::of(text, span),
         _ => unreachable!(),
     }
 }
@@ -46,7 +48,7 @@ fn fill(own: &mut Vec<Value>, whole: &Value, spans: &[Span]) -> Result<(), Alloc
 {
     own.clear();
     for span in spans {
-        own.push(part_of(whole, *span)?)?;
+        own.push(Value::StrNum(part_of(whole, *span).bytes()?))?;
     }
     Ok(())
 }
@@ -114,6 +116,26 @@ pub(crate) fn count_fields(whole: &Value, by: Plain, newlines: bool) -> usize
 {
     match whole {
         Value::StrNum(text) => count_pieces(text.as_slice(), by, newlines),
+        _ => unreachable!(),
+    }
+}
+
+/// The field of a number, counted from 0, of `$0` that is to be split. It takes no memory.
+pub(crate) fn find_field(
+    whole: &Value,
+    by: Plain,
+    newlines: bool,
+    number: usize,
+) -> Option<Part<'_>>
+    requires { IsNumericText whole.now }
+    ensures { result ≡ slice_get
+        (pieces_of (separator_by by) newlines (text_of_value whole.now)) number }
+{
+    match whole {
+        Value::StrNum(text) => match find_part(text.as_slice(), by, newlines, number) {
+            Some(span) => Some(Part::of(text, span)),
+            None => None,
+        },
         _ => unreachable!(),
     }
 }

@@ -3,6 +3,7 @@
 
 mod counted;
 mod fields;
+mod found;
 mod joined;
 mod number;
 mod record;
@@ -11,4 +12,4 @@ mod splitter;
 mod view;
 
 pub use record::Record;
-pub use view::Whole;
+pub use view::{FieldView, Part, Whole};

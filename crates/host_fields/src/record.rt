@@ -1,19 +1,20 @@
 //! The record.
-ghost use Rattle.std.specs.Prelude.{◌≡◌, ◌≢◌, ◌+◌, ◌-◌, ◌*◌, ◌≤◌, ◌&&◌, ℕ, not, List, [], IfErr, IfOk, Ok, OnErr, OnOk, get_or, length, pos};
+ghost use Rattle.std.specs.Prelude.{◌≡◌, ◌≢◌, ◌↔◌, ◌+◌, ◌-◌, ◌*◌, ◌≤◌, ◌&&◌, ℕ, not, Err, List, [], IfErr, IfOk, Ok, OnErr, OnOk, length, pos, slice_get};
 ghost use Rattle.awk_values.specs.declared.value.Value.TheVariants.{StrNum, Uninit};
 ghost use Rattle.sem_primitives.specs.Texts.{is_empty};
 ghost use Rattle.sem_primitives.specs.FieldMeaning.{at_least, field_number};
 ghost use Rattle.sem_primitives.specs.Limits.{most_text};
 ghost use Rattle.host_format.specs.Outcomes.{IsPast, IsStopOf};
 ghost use Rattle.host_fields.specs.Held.{AreHeld, IsMeasured, IsOwn, held_in};
-ghost use Rattle.host_fields.specs.Calls.{IsRecordOf, IsStopOfChange, IsStopOfRecord, Makes, Reads, count_set, field_set};
+ghost use Rattle.host_fields.specs.Calls.{IsBeyond, IsRecordOf, IsStopOfChange, IsStopOfRecord, Makes, Reads, count_set, field_set};
+ghost use Rattle.host_fields.specs.Views.{IsMissing, lent, viewed};
 
-use crate::fields::{Form, count_fields, part_of, place_of_whole, to_own, to_split};
+use crate::fields::{Form, count_fields, find_field, part_of, place_of_whole, to_own, to_split};
 use crate::joined::joined;
 use crate::number::field_number;
 use crate::sizes::{size_of_first, size_with, whole_size};
 use crate::splitter::{LastSep, split};
-use crate::view::Whole;
+use crate::view::{FieldView, Whole};
 use awk_values::{Bytes, Fault, Stop, Value};
 use host_format::{Plain, Span};
 use sem_primitives::MAX_FIELDS;
@@ -295,44 +296,57 @@ impl Record {
         Ok(())
     }
 
-    /// A field from `$1` on, where `number` counts from 0. Past NF it has no value.
+    /// Splits `$0` for a field, or builds it where the number is 0, if that was put off: then [`Record::field`] need not read the text for it. Nothing
+    /// changes, and where there is no memory for it nothing is done.
     #[inline(always)]
-    fn own_or_part(&mut self, number: usize) -> Result<Value, AllocError>
-        ensures value { IfOk result (λ value. value ≡ get_or self.old.fields number Uninit) }
-        ensures same { self.new ≡ self.old }
+    pub fn prepare(&mut self, n: i64)
+        ensures { self.new ≡ self.old }
     {
-        to_split(&mut self.form, &self.whole, &mut self.spans)?;
-        match self.form {
-            Form::Own | Form::Unbuilt(_) => match self.own.get(number) {
-                Some(value) => value.clone(),
-                None => Ok(Value::Uninit),
-            },
-            Form::Parts => match self.spans.get(number) {
-                Some(span) => part_of(&self.whole, *span),
-                None => Ok(Value::Uninit),
-            },
-            Form::Later(..) => unreachable!(),
+        if n == 0 {
+            let _ = self.build();
+        } else {
+            let _ = to_split(&mut self.form, &self.whole, &mut self.spans);
         }
     }
 
-    /// The field of a number; that of 0 is `$0`. Past NF it has no value, and nothing changes. Its text is shared.
+    /// A field from `$1` on, where `number` counts from 0.
+    #[inline(always)]
+    fn own_or_part(&self, number: usize) -> FieldView<'_>
+        ensures { lent result ≡ slice_get self.now.fields number }
+    {
+        match self.form {
+            Form::Own | Form::Unbuilt(_) => match self.own.get(number) {
+                Some(value) => FieldView::Own(value),
+                None => FieldView::Missing,
+            },
+            Form::Parts => match self.spans.get(number) {
+                Some(span) => FieldView::Part(part_of(&self.whole, *span)),
+                None => FieldView::Missing,
+            },
+            Form::Later(by, newlines) => match find_field(&self.whole, by, newlines, number) {
+                Some(part) => FieldView::Part(part),
+                None => FieldView::Missing,
+            },
+        }
+    }
+
+    /// The field of a number; that of 0 is `$0`. It takes no memory: a field that is yet to be split off is found in the text, unless
+    /// [`Record::prepare`] was called.
     ///
     /// # Errors
     ///
-    /// `FieldNumber` where the number is below 0 or above 1,048,576; [`Stop::NoMemory`], also where the count of those who share the text is full.
+    /// `FieldNumber` where the number is below 0 or above 1,048,576.
     #[inline(always)]
-    pub fn field(&mut self, n: i64) -> Result<Value, Stop>
-        ensures ok { IfOk result (Reads n self.old) }
-        ensures err { IfErr result (IsStopOf (field_number n)) }
-        ensures same { self.new ≡ self.old }
+    pub fn field(&self, n: i64) -> Result<FieldView<'_>, Fault>
+        ensures ok { IfOk result (λ view. Reads n self.now (viewed view)) }
+        ensures missing { IfOk result (λ view. IsMissing view ↔ IsBeyond n self.now) }
+        ensures err { IfErr result (λ fault. field_number n ≡ Err fault) }
     {
         let number = field_number(n)?;
-        if number != 0 {
-            return Ok(self.own_or_part(number - 1)?);
+        if number == 0 {
+            return Ok(FieldView::Whole(self.whole()));
         }
-        self.build()?;
-        let alloc = *self.own.allocator();
-        Ok(self.whole().value(alloc)?)
+        Ok(self.own_or_part(number - 1))
     }
 
     /// NF, the number of fields. Nothing changes. It always succeeds, and needs no memory: where there is none for the places of fields that are still to

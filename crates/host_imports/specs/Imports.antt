@@ -16,10 +16,10 @@ use Rattle.sem_primitives.specs.declared.sorts.Sort.{Sort}
 use Rattle.sem_primitives.specs.declared.sorts.Sort.TheVariants as sort
 use Rattle.sem_primitives.specs.declared.table.Primitive.{Primitive}
 use Rattle.sem_primitives.specs.declared.table.Primitive.TheVariants as row
-use Rattle.host_imports.specs.declared.import.Listing.{Listing}
-use Rattle.host_imports.specs.declared.import.Listing.TheVariants.{Sprintf, Print, Printf}
+use Rattle.host_imports.specs.declared.import.VariadicImport.{VariadicImport}
+use Rattle.host_imports.specs.declared.import.VariadicImport.TheVariants.{Sprintf, Print, Printf}
 use Rattle.host_imports.specs.declared.import.Import.{Import}
-use Rattle.host_imports.specs.declared.import.Import.TheVariants.{Of, Over, Arg, Drop, IterFree, FreeArray}
+use Rattle.host_imports.specs.declared.import.Import.TheVariants.{OfPrimitive, Variadic, Arg, Drop, IterFree, FreeArray}
 
 abbrev pub primitive_name : Primitive → List ℕ
 primitive_name row.Num = codes "num"
@@ -72,14 +72,14 @@ primitive_name row.NextFile = codes "next_file"
 primitive_name row.Clear = codes "clear"
 primitive_name row.Flush = codes "flush"
 
-abbrev pub listing_name : Listing → List ℕ
+abbrev pub listing_name : VariadicImport → List ℕ
 listing_name Sprintf = codes "sprintf"
 listing_name Print = codes "print"
 listing_name Printf = codes "printf"
 
 abbrev pub import_name : Import → List ℕ
-import_name (Of p) = primitive_name p
-import_name (Over l) = listing_name l
+import_name (OfPrimitive p) = primitive_name p
+import_name (Variadic l) = listing_name l
 import_name Arg = codes "arg"
 import_name Drop = codes "drop"
 import_name IterFree = codes "iter_free"
@@ -91,13 +91,13 @@ module_name = codes "awk2"
 
 -- in the order of their numbers
 abbrev pub imports : List Import
-imports = Of row.Num ∷ Of row.Lit ∷ Of row.Uninit ∷ Of row.Dup ∷ Of row.ToNum ∷ Of row.IntOf ∷ Of row.Truth ∷ Of row.Compare ∷ Of row.Concat
-    ∷ Of row.Pow ∷ Of row.Fail ∷ Of row.GetSpecial ∷ Of row.SetSpecial ∷ Of row.Field ∷ Of row.SetField ∷ Of row.NewArray ∷ Of row.Elem
-    ∷ Of row.SetElem ∷ Of row.Has ∷ Of row.Delete ∷ Of row.Join ∷ Of row.Iter ∷ Of row.IterNext ∷ Of row.Length ∷ Of row.Matches ∷ Of row.Match
-    ∷ Of row.Sub ∷ Of row.SubResult ∷ Of row.Split ∷ Of row.Substr ∷ Of row.SubstrFrom ∷ Of row.Index ∷ Of row.Lower ∷ Of row.Upper
-    ∷ Of row.NextMain ∷ Of row.Getline ∷ Of row.GetlineVar ∷ Of row.GetlineFile ∷ Of row.GetlineVarFile ∷ Of row.Line ∷ Of row.Declare
-    ∷ Of row.StartAssign ∷ Of row.PendingName ∷ Of row.PendingValue ∷ Of row.BeginEnd ∷ Of row.Close ∷ Arg ∷ Over Sprintf ∷ Over Print
-    ∷ Over Printf ∷ Drop ∷ IterFree ∷ FreeArray ∷ Of row.NextFile ∷ Of row.Clear ∷ Of row.Flush ∷ []
+imports = OfPrimitive row.Num ∷ OfPrimitive row.Lit ∷ OfPrimitive row.Uninit ∷ OfPrimitive row.Dup ∷ OfPrimitive row.ToNum ∷ OfPrimitive row.IntOf ∷ OfPrimitive row.Truth ∷ OfPrimitive row.Compare ∷ OfPrimitive row.Concat
+    ∷ OfPrimitive row.Pow ∷ OfPrimitive row.Fail ∷ OfPrimitive row.GetSpecial ∷ OfPrimitive row.SetSpecial ∷ OfPrimitive row.Field ∷ OfPrimitive row.SetField ∷ OfPrimitive row.NewArray ∷ OfPrimitive row.Elem
+    ∷ OfPrimitive row.SetElem ∷ OfPrimitive row.Has ∷ OfPrimitive row.Delete ∷ OfPrimitive row.Join ∷ OfPrimitive row.Iter ∷ OfPrimitive row.IterNext ∷ OfPrimitive row.Length ∷ OfPrimitive row.Matches ∷ OfPrimitive row.Match
+    ∷ OfPrimitive row.Sub ∷ OfPrimitive row.SubResult ∷ OfPrimitive row.Split ∷ OfPrimitive row.Substr ∷ OfPrimitive row.SubstrFrom ∷ OfPrimitive row.Index ∷ OfPrimitive row.Lower ∷ OfPrimitive row.Upper
+    ∷ OfPrimitive row.NextMain ∷ OfPrimitive row.Getline ∷ OfPrimitive row.GetlineVar ∷ OfPrimitive row.GetlineFile ∷ OfPrimitive row.GetlineVarFile ∷ OfPrimitive row.Line ∷ OfPrimitive row.Declare
+    ∷ OfPrimitive row.StartAssign ∷ OfPrimitive row.PendingName ∷ OfPrimitive row.PendingValue ∷ OfPrimitive row.BeginEnd ∷ OfPrimitive row.Close ∷ Arg ∷ Variadic Sprintf ∷ Variadic Print
+    ∷ Variadic Printf ∷ Drop ∷ IterFree ∷ FreeArray ∷ OfPrimitive row.NextFile ∷ OfPrimitive row.Clear ∷ OfPrimitive row.Flush ∷ []
 
 abbrev pub import_at : ℕ → Option Import
 import_at n = slice_get imports n
@@ -157,42 +157,42 @@ primitive_number row.NextFile = 53
 primitive_number row.Clear = 54
 primitive_number row.Flush = 55
 
-abbrev pub listing_number : Listing → ℕ
+abbrev pub listing_number : VariadicImport → ℕ
 listing_number Sprintf = 47
 listing_number Print = 48
 listing_number Printf = 49
 
 abbrev pub import_number : Import → ℕ
-import_number (Of p) = primitive_number p
+import_number (OfPrimitive p) = primitive_number p
 import_number Arg = 46
-import_number (Over l) = listing_number l
+import_number (Variadic l) = listing_number l
 import_number Drop = 50
 import_number IterFree = 51
 import_number FreeArray = 52
 
 -- how many of the last values are taken, and, of those that write, where to
-abbrev pub listing_arguments : Listing → List Argument
+abbrev pub listing_arguments : VariadicImport → List Argument
 listing_arguments Sprintf = argument.Constant constant.Count ∷ []
 listing_arguments Print = argument.Constant constant.Count ∷ argument.Constant constant.Destination ∷ []
 listing_arguments Printf = argument.Constant constant.Count ∷ argument.Constant constant.Destination ∷ []
 
-abbrev pub listing_answer : Listing → Answer
+abbrev pub listing_answer : VariadicImport → Answer
 listing_answer Sprintf = answer.Of sort.Value
 listing_answer Print = answer.Done
 listing_answer Printf = answer.Done
 
 -- an array and an iterator go by numbers of their own, which are not handles
 abbrev pub import_arguments : Import → List Argument
-import_arguments (Of p) = arguments_of p
-import_arguments (Over l) = listing_arguments l
+import_arguments (OfPrimitive p) = arguments_of p
+import_arguments (Variadic l) = listing_arguments l
 import_arguments Arg = argument.Of sort.Value ∷ []
 import_arguments Drop = argument.Of sort.Value ∷ []
 import_arguments IterFree = argument.Of sort.Iterator ∷ []
 import_arguments FreeArray = argument.Of sort.Array ∷ []
 
 abbrev pub import_answer : Import → Answer
-import_answer (Of p) = answer_of p
-import_answer (Over l) = listing_answer l
+import_answer (OfPrimitive p) = answer_of p
+import_answer (Variadic l) = listing_answer l
 import_answer Arg = answer.Nothing
 import_answer Drop = answer.Nothing
 import_answer IterFree = answer.Nothing
@@ -202,7 +202,7 @@ import_answer FreeArray = answer.Nothing
 -- looks; the number of an array by `free_array`, that of an iterator by `iter_free`.
 
 abbrev pub spends_handles : Import → Bool
-spends_handles (Of row.Dup) = false
+spends_handles (OfPrimitive row.Dup) = false
 spends_handles _ = true
 
 abbrev pub spends_arrays : Import → Bool
@@ -228,16 +228,16 @@ lets_go _ = false
 
 -- whether a call may keep a fault
 abbrev pub can_fault : Import → Bool
-can_fault (Of p) = table.can_fault p
-can_fault (Over l) = true
+can_fault (OfPrimitive p) = table.can_fault p
+can_fault (Variadic l) = true
 can_fault _ = false
 
 -- whether a call with words of its types may trap: what takes no argument and is always in turn never does
 abbrev pub can_trap : Import → Bool
-can_trap (Of row.Uninit) = false
-can_trap (Of row.NewArray) = false
-can_trap (Of row.BeginEnd) = false
-can_trap (Of row.NextFile) = false
+can_trap (OfPrimitive row.Uninit) = false
+can_trap (OfPrimitive row.NewArray) = false
+can_trap (OfPrimitive row.BeginEnd) = false
+can_trap (OfPrimitive row.NextFile) = false
 can_trap _ = true
 
 -- Types.

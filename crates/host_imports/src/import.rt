@@ -6,7 +6,7 @@ use sem_primitives::{Answer, Argument, Constant, Primitive, Sort};
 
 /// What is made of the last values of the argument list.
 #[derive(Clone, Copy, Drop)]
-pub enum Listing {
+pub enum VariadicImport {
     Sprintf,
     Print,
     Printf,
@@ -15,8 +15,8 @@ pub enum Listing {
 /// What a module may ask of the host: a row of the table of primitives, or what builds the argument list, uses it, or lets something go.
 #[derive(Clone, Copy, Drop)]
 pub enum Import {
-    Of(Primitive),
-    Over(Listing),
+    OfPrimitive(Primitive),
+    Variadic(VariadicImport),
     /// A value goes onto the argument list.
     Arg,
     /// A value is let go.
@@ -32,62 +32,62 @@ pub const IMPORT_COUNT: usize = 56;
 
 /// The imports in the order of their numbers, from 0 on.
 pub const IMPORTS: [Import; IMPORT_COUNT] = [
-    Import::Of(Primitive::Num),
-    Import::Of(Primitive::Lit),
-    Import::Of(Primitive::Uninit),
-    Import::Of(Primitive::Dup),
-    Import::Of(Primitive::ToNum),
-    Import::Of(Primitive::IntOf),
-    Import::Of(Primitive::Truth),
-    Import::Of(Primitive::Compare),
-    Import::Of(Primitive::Concat),
-    Import::Of(Primitive::Pow),
-    Import::Of(Primitive::Fail),
-    Import::Of(Primitive::GetSpecial),
-    Import::Of(Primitive::SetSpecial),
-    Import::Of(Primitive::Field),
-    Import::Of(Primitive::SetField),
-    Import::Of(Primitive::NewArray),
-    Import::Of(Primitive::Elem),
-    Import::Of(Primitive::SetElem),
-    Import::Of(Primitive::Has),
-    Import::Of(Primitive::Delete),
-    Import::Of(Primitive::Join),
-    Import::Of(Primitive::Iter),
-    Import::Of(Primitive::IterNext),
-    Import::Of(Primitive::Length),
-    Import::Of(Primitive::Matches),
-    Import::Of(Primitive::Match),
-    Import::Of(Primitive::Sub),
-    Import::Of(Primitive::SubResult),
-    Import::Of(Primitive::Split),
-    Import::Of(Primitive::Substr),
-    Import::Of(Primitive::SubstrFrom),
-    Import::Of(Primitive::Index),
-    Import::Of(Primitive::Lower),
-    Import::Of(Primitive::Upper),
-    Import::Of(Primitive::NextMain),
-    Import::Of(Primitive::Getline),
-    Import::Of(Primitive::GetlineVar),
-    Import::Of(Primitive::GetlineFile),
-    Import::Of(Primitive::GetlineVarFile),
-    Import::Of(Primitive::Line),
-    Import::Of(Primitive::Declare),
-    Import::Of(Primitive::StartAssign),
-    Import::Of(Primitive::PendingName),
-    Import::Of(Primitive::PendingValue),
-    Import::Of(Primitive::BeginEnd),
-    Import::Of(Primitive::Close),
+    Import::OfPrimitive(Primitive::Num),
+    Import::OfPrimitive(Primitive::Lit),
+    Import::OfPrimitive(Primitive::Uninit),
+    Import::OfPrimitive(Primitive::Dup),
+    Import::OfPrimitive(Primitive::ToNum),
+    Import::OfPrimitive(Primitive::IntOf),
+    Import::OfPrimitive(Primitive::Truth),
+    Import::OfPrimitive(Primitive::Compare),
+    Import::OfPrimitive(Primitive::Concat),
+    Import::OfPrimitive(Primitive::Pow),
+    Import::OfPrimitive(Primitive::Fail),
+    Import::OfPrimitive(Primitive::GetSpecial),
+    Import::OfPrimitive(Primitive::SetSpecial),
+    Import::OfPrimitive(Primitive::Field),
+    Import::OfPrimitive(Primitive::SetField),
+    Import::OfPrimitive(Primitive::NewArray),
+    Import::OfPrimitive(Primitive::Elem),
+    Import::OfPrimitive(Primitive::SetElem),
+    Import::OfPrimitive(Primitive::Has),
+    Import::OfPrimitive(Primitive::Delete),
+    Import::OfPrimitive(Primitive::Join),
+    Import::OfPrimitive(Primitive::Iter),
+    Import::OfPrimitive(Primitive::IterNext),
+    Import::OfPrimitive(Primitive::Length),
+    Import::OfPrimitive(Primitive::Matches),
+    Import::OfPrimitive(Primitive::Match),
+    Import::OfPrimitive(Primitive::Sub),
+    Import::OfPrimitive(Primitive::SubResult),
+    Import::OfPrimitive(Primitive::Split),
+    Import::OfPrimitive(Primitive::Substr),
+    Import::OfPrimitive(Primitive::SubstrFrom),
+    Import::OfPrimitive(Primitive::Index),
+    Import::OfPrimitive(Primitive::Lower),
+    Import::OfPrimitive(Primitive::Upper),
+    Import::OfPrimitive(Primitive::NextMain),
+    Import::OfPrimitive(Primitive::Getline),
+    Import::OfPrimitive(Primitive::GetlineVar),
+    Import::OfPrimitive(Primitive::GetlineFile),
+    Import::OfPrimitive(Primitive::GetlineVarFile),
+    Import::OfPrimitive(Primitive::Line),
+    Import::OfPrimitive(Primitive::Declare),
+    Import::OfPrimitive(Primitive::StartAssign),
+    Import::OfPrimitive(Primitive::PendingName),
+    Import::OfPrimitive(Primitive::PendingValue),
+    Import::OfPrimitive(Primitive::BeginEnd),
+    Import::OfPrimitive(Primitive::Close),
     Import::Arg,
-    Import::Over(Listing::Sprintf),
-    Import::Over(Listing::Print),
-    Import::Over(Listing::Printf),
+    Import::Variadic(VariadicImport::Sprintf),
+    Import::Variadic(VariadicImport::Print),
+    Import::Variadic(VariadicImport::Printf),
     Import::Drop,
     Import::IterFree,
     Import::FreeArray,
-    Import::Of(Primitive::NextFile),
-    Import::Of(Primitive::Clear),
-    Import::Of(Primitive::Flush),
+    Import::OfPrimitive(Primitive::NextFile),
+    Import::OfPrimitive(Primitive::Clear),
+    Import::OfPrimitive(Primitive::Flush),
 ];
 
 /// How many of the imports, from the first on, a module of this name has.
@@ -104,7 +104,7 @@ pub fn imports_in(from: &[u8]) -> usize
 }
 
 fn primitive_name(primitive: Primitive) -> &'static str
-    ensures { result.now ≡ import_name (Import.Of primitive) }
+    ensures { result.now ≡ import_name (Import.OfPrimitive primitive) }
 {
     match primitive {
         Primitive::Num => "num",
@@ -161,7 +161,7 @@ fn primitive_name(primitive: Primitive) -> &'static str
 
 /// The number of a primitive among the imports.
 fn primitive_number(primitive: Primitive) -> u32
-    ensures { result ≡ import_number (Import.Of primitive) }
+    ensures { result ≡ import_number (Import.OfPrimitive primitive) }
 {
     match primitive {
         Primitive::Num => 0,
@@ -216,36 +216,36 @@ fn primitive_number(primitive: Primitive) -> u32
     }
 }
 
-impl Listing {
+impl VariadicImport {
     /// Its number among the imports.
     pub fn number(self) -> u32
-        ensures { result ≡ import_number (Import.Over self) }
+        ensures { result ≡ import_number (Import.Variadic self) }
     {
         match self {
-            Listing::Sprintf => 47,
-            Listing::Print => 48,
-            Listing::Printf => 49,
+            VariadicImport::Sprintf => 47,
+            VariadicImport::Print => 48,
+            VariadicImport::Printf => 49,
         }
     }
 
     /// Its name, by which modules import it.
     pub fn name(self) -> &'static str
-        ensures { result.now ≡ import_name (Import.Over self) }
+        ensures { result.now ≡ import_name (Import.Variadic self) }
     {
         match self {
-            Listing::Sprintf => "sprintf",
-            Listing::Print => "print",
-            Listing::Printf => "printf",
+            VariadicImport::Sprintf => "sprintf",
+            VariadicImport::Print => "print",
+            VariadicImport::Printf => "printf",
         }
     }
 
     /// How many of the last values are taken, and, of those that write, where to.
     pub fn arguments(self) -> &'static [Argument]
-        ensures { result.now ≡ import_arguments (Import.Over self) }
+        ensures { result.now ≡ import_arguments (Import.Variadic self) }
     {
         match self {
-            Listing::Sprintf => &[Argument::Constant(Constant::Count)],
-            Listing::Print | Listing::Printf => &[
+            VariadicImport::Sprintf => &[Argument::Constant(Constant::Count)],
+            VariadicImport::Print | VariadicImport::Printf => &[
                 Argument::Constant(Constant::Count),
                 Argument::Constant(Constant::Destination),
             ],
@@ -254,11 +254,11 @@ impl Listing {
 
     /// The sort of its answer.
     pub fn answer(self) -> Answer
-        ensures { result ≡ import_answer (Import.Over self) }
+        ensures { result ≡ import_answer (Import.Variadic self) }
     {
         match self {
-            Listing::Sprintf => Answer::Of(Sort::Value),
-            Listing::Print | Listing::Printf => Answer::Done,
+            VariadicImport::Sprintf => Answer::Of(Sort::Value),
+            VariadicImport::Print | VariadicImport::Printf => Answer::Done,
         }
     }
 }
@@ -282,8 +282,8 @@ impl Import {
         ensures { result ≡ import_number self }
     {
         match self {
-            Import::Of(primitive) => primitive_number(primitive),
-            Import::Over(listing) => listing.number(),
+            Import::OfPrimitive(primitive) => primitive_number(primitive),
+            Import::Variadic(listing) => listing.number(),
             Import::Arg => 46,
             Import::Drop => 50,
             Import::IterFree => 51,
@@ -296,8 +296,8 @@ impl Import {
         ensures { result.now ≡ import_name self }
     {
         match self {
-            Import::Of(primitive) => primitive_name(primitive),
-            Import::Over(listing) => listing.name(),
+            Import::OfPrimitive(primitive) => primitive_name(primitive),
+            Import::Variadic(listing) => listing.name(),
             Import::Arg => "arg",
             Import::Drop => "drop",
             Import::IterFree => "iter_free",
@@ -310,8 +310,8 @@ impl Import {
         ensures { result.now ≡ import_arguments self }
     {
         match self {
-            Import::Of(primitive) => primitive.arguments(),
-            Import::Over(listing) => listing.arguments(),
+            Import::OfPrimitive(primitive) => primitive.arguments(),
+            Import::Variadic(listing) => listing.arguments(),
             Import::Arg | Import::Drop => &[Argument::Of(Sort::Value)],
             Import::IterFree => &[Argument::Of(Sort::Iterator)],
             Import::FreeArray => &[Argument::Of(Sort::Array)],
@@ -323,8 +323,8 @@ impl Import {
         ensures { result ≡ import_answer self }
     {
         match self {
-            Import::Of(primitive) => primitive.answer(),
-            Import::Over(listing) => listing.answer(),
+            Import::OfPrimitive(primitive) => primitive.answer(),
+            Import::Variadic(listing) => listing.answer(),
             Import::Arg | Import::Drop | Import::IterFree | Import::FreeArray => Answer::Nothing,
         }
     }
@@ -334,7 +334,7 @@ impl Import {
         ensures { result ≡ spends self sort }
     {
         match sort {
-            Sort::Value => !matches!(self, Import::Of(Primitive::Dup)),
+            Sort::Value => !matches!(self, Import::OfPrimitive(Primitive::Dup)),
             Sort::Number => false,
             Sort::Array => matches!(self, Import::FreeArray),
             Sort::Iterator => matches!(self, Import::IterFree),
@@ -353,8 +353,8 @@ impl Import {
         ensures { result ≡ can_fault self }
     {
         match self {
-            Import::Of(primitive) => primitive.can_fault(),
-            Import::Over(_) => true,
+            Import::OfPrimitive(primitive) => primitive.can_fault(),
+            Import::Variadic(_) => true,
             Import::Arg | Import::Drop | Import::IterFree | Import::FreeArray => false,
         }
     }
@@ -365,7 +365,7 @@ impl Import {
     {
         !matches!(
             self,
-            Import::Of(
+            Import::OfPrimitive(
                 Primitive::Uninit | Primitive::NewArray | Primitive::BeginEnd | Primitive::NextFile
             )
         )

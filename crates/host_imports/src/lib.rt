@@ -8,6 +8,6 @@ mod import;
 mod links;
 mod types;
 
-pub use import::{IMPORT_COUNT, IMPORTS, Import, Listing, imports_in};
+pub use import::{IMPORT_COUNT, IMPORTS, Import, VariadicImport, imports_in};
 pub use links::Links;
 pub use types::type_of;

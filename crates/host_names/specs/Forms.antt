@@ -5,8 +5,8 @@ use Rattle.sem_primitives.specs.declared.constants.NameKind.{NameKind}
 use Rattle.awk_values.specs.declared.value.Value.{Value}
 use Rattle.wasm_store.specs.declared.word.Word.{Word}
 use Rattle.host_values.specs.Evaluations.{Values}
-use Rattle.host_values.specs.declared.reply.Refusal.{Refusal}
-use Rattle.host_values.specs.declared.reply.Refusal.TheVariants as why
+use Rattle.host_step.specs.declared.refusal.Refusal.{Refusal}
+use Rattle.host_step.specs.declared.refusal.Refusal.TheVariants as why
 use Rattle.host_texts.specs.States.{with_texts}
 use Rattle.host_texts.specs.declared.texts.Texts.{Texts}
 use Rattle.host_values.specs.Forms.{HostForm}

@@ -3,7 +3,7 @@ use Rattle.std.proofs.Common.{◌≡◌, ◌≢◌, ℕ, Bool, true, false, List
 use Rattle.std.specs.Prelude.{Result, Ok, Err, cond}
 use Rattle.awk_values.specs.declared.fault.Fault.{Fault}
 use Rattle.sem_primitives.specs.InTurn.{in_turn}
-use Rattle.sem_primitives.specs.SharedState.{Does}
+use Rattle.sem_primitives.specs.SharedState.{HostResult}
 use Rattle.sem_primitives.specs.Sorts.{InAnswer, OrFault, Row}
 use Rattle.sem_primitives.specs.Table as table
 use Rattle.sem_primitives.specs.declared.table.Primitive.TheVariants as row
@@ -17,7 +17,7 @@ use Rattle.host_step.specs.HostState.{HostState, Names}
 use Rattle.host_step.specs.HostStep.{Acts, Comes, Given, Goes, IsGiven, Refuses, Settles, StepBy, StepOf, Traps, acts, carried, come, comes, is_freed, or_fault, primitive_acts, refuses, where_fit}
 use Rattle.host_imports.specs.Imports.{can_fault, can_trap, import_answer, import_arguments, spends}
 use Rattle.host_imports.specs.declared.import.Import.{Import}
-use Rattle.host_imports.specs.declared.import.Import.TheVariants.{Of, Over, Arg, Drop, IterFree, FreeArray}
+use Rattle.host_imports.specs.declared.import.Import.TheVariants.{OfPrimitive, Variadic, Arg, Drop, IterFree, FreeArray}
 
 same_ok : {A E : Type 0} (x y : A) → ◌≡◌ {A = Result A E} (Ok x) (Ok y) → x ≡ y
 same_ok x y e = cc
@@ -39,8 +39,8 @@ fit false x d e = cc
 
 acts_well : (i : Import) (given : Row (import_arguments i)) (s : HostState) (d : Acts (InAnswer (import_answer i))) (f : Fault) → can_fault i
     ≡ false → acts i given s ≡ Ok d → d.does.answer ≢ Err f
-acts_well (Of p) given s d f h e = subst (λ x. x.does.answer ≢ Err f) (fit (in_turn p given s.shared) _ d e) (pure (table.can_fault p) _ f h)
-acts_well (Over l) given s d f h e = cc
+acts_well (OfPrimitive p) given s d f h e = subst (λ x. x.does.answer ≢ Err f) (fit (in_turn p given s.shared) _ d e) (pure (table.can_fault p) _ f h)
+acts_well (Variadic l) given s d f h e = cc
 acts_well Arg given s d f h e = subst (λ x. x.does.answer ≢ Err f) (same_ok _ d e) (ok_apart tt f)
 acts_well Drop given s d f h e = subst (λ x. x.does.answer ≢ Err f) (same_ok _ d e) (ok_apart tt f)
 acts_well IterFree given s d f h e = subst (λ x. x.does.answer ≢ Err f) (same_ok _ d e) (ok_apart tt f)
@@ -86,8 +86,8 @@ refused_or p false before after left d x a out kind e s = given_apart before aft
 
 pub no_trap : (i : Import) (before : HostState) (memory : List ℕ) (a : HostAnswer) (after : HostState) (out : List Action) (kind : TrapKind)
     → can_trap i ≡ false → StepOf i before [] memory a after out → a ≢ told.Trap kind
-no_trap (Of row.Uninit) before memory a after out kind h s = refused_or (Of row.Uninit) (refuses (Of row.Uninit) before.fault) before after before.names _ _ a out kind refl s
-no_trap (Of row.NewArray) before memory a after out kind h s = refused_or (Of row.NewArray) (refuses (Of row.NewArray) before.fault) before after before.names _ _ a out kind refl s
-no_trap (Of row.BeginEnd) before memory a after out kind h s = refused_or (Of row.BeginEnd) (refuses (Of row.BeginEnd) before.fault) before after before.names _ _ a out kind refl s
-no_trap (Of row.NextFile) before memory a after out kind h s = refused_or (Of row.NextFile) (refuses (Of row.NextFile) before.fault) before after before.names _ _ a out kind refl s
+no_trap (OfPrimitive row.Uninit) before memory a after out kind h s = refused_or (OfPrimitive row.Uninit) (refuses (OfPrimitive row.Uninit) before.fault) before after before.names _ _ a out kind refl s
+no_trap (OfPrimitive row.NewArray) before memory a after out kind h s = refused_or (OfPrimitive row.NewArray) (refuses (OfPrimitive row.NewArray) before.fault) before after before.names _ _ a out kind refl s
+no_trap (OfPrimitive row.BeginEnd) before memory a after out kind h s = refused_or (OfPrimitive row.BeginEnd) (refuses (OfPrimitive row.BeginEnd) before.fault) before after before.names _ _ a out kind refl s
+no_trap (OfPrimitive row.NextFile) before memory a after out kind h s = refused_or (OfPrimitive row.NextFile) (refuses (OfPrimitive row.NextFile) before.fault) before after before.names _ _ a out kind refl s
 no_trap _ before memory a after out kind h s = cc

@@ -16,7 +16,7 @@ use Rattle.host_step.specs.HostStep.{Given, step}
 use Rattle.host_step.specs.Starts.{state_at_start}
 use Rattle.host_step.specs.Tables.{entered}
 use Rattle.host_imports.specs.declared.import.Import.{Import}
-use Rattle.host_imports.specs.declared.import.Import.TheVariants.{Of}
+use Rattle.host_imports.specs.declared.import.Import.TheVariants.{OfPrimitive}
 
 -- an import with its words; what is new gets this number
 pub record Call : Type 0 where

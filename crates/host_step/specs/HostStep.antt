@@ -3,7 +3,7 @@ use Rattle.std.specs.Prelude.{ℕ, ◌-◌, ◌≡◌, nat_le, Bool, true, false
 use Rattle.awk_values.specs.declared.fault.Fault.{Fault}
 use Rattle.awk_values.specs.declared.value.Value.{Value as AnyValue}
 use Rattle.sem_primitives.specs.InTurn.{in_turn, values_taken, listed_in_turn}
-use Rattle.sem_primitives.specs.SharedState.{Shared, Does, gives, shared_after}
+use Rattle.sem_primitives.specs.SharedState.{Shared, HostResult, gives, shared_after}
 use Rattle.sem_primitives.specs.Sorts.{InAnswer, OrFault, Row}
 use Rattle.sem_primitives.specs.Table.{meaning, listed_answer, listed_meaning}
 use Rattle.sem_primitives.specs.Table as table
@@ -20,14 +20,14 @@ use Rattle.host_imports.specs.Imports.{import_answer, import_arguments, import_a
 use Rattle.host_step.specs.HostState.{HostState, Names}
 use Rattle.host_step.specs.Arguments.{and_then, decode}
 use Rattle.host_step.specs.Answers.{FreeFor, encode, refusal}
-use Rattle.host_imports.specs.declared.import.Listing.TheVariants.{Sprintf, Print, Printf}
+use Rattle.host_imports.specs.declared.import.VariadicImport.TheVariants.{Sprintf, Print, Printf}
 use Rattle.host_imports.specs.declared.import.Import.{Import}
-use Rattle.host_imports.specs.declared.import.Import.TheVariants.{Of, Over, Arg, Drop, IterFree, FreeArray}
+use Rattle.host_imports.specs.declared.import.Import.TheVariants.{OfPrimitive, Variadic, Arg, Drop, IterFree, FreeArray}
 
 -- What an import does with its arguments: to what a script and its host share, and to the argument list.
 
 pub record Acts (A : Type 0) : Type 0 where
-  pub does : Does (Result A Fault)
+  pub does : HostResult (Result A Fault)
   pub arguments : List AnyValue
 
 -- a call that is out of turn is unfit
@@ -40,7 +40,7 @@ or_fault true x = x
 or_fault false x = Ok x
 
 -- a primitive leaves the argument list as it is
-abbrev pub primitive_acts : {A : Type 0} → List AnyValue → (faults : Bool) → Does (OrFault faults A) → Acts A
+abbrev pub primitive_acts : {A : Type 0} → List AnyValue → (faults : Bool) → HostResult (OrFault faults A) → Acts A
 primitive_acts arguments faults d = record { does = record { added = d.added; inner = d.inner; answer = or_fault faults d.answer }; arguments = arguments }
 
 -- the last n values of a list, and those before them
@@ -63,10 +63,10 @@ abbrev pub is_freed : ℕ → Bool
 is_freed a = nat_le 2 a
 
 abbrev pub acts : (i : Import) → Row (import_arguments i) → HostState → Result (Acts (InAnswer (import_answer i))) TrapKind
-acts (Of p) row s = where_fit (in_turn p row s.shared) (primitive_acts s.arguments (table.can_fault p) (meaning p row s.shared))
-acts (Over Sprintf) row s = listed_acts listed.Sprintf (values_taken listed.Sprintf row.0) s
-acts (Over Print) row s = listed_acts (listed.Print row.1.0) (values_taken (listed.Print row.1.0) row.0) s
-acts (Over Printf) row s = listed_acts (listed.Printf row.1.0) (values_taken (listed.Printf row.1.0) row.0) s
+acts (OfPrimitive p) row s = where_fit (in_turn p row s.shared) (primitive_acts s.arguments (table.can_fault p) (meaning p row s.shared))
+acts (Variadic Sprintf) row s = listed_acts listed.Sprintf (values_taken listed.Sprintf row.0) s
+acts (Variadic Print) row s = listed_acts (listed.Print row.1.0) (values_taken (listed.Print row.1.0) row.0) s
+acts (Variadic Printf) row s = listed_acts (listed.Printf row.1.0) (values_taken (listed.Printf row.1.0) row.0) s
 acts Arg row s = Ok (only_answers s (s.arguments ++ row.0 ∷ []))
 acts Drop row s = Ok (only_answers s s.arguments)
 acts IterFree row s = Ok (only_answers s s.arguments)

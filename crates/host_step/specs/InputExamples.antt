@@ -18,7 +18,7 @@ use Rattle.host_step.specs.Examples.{Call, new, call, answers, after, done, give
 use Rattle.host_step.specs.Starts.{state_at_start}
 use Rattle.host_step.specs.Tables.{look}
 use Rattle.host_imports.specs.declared.import.Import.{Import}
-use Rattle.host_imports.specs.declared.import.Import.TheVariants.{Of, Over, Arg, Drop, IterFree, FreeArray}
+use Rattle.host_imports.specs.declared.import.Import.TheVariants.{OfPrimitive, Variadic, Arg, Drop, IterFree, FreeArray}
 
 abbrev value_after : List ℕ → HostState → List Call → ℕ → Option Value
 value_after memory s calls h = look (after memory s calls).names.values (pos h)
@@ -29,11 +29,11 @@ abbrev with_operands : List (List ℕ) → HostState
 with_operands operands = state_at_start (record no_job { operands = operands }) (input []) nowhere
 
 -- ARGC and ARGV
-pub argc_counted : value_after [] (with_operands (codes "f" ∷ [])) (new 0 (Of row.GetSpecial) (I32 0 ∷ []) ∷ []) 0 ≡ Some (Num (pos 2))
+pub argc_counted : value_after [] (with_operands (codes "f" ∷ [])) (new 0 (OfPrimitive row.GetSpecial) (I32 0 ∷ []) ∷ []) 0 ≡ Some (Num (pos 2))
 argc_counted = refl
 
-pub operand_given : value_after (codes "1") (with_operands (codes "f" ∷ [])) (new 0 (Of row.Lit) (I32 0 ∷ I32 1 ∷ [])
-    ∷ new 1 (Of row.Elem) (I32 0 ∷ I32 0 ∷ []) ∷ []) 1 ≡ Some (StrNum (codes "f"))
+pub operand_given : value_after (codes "1") (with_operands (codes "f" ∷ [])) (new 0 (OfPrimitive row.Lit) (I32 0 ∷ I32 1 ∷ [])
+    ∷ new 1 (OfPrimitive row.Elem) (I32 0 ∷ I32 0 ∷ []) ∷ []) 1 ≡ Some (StrNum (codes "f"))
 unfolding digits
 operand_given = refl
 
@@ -41,8 +41,8 @@ operand_given = refl
 pub environment_replaced : value_after (codes "HOME") (state_at_start (record no_job {
   environment = (codes "HOME", codes "/a") ∷ (codes "X", [])
       ∷ (codes "HOME", codes "/b") ∷ [];
-}) (input []) nowhere) (new 0 (Of row.Lit) (I32 0 ∷ I32 4 ∷ [])
-    ∷ new 1 (Of row.Elem) (I32 1 ∷ I32 0 ∷ []) ∷ []) 1 ≡ Some (StrNum (codes "/b"))
+}) (input []) nowhere) (new 0 (OfPrimitive row.Lit) (I32 0 ∷ I32 4 ∷ [])
+    ∷ new 1 (OfPrimitive row.Elem) (I32 1 ∷ I32 0 ∷ []) ∷ []) 1 ≡ Some (StrNum (codes "/b"))
 environment_replaced = refl
 
 -- Names and assignments: `-v v=7 -v OFS=-`, where `v` is a scalar of the script.
@@ -54,37 +54,37 @@ with_assigns = state_at_start (record no_job {
 }) (input []) nowhere
 
 abbrev declares : Call
-declares = call (Of row.Declare) (I32 0 ∷ I32 1 ∷ I32 0 ∷ [])
+declares = call (OfPrimitive row.Declare) (I32 0 ∷ I32 1 ∷ I32 0 ∷ [])
 
 -- one that is pending is to be made before the next, and before the main input is read; its value is given once
 pub assignment_pending : answers (codes "v") with_assigns
-    (declares ∷ call (Of row.PendingName) [] ∷ call (Of row.StartAssign) [] ∷ call (Of row.StartAssign) [] ∷ call (Of row.NextMain) []
-    ∷ call (Of row.Getline) [] ∷ call (Of row.GetlineVar) [] ∷ call (Of row.PendingName) [] ∷ new 0 (Of row.PendingValue) []
-    ∷ call (Of row.PendingValue) [] ∷ call (Of row.StartAssign) [] ∷ call (Of row.StartAssign) [] ∷ [])
+    (declares ∷ call (OfPrimitive row.PendingName) [] ∷ call (OfPrimitive row.StartAssign) [] ∷ call (OfPrimitive row.StartAssign) [] ∷ call (OfPrimitive row.NextMain) []
+    ∷ call (OfPrimitive row.Getline) [] ∷ call (OfPrimitive row.GetlineVar) [] ∷ call (OfPrimitive row.PendingName) [] ∷ new 0 (OfPrimitive row.PendingValue) []
+    ∷ call (OfPrimitive row.PendingValue) [] ∷ call (OfPrimitive row.StartAssign) [] ∷ call (OfPrimitive row.StartAssign) [] ∷ [])
     ≡ done ∷ Trap BadArgument ∷ gives 2 ∷ Trap BadArgument ∷ Trap BadArgument ∷ Trap BadArgument ∷ Trap BadArgument ∷ gives 0 ∷ gives 0
     ∷ Trap BadArgument ∷ gives 0 ∷ gives 0 ∷ []
 unfolding keywords builtins left_out_words
 assignment_pending = refl
 
-pub assigned_value : value_after (codes "v") with_assigns (declares ∷ call (Of row.StartAssign) [] ∷ new 0 (Of row.PendingValue) [] ∷ []) 0
+pub assigned_value : value_after (codes "v") with_assigns (declares ∷ call (OfPrimitive row.StartAssign) [] ∷ new 0 (OfPrimitive row.PendingValue) [] ∷ []) 0
     ≡ Some (StrNum (codes "7"))
 unfolding keywords builtins left_out_words unescaped
 assigned_value = refl
 
 -- the one to a special variable was made by the host
-pub special_assigned : value_after (codes "v") with_assigns (declares ∷ call (Of row.StartAssign) []
-    ∷ new 0 (Of row.GetSpecial) (I32 8 ∷ []) ∷ []) 0 ≡ Some (StrNum (codes "-"))
+pub special_assigned : value_after (codes "v") with_assigns (declares ∷ call (OfPrimitive row.StartAssign) []
+    ∷ new 0 (OfPrimitive row.GetSpecial) (I32 8 ∷ []) ∷ []) 0 ≡ Some (StrNum (codes "-"))
 unfolding keywords builtins left_out_words unescaped
 special_assigned = refl
 
 -- to a function
-pub assigned_to_a_function : (after (codes "v") with_assigns (call (Of row.Declare) (I32 0 ∷ I32 1 ∷ I32 1 ∷ [])
-    ∷ call (Of row.StartAssign) [] ∷ [])).fault ≡ Some BadAssignment
+pub assigned_to_a_function : (after (codes "v") with_assigns (call (OfPrimitive row.Declare) (I32 0 ∷ I32 1 ∷ I32 1 ∷ [])
+    ∷ call (OfPrimitive row.StartAssign) [] ∷ [])).fault ≡ Some BadAssignment
 unfolding keywords builtins left_out_words
 assigned_to_a_function = refl
 
-pub declared_twice : answers (codes "vw") start (declares ∷ declares ∷ call (Of row.Declare) (I32 1 ∷ I32 1 ∷ I32 2 ∷ [])
-    ∷ call (Of row.Declare) (I32 1 ∷ I32 2 ∷ I32 0 ∷ []) ∷ call (Of row.Declare) (I32 1 ∷ I32 1 ∷ I32 1 ∷ []) ∷ [])
+pub declared_twice : answers (codes "vw") start (declares ∷ declares ∷ call (OfPrimitive row.Declare) (I32 1 ∷ I32 1 ∷ I32 2 ∷ [])
+    ∷ call (OfPrimitive row.Declare) (I32 1 ∷ I32 2 ∷ I32 0 ∷ []) ∷ call (OfPrimitive row.Declare) (I32 1 ∷ I32 1 ∷ I32 1 ∷ []) ∷ [])
     ≡ done ∷ Trap BadArgument ∷ Trap BadArgument ∷ Trap BadPointer ∷ done ∷ []
 declared_twice = refl
 
@@ -94,35 +94,35 @@ abbrev reading : List ℕ → HostState
 reading bytes = state_at_start no_job (input bytes) nowhere
 
 -- two records, then the end, which stays
-pub records_read : answers [] (reading (codes "a" ++ 10 ∷ codes "b")) (call (Of row.NextMain) [] ∷ call (Of row.Getline) []
-    ∷ call (Of row.NextMain) [] ∷ call (Of row.Getline) [] ∷ []) ≡ gives 1 ∷ gives 1 ∷ gives 0 ∷ gives 0 ∷ []
+pub records_read : answers [] (reading (codes "a" ++ 10 ∷ codes "b")) (call (OfPrimitive row.NextMain) [] ∷ call (OfPrimitive row.Getline) []
+    ∷ call (OfPrimitive row.NextMain) [] ∷ call (OfPrimitive row.Getline) [] ∷ []) ≡ gives 1 ∷ gives 1 ∷ gives 0 ∷ gives 0 ∷ []
 records_read = refl
 
 -- the rest of the input is given up; where nothing is being read nothing is
-pub rest_given_up : answers [] (reading (codes "a" ++ 10 ∷ codes "b")) (call (Of row.NextFile) [] ∷ call (Of row.NextMain) [] ∷ call (Of row.NextFile) []
-    ∷ call (Of row.NextMain) [] ∷ []) ≡ gives 0 ∷ gives 1 ∷ gives 0 ∷ gives 0 ∷ []
+pub rest_given_up : answers [] (reading (codes "a" ++ 10 ∷ codes "b")) (call (OfPrimitive row.NextFile) [] ∷ call (OfPrimitive row.NextMain) [] ∷ call (OfPrimitive row.NextFile) []
+    ∷ call (OfPrimitive row.NextMain) [] ∷ []) ≡ gives 0 ∷ gives 1 ∷ gives 0 ∷ gives 0 ∷ []
 rest_given_up = refl
 
 -- a line for a variable is given once, and there is none before
-pub line_once : answers [] (reading (codes "a" ++ 10 ∷ [])) (call (Of row.Line) [] ∷ call (Of row.GetlineVar) [] ∷ new 3 (Of row.Line) []
-    ∷ call (Of row.Line) [] ∷ []) ≡ Trap BadArgument ∷ gives 1 ∷ gives 3 ∷ Trap BadArgument ∷ []
+pub line_once : answers [] (reading (codes "a" ++ 10 ∷ [])) (call (OfPrimitive row.Line) [] ∷ call (OfPrimitive row.GetlineVar) [] ∷ new 3 (OfPrimitive row.Line) []
+    ∷ call (OfPrimitive row.Line) [] ∷ []) ≡ Trap BadArgument ∷ gives 1 ∷ gives 3 ∷ Trap BadArgument ∷ []
 line_once = refl
 
-pub line_read : value_after [] (reading (codes "a" ++ 10 ∷ [])) (call (Of row.GetlineVar) [] ∷ new 3 (Of row.Line) [] ∷ []) 3
+pub line_read : value_after [] (reading (codes "a" ++ 10 ∷ [])) (call (OfPrimitive row.GetlineVar) [] ∷ new 3 (OfPrimitive row.Line) [] ∷ []) 3
     ≡ Some (StrNum (codes "a"))
 line_read = refl
 
 -- in END nothing is left
-pub nothing_in_end : answers [] (reading (codes "a" ++ 10 ∷ [])) (call (Of row.BeginEnd) [] ∷ call (Of row.Getline) []
-    ∷ call (Of row.GetlineVar) [] ∷ []) ≡ done ∷ gives 0 ∷ gives 0 ∷ []
+pub nothing_in_end : answers [] (reading (codes "a" ++ 10 ∷ [])) (call (OfPrimitive row.BeginEnd) [] ∷ call (OfPrimitive row.Getline) []
+    ∷ call (OfPrimitive row.GetlineVar) [] ∷ []) ≡ done ∷ gives 0 ∷ gives 0 ∷ []
 nothing_in_end = refl
 
 -- a file that is not there: -1 for getline, which is 3, and OpenInput in the main loop
-pub missing_for_getline : answers [] (with_operands (codes "f" ∷ [])) (call (Of row.Getline) [] ∷ []) ≡ gives 3 ∷ []
+pub missing_for_getline : answers [] (with_operands (codes "f" ∷ [])) (call (OfPrimitive row.Getline) [] ∷ []) ≡ gives 3 ∷ []
 unfolding digits
 missing_for_getline = refl
 
-pub missing_operand : (after [] (with_operands (codes "f" ∷ [])) (call (Of row.NextMain) [] ∷ [])).fault ≡ Some OpenInput
+pub missing_operand : (after [] (with_operands (codes "f" ∷ [])) (call (OfPrimitive row.NextMain) [] ∷ [])).fault ≡ Some OpenInput
 unfolding digits
 missing_operand = refl
 
@@ -131,7 +131,7 @@ abbrev one_file : HostState
 one_file = with_outside (replaced (Named (codes "f")) (file (codes "x" ++ 10 ∷ [])) nowhere) (holding (Text (codes "f") ∷ Text (codes "f")
     ∷ Text (codes "f") ∷ Text (codes "f") ∷ Text (codes "g") ∷ []))
 
-pub file_read : answers [] one_file (call (Of row.GetlineFile) (I32 0 ∷ []) ∷ call (Of row.GetlineVarFile) (I32 1 ∷ [])
-    ∷ call (Of row.Close) (I32 2 ∷ []) ∷ call (Of row.Close) (I32 3 ∷ []) ∷ call (Of row.GetlineFile) (I32 4 ∷ []) ∷ call Drop (I32 4 ∷ []) ∷ [])
+pub file_read : answers [] one_file (call (OfPrimitive row.GetlineFile) (I32 0 ∷ []) ∷ call (OfPrimitive row.GetlineVarFile) (I32 1 ∷ [])
+    ∷ call (OfPrimitive row.Close) (I32 2 ∷ []) ∷ call (OfPrimitive row.Close) (I32 3 ∷ []) ∷ call (OfPrimitive row.GetlineFile) (I32 4 ∷ []) ∷ call Drop (I32 4 ∷ []) ∷ [])
     ≡ gives 1 ∷ gives 0 ∷ gives 0 ∷ gives 3 ∷ gives 3 ∷ Trap BadHandle ∷ []
 file_read = refl

@@ -5,6 +5,7 @@ pub mod Answers
 pub mod HostStep
 pub mod Starts
 pub mod Worlds
+pub mod Outcomes
 pub mod HostLaws
 pub mod Examples
 pub mod CallExamples

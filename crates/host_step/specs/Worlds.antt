@@ -21,7 +21,7 @@ use Rattle.host_imports.specs.Codes.{input_code}
 use Rattle.host_step.specs.Answers.{refusal}
 use Rattle.host_step.specs.HostStep.{Comes, Goes, IsTrap, StepBy, StepIf, StepOf, Traps, Refuses, comes}
 use Rattle.host_imports.specs.declared.import.Import.{Import}
-use Rattle.host_imports.specs.declared.import.Import.TheVariants.{Of}
+use Rattle.host_imports.specs.declared.import.Import.TheVariants.{OfPrimitive}
 
 -- the state of a host over a world keeps no output: this much came before
 abbrev pub with_output : List Action → HostState → HostState
@@ -61,24 +61,24 @@ pub record IsStepInSomeWorld (i : Import) (before : HostState) (words : List Wor
 -- read leaves alone is said.
 
 abbrev pub reads : Import → Bool
-reads (Of row.NextMain) = true
-reads (Of row.Getline) = true
-reads (Of row.GetlineVar) = true
-reads (Of row.GetlineFile) = true
-reads (Of row.GetlineVarFile) = true
+reads (OfPrimitive row.NextMain) = true
+reads (OfPrimitive row.Getline) = true
+reads (OfPrimitive row.GetlineVar) = true
+reads (OfPrimitive row.GetlineFile) = true
+reads (OfPrimitive row.GetlineVarFile) = true
 reads _ = false
 
 -- an assignment of the command line may become pending in the main input alone
 abbrev pub reads_main : Import → Bool
-reads_main (Of row.NextMain) = true
-reads_main (Of row.Getline) = true
-reads_main (Of row.GetlineVar) = true
+reads_main (OfPrimitive row.NextMain) = true
+reads_main (OfPrimitive row.Getline) = true
+reads_main (OfPrimitive row.GetlineVar) = true
 reads_main _ = false
 
 -- it reads for a variable
 abbrev pub reads_line : Import → Bool
-reads_line (Of row.GetlineVar) = true
-reads_line (Of row.GetlineVarFile) = true
+reads_line (OfPrimitive row.GetlineVar) = true
+reads_line (OfPrimitive row.GetlineVarFile) = true
 reads_line _ = false
 
 -- whatever was read, these stay
@@ -130,27 +130,27 @@ ReadBy i Refuses before a after-call = (a ≡ told.Done (refusal (import_answer 
 ReadBy i (Goes left d) before a after-call = IsRead i left before a after-call
 
 -- what is said of a call in every world
-abbrev pub AnyhowIf : Bool → Import → HostState → List Word → List ℕ → HostAnswer → HostState → Type 0
-AnyhowIf true i before words memory a after-call = ReadBy i (comes i words memory before) before a after-call
-AnyhowIf false i before words memory a after-call = IsStepInSomeWorld i before words memory a after-call
+abbrev pub InAnyWorldIf : Bool → Import → HostState → List Word → List ℕ → HostAnswer → HostState → Type 0
+InAnyWorldIf true i before words memory a after-call = ReadBy i (comes i words memory before) before a after-call
+InAnyWorldIf false i before words memory a after-call = IsStepInSomeWorld i before words memory a after-call
 
-abbrev pub Anyhow : Option Import → HostState → List Word → List ℕ → HostAnswer → HostState → Type 0
-Anyhow None before words memory a after-call = (a ≡ told.Trap BadArgument) × (after-call ≡ before)
-Anyhow (Some i) before words memory a after-call = AnyhowIf (reads i) i before words memory a after-call
+abbrev pub InAnyWorld : Option Import → HostState → List Word → List ℕ → HostAnswer → HostState → Type 0
+InAnyWorld None before words memory a after-call = (a ≡ told.Trap BadArgument) × (after-call ≡ before)
+InAnyWorld (Some i) before words memory a after-call = InAnyWorldIf (reads i) i before words memory a after-call
 
 -- the host of a module, as far as it is the same in every world
-abbrev pub anyhow_meaning : Meaning HostState Action
-anyhow_meaning before n words mem a after mem1 output = (mem1 ≡ mem) × Anyhow (import_at n) before words mem.bytes a after
+abbrev pub in_any_world_meaning : Meaning HostState Action
+in_any_world_meaning before n words mem a after mem1 output = (mem1 ≡ mem) × InAnyWorld (import_at n) before words mem.bytes a after
 
--- A call that wants no memory: a step, where the world tells its state; and what is said in every world.
+-- A call that wants no memory: a step, where the world is modelled; and what is said in every world.
 pub record Called (tells : Type 0) (import : Option Import) (before : HostState) (words : List Word) (memory : List ℕ) (a : HostAnswer)
     (after-call : HostState) (output : List Action) : Type 0 where
   pub typed : Typed (type_if_there import) a
   pub step : tells → (so_far : List Action)
       → StepIf import (with_output so_far before) words memory a (with_output (so_far ++ output) after-call) output
-  pub anyhow : Anyhow import before words memory a after-call
+  pub in_any_world : InAnyWorld import before words memory a after-call
 
--- Memory was wanting in a call. Where the world tells its state, what was written by then is how the output of another answer begins.
+-- Memory was wanting in a call. Where the world is modelled, what was written by then is how the output of another answer begins.
 pub record Wanted (import : Option Import) (before : HostState) (words : List Word) (memory : List ℕ) (after-call : HostState)
     (output : List Action) : Type 0 where
   pub outside : after-call.shared.outside ≡ after output before.shared.outside

@@ -1,4 +1,7 @@
-//! The definition of the whole host: what each import does to the host's state, and what it answers. Definitions alone.
+//! The definition of the whole host: what each import does to the host's state, what it answers, and why it may not.
 #![tactic(auto)]
 
-pub mod laws;
+mod refusal;
+pub mod step_laws;
+
+pub use refusal::Refusal;

@@ -11,11 +11,11 @@ use Rattle.world_core.specs.declared.world.WorldFault.TheVariants.{Failed, NoMem
 use Rattle.world_core.specs.WorldState.{Named, Open, Outside, State, Target, after, free, puts}
 use Rattle.world_core.specs.Calls.{Does, Fits, OpensWriter, Writes}
 use Rattle.sem_primitives.specs.Finds.{seen}
-use Rattle.sem_primitives.specs.SharedState.{Does as Doing, Shared}
+use Rattle.sem_primitives.specs.SharedState.{HostResult as Doing, Shared}
 use Rattle.sem_primitives.specs.OutputMeaning.{has_room, opened_if, what_fits, written, written_by}
 use Rattle.host_streams.specs.OpenFiles.{has_room as may_open}
 use Rattle.host_streams.specs.Outputs.{IsOf}
-use Rattle.host_streams.specs.Puts.{BeginsBy, BeginsText, EndsPut, IsOver, PutFault, PutsBy, PutsPart}
+use Rattle.host_streams.specs.Puts.{OutputPrefix, TextPrefix, EndsPut, IsOver, PutFault, PutsBy, PutsPart}
 use Rattle.host_streams.specs.declared.streams.Streams.{Streams}
 use Rattle.host_streams.proofs.Outputs.{opened_in, over_opened}
 use Rattle.host_streams.proofs.Writing.{part_is, seen_over}
@@ -50,7 +50,7 @@ ends_open false text (Err OutOfMemory) h = tt
 -- How much was put out.
 
 pub put_begins : (tells : Type 0) (at id : ℕ) (text : List ℕ) (s t u : State) (e : WorldFault) → (tells → Fits at (s.outside (s.writers id))) → (tells → PutsPart at id text s t) → (tells → Writes id (drop at text) t (Err e) u)
-    → BeginsText tells id text s (Err e) u
+    → TextPrefix tells id text s (Err e) u
 put_begins tells at id text s t u Failed fits part w = tt
 put_begins tells at id text s t u NoMemory fits part w = (
   at,
@@ -62,19 +62,19 @@ put_begins tells at id text s t u NoMemory fits part w = (
 -- over what another says too, where the actions are the same
 
 pub begins_first : (A B : Type 0) (tells : Type 0) (is is' : Shared → Type 0) (does does' : Shared → Doing (Result (Unit {0}) Fault)) (stop : Stop) (s t : State)
-    → (tells → (shared : Shared) → is' shared → is shared × ((does shared).added ≡ (does' shared).added)) → BeginsBy {A = A} tells is does (Err stop) s t → BeginsBy {A = B} tells is' does' (Err stop) s t
+    → (tells → (shared : Shared) → is' shared → is shared × ((does shared).added ≡ (does' shared).added)) → OutputPrefix {A = A} tells is does (Err stop) s t → OutputPrefix {A = B} tells is' does' (Err stop) s t
 begins_first A B tells is is' does does' (IsFault fault) s t same h = tt
 begins_first A B tells is is' does does' OutOfMemory s t same h = (h.0, λ w shared i. h.1 w shared (same w shared i).0 ∙ ap (λ acts. after (take h.0 acts) s.outside) (same w shared i).1)
 
 pub begins_as : {A : Type 0} (tells : Type 0) (is is' : Shared → Type 0) (does does' : Shared → Doing (Result (Unit {0}) Fault)) (r : Result A Stop) (s t : State)
-    → (tells → (shared : Shared) → is' shared → is shared × ((does shared).added ≡ (does' shared).added)) → BeginsBy tells is does r s t → BeginsBy tells is' does' r s t
+    → (tells → (shared : Shared) → is' shared → is shared × ((does shared).added ≡ (does' shared).added)) → OutputPrefix tells is does r s t → OutputPrefix tells is' does' r s t
 begins_as tells is is' does does' (Ok x) s t same h = tt
 begins_as {A} tells is is' does does' (Err stop) s t same h = begins_first A A tells is is' does does' stop s t same h
 
 -- a name was opened, and closed after that
 pub begins_opened : (tells : Type 0) (name text : List ℕ) (append : Bool) (id : ℕ) (stop : Stop) (s t u v : State)
-    → (tells → OpensWriter name append id s t) → (tells → v.outside ≡ u.outside) → BeginsBy {A = Unit {0}} tells (IsOver t) (written (t.writers id) text) (Err stop) t u
-    → BeginsBy {A = ℕ} tells (IsOver s) (λ shared. opened_if true (seen shared.inner shared.outside (Named name)).opens name append text shared) (Err stop) s v
+    → (tells → OpensWriter name append id s t) → (tells → v.outside ≡ u.outside) → OutputPrefix {A = Unit {0}} tells (IsOver t) (written (t.writers id) text) (Err stop) t u
+    → OutputPrefix {A = ℕ} tells (IsOver s) (λ shared. opened_if true (seen shared.inner shared.outside (Named name)).opens name append text shared) (Err stop) s v
 begins_opened tells name text append id (IsFault fault) s t u v o shut h = tt
 begins_opened tells name text append id OutOfMemory s t u v o shut h = (
   suc h.0,

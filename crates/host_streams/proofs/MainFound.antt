@@ -1,4 +1,4 @@
--- What is found by a step of the main input, in surroundings that others change too.
+-- What is found by a step of the main input, in an environment that others change too.
 use Rattle.std.proofs.Common.{◌≡◌, ◌≢◌, ℕ, ◌+◌, ◌++◌, append_assoc, List, [], ◌∷◌, Option, Some, None, Result, Ok, Err, true, false, refl, sym, ap, ◌∙◌, subst, inl, inr}
 use Rattle.awk_values.specs.declared.fault.Fault.{Fault}
 use Rattle.awk_values.specs.declared.fault.Fault.TheVariants.{OpenInput, ReadFailed, TextLimit}

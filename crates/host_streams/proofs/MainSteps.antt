@@ -11,7 +11,7 @@ use Rattle.awk_values.specs.declared.fault.Stop.TheVariants.{Fault as IsFault, N
 use Rattle.world_core.specs.WorldState.{Outside, Source, State}
 use Rattle.sem_primitives.specs.Assignments.{assigned, assignment_of, behind_name, begins_name, continues_name, is_name}
 use Rattle.sem_primitives.specs.FieldMeaning.{special_text}
-use Rattle.sem_primitives.specs.Finds.{finds_after, looked, seen}
+use Rattle.sem_primitives.specs.Finds.{finds_after, observed, seen}
 use Rattle.sem_primitives.specs.InputMeaning.{Main, Taken, main_input, go_on, got_main, leaves, next_operand, over, reach, stops_reading, follows, is_below, made, operand_text, reached, taken, file_named, file_or_assignment, opened, reader_of, record_by}
 use Rattle.sem_primitives.specs.InputMeaning.{Failed as ReadingFailed, Over, NotOpened}
 use Rattle.sem_primitives.specs.Records.{Got, Record, AtEnd, Broken, record_separator, first_record}
@@ -122,23 +122,23 @@ taken_opens on outside (c ∷ cs) inner plain none = ap (λ a. file_or_assignmen
 
 open_at : (outside : Outside) (inner : Inner) (s : Source) (n : ℕ) (o : Operands) (r : Option MainReader) (text : List ℕ) (reader : MainReader) →
     opened (rest_of (record { standard = s; next = n; operands = o; reading = r; ended = false }) outside) text (Some reader) (file_named (with_main (record { standard = s; next = n; operands = o; reading = r; ended = false }) inner))
-    ≡ main_input outside (begun text (with_main (record { standard = s; next = n; operands = SomeFile; reading = Some reader; ended = false }) (looked inner)))
+    ≡ main_input outside (begun text (with_main (record { standard = s; next = n; operands = SomeFile; reading = Some reader; ended = false }) (observed inner)))
 open_at outside inner s n o r text Standard =
-    same_on outside (begun text (looked inner)) Standard s n (record_by (finds_after inner.finds) (record_separator (special_text Rs (begun text inner))) s)
+    same_on outside (begun text (observed inner)) Standard s n (record_by (finds_after inner.finds) (record_separator (special_text Rs (begun text inner))) s)
 open_at outside inner s n o r text (File source) =
-    same_on outside (begun text (looked inner)) (File source) s n (record_by (finds_after inner.finds) (record_separator (special_text Rs (begun text inner))) source)
+    same_on outside (begun text (observed inner)) (File source) s n (record_by (finds_after inner.finds) (record_separator (special_text Rs (begun text inner))) source)
 
 -- a file is opened, or does not open
 pub opens_at : (outside : Outside) (inner : Inner) (s : Source) (n : ℕ) (o : Operands) (r : Option MainReader) (text : List ℕ) (reader : MainReader) → text ≢ [] → assignment_of text ≡ None → reader_of (seen inner outside) text ≡ Some reader →
     taken (rest_of (record { standard = s; next = n; operands = o; reading = r; ended = false }) outside) outside text (with_main (record { standard = s; next = n; operands = o; reading = r; ended = false }) inner)
-    ≡ main_input outside (begun text (with_main (record { standard = s; next = n; operands = SomeFile; reading = Some reader; ended = false }) (looked inner)))
+    ≡ main_input outside (begun text (with_main (record { standard = s; next = n; operands = SomeFile; reading = Some reader; ended = false }) (observed inner)))
 opens_at outside inner s n o r text reader plain none is =
     let m : MainInput = record { standard = s; next = n; operands = o; reading = r; ended = false } in
     taken_opens (rest_of m outside) outside text (with_main m inner) plain none
     ∙ ap (λ x. opened (rest_of m outside) text x (file_named (with_main m inner))) is ∙ open_at outside inner s n o r text reader
 
 pub opens_not : (outside : Outside) (inner : Inner) (m : MainInput) (text : List ℕ) → text ≢ [] → assignment_of text ≡ None → reader_of (seen inner outside) text ≡ None →
-    taken (rest_of m outside) outside text (with_main m inner) ≡ Ok (with_main (with_file m) (looked inner), NotOpened)
+    taken (rest_of m outside) outside text (with_main m inner) ≡ Ok (with_main (with_file m) (observed inner), NotOpened)
 opens_not outside inner m text plain none is =
     taken_opens (rest_of m outside) outside text (with_main m inner) plain none ∙ ap (λ x. opened (rest_of m outside) text x (file_named (with_main m inner))) is
 

@@ -6,8 +6,8 @@ use Rattle.awk_values.specs.declared.fault.Stop.{Stop}
 use Rattle.awk_values.specs.declared.fault.Stop.TheVariants.{Fault as IsFault, NoMemory}
 use Rattle.world_core.specs.WorldState.{State, Named, Standard, Open, Outside, Target, after}
 use Rattle.world_core.specs.Calls.{Kind, Closed, Reading, Writing, Opens, OpensWriter, set_kind}
-use Rattle.sem_primitives.specs.Finds.{looked_by, seen}
-use Rattle.sem_primitives.specs.SharedState.{Shared, Does}
+use Rattle.sem_primitives.specs.Finds.{observed_by, seen}
+use Rattle.sem_primitives.specs.SharedState.{Shared, HostResult}
 use Rattle.sem_primitives.specs.OutputMeaning.{all_out, has_room, is_writing, kept_open, opened_if, then_written, written, written_by}
 use Rattle.host_streams.specs.declared.streams.NamedWriter.{NamedWriter}
 use Rattle.host_streams.specs.OpenFiles.{writer_handle, IsApart, IsNone, AreOpen, WritersGo, names_of, is_writer, writer_place}
@@ -155,11 +155,11 @@ was_kind kind id k kinds after o apart = sym (ap (λ (f : ℕ → Kind). f k) o.
 -- What the definition says of a file that is opened.
 
 -- a fault is answered as another kind of answer, and what was opened is closed again
-pub put_shut : (d : Does (Result (Unit {0}) Fault)) (stop : Stop) (s t u : State) → u.outside ≡ t.outside → PutsBy {A = Unit {0}} d (Err stop) s t → PutsBy {A = ℕ} d (Err stop) s u
+pub put_shut : (d : HostResult (Result (Unit {0}) Fault)) (stop : Stop) (s t u : State) → u.outside ≡ t.outside → PutsBy {A = Unit {0}} d (Err stop) s t → PutsBy {A = ℕ} d (Err stop) s u
 put_shut d (IsFault fault) s t u e h = record { answer_is = h.answer_is; outside = e ∙ h.outside }
 put_shut d NoMemory s t u e h = (h.0, e ∙ h.1)
 
-after_opening : {A : Type 0} (name : List ℕ) (append : Bool) (d : Does (Result (Unit {0}) Fault)) (r : Result A Stop) (s t u : State) → t.outside ≡ after (Open name append ∷ []) s.outside → PutsBy d r t u →
+after_opening : {A : Type 0} (name : List ℕ) (append : Bool) (d : HostResult (Result (Unit {0}) Fault)) (r : Result A Stop) (s t u : State) → t.outside ≡ after (Open name append ∷ []) s.outside → PutsBy d r t u →
     PutsBy (then_written (Open name append) name d) r s u
 after_opening name append d (Ok x) s t u e h = record { answer_is = h.answer_is; outside = h.outside ∙ ap (after d.added) e }
 after_opening name append d (Err (IsFault fault)) s t u e h = record { answer_is = h.answer_is; outside = h.outside ∙ ap (after d.added) e }
@@ -191,7 +191,7 @@ inner_false true false name text append shared = refl
 inner_false true true name text append shared =
     by (written (Named name) text (opened_in name append shared)).answer
   where
-    by : (r : Result (Unit {0}) Fault) → (kept_open name (looked_by r shared.inner) r).writers ≡ (kept_open name shared.inner r).writers
+    by : (r : Result (Unit {0}) Fault) → (kept_open name (observed_by r shared.inner) r).writers ≡ (kept_open name shared.inner r).writers
     by (Ok x) = refl
     by (Err fault) = refl
 

@@ -1,4 +1,4 @@
--- The main input in surroundings that others change too: each time that something is opened or read, the next of a list is found there. It speaks of every
+-- The main input in an environment that others change too: each time that something is opened or read, the next of a list is found there. It speaks of every
 -- world, since what a world answers is what is found.
 use Rattle.std.specs.Prelude.{◌≡◌, ℕ, List, [], ◌∷◌, ◌++◌, Option, Some, None, Result, Ok, Err, true}
 use Rattle.awk_values.specs.declared.fault.Fault.{Fault}

@@ -4,7 +4,7 @@ use Rattle.awk_values.specs.declared.fault.Fault.{Fault}
 use Rattle.awk_values.specs.declared.fault.Stop.{Stop}
 use Rattle.awk_values.specs.declared.fault.Stop.TheVariants.{Fault as IsFault, NoMemory}
 use Rattle.world_core.specs.WorldState.{State}
-use Rattle.sem_primitives.specs.SharedState.{Shared, Does}
+use Rattle.sem_primitives.specs.SharedState.{Shared, HostResult}
 use Rattle.sem_primitives.specs.OutputMeaning.{is_writing, put_text}
 use Rattle.sem_primitives.specs.declared.constants.Destination.{Destination}
 use Rattle.sem_primitives.specs.declared.constants.Destination.TheVariants as destination
@@ -12,7 +12,7 @@ use Rattle.host_streams.specs.declared.output.Target.{Target}
 use Rattle.host_streams.specs.declared.output.Target.TheVariants.{Standard, Emptied, Appended}
 use Rattle.host_streams.specs.declared.streams.Streams.{Streams}
 use Rattle.host_streams.specs.OpenFiles.{has_room, names_of, readers_in}
-use Rattle.host_streams.specs.Puts.{BeginsBy, EndsPut, HasBegun, HasDone}
+use Rattle.host_streams.specs.Puts.{OutputPrefix, EndsPut, HasBegun, HasDone}
 
 -- this is what the definition speaks of: the files that are open, and the outside, where nobody else changes what names hold
 pub record IsOf (s : Streams) (state : State) (shared : Shared) : Type 0 where
@@ -41,7 +41,7 @@ writers_to (Emptied name) names = with_writer name.now names
 writers_to (Appended name) names = with_writer name.now names
 
 -- what is to be done was done, and these are the names that are open for writing now; short of memory no name more
-abbrev pub PutsIs : Does (Result (Unit {0}) Fault) → Result (Unit {0}) Stop → State → State → List (List ℕ) → List (List ℕ) → Type 0
+abbrev pub PutsIs : HostResult (Result (Unit {0}) Fault) → Result (Unit {0}) Stop → State → State → List (List ℕ) → List (List ℕ) → Type 0
 PutsIs does (Ok x) old new before now = HasDone does (Ok x) old new × (now ≡ does.inner.writers)
 PutsIs does (Err (IsFault fault)) old new before now = HasDone does (Err fault) old new × (now ≡ does.inner.writers)
 PutsIs does (Err NoMemory) old new before now = HasBegun does.added old new × (now ≡ before)
@@ -62,7 +62,7 @@ PutsTo target text old before answer new after =
 -- short of memory a number of the first actions was done
 abbrev pub BeginsPutTo : Type 0 → Target → List ℕ → Streams → State → Result (Unit {0}) Stop → State → Type 0
 BeginsPutTo tells target text old before answer after =
-    BeginsBy tells (IsOf old before) (put_text (destination_of target) (name_of target) text) answer
+    OutputPrefix tells (IsOf old before) (put_text (destination_of target) (name_of target) text) answer
     before after
 
 -- how putting a text ends, by what was open before

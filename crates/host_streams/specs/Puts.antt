@@ -8,7 +8,7 @@ use Rattle.world_core.specs.declared.world.WorldFault.{WorldFault}
 use Rattle.world_core.specs.declared.world.WorldFault.TheVariants.{Failed, NoMemory}
 use Rattle.world_core.specs.WorldState.{Action, Entry, Named, State, after, free, puts}
 use Rattle.world_core.specs.Calls.{Does, Kind, Closed, OpensWriter}
-use Rattle.sem_primitives.specs.SharedState.{Shared, Does as Doing}
+use Rattle.sem_primitives.specs.SharedState.{Shared, HostResult as Doing}
 use Rattle.sem_primitives.specs.OutputMeaning.{all_fits, what_fits}
 
 -- what a stream writes to holds
@@ -83,16 +83,16 @@ EndsPut ready room text (Ok x) = Unit {0}
 EndsPut ready room text (Err (IsFault fault)) = PutFault ready room text fault
 EndsPut ready room text (Err OutOfMemory) = Unit {0}
 
--- Where memory was wanting, so many of the actions were done; what these are, a world tells that tells its state.
-abbrev pub BeginsBy : {A : Type 0} → Type 0 → (Shared → Type 0) → (Shared → Doing (Result (Unit {0}) Fault)) → Result A Stop → State → State → Type 0
-BeginsBy tells is does (Err OutOfMemory) old new = (n : ℕ)
+-- Where memory was wanting, so many of the actions were done; what these are, a modelled world tells.
+abbrev pub OutputPrefix : {A : Type 0} → Type 0 → (Shared → Type 0) → (Shared → Doing (Result (Unit {0}) Fault)) → Result A Stop → State → State → Type 0
+OutputPrefix tells is does (Err OutOfMemory) old new = (n : ℕ)
     × (tells → (shared : Shared) → is shared → new.outside ≡ after (take n (does shared).added) old.outside)
-BeginsBy tells is does r old new = Unit {0}
+OutputPrefix tells is does r old new = Unit {0}
 
 -- where memory was wanting, so many bytes of what fits have gone out
-abbrev pub BeginsText : Type 0 → ℕ → List ℕ → State → Result (Unit {0}) WorldFault → State → Type 0
-BeginsText tells id text old (Err NoMemory) new = (n : ℕ) × (tells → PutsPart n id (what_fits (free (entry_written id old)) text) old new)
-BeginsText tells id text old r new = Unit {0}
+abbrev pub TextPrefix : Type 0 → ℕ → List ℕ → State → Result (Unit {0}) WorldFault → State → Type 0
+TextPrefix tells id text old (Err NoMemory) new = (n : ℕ) × (tells → PutsPart n id (what_fits (free (entry_written id old)) text) old new)
+TextPrefix tells id text old r new = Unit {0}
 
 -- what goes out to a stream is looked at over this outside, where nobody else changes what names hold
 pub record IsOver (state : State) (shared : Shared) : Type 0 where

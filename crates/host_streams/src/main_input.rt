@@ -131,21 +131,21 @@ fn name_len(text: &[u8]) -> Option<usize>
 /// Opens what an operand names, `-` being the standard input; nothing where it does not open.
 fn open_operand<W: World>(world: &mut W, alloc: Global, name: &[u8]) -> Result<Reading, Stop>
     ensures held { IfOk result (λ r. FileIsOpen r (W.kinds world.new)) }
-    ensures told { W.tells → IfOk result
+    ensures told { W.is_modelled → IfOk result
         (λ r. reader_of (W.state world.old).outside name.now ≡ reading_of r (W.state world.new)) }
-    ensures refused { W.tells → OnErr result (W.state world.new ≡ W.state world.old) }
+    ensures refused { W.is_modelled → OnErr result (W.state world.new ≡ W.state world.old) }
     ensures memory { IfErr result (λ stop. stop ≡ Stop.NoMemory) }
     ensures count { OperandCounts result (W.count world.old) (W.count world.new) }
     ensures fresh { IfOk result (λ r. IsFresh r) }
     ensures no_others { IfOk result
         (λ r. SparesKinds r Reading.Nothing (W.kinds world.new) (W.kinds world.old)) }
-    ensures standard { W.tells → (W.state world.new).readers 0 ≡ (W.state world.old).readers 0 }
+    ensures standard { W.is_modelled → (W.state world.new).readers 0 ≡ (W.state world.old).readers 0 }
     ensures opened { IfOk result
         (λ r. SparesKinds Reading.Nothing r (W.kinds world.old) (W.kinds world.new)) }
     ensures not_opened { OnErr result (W.kinds world.new ≡ W.kinds world.old) }
-    ensures places { W.tells
+    ensures places { W.is_modelled
         → SparesPlaces Reading.Nothing (W.kinds world.old) (W.state world.old) (W.state world.new) }
-    ensures outside { W.tells → (W.state world.new).outside ≡ (W.state world.old).outside }
+    ensures outside { W.is_modelled → (W.state world.new).outside ≡ (W.state world.old).outside }
     ensures finds { IfOk result (λ r. reader_of (λ target. entry_of_reading r) name.now
         ≡ reading_found r) }
 {
@@ -200,13 +200,13 @@ impl MainInput {
         ensures limit { OnlyLimit result }
         ensures next { self.new.next ≡ self.old.next }
         ensures busy { self.new.reading ≢ Reading.Nothing }
-        ensures told { W.tells → ReadsMain rs (main_of self.old (W.state world.old)) result
+        ensures told { W.is_modelled → ReadsMain rs (main_of self.old (W.state world.old)) result
             (main_of self.new (W.state world.new)) }
         ensures spares { SparesOthers self.old self.new (W.kinds world.old) (W.kinds world.new) }
         ensures no_others { OpensNoOther self.old self.new (W.kinds world.old) (W.kinds world.new) }
-        ensures places { W.tells → SparesPlaces self.old.reading (W.kinds world.old)
+        ensures places { W.is_modelled → SparesPlaces self.old.reading (W.kinds world.old)
             (W.state world.old) (W.state world.new) }
-        ensures outside { W.tells → (W.state world.new).outside ≡ (W.state world.old).outside }
+        ensures outside { W.is_modelled → (W.state world.new).outside ≡ (W.state world.old).outside }
         ensures found { self.new.found ≡ self.old.found }
         ensures standard { StandardStays self.old.reading self.old.standard self.new.standard }
         ensures handed { HandsAt rs self.old.reading self.old.standard result self.new.reading
@@ -229,13 +229,13 @@ impl MainInput {
         ensures ended { self.new.ended ≡ self.old.ended }
         ensures next { self.new.next ≡ self.old.next }
         ensures count { W.count world.new ≡ W.count world.old }
-        ensures told { W.tells → main_of self.new (W.state world.new)
+        ensures told { W.is_modelled → main_of self.new (W.state world.new)
             ≡ idle (main_of self.old (W.state world.old)) }
         ensures spares { SparesOthers self.old self.new (W.kinds world.old) (W.kinds world.new) }
         ensures no_others { OpensNoOther self.old self.new (W.kinds world.old) (W.kinds world.new) }
-        ensures places { W.tells → SparesPlaces self.old.reading (W.kinds world.old)
+        ensures places { W.is_modelled → SparesPlaces self.old.reading (W.kinds world.old)
             (W.state world.old) (W.state world.new) }
-        ensures outside { W.tells → (W.state world.new).outside ≡ (W.state world.old).outside }
+        ensures outside { W.is_modelled → (W.state world.new).outside ≡ (W.state world.old).outside }
         ensures found { self.new.found ≡ self.old.found }
         ensures standard { self.new.standard ≡ self.old.standard }
     {
@@ -251,7 +251,7 @@ impl MainInput {
         requires busy { self.old.reading ≢ Reading.Nothing }
         requires live { self.old.ended ≡ false }
         ensures held { HoldsMain self.new (W.kinds world.new) }
-        ensures told { W.tells → (inner : Inner) → IsAsked rs inner
+        ensures told { W.is_modelled → (inner : Inner) → IsAsked rs inner
             → GivesStep inner self.old (W.state world.old) result self.new (W.state world.new) }
         ensures goes_on { GoesOn result self.old self.new }
         ensures count { MainCounts (main_phase self.old) result (W.count world.old)
@@ -260,9 +260,9 @@ impl MainInput {
         ensures ends { StepEnds self.old.ended result self.new.ended }
         ensures spares { SparesOthers self.old self.new (W.kinds world.old) (W.kinds world.new) }
         ensures no_others { OpensNoOther self.old self.new (W.kinds world.old) (W.kinds world.new) }
-        ensures places { W.tells → SparesPlaces self.old.reading (W.kinds world.old)
+        ensures places { W.is_modelled → SparesPlaces self.old.reading (W.kinds world.old)
             (W.state world.old) (W.state world.new) }
-        ensures outside { W.tells → (W.state world.new).outside ≡ (W.state world.old).outside }
+        ensures outside { W.is_modelled → (W.state world.new).outside ≡ (W.state world.old).outside }
         ensures next { self.new.next ≡ self.old.next }
         ensures found { self.new.found ≡ self.old.found }
         ensures standard { StandardStays self.old.reading self.old.standard self.new.standard }
@@ -323,13 +323,13 @@ impl MainInput {
         requires file { assignment_of name ≡ None }
         requires left { self.old.found ≢ Found.NoneLeft }
         ensures held { HoldsMain self.new (W.kinds world.new) }
-        ensures told { W.tells → (inner : Inner) → GivesOperand name inner self.old
+        ensures told { W.is_modelled → (inner : Inner) → GivesOperand name inner self.old
             (W.state world.old) result self.new (W.state world.new) }
         ensures spares { SparesOthers self.old self.new (W.kinds world.old) (W.kinds world.new) }
         ensures no_others { OpensNoOther self.old self.new (W.kinds world.old) (W.kinds world.new) }
-        ensures places { W.tells → SparesPlaces self.old.reading (W.kinds world.old)
+        ensures places { W.is_modelled → SparesPlaces self.old.reading (W.kinds world.old)
             (W.state world.old) (W.state world.new) }
-        ensures outside { W.tells → (W.state world.new).outside ≡ (W.state world.old).outside }
+        ensures outside { W.is_modelled → (W.state world.new).outside ≡ (W.state world.old).outside }
         ensures goes_on { GoesOn result self.old self.new }
         ensures count { MainCounts Open result (W.count world.old) (W.count world.new) }
         ensures phase { MainPhase Open result (main_phase self.new) }
@@ -400,7 +400,7 @@ impl MainInput {
         requires left { self.old.found ≢ Found.NoneLeft }
         requires held { HoldsMain self.old (W.kinds world.old) }
         ensures held { HoldsMain self.new (W.kinds world.new) }
-        ensures told { W.tells → (inner : Inner) → GivesOperand (O.text operands.now self.old.next)
+        ensures told { W.is_modelled → (inner : Inner) → GivesOperand (O.text operands.now self.old.next)
             inner self.old (W.state world.old) result self.new (W.state world.new) }
         ensures goes_on { GoesOn result self.old self.new }
         ensures count { MainCounts Open result (W.count world.old) (W.count world.new) }
@@ -408,9 +408,9 @@ impl MainInput {
         ensures ends { StepEnds self.old.ended result self.new.ended }
         ensures spares { SparesOthers self.old self.new (W.kinds world.old) (W.kinds world.new) }
         ensures no_others { OpensNoOther self.old self.new (W.kinds world.old) (W.kinds world.new) }
-        ensures places { W.tells → SparesPlaces self.old.reading (W.kinds world.old)
+        ensures places { W.is_modelled → SparesPlaces self.old.reading (W.kinds world.old)
             (W.state world.old) (W.state world.new) }
-        ensures outside { W.tells → (W.state world.new).outside ≡ (W.state world.old).outside }
+        ensures outside { W.is_modelled → (W.state world.new).outside ≡ (W.state world.old).outside }
         ensures passes { StepPasses (O.text operands.now) self.old.next self.old.found result
             self.new.next self.new.found }
         ensures standard { self.new.standard ≡ self.old.standard }
@@ -445,7 +445,7 @@ impl MainInput {
         requires live { self.old.ended ≡ false }
         requires held { HoldsMain self.old (W.kinds world.old) }
         ensures held { HoldsMain self.new (W.kinds world.new) }
-        ensures told { W.tells → (inner : Inner) → IsOffered argc.now (O.text operands.now) inner
+        ensures told { W.is_modelled → (inner : Inner) → IsOffered argc.now (O.text operands.now) inner
             → GivesStep inner self.old (W.state world.old) result self.new (W.state world.new) }
         ensures goes_on { GoesOn result self.old self.new }
         ensures count { MainCounts Open result (W.count world.old) (W.count world.new) }
@@ -453,9 +453,9 @@ impl MainInput {
         ensures ends { StepEnds self.old.ended result self.new.ended }
         ensures spares { SparesOthers self.old self.new (W.kinds world.old) (W.kinds world.new) }
         ensures no_others { OpensNoOther self.old self.new (W.kinds world.old) (W.kinds world.new) }
-        ensures places { W.tells → SparesPlaces self.old.reading (W.kinds world.old)
+        ensures places { W.is_modelled → SparesPlaces self.old.reading (W.kinds world.old)
             (W.state world.old) (W.state world.new) }
-        ensures outside { W.tells → (W.state world.new).outside ≡ (W.state world.old).outside }
+        ensures outside { W.is_modelled → (W.state world.new).outside ≡ (W.state world.old).outside }
         ensures passes { StepPasses (O.text operands.now) self.old.next self.old.found result
             self.new.next self.new.found }
         ensures there { AreThere (number_of_value argc.now) self.old.next self.new.next }
@@ -487,7 +487,7 @@ impl MainInput {
     ) -> Result<Option<MainNext>, Stop>
         requires held { HoldsMain self.old (W.kinds world.old) }
         ensures held { HoldsMain self.new (W.kinds world.new) }
-        ensures told { W.tells → (inner : Inner) → IsAsked rs inner
+        ensures told { W.is_modelled → (inner : Inner) → IsAsked rs inner
             → IsOffered argc.now (O.text operands.now) inner
             → GivesStep inner self.old (W.state world.old) result self.new (W.state world.new) }
         ensures goes_on { GoesOn result self.old self.new }
@@ -497,9 +497,9 @@ impl MainInput {
         ensures ends { StepEnds self.old.ended result self.new.ended }
         ensures spares { SparesOthers self.old self.new (W.kinds world.old) (W.kinds world.new) }
         ensures no_others { OpensNoOther self.old self.new (W.kinds world.old) (W.kinds world.new) }
-        ensures places { W.tells → SparesPlaces self.old.reading (W.kinds world.old)
+        ensures places { W.is_modelled → SparesPlaces self.old.reading (W.kinds world.old)
             (W.state world.old) (W.state world.new) }
-        ensures outside { W.tells → (W.state world.new).outside ≡ (W.state world.old).outside }
+        ensures outside { W.is_modelled → (W.state world.new).outside ≡ (W.state world.old).outside }
         ensures handed { HandsStep rs self.old result self.new }
         ensures passes { StepPasses (O.text operands.now) self.old.next self.old.found result
             self.new.next self.new.found }
@@ -524,7 +524,7 @@ impl MainInput {
     pub fn skip<W: World>(&mut self, world: &mut W)
         requires held { HoldsMain self.old (W.kinds world.old) }
         ensures held { HoldsMain self.new (W.kinds world.new) }
-        ensures told { W.tells
+        ensures told { W.is_modelled
             → SkipsMain self.old (W.state world.old) self.new (W.state world.new) }
         ensures nothing { self.new.reading ≡ Reading.Nothing }
         ensures standard { StandardSkips self.old.reading self.old.standard self.new.standard }
@@ -534,9 +534,9 @@ impl MainInput {
         ensures count { W.count world.new ≡ W.count world.old }
         ensures spares { SparesOthers self.old self.new (W.kinds world.old) (W.kinds world.new) }
         ensures no_others { OpensNoOther self.old self.new (W.kinds world.old) (W.kinds world.new) }
-        ensures places { W.tells → SparesPlaces self.old.reading (W.kinds world.old)
+        ensures places { W.is_modelled → SparesPlaces self.old.reading (W.kinds world.old)
             (W.state world.old) (W.state world.new) }
-        ensures outside { W.tells → (W.state world.new).outside ≡ (W.state world.old).outside }
+        ensures outside { W.is_modelled → (W.state world.new).outside ≡ (W.state world.old).outside }
     {
         if let Reading::Standard = &self.reading {
             self.standard.skip();
@@ -561,7 +561,7 @@ impl MainInput {
     ) -> Result<MainNext, Stop>
         requires held { HoldsMain self.old (W.kinds world.old) }
         ensures held { HoldsMain self.new (W.kinds world.new) }
-        ensures told { W.tells → GivesMain (record_separator rs.now) argc.now (O.text operands.now)
+        ensures told { W.is_modelled → GivesMain (record_separator rs.now) argc.now (O.text operands.now)
             self.old (W.state world.old) result self.new (W.state world.new) }
         ensures count { MainCounts (main_phase self.old) result (W.count world.old)
             (W.count world.new) }
@@ -569,9 +569,9 @@ impl MainInput {
         ensures ends { MainEnds self.old.ended result self.new.ended }
         ensures spares { SparesOthers self.old self.new (W.kinds world.old) (W.kinds world.new) }
         ensures no_others { OpensNoOther self.old self.new (W.kinds world.old) (W.kinds world.new) }
-        ensures places { W.tells → SparesPlaces self.old.reading (W.kinds world.old)
+        ensures places { W.is_modelled → SparesPlaces self.old.reading (W.kinds world.old)
             (W.state world.old) (W.state world.new) }
-        ensures outside { W.tells → (W.state world.new).outside ≡ (W.state world.old).outside }
+        ensures outside { W.is_modelled → (W.state world.new).outside ≡ (W.state world.old).outside }
         ensures handed { HandsMain (record_separator rs.now) self.old result self.new }
         ensures passes { Passes (O.text operands.now) self.old.next self.old.found result
             self.new.next self.new.found }

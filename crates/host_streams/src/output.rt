@@ -7,7 +7,7 @@ ghost use Rattle.sem_primitives.specs.SharedState.{Shared};
 ghost use Rattle.sem_primitives.specs.OutputMeaning.{all_out, is_writing, opened_if, written_by};
 ghost use Rattle.host_streams.specs.OpenFiles.{HoldsOpen, OthersStay, WritersGo, has_room, names_of, writer_place};
 ghost use Rattle.host_streams.specs.Outputs.{BeginsPutTo, EndsPutTo, IsOf, PutsTo, writers_to, with_writer};
-ghost use Rattle.host_streams.specs.Puts.{BeginsBy, EndsPut, IsOver, OpensOr, PutCounts, PutsBy, Spares};
+ghost use Rattle.host_streams.specs.Puts.{OutputPrefix, EndsPut, IsOver, OpensOr, PutCounts, PutsBy, Spares};
 
 use crate::put::put_open;
 use crate::streams::{NamedWriter, Streams};
@@ -39,7 +39,7 @@ fn open_file<W: World>(world: &mut W, name: &[u8], append: bool) -> Result<u32, 
     ensures not_opened { OnErr result (W.kinds world.new ≡ W.kinds world.old) }
     ensures count { PutCounts result (W.count world.old) (W.count world.new) }
     ensures ends { EndsPut false true [] result }
-    ensures told { W.tells
+    ensures told { W.is_modelled
         → OpensOr name.now append (W.state world.old) result (W.state world.new) }
 {
     match world.open_write(name, append) {
@@ -54,14 +54,14 @@ fn put_new<W: World>(world: &mut W, name: &[u8], append: bool, text: &[u8]) -> R
     ensures opened { IfOk result (λ id. Opens Writing id (W.kinds world.old) (W.kinds world.new)) }
     ensures closed { OnErr result (W.kinds world.new ≡ W.kinds world.old) }
     ensures count { PutCounts result (W.count world.old) (W.count world.new) }
-    ensures goes { W.tells → IfOk result (λ id. (W.state world.new).writers id ≡ Named name.now) }
-    ensures spares { W.tells → Spares (W.kinds world.old) (W.state world.old) (W.state world.new) }
+    ensures goes { W.is_modelled → IfOk result (λ id. (W.state world.new).writers id ≡ Named name.now) }
+    ensures spares { W.is_modelled → Spares (W.kinds world.old) (W.state world.old) (W.state world.new) }
     ensures ends { EndsPut false true text.now result }
-    ensures begun { BeginsBy W.tells (IsOver (W.state world.old)) (λ shared. opened_if true
+    ensures begun { OutputPrefix W.is_modelled (IsOver (W.state world.old)) (λ shared. opened_if true
         (seen shared.inner shared.outside (Named name.now)).opens name.now
         append text.now shared) result
         (W.state world.old) (W.state world.new) }
-    ensures told { W.tells → (shared : Shared) → IsOver (W.state world.old) shared
+    ensures told { W.is_modelled → (shared : Shared) → IsOver (W.state world.old) shared
         → PutsBy (opened_if true (seen shared.inner shared.outside (Named name.now)).opens name.now
         append text.now shared) result (W.state world.old) (W.state world.new) }
 {
@@ -98,9 +98,9 @@ impl Streams {
     ) -> Result<(), Stop>
         requires held { HoldsOpen self.old (W.kinds world.old) }
         requires missing { writer_place name.now self.old.writers.items ≡ None }
-        requires goes { W.tells → WritersGo self.old.writers.items (W.state world.old) }
+        requires goes { W.is_modelled → WritersGo self.old.writers.items (W.state world.old) }
         ensures held { HoldsOpen self.new (W.kinds world.new) }
-        ensures goes { W.tells → WritersGo self.new.writers.items (W.state world.new) }
+        ensures goes { W.is_modelled → WritersGo self.new.writers.items (W.state world.new) }
         ensures readers { self.new.readers ≡ self.old.readers }
         ensures stay { take (vec_len self.old.writers) self.new.writers.items
             ≡ self.old.writers.items }
@@ -110,12 +110,12 @@ impl Streams {
         ensures count { PutCounts result (W.count world.old) (W.count world.new) }
         ensures others { OthersStay self.old self.new (W.kinds world.old) (W.kinds world.new) }
         ensures no_others { OthersStay self.new self.old (W.kinds world.new) (W.kinds world.old) }
-        ensures spares { W.tells
+        ensures spares { W.is_modelled
             → Spares (W.kinds world.old) (W.state world.old) (W.state world.new) }
         ensures ends { EndsPut false (has_room self.old) text.now result }
-        ensures begun { BeginsBy W.tells (IsOf self.old (W.state world.old)) (written_by false
+        ensures begun { OutputPrefix W.is_modelled (IsOf self.old (W.state world.old)) (written_by false
             name.now append text.now) result (W.state world.old) (W.state world.new) }
-        ensures told { W.tells → (shared : Shared) → IsOf self.old (W.state world.old) shared
+        ensures told { W.is_modelled → (shared : Shared) → IsOf self.old (W.state world.old) shared
             → PutsBy (written_by false name.now append text.now shared) result (W.state world.old)
             (W.state world.new) }
     {
@@ -138,9 +138,9 @@ impl Streams {
         text: &[u8],
     ) -> Result<(), Stop>
         requires held { HoldsOpen self.old (W.kinds world.old) }
-        requires goes { W.tells → WritersGo self.old.writers.items (W.state world.old) }
+        requires goes { W.is_modelled → WritersGo self.old.writers.items (W.state world.old) }
         ensures held { HoldsOpen self.new (W.kinds world.new) }
-        ensures goes { W.tells → WritersGo self.new.writers.items (W.state world.new) }
+        ensures goes { W.is_modelled → WritersGo self.new.writers.items (W.state world.new) }
         ensures readers { self.new.readers ≡ self.old.readers }
         ensures stay { take (vec_len self.old.writers) self.new.writers.items
             ≡ self.old.writers.items }
@@ -150,14 +150,14 @@ impl Streams {
         ensures count { PutCounts result (W.count world.old) (W.count world.new) }
         ensures others { OthersStay self.old self.new (W.kinds world.old) (W.kinds world.new) }
         ensures no_others { OthersStay self.new self.old (W.kinds world.new) (W.kinds world.old) }
-        ensures spares { W.tells
+        ensures spares { W.is_modelled
             → Spares (W.kinds world.old) (W.state world.old) (W.state world.new) }
         ensures ends { EndsPut (is_writing name.now (names_of self.old.writers.items))
             (has_room self.old) text.now result }
-        ensures begun { BeginsBy W.tells (IsOf self.old (W.state world.old)) (λ shared. written_by
+        ensures begun { OutputPrefix W.is_modelled (IsOf self.old (W.state world.old)) (λ shared. written_by
             (is_writing name.now shared.inner.writers) name.now append text.now shared) result
             (W.state world.old) (W.state world.new) }
-        ensures told { W.tells → (shared : Shared) → IsOf self.old (W.state world.old) shared
+        ensures told { W.is_modelled → (shared : Shared) → IsOf self.old (W.state world.old) shared
             → PutsBy (written_by (is_writing name.now shared.inner.writers) name.now append text.now
             shared) result (W.state world.old) (W.state world.new) }
     {
@@ -182,9 +182,9 @@ impl Streams {
         text: &[u8],
     ) -> Result<(), Stop>
         requires held { HoldsOpen self.old (W.kinds world.old) }
-        requires goes { W.tells → WritersGo self.old.writers.items (W.state world.old) }
+        requires goes { W.is_modelled → WritersGo self.old.writers.items (W.state world.old) }
         ensures held { HoldsOpen self.new (W.kinds world.new) }
-        ensures goes { W.tells → WritersGo self.new.writers.items (W.state world.new) }
+        ensures goes { W.is_modelled → WritersGo self.new.writers.items (W.state world.new) }
         ensures readers { self.new.readers ≡ self.old.readers }
         ensures stay { take (vec_len self.old.writers) self.new.writers.items
             ≡ self.old.writers.items }
@@ -194,12 +194,12 @@ impl Streams {
         ensures count { PutCounts result (W.count world.old) (W.count world.new) }
         ensures others { OthersStay self.old self.new (W.kinds world.old) (W.kinds world.new) }
         ensures no_others { OthersStay self.new self.old (W.kinds world.new) (W.kinds world.old) }
-        ensures spares { W.tells
+        ensures spares { W.is_modelled
             → Spares (W.kinds world.old) (W.state world.old) (W.state world.new) }
         ensures ends { EndsPutTo target.entry text.now self.old result }
-        ensures begun { BeginsPutTo W.tells target.entry text.now self.old (W.state world.old)
+        ensures begun { BeginsPutTo W.is_modelled target.entry text.now self.old (W.state world.old)
             result (W.state world.new) }
-        ensures told { W.tells → PutsTo target.entry text.now self.old (W.state world.old) result
+        ensures told { W.is_modelled → PutsTo target.entry text.now self.old (W.state world.old) result
             self.new (W.state world.new) }
     {
         match target {

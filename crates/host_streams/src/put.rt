@@ -3,7 +3,7 @@ ghost use Rattle.std.specs.Prelude.{◌≡◌, ◌<◌, OnErr, length, true};
 ghost use Rattle.world_core.specs.Calls.{Writing, next_count};
 ghost use Rattle.sem_primitives.specs.SharedState.{Shared};
 ghost use Rattle.sem_primitives.specs.OutputMeaning.{written};
-ghost use Rattle.host_streams.specs.Puts.{BeginsBy, BeginsText, EndsPut, IsOver, PutCounts, PutsBy, PutsText};
+ghost use Rattle.host_streams.specs.Puts.{OutputPrefix, TextPrefix, EndsPut, IsOver, PutCounts, PutsBy, PutsText};
 
 use awk_values::{Fault, Stop};
 use world_core::{World, WorldFault};
@@ -13,9 +13,9 @@ fn write_all<W: World>(world: &mut W, id: u32, text: &[u8]) -> Result<(), WorldF
     requires { W.kinds world.old id ≡ Writing }
     ensures kinds { W.kinds world.new ≡ W.kinds world.old }
     ensures count { W.count world.new ≡ next_count result (W.count world.old) }
-    ensures told { W.tells → PutsText id text.now (W.state world.old) result (W.state world.new) }
+    ensures told { W.is_modelled → PutsText id text.now (W.state world.old) result (W.state world.new) }
     ensures some { OnErr result (0 < length text.now) }
-    ensures begun { BeginsText W.tells id text.now (W.state world.old) result (W.state world.new) }
+    ensures begun { TextPrefix W.is_modelled id text.now (W.state world.old) result (W.state world.new) }
 {
     let mut at = 0;
     while at < text.len() {
@@ -30,14 +30,14 @@ pub(crate) fn put_open<W: World>(world: &mut W, id: u32, text: &[u8]) -> Result<
     requires { W.kinds world.old id ≡ Writing }
     ensures kinds { W.kinds world.new ≡ W.kinds world.old }
     ensures count { PutCounts result (W.count world.old) (W.count world.new) }
-    ensures told { W.tells → (shared : Shared) → IsOver (W.state world.old) shared
+    ensures told { W.is_modelled → (shared : Shared) → IsOver (W.state world.old) shared
         → PutsBy (written ((W.state world.old).writers id) text.now shared) result
         (W.state world.old) (W.state world.new) }
     ensures ends { EndsPut true true text.now result }
-    ensures begun { BeginsBy W.tells (IsOver (W.state world.old)) (written
+    ensures begun { OutputPrefix W.is_modelled (IsOver (W.state world.old)) (written
         ((W.state world.old).writers id) text.now) result (W.state world.old) (W.state world.new) }
-    ensures readers { W.tells → (W.state world.new).readers ≡ (W.state world.old).readers }
-    ensures writers { W.tells → (W.state world.new).writers ≡ (W.state world.old).writers }
+    ensures readers { W.is_modelled → (W.state world.new).readers ≡ (W.state world.old).readers }
+    ensures writers { W.is_modelled → (W.state world.new).writers ≡ (W.state world.old).writers }
 {
     match write_all(world, id, text) {
         Ok(()) => Ok(()),

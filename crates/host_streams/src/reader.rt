@@ -135,7 +135,7 @@ fn fill<W: World>(
     ensures grows { IfOk result (λ more. IsTrue more → vec_len kept.old < vec_len kept.new) }
     ensures ended { IfOk result (λ more. IsFalse more → kept.new.items ≡ kept.old.items) }
     ensures failed { OnErr result (kept.new.items ≡ kept.old.items) }
-    ensures told { W.tells
+    ensures told { W.is_modelled
         → Fills id (W.state world.old) kept.old.items result kept.new.items (W.state world.new) }
 {
     provide(piece)?;
@@ -200,10 +200,10 @@ impl Reader {
         ensures stays { EndStays self.old.phase self.new.phase }
         ensures handed { HandsMore self.old.phase (unread self.old) result self.new.phase
             (unread self.new) }
-        ensures told { W.tells
+        ensures told { W.is_modelled
             → MoreIs (unread self.old) (left self.old ((W.state world.old).readers self.old.id))
             result (left self.new ((W.state world.new).readers self.old.id)) }
-        ensures only { W.tells → OnlyReads self.old.id (W.state world.old) (W.state world.new) }
+        ensures only { W.is_modelled → OnlyReads self.old.id (W.state world.old) (W.state world.new) }
     {
         self.compact(alloc)?;
         match fill(world, self.id, &mut self.piece, &mut self.kept) {
@@ -240,9 +240,9 @@ impl Reader {
         ensures stays { EndStays self.old.phase self.new.phase }
         ensures handed { HandsTurn rs self.old.phase (unread self.old) result self.new.phase
             (unread self.new) }
-        ensures told { W.tells → Turns rs (left self.old ((W.state world.old).readers self.old.id))
+        ensures told { W.is_modelled → Turns rs (left self.old ((W.state world.old).readers self.old.id))
             result (left self.new ((W.state world.new).readers self.old.id)) }
-        ensures only { W.tells → OnlyReads self.old.id (W.state world.old) (W.state world.new) }
+        ensures only { W.is_modelled → OnlyReads self.old.id (W.state world.old) (W.state world.new) }
     {
         match seen(self.unread(), rs, known) {
             Look::Record(from, to, next) => {
@@ -315,9 +315,9 @@ impl Reader {
         ensures stays { EndStays self.old.phase self.new.phase }
         ensures handed { HandsOver rs self.old.phase (unread self.old) result self.new.phase
             (unread self.new) }
-        ensures told { W.tells → Answers rs (left self.old ((W.state world.old).readers
+        ensures told { W.is_modelled → Answers rs (left self.old ((W.state world.old).readers
             self.old.id)) result (left self.new ((W.state world.new).readers self.old.id)) }
-        ensures only { W.tells → OnlyReads self.old.id (W.state world.old) (W.state world.new) }
+        ensures only { W.is_modelled → OnlyReads self.old.id (W.state world.old) (W.state world.new) }
     {
         if let Phase::Broken = self.phase {
             return Ok(FileNext::Failed);

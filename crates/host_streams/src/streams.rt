@@ -71,7 +71,7 @@ impl Streams {
     fn open_reader<W: World>(&mut self, world: &mut W, name: &[u8]) -> Result<Option<usize>, Stop>
         requires held { HoldsOpen self.old (W.kinds world.old) }
         requires missing { reader_place name.now self.old.readers.items ≡ None }
-        requires goes { W.tells → WritersGo self.old.writers.items (W.state world.old) }
+        requires goes { W.is_modelled → WritersGo self.old.writers.items (W.state world.old) }
         ensures held { HoldsOpen self.new (W.kinds world.new) }
         ensures writers { self.new.writers ≡ self.old.writers }
         ensures count { OpenCounts result (W.count world.old) (W.count world.new) }
@@ -85,14 +85,14 @@ impl Streams {
             (λ found. IfSome found (λ at. phase_named name.now self.new.readers.items ≡ Open)) }
         ensures nothing { IfOk result
             (λ found. IfSome found (λ at. kept_named name.now self.new.readers.items ≡ [])) }
-        ensures goes { W.tells → WritersGo self.new.writers.items (W.state world.new) }
-        ensures told { W.tells → OpensFile name.now (has_room self.old) (W.state world.old)
+        ensures goes { W.is_modelled → WritersGo self.new.writers.items (W.state world.new) }
+        ensures told { W.is_modelled → OpensFile name.now (has_room self.old) (W.state world.old)
             (readers_in self.old.readers.items (W.state world.old)) result
             (readers_in self.new.readers.items (W.state world.new)) }
-        ensures outside { W.tells → (W.state world.new).outside ≡ (W.state world.old).outside }
+        ensures outside { W.is_modelled → (W.state world.new).outside ≡ (W.state world.old).outside }
         ensures others { OthersStay self.old self.new (W.kinds world.old) (W.kinds world.new) }
         ensures no_others { OthersStay self.new self.old (W.kinds world.new) (W.kinds world.old) }
-        ensures places { W.tells
+        ensures places { W.is_modelled
             → OthersKeep self.old (W.kinds world.old) (W.state world.old) (W.state world.new) }
     {
         if self.readers.as_slice().len() + self.writers.as_slice().len() >= MAX_STREAMS {
@@ -123,7 +123,7 @@ impl Streams {
     ) -> Result<FileNext, Stop>
         requires held { HoldsOpen self.old (W.kinds world.old) }
         requires place { reader_place name.now self.old.readers.items ≡ Some at }
-        requires goes { W.tells → WritersGo self.old.writers.items (W.state world.old) }
+        requires goes { W.is_modelled → WritersGo self.old.writers.items (W.state world.old) }
         ensures held { HoldsOpen self.new (W.kinds world.new) }
         ensures writers { self.new.writers ≡ self.old.writers }
         ensures count { NextCounts (phase_named name.now self.old.readers.items) result
@@ -137,13 +137,13 @@ impl Streams {
             ≡ map reader_handle self.old.readers.items }
         ensures kept { readers_beside name.now self.new.readers.items
             ≡ readers_beside name.now self.old.readers.items }
-        ensures goes { W.tells → WritersGo self.new.writers.items (W.state world.new) }
-        ensures told { W.tells → ReadsFile name.now rs (readers_in self.old.readers.items
+        ensures goes { W.is_modelled → WritersGo self.new.writers.items (W.state world.new) }
+        ensures told { W.is_modelled → ReadsFile name.now rs (readers_in self.old.readers.items
             (W.state world.old)) result (readers_in self.new.readers.items (W.state world.new)) }
-        ensures outside { W.tells → (W.state world.new).outside ≡ (W.state world.old).outside }
+        ensures outside { W.is_modelled → (W.state world.new).outside ≡ (W.state world.old).outside }
         ensures others { OthersStay self.old self.new (W.kinds world.old) (W.kinds world.new) }
         ensures no_others { OthersStay self.new self.old (W.kinds world.new) (W.kinds world.old) }
-        ensures places { W.tells
+        ensures places { W.is_modelled
             → OthersKeep self.old (W.kinds world.old) (W.state world.old) (W.state world.new) }
     {
         let _ = name;
@@ -160,7 +160,7 @@ impl Streams {
     ) -> Result<FileNext, Stop>
         requires held { HoldsOpen self.old (W.kinds world.old) }
         requires missing { reader_place name.now self.old.readers.items ≡ None }
-        requires goes { W.tells → WritersGo self.old.writers.items (W.state world.old) }
+        requires goes { W.is_modelled → WritersGo self.old.writers.items (W.state world.old) }
         ensures held { HoldsOpen self.new (W.kinds world.new) }
         ensures writers { self.new.writers ≡ self.old.writers }
         ensures count { NextCounts Open result (W.count world.old) (W.count world.new) }
@@ -173,14 +173,14 @@ impl Streams {
         ensures handed { is_writing name.now (reader_names self.new.readers.items) ≡ true
             → HandsOver rs Open [] result (phase_named name.now self.new.readers.items)
             (kept_named name.now self.new.readers.items) }
-        ensures goes { W.tells → WritersGo self.new.writers.items (W.state world.new) }
-        ensures told { W.tells → StartsFile (has_room self.old) (source_of ((W.state
+        ensures goes { W.is_modelled → WritersGo self.new.writers.items (W.state world.new) }
+        ensures told { W.is_modelled → StartsFile (has_room self.old) (source_of ((W.state
             world.old).outside (Named name.now))) name.now rs (readers_in self.old.readers.items
             (W.state world.old)) result (readers_in self.new.readers.items (W.state world.new)) }
-        ensures outside { W.tells → (W.state world.new).outside ≡ (W.state world.old).outside }
+        ensures outside { W.is_modelled → (W.state world.new).outside ≡ (W.state world.old).outside }
         ensures others { OthersStay self.old self.new (W.kinds world.old) (W.kinds world.new) }
         ensures no_others { OthersStay self.new self.old (W.kinds world.new) (W.kinds world.old) }
-        ensures places { W.tells
+        ensures places { W.is_modelled
             → OthersKeep self.old (W.kinds world.old) (W.state world.old) (W.state world.new) }
     {
         match self.open_reader(world, name) {
@@ -207,9 +207,9 @@ impl Streams {
         rs: &[u8],
     ) -> Result<FileNext, Stop>
         requires held { HoldsOpen self.old (W.kinds world.old) }
-        requires goes { W.tells → WritersGo self.old.writers.items (W.state world.old) }
+        requires goes { W.is_modelled → WritersGo self.old.writers.items (W.state world.old) }
         ensures held { HoldsOpen self.new (W.kinds world.new) }
-        ensures goes { W.tells → WritersGo self.new.writers.items (W.state world.new) }
+        ensures goes { W.is_modelled → WritersGo self.new.writers.items (W.state world.new) }
         ensures writers { self.new.writers ≡ self.old.writers }
         ensures count { FileCounts name.now self.old result (W.count world.old)
             (W.count world.new) }
@@ -219,12 +219,12 @@ impl Streams {
         ensures breaks { FileBreaks name.now self.old result self.new }
         ensures handed { FileHands name.now (record_separator rs.now) self.old result self.new }
         ensures failing { FileGoesOnFailing name.now self.old result self.new }
-        ensures told { W.tells → ReadsNext name.now (record_separator rs.now) self.old
+        ensures told { W.is_modelled → ReadsNext name.now (record_separator rs.now) self.old
             (W.state world.old) result self.new (W.state world.new) }
-        ensures outside { W.tells → (W.state world.new).outside ≡ (W.state world.old).outside }
+        ensures outside { W.is_modelled → (W.state world.new).outside ≡ (W.state world.old).outside }
         ensures others { OthersStay self.old self.new (W.kinds world.old) (W.kinds world.new) }
         ensures no_others { OthersStay self.new self.old (W.kinds world.new) (W.kinds world.old) }
-        ensures places { W.tells
+        ensures places { W.is_modelled
             → OthersKeep self.old (W.kinds world.old) (W.state world.old) (W.state world.new) }
     {
         let separator = first_byte(rs);

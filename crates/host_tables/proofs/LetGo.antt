@@ -4,7 +4,7 @@ use Rattle.awk_values.specs.declared.fault.Fault.{Fault}
 use Rattle.wasm_store.specs.declared.word.Word.{Word}
 use Rattle.host_imports.specs.declared.import.Import.TheVariants.{Drop, IterFree, FreeArray}
 use Rattle.host_values.specs.Evaluations.{Values}
-use Rattle.host_values.specs.declared.reply.Refusal.{Refusal}
+use Rattle.host_step.specs.declared.refusal.Refusal.{Refusal}
 use Rattle.host_values.specs.ElementCalls.{IsTableCall, with_arrays, with_iterators}
 use Rattle.host_values.specs.Forms.{Arrays, HostForm, Iterators}
 use Rattle.host_values.specs.Findings.{After, Finding, View, viewed}

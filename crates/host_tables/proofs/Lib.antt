@@ -5,7 +5,5 @@ pub mod Splitting
 pub mod Jobs
 pub mod ElementsLemmas
 pub mod Starting
-pub mod Chosen
 pub mod LetGo
-pub mod Quiet
 pub mod Tellings

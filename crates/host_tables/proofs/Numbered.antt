@@ -13,7 +13,7 @@ use Rattle.host_arrays.specs.Pairs.{Pairs, get_pair, is_key, pairs_at, pairs_or_
 use Rattle.host_arrays.proofs.PairLemmas.{cases_key, set_pair-new}
 use Rattle.host_values.specs.Forms.{Arrays}
 use Rattle.host_values.proofs.Places.{free_still, inserted}
-use Rattle.host_values.specs.Calls.{spare}
+use Rattle.host_values.specs.Calls.{reserved_handle}
 
 -- Keys.
 
@@ -73,9 +73,9 @@ pub there_put : (base arrays : Arrays) (a : ℤ) (ps : Pairs) → arrays ≡ map
 there_put base arrays a ps put = ap (λ (m : Arrays). map.contains_key m a) put ∙ ap is_some (inserted base a ps a ∙ ap (λ b. cond b (Some ps) (map.get base a)) (itself a))
 
 -- what is put where something stands takes no number that is free
-pub free_put : (base arrays : Arrays) (a b : ℤ) (ps : Pairs) → a ≡ b → map.contains_key base b ≡ true → map.get base spare ≡ None → arrays ≡ map.insert base a ps → map.get arrays spare ≡ None
+pub free_put : (base arrays : Arrays) (a b : ℤ) (ps : Pairs) → a ≡ b → map.contains_key base b ≡ true → map.get base reserved_handle ≡ None → arrays ≡ map.insert base a ps → map.get arrays reserved_handle ≡ None
 free_put base arrays a b ps same there free put =
-    ap (λ (m : Arrays). map.get m spare) put ∙ free_still base a ps spare (ap (map.contains_key base) same ∙ there) free
+    ap (λ (m : Arrays). map.get m reserved_handle) put ∙ free_still base a ps reserved_handle (ap (map.contains_key base) same ∙ there) free
 
 -- the number of the next of those that were put
 pub next_count : {X Y : Type 0} (f : X → Y) (xs : List X) (i : ℕ) → i < length xs → i + 1 ≡ 1 + length (map_list f (take i xs))

@@ -10,7 +10,7 @@ use Rattle.sem_primitives.specs.SharedState.{Pairs, specials_at_start}
 use Rattle.sem_primitives.specs.declared.constants.Special.{Special}
 use Rattle.host_step.specs.Starts.{first_arrays, state_at_start}
 use Rattle.host_step.specs.Tables.{entered}
-use Rattle.host_values.specs.Calls.{spare}
+use Rattle.host_values.specs.Calls.{reserved_handle}
 use Rattle.host_values.proofs.Entries.{entries_insert}
 use Rattle.host_arrays.specs.Pairs.{first_arrays as no_pairs}
 use Rattle.host_texts.specs.States.{no_record, specials_of}
@@ -70,9 +70,9 @@ filled_both argv environ =
     by false true r = refl
     by false false r = refl
 
-pub spare_first : (argv environ : Pairs) → map.get (map.insert (map.insert nothing (pos 0) argv) (pos 1) environ) spare ≡ None
+pub spare_first : (argv environ : Pairs) → map.get (map.insert (map.insert nothing (pos 0) argv) (pos 1) environ) reserved_handle ≡ None
 spare_first argv environ =
-    inserted (map.insert nothing (pos 0) argv) (pos 1) environ spare ∙ inserted nothing (pos 0) argv spare ∙ none_there spare
+    inserted (map.insert nothing (pos 0) argv) (pos 1) environ reserved_handle ∙ inserted nothing (pos 0) argv reserved_handle ∙ none_there reserved_handle
 
 pub there_first : map.contains_key no_pairs (pos 0) ≡ true
 there_first = ap is_some (inserted (map.insert nothing (pos 0) []) (pos 1) [] (pos 0) ∙ inserted nothing (pos 0) [] (pos 0))
@@ -87,7 +87,7 @@ pub record Begins (t : FirstTables) (job : JobForm) : Type 0 where
   pub arrays : t.arrays ≡ argv_and_environ job
   pub iterators : t.iterators ≡ nothing
   pub specials : (s : Special) → specials_of t.texts.specials.values s ≡ specials_at_start (length job.operands) s
-  pub held : t.texts.held ≡ no_record
+  pub held : t.texts.current_record ≡ no_record
   pub substituted : t.texts.substituted ≡ None
   pub names : announced t.names ≡ []
   pub assigns : left_of t.names ≡ job.assigns

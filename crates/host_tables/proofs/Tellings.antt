@@ -15,8 +15,8 @@ use Rattle.host_step.specs.HostStep.{refuses}
 use Rattle.host_imports.specs.Imports.{import_answer, lets_go, result_of}
 use Rattle.host_step.specs.Worlds.{reads}
 use Rattle.host_imports.specs.declared.import.Import.{Import}
-use Rattle.host_values.specs.declared.reply.Refusal.{Refusal}
-use Rattle.host_values.specs.declared.reply.Refusal.TheVariants as why
+use Rattle.host_step.specs.declared.refusal.Refusal.{Refusal}
+use Rattle.host_step.specs.declared.refusal.Refusal.TheVariants as why
 use Rattle.world_core.specs.WorldState.{Action}
 use Rattle.host_values.specs.Shown.{SharesTables}
 use Rattle.host_values.specs.WorldCalls.{IsCalled}

@@ -10,7 +10,7 @@ use Rattle.wasm_store.specs.declared.word.Word.{Word}
 use Rattle.wasm_store.specs.declared.word.Word.TheVariants.{I32, I64}
 use Rattle.host_imports.specs.Imports.{import_answer}
 use Rattle.host_imports.specs.declared.import.Import.{Import}
-use Rattle.host_values.specs.declared.reply.Refusal.{Refusal}
+use Rattle.host_step.specs.declared.refusal.Refusal.{Refusal}
 use Rattle.host_values.specs.TableCalls.{answer_of_call}
 
 abbrev pub is_narrow : Option Word → Bool

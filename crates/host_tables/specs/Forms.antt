@@ -3,7 +3,7 @@ use Rattle.host_names.specs.Forms.{with_all}
 use Rattle.host_names.specs.declared.names.Names.{Names}
 use Rattle.host_texts.specs.States.{with_texts}
 use Rattle.host_values.specs.Forms.{HostForm}
-use Rattle.host_tables.specs.declared.held.Tables.{Tables}
+use Rattle.host_tables.specs.declared.tables.Tables.{Tables}
 
 -- whatever the files and the main input are
 abbrev pub of_tables : Tables → HostForm → HostForm

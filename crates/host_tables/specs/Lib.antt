@@ -2,5 +2,4 @@ pub mod Families
 pub mod Splits
 pub mod Starts
 pub mod Answers
-pub mod Calls
 pub mod Forms

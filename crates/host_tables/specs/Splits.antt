@@ -19,8 +19,8 @@ use Rattle.host_format.specs.declared.span.Span.{Span}
 use Rattle.host_step.specs.Arguments.{and_then, constant_front, no_more}
 use Rattle.host_values.specs.Evaluations.{Values}
 use Rattle.host_values.specs.Fronts.{handle_front}
-use Rattle.host_values.specs.declared.reply.Refusal.{Refusal}
-use Rattle.host_values.specs.declared.reply.Refusal.TheVariants as why
+use Rattle.host_step.specs.declared.refusal.Refusal.{Refusal}
+use Rattle.host_step.specs.declared.refusal.Refusal.TheVariants as why
 use Rattle.host_values.specs.Forms.{Arrays}
 use Rattle.host_values.specs.Reads.{number_front}
 

@@ -1,22 +1,27 @@
 //! Calls on arrays, elements and iterators.
 ghost use Rattle.std.specs.Prelude.{◌≡◌, List, ℕ, None};
 ghost use Rattle.sem_primitives.specs.declared.table.Primitive.TheVariants as row;
-ghost use Rattle.host_values.specs.ElementCalls.{IsTableCall, with_arrays, with_iterators};
+ghost use Rattle.host_values.specs.ElementCalls.{IsTableCall};
+ghost use Rattle.host_values.specs.TableCalls.{TableCalls};
 ghost use Rattle.host_values.specs.Forms.{HostForm};
 ghost use Rattle.host_imports.specs.declared.import.Import.{Import};
 ghost use Rattle.host_tables.specs.Forms.{of_tables};
 
-use crate::held::Tables;
+use crate::tables::Tables;
 use host_values::{
     Refusal, clear, delete, elem, free_array, has, iter, iter_free, iter_next, new_array, set_elem,
 };
 use wasm_store::Word;
 
 impl Tables {
-    /// Makes an array without an element.
-    pub(crate) fn new_array(&mut self, words: &[Word]) -> Result<Option<Word>, Refusal>
+    /// `new_array`: makes an array without an element.
+    ///
+    /// # Errors
+    ///
+    /// A trap, which changes nothing, or want of memory.
+    pub fn new_array(&mut self, words: &[Word]) -> Result<Option<Word>, Refusal>
         requires { self.old.fault ≡ None }
-        ensures { (f : HostForm) (memory : List ℕ) → IsTableCall (Import.Of row.NewArray)
+        ensures { (f : HostForm) (memory : List ℕ) → IsTableCall (Import.OfPrimitive row.NewArray)
             (of_tables self.old f) words.now memory result (of_tables self.new f) }
     {
         new_array(&mut self.arrays, words)
@@ -30,7 +35,7 @@ impl Tables {
     #[inline(always)]
     pub fn elem(&mut self, words: &[Word]) -> Result<Option<Word>, Refusal>
         requires { self.old.fault ≡ None }
-        ensures { (f : HostForm) (memory : List ℕ) → IsTableCall (Import.Of row.Elem)
+        ensures { (f : HostForm) (memory : List ℕ) → IsTableCall (Import.OfPrimitive row.Elem)
             (of_tables self.old f) words.now memory result (of_tables self.new f) }
     {
         elem(
@@ -39,7 +44,7 @@ impl Tables {
             &mut self.arrays,
             &mut self.handles,
             words,
-            self.texts.held.longest(),
+            self.texts.current_record.longest(),
         )
     }
 
@@ -51,7 +56,7 @@ impl Tables {
     #[inline(always)]
     pub fn set_elem(&mut self, words: &[Word]) -> Result<Option<Word>, Refusal>
         requires { self.old.fault ≡ None }
-        ensures { (f : HostForm) (memory : List ℕ) → IsTableCall (Import.Of row.SetElem)
+        ensures { (f : HostForm) (memory : List ℕ) → IsTableCall (Import.OfPrimitive row.SetElem)
             (of_tables self.old f) words.now memory result (of_tables self.new f) }
     {
         set_elem(
@@ -60,7 +65,7 @@ impl Tables {
             &mut self.arrays,
             &mut self.handles,
             words,
-            self.texts.held.longest(),
+            self.texts.current_record.longest(),
         )
     }
 
@@ -72,7 +77,7 @@ impl Tables {
     #[inline(always)]
     pub fn has(&mut self, words: &[Word]) -> Result<Option<Word>, Refusal>
         requires { self.old.fault ≡ None }
-        ensures { (f : HostForm) (memory : List ℕ) → IsTableCall (Import.Of row.Has)
+        ensures { (f : HostForm) (memory : List ℕ) → IsTableCall (Import.OfPrimitive row.Has)
             (of_tables self.old f) words.now memory result (of_tables self.new f) }
     {
         has(
@@ -84,10 +89,14 @@ impl Tables {
         )
     }
 
-    /// Takes an element away, where there is one.
-    pub(crate) fn delete(&mut self, words: &[Word]) -> Result<Option<Word>, Refusal>
+    /// `delete`: takes an element away, where there is one.
+    ///
+    /// # Errors
+    ///
+    /// A trap, which changes nothing, or want of memory.
+    pub fn delete(&mut self, words: &[Word]) -> Result<Option<Word>, Refusal>
         requires { self.old.fault ≡ None }
-        ensures { (f : HostForm) (memory : List ℕ) → IsTableCall (Import.Of row.Delete)
+        ensures { (f : HostForm) (memory : List ℕ) → IsTableCall (Import.OfPrimitive row.Delete)
             (of_tables self.old f) words.now memory result (of_tables self.new f) }
     {
         delete(
@@ -99,51 +108,65 @@ impl Tables {
         )
     }
 
-    /// Takes all elements away.
-    pub(crate) fn clear(&mut self, words: &[Word]) -> Result<Option<Word>, Refusal>
+    /// `clear`: takes all elements away.
+    ///
+    /// # Errors
+    ///
+    /// A trap, which changes nothing.
+    pub fn clear(&mut self, words: &[Word]) -> Result<Option<Word>, Refusal>
         requires { self.old.fault ≡ None }
-        ensures { (f : HostForm) (memory : List ℕ) → IsTableCall (Import.Of row.Clear)
+        ensures { (f : HostForm) (memory : List ℕ) → IsTableCall (Import.OfPrimitive row.Clear)
             (of_tables self.old f) words.now memory result (of_tables self.new f) }
     {
         clear(&mut self.arrays, words)
     }
 
-    /// Starts to visit the keys of an array.
-    pub(crate) fn iter(&mut self, words: &[Word]) -> Result<Option<Word>, Refusal>
+    /// `iter`: starts to visit the keys of an array.
+    ///
+    /// # Errors
+    ///
+    /// A trap, which changes nothing, or want of memory.
+    pub fn iter(&mut self, words: &[Word]) -> Result<Option<Word>, Refusal>
         requires { self.old.fault ≡ None }
-        ensures { (f : HostForm) (memory : List ℕ) → IsTableCall (Import.Of row.Iter)
+        ensures { (f : HostForm) (memory : List ℕ) → IsTableCall (Import.OfPrimitive row.Iter)
             (of_tables self.old f) words.now memory result (of_tables self.new f) }
     {
         iter(&self.arrays, &mut self.iterators, words)
     }
 
-    /// The next key of an iterator.
-    pub(crate) fn iter_next(&mut self, words: &[Word]) -> Result<Option<Word>, Refusal>
+    /// `iter_next`: the next key of an iterator.
+    ///
+    /// # Errors
+    ///
+    /// A trap, which changes nothing, or want of memory.
+    pub fn iter_next(&mut self, words: &[Word]) -> Result<Option<Word>, Refusal>
         requires { self.old.fault ≡ None }
-        ensures { (f : HostForm) (memory : List ℕ) → IsTableCall (Import.Of row.IterNext)
+        ensures { (f : HostForm) (memory : List ℕ) → IsTableCall (Import.OfPrimitive row.IterNext)
             (of_tables self.old f) words.now memory result (of_tables self.new f) }
     {
         iter_next(&mut self.iterators, &mut self.handles, words)
     }
 
-    /// Gives an iterator up, also where a fault is kept.
-    pub(crate) fn iter_free(&mut self, words: &[Word]) -> Result<Option<Word>, Refusal>
-        ensures step { (f : HostForm) (memory : List ℕ)
-            → IsTableCall Import.IterFree (with_iterators f.values self.old.iterators f) words.now
-            memory result (with_iterators f.values self.new.iterators f) }
-        ensures others { (f : HostForm) → of_tables self.new f
-            ≡ with_iterators self.old.handles self.new.iterators (of_tables self.old f) }
+    /// `iter_free`: gives an iterator up, also where a fault is kept.
+    ///
+    /// # Errors
+    ///
+    /// A trap, which changes nothing.
+    pub fn iter_free(&mut self, words: &[Word]) -> Result<Option<Word>, Refusal>
+        ensures { (f : HostForm) (memory : List ℕ) → TableCalls Import.IterFree (of_tables self.old f)
+            words.now memory result (of_tables self.new f) }
     {
         iter_free(&mut self.iterators, words)
     }
 
-    /// Gives an array up, also where a fault is kept.
-    pub(crate) fn free_array(&mut self, words: &[Word]) -> Result<Option<Word>, Refusal>
-        ensures step { (f : HostForm) (memory : List ℕ)
-            → IsTableCall Import.FreeArray (with_arrays f.values self.old.arrays f) words.now memory
-            result (with_arrays f.values self.new.arrays f) }
-        ensures others { (f : HostForm) → of_tables self.new f
-            ≡ with_arrays self.old.handles self.new.arrays (of_tables self.old f) }
+    /// `free_array`: gives an array up, also where a fault is kept.
+    ///
+    /// # Errors
+    ///
+    /// A trap, which changes nothing.
+    pub fn free_array(&mut self, words: &[Word]) -> Result<Option<Word>, Refusal>
+        ensures { (f : HostForm) (memory : List ℕ) → TableCalls Import.FreeArray (of_tables self.old f)
+            words.now memory result (of_tables self.new f) }
     {
         free_array(&mut self.arrays, words)
     }

@@ -6,7 +6,7 @@ ghost use Rattle.sem_primitives.specs.ArrayMeaning.{numbered};
 ghost use Rattle.awk_values.specs.declared.value.Value.{Value as AnyValue};
 ghost use Rattle.host_arrays.specs.Pairs.{pairs_at, set_pair};
 ghost use Rattle.host_format.specs.Spans.{IsInside, span_text};
-ghost use Rattle.host_values.specs.Calls.{spare};
+ghost use Rattle.host_values.specs.Calls.{reserved_handle};
 
 use crate::byte_texts::ByteTexts;
 use awk_values::{Bytes, Value};
@@ -77,7 +77,7 @@ pub(crate) fn fill(
     requires inside { All (IsInside text.now) spans.now }
     ensures filled { OnOk result (arrays.new
         ≡ maps.insert arrays.old array (numbered 1 (map (span_text text.now) spans.now))) }
-    ensures spare { maps.get arrays.old spare ≡ None → maps.get arrays.new spare ≡ None }
+    ensures spare { maps.get arrays.old reserved_handle ≡ None → maps.get arrays.new reserved_handle ≡ None }
 {
     arrays.clear(array);
     let longest = longest.max(text.len());

@@ -5,25 +5,21 @@
 
 mod answers;
 mod byte_texts;
-mod calls;
 mod elements;
-mod families;
 mod filling;
-mod held;
 mod job;
+mod kept_fault;
 mod pieces;
+mod split_words;
 mod splits;
 mod start;
 mod starts;
-mod table_call;
 mod table_families;
-mod words;
+mod tables;
 
 pub use answers::{refusal, refuses, told};
 pub use byte_texts::ByteTexts;
-pub use families::{append, format_last, on_texts, on_values, release};
-pub use held::Tables;
 pub use job::Job;
 pub use splits::split;
 pub use start::FirstTables;
-pub use table_call::TableCall;
+pub use tables::Tables;

@@ -6,7 +6,7 @@ ghost use Rattle.sem_primitives.specs.ArrayMeaning.{numbered};
 ghost use Rattle.sem_primitives.specs.declared.table.Primitive.TheVariants as row;
 ghost use Rattle.host_format.specs.Spans.{IsInside, span_text};
 ghost use Rattle.host_imports.specs.declared.import.Import.{Import};
-ghost use Rattle.host_values.specs.Calls.{spare};
+ghost use Rattle.host_values.specs.Calls.{reserved_handle};
 ghost use Rattle.host_values.specs.ElementCalls.{IsTableCall, with_arrays};
 ghost use Rattle.host_values.specs.Forms.{HostForm};
 ghost use Rattle.host_tables.specs.Splits.{IsFilled};
@@ -14,7 +14,7 @@ ghost use Rattle.host_tables.specs.Splits.{IsFilled};
 use crate::byte_texts::ByteTexts;
 use crate::filling::fill;
 use crate::pieces::split_outcome;
-use crate::words::split_front;
+use crate::split_words::split_front;
 use awk_values::Bytes;
 use host_arrays::Arrays;
 use host_format::{Expressions, Span};
@@ -39,7 +39,7 @@ fn take_pieces(
     requires inside { All (IsInside text.now) spans.now }
     ensures filled { IsFilled result (length spans.now) (maps.insert arrays.old array
         (numbered 1 (map (span_text text.now) spans.now))) arrays.new }
-    ensures spare { maps.get arrays.old spare ≡ None → maps.get arrays.new spare ≡ None }
+    ensures spare { maps.get arrays.old reserved_handle ≡ None → maps.get arrays.new reserved_handle ≡ None }
 {
     match fill(keys, bytes, alloc, longest, arrays, array, text, spans) {
         Ok(()) => Ok(Some(Word::I64(counted(spans.len()).cast_unsigned()))),
@@ -64,10 +64,10 @@ pub fn split(
     words: &[Word],
 ) -> Result<Option<Word>, Refusal>
     ensures step { (f : HostForm) (memory : List ℕ) → f.fault ≡ None
-        → IsTableCall (Import.Of row.Split) (with_arrays handles.old arrays.old f) words.now memory
+        → IsTableCall (Import.OfPrimitive row.Split) (with_arrays handles.old arrays.old f) words.now memory
         result (with_arrays handles.new arrays.new f) }
-    ensures spare { maps.get handles.old spare ≡ None → maps.get handles.new spare ≡ None }
-    ensures spare_array { maps.get arrays.old spare ≡ None → maps.get arrays.new spare ≡ None }
+    ensures spare { maps.get handles.old reserved_handle ≡ None → maps.get handles.new reserved_handle ≡ None }
+    ensures spare_array { maps.get arrays.old reserved_handle ≡ None → maps.get arrays.new reserved_handle ≡ None }
 {
     let (first, value, array, second, between, is_ere) = match split_front(arrays, handles, words) {
         Ok(said) => said,

@@ -6,7 +6,7 @@ ghost use Rattle.host_values.specs.Forms.{Stands};
 ghost use Rattle.host_names.specs.Forms.{pair_of};
 ghost use Rattle.host_step.specs.Starts.{state_at_start};
 ghost use Rattle.host_tables.specs.Starts.{argv_and_environ, form_of, job_of};
-ghost use Rattle.host_values.specs.Calls.{spare};
+ghost use Rattle.host_values.specs.Calls.{reserved_handle};
 ghost use Rattle.world_core.specs.WorldState.{Outside, Source};
 
 use crate::filling::put_text;
@@ -109,9 +109,9 @@ impl FirstTables {
         ensures stands { IfOk result (λ t. (input : Source) (outside : Outside)
             → Stands (form_of t (shared_at_start (job_of job.now) input outside))
             (state_at_start (job_of job.now) input outside)) }
-        ensures values { IfOk result (λ t. maps.get t.handles spare ≡ None) }
-        ensures arrays { IfOk result (λ t. maps.get t.arrays spare ≡ None) }
-        ensures iterators { IfOk result (λ t. maps.get t.iterators spare ≡ None) }
+        ensures values { IfOk result (λ t. maps.get t.handles reserved_handle ≡ None) }
+        ensures arrays { IfOk result (λ t. maps.get t.arrays reserved_handle ≡ None) }
+        ensures iterators { IfOk result (λ t. maps.get t.iterators reserved_handle ≡ None) }
     {
         let fault = fault_of(job);
         let Ok(operands) = u32::try_from(job.operands.len()) else {

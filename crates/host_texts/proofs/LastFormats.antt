@@ -17,21 +17,20 @@ use Rattle.host_step.specs.Arguments.{and_then, constant_front, decode, no_more}
 use Rattle.host_step.specs.HostState.{HostState}
 use Rattle.host_step.specs.HostStep.{before_last_of, carried, last_of, where_fit}
 use Rattle.host_imports.specs.Imports.{spends}
-use Rattle.host_imports.specs.declared.import.Import.TheVariants.{Over}
-use Rattle.host_imports.specs.declared.import.Listing.TheVariants.{Sprintf}
-use Rattle.host_values.specs.Calls.{names_with, spare, with_values}
-use Rattle.host_values.specs.Evaluations.{Values}
+use Rattle.host_imports.specs.declared.import.Import.TheVariants.{Variadic}
+use Rattle.host_imports.specs.declared.import.VariadicImport.TheVariants.{Sprintf}
+use Rattle.host_values.specs.Calls.{names_with, reserved_handle, with_values}
+use Rattle.host_values.specs.Evaluations.{Evaluates, Evaluation, Values}
 use Rattle.host_values.specs.Singles.{with_arguments}
-use Rattle.host_values.specs.declared.reply.Refusal.{Refusal}
-use Rattle.host_values.specs.declared.reply.Refusal.TheVariants as why
-use Rattle.host_texts.specs.Evaluations.{Evaluates, Evaluation, replied}
+use Rattle.host_step.specs.declared.refusal.Refusal.{Refusal}
+use Rattle.host_step.specs.declared.refusal.Refusal.TheVariants as why
+use Rattle.host_texts.specs.Evaluations.{replied}
 use Rattle.host_texts.specs.LastFormatted.{Formats, formatting}
-use Rattle.host_texts.specs.declared.reply.Reply.{Reply}
-use Rattle.host_texts.specs.declared.reply.Reply.TheVariants as reply
-use Rattle.host_texts.proofs.Reading.{Matches, other, stop_at}
+use Rattle.host_values.specs.declared.reply.Reply.{Reply}
+use Rattle.host_values.specs.declared.reply.Reply.TheVariants as reply
+use Rattle.host_values.proofs.Matching.{IsDone, Matches, other, stop_at}
 use Rattle.host_texts.proofs.Rows.{fits_replied}
-use Rattle.host_texts.proofs.Spare.{KeepsFree, end_fitting, front}
-use Rattle.host_texts.proofs.Steps.{IsDone}
+use Rattle.host_values.proofs.Spare.{KeepsFree, end_fitting, front}
 
 abbrev text : Answer
 text = answer.Of sort.Value
@@ -44,17 +43,17 @@ listed_by s m n true = (refl, record { added = refl; state = refl; fits = fits_r
 listed_by s m n false = refl
 
 pub matching_last : (s : HostState) (m : Values) (words : List Word) (memory : List ℕ)
-    → Matches text s (IsDone text s) (carried (Over Sprintf) words memory (with_values m s)) (formatting m s words)
+    → Matches text s (IsDone text s) (carried (Variadic Sprintf) words memory (with_values m s)) (formatting m s words)
 matching_last s m words memory =
-    other text s (IsDone text s) (constant_front constant.Count words) (λ rest. decode (spends (Over Sprintf)) memory (names_with m s) [] rest) _ _ (λ n rest.
+    other text s (IsDone text s) (constant_front constant.Count words) (λ rest. decode (spends (Variadic Sprintf)) memory (names_with m s) [] rest) _ _ (λ n rest.
     stop_at text s (IsDone text s) rest (names_with m s) _ _ (listed_by s m n (nat_le n (length s.arguments) && listed_in_turn listed.Sprintf (last_of n s.arguments))))
 
 pub matched_last : (s : HostState) (m : Values) (words : List Word) (memory : List ℕ) (e : Evaluation) → formatting m s words ≡ e
-    → Matches text s (IsDone text s) (carried (Over Sprintf) words memory (with_values m s)) e
+    → Matches text s (IsDone text s) (carried (Variadic Sprintf) words memory (with_values m s)) e
 matched_last s m words memory e is =
-    subst (Matches text s (IsDone text s) (carried (Over Sprintf) words memory (with_values m s))) is (matching_last s m words memory)
+    subst (Matches text s (IsDone text s) (carried (Variadic Sprintf) words memory (with_values m s))) is (matching_last s m words memory)
 
-pub spare_last : (m : Values) (s : HostState) (words : List Word) → map.get m spare ≡ None → KeepsFree (formatting m s words)
+pub spare_last : (m : Values) (s : HostState) (words : List Word) → map.get m reserved_handle ≡ None → KeepsFree (formatting m s words)
 spare_last m s words free =
     front (constant_front constant.Count words) _ (λ n rest.
     end_fitting (no_more rest) (nat_le n (length s.arguments) && listed_in_turn listed.Sprintf (last_of n s.arguments)) m _ free)

@@ -1,11 +1,8 @@
 mod Counts
 mod SpecialNumbers
 mod Starts
-mod Reading
-mod Spare
 mod Taken
-mod Steps
-mod Rows
+pub mod Rows
 mod Outcomes
 mod Bounds
 mod LastOnes

@@ -19,7 +19,7 @@ use Rattle.sem_primitives.specs.FieldMeaning.{done}
 use Rattle.host_step.specs.HostState.{HostState}
 use Rattle.host_texts.specs.Evaluations.{settled}
 use Rattle.host_texts.specs.States.{holding}
-use Rattle.host_texts.specs.declared.reply.Reply.{Reply}
+use Rattle.host_values.specs.declared.reply.Reply.{Reply}
 use Rattle.host_texts.specs.declared.texts.Texts.{Texts}
 use Rattle.host_format.specs.Substitutions.{substitution}
 

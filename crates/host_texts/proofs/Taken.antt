@@ -4,8 +4,7 @@ use Rattle.std.specs.FinMap as map
 use Rattle.std.specs.Int.{w32}
 use Rattle.std.proofs.lemmas.Int.{to_z-of_z}
 use Rattle.wasm_store.specs.declared.trap.TrapKind.{TrapKind}
-use Rattle.host_values.specs.Evaluations.{Values}
-use Rattle.host_texts.specs.Evaluations.{Outcome}
+use Rattle.host_values.specs.Evaluations.{Outcome, Values}
 
 abbrev left : Values → Outcome → Result (Values × Outcome) TrapKind
 left m o = Ok (m, o)

@@ -9,13 +9,13 @@ use Rattle.wasm_store.specs.declared.word.Word.{Word}
 use Rattle.host_step.specs.Arguments.{no_more}
 use Rattle.host_step.specs.HostState.{HostState}
 use Rattle.host_step.specs.HostStep.{before_last_of, last_of, where_fit}
-use Rattle.host_values.specs.Evaluations.{Values}
+use Rattle.host_values.specs.Evaluations.{Evaluation, NoTrap, Values, constant_then, ends_then}
 use Rattle.host_values.specs.Singles.{with_arguments}
-use Rattle.host_values.specs.declared.reply.Refusal.{Refusal}
-use Rattle.host_values.specs.declared.reply.Refusal.TheVariants as refusal
-use Rattle.host_texts.specs.Evaluations.{Evaluation, NoTrap, constant_then, ends_then, replied}
-use Rattle.host_texts.specs.declared.reply.Reply.{Reply}
-use Rattle.host_texts.specs.declared.reply.Reply.TheVariants as reply
+use Rattle.host_step.specs.declared.refusal.Refusal.{Refusal}
+use Rattle.host_step.specs.declared.refusal.Refusal.TheVariants as refusal
+use Rattle.host_texts.specs.Evaluations.{replied}
+use Rattle.host_values.specs.declared.reply.Reply.{Reply}
+use Rattle.host_values.specs.declared.reply.Reply.TheVariants as reply
 
 abbrev pub formatting : Values → HostState → List Word → Evaluation
 formatting m s words =

@@ -6,8 +6,7 @@ use Rattle.awk_values.specs.declared.value.Value.{Value}
 use Rattle.wasm_store.specs.declared.trap.TrapKind.{TrapKind}
 use Rattle.wasm_store.specs.declared.word.Word.{Word}
 use Rattle.host_step.specs.Arguments.{no_more}
-use Rattle.host_values.specs.Evaluations.{Values}
-use Rattle.host_texts.specs.Evaluations.{Evaluation, ends_then, value_then}
+use Rattle.host_values.specs.Evaluations.{Evaluation, Values, ends_then, value_then}
 
 -- what the values give, and the map without them
 abbrev pub one_then : Values → List Word → (Value → Values → Evaluation) → Evaluation

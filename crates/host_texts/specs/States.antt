@@ -8,6 +8,7 @@ use Rattle.sem_primitives.specs.declared.constants.Special.{Special}
 use Rattle.host_step.specs.HostState.{HostState}
 use Rattle.host_fields.specs.Held.{Held}
 use Rattle.host_texts.specs.declared.texts.Texts.{Texts}
+use Rattle.host_values.specs.States.{with_inner}
 
 -- the special variables whose values these are
 abbrev pub specials_of : List Value → Special → Value
@@ -18,10 +19,7 @@ abbrev pub no_record : Held
 no_record = record { whole = Uninit; fields = [] }
 
 abbrev pub with_texts : Texts → Inner → Inner
-with_texts t inner = record inner { specials = specials_of t.specials.values; whole = t.held.whole; fields = t.held.fields; substituted = t.substituted }
-
-abbrev pub with_inner : Inner → HostState → HostState
-with_inner inner s = record s { shared = record s.shared { inner = inner } }
+with_texts t inner = record inner { specials = specials_of t.specials.values; whole = t.current_record.whole; fields = t.current_record.fields; substituted = t.substituted }
 
 -- a state with these special variables, this record and this text of a substitution
 abbrev pub holding : Texts → HostState → HostState

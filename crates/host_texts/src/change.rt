@@ -6,19 +6,20 @@ ghost use Rattle.sem_primitives.specs.TextMeaning.{match_length, match_row, matc
 ghost use Rattle.sem_primitives.specs.Texts.{counted};
 ghost use Rattle.host_step.specs.HostState.{HostState};
 ghost use Rattle.host_format.specs.Outcomes.{IsStopOf};
-ghost use Rattle.host_texts.specs.Evaluations.{Evaluates, evaluation, number_reply, settled};
+ghost use Rattle.host_texts.specs.Evaluations.{match_evaluation, number_reply, settled, sub_evaluation, sub_result_evaluation};
+ghost use Rattle.host_values.specs.Evaluations.{Evaluates};
 ghost use Rattle.host_texts.specs.States.{holding, with_texts};
-ghost use Rattle.host_texts.specs.declared.primitive.TextPrimitive.{TextPrimitive};
 
 use crate::expressions::{first, matcher};
-use crate::reply::{Evaluated, Reply, counted};
-use crate::spent::Spent;
+use crate::numbers::counted;
+use crate::text_words::{flag_front, two_values, value_third};
 use crate::texts::Texts;
-use crate::words::{flag_front, two_values, value_third};
 use awk_values::{Fault, Stop, Value};
 use host_format::Expressions;
 use host_handles::Handles;
-use host_values::{Refusal, ends, value_after, value_front, value_text};
+use host_values::{
+    Evaluated, Refusal, Reply, Spent, expect_end, value_after, value_front, value_text,
+};
 use sem_primitives::Special;
 use std::alloc::{AllocError, Global};
 use wasm_store::{TrapKind, Word};
@@ -108,14 +109,19 @@ fn match_outcome(
     }
 }
 
-pub(crate) fn match_at(
+/// Where an expression matches a text first; it sets RSTART and RLENGTH.
+///
+/// # Errors
+///
+/// A trap, or want of memory.
+pub fn match_at(
     alloc: Global,
     handles: &Handles,
     texts: &mut Texts,
     words: &[Word],
 ) -> Result<Evaluated, Refusal>
     ensures { (s : HostState) → Evaluates handles.now (holding texts.old s) result (holding
-        texts.new s) (evaluation TextPrimitive.Match handles.now (holding texts.old s) words.now) }
+        texts.new s) (match_evaluation handles.now (holding texts.old s) words.now) }
 {
     let (first, value, second, ere) = two_values(handles, words)?;
     Ok(Evaluated {
@@ -171,36 +177,46 @@ fn sub_outcome(
     }
 }
 
-pub(crate) fn sub(
+/// A substitution: how many matches were replaced. The new text is kept.
+///
+/// # Errors
+///
+/// A trap, or want of memory.
+pub fn sub(
     alloc: Global,
     handles: &Handles,
     texts: &mut Texts,
     words: &[Word],
 ) -> Result<Evaluated, Refusal>
     ensures { (s : HostState) → Evaluates handles.now (holding texts.old s) result (holding
-        texts.new s) (evaluation TextPrimitive.Sub handles.now (holding texts.old s) words.now) }
+        texts.new s) (sub_evaluation handles.now (holding texts.old s) words.now) }
 {
     let (first, ere, behind_ere) = value_front(handles, words)?;
     let (second, by, behind_by) = value_after(handles, first, behind_ere)?;
     let (third, target, behind) = value_third(handles, first, second, behind_by)?;
     let (all, rest) = flag_front(behind)?;
-    ends(rest)?;
+    expect_end(rest)?;
     Ok(Evaluated {
         spent: Spent::Three(first, second, third),
         outcome: sub_outcome(alloc, texts, ere, by, target, all)?,
     })
 }
 
-pub(crate) fn sub_result(
+/// The text of the last substitution, once.
+///
+/// # Errors
+///
+/// A trap.
+pub fn sub_result(
     handles: &Handles,
     texts: &mut Texts,
     words: &[Word],
 ) -> Result<Evaluated, Refusal>
     ensures { (s : HostState)
         → Evaluates handles.now (holding texts.old s) result (holding texts.new s)
-        (evaluation TextPrimitive.SubResult handles.now (holding texts.old s) words.now) }
+        (sub_result_evaluation handles.now (holding texts.old s) words.now) }
 {
-    ends(words)?;
+    expect_end(words)?;
     match texts.substituted.take() {
         Some(value) => Ok(Evaluated {
             spent: Spent::Nothing,

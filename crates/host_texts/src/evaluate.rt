@@ -1,32 +1,31 @@
-//! Primitives on texts that change nothing but handles.
+//! Imports on texts that change nothing but handles.
 ghost use Rattle.std.specs.Prelude.{◌≡◌, IfOk};
 ghost use Rattle.awk_values.specs.Values.{text_of_value};
 ghost use Rattle.host_step.specs.HostState.{HostState};
 ghost use Rattle.host_format.specs.Parts.{part};
-ghost use Rattle.host_texts.specs.Evaluations.{Evaluates, evaluation};
-ghost use Rattle.host_texts.specs.States.{holding};
-ghost use Rattle.host_texts.specs.declared.primitive.TextPrimitive.{TextPrimitive};
+ghost use Rattle.host_texts.specs.Evaluations.{index_evaluation, length_evaluation, lower_evaluation, substr_evaluation, substr_from_evaluation, upper_evaluation};
+ghost use Rattle.host_values.specs.Evaluations.{Evaluates};
 
-use crate::change::{match_at, sub, sub_result};
-use crate::expressions::matches;
-use crate::join::join;
-use crate::primitive::TextPrimitive;
-use crate::record::{field, get_special, set_field, set_special};
-use crate::reply::{Evaluated, Reply, counted};
-use crate::spent::Spent;
-use crate::texts::Texts;
-use crate::words::{one_value, two_values};
+use crate::numbers::counted;
+use crate::text_words::{one_value, two_values};
 use awk_values::{Bytes, Value};
 use host_format::{index_of, lower, substr, substr_span, upper};
 use host_handles::Handles;
-use host_values::{Refusal, ends, number_front, text_len, value_front, value_text};
+use host_values::{
+    Evaluated, Refusal, Reply, Spent, expect_end, number_front, text_len, value_front, value_text,
+};
 use std::alloc::{AllocError, Global};
 use wasm_store::Word;
 
+/// The length of a value's text.
+///
+/// # Errors
+///
+/// A trap.
 #[inline(always)]
-fn length(handles: &Handles, words: &[Word]) -> Result<Evaluated, Refusal>
+pub fn length(handles: &Handles, words: &[Word]) -> Result<Evaluated, Refusal>
     ensures { (s : HostState) → Evaluates handles.now s result s
-        (evaluation TextPrimitive.Length handles.now s words.now) }
+        (length_evaluation handles.now s words.now) }
 {
     let (handle, value) = one_value(handles, words)?;
     Ok(Evaluated {
@@ -35,9 +34,14 @@ fn length(handles: &Handles, words: &[Word]) -> Result<Evaluated, Refusal>
     })
 }
 
-fn index(alloc: Global, handles: &Handles, words: &[Word]) -> Result<Evaluated, Refusal>
+/// Where a text stands in another first.
+///
+/// # Errors
+///
+/// A trap, or want of memory.
+pub fn index(alloc: Global, handles: &Handles, words: &[Word]) -> Result<Evaluated, Refusal>
     ensures { (s : HostState) → Evaluates handles.now s result s
-        (evaluation TextPrimitive.Index handles.now s words.now) }
+        (index_evaluation handles.now s words.now) }
 {
     let (first, value, second, wanted) = two_values(handles, words)?;
     let text = value_text(alloc, value)?;
@@ -48,9 +52,14 @@ fn index(alloc: Global, handles: &Handles, words: &[Word]) -> Result<Evaluated, 
     })
 }
 
-fn lower_case(alloc: Global, handles: &Handles, words: &[Word]) -> Result<Evaluated, Refusal>
+/// A text in lower case.
+///
+/// # Errors
+///
+/// A trap, or want of memory.
+pub fn lower_case(alloc: Global, handles: &Handles, words: &[Word]) -> Result<Evaluated, Refusal>
     ensures { (s : HostState) → Evaluates handles.now s result s
-        (evaluation TextPrimitive.Lower handles.now s words.now) }
+        (lower_evaluation handles.now s words.now) }
 {
     let (handle, value) = one_value(handles, words)?;
     let text = value_text(alloc, value)?;
@@ -63,9 +72,14 @@ fn lower_case(alloc: Global, handles: &Handles, words: &[Word]) -> Result<Evalua
     }
 }
 
-fn upper_case(alloc: Global, handles: &Handles, words: &[Word]) -> Result<Evaluated, Refusal>
+/// A text in upper case.
+///
+/// # Errors
+///
+/// A trap, or want of memory.
+pub fn upper_case(alloc: Global, handles: &Handles, words: &[Word]) -> Result<Evaluated, Refusal>
     ensures { (s : HostState) → Evaluates handles.now s result s
-        (evaluation TextPrimitive.Upper handles.now s words.now) }
+        (upper_evaluation handles.now s words.now) }
 {
     let (handle, value) = one_value(handles, words)?;
     let text = value_text(alloc, value)?;
@@ -108,60 +122,39 @@ fn part(alloc: Global, value: &Value, from: i64, count: Option<i64>) -> Result<V
     }
 }
 
-fn substr_of(alloc: Global, handles: &Handles, words: &[Word]) -> Result<Evaluated, Refusal>
+/// A part of a text, of so many bytes.
+///
+/// # Errors
+///
+/// A trap, or want of memory.
+pub fn substr_of(alloc: Global, handles: &Handles, words: &[Word]) -> Result<Evaluated, Refusal>
     ensures { (s : HostState) → Evaluates handles.now s result s
-        (evaluation TextPrimitive.Substr handles.now s words.now) }
+        (substr_evaluation handles.now s words.now) }
 {
     let (handle, value, behind) = value_front(handles, words)?;
     let (from, behind_from) = number_front(behind)?;
     let (count, rest) = number_front(behind_from)?;
-    ends(rest)?;
+    expect_end(rest)?;
     Ok(Evaluated {
         spent: Spent::One(handle),
         outcome: Ok(Reply::Value(part(alloc, value, from, Some(count))?)),
     })
 }
 
-fn substr_from(alloc: Global, handles: &Handles, words: &[Word]) -> Result<Evaluated, Refusal>
+/// The rest of a text.
+///
+/// # Errors
+///
+/// A trap, or want of memory.
+pub fn substr_from(alloc: Global, handles: &Handles, words: &[Word]) -> Result<Evaluated, Refusal>
     ensures { (s : HostState) → Evaluates handles.now s result s
-        (evaluation TextPrimitive.SubstrFrom handles.now s words.now) }
+        (substr_from_evaluation handles.now s words.now) }
 {
     let (handle, value, behind) = value_front(handles, words)?;
     let (from, rest) = number_front(behind)?;
-    ends(rest)?;
+    expect_end(rest)?;
     Ok(Evaluated {
         spent: Spent::One(handle),
         outcome: Ok(Reply::Value(part(alloc, value, from, None)?)),
     })
-}
-
-/// What a primitive answers to words, and does to the texts.
-#[inline(always)]
-pub(crate) fn evaluate(
-    alloc: Global,
-    primitive: TextPrimitive,
-    handles: &Handles,
-    texts: &mut Texts,
-    words: &[Word],
-) -> Result<Evaluated, Refusal>
-    ensures { (s : HostState) → Evaluates handles.now (holding texts.old s) result
-        (holding texts.new s) (evaluation primitive handles.now (holding texts.old s) words.now) }
-{
-    match primitive {
-        TextPrimitive::GetSpecial => get_special(handles, texts, words),
-        TextPrimitive::SetSpecial => set_special(alloc, handles, texts, words),
-        TextPrimitive::Field => field(handles, texts, words),
-        TextPrimitive::SetField => set_field(alloc, handles, texts, words),
-        TextPrimitive::Length => length(handles, words),
-        TextPrimitive::Matches => matches(alloc, handles, &mut texts.expressions, words),
-        TextPrimitive::Match => match_at(alloc, handles, texts, words),
-        TextPrimitive::Sub => sub(alloc, handles, texts, words),
-        TextPrimitive::SubResult => sub_result(handles, texts, words),
-        TextPrimitive::Substr => substr_of(alloc, handles, words),
-        TextPrimitive::SubstrFrom => substr_from(alloc, handles, words),
-        TextPrimitive::Index => index(alloc, handles, words),
-        TextPrimitive::Lower => lower_case(alloc, handles, words),
-        TextPrimitive::Upper => upper_case(alloc, handles, words),
-        TextPrimitive::Join => join(alloc, handles, texts, words),
-    }
 }

@@ -7,16 +7,14 @@ ghost use Rattle.sem_primitives.specs.FirstMatch.{expression_of, first_match};
 ghost use Rattle.sem_primitives.specs.TextMeaning.{matches_row};
 ghost use Rattle.host_step.specs.HostState.{HostState};
 ghost use Rattle.host_format.specs.Outcomes.{IsStopOf};
-ghost use Rattle.host_texts.specs.Evaluations.{Evaluates, evaluation, replied};
-ghost use Rattle.host_texts.specs.declared.primitive.TextPrimitive.{TextPrimitive};
+ghost use Rattle.host_texts.specs.Evaluations.{matches_evaluation, replied};
+ghost use Rattle.host_values.specs.Evaluations.{Evaluates};
 
-use crate::reply::{Evaluated, Reply};
-use crate::spent::Spent;
-use crate::words::two_values;
+use crate::text_words::two_values;
 use awk_values::{Fault, Stop, Value};
 use host_format::{Expressions, Matcher};
 use host_handles::Handles;
-use host_values::{Refusal, value_text};
+use host_values::{Evaluated, Refusal, Reply, Spent, value_text};
 use std::alloc::{AllocError, Global};
 use wasm_store::Word;
 
@@ -81,15 +79,20 @@ fn truth_outcome(
     }
 }
 
+/// Whether an expression matches somewhere in a text.
+///
+/// # Errors
+///
+/// A trap, or want of memory.
 #[inline(always)]
-pub(crate) fn matches(
+pub fn matches(
     alloc: Global,
     handles: &Handles,
     expressions: &mut Expressions,
     words: &[Word],
 ) -> Result<Evaluated, Refusal>
     ensures { (s : HostState) → Evaluates handles.now s result s
-        (evaluation TextPrimitive.Matches handles.now s words.now) }
+        (matches_evaluation handles.now s words.now) }
 {
     let (first, value, second, ere) = two_values(handles, words)?;
     Ok(Evaluated {

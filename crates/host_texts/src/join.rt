@@ -5,17 +5,15 @@ ghost use Rattle.sem_primitives.specs.ValueMeaning.{within_limit};
 ghost use Rattle.sem_primitives.specs.declared.constants.Special.{Special as AnySpecial};
 ghost use Rattle.awk_values.specs.Values.{text_of_value};
 ghost use Rattle.host_step.specs.HostState.{HostState};
-ghost use Rattle.host_texts.specs.Evaluations.{Evaluates, evaluation, replied};
+ghost use Rattle.host_texts.specs.Evaluations.{join_evaluation, replied};
+ghost use Rattle.host_values.specs.Evaluations.{Evaluates};
 ghost use Rattle.host_texts.specs.States.{holding, specials_of};
-ghost use Rattle.host_texts.specs.declared.primitive.TextPrimitive.{TextPrimitive};
 
-use crate::reply::{Evaluated, Reply};
-use crate::spent::Spent;
+use crate::text_words::two_values;
 use crate::texts::Texts;
-use crate::words::two_values;
 use awk_values::{Bytes, Fault, Value};
 use host_handles::Handles;
-use host_values::{Refusal, push_text, text_len};
+use host_values::{Evaluated, Refusal, Reply, Spent, push_text, text_len};
 use sem_primitives::{MAX_TEXT, Special};
 use std::alloc::{AllocError, Global};
 use wasm_store::Word;
@@ -60,14 +58,19 @@ fn join_outcome(
     Ok(Ok(Reply::Value(Value::Text(joined(alloc, left, between, right)?))))
 }
 
-pub(crate) fn join(
+/// A key of two texts, with SUBSEP between them.
+///
+/// # Errors
+///
+/// A trap, or want of memory.
+pub fn join_texts(
     alloc: Global,
     handles: &Handles,
     texts: &Texts,
     words: &[Word],
 ) -> Result<Evaluated, Refusal>
     ensures { (s : HostState) → Evaluates handles.now (holding texts.now s) result (holding
-        texts.now s) (evaluation TextPrimitive.Join handles.now (holding texts.now s) words.now) }
+        texts.now s) (join_evaluation handles.now (holding texts.now s) words.now) }
 {
     let (first, left, second, right) = two_values(handles, words)?;
     Ok(Evaluated {

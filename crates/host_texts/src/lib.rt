@@ -2,25 +2,24 @@
 //! handles, and gives an answer, a fault or a trap.
 #![tactic(auto)]
 
-mod calls;
 mod change;
 mod evaluate;
 mod expressions;
 mod join;
 mod listed;
-mod primitive;
+mod numbers;
 mod record;
-mod reply;
 mod specials;
-mod spent;
+mod text_words;
 mod texts;
-mod words;
 
-pub use calls::call;
+pub use change::{match_at, sub, sub_result};
+pub use evaluate::{index, length, lower_case, substr_from, substr_of, upper_case};
+pub use expressions::matches;
+pub use join::join_texts;
 pub use listed::sprintf;
-pub use primitive::TextPrimitive;
-pub use record::{put_record, put_special};
-pub use reply::counted;
+pub use numbers::counted;
+pub use record::{field, get_special, put_record, put_special, set_field, set_special};
 pub use specials::Specials;
+pub use text_words::flag_front;
 pub use texts::Texts;
-pub use words::flag_front;

@@ -9,21 +9,19 @@ ghost use Rattle.host_step.specs.Arguments.{constant_front};
 ghost use Rattle.host_step.specs.HostState.{HostState};
 ghost use Rattle.host_step.specs.HostStep.{last_of};
 ghost use Rattle.host_imports.specs.declared.import.Import.{Import};
-ghost use Rattle.host_imports.specs.declared.import.Listing.{Listing};
+ghost use Rattle.host_imports.specs.declared.import.VariadicImport.{VariadicImport};
 ghost use Rattle.host_format.specs.Outcomes.{IsStopOf};
-ghost use Rattle.host_values.specs.Calls.{spare};
+ghost use Rattle.host_values.specs.Calls.{reserved_handle, with_values};
 ghost use Rattle.host_values.specs.Evaluations.{Values};
 ghost use Rattle.host_values.specs.Fronts.{owned};
 ghost use Rattle.host_values.specs.Singles.{with_arguments};
-ghost use Rattle.host_texts.specs.Calls.{IsStep};
+ghost use Rattle.host_step.specs.Outcomes.{IsCall};
 ghost use Rattle.host_texts.specs.LastFormatted.{Formats, formatting};
 
-use crate::calls::give;
-use crate::reply::Reply;
 use awk_values::{Fault, Stop, Value};
 use host_format::format;
 use host_handles::Handles;
-use host_values::{Refusal, ends, value_text};
+use host_values::{Refusal, Reply, expect_end, give, value_text};
 use smallvec::SmallVec;
 use std::alloc::Global;
 use wasm_store::{TrapKind, Word};
@@ -74,7 +72,7 @@ fn formatting(
     ensures within { IfOk result (λ x. x.0 ≤ length arguments.now) }
 {
     let (count, rest) = count_front(words)?;
-    ends(rest)?;
+    expect_end(rest)?;
     if !suffices(arguments, count) {
         return Err(Refusal::Trap(TrapKind::BadArgument));
     }
@@ -97,11 +95,12 @@ pub fn sprintf(
     arguments: &mut SmallVec<Value, 8>,
     words: &[Word],
 ) -> Result<Option<Word>, Refusal>
-    requires { map.get handles.old spare ≡ None }
+    requires { map.get handles.old reserved_handle ≡ None }
     ensures step { (s : HostState) (memory : List ℕ) → s.fault ≡ None
-        → IsStep (Import.Over Listing.Sprintf) words.now memory handles.old (with_arguments
-        arguments.old.items s) result handles.new (with_arguments arguments.new.items s) }
-    ensures spare { map.get handles.new spare ≡ None }
+        → IsCall (Import.Variadic VariadicImport.Sprintf) (with_values handles.old (with_arguments
+        arguments.old.items s)) words.now memory result (with_values handles.new (with_arguments
+        arguments.new.items s)) }
+    ensures spare { map.get handles.new reserved_handle ≡ None }
 {
     let (count, outcome) = match formatting(alloc, arguments.as_slice(), words) {
         Ok(evaluated) => evaluated,

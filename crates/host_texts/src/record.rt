@@ -6,17 +6,18 @@ ghost use Rattle.sem_primitives.specs.SharedState.{Inner, special_of};
 ghost use Rattle.host_step.specs.HostState.{HostState};
 ghost use Rattle.host_format.specs.Outcomes.{IsStopOf};
 ghost use Rattle.host_fields.specs.Calls.{count_set, field_read, field_set};
-ghost use Rattle.host_texts.specs.Evaluations.{Evaluates, done_reply, evaluation, replied, settled};
+ghost use Rattle.host_texts.specs.Evaluations.{done_reply, field_evaluation, get_special_evaluation, replied, set_field_evaluation, set_special_evaluation, settled};
+ghost use Rattle.host_values.specs.Evaluations.{Evaluates};
 ghost use Rattle.host_texts.specs.States.{holding, with_texts};
-ghost use Rattle.host_texts.specs.declared.primitive.TextPrimitive.{TextPrimitive};
 
-use crate::reply::{Evaluated, Reply};
-use crate::spent::Spent;
+use crate::text_words::special_front;
 use crate::texts::Texts;
-use crate::words::special_front;
 use awk_values::{Bytes, Fault, Stop, Value, to_number};
 use host_handles::Handles;
-use host_values::{Refusal, ends, number_front, shared_text, value_front, value_text};
+use host_values::{
+    Evaluated, Refusal, Reply, Spent, expect_end, number_front, shared_text, value_front,
+    value_text,
+};
 use sem_primitives::Special;
 use std::alloc::{AllocError, Global};
 use wasm_store::Word;
@@ -31,24 +32,29 @@ fn special_value(texts: &mut Texts, special: Special) -> Result<Value, AllocErro
     if special != Special::Nf {
         return texts.specials.get(special).clone();
     }
-    match i64::try_from(texts.held.count()) {
+    match i64::try_from(texts.current_record.count()) {
         Ok(count) => Ok(Value::Num(count)),
         Err(_) => Err(AllocError),
     }
 }
 
+/// The value of a special variable.
+///
+/// # Errors
+///
+/// A trap, or want of memory.
 #[inline(always)]
-pub(crate) fn get_special(
+pub fn get_special(
     handles: &Handles,
     texts: &mut Texts,
     words: &[Word],
 ) -> Result<Evaluated, Refusal>
     ensures { (s : HostState)
         → Evaluates handles.now (holding texts.old s) result (holding texts.new s)
-        (evaluation TextPrimitive.GetSpecial handles.now (holding texts.old s) words.now) }
+        (get_special_evaluation handles.now (holding texts.old s) words.now) }
 {
     let (special, rest) = special_front(words)?;
-    ends(rest)?;
+    expect_end(rest)?;
     Ok(Evaluated {
         spent: Spent::Nothing,
         outcome: Ok(Reply::Value(special_value(texts, special)?)),
@@ -64,7 +70,7 @@ fn set_count(alloc: Global, texts: &mut Texts, count: i64) -> Result<(), Stop>
     ensures refused { OnErr result (texts.new ≡ texts.old) }
 {
     let ofs = value_text(alloc, texts.specials.get(Special::Ofs))?;
-    let set = texts.held.set_count(count, ofs.as_slice());
+    let set = texts.current_record.set_count(count, ofs.as_slice());
     drop(ofs);
     set
 }
@@ -112,7 +118,12 @@ fn special_outcome(
     }
 }
 
-pub(crate) fn set_special(
+/// A special variable gets a value; NF cuts or extends the fields.
+///
+/// # Errors
+///
+/// A trap, or want of memory.
+pub fn set_special(
     alloc: Global,
     handles: &Handles,
     texts: &mut Texts,
@@ -120,11 +131,11 @@ pub(crate) fn set_special(
 ) -> Result<Evaluated, Refusal>
     ensures { (s : HostState)
         → Evaluates handles.now (holding texts.old s) result (holding texts.new s)
-        (evaluation TextPrimitive.SetSpecial handles.now (holding texts.old s) words.now) }
+        (set_special_evaluation handles.now (holding texts.old s) words.now) }
 {
     let (special, behind) = special_front(words)?;
     let (handle, value, rest) = value_front(handles, behind)?;
-    ends(rest)?;
+    expect_end(rest)?;
     Ok(Evaluated {
         spent: Spent::One(handle),
         outcome: special_outcome(alloc, texts, special, value)?,
@@ -140,32 +151,42 @@ fn copied(value: &Value) -> Result<Value, AllocError>
 
 /// What reading a field comes to.
 #[inline(always)]
-fn read_outcome(texts: &mut Texts, number: i64) -> Result<Result<Reply, Fault>, AllocError>
+fn read_outcome(
+    alloc: Global,
+    texts: &mut Texts,
+    number: i64,
+) -> Result<Result<Reply, Fault>, AllocError>
     ensures outcome { IfOk result (λ outcome. (inner : Inner)
         → replied Reply.Value (field_read number (with_texts texts.old inner)) ≡ outcome) }
     ensures same { texts.new ≡ texts.old }
 {
-    match texts.held.field(number) {
-        Ok(value) => Ok(Ok(Reply::Value(value))),
-        Err(Stop::Fault(fault)) => Ok(Err(fault)),
-        Err(Stop::NoMemory) => Err(AllocError),
+    texts.current_record.prepare(number);
+    match texts.current_record.field(number) {
+        Ok(view) => Ok(Ok(Reply::Value(view.value(alloc)?))),
+        Err(fault) => Ok(Err(fault)),
     }
 }
 
+/// The value of a field, or of `$0`.
+///
+/// # Errors
+///
+/// A trap, or want of memory.
 #[inline(always)]
-pub(crate) fn field(
+pub fn field(
+    alloc: Global,
     handles: &Handles,
     texts: &mut Texts,
     words: &[Word],
 ) -> Result<Evaluated, Refusal>
     ensures { (s : HostState) → Evaluates handles.now (holding texts.old s) result (holding
-        texts.new s) (evaluation TextPrimitive.Field handles.now (holding texts.old s) words.now) }
+        texts.new s) (field_evaluation handles.now (holding texts.old s) words.now) }
 {
     let (number, rest) = number_front(words)?;
-    ends(rest)?;
+    expect_end(rest)?;
     Ok(Evaluated {
         spent: Spent::Nothing,
-        outcome: read_outcome(texts, number)?,
+        outcome: read_outcome(alloc, texts, number)?,
     })
 }
 
@@ -200,7 +221,9 @@ pub fn put_record(alloc: Global, texts: &mut Texts, text: Bytes) -> Result<(), S
     let Some(rs) = lent_text(texts.specials.get(Special::Rs)) else {
         return put_record_by_made(alloc, texts, text);
     };
-    texts.held.set_whole(text, fs.as_slice(), rs.as_slice())
+    texts
+        .current_record
+        .set_whole(text, fs.as_slice(), rs.as_slice())
 }
 
 /// The same, where FS or RS has to be made a text first. It stands apart, so that the way of most records is short.
@@ -215,7 +238,9 @@ fn put_record_by_made(alloc: Global, texts: &mut Texts, text: Bytes) -> Result<(
 {
     let fs = value_text(alloc, texts.specials.get(Special::Fs))?;
     let rs = value_text(alloc, texts.specials.get(Special::Rs))?;
-    let set = texts.held.set_whole(text, fs.as_slice(), rs.as_slice());
+    let set = texts
+        .current_record
+        .set_whole(text, fs.as_slice(), rs.as_slice());
     drop(fs);
     drop(rs);
     set
@@ -243,7 +268,9 @@ fn put_field(alloc: Global, texts: &mut Texts, number: i64, value: &Value) -> Re
     ensures refused { OnErr result (texts.new ≡ texts.old) }
 {
     let ofs = value_text(alloc, texts.specials.get(Special::Ofs))?;
-    let set = texts.held.set_field(number, copied(value)?, ofs.as_slice());
+    let set = texts
+        .current_record
+        .set_field(number, copied(value)?, ofs.as_slice());
     drop(ofs);
     set
 }
@@ -280,8 +307,13 @@ fn field_outcome(
     }
 }
 
+/// A field, or `$0`, gets a value.
+///
+/// # Errors
+///
+/// A trap, or want of memory.
 #[inline(always)]
-pub(crate) fn set_field(
+pub fn set_field(
     alloc: Global,
     handles: &Handles,
     texts: &mut Texts,
@@ -289,11 +321,11 @@ pub(crate) fn set_field(
 ) -> Result<Evaluated, Refusal>
     ensures { (s : HostState)
         → Evaluates handles.now (holding texts.old s) result (holding texts.new s)
-        (evaluation TextPrimitive.SetField handles.now (holding texts.old s) words.now) }
+        (set_field_evaluation handles.now (holding texts.old s) words.now) }
 {
     let (number, behind) = number_front(words)?;
     let (handle, value, rest) = value_front(handles, behind)?;
-    ends(rest)?;
+    expect_end(rest)?;
     Ok(Evaluated {
         spent: Spent::One(handle),
         outcome: field_outcome(alloc, texts, number, value)?,

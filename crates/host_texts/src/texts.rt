@@ -15,7 +15,7 @@ use std::alloc::{AllocError, Global};
 pub struct Texts {
     pub specials: Specials,
     /// `$0` and the fields.
-    pub held: Record,
+    pub current_record: Record,
     /// What a substitution made, until it is given.
     pub substituted: Option<Value>,
     /// The expressions that were met last.
@@ -31,12 +31,12 @@ impl Texts {
     pub fn at_start(alloc: Global, operands: u32) -> Result<Texts, AllocError>
         ensures specials { IfOk result (λ texts. (t : AnySpecial)
             → specials_of texts.specials.values t ≡ specials_at_start operands t) }
-        ensures fields { IfOk result (λ texts. texts.held ≡ no_record) }
+        ensures fields { IfOk result (λ texts. texts.current_record ≡ no_record) }
         ensures substituted { IfOk result (λ texts. texts.substituted ≡ None) }
     {
         Ok(Texts {
             specials: Specials::at_start(alloc, operands)?,
-            held: Record::new(alloc),
+            current_record: Record::new(alloc),
             substituted: None,
             expressions: Expressions::new(alloc)?,
         })

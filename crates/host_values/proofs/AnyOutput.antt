@@ -8,7 +8,7 @@ use Rattle.sem_primitives.specs.Finds.{seen}
 use Rattle.sem_primitives.specs.InputMeaning.{getline_file_row, getline_line_file_row, getline_line_row, getline_row, next_main_row, start_assign_row}
 use Rattle.sem_primitives.specs.OutputMeaning.{file_name, formatted_values, has_room, is_writing, opened_if, operands_of, printed, printf_by, put_text, written_by}
 use Rattle.sem_primitives.specs.TextMeaning.{match_row, split_row, substitute_row}
-use Rattle.sem_primitives.specs.SharedState.{Does, Inner, Shared, settles}
+use Rattle.sem_primitives.specs.SharedState.{HostResult, Inner, Shared, settles}
 use Rattle.sem_primitives.specs.Sorts.{InAnswer, OrFault, Row}
 use Rattle.sem_primitives.specs.Table.{answer_of, arguments_of, can_fault, listed_answer, listed_meaning, meaning}
 use Rattle.sem_primitives.specs.declared.constants.Destination.{Destination}
@@ -28,8 +28,8 @@ use Rattle.host_step.specs.HostStep.{Acts, Comes, Goes, Refuses, Settles, StepBy
 use Rattle.host_imports.specs.Imports.{import_answer, import_arguments, spends}
 use Rattle.host_step.specs.Worlds.{with_output}
 use Rattle.host_imports.specs.declared.import.Import.{Import}
-use Rattle.host_imports.specs.declared.import.Import.TheVariants.{Of, Over, Arg, Drop, IterFree, FreeArray}
-use Rattle.host_imports.specs.declared.import.Listing.TheVariants.{Sprintf, Print, Printf}
+use Rattle.host_imports.specs.declared.import.Import.TheVariants.{OfPrimitive, Variadic, Arg, Drop, IterFree, FreeArray}
+use Rattle.host_imports.specs.declared.import.VariadicImport.TheVariants.{Sprintf, Print, Printf}
 
 abbrev shared_with : List Action → Shared → Shared
 shared_with o state = record state { output = o }
@@ -173,16 +173,16 @@ listed_same o (listed.Printf to) values state = printf_same o (formatted_values 
 
 listing_same : (o : List Action) (l : Listed) (n : ℕ) (s : HostState) → listed_acts l n (with_output o s) ≡ listed_acts l n s
 listing_same o l n s =
-    ap (λ (d : Does (Result (InAnswer (listed_answer l)) Fault)). where_fit (nat_le n (length s.arguments) && listed_in_turn l (last_of n s.arguments))
+    ap (λ (d : HostResult (Result (InAnswer (listed_answer l)) Fault)). where_fit (nat_le n (length s.arguments) && listed_in_turn l (last_of n s.arguments))
     (record { does = d; arguments = before_last_of n s.arguments })) (listed_same o l (last_of n s.arguments) s.shared)
 
 -- what an import does
 acts_same : (o : List Action) (i : Import) (row : Row (import_arguments i)) (s : HostState) → acts i row (with_output o s) ≡ acts i row s
-acts_same o (Of p) row s = ap₂ (λ (b : Bool) (d : Does (OrFault (can_fault p) (InAnswer (answer_of p)))). where_fit b (primitive_acts s.arguments (can_fault p) d))
+acts_same o (OfPrimitive p) row s = ap₂ (λ (b : Bool) (d : HostResult (OrFault (can_fault p) (InAnswer (answer_of p)))). where_fit b (primitive_acts s.arguments (can_fault p) d))
     (turn_same o p row s.shared) (meaning_same o p row s.shared)
-acts_same o (Over Sprintf) row s = listing_same o listed.Sprintf (values_taken listed.Sprintf row.0) s
-acts_same o (Over Print) row s = listing_same o (listed.Print row.1.0) (values_taken (listed.Print row.1.0) row.0) s
-acts_same o (Over Printf) row s = listing_same o (listed.Printf row.1.0) (values_taken (listed.Printf row.1.0) row.0) s
+acts_same o (Variadic Sprintf) row s = listing_same o listed.Sprintf (values_taken listed.Sprintf row.0) s
+acts_same o (Variadic Print) row s = listing_same o (listed.Print row.1.0) (values_taken (listed.Print row.1.0) row.0) s
+acts_same o (Variadic Printf) row s = listing_same o (listed.Printf row.1.0) (values_taken (listed.Printf row.1.0) row.0) s
 acts_same o Arg row s = refl
 acts_same o Drop row s = refl
 acts_same o IterFree row s = refl

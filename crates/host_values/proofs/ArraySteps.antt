@@ -24,10 +24,10 @@ use Rattle.host_step.specs.HostStep.{Acts, acts, carried}
 use Rattle.host_imports.specs.Imports.{import_answer, import_arguments, spends}
 use Rattle.host_step.specs.Tables.{Table}
 use Rattle.host_imports.specs.declared.import.Import.{Import}
-use Rattle.host_imports.specs.declared.import.Import.TheVariants.{Of}
+use Rattle.host_imports.specs.declared.import.Import.TheVariants.{OfPrimitive}
 use Rattle.host_values.specs.Calls.{names_with}
 use Rattle.host_values.specs.Evaluations.{Values}
-use Rattle.host_values.specs.declared.reply.Refusal.TheVariants as why
+use Rattle.host_step.specs.declared.refusal.Refusal.TheVariants as why
 use Rattle.host_values.proofs.Entries.{entries_insert, look_entries}
 use Rattle.host_arrays.specs.Pairs.{created, delete_pair, get_pair, pairs_at, pairs_or_none, set_pair, value_or_uninit}
 use Rattle.host_values.specs.ElementCalls.{IsTableCall, with_arrays}
@@ -70,7 +70,7 @@ no_word [] e = refl
 no_word (w ∷ rest) e = cc
 
 pub new_goes : (f : HostForm) (p : Past) (words : List Word) (memory : List ℕ) (q : ℕ) → f.fault ≡ None → no_more words ≡ Ok tt → q < 2 ^ 31 → map.get f.arrays (pos q) ≡ None
-    → IsPast f p → GoesOn (Of row.NewArray) f p words memory (told.Done (Some (I32 q))) (with_arrays f.values (map.insert f.arrays (pos q) []) f)
+    → IsPast f p → GoesOn (OfPrimitive row.NewArray) f p words memory (told.Done (Some (I32 q))) (with_arrays f.values (map.insert f.arrays (pos q) []) f)
 new_goes f p words memory q none ends below free past =
     let place = no_place f.arrays p.array_places p.arrays (pos q) past.arrays free in
     let now : Past = record p { array_places = map.insert p.array_places (pos q) (length p.arrays); arrays = p.arrays ++ [] ∷ [] } in
@@ -84,8 +84,8 @@ new_goes f p words memory q none ends below free past =
           environ = kept p.array_places (pos q) (pos 1) (length p.arrays) 1 place past.first.environ;
         };
       };
-      step = goes (Of row.NewArray) f p (state_of (with_arrays f.values (map.insert f.arrays (pos q) []) f) now) words memory (state_of f p).names (inner_of f.shared.inner now.arrays p.iterators) (length p.arrays) q (Some (I32 q)) (unrefused (Of row.NewArray) f.fault none)
-          (ap (λ ws. carried (Of row.NewArray) ws memory (state_of f p)) (no_word words ends))
+      step = goes (OfPrimitive row.NewArray) f p (state_of (with_arrays f.values (map.insert f.arrays (pos q) []) f) now) words memory (state_of f p).names (inner_of f.shared.inner now.arrays p.iterators) (length p.arrays) q (Some (I32 q)) (unrefused (OfPrimitive row.NewArray) f.fault none)
+          (ap (λ ws. carried (OfPrimitive row.NewArray) ws memory (state_of f p)) (no_word words ends))
           (record { below = below; free = look_entries p.array_places (pos q) ∙ place }) refl
           (ap (λ (t : Table ℕ). state_with (record (state_of f p).names { arrays = t }) (inner_of f.shared.inner now.arrays p.iterators) f) (entries_insert p.array_places (pos q) (length p.arrays)));
     }
@@ -102,7 +102,7 @@ changed_past f p values a ps past there =
     }
 
 pub set_goes : (f : HostForm) (p : Past) (words : List Word) (memory : List ℕ) (a h k : ℤ) (v w : Value) → f.fault ≡ None → array_and_two f.arrays f.values words
-    ≡ Ok (a, h, v, k, w) → map.contains_key f.arrays a ≡ true → IsPast f p → GoesOn (Of row.SetElem) f p words memory (told.Done (Some (I32 0)))
+    ≡ Ok (a, h, v, k, w) → map.contains_key f.arrays a ≡ true → IsPast f p → GoesOn (OfPrimitive row.SetElem) f p words memory (told.Done (Some (I32 0)))
     (with_arrays (map.remove (map.remove f.values h) k) (map.insert f.arrays a (set_pair (text_of_value v) w (pairs_at f.arrays a))) f)
 set_goes f p words memory a h k v w none reads there past =
     let ps = set_pair (text_of_value v) w (pairs_at f.arrays a) in
@@ -112,14 +112,14 @@ set_goes f p words memory a h k v w none reads there past =
     record {
       now = now;
       is = changed_past f p left a ps past there;
-      step = goes (Of row.SetElem) f p (state_of (with_arrays left (map.insert f.arrays a ps) f) now) words memory (names_with left (state_of f p)) (inner_of f.shared.inner (slice_set p.arrays (place_at p.array_places a) ps) p.iterators) tt 0 (Some (I32 0)) (unrefused (Of row.SetElem) f.fault none)
-          (ap (carry (Of row.SetElem) (state_of f p)) (both_decoded f p (spends (Of row.SetElem)) refl refl memory past.arrays words ∙ ap (both_row f p (spends (Of row.SetElem)) refl refl memory past.arrays) reads)
+      step = goes (OfPrimitive row.SetElem) f p (state_of (with_arrays left (map.insert f.arrays a ps) f) now) words memory (names_with left (state_of f p)) (inner_of f.shared.inner (slice_set p.arrays (place_at p.array_places a) ps) p.iterators) tt 0 (Some (I32 0)) (unrefused (OfPrimitive row.SetElem) f.fault none)
+          (ap (carry (OfPrimitive row.SetElem) (state_of f p)) (both_decoded f p (spends (OfPrimitive row.SetElem)) refl refl memory past.arrays words ∙ ap (both_row f p (spends (OfPrimitive row.SetElem)) refl refl memory past.arrays) reads)
           ∙ ap (λ (qs : Pairs). Ok (names_with left (state_of f p), acts_of f (inner_of f.shared.inner (slice_set p.arrays (place_at p.array_places a) qs) p.iterators) tt)) (stored-set_pair (text_of_value v) w _ ∙ same))
           tt refl refl;
     }
 
 pub delete_goes : (f : HostForm) (p : Past) (words : List Word) (memory : List ℕ) (a h : ℤ) (v : Value) → f.fault ≡ None → array_and_value f.arrays f.values words
-    ≡ Ok (a, h, v) → map.contains_key f.arrays a ≡ true → IsPast f p → GoesOn (Of row.Delete) f p words memory (told.Done (Some (I32 0)))
+    ≡ Ok (a, h, v) → map.contains_key f.arrays a ≡ true → IsPast f p → GoesOn (OfPrimitive row.Delete) f p words memory (told.Done (Some (I32 0)))
     (with_arrays (map.remove f.values h) (map.insert f.arrays a (delete_pair (text_of_value v) (pairs_at f.arrays a))) f)
 delete_goes f p words memory a h v none reads there past =
     let ps = delete_pair (text_of_value v) (pairs_at f.arrays a) in
@@ -129,26 +129,26 @@ delete_goes f p words memory a h v none reads there past =
     record {
       now = now;
       is = changed_past f p left a ps past there;
-      step = goes (Of row.Delete) f p (state_of (with_arrays left (map.insert f.arrays a ps) f) now) words memory (names_with left (state_of f p)) (inner_of f.shared.inner (slice_set p.arrays (place_at p.array_places a) ps) p.iterators) tt 0 (Some (I32 0)) (unrefused (Of row.Delete) f.fault none)
-          (ap (carry (Of row.Delete) (state_of f p)) (key_decoded f p (spends (Of row.Delete)) refl refl memory past.arrays words ∙ ap (key_row f p (spends (Of row.Delete)) refl refl memory past.arrays) reads)
+      step = goes (OfPrimitive row.Delete) f p (state_of (with_arrays left (map.insert f.arrays a ps) f) now) words memory (names_with left (state_of f p)) (inner_of f.shared.inner (slice_set p.arrays (place_at p.array_places a) ps) p.iterators) tt 0 (Some (I32 0)) (unrefused (OfPrimitive row.Delete) f.fault none)
+          (ap (carry (OfPrimitive row.Delete) (state_of f p)) (key_decoded f p (spends (OfPrimitive row.Delete)) refl refl memory past.arrays words ∙ ap (key_row f p (spends (OfPrimitive row.Delete)) refl refl memory past.arrays) reads)
           ∙ ap (λ (qs : Pairs). Ok (names_with left (state_of f p), acts_of f (inner_of f.shared.inner (slice_set p.arrays (place_at p.array_places a) qs) p.iterators) tt)) same)
           tt refl refl;
     }
 
 pub clear_goes : (f : HostForm) (p : Past) (words : List Word) (memory : List ℕ) (a : ℤ) → f.fault ≡ None → only_number f.arrays words ≡ Ok a
-    → map.contains_key f.arrays a ≡ true → IsPast f p → GoesOn (Of row.Clear) f p words memory (told.Done (Some (I32 0))) (with_arrays f.values (map.insert f.arrays a []) f)
+    → map.contains_key f.arrays a ≡ true → IsPast f p → GoesOn (OfPrimitive row.Clear) f p words memory (told.Done (Some (I32 0))) (with_arrays f.values (map.insert f.arrays a []) f)
 clear_goes f p words memory a none reads there past =
     let now : Past = record p { arrays = slice_set p.arrays (place_at p.array_places a) [] } in
     record {
       now = now;
       is = changed_past f p f.values a [] past there;
-      step = goes (Of row.Clear) f p (state_of (with_arrays f.values (map.insert f.arrays a []) f) now) words memory (state_of f p).names (inner_of f.shared.inner (slice_set p.arrays (place_at p.array_places a) []) p.iterators) tt 0 (Some (I32 0)) (unrefused (Of row.Clear) f.fault none)
-          (ap (carry (Of row.Clear) (state_of f p)) (array_alone f p (spends (Of row.Clear)) refl memory words past.arrays ∙ ap (λ r. number_row p.array_places r (state_of f p).names) reads))
+      step = goes (OfPrimitive row.Clear) f p (state_of (with_arrays f.values (map.insert f.arrays a []) f) now) words memory (state_of f p).names (inner_of f.shared.inner (slice_set p.arrays (place_at p.array_places a) []) p.iterators) tt 0 (Some (I32 0)) (unrefused (OfPrimitive row.Clear) f.fault none)
+          (ap (carry (OfPrimitive row.Clear) (state_of f p)) (array_alone f p (spends (OfPrimitive row.Clear)) refl memory words past.arrays ∙ ap (λ r. number_row p.array_places r (state_of f p).names) reads))
           tt refl refl;
     }
 
 pub has_goes : (f : HostForm) (p : Past) (words : List Word) (memory : List ℕ) (a h : ℤ) (v : Value) → f.fault ≡ None → array_and_value f.arrays f.values words
-    ≡ Ok (a, h, v) → map.contains_key f.arrays a ≡ true → IsPast f p → GoesOn (Of row.Has) f p words memory
+    ≡ Ok (a, h, v) → map.contains_key f.arrays a ≡ true → IsPast f p → GoesOn (OfPrimitive row.Has) f p words memory
     (told.Done (Some (I32 (flag_number (is_some (get_pair (text_of_value v) (pairs_at f.arrays a))))))) (with_arrays (map.remove f.values h) f.arrays f)
 has_goes f p words memory a h v none reads there past =
     let b = is_some (get_pair (text_of_value v) (pairs_at f.arrays a)) in
@@ -157,8 +157,8 @@ has_goes f p words memory a h v none reads there past =
     record {
       now = p;
       is = record { arrays = past.arrays; iterators = past.iterators; first = past.first };
-      step = goes (Of row.Has) f p (state_of (with_arrays left f.arrays f) p) words memory (names_with left (state_of f p)) (inner_at f p) b 0 (Some (I32 (flag_number b))) (unrefused (Of row.Has) f.fault none)
-          (ap (carry (Of row.Has) (state_of f p)) (key_decoded f p (spends (Of row.Has)) refl refl memory past.arrays words ∙ ap (key_row f p (spends (Of row.Has)) refl refl memory past.arrays) reads)
+      step = goes (OfPrimitive row.Has) f p (state_of (with_arrays left f.arrays f) p) words memory (names_with left (state_of f p)) (inner_at f p) b 0 (Some (I32 (flag_number b))) (unrefused (OfPrimitive row.Has) f.fault none)
+          (ap (carry (OfPrimitive row.Has) (state_of f p)) (key_decoded f p (spends (OfPrimitive row.Has)) refl refl memory past.arrays words ∙ ap (key_row f p (spends (OfPrimitive row.Has)) refl refl memory past.arrays) reads)
           ∙ ap (λ (c : Bool). Ok (names_with left (state_of f p), acts_of f (inner_at f p) c)) (ap is_some (element-get_pair (text_of_value v) _) ∙ same))
           tt refl refl;
     }
@@ -189,7 +189,7 @@ read_past f p a k left (Some v) e past there =
     )
 
 pub elem_goes : (f : HostForm) (p : Past) (words : List Word) (memory : List ℕ) (a h : ℤ) (v : Value) (q : ℕ) → f.fault ≡ None → array_and_value f.arrays f.values words
-    ≡ Ok (a, h, v) → map.contains_key f.arrays a ≡ true → q < 2 ^ 31 → map.get (map.remove f.values h) (pos q) ≡ None → IsPast f p → GoesOn (Of row.Elem) f p words memory (told.Done (Some (I32 q)))
+    ≡ Ok (a, h, v) → map.contains_key f.arrays a ≡ true → q < 2 ^ 31 → map.get (map.remove f.values h) (pos q) ≡ None → IsPast f p → GoesOn (OfPrimitive row.Elem) f p words memory (told.Done (Some (I32 q)))
     (with_arrays (map.insert (map.remove f.values h) (pos q) (value_or_uninit (get_pair (text_of_value v) (pairs_at f.arrays a)))) (map.insert f.arrays a (created (text_of_value v) (pairs_at f.arrays a))) f)
 elem_goes f p words memory a h v q none reads there below free past =
     let k = text_of_value v in
@@ -204,8 +204,8 @@ elem_goes f p words memory a h v q none reads there below free past =
     record {
       now = now;
       is = after.1;
-      step = goes (Of row.Elem) f p (state_of (with_arrays values arrays f) now) words memory (names_with left (state_of f p)) (inner_of f.shared.inner after.0 p.iterators) x q (Some (I32 q)) (unrefused (Of row.Elem) f.fault none)
-          (ap (carry (Of row.Elem) (state_of f p)) (key_decoded f p (spends (Of row.Elem)) refl refl memory past.arrays words ∙ ap (key_row f p (spends (Of row.Elem)) refl refl memory past.arrays) reads)
+      step = goes (OfPrimitive row.Elem) f p (state_of (with_arrays values arrays f) now) words memory (names_with left (state_of f p)) (inner_of f.shared.inner after.0 p.iterators) x q (Some (I32 q)) (unrefused (OfPrimitive row.Elem) f.fault none)
+          (ap (carry (OfPrimitive row.Elem) (state_of f p)) (key_decoded f p (spends (OfPrimitive row.Elem)) refl refl memory past.arrays words ∙ ap (key_row f p (spends (OfPrimitive row.Elem)) refl refl memory past.arrays) reads)
           ∙ ap (λ (y : Inner × Value). Ok (names_with left (state_of f p), acts_of f y.0 y.1)) (ap (found (place_at p.array_places a) k (inner_at f p)) same ∙ after.2))
           (record { below = below; free = look_entries left (pos q) ∙ free }) refl
           (ap (λ (t : Table Value). state_with (record (state_of f p).names { values = t }) (inner_of f.shared.inner after.0 p.iterators) f) (entries_insert left (pos q) x));
@@ -214,37 +214,37 @@ elem_goes f p words memory a h v q none reads there below free past =
 -- A call with an unfit word.
 
 pub elem_traps : (f : HostForm) (words : List Word) (memory : List ℕ) (k : TrapKind) → f.fault ≡ None → array_and_value f.arrays f.values words ≡ Err k
-    → IsTableCall (Of row.Elem) f words memory (Err (why.Trap k)) f
+    → IsTableCall (OfPrimitive row.Elem) f words memory (Err (why.Trap k)) f
 elem_traps f words memory k none reads =
-    trapped (Of row.Elem) f words memory k (unrefused (Of row.Elem) f.fault none)
-    (λ p past. ap (carry (Of row.Elem) (state_of f p)) (key_decoded f p (spends (Of row.Elem)) refl refl memory past.arrays words ∙ ap (key_row f p (spends (Of row.Elem)) refl refl memory past.arrays) reads))
+    trapped (OfPrimitive row.Elem) f words memory k (unrefused (OfPrimitive row.Elem) f.fault none)
+    (λ p past. ap (carry (OfPrimitive row.Elem) (state_of f p)) (key_decoded f p (spends (OfPrimitive row.Elem)) refl refl memory past.arrays words ∙ ap (key_row f p (spends (OfPrimitive row.Elem)) refl refl memory past.arrays) reads))
 
 pub has_traps : (f : HostForm) (words : List Word) (memory : List ℕ) (k : TrapKind) → f.fault ≡ None → array_and_value f.arrays f.values words ≡ Err k
-    → IsTableCall (Of row.Has) f words memory (Err (why.Trap k)) f
+    → IsTableCall (OfPrimitive row.Has) f words memory (Err (why.Trap k)) f
 has_traps f words memory k none reads =
-    trapped (Of row.Has) f words memory k (unrefused (Of row.Has) f.fault none)
-    (λ p past. ap (carry (Of row.Has) (state_of f p)) (key_decoded f p (spends (Of row.Has)) refl refl memory past.arrays words ∙ ap (key_row f p (spends (Of row.Has)) refl refl memory past.arrays) reads))
+    trapped (OfPrimitive row.Has) f words memory k (unrefused (OfPrimitive row.Has) f.fault none)
+    (λ p past. ap (carry (OfPrimitive row.Has) (state_of f p)) (key_decoded f p (spends (OfPrimitive row.Has)) refl refl memory past.arrays words ∙ ap (key_row f p (spends (OfPrimitive row.Has)) refl refl memory past.arrays) reads))
 
 pub delete_traps : (f : HostForm) (words : List Word) (memory : List ℕ) (k : TrapKind) → f.fault ≡ None → array_and_value f.arrays f.values words ≡ Err k
-    → IsTableCall (Of row.Delete) f words memory (Err (why.Trap k)) f
+    → IsTableCall (OfPrimitive row.Delete) f words memory (Err (why.Trap k)) f
 delete_traps f words memory k none reads =
-    trapped (Of row.Delete) f words memory k (unrefused (Of row.Delete) f.fault none)
-    (λ p past. ap (carry (Of row.Delete) (state_of f p)) (key_decoded f p (spends (Of row.Delete)) refl refl memory past.arrays words ∙ ap (key_row f p (spends (Of row.Delete)) refl refl memory past.arrays) reads))
+    trapped (OfPrimitive row.Delete) f words memory k (unrefused (OfPrimitive row.Delete) f.fault none)
+    (λ p past. ap (carry (OfPrimitive row.Delete) (state_of f p)) (key_decoded f p (spends (OfPrimitive row.Delete)) refl refl memory past.arrays words ∙ ap (key_row f p (spends (OfPrimitive row.Delete)) refl refl memory past.arrays) reads))
 
 pub clear_traps : (f : HostForm) (words : List Word) (memory : List ℕ) (k : TrapKind) → f.fault ≡ None → only_number f.arrays words ≡ Err k
-    → IsTableCall (Of row.Clear) f words memory (Err (why.Trap k)) f
+    → IsTableCall (OfPrimitive row.Clear) f words memory (Err (why.Trap k)) f
 clear_traps f words memory k none reads =
-    trapped (Of row.Clear) f words memory k (unrefused (Of row.Clear) f.fault none)
-    (λ p past. ap (carry (Of row.Clear) (state_of f p)) (array_alone f p (spends (Of row.Clear)) refl memory words past.arrays ∙ ap (λ r. number_row p.array_places r (state_of f p).names) reads))
+    trapped (OfPrimitive row.Clear) f words memory k (unrefused (OfPrimitive row.Clear) f.fault none)
+    (λ p past. ap (carry (OfPrimitive row.Clear) (state_of f p)) (array_alone f p (spends (OfPrimitive row.Clear)) refl memory words past.arrays ∙ ap (λ r. number_row p.array_places r (state_of f p).names) reads))
 
 pub set_traps : (f : HostForm) (words : List Word) (memory : List ℕ) (k : TrapKind) → f.fault ≡ None → array_and_two f.arrays f.values words ≡ Err k
-    → IsTableCall (Of row.SetElem) f words memory (Err (why.Trap k)) f
+    → IsTableCall (OfPrimitive row.SetElem) f words memory (Err (why.Trap k)) f
 set_traps f words memory k none reads =
-    trapped (Of row.SetElem) f words memory k (unrefused (Of row.SetElem) f.fault none)
-    (λ p past. ap (carry (Of row.SetElem) (state_of f p)) (both_decoded f p (spends (Of row.SetElem)) refl refl memory past.arrays words ∙ ap (both_row f p (spends (Of row.SetElem)) refl refl memory past.arrays) reads))
+    trapped (OfPrimitive row.SetElem) f words memory k (unrefused (OfPrimitive row.SetElem) f.fault none)
+    (λ p past. ap (carry (OfPrimitive row.SetElem) (state_of f p)) (both_decoded f p (spends (OfPrimitive row.SetElem)) refl refl memory past.arrays words ∙ ap (both_row f p (spends (OfPrimitive row.SetElem)) refl refl memory past.arrays) reads))
 
 pub new_traps : (f : HostForm) (words : List Word) (memory : List ℕ) (k : TrapKind) → f.fault ≡ None → no_more words ≡ Err k
-    → IsTableCall (Of row.NewArray) f words memory (Err (why.Trap k)) f
+    → IsTableCall (OfPrimitive row.NewArray) f words memory (Err (why.Trap k)) f
 new_traps f words memory k none ends =
-    trapped (Of row.NewArray) f words memory k (unrefused (Of row.NewArray) f.fault none)
-    (λ p past. ap (λ (r : Result (Unit {0}) TrapKind). carry (Of row.NewArray) (state_of f p) (and_then r (λ end. Ok (end, (state_of f p).names)))) ends)
+    trapped (OfPrimitive row.NewArray) f words memory k (unrefused (OfPrimitive row.NewArray) f.fault none)
+    (λ p past. ap (λ (r : Result (Unit {0}) TrapKind). carry (OfPrimitive row.NewArray) (state_of f p) (and_then r (λ end. Ok (end, (state_of f p).names)))) ends)

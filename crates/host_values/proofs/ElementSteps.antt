@@ -12,7 +12,7 @@ use Rattle.host_step.specs.HostState.{HostState, Names}
 use Rattle.host_step.specs.HostStep.{Acts, Refuses, StepBy, StepOf, carried, come, refuses}
 use Rattle.host_imports.specs.Imports.{import_answer}
 use Rattle.host_imports.specs.declared.import.Import.{Import}
-use Rattle.host_values.specs.declared.reply.Refusal.TheVariants as why
+use Rattle.host_step.specs.declared.refusal.Refusal.TheVariants as why
 use Rattle.host_values.proofs.Steps.{unshared}
 use Rattle.host_values.specs.ElementCalls.{IsTableCall, Leads}
 use Rattle.host_values.specs.Forms.{AreFirst, HostForm, IsHeld, Past, state_of}

@@ -1,4 +1,4 @@
--- Calls that put nothing out, in surroundings that others change too.
+-- Calls that put nothing out, in an environment that others change too.
 use Rattle.std.proofs.Common.{ℕ, List, [], ◌++◌, Option, Some, None, refl, sym, subst, append-nil}
 use Rattle.awk_values.specs.declared.fault.Fault.{Fault}
 use Rattle.wasm_model.specs.declared.host.HostAnswer.{HostAnswer}

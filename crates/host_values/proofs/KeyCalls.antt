@@ -9,11 +9,11 @@ use Rattle.wasm_store.specs.declared.trap.TrapKind.TheVariants.{BadArgument}
 use Rattle.wasm_store.specs.declared.word.Word.{Word}
 use Rattle.wasm_store.specs.declared.word.Word.TheVariants.{I32}
 use Rattle.host_imports.specs.Codes.{end_word}
-use Rattle.host_imports.specs.declared.import.Import.TheVariants.{FreeArray, IterFree, Of}
-use Rattle.host_values.specs.Calls.{Gives, spare}
+use Rattle.host_imports.specs.declared.import.Import.TheVariants.{FreeArray, IterFree, OfPrimitive}
+use Rattle.host_values.specs.Calls.{Gives, reserved_handle}
 use Rattle.host_values.specs.Evaluations.{Values}
-use Rattle.host_values.specs.declared.reply.Refusal.{Refusal}
-use Rattle.host_values.specs.declared.reply.Refusal.TheVariants as why
+use Rattle.host_step.specs.declared.refusal.Refusal.{Refusal}
+use Rattle.host_step.specs.declared.refusal.Refusal.TheVariants as why
 use Rattle.host_values.specs.declared.reply.Reply.TheVariants as reply
 use Rattle.host_arrays.specs.Pairs.{pairs_at}
 use Rattle.host_values.specs.ElementCalls.{IsNumbered, IsTableCall, Leads, with_arrays, with_both, with_iterators}
@@ -26,40 +26,40 @@ use Rattle.host_values.proofs.KeySteps.{end_goes, first_traps, free_goes, iter_f
 use Rattle.host_values.proofs.Places.{insert_keys}
 use Rattle.host_values.proofs.ElementSteps.{leads, wanted}
 
-module _ (f : HostForm) (words : List Word) (memory : List ℕ) (none : f.fault ≡ None) (a : ℤ) (reads : only_number f.arrays words ≡ Ok a) (there : map.contains_key f.arrays a ≡ true) (free : map.get f.iterators spare ≡ None) where
-  pub iter_memory : (g : HostForm) → IsTableCall (Of row.Iter) f words memory (Err why.NoMemory) g
+module _ (f : HostForm) (words : List Word) (memory : List ℕ) (none : f.fault ≡ None) (a : ℤ) (reads : only_number f.arrays words ≡ Ok a) (there : map.contains_key f.arrays a ≡ true) (free : map.get f.iterators reserved_handle ≡ None) where
+  pub iter_memory : (g : HostForm) → IsTableCall (OfPrimitive row.Iter) f words memory (Err why.NoMemory) g
   iter_memory g =
-      wanted (Of row.Iter) f (with_both f.arrays (map.insert f.iterators spare (keys_of (pairs_at f.arrays a))) f) g words memory (Some (I32 2147483647))
+      wanted (OfPrimitive row.Iter) f (with_both f.arrays (map.insert f.iterators reserved_handle (keys_of (pairs_at f.arrays a))) f) g words memory (Some (I32 2147483647))
       (λ p past. iter_goes f p words memory a 2147483647 none reads there below_limit free past)
 
   pub iter_call : (iterators : Iterators) (ks : Keys) (r : Result (Option Word) Refusal) → ks ≡ keys_of (pairs_at f.arrays a) → IsNumbered f.iterators ks r iterators
-      → IsTableCall (Of row.Iter) f words memory r (with_both f.arrays iterators f)
+      → IsTableCall (OfPrimitive row.Iter) f words memory r (with_both f.arrays iterators f)
   iter_call iterators ks (Ok w) same (q, below, vacant, word, added) =
-      subst (λ (x : Option Word). IsTableCall (Of row.Iter) f words memory (Ok x) (with_both f.arrays iterators f)) (sym word)
-      (subst (λ (m : Iterators). IsTableCall (Of row.Iter) f words memory (Ok (Some (I32 q))) (with_both f.arrays m f)) (sym (added ∙ ap (map.insert f.iterators (pos q)) same))
-      (leads (Of row.Iter) f words memory (told.Done (Some (I32 q))) _ (λ p past. iter_goes f p words memory a q none reads there below vacant past)))
+      subst (λ (x : Option Word). IsTableCall (OfPrimitive row.Iter) f words memory (Ok x) (with_both f.arrays iterators f)) (sym word)
+      (subst (λ (m : Iterators). IsTableCall (OfPrimitive row.Iter) f words memory (Ok (Some (I32 q))) (with_both f.arrays m f)) (sym (added ∙ ap (map.insert f.iterators (pos q)) same))
+      (leads (OfPrimitive row.Iter) f words memory (told.Done (Some (I32 q))) _ (λ p past. iter_goes f p words memory a q none reads there below vacant past)))
   iter_call iterators ks (Err why.NoMemory) same left = iter_memory f
   iter_call iterators ks (Err (why.Trap k)) same left = absurd left
   iter_call iterators ks (Err (why.Fault fault)) same left = absurd left
 
-module _ (f : HostForm) (words : List Word) (memory : List ℕ) (none : f.fault ≡ None) (t : ℤ) (reads : only_number f.iterators words ≡ Ok t) (there : map.contains_key f.iterators t ≡ true) (free : map.get f.values spare ≡ None) where
-  memory_by : (ks : Keys) → keys_at f.iterators t ≡ ks → (g : HostForm) → IsTableCall (Of row.IterNext) f words memory (Err why.NoMemory) g
-  memory_by [] left g = wanted (Of row.IterNext) f (with_iterators f.values f.iterators f) g words memory (Some end_word) (λ p past. end_goes f p words memory t none reads there left past)
+module _ (f : HostForm) (words : List Word) (memory : List ℕ) (none : f.fault ≡ None) (t : ℤ) (reads : only_number f.iterators words ≡ Ok t) (there : map.contains_key f.iterators t ≡ true) (free : map.get f.values reserved_handle ≡ None) where
+  memory_by : (ks : Keys) → keys_at f.iterators t ≡ ks → (g : HostForm) → IsTableCall (OfPrimitive row.IterNext) f words memory (Err why.NoMemory) g
+  memory_by [] left g = wanted (OfPrimitive row.IterNext) f (with_iterators f.values f.iterators f) g words memory (Some end_word) (λ p past. end_goes f p words memory t none reads there left past)
   memory_by (key ∷ rest) left g =
-      wanted (Of row.IterNext) f (with_iterators (map.insert f.values spare (Text key)) (map.insert f.iterators t rest) f) g words memory (Some (I32 2147483647))
+      wanted (OfPrimitive row.IterNext) f (with_iterators (map.insert f.values reserved_handle (Text key)) (map.insert f.iterators t rest) f) g words memory (Some (I32 2147483647))
       (λ p past. next_goes f p words memory t key rest 2147483647 none reads there left below_limit free past)
 
-  pub next_memory : (g : HostForm) → IsTableCall (Of row.IterNext) f words memory (Err why.NoMemory) g
+  pub next_memory : (g : HostForm) → IsTableCall (OfPrimitive row.IterNext) f words memory (Err why.NoMemory) g
   next_memory g = memory_by (keys_at f.iterators t) refl g
 
   key_by : (values : Values) (iterators : Iterators) (k : List ℕ) (r : Result (Option Word) Refusal) (ks : Keys) → keys_at f.iterators t ≡ ks → Some k ≡ first_key ks
-      → iterators ≡ map.insert f.iterators t (other_keys ks) → Gives (reply.Value (Text k)) f.values r values → IsTableCall (Of row.IterNext) f words memory r (with_iterators values iterators f)
+      → iterators ≡ map.insert f.iterators t (other_keys ks) → Gives (reply.Value (Text k)) f.values r values → IsTableCall (OfPrimitive row.IterNext) f words memory r (with_iterators values iterators f)
   key_by values iterators k r [] left some same gives = cc
   key_by values iterators k (Ok w) (key ∷ rest) left some same (q, below, vacant, word, stored) =
-      subst (λ (x : Option Word). IsTableCall (Of row.IterNext) f words memory (Ok x) (with_iterators values iterators f)) (sym word)
-      (subst (λ (m : Values). IsTableCall (Of row.IterNext) f words memory (Ok (Some (I32 q))) (with_iterators m iterators f)) (sym (stored ∙ ap (λ x. map.insert f.values (pos q) (Text x)) (same_key some)))
-      (subst (λ (m : Iterators). IsTableCall (Of row.IterNext) f words memory (Ok (Some (I32 q))) (with_iterators (map.insert f.values (pos q) (Text key)) m f)) (sym same)
-      (leads (Of row.IterNext) f words memory (told.Done (Some (I32 q))) _ (λ p past. next_goes f p words memory t key rest q none reads there left below vacant past))))
+      subst (λ (x : Option Word). IsTableCall (OfPrimitive row.IterNext) f words memory (Ok x) (with_iterators values iterators f)) (sym word)
+      (subst (λ (m : Values). IsTableCall (OfPrimitive row.IterNext) f words memory (Ok (Some (I32 q))) (with_iterators m iterators f)) (sym (stored ∙ ap (λ x. map.insert f.values (pos q) (Text x)) (same_key some)))
+      (subst (λ (m : Iterators). IsTableCall (OfPrimitive row.IterNext) f words memory (Ok (Some (I32 q))) (with_iterators (map.insert f.values (pos q) (Text key)) m f)) (sym same)
+      (leads (OfPrimitive row.IterNext) f words memory (told.Done (Some (I32 q))) _ (λ p past. next_goes f p words memory t key rest q none reads there left below vacant past))))
     where
       same_key : ◌≡◌ {A = Option (List ℕ)} (Some k) (Some key) → k ≡ key
       same_key e = cc
@@ -68,7 +68,7 @@ module _ (f : HostForm) (words : List Word) (memory : List ℕ) (none : f.fault 
   key_by values iterators k (Err (why.Fault x)) (key ∷ rest) left some same gives = absurd gives
 
   pub next_call : (values : Values) (iterators : Iterators) (k : List ℕ) (r : Result (Option Word) Refusal) → Some k ≡ first_key (keys_at f.iterators t)
-      → iterators ≡ map.insert f.iterators t (other_keys (keys_at f.iterators t)) → Gives (reply.Value (Text k)) f.values r values → IsTableCall (Of row.IterNext) f words memory r (with_iterators values iterators f)
+      → iterators ≡ map.insert f.iterators t (other_keys (keys_at f.iterators t)) → Gives (reply.Value (Text k)) f.values r values → IsTableCall (OfPrimitive row.IterNext) f words memory r (with_iterators values iterators f)
   next_call values iterators k r some same gives = key_by values iterators k r (keys_at f.iterators t) refl some same gives
 
   none_is : (ks : Keys) → None ≡ first_key ks → ks ≡ []
@@ -76,12 +76,12 @@ module _ (f : HostForm) (words : List Word) (memory : List ℕ) (none : f.fault 
   none_is (key ∷ rest) e = cc
 
   pub end_call : (iterators : Iterators) → None ≡ first_key (keys_at f.iterators t) → iterators ≡ map.insert f.iterators t (other_keys (keys_at f.iterators t))
-      → Leads (Of row.IterNext) f words memory (told.Done (Some end_word)) (with_iterators f.values iterators f)
+      → Leads (OfPrimitive row.IterNext) f words memory (told.Done (Some end_word)) (with_iterators f.values iterators f)
   end_call iterators none_left left =
       let empty = none_is (keys_at f.iterators t) none_left in
       let same : iterators ≡ f.iterators = left ∙ ap (map.insert f.iterators t) (ap other_keys empty ∙ sym empty) ∙ insert_keys f.iterators t there in
-      subst (λ (m : Iterators). Leads (Of row.IterNext) f words memory (told.Done (Some end_word)) (with_iterators f.values m f)) (sym same)
-      (leads (Of row.IterNext) f words memory (told.Done (Some end_word)) _ (λ p past. end_goes f p words memory t none reads there empty past))
+      subst (λ (m : Iterators). Leads (OfPrimitive row.IterNext) f words memory (told.Done (Some end_word)) (with_iterators f.values m f)) (sym same)
+      (leads (OfPrimitive row.IterNext) f words memory (told.Done (Some end_word)) _ (λ p past. end_goes f p words memory t none reads there empty past))
 
 pub iter_free_call : (f : HostForm) (iterators : Iterators) (words : List Word) (memory : List ℕ) (t : ℤ) → only_number f.iterators words ≡ Ok t → iterators ≡ map.remove f.iterators t
     → IsTableCall IterFree f words memory (Ok None) (with_iterators f.values iterators f)

@@ -23,9 +23,9 @@ use Rattle.host_step.specs.Arguments.{and_then}
 use Rattle.host_step.specs.HostStep.{only_answers, where_fit}
 use Rattle.host_imports.specs.Imports.{spends}
 use Rattle.host_step.specs.Tables.{Table}
-use Rattle.host_imports.specs.declared.import.Import.TheVariants.{Of, IterFree, FreeArray}
+use Rattle.host_imports.specs.declared.import.Import.TheVariants.{OfPrimitive, IterFree, FreeArray}
 use Rattle.host_values.specs.Evaluations.{Values}
-use Rattle.host_values.specs.declared.reply.Refusal.TheVariants as why
+use Rattle.host_step.specs.declared.refusal.Refusal.TheVariants as why
 use Rattle.host_values.proofs.Entries.{entries_insert, look_entries}
 use Rattle.host_arrays.specs.Pairs.{pairs_at}
 use Rattle.host_values.specs.ElementCalls.{IsTableCall, with_arrays, with_both, with_iterators}
@@ -40,7 +40,7 @@ use Rattle.host_values.proofs.ElementSteps.{GoesOn, IsPast, acts_of, goes, state
 
 pub iter_goes : (f : HostForm) (p : Past) (words : List Word) (memory : List ℕ) (a : ℤ) (q : ℕ) → f.fault ≡ None → only_number f.arrays words ≡ Ok a
     → map.contains_key f.arrays a ≡ true → q < 2 ^ 31 → map.get f.iterators (pos q) ≡ None → IsPast f p
-    → GoesOn (Of row.Iter) f p words memory (told.Done (Some (I32 q))) (with_both f.arrays (map.insert f.iterators (pos q) (keys_of (pairs_at f.arrays a))) f)
+    → GoesOn (OfPrimitive row.Iter) f p words memory (told.Done (Some (I32 q))) (with_both f.arrays (map.insert f.iterators (pos q) (keys_of (pairs_at f.arrays a))) f)
 iter_goes f p words memory a q none reads there below free past =
     let place = no_place f.iterators p.iterator_places p.iterators (pos q) past.iterators free in
     let ks = keys_of (pairs_at f.arrays a) in
@@ -49,18 +49,18 @@ iter_goes f p words memory a q none reads there below free past =
     record {
       now = now;
       is = record { arrays = past.arrays; iterators = added f.iterators p.iterator_places p.iterators past.iterators (pos q) ks; first = past.first };
-      step = goes (Of row.Iter) f p (state_of (with_both f.arrays (map.insert f.iterators (pos q) ks) f) now) words memory (state_of f p).names (inner_of f.shared.inner p.arrays now.iterators) (length p.iterators) q (Some (I32 q)) (unrefused (Of row.Iter) f.fault none)
-          (ap (carry (Of row.Iter) (state_of f p)) (array_alone f p (spends (Of row.Iter)) refl memory words past.arrays ∙ ap (λ r. number_row p.array_places r (state_of f p).names) reads)
+      step = goes (OfPrimitive row.Iter) f p (state_of (with_both f.arrays (map.insert f.iterators (pos q) ks) f) now) words memory (state_of f p).names (inner_of f.shared.inner p.arrays now.iterators) (length p.iterators) q (Some (I32 q)) (unrefused (OfPrimitive row.Iter) f.fault none)
+          (ap (carry (OfPrimitive row.Iter) (state_of f p)) (array_alone f p (spends (OfPrimitive row.Iter)) refl memory words past.arrays ∙ ap (λ r. number_row p.array_places r (state_of f p).names) reads)
           ∙ ap (λ (k : Keys). Ok ((state_of f p).names, acts_of f (inner_of f.shared.inner p.arrays (p.iterators ++ k ∷ [])) (length p.iterators))) same)
           (record { below = below; free = look_entries p.iterator_places (pos q) ∙ place }) refl
           (ap (λ (t : Table ℕ). state_with (record (state_of f p).names { iterators = t }) (inner_of f.shared.inner p.arrays now.iterators) f) (entries_insert p.iterator_places (pos q) (length p.iterators)));
     }
 
 pub iter_traps : (f : HostForm) (words : List Word) (memory : List ℕ) (k : TrapKind) → f.fault ≡ None → only_number f.arrays words ≡ Err k
-    → IsTableCall (Of row.Iter) f words memory (Err (why.Trap k)) f
+    → IsTableCall (OfPrimitive row.Iter) f words memory (Err (why.Trap k)) f
 iter_traps f words memory k none reads =
-    trapped (Of row.Iter) f words memory k (unrefused (Of row.Iter) f.fault none)
-    (λ p past. ap (carry (Of row.Iter) (state_of f p)) (array_alone f p (spends (Of row.Iter)) refl memory words past.arrays ∙ ap (λ r. number_row p.array_places r (state_of f p).names) reads))
+    trapped (OfPrimitive row.Iter) f words memory k (unrefused (OfPrimitive row.Iter) f.fault none)
+    (λ p past. ap (carry (OfPrimitive row.Iter) (state_of f p)) (array_alone f p (spends (OfPrimitive row.Iter)) refl memory words past.arrays ∙ ap (λ r. number_row p.array_places r (state_of f p).names) reads))
 
 -- the next key
 
@@ -84,7 +84,7 @@ keys_are f p t h =
 
 pub next_goes : (f : HostForm) (p : Past) (words : List Word) (memory : List ℕ) (t : ℤ) (key : List ℕ) (rest : Keys) (q : ℕ) → f.fault ≡ None → only_number f.iterators words ≡ Ok t
     → map.contains_key f.iterators t ≡ true → keys_at f.iterators t ≡ key ∷ rest → q < 2 ^ 31 → map.get f.values (pos q) ≡ None → IsPast f p
-    → GoesOn (Of row.IterNext) f p words memory (told.Done (Some (I32 q))) (with_iterators (map.insert f.values (pos q) (Text key)) (map.insert f.iterators t rest) f)
+    → GoesOn (OfPrimitive row.IterNext) f p words memory (told.Done (Some (I32 q))) (with_iterators (map.insert f.values (pos q) (Text key)) (map.insert f.iterators t rest) f)
 next_goes f p words memory t key rest q none reads there left below free past =
     let now : Past = record p { iterators = slice_set p.iterators (place_at p.iterator_places t) rest } in
     let same = keys_are f p t (a_place f.iterators p.iterator_places p.iterators t past.iterators there) ∙ left in
@@ -92,8 +92,8 @@ next_goes f p words memory t key rest q none reads there left below free past =
     record {
       now = now;
       is = next_past f p values t rest past there;
-      step = goes (Of row.IterNext) f p (state_of (with_iterators values (map.insert f.iterators t rest) f) now) words memory (state_of f p).names (inner_of f.shared.inner p.arrays now.iterators) (Some (Text key)) q (Some (I32 q)) (unrefused (Of row.IterNext) f.fault none)
-          (ap (carry (Of row.IterNext) (state_of f p)) (iterator_alone f p (spends (Of row.IterNext)) refl memory words past.iterators ∙ ap (λ r. number_row p.iterator_places r (state_of f p).names) reads)
+      step = goes (OfPrimitive row.IterNext) f p (state_of (with_iterators values (map.insert f.iterators t rest) f) now) words memory (state_of f p).names (inner_of f.shared.inner p.arrays now.iterators) (Some (Text key)) q (Some (I32 q)) (unrefused (OfPrimitive row.IterNext) f.fault none)
+          (ap (carry (OfPrimitive row.IterNext) (state_of f p)) (iterator_alone f p (spends (OfPrimitive row.IterNext)) refl memory words past.iterators ∙ ap (λ r. number_row p.iterator_places r (state_of f p).names) reads)
           ∙ ap (λ (y : Inner × Option Value). Ok ((state_of f p).names, acts_of f y.0 y.1)) (ap (visited (place_at p.iterator_places t) (inner_at f p)) same))
           (record { below = below; free = look_entries f.values (pos q) ∙ free }) refl
           (ap (λ (m : Table Value). state_with (record (state_of f p).names { values = m }) (inner_of f.shared.inner p.arrays now.iterators) f) (entries_insert f.values (pos q) (Text key)));
@@ -102,23 +102,23 @@ next_goes f p words memory t key rest q none reads there left below free past =
 -- none is left
 pub end_goes : (f : HostForm) (p : Past) (words : List Word) (memory : List ℕ) (t : ℤ) → f.fault ≡ None → only_number f.iterators words ≡ Ok t
     → map.contains_key f.iterators t ≡ true → keys_at f.iterators t ≡ [] → IsPast f p
-    → GoesOn (Of row.IterNext) f p words memory (told.Done (Some end_word)) (with_iterators f.values f.iterators f)
+    → GoesOn (OfPrimitive row.IterNext) f p words memory (told.Done (Some end_word)) (with_iterators f.values f.iterators f)
 end_goes f p words memory t none reads there left past =
     let same = keys_are f p t (a_place f.iterators p.iterator_places p.iterators t past.iterators there) ∙ left in
     record {
       now = p;
       is = record { arrays = past.arrays; iterators = past.iterators; first = past.first };
-      step = goes (Of row.IterNext) f p (state_of f p) words memory (state_of f p).names (inner_at f p) None 0 (Some end_word) (unrefused (Of row.IterNext) f.fault none)
-          (ap (carry (Of row.IterNext) (state_of f p)) (iterator_alone f p (spends (Of row.IterNext)) refl memory words past.iterators ∙ ap (λ r. number_row p.iterator_places r (state_of f p).names) reads)
+      step = goes (OfPrimitive row.IterNext) f p (state_of f p) words memory (state_of f p).names (inner_at f p) None 0 (Some end_word) (unrefused (OfPrimitive row.IterNext) f.fault none)
+          (ap (carry (OfPrimitive row.IterNext) (state_of f p)) (iterator_alone f p (spends (OfPrimitive row.IterNext)) refl memory words past.iterators ∙ ap (λ r. number_row p.iterator_places r (state_of f p).names) reads)
           ∙ ap (λ (y : Inner × Option Value). Ok ((state_of f p).names, acts_of f y.0 y.1)) (ap (visited (place_at p.iterator_places t) (inner_at f p)) same))
           tt refl refl;
     }
 
 pub next_traps : (f : HostForm) (words : List Word) (memory : List ℕ) (k : TrapKind) → f.fault ≡ None → only_number f.iterators words ≡ Err k
-    → IsTableCall (Of row.IterNext) f words memory (Err (why.Trap k)) f
+    → IsTableCall (OfPrimitive row.IterNext) f words memory (Err (why.Trap k)) f
 next_traps f words memory k none reads =
-    trapped (Of row.IterNext) f words memory k (unrefused (Of row.IterNext) f.fault none)
-    (λ p past. ap (carry (Of row.IterNext) (state_of f p)) (iterator_alone f p (spends (Of row.IterNext)) refl memory words past.iterators ∙ ap (λ r. number_row p.iterator_places r (state_of f p).names) reads))
+    trapped (OfPrimitive row.IterNext) f words memory k (unrefused (OfPrimitive row.IterNext) f.fault none)
+    (λ p past. ap (carry (OfPrimitive row.IterNext) (state_of f p)) (iterator_alone f p (spends (OfPrimitive row.IterNext)) refl memory words past.iterators ∙ ap (λ r. number_row p.iterator_places r (state_of f p).names) reads))
 
 -- Letting go, which is never refused.
 

@@ -3,6 +3,7 @@ pub mod Entries
 pub mod Matching
 pub mod Spare
 pub mod Steps
+pub mod ValueRows
 pub mod OneHandle
 pub mod Places
 pub mod Reading

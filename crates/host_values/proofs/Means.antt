@@ -14,15 +14,15 @@ use Rattle.host_step.specs.HostLaws.{refusal_typed, step_typed}
 use Rattle.host_step.specs.HostState.{HostState, Names}
 use Rattle.host_step.specs.HostStep.{Acts, Comes, Goes, Refuses, Settles, StepBy, StepIf, Traps, carried, come, comes, refuses}
 use Rattle.host_imports.specs.Imports.{import_answer, import_type, lets_go}
-use Rattle.host_step.specs.Worlds.{Anyhow, AnyhowIf, ReadBy, reads}
+use Rattle.host_step.specs.Worlds.{InAnyWorld, InAnyWorldIf, ReadBy, reads}
 use Rattle.host_imports.specs.declared.import.Import.{Import}
-use Rattle.host_values.specs.declared.reply.Refusal.{Refusal}
-use Rattle.host_values.specs.declared.reply.Refusal.TheVariants as why
+use Rattle.host_step.specs.declared.refusal.Refusal.{Refusal}
+use Rattle.host_step.specs.declared.refusal.Refusal.TheVariants as why
 use Rattle.host_values.specs.ElementCalls.{IsTableCall, Leads}
 use Rattle.host_values.specs.Forms.{HostForm}
 use Rattle.host_values.specs.FormLaws.{trap_typed}
 use Rattle.host_values.specs.Findings.{After, Finding, IsFound, View, form_finding, viewed}
-use Rattle.host_values.specs.FormMeaning.{AnyhowShown, Begins, FindsSo, FormCalled, FormMeans, StepFinds, StepShown}
+use Rattle.host_values.specs.FormMeaning.{InAnyWorldShown, Begins, FindsSo, FormCalled, FormMeans, StepFinds, StepShown}
 use Rattle.host_values.specs.Shown.{SharesBy, SharesTables, Shown, form_with_output}
 use Rattle.host_values.specs.TableCalls.{Fits, TableCalls, answer_of_call, left_by_call}
 use Rattle.host_values.proofs.Showing.{shares_self, shares_tables, shown_fault, shown_outside}
@@ -75,8 +75,8 @@ module _ (import : Option Import) (before : HostForm) (words : List Word) (memor
   step_of moves so_far s h = subst (λ (o : List Action). StepShown import s words memory a (form_with_output o after-call) []) (sym (append-nil so_far)) (moves (After so_far) s h)
 
 module _ (tells : Type 0) (i : Import) (words : List Word) (memory : List ℕ) (quiet : reads i ≡ false) where
-  in_some_world : (s s' : HostState) (a : HostAnswer) → StepBy (import_answer i) s (comes i words memory s) a s' [] → Anyhow (Some i) s words memory a s'
-  in_some_world s s' a step = subst (λ (b : Bool). AnyhowIf b i s words memory a s') (sym quiet)
+  in_some_world : (s s' : HostState) (a : HostAnswer) → StepBy (import_answer i) s (comes i words memory s) a s' [] → InAnyWorld (Some i) s words memory a s'
+  in_some_world s s' a step = subst (λ (b : Bool). InAnyWorldIf b i s words memory a s') (sym quiet)
       (record { old = s; new = s'; output = []; same_before = refl; same_after = refl; step = step })
 
   called : (before : HostForm) (a : HostAnswer) (after-call : HostForm) → Typed (Some (import_type i)) a → after-call.shared.output ≡ before.shared.output → Moves (Some i) before words memory a after-call
@@ -84,14 +84,14 @@ module _ (tells : Type 0) (i : Import) (words : List Word) (memory : List ℕ) (
   called before a after-call typed same_output moves = record {
     typed = typed;
     step = λ t so_far s h. step_of (Some i) before words memory a after-call moves so_far s h;
-    anyhow = λ s h. by s (moves (After before.shared.output) s h);
+    in_any_world = λ s h. by s (moves (After before.shared.output) s h);
     finds = finds_nothing (Some i) before words memory a after-call moves;
   } where
-    by : (s : HostState) → StepShown (Some i) s words memory a (form_with_output before.shared.output after-call) [] → AnyhowShown (Some i) s words memory a after-call
+    by : (s : HostState) → StepShown (Some i) s words memory a (form_with_output before.shared.output after-call) [] → InAnyWorldShown (Some i) s words memory a after-call
     by s x = record {
       state = x.state;
       shown = subst (λ (o : List Action). Shown (form_with_output o after-call) x.state) (sym same_output) x.shown;
-      anyhow = in_some_world s x.state a x.step;
+      in_any_world = in_some_world s x.state a x.step;
     }
 
   module _ (before after-call : HostForm) where
@@ -189,10 +189,10 @@ module _ (tells : Type 0) (i : Import) (f : HostForm) (words : List Word) (memor
     stays : StepBy (import_answer i) s (comes i words memory s) answer s []
     stays = subst (λ (c : Comes (InAnswer (import_answer i))). StepBy (import_answer i) s c answer s []) (sym come_so) (record { word = refl; state = refl; added = refl })
 
-    anyhow_by : (b : Bool) → reads i ≡ b → Anyhow (Some i) s words memory answer s
-    anyhow_by true e = subst (λ (b : Bool). AnyhowIf b i s words memory answer s) (sym e)
+    in_any_world_by : (b : Bool) → reads i ≡ b → InAnyWorld (Some i) s words memory answer s
+    in_any_world_by true e = subst (λ (b : Bool). InAnyWorldIf b i s words memory answer s) (sym e)
         (subst (λ (c : Comes (InAnswer (import_answer i))). ReadBy i c s answer s) (sym come_so) (refl, refl))
-    anyhow_by false e = in_some_world tells i words memory e s s answer stays
+    in_any_world_by false e = in_some_world tells i words memory e s s answer stays
 
   move : Moves (Some i) f words memory answer f
   move (After o) s h = record { state = s; shown = h; step = stays s (shown_fault (form_with_output o f) s h) }
@@ -202,7 +202,7 @@ module _ (tells : Type 0) (i : Import) (f : HostForm) (words : List Word) (memor
   refused_called = record {
     typed = refusal_typed (import_answer i);
     step = λ t so_far s h. step_of (Some i) f words memory answer f move so_far s h;
-    anyhow = λ s h. record { state = s; shown = h; anyhow = anyhow_by s (shown_fault f s h) (reads i) refl };
+    in_any_world = λ s h. record { state = s; shown = h; in_any_world = in_any_world_by s (shown_fault f s h) (reads i) refl };
     finds = finds_nothing (Some i) f words memory answer f move;
   }
 
@@ -211,7 +211,7 @@ pub unknown_called : (tells : Type 0) (f : HostForm) (words : List Word) (memory
 unknown_called tells f words memory = record {
   typed = tt;
   step = λ t so_far s h. step_of None f words memory (told.Trap BadArgument) f move so_far s h;
-  anyhow = λ s h. record { state = s; shown = h; anyhow = (refl, refl) };
+  in_any_world = λ s h. record { state = s; shown = h; in_any_world = (refl, refl) };
   finds = finds_nothing None f words memory (told.Trap BadArgument) f move;
 } where
   move : Moves None f words memory (told.Trap BadArgument) f

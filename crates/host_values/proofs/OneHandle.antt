@@ -23,12 +23,13 @@ use Rattle.host_imports.specs.Imports.{spends}
 use Rattle.host_step.specs.Tables.{Table, look}
 use Rattle.host_imports.specs.declared.import.Import.{Import}
 use Rattle.host_imports.specs.declared.import.Import.TheVariants.{Arg, Drop}
-use Rattle.host_values.specs.Calls.{names_with, spare, with_values}
+use Rattle.host_values.specs.Calls.{names_with, reserved_handle, with_values}
 use Rattle.host_values.specs.Evaluations.{Values}
 use Rattle.host_values.specs.Fronts.{found}
-use Rattle.host_values.specs.Singles.{IsAppended, IsPushed, IsReleased, left_one, only_by, only_handle, only_value, with_arguments}
-use Rattle.host_values.specs.declared.reply.Refusal.{Refusal}
-use Rattle.host_values.specs.declared.reply.Refusal.TheVariants as why
+use Rattle.host_step.specs.Outcomes.{IsCall}
+use Rattle.host_values.specs.Singles.{IsPushed, left_one, only_by, only_handle, only_value, with_arguments}
+use Rattle.host_step.specs.declared.refusal.Refusal.{Refusal}
+use Rattle.host_step.specs.declared.refusal.Refusal.TheVariants as why
 use Rattle.host_values.proofs.Entries.{entries_remove, look_entries}
 use Rattle.host_values.proofs.Spare.{spare_removed}
 use Rattle.host_values.proofs.Steps.{state_by, unshared}
@@ -73,14 +74,14 @@ abbrev dropped : HostState → Result (Row (argument.Of sort.Value ∷ []) × Na
 dropped s r = and_then r (λ x. and_then (acts Drop x.0 s) (λ d. Ok (x.1, d)))
 
 pub released : (s : HostState) (m m' : Values) (words : List Word) (memory : List ℕ) (h : ℤ) (v : Value) → only_handle m words ≡ Ok (h, v) → m'
-    ≡ map.remove m h → IsReleased s words memory m (Ok tt) m'
+    ≡ map.remove m h → IsCall Drop (with_values m s) words memory (Ok None) (with_values m' s)
 released s m m' words memory h v is left = release_by s m m' words memory (told.Done None)
     (subst (λ (r : Result (Row (argument.Of sort.Value
     ∷ []) × Names) TrapKind). StepBy answer.Nothing (with_values m s) (come (dropped (with_values m s) r)) (told.Done None) (with_values m' s) []) (sym (decoded (spends Drop) refl s m memory words ∙ ap (as_row s m) is))
     (0, tt, record { word = refl; state = ap (λ t. with_values t s) left ∙ sym (unshared (names_with (map.remove m h) s) s s.fault); added = refl }))
 
 pub release_trapped : (s : HostState) (m : Values) (words : List Word) (memory : List ℕ) (k : TrapKind) → only_handle m words
-    ≡ Err k → IsReleased s words memory m (Err k) m
+    ≡ Err k → IsCall Drop (with_values m s) words memory (Err (why.Trap k)) (with_values m s)
 release_trapped s m words memory k is = release_by s m m words memory (told.Trap k)
     (subst (λ (r : Result (Row (argument.Of sort.Value
     ∷ []) × Names) TrapKind). StepBy answer.Nothing (with_values m s) (come (dropped (with_values m s) r)) (told.Trap k) (with_values m s) []) (sym (decoded (spends Drop) refl s m memory words ∙ ap (as_row s m) is))
@@ -117,11 +118,11 @@ append_step s arguments m m' words memory h v none is left = append_by s argumen
     ))
 
 pub appended : (s : HostState) (arguments now : List Value) (m m' : Values) (words : List Word) (memory : List ℕ) (h : ℤ) (v : Value) → s.fault
-    ≡ None → only_handle m words ≡ Ok (h, v) → m' ≡ map.remove m h → now ≡ arguments ++ v ∷ [] → IsAppended s words memory m arguments (Ok tt) m' now
+    ≡ None → only_handle m words ≡ Ok (h, v) → m' ≡ map.remove m h → now ≡ arguments ++ v ∷ [] → IsCall Arg (holding arguments m s) words memory (Ok None) (holding now m' s)
 appended s arguments now m m' words memory h v none is left same = subst (λ (xs : List Value). StepOf Arg (holding arguments m s) words memory (told.Done None) (holding xs m' s) []) (sym same) (append_step s arguments m m' words memory h v none is left)
 
 pub append_refused : (s : HostState) (arguments now : List Value) (m m' : Values) (words : List Word) (memory : List ℕ) (h : ℤ) (v : Value)
-    → s.fault ≡ None → only_handle m words ≡ Ok (h, v) → IsAppended s words memory m arguments (Err why.NoMemory) m' now
+    → s.fault ≡ None → only_handle m words ≡ Ok (h, v) → IsCall Arg (holding arguments m s) words memory (Err why.NoMemory) (holding now m' s)
 append_refused s arguments now m m' words memory h v none is = (
   told.Done None,
   apart,
@@ -133,7 +134,7 @@ append_refused s arguments now m m' words memory h v none is = (
   apart e = cc
 
 pub append_trapped : (s : HostState) (arguments : List Value) (m : Values) (words : List Word) (memory : List ℕ) (k : TrapKind) → s.fault
-    ≡ None → only_handle m words ≡ Err k → IsAppended s words memory m arguments (Err (why.Trap k)) m arguments
+    ≡ None → only_handle m words ≡ Err k → IsCall Arg (holding arguments m s) words memory (Err (why.Trap k)) (holding arguments m s)
 append_trapped s arguments m words memory k none is = append_by s arguments m words memory (told.Trap k) (holding arguments m s) none
     (subst (λ (r : Result (Row (argument.Of sort.Value
     ∷ []) × Names) TrapKind). StepBy answer.Nothing (holding arguments m s) (come (added (holding arguments m s) r)) (told.Trap k) (holding arguments m s) []) (sym (decoded (spends Arg) refl (with_arguments arguments s) m memory words ∙ ap (as_row s m) is))
@@ -152,31 +153,34 @@ found_trap (Ok x) k e = cc
 found_trap (Err j) k e = cc
 
 pub release_well : (s : HostState) (m m' : Values) (words : List Word) (memory : List ℕ) (v : Value) → Ok v
-    ≡ only_value (only_handle m words) → m' ≡ left_one m (only_handle m words) → IsReleased s words memory m (Ok tt) m'
+    ≡ only_value (only_handle m words) → m' ≡ left_one m (only_handle m words) → IsCall Drop (with_values m s) words memory (Ok None) (with_values m' s)
 release_well s m m' words memory v e left = let h = found_value (only_handle m words) v e in released s m m' words memory h.0 v h.1 (left ∙ ap (left_one m) h.1)
 
 pub release_badly : (s : HostState) (m m' : Values) (words : List Word) (memory : List ℕ) (k : TrapKind) → Err k
-    ≡ only_value (only_handle m words) → m' ≡ left_one m (only_handle m words) → IsReleased s words memory m (Err k) m'
+    ≡ only_value (only_handle m words) → m' ≡ left_one m (only_handle m words) → IsCall Drop (with_values m s) words memory (Err (why.Trap k)) (with_values m' s)
 release_badly s m m' words memory k e left =
     let is = found_trap (only_handle m words) k e in
-    subst (λ (x : Values). IsReleased s words memory m (Err k) x) (sym (left ∙ ap (left_one m) is)) (release_trapped s m words memory k is)
+    subst (λ (x : Values). IsCall Drop (with_values m s) words memory (Err (why.Trap k)) (with_values x s)) (sym (left ∙ ap (left_one m) is)) (release_trapped s m words memory k is)
 
-pub append_well : (s : HostState) (arguments now : List Value) (m m' : Values) (words : List Word) (memory : List ℕ) (v : Value) (r : Result (Unit {0}) Refusal) → s.fault ≡ None → Ok v ≡ only_value (only_handle m words) → m' ≡ left_one m (only_handle m words) → IsPushed arguments v r now → IsAppended s words memory m arguments r m' now
-append_well s arguments now m m' words memory v (Ok u) none e left pushed = let h = found_value (only_handle m words) v e in appended s arguments now m m' words memory h.0 v none h.1 (left ∙ ap (left_one m) h.1) pushed
+pub append_well : (s : HostState) (arguments now : List Value) (m m' : Values) (words : List Word) (memory : List ℕ) (v : Value) (r : Result (Option Word) Refusal) → s.fault ≡ None → Ok v ≡ only_value (only_handle m words) → m' ≡ left_one m (only_handle m words) → IsPushed arguments v r now → IsCall Arg (holding arguments m s) words memory r (holding now m' s)
+append_well s arguments now m m' words memory v (Ok w) none e left pushed =
+    let h = found_value (only_handle m words) v e in
+    subst (λ (x : Option Word). IsCall Arg (holding arguments m s) words memory (Ok x) (holding now m' s)) (sym pushed.0)
+    (appended s arguments now m m' words memory h.0 v none h.1 (left ∙ ap (left_one m) h.1) pushed.1)
 append_well s arguments now m m' words memory v (Err why.NoMemory) none e left pushed = let h = found_value (only_handle m words) v e in append_refused s arguments now m m' words memory h.0 v none h.1
 append_well s arguments now m m' words memory v (Err (why.Trap k)) none e left pushed = absurd pushed
 append_well s arguments now m m' words memory v (Err (why.Fault f)) none e left pushed = absurd pushed
 
 pub append_badly : (s : HostState) (arguments : List Value) (m m' : Values) (words : List Word) (memory : List ℕ) (k : TrapKind) → s.fault
     ≡ None → Err k ≡ only_value (only_handle m words) → m' ≡ left_one m (only_handle m words)
-    → IsAppended s words memory m arguments (Err (why.Trap k)) m' arguments
+    → IsCall Arg (holding arguments m s) words memory (Err (why.Trap k)) (holding arguments m' s)
 append_badly s arguments m m' words memory k none e left =
     let is = found_trap (only_handle m words) k e in
-    subst (λ (x : Values). IsAppended s words memory m arguments (Err (why.Trap k)) x arguments) (sym (left ∙ ap (left_one m) is)) (append_trapped s arguments m words memory k none is)
+    subst (λ (x : Values). IsCall Arg (holding arguments m s) words memory (Err (why.Trap k)) (holding arguments x s)) (sym (left ∙ ap (left_one m) is)) (append_trapped s arguments m words memory k none is)
 
-spare_by : (m : Values) (r : Result (ℤ × Value) TrapKind) → map.get m spare ≡ None → map.get (left_one m r) spare ≡ None
+spare_by : (m : Values) (r : Result (ℤ × Value) TrapKind) → map.get m reserved_handle ≡ None → map.get (left_one m r) reserved_handle ≡ None
 spare_by m (Ok x) free = spare_removed m x.0 free
 spare_by m (Err k) free = free
 
-pub spare_one : (m m' : Values) (words : List Word) → m' ≡ left_one m (only_handle m words) → map.get m spare ≡ None → map.get m' spare ≡ None
-spare_one m m' words left free = ap (λ x. map.get x spare) left ∙ spare_by m (only_handle m words) free
+pub spare_one : (m m' : Values) (words : List Word) → m' ≡ left_one m (only_handle m words) → map.get m reserved_handle ≡ None → map.get m' reserved_handle ≡ None
+spare_one m m' words left free = ap (λ x. map.get x reserved_handle) left ∙ spare_by m (only_handle m words) free

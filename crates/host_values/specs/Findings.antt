@@ -1,4 +1,4 @@
--- A host in surroundings that others change too: each time that something is opened, read or written it finds the next of a list.
+-- A host in an environment that others change too: each time that something is opened, read or written it finds the next of a list.
 use Rattle.std.specs.Prelude.{◌≡◌, List, ◌++◌, Option, Some, None}
 use Rattle.awk_values.specs.declared.fault.Fault.{Fault}
 use Rattle.world_core.specs.WorldState.{Action, Entry, Outside}

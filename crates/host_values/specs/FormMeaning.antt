@@ -9,7 +9,7 @@ use Rattle.world_core.specs.WorldState.{Action, Entry, Outside, after as outside
 use Rattle.host_step.specs.HostState.{HostState}
 use Rattle.host_step.specs.HostStep.{StepIf}
 use Rattle.host_imports.specs.Imports.{import_at, type_if_there}
-use Rattle.host_step.specs.Worlds.{Anyhow}
+use Rattle.host_step.specs.Worlds.{InAnyWorld}
 use Rattle.host_imports.specs.declared.import.Import.{Import}
 use Rattle.host_values.specs.Forms.{HostForm}
 use Rattle.host_values.specs.Findings.{IsFound, form_finding}
@@ -23,10 +23,10 @@ pub record StepShown (import : Option Import) (s : HostState) (words : List Word
   pub step : StepIf import s words memory a state output
 
 -- the same of what is said of a call in every world
-pub record AnyhowShown (import : Option Import) (s : HostState) (words : List Word) (memory : List ℕ) (a : HostAnswer) (after-call : HostForm) : Type 0 where
+pub record InAnyWorldShown (import : Option Import) (s : HostState) (words : List Word) (memory : List ℕ) (a : HostAnswer) (after-call : HostForm) : Type 0 where
   pub state : HostState
   pub shown : Shown after-call state
-  pub anyhow : Anyhow import s words memory a state
+  pub in_any_world : InAnyWorld import s words memory a state
 
 -- A state that is shown after a call, to which there is such a step, where these are found later: nothing else is left of the list.
 pub record StepFinds (import : Option Import) (s : HostState) (words : List Word) (memory : List ℕ) (a : HostAnswer) (after-call : HostForm)
@@ -35,7 +35,7 @@ pub record StepFinds (import : Option Import) (s : HostState) (words : List Word
   pub left : IsFound after-call.fault [] later rest
   pub to : StepShown import s words memory a (form_finding rest (outside_after output outside) (so_far ++ output) after-call) output
 
--- What a call finds in surroundings that others change too, whatever is found after it: there is a step from every state that is shown then.
+-- What a call finds in an environment that others change too, whatever is found after it: there is a step from every state that is shown then.
 pub record FindsSo (import : Option Import) (before : HostForm) (words : List Word) (memory : List ℕ) (a : HostAnswer) (after-call : HostForm) : Type 0 where
   pub found : List Entry
   pub output : List Action
@@ -49,7 +49,7 @@ pub record FormCalled (tells : Type 0) (import : Option Import) (before : HostFo
   pub typed : Typed (type_if_there import) a
   pub step : tells → (so_far : List Action) (s : HostState) → Shown (form_with_output so_far before) s
       → StepShown import s words memory a (form_with_output (so_far ++ output) after-call) output
-  pub anyhow : (s : HostState) → Shown before s → AnyhowShown import s words memory a after-call
+  pub in_any_world : (s : HostState) → Shown before s → InAnyWorldShown import s words memory a after-call
   pub finds : FindsSo import before words memory a after-call
 
 -- a step by another answer, whose output begins so

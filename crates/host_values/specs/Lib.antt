@@ -1,6 +1,7 @@
-pub mod Primitives
 pub mod Fronts
+pub mod States
 pub mod Evaluations
+pub mod ValueEvaluations
 pub mod Calls
 pub mod Singles
 pub mod Texts

@@ -7,8 +7,8 @@ use Rattle.wasm_store.specs.declared.word.Word.{Word}
 use Rattle.host_step.specs.Answers.{refusal}
 use Rattle.host_imports.specs.Imports.{import_answer, result_of}
 use Rattle.host_imports.specs.declared.import.Import.{Import}
-use Rattle.host_values.specs.declared.reply.Refusal.{Refusal}
-use Rattle.host_values.specs.declared.reply.Refusal.TheVariants as why
+use Rattle.host_step.specs.declared.refusal.Refusal.{Refusal}
+use Rattle.host_step.specs.declared.refusal.Refusal.TheVariants as why
 use Rattle.host_values.specs.ElementCalls.{IsTableCall}
 use Rattle.host_values.specs.Forms.{HostForm}
 use Rattle.host_values.specs.Findings.{View, viewed}

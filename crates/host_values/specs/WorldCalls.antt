@@ -1,17 +1,15 @@
 -- A call on tables over a world, where no fault is kept: in every state that they show.
-use Rattle.std.specs.Prelude.{◌≡◌, ℕ, List, [], ◌++◌, Option, Some, Result, Ok, Err}
+use Rattle.std.specs.Prelude.{◌≡◌, ℕ, List, [], ◌++◌, Option, Some, Result}
 use Rattle.wasm_model.specs.declared.host.HostAnswer.{HostAnswer}
-use Rattle.wasm_model.specs.declared.host.HostAnswer.TheVariants as told
 use Rattle.wasm_store.specs.declared.word.Word.{Word}
 use Rattle.world_core.specs.WorldState.{Action, Entry, Outside, after as outside_after}
-use Rattle.host_step.specs.Answers.{refusal}
 use Rattle.host_step.specs.HostState.{HostState}
 use Rattle.host_step.specs.HostStep.{StepOf}
-use Rattle.host_imports.specs.Imports.{import_answer}
+use Rattle.host_step.specs.Outcomes.{IsOutcome}
 use Rattle.host_step.specs.Worlds.{Called, Wanted}
 use Rattle.host_imports.specs.declared.import.Import.{Import}
-use Rattle.host_values.specs.declared.reply.Refusal.{Refusal}
-use Rattle.host_values.specs.declared.reply.Refusal.TheVariants as why
+use Rattle.host_step.specs.declared.refusal.Refusal.{Refusal}
+use Rattle.host_values.specs.ElementCalls.{keeping}
 use Rattle.host_values.specs.Forms.{HostForm, Stands}
 use Rattle.host_values.specs.Findings.{IsFound, form_finding}
 
@@ -20,7 +18,7 @@ abbrev pub LeadsIn : Type 0 → Import → HostForm → List Word → List ℕ �
 LeadsIn tells i before words memory a after output = (s : HostState) → Stands before s
     → (s' : HostState) × (Stands after s') × (Called tells (Some i) s words memory a s' output)
 
--- in surroundings that others change too: there is such a step to a state that the tables show after the call, where these are found later
+-- in an environment that others change too: there is such a step to a state that the tables show after the call, where these are found later
 pub record LedFinding (i : Import) (s : HostState) (words : List Word) (memory : List ℕ) (a : HostAnswer) (after-call : HostForm)
     (output : List Action) (later : List Entry) (outside : Outside) (so_far : List Action) : Type 0 where
   pub rest : List Entry
@@ -39,12 +37,9 @@ pub record LeadsFinding (i : Import) (before : HostForm) (words : List Word) (me
 abbrev pub Leads : Type 0 → Import → HostForm → List Word → List ℕ → HostAnswer → HostForm → List Action → Type 0
 Leads tells i before words memory a after output = LeadsIn tells i before words memory a after output × LeadsFinding i before words memory a after
 
--- A call on the tables, with this output. After a fault they are as the call leaves them, and the fault is to be kept. Where memory was wanting and the
--- world tells its state, what was written by then is how the output of another answer begins.
+-- A call on the tables, with this output. After a fault they are as the call leaves them. Where memory was wanting and the world is modelled, what was
+-- written by then is how the output of another answer begins.
 abbrev pub IsCalled : Type 0 → Import → HostForm → List Word → List ℕ → Result (Option Word) Refusal → HostForm → List Action → Type 0
-IsCalled tells i before words memory (Ok w) after output = Leads tells i before words memory (told.Done w) after output
-IsCalled tells i before words memory (Err (why.Fault f)) after output = Leads tells i before words memory (told.Done (refusal (import_answer i)))
-    (record after { fault = Some f }) output
-IsCalled tells i before words memory (Err (why.Trap k)) after output = Leads tells i before words memory (told.Trap k) after output
-IsCalled tells i before words memory (Err why.NoMemory) after output = tells → (s : HostState) → Stands before s
-    → (s' : HostState) × (s'.shared.outside ≡ after.shared.outside) × (Wanted (Some i) s words memory s' output)
+IsCalled tells i before words memory r after output =
+    IsOutcome i (λ a left. Leads tells i before words memory a left output) (λ left. tells → (s : HostState) → Stands before s
+    → (s' : HostState) × (s'.shared.outside ≡ left.shared.outside) × (Wanted (Some i) s words memory s' output)) keeping r after

@@ -4,21 +4,22 @@ ghost use Rattle.std.specs.FinMap as map;
 ghost use Rattle.sem_primitives.specs.declared.table.Primitive.TheVariants as row;
 ghost use Rattle.awk_values.specs.Values.{text_of_value};
 ghost use Rattle.host_imports.specs.declared.import.Import.{Import};
-ghost use Rattle.host_values.specs.Calls.{spare};
+ghost use Rattle.host_values.specs.Calls.{reserved_handle};
 ghost use Rattle.host_values.specs.ElementCalls.{IsNumbered, IsPut, IsTableCall, with_arrays};
 ghost use Rattle.host_values.specs.Forms.{HostForm};
 ghost use Rattle.host_values.specs.Texts.{shown};
 ghost use Rattle.host_arrays.specs.Pairs.{pairs_at, set_pair};
 
-use crate::calls::give;
+use crate::argument_words::expect_end;
 use crate::element_words::{array_and_key, array_key_value, only_array};
 use crate::key_texts::KeyTexts;
-use crate::reply::{Refusal, Reply};
+use crate::reply::Reply;
 use crate::text::{ValueText, shared_text};
-use crate::words::ends;
+use crate::value_calls::give;
 use awk_values::{Bytes, Value};
 use host_arrays::Arrays;
 use host_handles::Handles;
+use host_step::Refusal;
 use std::alloc::{AllocError, Global};
 use wasm_store::{TrapKind, Word};
 
@@ -27,9 +28,9 @@ const DONE: Word = Word::I32(0);
 
 /// Adds an array without an element.
 fn add_array(arrays: &mut Arrays) -> Result<Option<Word>, Refusal>
-    requires { map.get arrays.old spare ≡ None }
+    requires { map.get arrays.old reserved_handle ≡ None }
     ensures number { IsNumbered arrays.old [] result arrays.new }
-    ensures spare { map.get arrays.new spare ≡ None }
+    ensures spare { map.get arrays.new reserved_handle ≡ None }
 {
     match arrays.new_array() {
         Ok(number) => Ok(Some(Word::I32(number.cast_unsigned()))),
@@ -43,13 +44,13 @@ fn add_array(arrays: &mut Arrays) -> Result<Option<Word>, Refusal>
 ///
 /// A trap, where there is a word, or want of memory; nothing changes.
 pub fn new_array(arrays: &mut Arrays, words: &[Word]) -> Result<Option<Word>, Refusal>
-    requires { map.get arrays.old spare ≡ None }
+    requires { map.get arrays.old reserved_handle ≡ None }
     ensures step { (f : HostForm) (memory : List ℕ) → f.fault ≡ None
-        → IsTableCall (Import.Of row.NewArray) (with_arrays f.values arrays.old f) words.now memory
+        → IsTableCall (Import.OfPrimitive row.NewArray) (with_arrays f.values arrays.old f) words.now memory
         result (with_arrays f.values arrays.new f) }
-    ensures spare { map.get arrays.new spare ≡ None }
+    ensures spare { map.get arrays.new reserved_handle ≡ None }
 {
-    match ends(words) {
+    match expect_end(words) {
         Ok(()) => add_array(arrays),
         Err(kind) => Err(Refusal::Trap(kind)),
     }
@@ -89,12 +90,12 @@ pub fn elem(
     words: &[Word],
     longest: usize,
 ) -> Result<Option<Word>, Refusal>
-    requires { map.get handles.old spare ≡ None }
+    requires { map.get handles.old reserved_handle ≡ None }
     ensures step { (f : HostForm) (memory : List ℕ) → f.fault ≡ None
-        → IsTableCall (Import.Of row.Elem) (with_arrays handles.old arrays.old f) words.now memory
+        → IsTableCall (Import.OfPrimitive row.Elem) (with_arrays handles.old arrays.old f) words.now memory
         result (with_arrays handles.new arrays.new f) }
-    ensures spare { map.get handles.new spare ≡ None }
-    ensures spare_array { map.get arrays.old spare ≡ None → map.get arrays.new spare ≡ None }
+    ensures spare { map.get handles.new reserved_handle ≡ None }
+    ensures spare_array { map.get arrays.old reserved_handle ≡ None → map.get arrays.new reserved_handle ≡ None }
 {
     let (array, handle, value) = match array_and_key(arrays, handles, words) {
         Ok(read) => read,
@@ -122,7 +123,7 @@ fn put(
     requires { map.contains_key arrays.old array ≡ true }
     ensures put { IsPut result (map.insert arrays.old array
         (set_pair key.now value (pairs_at arrays.old array))) arrays.new }
-    ensures spare_array { map.get arrays.old spare ≡ None → map.get arrays.new spare ≡ None }
+    ensures spare_array { map.get arrays.old reserved_handle ≡ None → map.get arrays.new reserved_handle ≡ None }
 {
     match arrays.set(array, key, value, longest) {
         Ok(()) => Ok(Some(DONE)),
@@ -145,10 +146,10 @@ pub fn set_elem(
     longest: usize,
 ) -> Result<Option<Word>, Refusal>
     ensures step { (f : HostForm) (memory : List ℕ) → f.fault ≡ None
-        → IsTableCall (Import.Of row.SetElem) (with_arrays handles.old arrays.old f) words.now
+        → IsTableCall (Import.OfPrimitive row.SetElem) (with_arrays handles.old arrays.old f) words.now
         memory result (with_arrays handles.new arrays.new f) }
-    ensures spare { map.get handles.old spare ≡ None → map.get handles.new spare ≡ None }
-    ensures spare_array { map.get arrays.old spare ≡ None → map.get arrays.new spare ≡ None }
+    ensures spare { map.get handles.old reserved_handle ≡ None → map.get handles.new reserved_handle ≡ None }
+    ensures spare_array { map.get arrays.old reserved_handle ≡ None → map.get arrays.new reserved_handle ≡ None }
 {
     let (array, first, _, second) = match array_key_value(arrays, handles, words) {
         Ok(read) => read,
@@ -180,9 +181,9 @@ pub fn has(
     words: &[Word],
 ) -> Result<Option<Word>, Refusal>
     ensures step { (f : HostForm) (memory : List ℕ) → f.fault ≡ None
-        → IsTableCall (Import.Of row.Has) (with_arrays handles.old arrays.now f) words.now memory
+        → IsTableCall (Import.OfPrimitive row.Has) (with_arrays handles.old arrays.now f) words.now memory
         result (with_arrays handles.new arrays.now f) }
-    ensures spare { map.get handles.old spare ≡ None → map.get handles.new spare ≡ None }
+    ensures spare { map.get handles.old reserved_handle ≡ None → map.get handles.new reserved_handle ≡ None }
 {
     let (array, handle, value) = match array_and_key(arrays, handles, words) {
         Ok(read) => read,
@@ -210,10 +211,10 @@ pub fn delete(
     words: &[Word],
 ) -> Result<Option<Word>, Refusal>
     ensures step { (f : HostForm) (memory : List ℕ) → f.fault ≡ None
-        → IsTableCall (Import.Of row.Delete) (with_arrays handles.old arrays.old f) words.now memory
+        → IsTableCall (Import.OfPrimitive row.Delete) (with_arrays handles.old arrays.old f) words.now memory
         result (with_arrays handles.new arrays.new f) }
-    ensures spare { map.get handles.old spare ≡ None → map.get handles.new spare ≡ None }
-    ensures spare_array { map.get arrays.old spare ≡ None → map.get arrays.new spare ≡ None }
+    ensures spare { map.get handles.old reserved_handle ≡ None → map.get handles.new reserved_handle ≡ None }
+    ensures spare_array { map.get arrays.old reserved_handle ≡ None → map.get arrays.new reserved_handle ≡ None }
 {
     let (array, handle, value) = match array_and_key(arrays, handles, words) {
         Ok(read) => read,
@@ -235,9 +236,9 @@ pub fn delete(
 /// A trap, which changes nothing.
 pub fn clear(arrays: &mut Arrays, words: &[Word]) -> Result<Option<Word>, Refusal>
     ensures step { (f : HostForm) (memory : List ℕ) → f.fault ≡ None
-        → IsTableCall (Import.Of row.Clear) (with_arrays f.values arrays.old f) words.now memory
+        → IsTableCall (Import.OfPrimitive row.Clear) (with_arrays f.values arrays.old f) words.now memory
         result (with_arrays f.values arrays.new f) }
-    ensures spare { map.get arrays.old spare ≡ None → map.get arrays.new spare ≡ None }
+    ensures spare { map.get arrays.old reserved_handle ≡ None → map.get arrays.new reserved_handle ≡ None }
 {
     let number = match only_array(arrays, words) {
         Ok(number) => number,
@@ -255,7 +256,7 @@ pub fn clear(arrays: &mut Arrays, words: &[Word]) -> Result<Option<Word>, Refusa
 pub fn free_array(arrays: &mut Arrays, words: &[Word]) -> Result<Option<Word>, Refusal>
     ensures step { (f : HostForm) (memory : List ℕ) → IsTableCall Import.FreeArray (with_arrays
         f.values arrays.old f) words.now memory result (with_arrays f.values arrays.new f) }
-    ensures spare { map.get arrays.old spare ≡ None → map.get arrays.new spare ≡ None }
+    ensures spare { map.get arrays.old reserved_handle ≡ None → map.get arrays.new reserved_handle ≡ None }
 {
     let number = match only_array(arrays, words) {
         Ok(number) => number,

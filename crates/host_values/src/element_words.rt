@@ -3,8 +3,8 @@ ghost use Rattle.std.specs.Prelude.{◌≡◌, IfOk, true};
 ghost use Rattle.std.specs.FinMap as map;
 ghost use Rattle.host_values.specs.Reads.{array_and_two, array_and_value, but_value, lent_key, lent_two, lent_value, number_front, only_number, owned_number, two_handles};
 
+use crate::argument_words::{expect_end, value_after, value_front};
 use crate::iterators::Iterators;
-use crate::words::{ends, value_after, value_front};
 use awk_values::Value;
 use host_arrays::Arrays;
 use host_handles::Handles;
@@ -38,7 +38,7 @@ pub(crate) fn only_array(arrays: &Arrays, words: &[Word]) -> Result<i32, TrapKin
     ensures there { IfOk result (λ n. map.contains_key arrays.now n ≡ true) }
 {
     let (number, rest) = array_front(arrays, words)?;
-    ends(rest)?;
+    expect_end(rest)?;
     Ok(number)
 }
 
@@ -55,7 +55,7 @@ pub(crate) fn only_iterator(iterators: &Iterators, words: &[Word]) -> Result<i32
     if !iterators.is_iterator(number) {
         return Err(TrapKind::BadHandle);
     }
-    ends(rest)?;
+    expect_end(rest)?;
     Ok(number)
 }
 
@@ -69,7 +69,7 @@ pub(crate) fn two_values<'a>(
 {
     let (first, left, behind) = value_front(handles, words)?;
     let (second, right, rest) = value_after(handles, first, behind)?;
-    ends(rest)?;
+    expect_end(rest)?;
     Ok((first, left, second, right))
 }
 
@@ -85,7 +85,7 @@ pub(crate) fn array_and_key<'a>(
 {
     let (array, behind) = array_front(arrays, words)?;
     let (handle, key, rest) = value_front(handles, behind)?;
-    ends(rest)?;
+    expect_end(rest)?;
     Ok((array, handle, key))
 }
 

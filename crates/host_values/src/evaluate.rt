@@ -1,24 +1,25 @@
-//! Primitives on values.
+//! The imports on values: what each comes to, of the words of a call.
 ghost use Rattle.std.specs.Prelude.{◌≡◌, ◌+◌, ◌++◌, ◌≤◌, [], IfOk, OnOk, length, nat_le, true};
 ghost use Rattle.sem_primitives.specs.Limits.{most_text};
 ghost use Rattle.sem_primitives.specs.ValueMeaning.{within_limit};
-ghost use Rattle.host_values.specs.declared.primitive.ValuePrimitive.{ValuePrimitive};
 ghost use Rattle.std.specs.Ordering.{int_cmp};
 ghost use Rattle.awk_values.specs.Comparison.{comparison, holds};
 ghost use Rattle.awk_values.specs.Values.{number_of_value, text_of_value};
 ghost use Rattle.host_values.specs.declared.spent.Spent.{Spent};
-ghost use Rattle.host_values.specs.Evaluations.{Evaluates, Values, evaluation, value_reply};
+ghost use Rattle.host_step.specs.HostState.{HostState};
+ghost use Rattle.host_values.specs.Evaluations.{Evaluates, Values};
+ghost use Rattle.host_values.specs.ValueEvaluations.{compare_evaluation, concat_evaluation, dup_evaluation, fail_evaluation, int_of_evaluation, lit_evaluation, num_evaluation, pow_evaluation, to_num_evaluation, truth_evaluation, uninit_evaluation, value_reply};
 
-use crate::literals::Literals;
-use crate::primitive::ValuePrimitive;
-use crate::reply::{Evaluated, Refusal, Reply, number_reply, truth_reply};
-use crate::spent::Spent;
-use crate::words::{
-    comparison_front, ends, fault_front, number_front, place_front, value_after, value_front,
+use crate::argument_words::{
+    comparison_front, expect_end, fault_front, number_front, place_front, value_after, value_front,
 };
+use crate::literals::Literals;
+use crate::reply::{Evaluated, Reply, number_reply, truth_reply};
+use crate::spent::Spent;
 use awk_text::text_of;
 use awk_values::{Bytes, CompareOp, Fault, Value, compare, pow, to_number, truncated, truth};
 use host_handles::Handles;
+use host_step::Refusal;
 use sem_primitives::MAX_TEXT;
 use std::alloc::{AllocError, Global};
 use wasm_store::Word;
@@ -34,13 +35,18 @@ fn unspent(outcome: Result<Reply, Fault>) -> Evaluated
     }
 }
 
+/// A number as a value.
+///
+/// # Errors
+///
+/// A trap.
 #[inline(always)]
-fn num(words: &[Word]) -> Result<Evaluated, Refusal>
-    ensures { (values : Values)
-        → Evaluates values result (evaluation ValuePrimitive.Num values [] words.now) }
+pub fn num(words: &[Word]) -> Result<Evaluated, Refusal>
+    ensures { (values : Values) (s : HostState)
+        → Evaluates values s result s (num_evaluation values s words.now) }
 {
     let (number, rest) = number_front(words)?;
-    ends(rest)?;
+    expect_end(rest)?;
     Ok(unspent(Ok(Reply::Value(Value::Num(number)))))
 }
 
@@ -52,38 +58,53 @@ fn first_place(words: &[Word]) -> usize {
     }
 }
 
+/// The text at a place of the memory. The texts of literals are kept; they change no answer.
+///
+/// # Errors
+///
+/// A trap, or want of memory.
 #[inline(always)]
-fn lit(
+pub fn lit(
     alloc: Global,
     literals: &mut Literals,
     words: &[Word],
     memory: &[u8],
 ) -> Result<Evaluated, Refusal>
-    ensures { (values : Values)
-        → Evaluates values result (evaluation ValuePrimitive.Lit values memory.now words.now) }
+    ensures { (values : Values) (s : HostState)
+        → Evaluates values s result s (lit_evaluation memory.now values s words.now) }
 {
     let (text, rest) = place_front(memory, words)?;
-    ends(rest)?;
+    expect_end(rest)?;
     let text = literals.text(alloc, first_place(words), text)?;
     Ok(unspent(Ok(Reply::Value(Value::Text(text)))))
 }
 
+/// The value of a variable that was never set.
+///
+/// # Errors
+///
+/// A trap.
 #[inline(always)]
-fn uninit(words: &[Word]) -> Result<Evaluated, Refusal>
-    ensures { (values : Values)
-        → Evaluates values result (evaluation ValuePrimitive.Uninit values [] words.now) }
+pub fn uninit(words: &[Word]) -> Result<Evaluated, Refusal>
+    ensures { (values : Values) (s : HostState)
+        → Evaluates values s result s (uninit_evaluation values s words.now) }
 {
-    ends(words)?;
+    expect_end(words)?;
     Ok(unspent(Ok(Reply::Value(Value::Uninit))))
 }
 
+/// A value once more, which is not spent.
+///
+/// # Errors
+///
+/// A trap, or want of memory.
 #[inline(always)]
-fn dup(handles: &Handles, words: &[Word]) -> Result<Evaluated, Refusal>
-    ensures { Evaluates handles.now result
-        (evaluation ValuePrimitive.Dup handles.now [] words.now) }
+pub fn dup(handles: &Handles, words: &[Word]) -> Result<Evaluated, Refusal>
+    ensures { (s : HostState) → Evaluates handles.now s result s
+        (dup_evaluation handles.now s words.now) }
 {
     let (_, value, rest) = value_front(handles, words)?;
-    ends(rest)?;
+    expect_end(rest)?;
     Ok(unspent(Ok(Reply::Value(value.clone()?))))
 }
 
@@ -98,39 +119,54 @@ fn number_of(value: &Value) -> Result<i64, Fault>
     }
 }
 
+/// The number of a value.
+///
+/// # Errors
+///
+/// A trap.
 #[inline(always)]
-fn to_num(handles: &Handles, words: &[Word]) -> Result<Evaluated, Refusal>
-    ensures { Evaluates handles.now result
-        (evaluation ValuePrimitive.ToNum handles.now [] words.now) }
+pub fn to_num(handles: &Handles, words: &[Word]) -> Result<Evaluated, Refusal>
+    ensures { (s : HostState) → Evaluates handles.now s result s
+        (to_num_evaluation handles.now s words.now) }
 {
     let (handle, value, rest) = value_front(handles, words)?;
-    ends(rest)?;
+    expect_end(rest)?;
     Ok(Evaluated {
         spent: Spent::One(handle),
         outcome: number_reply(number_of(value)),
     })
 }
 
+/// The number of a value without its fraction.
+///
+/// # Errors
+///
+/// A trap.
 #[inline(always)]
-fn int_of(handles: &Handles, words: &[Word]) -> Result<Evaluated, Refusal>
-    ensures { Evaluates handles.now result
-        (evaluation ValuePrimitive.IntOf handles.now [] words.now) }
+pub fn int_of(handles: &Handles, words: &[Word]) -> Result<Evaluated, Refusal>
+    ensures { (s : HostState) → Evaluates handles.now s result s
+        (int_of_evaluation handles.now s words.now) }
 {
     let (handle, value, rest) = value_front(handles, words)?;
-    ends(rest)?;
+    expect_end(rest)?;
     Ok(Evaluated {
         spent: Spent::One(handle),
         outcome: number_reply(truncated(value)),
     })
 }
 
+/// The truth of a value.
+///
+/// # Errors
+///
+/// A trap.
 #[inline(always)]
-fn truth_of(handles: &Handles, words: &[Word]) -> Result<Evaluated, Refusal>
-    ensures { Evaluates handles.now result
-        (evaluation ValuePrimitive.Truth handles.now [] words.now) }
+pub fn truth_of(handles: &Handles, words: &[Word]) -> Result<Evaluated, Refusal>
+    ensures { (s : HostState) → Evaluates handles.now s result s
+        (truth_evaluation handles.now s words.now) }
 {
     let (handle, value, rest) = value_front(handles, words)?;
-    ends(rest)?;
+    expect_end(rest)?;
     Ok(Evaluated {
         spent: Spent::One(handle),
         outcome: Ok(Reply::Truth(truth(value))),
@@ -163,15 +199,20 @@ fn compared(left: &Value, right: &Value, op: CompareOp) -> Result<bool, Fault>
     }
 }
 
+/// Whether a comparison of two values holds.
+///
+/// # Errors
+///
+/// A trap.
 #[inline(always)]
-fn comparison(handles: &Handles, words: &[Word]) -> Result<Evaluated, Refusal>
-    ensures { Evaluates handles.now result
-        (evaluation ValuePrimitive.Compare handles.now [] words.now) }
+pub fn comparison(handles: &Handles, words: &[Word]) -> Result<Evaluated, Refusal>
+    ensures { (s : HostState) → Evaluates handles.now s result s
+        (compare_evaluation handles.now s words.now) }
 {
     let (op, behind_op) = comparison_front(words)?;
     let (first, left, behind_left) = value_front(handles, behind_op)?;
     let (second, right, rest) = value_after(handles, first, behind_left)?;
-    ends(rest)?;
+    expect_end(rest)?;
     Ok(Evaluated {
         spent: Spent::Two(first, second),
         outcome: truth_reply(compared(left, right, op)),
@@ -240,62 +281,50 @@ fn concatenation(
     Ok(Ok(Reply::Value(Value::Text(text))))
 }
 
+/// The texts of two values as one.
+///
+/// # Errors
+///
+/// A trap, or want of memory.
 #[inline(always)]
-fn concat(alloc: Global, handles: &Handles, words: &[Word]) -> Result<Evaluated, Refusal>
-    ensures { Evaluates handles.now result
-        (evaluation ValuePrimitive.Concat handles.now [] words.now) }
+pub fn concat(alloc: Global, handles: &Handles, words: &[Word]) -> Result<Evaluated, Refusal>
+    ensures { (s : HostState) → Evaluates handles.now s result s
+        (concat_evaluation handles.now s words.now) }
 {
     let (first, left, behind_left) = value_front(handles, words)?;
     let (second, right, rest) = value_after(handles, first, behind_left)?;
-    ends(rest)?;
+    expect_end(rest)?;
     Ok(Evaluated {
         spent: Spent::Two(first, second),
         outcome: concatenation(alloc, left, right)?,
     })
 }
 
-fn power(words: &[Word]) -> Result<Evaluated, Refusal>
-    ensures { (values : Values)
-        → Evaluates values result (evaluation ValuePrimitive.Pow values [] words.now) }
+/// A power of numbers.
+///
+/// # Errors
+///
+/// A trap.
+pub fn power(words: &[Word]) -> Result<Evaluated, Refusal>
+    ensures { (values : Values) (s : HostState)
+        → Evaluates values s result s (pow_evaluation values s words.now) }
 {
     let (base, behind_base) = number_front(words)?;
     let (exponent, rest) = number_front(behind_base)?;
-    ends(rest)?;
+    expect_end(rest)?;
     Ok(unspent(number_reply(pow(base, exponent))))
 }
 
-fn fail(words: &[Word]) -> Result<Evaluated, Refusal>
-    ensures { (values : Values)
-        → Evaluates values result (evaluation ValuePrimitive.Fail values [] words.now) }
+/// The fault that the script meets.
+///
+/// # Errors
+///
+/// A trap.
+pub fn fail(words: &[Word]) -> Result<Evaluated, Refusal>
+    ensures { (values : Values) (s : HostState)
+        → Evaluates values s result s (fail_evaluation values s words.now) }
 {
     let (fault, rest) = fault_front(words)?;
-    ends(rest)?;
+    expect_end(rest)?;
     Ok(unspent(Err(fault)))
-}
-
-/// What a primitive answers to words, over this memory.
-#[inline(always)]
-pub(crate) fn evaluate(
-    alloc: Global,
-    literals: &mut Literals,
-    primitive: ValuePrimitive,
-    handles: &Handles,
-    words: &[Word],
-    memory: &[u8],
-) -> Result<Evaluated, Refusal>
-    ensures { Evaluates handles.now result (evaluation primitive handles.now memory.now words.now) }
-{
-    match primitive {
-        ValuePrimitive::Num => num(words),
-        ValuePrimitive::Lit => lit(alloc, literals, words, memory),
-        ValuePrimitive::Uninit => uninit(words),
-        ValuePrimitive::Dup => dup(handles, words),
-        ValuePrimitive::ToNum => to_num(handles, words),
-        ValuePrimitive::IntOf => int_of(handles, words),
-        ValuePrimitive::Truth => truth_of(handles, words),
-        ValuePrimitive::Compare => comparison(handles, words),
-        ValuePrimitive::Concat => concat(alloc, handles, words),
-        ValuePrimitive::Pow => power(words),
-        ValuePrimitive::Fail => fail(words),
-    }
 }

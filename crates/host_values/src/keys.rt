@@ -3,17 +3,18 @@ ghost use Rattle.std.specs.Prelude.{◌≡◌, List, ℕ, None};
 ghost use Rattle.std.specs.FinMap as map;
 ghost use Rattle.sem_primitives.specs.declared.table.Primitive.TheVariants as row;
 ghost use Rattle.host_imports.specs.declared.import.Import.{Import};
-ghost use Rattle.host_values.specs.Calls.{spare};
+ghost use Rattle.host_values.specs.Calls.{reserved_handle};
 ghost use Rattle.host_values.specs.ElementCalls.{IsNumbered, IsTableCall, with_both, with_iterators};
 ghost use Rattle.host_values.specs.Forms.{HostForm};
 
-use crate::calls::give;
 use crate::element_words::{only_array, only_iterator};
 use crate::iterators::Iterators;
-use crate::reply::{Refusal, Reply};
+use crate::reply::Reply;
+use crate::value_calls::give;
 use awk_values::{Bytes, Value};
 use host_arrays::Arrays;
 use host_handles::Handles;
+use host_step::Refusal;
 use wasm_store::Word;
 
 /// The word for the end of the keys: -2.
@@ -21,9 +22,9 @@ const END: Word = Word::I32(0xffff_fffe);
 
 /// Adds an iterator over these keys.
 fn add_keys(iterators: &mut Iterators, keys: Vec<Bytes>) -> Result<Option<Word>, Refusal>
-    requires { map.get iterators.old spare ≡ None }
+    requires { map.get iterators.old reserved_handle ≡ None }
     ensures number { IsNumbered iterators.old keys.items result iterators.new }
-    ensures spare { map.get iterators.new spare ≡ None }
+    ensures spare { map.get iterators.new reserved_handle ≡ None }
 {
     match iterators.add(keys) {
         Ok(number) => Ok(Some(Word::I32(number.cast_unsigned()))),
@@ -41,11 +42,11 @@ pub fn iter(
     iterators: &mut Iterators,
     words: &[Word],
 ) -> Result<Option<Word>, Refusal>
-    requires { map.get iterators.old spare ≡ None }
+    requires { map.get iterators.old reserved_handle ≡ None }
     ensures step { (f : HostForm) (memory : List ℕ) → f.fault ≡ None
-        → IsTableCall (Import.Of row.Iter) (with_both arrays.now iterators.old f) words.now memory
+        → IsTableCall (Import.OfPrimitive row.Iter) (with_both arrays.now iterators.old f) words.now memory
         result (with_both arrays.now iterators.new f) }
-    ensures spare { map.get iterators.new spare ≡ None }
+    ensures spare { map.get iterators.new reserved_handle ≡ None }
 {
     let array = match only_array(arrays, words) {
         Ok(array) => array,
@@ -67,12 +68,12 @@ pub fn iter_next(
     handles: &mut Handles,
     words: &[Word],
 ) -> Result<Option<Word>, Refusal>
-    requires { map.get handles.old spare ≡ None }
+    requires { map.get handles.old reserved_handle ≡ None }
     ensures step { (f : HostForm) (memory : List ℕ) → f.fault ≡ None
-        → IsTableCall (Import.Of row.IterNext) (with_iterators handles.old iterators.old f)
+        → IsTableCall (Import.OfPrimitive row.IterNext) (with_iterators handles.old iterators.old f)
         words.now memory result (with_iterators handles.new iterators.new f) }
-    ensures spare { map.get handles.new spare ≡ None }
-    ensures spare_iterator { map.get iterators.old spare ≡ None → map.get iterators.new spare
+    ensures spare { map.get handles.new reserved_handle ≡ None }
+    ensures spare_iterator { map.get iterators.old reserved_handle ≡ None → map.get iterators.new reserved_handle
         ≡ None }
 {
     let number = match only_iterator(iterators, words) {
@@ -95,7 +96,7 @@ pub fn iter_free(iterators: &mut Iterators, words: &[Word]) -> Result<Option<Wor
     ensures step { (f : HostForm) (memory : List ℕ)
         → IsTableCall Import.IterFree (with_iterators f.values iterators.old f) words.now memory
         result (with_iterators f.values iterators.new f) }
-    ensures spare { map.get iterators.old spare ≡ None → map.get iterators.new spare ≡ None }
+    ensures spare { map.get iterators.old reserved_handle ≡ None → map.get iterators.new reserved_handle ≡ None }
 {
     let number = match only_iterator(iterators, words) {
         Ok(number) => number,

@@ -5,32 +5,35 @@
 //! What the calls of a host mean that is told by its tables.
 #![tactic(auto)]
 
+mod argument_words;
 mod arrays;
-mod calls;
+pub mod call_laws;
 mod element_words;
 mod evaluate;
 mod iterators;
 mod key_texts;
 mod keys;
-pub mod laws;
 mod literals;
-mod primitive;
 mod reply;
 mod single;
 mod spent;
 mod text;
-mod words;
+mod value_calls;
 
+pub use argument_words::{expect_end, number_front, place_front, value_after, value_front};
 pub use arrays::{clear, delete, elem, free_array, has, new_array, set_elem};
-pub use calls::{call, give};
 pub use element_words::array_front;
-pub use evaluate::{push_text, text_len};
+pub use evaluate::{
+    comparison, concat, dup, fail, int_of, lit, num, power, push_text, text_len, to_num, truth_of,
+    uninit,
+};
+pub use host_step::Refusal;
 pub use iterators::Iterators;
 pub use key_texts::KeyTexts;
 pub use keys::{iter, iter_free, iter_next};
 pub use literals::Literals;
-pub use primitive::ValuePrimitive;
-pub use reply::{Refusal, Reply};
+pub use reply::{Evaluated, Reply};
 pub use single::{append, only_handle, release};
+pub use spent::Spent;
 pub use text::{ValueText, shared_text, value_text};
-pub use words::{ends, number_front, place_front, value_after, value_front};
+pub use value_calls::{carry_out, give};

@@ -1,12 +1,10 @@
-//! What calls on values answer.
+//! What calls answer.
 ghost use Rattle.std.specs.Prelude.{◌≡◌};
-ghost use Rattle.host_values.specs.Evaluations.{number_reply, truth_reply};
+ghost use Rattle.host_values.specs.ValueEvaluations.{number_reply, truth_reply};
 
 use crate::spent::Spent;
 use awk_text::MAX_NUMBER;
 use awk_values::{Fault, Value};
-use std::alloc::AllocError;
-use wasm_store::TrapKind;
 
 /// An answer that gives nothing new but a value.
 #[derive(Drop)]
@@ -14,45 +12,15 @@ pub enum Reply {
     Value(Value),
     Number(i64),
     Truth(bool),
+    /// Nothing but that it is done.
+    Done,
 }
 
 /// What a call comes to that does not trap: what it spends, and its answer or a fault.
 #[derive(Drop)]
-pub(crate) struct Evaluated {
-    pub(crate) spent: Spent,
-    pub(crate) outcome: Result<Reply, Fault>,
-}
-
-/// Why a call has no answer.
-#[derive(Clone, Copy, Drop)]
-pub enum Refusal {
-    /// It traps: nothing was spent, and nothing changed.
-    Trap(TrapKind),
-    /// A fault is to be kept: what it spends is gone.
-    Fault(Fault),
-    NoMemory,
-}
-
-impl From<AllocError> for Refusal {
-    ghost use Rattle.std.specs.Prelude.{◌≡◌};
-    ghost use Rattle.host_values.specs.declared.reply.Refusal.TheVariants.{NoMemory};
-
-    ghost from_gives = { λ _ e. e ≡ NoMemory };
-
-    fn from(_error: AllocError) -> Refusal {
-        Refusal::NoMemory
-    }
-}
-
-impl From<TrapKind> for Refusal {
-    ghost use Rattle.std.specs.Prelude.{◌≡◌};
-    ghost use Rattle.host_values.specs.declared.reply.Refusal.TheVariants as refusal;
-
-    ghost from_gives = { λ k e. e ≡ refusal.Trap k };
-
-    fn from(kind: TrapKind) -> Refusal {
-        Refusal::Trap(kind)
-    }
+pub struct Evaluated {
+    pub spent: Spent,
+    pub outcome: Result<Reply, Fault>,
 }
 
 /// A number as an answer, where it is in range.

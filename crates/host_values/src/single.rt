@@ -2,13 +2,15 @@
 ghost use Rattle.std.specs.Prelude.{◌≡◌, List, ℕ, None};
 ghost use Rattle.std.specs.FinMap as map;
 ghost use Rattle.host_step.specs.HostState.{HostState};
-ghost use Rattle.host_values.specs.Calls.{spare};
-ghost use Rattle.host_values.specs.Singles.{IsAppended, IsPushed, IsReleased, left_one, lent_only, only_handle, only_number, only_value};
+ghost use Rattle.host_step.specs.Outcomes.{IsCall};
+ghost use Rattle.host_imports.specs.declared.import.Import.{Import};
+ghost use Rattle.host_values.specs.Calls.{reserved_handle, with_values};
+ghost use Rattle.host_values.specs.Singles.{IsPushed, left_one, lent_only, only_handle, only_number, only_value, with_arguments};
 
-use crate::reply::Refusal;
-use crate::words::{ends, value_front};
+use crate::argument_words::{expect_end, value_front};
 use awk_values::Value;
 use host_handles::Handles;
+use host_step::Refusal;
 use smallvec::SmallVec;
 use wasm_store::{TrapKind, Word};
 
@@ -22,7 +24,7 @@ pub fn only_handle<'a>(handles: &'a Handles, words: &[Word]) -> Result<(i32, &'a
     ensures { lent_only result ≡ only_handle handles.now words.now }
 {
     let (handle, value, rest) = value_front(handles, words)?;
-    ends(rest)?;
+    expect_end(rest)?;
     Ok((handle, value))
 }
 
@@ -52,11 +54,11 @@ fn take_one(handles: &mut Handles, words: &[Word]) -> Result<Value, TrapKind>
 
 /// Appends a value.
 #[inline(always)]
-fn push_value(arguments: &mut SmallVec<Value, 8>, value: Value) -> Result<(), Refusal>
+fn push_value(arguments: &mut SmallVec<Value, 8>, value: Value) -> Result<Option<Word>, Refusal>
     ensures { IsPushed arguments.old.items value result arguments.new.items }
 {
     match arguments.push(value) {
-        Ok(()) => Ok(()),
+        Ok(()) => Ok(None),
         Err(_) => Err(Refusal::NoMemory),
     }
 }
@@ -67,17 +69,17 @@ fn push_value(arguments: &mut SmallVec<Value, 8>, value: Value) -> Result<(), Re
 ///
 /// A trap, which changes nothing.
 #[inline(always)]
-pub fn release(handles: &mut Handles, words: &[Word]) -> Result<(), TrapKind>
-    ensures step { (s : HostState) (memory : List ℕ)
-        → IsReleased s words.now memory handles.old result handles.new }
-    ensures spare { map.get handles.old spare ≡ None → map.get handles.new spare ≡ None }
+pub fn release(handles: &mut Handles, words: &[Word]) -> Result<Option<Word>, Refusal>
+    ensures step { (s : HostState) (memory : List ℕ) → IsCall Import.Drop (with_values handles.old s)
+        words.now memory result (with_values handles.new s) }
+    ensures spare { map.get handles.old reserved_handle ≡ None → map.get handles.new reserved_handle ≡ None }
 {
     match take_one(handles, words) {
         Ok(value) => {
             drop(value);
-            Ok(())
+            Ok(None)
         }
-        Err(kind) => Err(kind),
+        Err(kind) => Err(Refusal::Trap(kind)),
     }
 }
 
@@ -91,10 +93,11 @@ pub fn append(
     handles: &mut Handles,
     arguments: &mut SmallVec<Value, 8>,
     words: &[Word],
-) -> Result<(), Refusal>
-    ensures step { (s : HostState) (memory : List ℕ) → s.fault ≡ None → IsAppended s words.now
-        memory handles.old arguments.old.items result handles.new arguments.new.items }
-    ensures spare { map.get handles.old spare ≡ None → map.get handles.new spare ≡ None }
+) -> Result<Option<Word>, Refusal>
+    ensures step { (s : HostState) (memory : List ℕ) → s.fault ≡ None → IsCall Import.Arg
+        (with_arguments arguments.old.items (with_values handles.old s)) words.now memory result
+        (with_arguments arguments.new.items (with_values handles.new s)) }
+    ensures spare { map.get handles.old reserved_handle ≡ None → map.get handles.new reserved_handle ≡ None }
 {
     match take_one(handles, words) {
         Ok(value) => push_value(arguments, value),

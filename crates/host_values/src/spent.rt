@@ -6,10 +6,11 @@ use host_handles::Handles;
 
 /// The handles that a call spends, once it is carried out.
 #[derive(Clone, Copy, Drop)]
-pub(crate) enum Spent {
+pub enum Spent {
     Nothing,
     One(i32),
     Two(i32, i32),
+    Three(i32, i32, i32),
 }
 
 impl Spent {
@@ -26,6 +27,11 @@ impl Spent {
             Spent::Two(first, second) => {
                 handles.take(first);
                 handles.take(second);
+            }
+            Spent::Three(first, second, third) => {
+                handles.take(first);
+                handles.take(second);
+                handles.take(third);
             }
         }
     }

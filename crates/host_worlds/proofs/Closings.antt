@@ -23,11 +23,11 @@ use Rattle.host_step.specs.HostStep.{StepOf, acts, carried}
 use Rattle.host_step.specs.Arguments.{and_then}
 use Rattle.host_imports.specs.Imports.{spends}
 use Rattle.host_step.specs.Worlds.{Called, Wanted, unseen, with_output}
-use Rattle.host_imports.specs.declared.import.Import.TheVariants.{Of}
+use Rattle.host_imports.specs.declared.import.Import.TheVariants.{OfPrimitive}
 use Rattle.host_values.specs.Calls.{names_with}
 use Rattle.host_values.specs.Evaluations.{Values}
 use Rattle.host_values.specs.Singles.{only_handle}
-use Rattle.host_values.specs.declared.reply.Refusal.TheVariants as why
+use Rattle.host_step.specs.declared.refusal.Refusal.TheVariants as why
 use Rattle.host_values.proofs.OneHandle.{as_row, decoded}
 use Rattle.host_values.specs.ElementCalls.{Leads}
 use Rattle.host_values.specs.Forms.{HostForm, Past, state_of}
@@ -98,20 +98,20 @@ module _ (f : HostForm) (p : Past) (words : List Word) (memory : List ℕ) where
   closes v = close_row v (state_of f p).shared.inner
 
   close_carried : (h : ℤ) (v : Value) → only_handle f.values words ≡ Ok (h, v)
-      → carried (Of row.Close) words memory (state_of f p) ≡ Ok (names_with (table.remove f.values h) (state_of f p), acts_of f (closes v).0 (closes v).1)
+      → carried (OfPrimitive row.Close) words memory (state_of f p) ≡ Ok (names_with (table.remove f.values h) (state_of f p), acts_of f (closes v).0 (closes v).1)
   close_carried h v is =
-      ap (λ r. and_then r (λ x. and_then (acts (Of row.Close) x.0 (state_of f p)) (λ d. Ok (x.1, d))))
-      (decoded (spends (Of row.Close)) refl (state_of f p) f.values memory words ∙ ap (as_row (state_of f p) f.values) is)
+      ap (λ r. and_then r (λ x. and_then (acts (OfPrimitive row.Close) x.0 (state_of f p)) (λ d. Ok (x.1, d))))
+      (decoded (spends (OfPrimitive row.Close)) refl (state_of f p) f.values memory words ∙ ap (as_row (state_of f p) f.values) is)
 
-  close_trap : (k : TrapKind) → only_handle f.values words ≡ Err k → carried (Of row.Close) words memory (state_of f p) ≡ Err k
+  close_trap : (k : TrapKind) → only_handle f.values words ≡ Err k → carried (OfPrimitive row.Close) words memory (state_of f p) ≡ Err k
   close_trap k is =
-      ap (λ r. and_then r (λ x. and_then (acts (Of row.Close) x.0 (state_of f p)) (λ d. Ok (x.1, d))))
-      (decoded (spends (Of row.Close)) refl (state_of f p) f.values memory words ∙ ap (as_row (state_of f p) f.values) is)
+      ap (λ r. and_then r (λ x. and_then (acts (OfPrimitive row.Close) x.0 (state_of f p)) (λ d. Ok (x.1, d))))
+      (decoded (spends (OfPrimitive row.Close)) refl (state_of f p) f.values memory words ∙ ap (as_row (state_of f p) f.values) is)
 
   close_step : (h : ℤ) (v : Value) → f.fault ≡ None → only_handle f.values words ≡ Ok (h, v)
-      → StepOf (Of row.Close) (state_of f p) words memory (told.Done (Some (I32 (stream_code (closes v).1)))) (state_with (names_with (table.remove f.values h) (state_of f p)) (closes v).0 f) []
+      → StepOf (OfPrimitive row.Close) (state_of f p) words memory (told.Done (Some (I32 (stream_code (closes v).1)))) (state_with (names_with (table.remove f.values h) (state_of f p)) (closes v).0 f) []
   close_step h v none is =
-      goes (Of row.Close) f p _ words memory (names_with (table.remove f.values h) (state_of f p)) (closes v).0 (closes v).1 0 _ (unrefused (Of row.Close) f.fault none) (close_carried h v is) tt refl refl
+      goes (OfPrimitive row.Close) f p _ words memory (names_with (table.remove f.values h) (state_of f p)) (closes v).0 (closes v).1 0 _ (unrefused (OfPrimitive row.Close) f.fault none) (close_carried h v is) tt refl refl
 
 -- On the tables.
 
@@ -123,28 +123,28 @@ module _ (tells : Type 0) (f : HostForm) (words : List Word) (memory : List ℕ)
   abbrev at_first : HostForm
   at_first = closing values streams state f
 
-  pub close_traps : (k : TrapKind) → only_handle values words ≡ Err k → IsCalled tells (Of row.Close) at_first words memory (Err (why.Trap k)) at_first []
+  pub close_traps : (k : TrapKind) → only_handle values words ≡ Err k → IsCalled tells (OfPrimitive row.Close) at_first words memory (Err (why.Trap k)) at_first []
   close_traps k is = (
     λ s st. (
       s,
       st,
-      subst (λ (t : HostState). Called tells (Some (Of row.Close)) t words memory (told.Trap k) t []) (sym st.state)
-          (trap_called tells (Of row.Close) (state_of at_first st.past) words memory k refl
-          (λ so_far. traps (Of row.Close) (so_far_form so_far at_first) st.past words memory k (unrefused (Of row.Close) f.fault none) (close_trap (so_far_form so_far at_first) st.past words memory k is))),
+      subst (λ (t : HostState). Called tells (Some (OfPrimitive row.Close)) t words memory (told.Trap k) t []) (sym st.state)
+          (trap_called tells (OfPrimitive row.Close) (state_of at_first st.past) words memory k refl
+          (λ so_far. traps (OfPrimitive row.Close) (so_far_form so_far at_first) st.past words memory k (unrefused (OfPrimitive row.Close) f.fault none) (close_trap (so_far_form so_far at_first) st.past words memory k is))),
     ),
-    led_nothing (Of row.Close) at_first at_first words memory (told.Trap k) (λ finds outside so_far s st. let g = form_finding finds outside so_far at_first in (
+    led_nothing (OfPrimitive row.Close) at_first at_first words memory (told.Trap k) (λ finds outside so_far s st. let g = form_finding finds outside so_far at_first in (
       s,
       st,
-      subst (λ (t : HostState). StepOf (Of row.Close) t words memory (told.Trap k) t []) (sym st.state)
-          (traps (Of row.Close) g st.past words memory k (unrefused (Of row.Close) f.fault none) (close_trap g st.past words memory k is)),
+      subst (λ (t : HostState). StepOf (OfPrimitive row.Close) t words memory (told.Trap k) t []) (sym st.state)
+          (traps (OfPrimitive row.Close) g st.past words memory k (unrefused (OfPrimitive row.Close) f.fault none) (close_trap g st.past words memory k is)),
     )),
   )
 
-  pub close_wants : (h : ℤ) (v : Value) → only_handle values words ≡ Ok (h, v) → IsCalled tells (Of row.Close) at_first words memory (Err why.NoMemory) at_first []
+  pub close_wants : (h : ℤ) (v : Value) → only_handle values words ≡ Ok (h, v) → IsCalled tells (OfPrimitive row.Close) at_first words memory (Err why.NoMemory) at_first []
   close_wants h v is t s st = (
     s,
     ap (λ (x : HostState). x.shared.outside) st.state,
-    subst (λ (x : HostState). Wanted (Some (Of row.Close)) x words memory x []) (sym st.state) (record {
+    subst (λ (x : HostState). Wanted (Some (OfPrimitive row.Close)) x words memory x []) (sym st.state) (record {
       outside = refl;
       answer = told.Done (Some (I32 (stream_code (closes at_first st.past words memory v).1)));
       answered = λ e. cc;
@@ -173,9 +173,9 @@ module _ (tells : Type 0) (f : HostForm) (words : List Word) (memory : List ℕ)
     abbrev step_after : Past → HostState
     step_after p = state_with (names_with (table.remove values h) (state_of at_first p)) (closes at_first p words memory v).0 at_first
 
-    step_told : (p : Past) (so_far : List Action) → StepOf (Of row.Close) (with_output so_far (state_of at_first p)) words memory (told.Done (Some (closed_code closed))) (with_output so_far (step_after p)) []
+    step_told : (p : Past) (so_far : List Action) → StepOf (OfPrimitive row.Close) (with_output so_far (state_of at_first p)) words memory (told.Done (Some (closed_code closed))) (with_output so_far (step_after p)) []
     step_told p so_far =
-        subst (λ (w : Word). StepOf (Of row.Close) (with_output so_far (state_of at_first p)) words memory (told.Done (Some w)) (with_output so_far (step_after p)) []) (code_is p)
+        subst (λ (w : Word). StepOf (OfPrimitive row.Close) (with_output so_far (state_of at_first p)) words memory (told.Done (Some w)) (with_output so_far (step_after p)) []) (code_is p)
         (close_step (so_far_form so_far at_first) p words memory h v none is)
 
     -- what is left by the definition, with these files and this outside
@@ -243,27 +243,27 @@ module _ (tells : Type 0) (f : HostForm) (words : List Word) (memory : List ℕ)
         ∙ sym (names_only streams'.readers.items state'))
 
     closes_there : (finds : List Entry) (o : Outside) (so_far : List Action)
-        → Leads (Of row.Close) (there finds o so_far) words memory (told.Done (Some (closed_code closed))) (form_finding finds o so_far at_last)
+        → Leads (OfPrimitive row.Close) (there finds o so_far) words memory (told.Done (Some (closed_code closed))) (form_finding finds o so_far at_last)
     closes_there finds o so_far s st =
         let p = st.past in
         let g = there finds o so_far in
         let last = state_of (form_finding finds o so_far at_last) p in (
           last,
           record { past = p; state = refl; arrays = st.arrays; iterators = st.iterators; first = st.first },
-          subst (λ (t : HostState). StepOf (Of row.Close) t words memory (told.Done (Some (closed_code closed))) last []) (sym st.state)
-              (subst (λ (w : Word). StepOf (Of row.Close) (state_of g p) words memory (told.Done (Some w)) last []) (code_there finds o so_far p)
-              (subst (λ (x : HostState). StepOf (Of row.Close) (state_of g p) words memory (told.Done (Some (I32 (stream_code (closes g p words memory v).1)))) x [])
+          subst (λ (t : HostState). StepOf (OfPrimitive row.Close) t words memory (told.Done (Some (closed_code closed))) last []) (sym st.state)
+              (subst (λ (w : Word). StepOf (OfPrimitive row.Close) (state_of g p) words memory (told.Done (Some w)) last []) (code_there finds o so_far p)
+              (subst (λ (x : HostState). StepOf (OfPrimitive row.Close) (state_of g p) words memory (told.Done (Some (I32 (stream_code (closes g p words memory v).1)))) x [])
               (same_there finds o so_far p) (close_step g p words memory h v none is))),
         )
 
-    closes_world : LeadsIn tells (Of row.Close) at_first words memory (told.Done (Some (closed_code closed))) at_last []
+    closes_world : LeadsIn tells (OfPrimitive row.Close) at_first words memory (told.Done (Some (closed_code closed))) at_last []
     closes_world s st =
         let p = st.past in (
           state_of at_last p,
           record { past = p; state = refl; arrays = st.arrays; iterators = st.iterators; first = st.first },
-          subst (λ (t : HostState). Called tells (Some (Of row.Close)) t words memory (told.Done (Some (closed_code closed))) (state_of at_last p) []) (sym st.state)
-              (silent_called tells (Of row.Close) (state_of at_first p) (state_of at_last p) words memory (told.Done (Some (closed_code closed))) refl
-              (λ t so_far. subst (λ (x : HostState). StepOf (Of row.Close) (with_output so_far (state_of at_first p)) words memory (told.Done (Some (closed_code closed))) (with_output so_far x) []) (same_told t p) (step_told p so_far))
+          subst (λ (t : HostState). Called tells (Some (OfPrimitive row.Close)) t words memory (told.Done (Some (closed_code closed))) (state_of at_last p) []) (sym st.state)
+              (silent_called tells (OfPrimitive row.Close) (state_of at_first p) (state_of at_last p) words memory (told.Done (Some (closed_code closed))) refl
+              (λ t so_far. subst (λ (x : HostState). StepOf (OfPrimitive row.Close) (with_output so_far (state_of at_first p)) words memory (told.Done (Some (closed_code closed))) (with_output so_far x) []) (same_told t p) (step_told p so_far))
               (record {
                 old = with_output [] (state_of at_first p);
                 new = with_output [] (step_after p);
@@ -274,5 +274,5 @@ module _ (tells : Type 0) (f : HostForm) (words : List Word) (memory : List ℕ)
               })),
         )
 
-    pub close_closes : IsCalled tells (Of row.Close) at_first words memory (Ok (Some (closed_code closed))) at_last []
-    close_closes = (closes_world, led_nothing (Of row.Close) at_first at_last words memory (told.Done (Some (closed_code closed))) closes_there)
+    pub close_closes : IsCalled tells (OfPrimitive row.Close) at_first words memory (Ok (Some (closed_code closed))) at_last []
+    close_closes = (closes_world, led_nothing (OfPrimitive row.Close) at_first at_last words memory (told.Done (Some (closed_code closed))) closes_there)

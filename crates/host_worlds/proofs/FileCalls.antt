@@ -23,13 +23,13 @@ use Rattle.host_step.specs.HostState.{HostState, Names}
 use Rattle.host_step.specs.HostStep.{Acts, acts, carried}
 use Rattle.host_imports.specs.Imports.{import_answer, spends}
 use Rattle.host_step.specs.Worlds.{HasLine, HasPending, KeepsOthers, Wanted, reads_line, reads_main, unseen_inner}
-use Rattle.host_imports.specs.declared.import.Import.TheVariants.{Of}
+use Rattle.host_imports.specs.declared.import.Import.TheVariants.{OfPrimitive}
 use Rattle.host_streams.specs.OpenFiles.{names_of}
 use Rattle.host_texts.specs.declared.texts.Texts.{Texts}
 use Rattle.host_values.specs.Calls.{names_with}
 use Rattle.host_values.specs.Evaluations.{Values}
 use Rattle.host_values.specs.Singles.{only_handle}
-use Rattle.host_values.specs.declared.reply.Refusal.TheVariants as why
+use Rattle.host_step.specs.declared.refusal.Refusal.TheVariants as why
 use Rattle.host_values.proofs.OneHandle.{as_row, decoded}
 use Rattle.host_values.specs.Forms.{HostForm, Past, inner_of, state_of}
 use Rattle.host_values.proofs.ElementSteps.{state_with}
@@ -42,17 +42,17 @@ use Rattle.host_worlds.specs.Givens.{RowGives, file_primitive, file_row}
 use Rattle.host_worlds.specs.Keeps.{AnswerLine, IsReadOn, KeepsSubstituted}
 use Rattle.host_worlds.specs.States.{Finding, Over, over_world, with_tables}
 use Rattle.host_worlds.specs.declared.input.Input.{Input}
-use Rattle.host_worlds.specs.declared.input.Keep.{Keep}
-use Rattle.host_worlds.specs.declared.input.Keep.TheVariants.{Line, Record}
+use Rattle.host_worlds.specs.declared.input.ReadInto.{ReadInto}
+use Rattle.host_worlds.specs.declared.input.ReadInto.TheVariants.{Variable, Record}
 use Rattle.host_worlds.proofs.MainCalls.{acts_given}
 use Rattle.host_worlds.proofs.ReadFound.{answers_found, faults_found, seen_found, traps_found}
 use Rattle.host_worlds.proofs.ReadSteps.{Carries, IsReading, answer_called, fault_called, form_output, leads_in, memory_wanted, trap_called}
 
 -- The two imports.
 
-pub file_reading : (to : Keep) → IsReading (Of (file_primitive to))
+pub file_reading : (to : ReadInto) → IsReading (OfPrimitive (file_primitive to))
 file_reading Record = record { coerce = λ x. x; word = λ names x. refl; free = λ names x. tt; refused = refl; typed = λ n. refl; reading = refl }
-file_reading Line = record { coerce = λ x. x; word = λ names x. refl; free = λ names x. tt; refused = refl; typed = λ n. refl; reading = refl }
+file_reading Variable = record { coerce = λ x. x; word = λ names x. refl; free = λ names x. tt; refused = refl; typed = λ n. refl; reading = refl }
 
 module _ (f : HostForm) (p : Past) (words : List Word) (memory : List ℕ) (none : f.fault ≡ None) where
   abbrev start : HostState
@@ -65,37 +65,37 @@ module _ (f : HostForm) (p : Past) (words : List Word) (memory : List ℕ) (none
   Decoded = Result (Row (argument.Of sort.Value ∷ []) × Names) TrapKind
 
   abbrev then_records : HostState → Decoded → Result (Names × Acts InputAnswer) TrapKind
-  then_records s r = and_then r (λ x. and_then (acts (Of (file_primitive Record)) x.0 s) (λ d. Ok (x.1, d)))
+  then_records s r = and_then r (λ x. and_then (acts (OfPrimitive (file_primitive Record)) x.0 s) (λ d. Ok (x.1, d)))
 
   abbrev then_lines : HostState → Decoded → Result (Names × Acts InputAnswer) TrapKind
-  then_lines s r = and_then r (λ x. and_then (acts (Of (file_primitive Line)) x.0 s) (λ d. Ok (x.1, d)))
+  then_lines s r = and_then r (λ x. and_then (acts (OfPrimitive (file_primitive Variable)) x.0 s) (λ d. Ok (x.1, d)))
 
   module _ (h : ℤ) (v : Value) (reads : only_handle f.values words ≡ Ok (h, v)) where
     abbrev left : Names
     left = names_with (map.remove f.values h) start
 
-    file_carries : (to : Keep) → Carries (Of (file_primitive to)) (file_reading to) f p words memory none left (file_row to v start.shared.outside start.shared.inner)
+    file_carries : (to : ReadInto) → Carries (OfPrimitive (file_primitive to)) (file_reading to) f p words memory none left (file_row to v start.shared.outside start.shared.inner)
     unfolding file_reading
     file_carries Record = record {
       answers = λ o inner x is.
-          ap (then_records (at o)) (decoded (spends (Of (file_primitive Record))) refl (at o) f.values memory words ∙ ap (as_row (at o) f.values) reads)
+          ap (then_records (at o)) (decoded (spends (OfPrimitive (file_primitive Record))) refl (at o) f.values memory words ∙ ap (as_row (at o) f.values) reads)
           ∙ acts_given true left (at o) (file_row Record v start.shared.outside start.shared.inner) (Ok (inner, x)) refl is;
       faults = λ o fault is.
-          ap (then_records (at o)) (decoded (spends (Of (file_primitive Record))) refl (at o) f.values memory words ∙ ap (as_row (at o) f.values) reads)
+          ap (then_records (at o)) (decoded (spends (OfPrimitive (file_primitive Record))) refl (at o) f.values memory words ∙ ap (as_row (at o) f.values) reads)
           ∙ acts_given true left (at o) (file_row Record v start.shared.outside start.shared.inner) (Err fault) refl is;
     }
-    file_carries Line = record {
+    file_carries Variable = record {
       answers = λ o inner x is.
-          ap (then_lines (at o)) (decoded (spends (Of (file_primitive Line))) refl (at o) f.values memory words ∙ ap (as_row (at o) f.values) reads)
-          ∙ acts_given true left (at o) (file_row Line v start.shared.outside start.shared.inner) (Ok (inner, x)) refl is;
+          ap (then_lines (at o)) (decoded (spends (OfPrimitive (file_primitive Variable))) refl (at o) f.values memory words ∙ ap (as_row (at o) f.values) reads)
+          ∙ acts_given true left (at o) (file_row Variable v start.shared.outside start.shared.inner) (Ok (inner, x)) refl is;
       faults = λ o fault is.
-          ap (then_lines (at o)) (decoded (spends (Of (file_primitive Line))) refl (at o) f.values memory words ∙ ap (as_row (at o) f.values) reads)
-          ∙ acts_given true left (at o) (file_row Line v start.shared.outside start.shared.inner) (Err fault) refl is;
+          ap (then_lines (at o)) (decoded (spends (OfPrimitive (file_primitive Variable))) refl (at o) f.values memory words ∙ ap (as_row (at o) f.values) reads)
+          ∙ acts_given true left (at o) (file_row Variable v start.shared.outside start.shared.inner) (Err fault) refl is;
     }
 
-  file_traps : (to : Keep) (k : TrapKind) → only_handle f.values words ≡ Err k → (o : List Action) → carried (Of (file_primitive to)) words memory (at o) ≡ Err k
-  file_traps Record k e o = ap (then_records (at o)) (decoded (spends (Of (file_primitive Record))) refl (at o) f.values memory words ∙ ap (as_row (at o) f.values) e)
-  file_traps Line k e o = ap (then_lines (at o)) (decoded (spends (Of (file_primitive Line))) refl (at o) f.values memory words ∙ ap (as_row (at o) f.values) e)
+  file_traps : (to : ReadInto) (k : TrapKind) → only_handle f.values words ≡ Err k → (o : List Action) → carried (OfPrimitive (file_primitive to)) words memory (at o) ≡ Err k
+  file_traps Record k e o = ap (then_records (at o)) (decoded (spends (OfPrimitive (file_primitive Record))) refl (at o) f.values memory words ∙ ap (as_row (at o) f.values) e)
+  file_traps Variable k e o = ap (then_lines (at o)) (decoded (spends (OfPrimitive (file_primitive Variable))) refl (at o) f.values memory words ∙ ap (as_row (at o) f.values) e)
 
 -- What is left alone.
 
@@ -117,27 +117,27 @@ module _ (m m' : Values) (t t' : Texts) (i i' : Input) (s s' : State) (f : HostF
     substituted = kept;
   }
 
-  file_line : (to : Keep) (x : InputAnswer) → AnswerLine to (Ok x) i i' → HasLine (reads_line (Of (file_primitive to))) x before later
+  file_line : (to : ReadInto) (x : InputAnswer) → AnswerLine to (Ok x) i i' → HasLine (reads_line (OfPrimitive (file_primitive to))) x before later
   file_line Record input.Read h = h
   file_line Record input.End h = h
   file_line Record input.Pending h = h
   file_line Record input.Failed h = h
-  file_line Line input.Read h = h
-  file_line Line input.End h = h
-  file_line Line input.Pending h = h
-  file_line Line input.Failed h = h
+  file_line Variable input.Read h = h
+  file_line Variable input.End h = h
+  file_line Variable input.Pending h = h
+  file_line Variable input.Failed h = h
 
 -- The calls.
 
-module _ (tells : Type 0) (to : Keep) (f : HostForm) (words : List Word) (memory : List ℕ) (none : f.fault ≡ None) (m : Values) (t : Texts) (i : Input) (s : State) where
+module _ (tells : Type 0) (to : ReadInto) (f : HostForm) (words : List Word) (memory : List ℕ) (none : f.fault ≡ None) (m : Values) (t : Texts) (i : Input) (s : State) where
   abbrev old : HostForm
   old = with_values m (over_world t i s f)
 
-  pub file_trapped : (k : TrapKind) → only_handle m words ≡ Err k → IsCalled tells (Of (file_primitive to)) old words memory (Err (why.Trap k)) old []
+  pub file_trapped : (k : TrapKind) → only_handle m words ≡ Err k → IsCalled tells (OfPrimitive (file_primitive to)) old words memory (Err (why.Trap k)) old []
   file_trapped k e = (
-    leads_in tells (Of (file_primitive to)) old old words memory (told.Trap k) refl refl (λ p past.
-        trap_called (Of (file_primitive to)) (file_reading to) old p words memory none tells k (file_traps old p words memory none to k e)),
-    traps_found (Of (file_primitive to)) (file_reading to) old words memory none k (λ finds o so_far p. file_traps (form_finding finds o so_far old) p words memory none to k e so_far),
+    leads_in tells (OfPrimitive (file_primitive to)) old old words memory (told.Trap k) refl refl (λ p past.
+        trap_called (OfPrimitive (file_primitive to)) (file_reading to) old p words memory none tells k (file_traps old p words memory none to k e)),
+    traps_found (OfPrimitive (file_primitive to)) (file_reading to) old words memory none k (λ finds o so_far p. file_traps (form_finding finds o so_far old) p words memory none to k e so_far),
   )
 
   module _ (h : ℤ) (v : Value) (reads : only_handle m words ≡ Ok (h, v)) (m' : Values) (taken : m' ≡ map.remove m h) (t' : Texts) (i' : Input) (s' : State) (r : Result InputAnswer Stop)
@@ -164,21 +164,21 @@ module _ (tells : Type 0) (to : Keep) (f : HostForm) (words : List Word) (memory
     abbrev old_left : Values → HostForm
     old_left x = record old { values = x }
 
-    pending_by : (p : Past) (x : InputAnswer) → r ≡ Ok x → HasPending (reads_main (Of (file_primitive to))) x (state_of old p).shared.inner (state_of new p).shared.inner
+    pending_by : (p : Past) (x : InputAnswer) → r ≡ Ok x → HasPending (reads_main (OfPrimitive (file_primitive to))) x (state_of old p).shared.inner (state_of new p).shared.inner
     pending_by p x e = by to x e
       where
         stays : i'.names.pending ≡ i.names.pending
         stays = ap (λ (y : Input). y.names.pending) moved
 
-        by : (k : Keep) (x : InputAnswer) → r ≡ Ok x → HasPending (reads_main (Of (file_primitive k))) x (state_of old p).shared.inner (state_of new p).shared.inner
+        by : (k : ReadInto) (x : InputAnswer) → r ≡ Ok x → HasPending (reads_main (OfPrimitive (file_primitive k))) x (state_of old p).shared.inner (state_of new p).shared.inner
         by Record input.Read e = stays
         by Record input.End e = stays
         by Record input.Pending e = other e
         by Record input.Failed e = stays
-        by Line input.Read e = stays
-        by Line input.End e = stays
-        by Line input.Pending e = other e
-        by Line input.Failed e = stays
+        by Variable input.Read e = stays
+        by Variable input.End e = stays
+        by Variable input.Pending e = other e
+        by Variable input.Failed e = stays
 
     -- where others change what names hold too
     row_found : (later : List Entry) (o : Outside) (p : Past)
@@ -192,10 +192,10 @@ module _ (tells : Type 0) (to : Keep) (f : HostForm) (words : List Word) (memory
         ap (λ (z : Inner). record (last (map.remove m h)) { shared = record (last (map.remove m h)).shared { inner = z } }) (sym (seen_found t' i' s' later (inner_at p)))
         ∙ ap last (sym taken)
 
-    file_called : (x : Result InputAnswer Stop) → r ≡ x → IsCalled tells (Of (file_primitive to)) old words memory (answered_by x) (shown_after (answered_by x) old new) []
+    file_called : (x : Result InputAnswer Stop) → r ≡ x → IsCalled tells (OfPrimitive (file_primitive to)) old words memory (answered_by x) (shown_after (answered_by x) old new) []
     file_called (Ok x) e = (
-      leads_in tells (Of (file_primitive to)) old new words memory (told.Done (Some (I32 (input_code x)))) refl refl (λ p past.
-          answer_called (Of (file_primitive to)) (file_reading to) old p words memory none (spent p) (file_row to v s.outside (with_tables t i (Over s) (inner_at p))) (file_carries old p words memory none h v reads to) tells x (state_of new p)
+      leads_in tells (OfPrimitive (file_primitive to)) old new words memory (told.Done (Some (I32 (input_code x)))) refl refl (λ p past.
+          answer_called (OfPrimitive (file_primitive to)) (file_reading to) old p words memory none (spent p) (file_row to v s.outside (with_tables t i (Over s) (inner_at p))) (file_carries old p words memory none h v reads to) tells x (state_of new p)
           (λ y. (with_tables t' i' (Over s') (inner_at p), subst (λ a. RowGives (file_row to v s.outside (with_tables t i (Over s) (inner_at p))) a (with_tables t' i' (Over s') (inner_at p))) e (told_row y (inner_at p)), state_is p (outside y)))
           (record {
             names = names_are p;
@@ -204,7 +204,7 @@ module _ (tells : Type 0) (to : Keep) (f : HostForm) (words : List Word) (memory
             how = Ok x;
             ends = record { answer = refl; fault = refl; line = file_line m m' t t' i i' s s' f p to x (subst (λ a. AnswerLine to a i i') e line); pending = pending_by p x e };
           })),
-      answers_found (Of (file_primitive to)) (file_reading to) old words memory none new refl refl finds.0 none x (λ later o so_far p past. (
+      answers_found (OfPrimitive (file_primitive to)) (file_reading to) old words memory none new refl refl finds.0 none x (λ later o so_far p past. (
         spent p,
         file_row to v o (state_of (form_finding (finds.0 ++ later) o so_far old) p).shared.inner,
         file_carries (form_finding (finds.0 ++ later) o so_far old) p words memory none h v reads to,
@@ -214,8 +214,8 @@ module _ (tells : Type 0) (to : Keep) (f : HostForm) (words : List Word) (memory
       )),
     )
     file_called (Err (IsFault fault)) e = (
-      leads_in tells (Of (file_primitive to)) old (record (old_left m') { fault = Some fault }) words memory (told.Done (refusal (import_answer (Of (file_primitive to))))) refl refl (λ p past.
-          fault_called (Of (file_primitive to)) (file_reading to) old p words memory none (spent p) (file_row to v s.outside (with_tables t i (Over s) (inner_at p))) (file_carries old p words memory none h v reads to) tells fault (state_of (record (old_left m') { fault = Some fault }) p)
+      leads_in tells (OfPrimitive (file_primitive to)) old (record (old_left m') { fault = Some fault }) words memory (told.Done (refusal (import_answer (OfPrimitive (file_primitive to))))) refl refl (λ p past.
+          fault_called (OfPrimitive (file_primitive to)) (file_reading to) old p words memory none (spent p) (file_row to v s.outside (with_tables t i (Over s) (inner_at p))) (file_carries old p words memory none h v reads to) tells fault (state_of (record (old_left m') { fault = Some fault }) p)
           (λ y. subst (λ a. RowGives (file_row to v s.outside (with_tables t i (Over s) (inner_at p))) a (with_tables t' i' (Over s') (inner_at p))) e (told_row y (inner_at p)))
           (ap (λ (x : Values). state_of (record (old_left x) { fault = Some fault }) p) (sym taken))
           (record {
@@ -225,7 +225,7 @@ module _ (tells : Type 0) (to : Keep) (f : HostForm) (words : List Word) (memory
             how = Err fault;
             ends = record { answer = ap told.Done (file_reading to).refused; kept = refl };
           })),
-      faults_found (Of (file_primitive to)) (file_reading to) old words memory none (record (old_left m') { fault = Some fault }) refl refl finds.0 fault refl (λ later o so_far p past. (
+      faults_found (OfPrimitive (file_primitive to)) (file_reading to) old words memory none (record (old_left m') { fault = Some fault }) refl refl finds.0 fault refl (λ later o so_far p past. (
         spent p,
         file_row to v o (state_of (form_finding (finds.0 ++ later) o so_far old) p).shared.inner,
         file_carries (form_finding (finds.0 ++ later) o so_far old) p words memory none h v reads to,
@@ -236,18 +236,18 @@ module _ (tells : Type 0) (to : Keep) (f : HostForm) (words : List Word) (memory
     file_called (Err NoMemory) e = λ y s0 st. (
       state_of new st.past,
       refl,
-      subst (λ z. Wanted (Some (Of (file_primitive to))) z words memory (state_of new st.past) []) (sym st.state)
-          (memory_wanted (Of (file_primitive to)) (file_reading to) old st.past words memory none (spent st.past) (file_row to v s.outside (with_tables t i (Over s) (inner_at st.past))) (file_carries old st.past words memory none h v reads to) (state_of new st.past) (outside y)),
+      subst (λ z. Wanted (Some (OfPrimitive (file_primitive to))) z words memory (state_of new st.past) []) (sym st.state)
+          (memory_wanted (OfPrimitive (file_primitive to)) (file_reading to) old st.past words memory none (spent st.past) (file_row to v s.outside (with_tables t i (Over s) (inner_at st.past))) (file_carries old st.past words memory none h v reads to) (state_of new st.past) (outside y)),
     )
 
-    pub file_answers : IsCalled tells (Of (file_primitive to)) old words memory (answered_by r) (shown_after (answered_by r) old new) []
+    pub file_answers : IsCalled tells (OfPrimitive (file_primitive to)) old words memory (answered_by r) (shown_after (answered_by r) old new) []
     file_answers = file_called r refl
 
   -- memory was wanting before the file was read
-  pub file_wanted : (h : ℤ) (v : Value) → only_handle m words ≡ Ok (h, v) → IsCalled tells (Of (file_primitive to)) old words memory (Err why.NoMemory) old []
+  pub file_wanted : (h : ℤ) (v : Value) → only_handle m words ≡ Ok (h, v) → IsCalled tells (OfPrimitive (file_primitive to)) old words memory (Err why.NoMemory) old []
   file_wanted h v reads = λ y s0 st. (
     state_of old st.past,
     refl,
-    subst (λ z. Wanted (Some (Of (file_primitive to))) z words memory (state_of old st.past) []) (sym st.state)
-        (memory_wanted (Of (file_primitive to)) (file_reading to) old st.past words memory none (names_with (map.remove m h) (state_of old st.past)) (file_row to v s.outside (with_tables t i (Over s) (inner_of f.shared.inner st.past.arrays st.past.iterators))) (file_carries old st.past words memory none h v reads to) (state_of old st.past) refl),
+    subst (λ z. Wanted (Some (OfPrimitive (file_primitive to))) z words memory (state_of old st.past) []) (sym st.state)
+        (memory_wanted (OfPrimitive (file_primitive to)) (file_reading to) old st.past words memory none (names_with (map.remove m h) (state_of old st.past)) (file_row to v s.outside (with_tables t i (Over s) (inner_of f.shared.inner st.past.arrays st.past.iterators))) (file_carries old st.past words memory none h v reads to) (state_of old st.past) refl),
   )

@@ -8,7 +8,7 @@ use Rattle.awk_values.specs.declared.fault.Stop.TheVariants.{Fault as IsFault, N
 use Rattle.world_core.specs.WorldState.{Entry, Named, Outside, Source}
 use Rattle.world_core.specs.declared.world.Ending.TheVariants.{End as IsEnd}
 use Rattle.sem_primitives.specs.FieldMeaning.{special_text}
-use Rattle.sem_primitives.specs.Finds.{looked, seen, shut}
+use Rattle.sem_primitives.specs.Finds.{observed, seen, shut}
 use Rattle.sem_primitives.specs.InputMeaning.{got_file, nothing_left, open_or_read, opened_file, read_file, reader_named, source_of, with_reader}
 use Rattle.sem_primitives.specs.OutputMeaning.{has_room}
 use Rattle.sem_primitives.specs.Records.{Got, first_record, record_separator}
@@ -142,9 +142,9 @@ module _ (name : List ℕ) (rs : Option ℕ) (base : Inner) (asked : record_sepa
 
   opens : (b : Bool) (outside : Outside) (readers : Readers) (finds : List Entry) → has_room (at base readers finds) ≡ b
       → open_or_read keep name outside None (at base readers finds)
-      ≡ elim b [ true ↦ opened_file keep name (source_of (seen (at base readers finds) outside (Named name))) (looked (at base readers finds)) | false ↦ Err TooManyStreams ]
+      ≡ elim b [ true ↦ opened_file keep name (source_of (seen (at base readers finds) outside (Named name))) (observed (at base readers finds)) | false ↦ Err TooManyStreams ]
   opens b outside readers finds e =
-      ap (λ x. elim x [ true ↦ opened_file keep name (source_of (seen (at base readers finds) outside (Named name))) (looked (at base readers finds)) | false ↦ Err TooManyStreams ]) e
+      ap (λ x. elim x [ true ↦ opened_file keep name (source_of (seen (at base readers finds) outside (Named name))) (observed (at base readers finds)) | false ↦ Err TooManyStreams ]) e
 
 -- Something is found, whatever is found later, where reading a file gives what the definition does.
 abbrev pub FindsNamed : List ℕ → Option ℕ → Bool → Option Source → List NamedReader → Result FileNext Stop → List NamedReader → Type 0

@@ -32,8 +32,8 @@ use Rattle.host_texts.specs.declared.texts.Texts.{Texts}
 use Rattle.host_worlds.specs.Givens.{FileGives, file_row, kept_by}
 use Rattle.host_worlds.specs.States.{Finding, Over, readers_by, with_tables}
 use Rattle.host_worlds.specs.declared.input.Input.{Input}
-use Rattle.host_worlds.specs.declared.input.Keep.{Keep}
-use Rattle.host_worlds.specs.declared.input.Keep.TheVariants.{Line, Record}
+use Rattle.host_worlds.specs.declared.input.ReadInto.{ReadInto}
+use Rattle.host_worlds.specs.declared.input.ReadInto.TheVariants.{Variable, Record}
 
 abbrev Readers : Type 0
 Readers = List (List ℕ × Source)
@@ -141,11 +141,11 @@ room_is s texts i state inner same =
 
 -- the imports
 
-pub file_row_is : (to : Keep) (value : Value) (outside : Outside) (inner : Inner) → file_row to value outside inner ≡ getline_file_by (kept_by to) value outside inner
+pub file_row_is : (to : ReadInto) (value : Value) (outside : Outside) (inner : Inner) → file_row to value outside inner ≡ getline_file_by (kept_by to) value outside inner
 file_row_is Record value outside inner = refl
-file_row_is Line value outside inner = refl
+file_row_is Variable value outside inner = refl
 
-pub file_got : {a : FileNext} (b : FileNext) (to : Keep) (wanted : Result (Inner × InputAnswer) Fault) (new : Inner) → a ≡ b → FileGives wanted (kept_by to) (Ok a) new → FileGives wanted (kept_by to) (Ok b) new
+pub file_got : {a : FileNext} (b : FileNext) (to : ReadInto) (wanted : Result (Inner × InputAnswer) Fault) (new : Inner) → a ≡ b → FileGives wanted (kept_by to) (Ok a) new → FileGives wanted (kept_by to) (Ok b) new
 file_got b to wanted new e h = subst (λ (x : FileNext). FileGives wanted (kept_by to) (Ok x) new) e h
 
 pub room_found : (texts : Texts) (i : Input) (finds : List Entry) (inner : Inner) → has_room (with_tables texts i (Finding finds) inner) ≡ open_room i.files

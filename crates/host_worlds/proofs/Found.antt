@@ -6,7 +6,7 @@ use Rattle.awk_values.specs.declared.fault.Fault.{Fault}
 use Rattle.awk_values.specs.declared.fault.Fault.TheVariants.{OpenOutput, TooManyStreams, WriteFailed}
 use Rattle.awk_values.specs.declared.fault.Stop.{Stop}
 use Rattle.awk_values.specs.declared.fault.Stop.TheVariants as stop
-use Rattle.sem_primitives.specs.Finds.{finds_by, looked_by, seen}
+use Rattle.sem_primitives.specs.Finds.{finds_by, observed_by, seen}
 use Rattle.sem_primitives.specs.OutputMeaning.{all_fits, has_room, is_writing, kept_open, opened_if, write_answer, written, written_by}
 use Rattle.sem_primitives.specs.SharedState.{Inner, Shared}
 use Rattle.world_core.specs.WorldState.{Entry, Named, Open, Standard, Target, absent, puts}
@@ -16,7 +16,7 @@ use Rattle.host_streams.specs.Outputs.{with_writer}
 use Rattle.host_streams.specs.Puts.{EndsPut}
 use Rattle.host_streams.specs.declared.streams.Streams.{Streams}
 use Rattle.host_streams.proofs.Outputs.{with_missing, with_named}
-use Rattle.host_worlds.specs.OutputCalls.{Could, HasFiles, PutsFound, SomeFound, finding, left_by}
+use Rattle.host_worlds.specs.OutputCalls.{PossibleOutcome, HasFiles, PutsFound, SomeFound, finding, left_by}
 use Rattle.host_worlds.proofs.Steps.{Puts}
 
 -- Three things that are found: all opens, and everything fits; nothing fits; nothing opens.
@@ -38,7 +38,7 @@ full_answer text some = ap (λ b. cond b (Ok tt) (Err WriteFailed)) (none_fits t
 
 -- To a stream that is open.
 module _ (target : Target) (text : List ℕ) (streams streams' : Streams) (names : names_of streams'.writers.items ≡ names_of streams.writers.items) where
-  written_could : (r : Result (Unit {0}) Stop) → EndsPut true true text r → Could (written target text) streams streams' r
+  written_could : (r : Result (Unit {0}) Stop) → EndsPut true true text r → PossibleOutcome (written target text) streams streams' r
   written_could (Ok u) h = (
     wide ∷ [],
     puts target text,
@@ -68,7 +68,7 @@ some_as does does' streams streams' answer same some = (
   λ later shared is. subst (λ (d : Puts). PutsFound d streams' answer some.1 (left_by answer some.0 later)) (same shared is (some.0 ++ later)) (some.2 later shared is),
 )
 
-could_as : (does does' : Shared → Puts) (streams streams' : Streams) (r : Result (Unit {0}) Stop) → SameOver does does' streams → Could does streams streams' r → Could does' streams streams' r
+could_as : (does does' : Shared → Puts) (streams streams' : Streams) (r : Result (Unit {0}) Stop) → SameOver does does' streams → PossibleOutcome does streams streams' r → PossibleOutcome does' streams streams' r
 could_as does does' streams streams' (Ok u) same some = some_as does does' streams streams' (Ok tt) same some
 could_as does does' streams streams' (Err (stop.Fault fault)) same some = some_as does does' streams streams' (Err fault) same some
 could_as does does' streams streams' (Err stop.NoMemory) same some = tt
@@ -79,11 +79,11 @@ module _ (name text : List ℕ) (append : Bool) (streams streams' : Streams) whe
   opens room shared = opened_if room (seen shared.inner shared.outside (Named name)).opens name append text shared
 
   abbrev kept_by : Inner → Result (Unit {0}) Fault → Inner
-  kept_by inner r = kept_open name (looked_by r inner) r
+  kept_by inner r = kept_open name (observed_by r inner) r
 
   opened_could : (room : Bool) (r : Result (Unit {0}) Stop) → EndsPut false room text r
       → OnOk r (names_of streams'.writers.items ≡ names_of streams.writers.items ++ (name ∷ [])) → OnErr r (names_of streams'.writers.items ≡ names_of streams.writers.items)
-      → Could (opens room) streams streams' r
+      → PossibleOutcome (opens room) streams streams' r
   opened_could true (Ok u) h ok err = (
     wide ∷ [],
     Open name append ∷ puts (Named name) text,
@@ -155,7 +155,7 @@ module _ (name text : List ℕ) (append : Bool) (streams streams' : Streams) (r 
   same_err : OnErr r (now ≡ before)
   same_err = err_as r (streams'.writers.items ≡ streams.writers.items) (now ≡ before) (λ e. ap names_of e) err
 
-  named_could : (b : Bool) → is_writing name before ≡ b → EndsPut b (files.has_room streams) text r → Could (puts_named b) streams streams' r
+  named_could : (b : Bool) → is_writing name before ≡ b → EndsPut b (files.has_room streams) text r → PossibleOutcome (puts_named b) streams streams' r
   named_could true is h =
       written_could (Named name) text streams streams'
       (either r (now ≡ before) (ok_as r (now ≡ with_writer name before) (now ≡ before) (λ e. e ∙ sym (with_named name before is)) ok) same_err)
@@ -166,7 +166,7 @@ module _ (name text : List ℕ) (append : Bool) (streams streams' : Streams) (r 
       (opened_could name text append streams streams' (files.has_room streams) r h
       (ok_as r (now ≡ with_writer name before) (now ≡ before ++ (name ∷ [])) (λ e. e ∙ sym (with_missing name before is)) ok) same_err)
 
-  pub file_could : EndsPut (is_writing name before) (files.has_room streams) text r → Could (λ shared. written_by (is_writing name shared.inner.writers) name append text shared) streams streams' r
+  pub file_could : EndsPut (is_writing name before) (files.has_room streams) text r → PossibleOutcome (λ shared. written_by (is_writing name shared.inner.writers) name append text shared) streams streams' r
   file_could h =
       could_as (puts_named (is_writing name before)) (λ shared. written_by (is_writing name shared.inner.writers) name append text shared) streams streams' r
       (λ shared has finds. ap (λ names. written_by (is_writing name names) name append text (finding finds shared)) (sym has.writers))
@@ -174,7 +174,7 @@ module _ (name text : List ℕ) (append : Bool) (streams streams' : Streams) (r 
 
 -- To the standard output.
 pub standard_could : (text : List ℕ) (streams streams' : Streams) (r : Result (Unit {0}) Stop) → EndsPut true (files.has_room streams) text r
-    → OnOk r (names_of streams'.writers.items ≡ names_of streams.writers.items) → OnErr r (streams'.writers.items ≡ streams.writers.items) → Could (written Standard text) streams streams' r
+    → OnOk r (names_of streams'.writers.items ≡ names_of streams.writers.items) → OnErr r (streams'.writers.items ≡ streams.writers.items) → PossibleOutcome (written Standard text) streams streams' r
 standard_could text streams streams' r h ok err =
     written_could Standard text streams streams'
     (either r (names_of streams'.writers.items ≡ names_of streams.writers.items) ok (err_as r (streams'.writers.items ≡ streams.writers.items) (names_of streams'.writers.items ≡ names_of streams.writers.items) (λ e. ap names_of e) err))

@@ -12,8 +12,8 @@ use Rattle.host_format.specs.Outcomes.{IsStopOf}
 use Rattle.host_worlds.specs.Givens.{GivesMain, RowGives, answer_of, is_over, kept_by, main_of_given, main_row}
 use Rattle.host_worlds.specs.Keeps.{keep_of}
 use Rattle.host_worlds.specs.declared.input.Given.{Given}
-use Rattle.host_worlds.specs.declared.input.Keep.{Keep}
-use Rattle.host_worlds.specs.declared.input.Keep.TheVariants.{Line, Record}
+use Rattle.host_worlds.specs.declared.input.ReadInto.{ReadInto}
+use Rattle.host_worlds.specs.declared.input.ReadInto.TheVariants.{Variable, Record}
 use Rattle.host_worlds.specs.declared.input.MainRead.{MainRead}
 use Rattle.host_worlds.specs.declared.input.MainRead.TheVariants.{Loop, Getline}
 
@@ -34,20 +34,20 @@ module _ (how : MainRead) (text : List ℕ) (i : Inner) where
   pub taken_fault : (fault : Fault) → counted_record i ≡ Err fault → answer_of how (i, Taken text) ≡ Err fault
   taken_fault fault e = taken how text i ∙ ap (λ r. r >>= λ j. kept_by (keep_of how) text j) e
 
-  taken_by : (to : Keep) (j : Inner) → to ≡ keep_of how → counted_record i ≡ Ok j → answer_of how (i, Taken text) ≡ kept_by to text j
+  taken_by : (to : ReadInto) (j : Inner) → to ≡ keep_of how → counted_record i ≡ Ok j → answer_of how (i, Taken text) ≡ kept_by to text j
   taken_by to j same e = taken how text i ∙ ap (λ r. r >>= λ j. kept_by (keep_of how) text j) e ∙ ap (λ k. kept_by k text j) (sym same)
 
-  pub taken_ok : (to : Keep) (j k : Inner) → to ≡ keep_of how → counted_record i ≡ Ok j → kept_by to text j ≡ Ok (k, Read) → answer_of how (i, Taken text) ≡ Ok (k, Read)
+  pub taken_ok : (to : ReadInto) (j k : Inner) → to ≡ keep_of how → counted_record i ≡ Ok j → kept_by to text j ≡ Ok (k, Read) → answer_of how (i, Taken text) ≡ Ok (k, Read)
   taken_ok to j k same e h = taken_by to j same e ∙ h
 
-  pub taken_stops : (to : Keep) (j : Inner) (stop : Stop) → to ≡ keep_of how → counted_record i ≡ Ok j → IsStopOf (kept_by to text j) stop → IsStopOf (answer_of how (i, Taken text)) stop
+  pub taken_stops : (to : ReadInto) (j : Inner) (stop : Stop) → to ≡ keep_of how → counted_record i ≡ Ok j → IsStopOf (kept_by to text j) stop → IsStopOf (answer_of how (i, Taken text)) stop
   taken_stops to j stop same e h = subst (λ r. IsStopOf r stop) (sym (taken_by to j same e)) h
 
 -- what the main input gives is answered
 row_is : (how : MainRead) (outside : Outside) (inner : Inner) → is_over how inner.in_end ≡ false → main_row how outside inner ≡ (main_input outside inner >>= λ x. answer_of how x)
 row_is Loop outside inner e = refl
 row_is (Getline Record) outside inner e = ap (λ b. getline_by b (kept_by Record) outside inner) e
-row_is (Getline Line) outside inner e = ap (λ b. getline_by b (kept_by Line) outside inner) e
+row_is (Getline Variable) outside inner e = ap (λ b. getline_by b (kept_by Variable) outside inner) e
 
 module _ (how : MainRead) (outside : Outside) (inner : Inner) where
   pub given_gives : (given : Given) (mid new : Inner) (r : Result InputAnswer Stop) → is_over how inner.in_end ≡ false → main_input outside inner ≡ Ok (mid, main_of_given given)

@@ -24,12 +24,12 @@ use Rattle.host_step.specs.HostState.{HostState, Names}
 use Rattle.host_step.specs.HostStep.{Acts, carried, primitive_acts, where_fit}
 use Rattle.host_imports.specs.Imports.{import_answer}
 use Rattle.host_step.specs.Worlds.{HasLine, HasPending, KeepsOthers, Wanted, reads_line, reads_main, unseen_inner}
-use Rattle.host_imports.specs.declared.import.Import.TheVariants.{Of}
+use Rattle.host_imports.specs.declared.import.Import.TheVariants.{OfPrimitive}
 use Rattle.host_streams.specs.OpenFiles.{names_of}
 use Rattle.host_texts.specs.declared.texts.Texts.{Texts}
 use Rattle.host_arrays.specs.Pairs.{pairs_or_none}
 use Rattle.host_names.specs.Forms.{announced, left_of}
-use Rattle.host_values.specs.declared.reply.Refusal.TheVariants as why
+use Rattle.host_step.specs.declared.refusal.Refusal.TheVariants as why
 use Rattle.host_values.specs.Forms.{Arrays, HostForm, Past, Shows, inner_of, state_of}
 use Rattle.host_values.proofs.ElementSteps.{IsPast, state_with}
 use Rattle.host_values.specs.Findings.{form_finding}
@@ -40,7 +40,7 @@ use Rattle.host_worlds.specs.Givens.{OffersTexts, RowGives, main_primitive, main
 use Rattle.host_worlds.specs.Keeps.{AnswerLine, AnswerPends, IsMovedOn, KeepsSubstituted, keep_of}
 use Rattle.host_worlds.specs.States.{Finding, Over, argv_texts, over_world, with_tables}
 use Rattle.host_worlds.specs.declared.input.Input.{Input}
-use Rattle.host_worlds.specs.declared.input.Keep.TheVariants.{Line, Record}
+use Rattle.host_worlds.specs.declared.input.ReadInto.TheVariants.{Variable, Record}
 use Rattle.host_worlds.specs.declared.input.MainRead.{MainRead}
 use Rattle.host_worlds.specs.declared.input.MainRead.TheVariants.{Loop, Getline}
 use Rattle.host_worlds.proofs.ReadFound.{answers_found, faults_found, seen_found, traps_found}
@@ -48,10 +48,10 @@ use Rattle.host_worlds.proofs.ReadSteps.{Carries, IsReading, answer_called, faul
 
 -- The three imports.
 
-pub main_reading : (how : MainRead) → IsReading (Of (main_primitive how))
+pub main_reading : (how : MainRead) → IsReading (OfPrimitive (main_primitive how))
 main_reading Loop = record { coerce = λ x. x; word = λ names x. refl; free = λ names x. tt; refused = refl; typed = λ n. refl; reading = refl }
 main_reading (Getline Record) = record { coerce = λ x. x; word = λ names x. refl; free = λ names x. tt; refused = refl; typed = λ n. refl; reading = refl }
-main_reading (Getline Line) = record { coerce = λ x. x; word = λ names x. refl; free = λ names x. tt; refused = refl; typed = λ n. refl; reading = refl }
+main_reading (Getline Variable) = record { coerce = λ x. x; word = λ names x. refl; free = λ names x. tt; refused = refl; typed = λ n. refl; reading = refl }
 
 -- what they come to, once their words are read
 abbrev pub acts_by : Bool → Names → HostState → Result (Inner × InputAnswer) Fault → Result (Names × Acts InputAnswer) TrapKind
@@ -74,7 +74,7 @@ module _ (f : HostForm) (p : Past) (memory : List ℕ) (none : f.fault ≡ None)
   abbrev waits : Bool
   waits = not (is_some f.shared.inner.pending)
 
-  main_carries : (how : MainRead) → waits ≡ true → Carries (Of (main_primitive how)) (main_reading how) f p [] memory none start.names (main_row how start.shared.outside start.shared.inner)
+  main_carries : (how : MainRead) → waits ≡ true → Carries (OfPrimitive (main_primitive how)) (main_reading how) f p [] memory none start.names (main_row how start.shared.outside start.shared.inner)
   unfolding main_reading
   main_carries Loop e = record {
     answers = λ o inner x is. acts_given waits start.names (state_of (form_output o f) p) (main_row Loop start.shared.outside start.shared.inner) (Ok (inner, x)) e is;
@@ -84,23 +84,23 @@ module _ (f : HostForm) (p : Past) (memory : List ℕ) (none : f.fault ≡ None)
     answers = λ o inner x is. acts_given waits start.names (state_of (form_output o f) p) (main_row (Getline Record) start.shared.outside start.shared.inner) (Ok (inner, x)) e is;
     faults = λ o fault is. acts_given waits start.names (state_of (form_output o f) p) (main_row (Getline Record) start.shared.outside start.shared.inner) (Err fault) e is;
   }
-  main_carries (Getline Line) e = record {
-    answers = λ o inner x is. acts_given waits start.names (state_of (form_output o f) p) (main_row (Getline Line) start.shared.outside start.shared.inner) (Ok (inner, x)) e is;
-    faults = λ o fault is. acts_given waits start.names (state_of (form_output o f) p) (main_row (Getline Line) start.shared.outside start.shared.inner) (Err fault) e is;
+  main_carries (Getline Variable) e = record {
+    answers = λ o inner x is. acts_given waits start.names (state_of (form_output o f) p) (main_row (Getline Variable) start.shared.outside start.shared.inner) (Ok (inner, x)) e is;
+    faults = λ o fault is. acts_given waits start.names (state_of (form_output o f) p) (main_row (Getline Variable) start.shared.outside start.shared.inner) (Err fault) e is;
   }
 
   -- something is pending
-  main_waits : (how : MainRead) → waits ≡ false → (o : List Action) → carried (Of (main_primitive how)) [] memory (state_of (form_output o f) p) ≡ Err BadArgument
+  main_waits : (how : MainRead) → waits ≡ false → (o : List Action) → carried (OfPrimitive (main_primitive how)) [] memory (state_of (form_output o f) p) ≡ Err BadArgument
   main_waits Loop e o = acts_refused waits start.names (state_of (form_output o f) p) (main_row Loop start.shared.outside start.shared.inner) e
   main_waits (Getline Record) e o = acts_refused waits start.names (state_of (form_output o f) p) (main_row (Getline Record) start.shared.outside start.shared.inner) e
-  main_waits (Getline Line) e o = acts_refused waits start.names (state_of (form_output o f) p) (main_row (Getline Line) start.shared.outside start.shared.inner) e
+  main_waits (Getline Variable) e o = acts_refused waits start.names (state_of (form_output o f) p) (main_row (Getline Variable) start.shared.outside start.shared.inner) e
 
   -- a word too many
-  main_words : (how : MainRead) (words : List Word) (k : TrapKind) → no_more words ≡ Err k → (o : List Action) → carried (Of (main_primitive how)) words memory (state_of (form_output o f) p) ≡ Err k
+  main_words : (how : MainRead) (words : List Word) (k : TrapKind) → no_more words ≡ Err k → (o : List Action) → carried (OfPrimitive (main_primitive how)) words memory (state_of (form_output o f) p) ≡ Err k
   main_words how [] k e o = cc
   main_words Loop (w ∷ rest) k e o = ap (λ j. Err j) (same_kind k e)
   main_words (Getline Record) (w ∷ rest) k e o = ap (λ j. Err j) (same_kind k e)
-  main_words (Getline Line) (w ∷ rest) k e o = ap (λ j. Err j) (same_kind k e)
+  main_words (Getline Variable) (w ∷ rest) k e o = ap (λ j. Err j) (same_kind k e)
 
 -- the operands are ARGV's texts
 
@@ -132,7 +132,7 @@ module _ (t t' : Texts) (i i' : Input) (s s' : State) (f : HostForm) (p : Past) 
     substituted = kept;
   }
 
-  main_line : (how : MainRead) (x : InputAnswer) → AnswerLine (keep_of how) (Ok x) i i' → HasLine (reads_line (Of (main_primitive how))) x before later
+  main_line : (how : MainRead) (x : InputAnswer) → AnswerLine (keep_of how) (Ok x) i i' → HasLine (reads_line (OfPrimitive (main_primitive how))) x before later
   main_line Loop input.Read h = h
   main_line Loop input.End h = h
   main_line Loop input.Pending h = h
@@ -141,10 +141,10 @@ module _ (t t' : Texts) (i i' : Input) (s s' : State) (f : HostForm) (p : Past) 
   main_line (Getline Record) input.End h = h
   main_line (Getline Record) input.Pending h = h
   main_line (Getline Record) input.Failed h = h
-  main_line (Getline Line) input.Read h = h
-  main_line (Getline Line) input.End h = h
-  main_line (Getline Line) input.Pending h = h
-  main_line (Getline Line) input.Failed h = h
+  main_line (Getline Variable) input.Read h = h
+  main_line (Getline Variable) input.End h = h
+  main_line (Getline Variable) input.Pending h = h
+  main_line (Getline Variable) input.Failed h = h
 
   pending_by : (x : InputAnswer) → AnswerPends (Ok x) i i' → HasPending true x before later
   pending_by input.Read h = h
@@ -152,10 +152,10 @@ module _ (t t' : Texts) (i i' : Input) (s s' : State) (f : HostForm) (p : Past) 
   pending_by input.Pending h = h
   pending_by input.Failed h = h
 
-  main_pending : (how : MainRead) (x : InputAnswer) → AnswerPends (Ok x) i i' → HasPending (reads_main (Of (main_primitive how))) x before later
+  main_pending : (how : MainRead) (x : InputAnswer) → AnswerPends (Ok x) i i' → HasPending (reads_main (OfPrimitive (main_primitive how))) x before later
   main_pending Loop x h = pending_by x h
   main_pending (Getline Record) x h = pending_by x h
-  main_pending (Getline Line) x h = pending_by x h
+  main_pending (Getline Variable) x h = pending_by x h
 
 pub no_words : (words : List Word) → no_more words ≡ Ok tt → words ≡ []
 no_words [] e = refl
@@ -165,20 +165,20 @@ no_words (w ∷ rest) e = cc
 
 module _ (tells : Type 0) (how : MainRead) (f : HostForm) (memory : List ℕ) (none : f.fault ≡ None) (t : Texts) (i : Input) (s : State) where
   -- a word too many, or something is pending
-  pub main_trapped : (words : List Word) (k : TrapKind) → no_more words ≡ Err k → IsCalled tells (Of (main_primitive how)) (over_world t i s f) words memory (Err (why.Trap k)) (over_world t i s f) []
+  pub main_trapped : (words : List Word) (k : TrapKind) → no_more words ≡ Err k → IsCalled tells (OfPrimitive (main_primitive how)) (over_world t i s f) words memory (Err (why.Trap k)) (over_world t i s f) []
   main_trapped words k e = (
-    leads_in tells (Of (main_primitive how)) _ _ words memory (told.Trap k) refl refl (λ p past.
-        trap_called (Of (main_primitive how)) (main_reading how) (over_world t i s f) p words memory none tells k (main_words (over_world t i s f) p memory none how words k e)),
-    traps_found (Of (main_primitive how)) (main_reading how) (over_world t i s f) words memory none k (λ finds o so_far p.
+    leads_in tells (OfPrimitive (main_primitive how)) _ _ words memory (told.Trap k) refl refl (λ p past.
+        trap_called (OfPrimitive (main_primitive how)) (main_reading how) (over_world t i s f) p words memory none tells k (main_words (over_world t i s f) p memory none how words k e)),
+    traps_found (OfPrimitive (main_primitive how)) (main_reading how) (over_world t i s f) words memory none k (λ finds o so_far p.
         main_words (form_finding finds o so_far (over_world t i s f)) p memory none how words k e so_far),
   )
 
-  pub main_pends : (words : List Word) → no_more words ≡ Ok tt → is_some i.names.pending ≡ true → IsCalled tells (Of (main_primitive how)) (over_world t i s f) words memory (Err (why.Trap BadArgument)) (over_world t i s f) []
+  pub main_pends : (words : List Word) → no_more words ≡ Ok tt → is_some i.names.pending ≡ true → IsCalled tells (OfPrimitive (main_primitive how)) (over_world t i s f) words memory (Err (why.Trap BadArgument)) (over_world t i s f) []
   main_pends words fit e =
-      subst (λ ws. IsCalled tells (Of (main_primitive how)) (over_world t i s f) ws memory (Err (why.Trap BadArgument)) (over_world t i s f) []) (sym (no_words words fit)) (
-        leads_in tells (Of (main_primitive how)) _ _ [] memory (told.Trap BadArgument) refl refl (λ p past.
-            trap_called (Of (main_primitive how)) (main_reading how) (over_world t i s f) p [] memory none tells BadArgument (main_waits (over_world t i s f) p memory none how (ap not e))),
-        traps_found (Of (main_primitive how)) (main_reading how) (over_world t i s f) [] memory none BadArgument (λ finds o so_far p.
+      subst (λ ws. IsCalled tells (OfPrimitive (main_primitive how)) (over_world t i s f) ws memory (Err (why.Trap BadArgument)) (over_world t i s f) []) (sym (no_words words fit)) (
+        leads_in tells (OfPrimitive (main_primitive how)) _ _ [] memory (told.Trap BadArgument) refl refl (λ p past.
+            trap_called (OfPrimitive (main_primitive how)) (main_reading how) (over_world t i s f) p [] memory none tells BadArgument (main_waits (over_world t i s f) p memory none how (ap not e))),
+        traps_found (OfPrimitive (main_primitive how)) (main_reading how) (over_world t i s f) [] memory none BadArgument (λ finds o so_far p.
             main_waits (form_finding finds o so_far (over_world t i s f)) p memory none how (ap not e) so_far),
       )
 
@@ -216,11 +216,11 @@ module _ (tells : Type 0) (how : MainRead) (f : HostForm) (memory : List ℕ) (n
         let last = state_of (form_finding later o so_far new) p in
         ap (λ (z : Inner). record last { shared = record last.shared { inner = z } }) (sym (seen_found t' i' s' later (inner_at p)))
 
-    main_called : (x : Result InputAnswer Stop) → r ≡ x → IsCalled tells (Of (main_primitive how)) old [] memory (answered_by x) (shown_after (answered_by x) old new) []
+    main_called : (x : Result InputAnswer Stop) → r ≡ x → IsCalled tells (OfPrimitive (main_primitive how)) old [] memory (answered_by x) (shown_after (answered_by x) old new) []
     main_called (Ok x) e = (
-      leads_in tells (Of (main_primitive how)) old new [] memory (told.Done (Some (I32 (input_code x)))) refl refl (λ p past.
+      leads_in tells (OfPrimitive (main_primitive how)) old new [] memory (told.Done (Some (I32 (input_code x)))) refl refl (λ p past.
           let c = main_carries old p memory none how (ap not waits) in
-          answer_called (Of (main_primitive how)) (main_reading how) old p [] memory none (state_of old p).names (main_row how s.outside (with_tables t i (Over s) (inner_at p))) c tells x (state_of new p)
+          answer_called (OfPrimitive (main_primitive how)) (main_reading how) old p [] memory none (state_of old p).names (main_row how s.outside (with_tables t i (Over s) (inner_at p))) c tells x (state_of new p)
           (λ y. (with_tables t' i' (Over s') (inner_at p), subst (λ a. RowGives (main_row how s.outside (with_tables t i (Over s) (inner_at p))) a (with_tables t' i' (Over s') (inner_at p))) e (told_row y (inner_at p) (offers arrays f p f.shared.inner (record { arrays = past.arrays; iterators = past.iterators; first = past.first }) same)), state_is p (outside y)))
           (record {
             names = refl;
@@ -229,7 +229,7 @@ module _ (tells : Type 0) (how : MainRead) (f : HostForm) (memory : List ℕ) (n
             how = Ok x;
             ends = record { answer = refl; fault = refl; line = main_line t t' i i' s s' f p how x (subst (λ a. AnswerLine (keep_of how) a i i') e line); pending = main_pending t t' i i' s s' f p how x (subst (λ a. AnswerPends a i i') e pending) };
           })),
-      answers_found (Of (main_primitive how)) (main_reading how) old [] memory none new refl refl finds.0 none x (λ later o so_far p past. (
+      answers_found (OfPrimitive (main_primitive how)) (main_reading how) old [] memory none new refl refl finds.0 none x (λ later o so_far p past. (
         (state_of old p).names,
         main_row how o (state_of (form_finding (finds.0 ++ later) o so_far old) p).shared.inner,
         main_carries (form_finding (finds.0 ++ later) o so_far old) p memory none how (ap not waits),
@@ -239,9 +239,9 @@ module _ (tells : Type 0) (how : MainRead) (f : HostForm) (memory : List ℕ) (n
       )),
     )
     main_called (Err (IsFault fault)) e = (
-      leads_in tells (Of (main_primitive how)) old (record old { fault = Some fault }) [] memory (told.Done (refusal (import_answer (Of (main_primitive how))))) refl refl (λ p past.
+      leads_in tells (OfPrimitive (main_primitive how)) old (record old { fault = Some fault }) [] memory (told.Done (refusal (import_answer (OfPrimitive (main_primitive how))))) refl refl (λ p past.
           let c = main_carries old p memory none how (ap not waits) in
-          fault_called (Of (main_primitive how)) (main_reading how) old p [] memory none (state_of old p).names (main_row how s.outside (with_tables t i (Over s) (inner_at p))) c tells fault (state_of (record old { fault = Some fault }) p)
+          fault_called (OfPrimitive (main_primitive how)) (main_reading how) old p [] memory none (state_of old p).names (main_row how s.outside (with_tables t i (Over s) (inner_at p))) c tells fault (state_of (record old { fault = Some fault }) p)
           (λ y. subst (λ a. RowGives (main_row how s.outside (with_tables t i (Over s) (inner_at p))) a (with_tables t' i' (Over s') (inner_at p))) e (told_row y (inner_at p) (offers arrays f p f.shared.inner (record { arrays = past.arrays; iterators = past.iterators; first = past.first }) same)))
           refl
           (record {
@@ -251,7 +251,7 @@ module _ (tells : Type 0) (how : MainRead) (f : HostForm) (memory : List ℕ) (n
             how = Err fault;
             ends = record { answer = ap told.Done (main_reading how).refused; kept = refl };
           })),
-      faults_found (Of (main_primitive how)) (main_reading how) old [] memory none (record old { fault = Some fault }) refl refl finds.0 fault refl (λ later o so_far p past. (
+      faults_found (OfPrimitive (main_primitive how)) (main_reading how) old [] memory none (record old { fault = Some fault }) refl refl finds.0 fault refl (λ later o so_far p past. (
         (state_of old p).names,
         main_row how o (state_of (form_finding (finds.0 ++ later) o so_far old) p).shared.inner,
         main_carries (form_finding (finds.0 ++ later) o so_far old) p memory none how (ap not waits),
@@ -263,9 +263,9 @@ module _ (tells : Type 0) (how : MainRead) (f : HostForm) (memory : List ℕ) (n
         let c = main_carries old st.past memory none how (ap not waits) in (
           state_of new st.past,
           refl,
-          subst (λ z. Wanted (Some (Of (main_primitive how))) z [] memory (state_of new st.past) []) (sym st.state)
-              (memory_wanted (Of (main_primitive how)) (main_reading how) old st.past [] memory none (state_of old st.past).names (main_row how s.outside (with_tables t i (Over s) (inner_at st.past))) c (state_of new st.past) (outside y)),
+          subst (λ z. Wanted (Some (OfPrimitive (main_primitive how))) z [] memory (state_of new st.past) []) (sym st.state)
+              (memory_wanted (OfPrimitive (main_primitive how)) (main_reading how) old st.past [] memory none (state_of old st.past).names (main_row how s.outside (with_tables t i (Over s) (inner_at st.past))) c (state_of new st.past) (outside y)),
         )
 
-    pub main_answers : (words : List Word) → no_more words ≡ Ok tt → IsCalled tells (Of (main_primitive how)) old words memory (answered_by r) (shown_after (answered_by r) old new) []
-    main_answers words fit = subst (λ ws. IsCalled tells (Of (main_primitive how)) old ws memory (answered_by r) (shown_after (answered_by r) old new) []) (sym (no_words words fit)) (main_called r refl)
+    pub main_answers : (words : List Word) → no_more words ≡ Ok tt → IsCalled tells (OfPrimitive (main_primitive how)) old words memory (answered_by r) (shown_after (answered_by r) old new) []
+    main_answers words fit = subst (λ ws. IsCalled tells (OfPrimitive (main_primitive how)) old ws memory (answered_by r) (shown_after (answered_by r) old new) []) (sym (no_words words fit)) (main_called r refl)

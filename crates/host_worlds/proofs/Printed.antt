@@ -12,19 +12,19 @@ use Rattle.world_core.specs.WorldState.{Action, State}
 use Rattle.host_step.specs.HostState.{HostState}
 use Rattle.host_step.specs.HostStep.{StepOf, before_last_of, last_of}
 use Rattle.host_step.specs.Worlds.{Called, with_output}
-use Rattle.host_imports.specs.declared.import.Import.TheVariants.{Over}
-use Rattle.host_imports.specs.declared.import.Listing.TheVariants.{Print, Printf}
+use Rattle.host_imports.specs.declared.import.Import.TheVariants.{Variadic}
+use Rattle.host_imports.specs.declared.import.VariadicImport.TheVariants.{Print, Printf}
 use Rattle.host_texts.specs.declared.specials.Specials.{Specials}
-use Rattle.host_values.specs.declared.reply.Refusal.TheVariants as why
+use Rattle.host_step.specs.declared.refusal.Refusal.TheVariants as why
 use Rattle.host_values.specs.Forms.{HostForm, state_of}
 use Rattle.host_streams.specs.OpenFiles.{names_of, readers_in}
 use Rattle.host_streams.specs.Outputs.{IsOf, PutsIs}
-use Rattle.host_streams.specs.Puts.{BeginsBy}
+use Rattle.host_streams.specs.Puts.{OutputPrefix}
 use Rattle.host_streams.specs.declared.streams.Streams.{Streams}
 use Rattle.host_values.specs.Findings.{form_finding}
 use Rattle.host_values.specs.WorldCalls.{IsCalled}
 use Rattle.host_values.proofs.Found.{led_nothing}
-use Rattle.host_worlds.specs.OutputCalls.{Could, answer_of, finding}
+use Rattle.host_worlds.specs.OutputCalls.{PossibleOutcome, answer_of, finding}
 use Rattle.host_worlds.specs.Forms.{printing, shared_with, writing}
 use Rattle.host_worlds.specs.Lists.{listed}
 use Rattle.host_worlds.proofs.Puts.{printf_lists, printf_only, printf_same}
@@ -34,37 +34,37 @@ use Rattle.host_worlds.proofs.Worlds.{sharing, trap_called}
 
 module _ (tells : Type 0) (f : HostForm) (words : List Word) (memory : List ℕ) (none : f.fault ≡ None) (arguments : List Value) (streams : Streams) (state : State) where
   pub print_traps : (specials : Specials) (k : TrapKind) → listed 0 arguments words ≡ Err k
-      → IsCalled tells (Over Print) (printing arguments specials streams state f) words memory (Err (why.Trap k)) (printing arguments specials streams state f) []
+      → IsCalled tells (Variadic Print) (printing arguments specials streams state f) words memory (Err (why.Trap k)) (printing arguments specials streams state f) []
   print_traps specials k is = (
     λ s st. (
       s,
       st,
-      subst (λ (t : HostState). Called tells (Some (Over Print)) t words memory (told.Trap k) t []) (sym st.state)
-          (trap_called tells (Over Print) (state_of (printing arguments specials streams state f) st.past) words memory k refl
+      subst (λ (t : HostState). Called tells (Some (Variadic Print)) t words memory (told.Trap k) t []) (sym st.state)
+          (trap_called tells (Variadic Print) (state_of (printing arguments specials streams state f) st.past) words memory k refl
           (λ so_far. print_trap (with_output so_far (state_of (printing arguments specials streams state f) st.past)) words memory k none is)),
     ),
-    led_nothing (Over Print) (printing arguments specials streams state f) (printing arguments specials streams state f) words memory (told.Trap k) (λ finds outside so_far s st. (
+    led_nothing (Variadic Print) (printing arguments specials streams state f) (printing arguments specials streams state f) words memory (told.Trap k) (λ finds outside so_far s st. (
       s,
       st,
-      subst (λ (t : HostState). StepOf (Over Print) t words memory (told.Trap k) t []) (sym st.state)
+      subst (λ (t : HostState). StepOf (Variadic Print) t words memory (told.Trap k) t []) (sym st.state)
           (print_trap (state_of (form_finding finds outside so_far (printing arguments specials streams state f)) st.past) words memory k none is),
     )),
   )
 
   pub printf_traps : (k : TrapKind) → listed 1 arguments words ≡ Err k
-      → IsCalled tells (Over Printf) (writing arguments streams state f) words memory (Err (why.Trap k)) (writing arguments streams state f) []
+      → IsCalled tells (Variadic Printf) (writing arguments streams state f) words memory (Err (why.Trap k)) (writing arguments streams state f) []
   printf_traps k is = (
     λ s st. (
       s,
       st,
-      subst (λ (t : HostState). Called tells (Some (Over Printf)) t words memory (told.Trap k) t []) (sym st.state)
-          (trap_called tells (Over Printf) (state_of (writing arguments streams state f) st.past) words memory k refl
+      subst (λ (t : HostState). Called tells (Some (Variadic Printf)) t words memory (told.Trap k) t []) (sym st.state)
+          (trap_called tells (Variadic Printf) (state_of (writing arguments streams state f) st.past) words memory k refl
           (λ so_far. printf_trap (with_output so_far (state_of (writing arguments streams state f) st.past)) words memory k none is)),
     ),
-    led_nothing (Over Printf) (writing arguments streams state f) (writing arguments streams state f) words memory (told.Trap k) (λ finds outside so_far s st. (
+    led_nothing (Variadic Printf) (writing arguments streams state f) (writing arguments streams state f) words memory (told.Trap k) (λ finds outside so_far s st. (
       s,
       st,
-      subst (λ (t : HostState). StepOf (Over Printf) t words memory (told.Trap k) t []) (sym st.state)
+      subst (λ (t : HostState). StepOf (Variadic Printf) t words memory (told.Trap k) t []) (sym st.state)
           (printf_trap (state_of (form_finding finds outside so_far (writing arguments streams state f)) st.past) words memory k none is),
     )),
   )
@@ -76,12 +76,12 @@ module _ (tells : Type 0) (f : HostForm) (words : List Word) (memory : List ℕ)
 
     pub prints_so : (specials : Specials) → listed 0 arguments words ≡ Ok n
         → (tells → (shared : Shared) → IsOf streams state shared → PutsIs (print_row n.1 values (shared_with specials shared)) put state state' (names_of streams.writers.items) (names_of streams'.writers.items))
-        → Could (λ shared. print_row n.1 values (shared_with specials shared)) streams streams' put
-        → BeginsBy tells (IsOf streams state) (λ shared. print_row n.1 values (shared_with specials shared)) put state state'
-        → (output : List Action) × IsCalled tells (Over Print) (printing arguments specials streams state f) words memory (answer_of put) (printing (before_last_of n.0 arguments) specials streams' state' f) output
+        → PossibleOutcome (λ shared. print_row n.1 values (shared_with specials shared)) streams streams' put
+        → OutputPrefix tells (IsOf streams state) (λ shared. print_row n.1 values (shared_with specials shared)) put state state'
+        → (output : List Action) × IsCalled tells (Variadic Print) (printing arguments specials streams state f) words memory (answer_of put) (printing (before_last_of n.0 arguments) specials streams' state' f) output
     prints_so specials is told_so could begun =
         let before : HostForm = printing arguments specials streams state f in
-        puts_so tells (Over Print) words memory refl refl (record f { shared = shared_with specials f.shared }) arguments (before_last_of n.0 arguments) streams streams' state state' (print_row n.1 values)
+        puts_so tells (Variadic Print) words memory refl refl (record f { shared = shared_with specials f.shared }) arguments (before_last_of n.0 arguments) streams streams' state state' (print_row n.1 values)
         (λ p shared. print_step (sharing (state_of before p) shared) words memory n none is)
         (λ shared output. printf_same (Ok (printed shared.inner (operands_of n.1 values))) n.1 (file_name n.1 values) shared output)
         (λ shared. printf_only (Ok (printed shared.inner (operands_of n.1 values))) n.1 (file_name n.1 values) shared)
@@ -94,11 +94,11 @@ module _ (tells : Type 0) (f : HostForm) (words : List Word) (memory : List ℕ)
 
     pub formats_so : listed 1 arguments words ≡ Ok n
         → (tells → (shared : Shared) → IsOf streams state shared → PutsIs (printf_row n.1 values shared) put state state' (names_of streams.writers.items) (names_of streams'.writers.items))
-        → Could (printf_row n.1 values) streams streams' put → BeginsBy tells (IsOf streams state) (printf_row n.1 values) put state state'
-        → (output : List Action) × IsCalled tells (Over Printf) (writing arguments streams state f) words memory (answer_of put) (writing (before_last_of n.0 arguments) streams' state' f) output
+        → PossibleOutcome (printf_row n.1 values) streams streams' put → OutputPrefix tells (IsOf streams state) (printf_row n.1 values) put state state'
+        → (output : List Action) × IsCalled tells (Variadic Printf) (writing arguments streams state f) words memory (answer_of put) (writing (before_last_of n.0 arguments) streams' state' f) output
     formats_so is told_so could begun =
         let before : HostForm = writing arguments streams state f in
-        puts_so tells (Over Printf) words memory refl refl f arguments (before_last_of n.0 arguments) streams streams' state state' (printf_row n.1 values)
+        puts_so tells (Variadic Printf) words memory refl refl f arguments (before_last_of n.0 arguments) streams streams' state state' (printf_row n.1 values)
         (λ p shared. printf_step (sharing (state_of before p) shared) words memory n none is)
         (λ shared output. printf_same (formatted_values (operands_of n.1 values)) n.1 (file_name n.1 values) shared output)
         (λ shared. printf_only (formatted_values (operands_of n.1 values)) n.1 (file_name n.1 values) shared)

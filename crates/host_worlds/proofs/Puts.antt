@@ -1,9 +1,9 @@
 -- What putting a text out leaves alone.
 use Rattle.std.proofs.Common.{◌≡◌, ℕ, Bool, true, false, List, Option, None, Result, Ok, Err, refl}
 use Rattle.awk_values.specs.declared.fault.Fault.{Fault}
-use Rattle.sem_primitives.specs.Finds.{finds_by, looked_by, seen}
+use Rattle.sem_primitives.specs.Finds.{finds_by, observed_by, seen}
 use Rattle.sem_primitives.specs.OutputMeaning.{has_room, is_writing, kept_open, opened_if, printf_by, put_text, written_by}
-use Rattle.sem_primitives.specs.SharedState.{Does, Inner, Pairs, Shared}
+use Rattle.sem_primitives.specs.SharedState.{HostResult, Inner, Pairs, Shared}
 use Rattle.sem_primitives.specs.declared.constants.Destination.{Destination}
 use Rattle.sem_primitives.specs.declared.constants.Destination.TheVariants.{Standard, Emptied, Appended}
 use Rattle.world_core.specs.WorldState.{Action, Entry, Named}
@@ -68,11 +68,11 @@ abbrev pub with_writers : Inner → List (List ℕ) → Option (List Entry) → 
 with_writers inner names finds = record inner { writers = names; finds = finds }
 
 -- and what is found, where nothing faults
-abbrev pub OnlyWriters : Inner → Does (Result (Unit {0}) Fault) → Type 0
+abbrev pub OnlyWriters : Inner → HostResult (Result (Unit {0}) Fault) → Type 0
 OnlyWriters inner does = does.inner ≡ with_writers inner does.inner.writers (finds_by does.answer inner.finds)
 
 kept_only : (name : List ℕ) (inner : Inner) (r : Result (Unit {0}) Fault)
-    → kept_open name (looked_by r inner) r ≡ with_writers inner (kept_open name (looked_by r inner) r).writers (finds_by r inner.finds)
+    → kept_open name (observed_by r inner) r ≡ with_writers inner (kept_open name (observed_by r inner) r).writers (finds_by r inner.finds)
 kept_only name inner (Ok u) = refl
 kept_only name inner (Err fault) = refl
 

@@ -18,7 +18,7 @@ use Rattle.host_step.specs.Answers.{FreeFor, encode, refusal}
 use Rattle.host_step.specs.HostState.{HostState, Names}
 use Rattle.host_step.specs.HostStep.{Acts, Refuses, StepOf, carried, come}
 use Rattle.host_imports.specs.Imports.{import_answer, result_of}
-use Rattle.host_step.specs.Worlds.{Anyhow, AnyhowIf, Called, IsRead, ReadBy, Wanted, reads, with_output}
+use Rattle.host_step.specs.Worlds.{InAnyWorld, InAnyWorldIf, Called, IsRead, ReadBy, Wanted, reads, with_output}
 use Rattle.host_imports.specs.declared.import.Import.{Import}
 use Rattle.host_values.specs.Forms.{HostForm, IsHeld, Past, state_of}
 use Rattle.host_values.proofs.ElementSteps.{IsPast, acts_of, done_is_some, faults_of, goes, keeps_fault, state_with, traps, unrefused}
@@ -61,9 +61,9 @@ module _ (i : Import) (is : IsReading i) (f : HostForm) (p : Past) (words : List
     pub answers : (o : List Action) (inner : Inner) (x : InputAnswer) → wanted ≡ Ok (inner, x) → ◌≡◌ {A = Comes} (carried i words memory (state_of (form_output o f) p)) (Ok (left, acts_of f inner (is.coerce x)))
     pub faults : (o : List Action) (fault : Fault) → wanted ≡ Err fault → ◌≡◌ {A = Comes} (carried i words memory (state_of (form_output o f) p)) (Ok (left, faults_of f (state_of f p).shared.inner fault))
 
-  read_anyhow : (c : Comes) (a : HostAnswer) (after : HostState) → carried i words memory (state_of f p) ≡ c → ReadBy i (come c) (state_of f p) a after → Anyhow (Some i) (state_of f p) words memory a after
-  read_anyhow c a after e h =
-      subst (λ b. AnyhowIf b i (state_of f p) words memory a after) (sym is.reading)
+  read_in_any_world : (c : Comes) (a : HostAnswer) (after : HostState) → carried i words memory (state_of f p) ≡ c → ReadBy i (come c) (state_of f p) a after → InAnyWorld (Some i) (state_of f p) words memory a after
+  read_in_any_world c a after e h =
+      subst (λ b. InAnyWorldIf b i (state_of f p) words memory a after) (sym is.reading)
       (subst (λ b. ReadBy i (cond b Refuses (come (carried i words memory (state_of f p)))) (state_of f p) a after) (sym (unrefused i f.fault none))
       (subst (λ (x : Comes). ReadBy i (come x) (state_of f p) a after) (sym e) h))
 
@@ -72,7 +72,7 @@ module _ (i : Import) (is : IsReading i) (f : HostForm) (p : Past) (words : List
   trap_called tells k e = record {
     typed = tt;
     step = λ t o. subst (λ q. StepOf i (state_of (form_output o f) p) words memory (told.Trap k) (with_output q (state_of f p)) []) (sym (append-nil o)) (traps i (form_output o f) p words memory k (unrefused i f.fault none) (e o));
-    anyhow = read_anyhow (Err k) (told.Trap k) (state_of f p) (e f.shared.output) (record { trap = refl; state = refl; added = refl });
+    in_any_world = read_in_any_world (Err k) (told.Trap k) (state_of f p) (e f.shared.output) (record { trap = refl; state = refl; added = refl });
   }
 
   module _ (left : Names) (wanted : Result (Inner × InputAnswer) Fault) (c : Carries left wanted) where
@@ -81,8 +81,8 @@ module _ (i : Import) (is : IsReading i) (f : HostForm) (p : Past) (words : List
     some_acts (Ok (inner, x)) e = (acts_of f inner (is.coerce x), c.answers f.shared.output inner x e)
     some_acts (Err fault) e = (faults_of f (state_of f p).shared.inner fault, c.faults f.shared.output fault e)
 
-    goes_anyhow : (a : HostAnswer) (after : HostState) → IsRead i left (state_of f p) a after → Anyhow (Some i) (state_of f p) words memory a after
-    goes_anyhow a after h = let d = some_acts wanted refl in read_anyhow (Ok (left, d.0)) a after d.1 h
+    goes_in_any_world : (a : HostAnswer) (after : HostState) → IsRead i left (state_of f p) a after → InAnyWorld (Some i) (state_of f p) words memory a after
+    goes_in_any_world a after h = let d = some_acts wanted refl in read_in_any_world (Ok (left, d.0)) a after d.1 h
 
     pub answer_step : (o : List Action) (inner : Inner) (x : InputAnswer) (after : HostState) → wanted ≡ Ok (inner, x) → state_with left inner f ≡ after
         → StepOf i (state_of (form_output o f) p) words memory (told.Done (Some (I32 (input_code x)))) (with_output (o ++ []) after) []
@@ -102,7 +102,7 @@ module _ (i : Import) (is : IsReading i) (f : HostForm) (p : Past) (words : List
     answer_called tells x after says h = record {
       typed = is.typed (input_code x);
       step = λ t o. let g = says t in answer_step o g.0 x after g.1 g.2;
-      anyhow = goes_anyhow (told.Done (Some (I32 (input_code x)))) after h;
+      in_any_world = goes_in_any_world (told.Done (Some (I32 (input_code x)))) after h;
     }
 
     -- a fault is kept
@@ -111,7 +111,7 @@ module _ (i : Import) (is : IsReading i) (f : HostForm) (p : Past) (words : List
     fault_called tells fault after says same h = record {
       typed = subst (λ w. type_if w ≡ result_of (import_answer i)) (sym is.refused) (is.typed (2 ^ 32 - 1));
       step = λ t o. fault_step o fault after (says t) same;
-      anyhow = goes_anyhow (told.Done (refusal (import_answer i))) after h;
+      in_any_world = goes_in_any_world (told.Done (refusal (import_answer i))) after h;
     }
 
     -- memory was wanting

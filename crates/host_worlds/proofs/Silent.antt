@@ -5,9 +5,9 @@ use Rattle.wasm_model.specs.declared.host.HostAnswer.TheVariants as told
 use Rattle.wasm_store.specs.declared.trap.TrapKind.{TrapKind}
 use Rattle.wasm_store.specs.declared.word.Word.{Word}
 use Rattle.host_step.specs.HostStep.{StepOf, carried}
-use Rattle.host_step.specs.Worlds.{AnyhowIf, reads, with_output}
+use Rattle.host_step.specs.Worlds.{InAnyWorldIf, reads, with_output}
 use Rattle.host_imports.specs.declared.import.Import.{Import}
-use Rattle.host_values.specs.declared.reply.Refusal.TheVariants as why
+use Rattle.host_step.specs.declared.refusal.Refusal.TheVariants as why
 use Rattle.host_values.specs.Forms.{HostForm, Past, state_of}
 use Rattle.host_values.proofs.ElementSteps.{trapped, traps, unrefused}
 use Rattle.host_values.specs.Findings.{form_finding}
@@ -22,7 +22,7 @@ silent_trap tells i f words memory k quiet none e = (
     typed = tt;
     step = λ y o. subst (λ q. StepOf i (state_of (form_output o f) p) words memory (told.Trap k) (with_output q (state_of f p)) []) (sym (append-nil o))
         (traps i (form_output o f) p words memory k (unrefused i f.fault none) (e (form_output o f) p));
-    anyhow = subst (λ (b : Bool). AnyhowIf b i (state_of f p) words memory (told.Trap k) (state_of f p)) (sym quiet) (record {
+    in_any_world = subst (λ (b : Bool). InAnyWorldIf b i (state_of f p) words memory (told.Trap k) (state_of f p)) (sym quiet) (record {
       old = state_of f p;
       new = state_of f p;
       output = [];

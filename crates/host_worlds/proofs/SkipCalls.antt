@@ -13,7 +13,7 @@ use Rattle.host_step.specs.Arguments.{and_then, no_more}
 use Rattle.host_step.specs.HostState.{HostState, Names}
 use Rattle.host_step.specs.HostStep.{Acts, StepOf, primitive_acts}
 use Rattle.host_step.specs.Worlds.{IsStepInSomeWorld, unseen, unseen_inner, unseen_main, unseen_reading, with_output}
-use Rattle.host_imports.specs.declared.import.Import.TheVariants.{Of}
+use Rattle.host_imports.specs.declared.import.Import.TheVariants.{OfPrimitive}
 use Rattle.host_streams.specs.Mains.{main_of, operands_of, reading_of}
 use Rattle.host_streams.specs.OpenFiles.{readers_in}
 use Rattle.host_streams.specs.declared.main_input.Found.{Found}
@@ -22,7 +22,7 @@ use Rattle.host_streams.specs.declared.main_input.Reading.{Reading}
 use Rattle.host_streams.specs.declared.main_input.Reading.TheVariants as reading
 use Rattle.host_streams.specs.declared.streams.NamedReader.{NamedReader}
 use Rattle.host_texts.specs.declared.texts.Texts.{Texts}
-use Rattle.host_values.specs.declared.reply.Refusal.TheVariants as why
+use Rattle.host_step.specs.declared.refusal.Refusal.TheVariants as why
 use Rattle.host_values.specs.ElementCalls.{Leads}
 use Rattle.host_values.specs.Forms.{HostForm, Past, inner_of, state_of}
 use Rattle.host_values.proofs.ArraySteps.{carry, no_word}
@@ -37,10 +37,10 @@ use Rattle.host_worlds.proofs.ReadSteps.{form_output, leads_in}
 use Rattle.host_worlds.proofs.Silent.{silent_trap}
 
 pub skip_trapped : (tells : Type 0) (f : HostForm) (words : List Word) (memory : List ℕ) (k : TrapKind) → f.fault ≡ None → no_more words ≡ Err k
-    → IsCalled tells (Of row.NextFile) f words memory (Err (why.Trap k)) f []
-skip_trapped tells f words memory k none ends = silent_trap tells (Of row.NextFile) f words memory k refl none (λ g p.
+    → IsCalled tells (OfPrimitive row.NextFile) f words memory (Err (why.Trap k)) f []
+skip_trapped tells f words memory k none ends = silent_trap tells (OfPrimitive row.NextFile) f words memory k refl none (λ g p.
     let s = state_of g p in
-    ap (λ (r : Result (Unit {0}) TrapKind). carry (Of row.NextFile) s (and_then r (λ end. Ok (end, s.names)))) ends)
+    ap (λ (r : Result (Unit {0}) TrapKind). carry (OfPrimitive row.NextFile) s (and_then r (λ end. Ok (end, s.names)))) ends)
 
 -- the same, with the state by another name
 pub given_as : (a b c : Inner) → next_file_row a ≡ (b, tt) → b ≡ c → next_file_row a ≡ (c, tt)
@@ -96,12 +96,12 @@ module _ (t : Texts) (i : Input) (m : Mains) (old new : State) (nothing : m.read
     same_acts : (names : Names) {x y : Inner × Unit {0}} → x ≡ y → ◌≡◌ {A = Comes} (Ok (names, primitive_acts f.arguments false (changes x))) (Ok (names, primitive_acts f.arguments false (changes y)))
     same_acts names e = ap (λ (z : Inner × Unit {0}). Ok (names, primitive_acts f.arguments false (changes z))) e
 
-    skip_step : tells → (p : Past) (o : List Action) → StepOf (Of row.NextFile) (state_of (form_output o before) p) [] memory (told.Done (Some (I32 0))) (with_output (o ++ []) (state_of later p)) []
+    skip_step : tells → (p : Past) (o : List Action) → StepOf (OfPrimitive row.NextFile) (state_of (form_output o before) p) [] memory (told.Done (Some (I32 0))) (with_output (o ++ []) (state_of later p)) []
     skip_step y p o =
         let inner = inner_of f.shared.inner p.arrays p.iterators in
         let names = (state_of before p).names in
         let at_last = state_of later p in
-        goes (Of row.NextFile) (form_output o before) p (with_output (o ++ []) at_last) [] memory names (with_tables t (with_main_input m i) (Over new) inner) tt 0 (Some (I32 0)) (unrefused (Of row.NextFile) f.fault none)
+        goes (OfPrimitive row.NextFile) (form_output o before) p (with_output (o ++ []) at_last) [] memory names (with_tables t (with_main_input m i) (Over new) inner) tt 0 (Some (I32 0)) (unrefused (OfPrimitive row.NextFile) f.fault none)
         (same_acts names (told_so y inner))
         tt refl
         (ap (λ (u : Outside). record at_last { shared = record at_last.shared { outside = u; output = o } }) (sym (outside y)) ∙ ap (λ (q : List Action). with_output q at_last) (sym (append-nil o)))
@@ -110,8 +110,8 @@ module _ (t : Texts) (i : Input) (m : Mains) (old new : State) (nothing : m.read
     abbrev given_state : Past → HostState
     given_state p = state_with (state_of before p).names (next_file_row (state_of before p).shared.inner).0 before
 
-    skip_anyhow : (p : Past) → IsStepInSomeWorld (Of row.NextFile) (state_of before p) [] memory (told.Done (Some (I32 0))) (state_of later p)
-    skip_anyhow p =
+    skip_in_any_world : (p : Past) → IsStepInSomeWorld (OfPrimitive row.NextFile) (state_of before p) [] memory (told.Done (Some (I32 0))) (state_of later p)
+    skip_in_any_world p =
         let s = unseen (state_of later p) in
         record {
           old = state_of before p;
@@ -119,7 +119,7 @@ module _ (t : Texts) (i : Input) (m : Mains) (old new : State) (nothing : m.read
           output = [];
           same_before = refl;
           same_after = ap (λ (z : Inner). record s { shared = record s.shared { inner = z } }) (same_seen (inner_of f.shared.inner p.arrays p.iterators));
-          step = goes (Of row.NextFile) before p (given_state p) [] memory (state_of before p).names (next_file_row (state_of before p).shared.inner).0 tt 0 (Some (I32 0)) (unrefused (Of row.NextFile) f.fault none) refl tt refl refl;
+          step = goes (OfPrimitive row.NextFile) before p (given_state p) [] memory (state_of before p).names (next_file_row (state_of before p).shared.inner).0 tt 0 (Some (I32 0)) (unrefused (OfPrimitive row.NextFile) f.fault none) refl tt refl refl;
         }
 
     -- where others change what names hold too
@@ -143,20 +143,20 @@ module _ (t : Texts) (i : Input) (m : Mains) (old new : State) (nothing : m.read
           ∙ ap (λ z. seen_there inner z (names_alone (readers_in i.files.readers.items old))) (sym main_after)
           ∙ ap (λ rs. seen_there inner (unseen_main (main_of m new)) rs) (same_names i.files.readers.items old new)
 
-      skip_there : Leads (Of row.NextFile) (form_finding finds o so_far before) [] memory (told.Done (Some (I32 0))) (form_finding finds o so_far later)
-      skip_there = leads (Of row.NextFile) (form_finding finds o so_far before) [] memory (told.Done (Some (I32 0))) (form_finding finds o so_far later) (λ p past.
+      skip_there : Leads (OfPrimitive row.NextFile) (form_finding finds o so_far before) [] memory (told.Done (Some (I32 0))) (form_finding finds o so_far later)
+      skip_there = leads (OfPrimitive row.NextFile) (form_finding finds o so_far before) [] memory (told.Done (Some (I32 0))) (form_finding finds o so_far later) (λ p past.
           let g = form_finding finds o so_far before in
           let last = state_of (form_finding finds o so_far later) p in
           record {
             now = p;
             is = record { arrays = past.arrays; iterators = past.iterators; first = past.first };
-            step = goes (Of row.NextFile) g p last [] memory (state_of g p).names last.shared.inner tt 0 (Some (I32 0)) (unrefused (Of row.NextFile) f.fault none)
+            step = goes (OfPrimitive row.NextFile) g p last [] memory (state_of g p).names last.shared.inner tt 0 (Some (I32 0)) (unrefused (OfPrimitive row.NextFile) f.fault none)
                 (same_acts (state_of g p).names (ap (λ (z : Inner). (z, tt)) (row_there (inner_of f.shared.inner p.arrays p.iterators)))) tt refl refl;
           })
 
-    pub skip_called : (words : List Word) → no_more words ≡ Ok tt → IsCalled tells (Of row.NextFile) before words memory (Ok (Some (I32 0))) later []
+    pub skip_called : (words : List Word) → no_more words ≡ Ok tt → IsCalled tells (OfPrimitive row.NextFile) before words memory (Ok (Some (I32 0))) later []
     skip_called words ends =
-        subst (λ ws. IsCalled tells (Of row.NextFile) before ws memory (Ok (Some (I32 0))) later []) (sym (no_word words ends)) (
-          leads_in tells (Of row.NextFile) before later [] memory (told.Done (Some (I32 0))) refl refl (λ p past. record { typed = refl; step = λ y o. skip_step y p o; anyhow = skip_anyhow p }),
-          led_nothing (Of row.NextFile) before later [] memory (told.Done (Some (I32 0))) skip_there,
+        subst (λ ws. IsCalled tells (OfPrimitive row.NextFile) before ws memory (Ok (Some (I32 0))) later []) (sym (no_word words ends)) (
+          leads_in tells (OfPrimitive row.NextFile) before later [] memory (told.Done (Some (I32 0))) refl refl (λ p past. record { typed = refl; step = λ y o. skip_step y p o; in_any_world = skip_in_any_world p }),
+          led_nothing (OfPrimitive row.NextFile) before later [] memory (told.Done (Some (I32 0))) skip_there,
         )

@@ -5,7 +5,7 @@ use Rattle.awk_values.specs.declared.value.Value.{Value}
 use Rattle.sem_primitives.specs.Constants.{destination_at}
 use Rattle.sem_primitives.specs.InTurn.{with_name}
 use Rattle.sem_primitives.specs.OutputMeaning.{print_row, printf_row}
-use Rattle.sem_primitives.specs.SharedState.{Does, shared_after}
+use Rattle.sem_primitives.specs.SharedState.{HostResult, shared_after}
 use Rattle.sem_primitives.specs.Sorts.{InAnswer, Row}
 use Rattle.sem_primitives.specs.declared.constants.Destination.{Destination}
 use Rattle.sem_primitives.specs.declared.sorts.Answer.TheVariants as answer
@@ -25,14 +25,14 @@ use Rattle.host_step.specs.HostState.{HostState, Names}
 use Rattle.host_step.specs.HostStep.{Acts, Refuses, Settles, StepBy, StepOf, before_last_of, carried, come, last_of, refuses, where_fit}
 use Rattle.host_imports.specs.Imports.{import_answer, spends}
 use Rattle.host_imports.specs.declared.import.Import.{Import}
-use Rattle.host_imports.specs.declared.import.Import.TheVariants.{Over}
-use Rattle.host_imports.specs.declared.import.Listing.TheVariants.{Print, Printf}
+use Rattle.host_imports.specs.declared.import.Import.TheVariants.{Variadic}
+use Rattle.host_imports.specs.declared.import.VariadicImport.TheVariants.{Print, Printf}
 use Rattle.host_values.proofs.ElementSteps.{unrefused}
 use Rattle.host_worlds.specs.Lists.{enough, listed, listing_words}
 
 -- what putting a text out does, and comes to
 abbrev pub Puts : Type 0
-Puts = Does (Result (Unit {0}) Fault)
+Puts = HostResult (Result (Unit {0}) Fault)
 
 abbrev pub acts_so : Puts → List Value → Acts (Unit {0})
 acts_so d left = record { does = d; arguments = left }
@@ -112,14 +112,14 @@ prints s n = print_row n.1 (last_of n.0 s.arguments) s.shared
 abbrev pub formats : HostState → ℕ × Destination → Puts
 formats s n = printf_row n.1 (last_of n.0 s.arguments) s.shared
 
-print_carried : (s : HostState) (words : List Word) (memory : List ℕ) → carried (Over Print) words memory s ≡ Comes s (prints s) (listed 0 s.arguments words)
+print_carried : (s : HostState) (words : List Word) (memory : List ℕ) → carried (Variadic Print) words memory s ≡ Comes s (prints s) (listed 0 s.arguments words)
 print_carried s words memory =
-    read_words (spends (Over Print)) memory s.names (Enough (enough 0 s.arguments) (taking s (prints s))) words
+    read_words (spends (Variadic Print)) memory s.names (Enough (enough 0 s.arguments) (taking s (prints s))) words
     ∙ taken_by s.names (enough 0 s.arguments) (taking s (prints s)) (listing_words words)
 
-printf_carried : (s : HostState) (words : List Word) (memory : List ℕ) → carried (Over Printf) words memory s ≡ Comes s (formats s) (listed 1 s.arguments words)
+printf_carried : (s : HostState) (words : List Word) (memory : List ℕ) → carried (Variadic Printf) words memory s ≡ Comes s (formats s) (listed 1 s.arguments words)
 printf_carried s words memory =
-    read_words (spends (Over Printf)) memory s.names (Enough (enough 1 s.arguments) (taking s (formats s))) words
+    read_words (spends (Variadic Printf)) memory s.names (Enough (enough 1 s.arguments) (taking s (formats s))) words
     ∙ taken_by s.names (enough 1 s.arguments) (taking s (formats s)) (listing_words words)
 
 -- The step.
@@ -149,21 +149,21 @@ module _ (i : Import) (s : HostState) (words : List Word) (memory : List ℕ) (a
       (subst (λ (x : Result (Names × Acts (InAnswer (import_answer i))) TrapKind). StepBy (import_answer i) s (come x) a after out) (sym is) h)
 
 pub print_step : (s : HostState) (words : List Word) (memory : List ℕ) (n : ℕ × Destination) → s.fault ≡ None → listed 0 s.arguments words ≡ Ok n
-    → StepOf (Over Print) s words memory (done_by (prints s n).answer) (after_put s (prints s n) (before_last_of n.0 s.arguments)) (prints s n).added
+    → StepOf (Variadic Print) s words memory (done_by (prints s n).answer) (after_put s (prints s n) (before_last_of n.0 s.arguments)) (prints s n).added
 print_step s words memory n none is =
-    step_by (Over Print) s words memory _ _ _ (unrefused (Over Print) s.fault none) (Comes s (prints s) (Ok n)) (print_carried s words memory ∙ ap (Comes s (prints s)) is)
+    step_by (Variadic Print) s words memory _ _ _ (unrefused (Variadic Print) s.fault none) (Comes s (prints s) (Ok n)) (print_carried s words memory ∙ ap (Comes s (prints s)) is)
     (settles s (taking s (prints s) n) (prints s n).answer)
 
 pub printf_step : (s : HostState) (words : List Word) (memory : List ℕ) (n : ℕ × Destination) → s.fault ≡ None → listed 1 s.arguments words ≡ Ok n
-    → StepOf (Over Printf) s words memory (done_by (formats s n).answer) (after_put s (formats s n) (before_last_of n.0 s.arguments)) (formats s n).added
+    → StepOf (Variadic Printf) s words memory (done_by (formats s n).answer) (after_put s (formats s n) (before_last_of n.0 s.arguments)) (formats s n).added
 printf_step s words memory n none is =
-    step_by (Over Printf) s words memory _ _ _ (unrefused (Over Printf) s.fault none) (Comes s (formats s) (Ok n)) (printf_carried s words memory ∙ ap (Comes s (formats s)) is)
+    step_by (Variadic Printf) s words memory _ _ _ (unrefused (Variadic Printf) s.fault none) (Comes s (formats s) (Ok n)) (printf_carried s words memory ∙ ap (Comes s (formats s)) is)
     (settles s (taking s (formats s) n) (formats s n).answer)
 
-pub print_trap : (s : HostState) (words : List Word) (memory : List ℕ) (k : TrapKind) → s.fault ≡ None → listed 0 s.arguments words ≡ Err k → StepOf (Over Print) s words memory (told.Trap k) s []
+pub print_trap : (s : HostState) (words : List Word) (memory : List ℕ) (k : TrapKind) → s.fault ≡ None → listed 0 s.arguments words ≡ Err k → StepOf (Variadic Print) s words memory (told.Trap k) s []
 print_trap s words memory k none is =
-    step_by (Over Print) s words memory _ _ _ (unrefused (Over Print) s.fault none) (Err k) (print_carried s words memory ∙ ap (Comes s (prints s)) is) (record { trap = refl; state = refl; added = refl })
+    step_by (Variadic Print) s words memory _ _ _ (unrefused (Variadic Print) s.fault none) (Err k) (print_carried s words memory ∙ ap (Comes s (prints s)) is) (record { trap = refl; state = refl; added = refl })
 
-pub printf_trap : (s : HostState) (words : List Word) (memory : List ℕ) (k : TrapKind) → s.fault ≡ None → listed 1 s.arguments words ≡ Err k → StepOf (Over Printf) s words memory (told.Trap k) s []
+pub printf_trap : (s : HostState) (words : List Word) (memory : List ℕ) (k : TrapKind) → s.fault ≡ None → listed 1 s.arguments words ≡ Err k → StepOf (Variadic Printf) s words memory (told.Trap k) s []
 printf_trap s words memory k none is =
-    step_by (Over Printf) s words memory _ _ _ (unrefused (Over Printf) s.fault none) (Err k) (printf_carried s words memory ∙ ap (Comes s (formats s)) is) (record { trap = refl; state = refl; added = refl })
+    step_by (Variadic Printf) s words memory _ _ _ (unrefused (Variadic Printf) s.fault none) (Err k) (printf_carried s words memory ∙ ap (Comes s (formats s)) is) (record { trap = refl; state = refl; added = refl })

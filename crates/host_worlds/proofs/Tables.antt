@@ -20,17 +20,17 @@ use Rattle.host_step.specs.HostStep.{StepOf}
 use Rattle.host_imports.specs.Imports.{import_answer}
 use Rattle.host_step.specs.Worlds.{Called, Wanted, reads, unseen, with_output}
 use Rattle.host_imports.specs.declared.import.Import.{Import}
-use Rattle.host_values.specs.declared.reply.Refusal.TheVariants as why
+use Rattle.host_step.specs.declared.refusal.Refusal.TheVariants as why
 use Rattle.host_values.specs.Forms.{HostForm, Past, Stands, state_of}
 use Rattle.host_streams.specs.OpenFiles.{AreOpen, names_of, reader_handle, readers_in}
 use Rattle.host_streams.specs.Outputs.{PutsIs}
-use Rattle.host_streams.specs.Puts.{BeginsBy, HasDone, Spares}
+use Rattle.host_streams.specs.Puts.{OutputPrefix, HasDone, Spares}
 use Rattle.host_streams.specs.Readers.{left}
 use Rattle.host_streams.specs.declared.streams.NamedReader.{NamedReader}
 use Rattle.host_streams.specs.declared.streams.Streams.{Streams}
 use Rattle.host_values.specs.Findings.{IsFound, form_finding}
 use Rattle.host_values.specs.WorldCalls.{IsCalled, LeadsFinding, LeadsIn, LedFinding}
-use Rattle.host_worlds.specs.OutputCalls.{Could, HasFiles, PutsFound, SomeFound, answer_of, finding, left_by}
+use Rattle.host_worlds.specs.OutputCalls.{PossibleOutcome, HasFiles, PutsFound, SomeFound, answer_of, finding, left_by}
 use Rattle.host_worlds.specs.Forms.{writing}
 use Rattle.host_worlds.proofs.Names.{name_alone, names_stay}
 use Rattle.host_worlds.proofs.Puts.{OnlyWriters, none_by, so_far_in, with_writers}
@@ -127,7 +127,7 @@ module _ (does does' : Shared → Puts) (fits : Shared → Type 0) (streams stre
     λ later shared is fit. subst (λ (d : Puts). PutsFound d streams' answer some.1 (left_by answer some.0 later)) (same shared fit (some.0 ++ later)) (some.2 later shared is),
   )
 
-  pub could_at : (put : Result (Unit {0}) Stop) → Could does streams streams' put → CouldAt does' fits streams streams' put
+  pub could_at : (put : Result (Unit {0}) Stop) → PossibleOutcome does streams streams' put → CouldAt does' fits streams streams' put
   could_at (Ok u) some = some_at (Ok tt) some
   could_at (Err (stop.Fault fault)) some = some_at (Err fault) some
   could_at (Err stop.NoMemory) some = tt
@@ -143,7 +143,7 @@ abbrev pub BeginsAt : Type 0 → Puts → Result (Unit {0}) Stop → State → S
 BeginsAt tells d (Err stop.NoMemory) state state' = (n : ℕ) × (tells → state'.outside ≡ after (take n d.added) state.outside)
 BeginsAt tells d put state state' = Unit {0}
 
-pub begins_at : (tells : Type 0) (is : Shared → Type 0) (does : Shared → Puts) (put : Result (Unit {0}) Stop) (state state' : State) (shared : Shared) → is shared → BeginsBy tells is does put state state' → BeginsAt tells (does shared) put state state'
+pub begins_at : (tells : Type 0) (is : Shared → Type 0) (does : Shared → Puts) (put : Result (Unit {0}) Stop) (state state' : State) (shared : Shared) → is shared → OutputPrefix tells is does put state state' → BeginsAt tells (does shared) put state state'
 begins_at tells is does (Ok u) state state' shared i begun = tt
 begins_at tells is does (Err (stop.Fault fault)) state state' shared i begun = tt
 begins_at tells is does (Err stop.NoMemory) state state' shared i begun = (begun.0, λ t. begun.1 t shared i)

@@ -11,9 +11,9 @@ use Rattle.world_core.specs.WorldState.{State, after}
 use Rattle.host_format.specs.Outcomes.{IsStopOf}
 use Rattle.host_texts.specs.declared.specials.Specials.{Specials}
 use Rattle.host_streams.specs.Outputs.{IsOf}
-use Rattle.host_streams.specs.Puts.{BeginsBy}
+use Rattle.host_streams.specs.Puts.{OutputPrefix}
 use Rattle.host_streams.specs.declared.streams.Streams.{Streams}
-use Rattle.host_worlds.specs.OutputCalls.{Could, PutsFound, SomeFound, finding, left_by}
+use Rattle.host_worlds.specs.OutputCalls.{PossibleOutcome, PutsFound, SomeFound, finding, left_by}
 use Rattle.host_worlds.specs.Forms.{inner_with, shared_with}
 use Rattle.host_worlds.proofs.Steps.{Puts}
 
@@ -37,12 +37,12 @@ module _ (to : Destination) (values : List Value) (specials : Specials) (line : 
         (some.2 later (shared_with specials shared) (record { readers = is.readers; writers = is.writers })),
   )
 
-  pub could_line : (streams streams' : Streams) (r : Result (Unit {0}) Stop) → Could of_line streams streams' r → Could of_values streams streams' r
+  pub could_line : (streams streams' : Streams) (r : Result (Unit {0}) Stop) → PossibleOutcome of_line streams streams' r → PossibleOutcome of_values streams streams' r
   could_line streams streams' (Ok u) some = some_line streams streams' (Ok tt) some
   could_line streams streams' (Err (stop.Fault fault)) some = some_line streams streams' (Err fault) some
   could_line streams streams' (Err stop.NoMemory) some = tt
 
-  pub begins_line : (tells : Type 0) (streams : Streams) (s t : State) (r : Result (Unit {0}) Stop) → BeginsBy tells (IsOf streams s) of_line r s t → BeginsBy tells (IsOf streams s) of_values r s t
+  pub begins_line : (tells : Type 0) (streams : Streams) (s t : State) (r : Result (Unit {0}) Stop) → OutputPrefix tells (IsOf streams s) of_line r s t → OutputPrefix tells (IsOf streams s) of_values r s t
   begins_line tells streams s t (Ok u) begun = tt
   begins_line tells streams s t (Err (stop.Fault fault)) begun = tt
   begins_line tells streams s t (Err stop.NoMemory) begun = (
@@ -54,21 +54,21 @@ module _ (to : Destination) (values : List Value) (specials : Specials) (line : 
 
 -- A text of printf.
 
-could_same : (does does' : Shared → Puts) (streams streams' : Streams) (r : Result (Unit {0}) Stop) → ((shared : Shared) → does shared ≡ does' shared) → Could does streams streams' r → Could does' streams streams' r
-could_same does does' streams streams' r same some = subst (λ (f : Shared → Puts). Could f streams streams' r) (λ i shared. same shared i) some
+could_same : (does does' : Shared → Puts) (streams streams' : Streams) (r : Result (Unit {0}) Stop) → ((shared : Shared) → does shared ≡ does' shared) → PossibleOutcome does streams streams' r → PossibleOutcome does' streams streams' r
+could_same does does' streams streams' r same some = subst (λ (f : Shared → Puts). PossibleOutcome f streams streams' r) (λ i shared. same shared i) some
 
 module _ (to : Destination) (values : List Value) (text : List ℕ) (is : formatted_values (operands_of to values) ≡ Ok text) where
   same_text_row : (shared : Shared) → put_text to (file_name to values) text shared ≡ printf_row to values shared
   same_text_row shared = ap (λ r. printf_by r to (file_name to values) shared) (sym is)
 
-  pub could_text : (streams streams' : Streams) (r : Result (Unit {0}) Stop) → Could (put_text to (file_name to values) text) streams streams' r → Could (printf_row to values) streams streams' r
+  pub could_text : (streams streams' : Streams) (r : Result (Unit {0}) Stop) → PossibleOutcome (put_text to (file_name to values) text) streams streams' r → PossibleOutcome (printf_row to values) streams streams' r
   could_text streams streams' r some = could_same (put_text to (file_name to values) text) (printf_row to values) streams streams' r same_text_row some
 
-  pub begins_text : (tells : Type 0) (streams : Streams) (s t : State) (r : Result (Unit {0}) Stop) → BeginsBy tells (IsOf streams s) (put_text to (file_name to values) text) r s t → BeginsBy tells (IsOf streams s) (printf_row to values) r s t
-  begins_text tells streams s t r begun = subst (λ (f : Shared → Puts). BeginsBy tells (IsOf streams s) f r s t) (λ i shared. same_text_row shared i) begun
+  pub begins_text : (tells : Type 0) (streams : Streams) (s t : State) (r : Result (Unit {0}) Stop) → OutputPrefix tells (IsOf streams s) (put_text to (file_name to values) text) r s t → OutputPrefix tells (IsOf streams s) (printf_row to values) r s t
+  begins_text tells streams s t r begun = subst (λ (f : Shared → Puts). OutputPrefix tells (IsOf streams s) f r s t) (λ i shared. same_text_row shared i) begun
 
 -- a fault of the format
-pub could_refused : (to : Destination) (values : List Value) (streams : Streams) (why : Stop) → IsStopOf (formatted_values (operands_of to values)) why → Could (printf_row to values) streams streams (Err why)
+pub could_refused : (to : Destination) (values : List Value) (streams : Streams) (why : Stop) → IsStopOf (formatted_values (operands_of to values)) why → PossibleOutcome (printf_row to values) streams streams (Err why)
 could_refused to values streams (stop.Fault fault) is = (
   [],
   [],
@@ -82,7 +82,7 @@ could_refused to values streams (stop.Fault fault) is = (
 could_refused to values streams stop.NoMemory is = tt
 
 -- nothing was put out
-pub none_begun : (tells : Type 0) (is : Shared → Type 0) (does : Shared → Puts) (s : State) (r : Result (Unit {0}) Stop) → BeginsBy tells is does r s s
+pub none_begun : (tells : Type 0) (is : Shared → Type 0) (does : Shared → Puts) (s : State) (r : Result (Unit {0}) Stop) → OutputPrefix tells is does r s s
 none_begun tells is does s (Ok u) = tt
 none_begun tells is does s (Err (stop.Fault fault)) = tt
 none_begun tells is does s (Err stop.NoMemory) = (0, λ w shared has. refl)

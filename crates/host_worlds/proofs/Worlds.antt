@@ -12,7 +12,7 @@ use Rattle.world_core.specs.WorldState.{Action, Entry, after}
 use Rattle.host_step.specs.HostLaws.{step_typed}
 use Rattle.host_step.specs.HostState.{HostState}
 use Rattle.host_step.specs.HostStep.{StepOf}
-use Rattle.host_step.specs.Worlds.{AnyhowIf, Called, IsStepInSomeWorld, Wanted, reads, unseen, with_output}
+use Rattle.host_step.specs.Worlds.{InAnyWorldIf, Called, IsStepInSomeWorld, Wanted, reads, unseen, with_output}
 use Rattle.host_imports.specs.declared.import.Import.{Import}
 use Rattle.host_worlds.specs.OutputCalls.{finding}
 use Rattle.host_worlds.proofs.Puts.{so_far_in}
@@ -22,14 +22,14 @@ use Rattle.host_worlds.proofs.Steps.{Puts, after_put, done_by}
 abbrev pub sharing : HostState → Shared → HostState
 sharing s shared = record s { shared = shared }
 
--- A call in every world, where it is a step in worlds that tell.
+-- A call in every world, where it is a step in modelled worlds.
 pub called_by : (tells : Type 0) (i : Import) (s s' : HostState) (words : List Word) (memory : List ℕ) (a : HostAnswer) (out : List Action) → reads i ≡ false
     → (tells → (so_far : List Action) → StepOf i (with_output so_far s) words memory a (with_output (so_far ++ out) s') out)
     → IsStepInSomeWorld i s words memory a s' → Called tells (Some i) s words memory a s' out
 called_by tells i s s' words memory a out writes step world = record {
   typed = step_typed (Some i) world.old words memory a world.new world.output world.step;
   step = step;
-  anyhow = subst (λ (b : Bool). AnyhowIf b i s words memory a s') (sym writes) world;
+  in_any_world = subst (λ (b : Bool). InAnyWorldIf b i s words memory a s') (sym writes) world;
 }
 
 -- where the world tells, the world itself is one

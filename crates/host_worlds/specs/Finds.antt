@@ -16,7 +16,7 @@ use Rattle.host_worlds.specs.Givens.{FileGives, GivesMain, OffersTexts, RowGives
 use Rattle.host_worlds.specs.States.{Finding, with_tables}
 use Rattle.host_worlds.specs.declared.input.Given.{Given}
 use Rattle.host_worlds.specs.declared.input.Input.{Input}
-use Rattle.host_worlds.specs.declared.input.Keep.{Keep}
+use Rattle.host_worlds.specs.declared.input.ReadInto.{ReadInto}
 use Rattle.host_worlds.specs.declared.input.MainRead.{MainRead}
 
 -- the main input is asked once
@@ -46,7 +46,7 @@ FindsFile name texts old answer new = (found : List Entry) × ((later : List Ent
     (keep : List ℕ → Inner → Result (Inner × InputAnswer) Fault) (value : Value) → text_of_value value ≡ name
     → FileGives (getline_file_by keep value outside (with_tables texts old (Finding (found ++ later)) inner)) keep answer (with_tables texts new (Finding later) inner))
 
-abbrev pub FindsFileRow : Keep → List ℕ → Texts → Input → Result InputAnswer Stop → Texts → Input → Type 0
+abbrev pub FindsFileRow : ReadInto → List ℕ → Texts → Input → Result InputAnswer Stop → Texts → Input → Type 0
 FindsFileRow to name texts old answer texts' new = (found : List Entry) × ((later : List Entry) (outside : Outside) (inner : Inner)
     (value : Value) → text_of_value value ≡ name
     → RowGives (file_row to value outside (with_tables texts old (Finding (found ++ later)) inner)) answer (with_tables texts' new (Finding later) inner))

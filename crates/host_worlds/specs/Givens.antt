@@ -23,8 +23,8 @@ use Rattle.host_streams.specs.declared.main_input.MainNext.{MainNext}
 use Rattle.host_streams.specs.declared.main_input.MainNext.TheVariants.{Assign, Opened}
 use Rattle.host_worlds.specs.declared.input.Given.{Given}
 use Rattle.host_worlds.specs.declared.input.Given.TheVariants as given
-use Rattle.host_worlds.specs.declared.input.Keep.{Keep}
-use Rattle.host_worlds.specs.declared.input.Keep.TheVariants.{Record, Line}
+use Rattle.host_worlds.specs.declared.input.ReadInto.{ReadInto}
+use Rattle.host_worlds.specs.declared.input.ReadInto.TheVariants.{Record, Variable}
 use Rattle.host_worlds.specs.declared.input.MainRead.{MainRead}
 use Rattle.host_worlds.specs.declared.input.MainRead.TheVariants.{Loop, Getline}
 
@@ -86,9 +86,9 @@ TurnPasses old (Ok None) new = left_to_open new < left_to_open old
 TurnPasses old answer new = Unit {0}
 
 -- where a record goes
-abbrev pub kept_by : Keep → List ℕ → Inner → Result (Inner × InputAnswer) Fault
+abbrev pub kept_by : ReadInto → List ℕ → Inner → Result (Inner × InputAnswer) Fault
 kept_by Record text inner = as_record text inner
-kept_by Line text inner = as_line text inner
+kept_by Variable text inner = as_line text inner
 
 -- what an import answers to what the main input gives
 abbrev pub answer_of : MainRead → Inner × Main → Result (Inner × InputAnswer) Fault
@@ -115,20 +115,20 @@ AnswerTells g answer = answer ≢ Ok input.Pending
 abbrev pub main_primitive : MainRead → Primitive
 main_primitive Loop = row.NextMain
 main_primitive (Getline Record) = row.Getline
-main_primitive (Getline Line) = row.GetlineVar
+main_primitive (Getline Variable) = row.GetlineVar
 
 abbrev pub main_row : MainRead → Outside → Inner → Result (Inner × InputAnswer) Fault
 main_row Loop outside inner = next_main_row outside inner
 main_row (Getline Record) outside inner = getline_row outside inner
-main_row (Getline Line) outside inner = getline_line_row outside inner
+main_row (Getline Variable) outside inner = getline_line_row outside inner
 
-abbrev pub file_primitive : Keep → Primitive
+abbrev pub file_primitive : ReadInto → Primitive
 file_primitive Record = row.GetlineFile
-file_primitive Line = row.GetlineVarFile
+file_primitive Variable = row.GetlineVarFile
 
-abbrev pub file_row : Keep → Value → Outside → Inner → Result (Inner × InputAnswer) Fault
+abbrev pub file_row : ReadInto → Value → Outside → Inner → Result (Inner × InputAnswer) Fault
 file_row Record name outside inner = getline_file_row name outside inner
-file_row Line name outside inner = getline_line_file_row name outside inner
+file_row Variable name outside inner = getline_line_file_row name outside inner
 
 -- what reading a file gives, where a record is kept so
 abbrev pub FileGives : Result (Inner × InputAnswer) Fault → (List ℕ → Inner → Result (Inner × InputAnswer) Fault) → Result FileNext Stop → Inner → Type 0

@@ -11,8 +11,8 @@ use Rattle.host_names.specs.Forms.{with_pending as names_pending}
 use Rattle.host_worlds.specs.declared.input.Given.{Given}
 use Rattle.host_worlds.specs.declared.input.Given.TheVariants as given
 use Rattle.host_worlds.specs.declared.input.Input.{Input}
-use Rattle.host_worlds.specs.declared.input.Keep.{Keep}
-use Rattle.host_worlds.specs.declared.input.Keep.TheVariants.{Line, Record}
+use Rattle.host_worlds.specs.declared.input.ReadInto.{ReadInto}
+use Rattle.host_worlds.specs.declared.input.ReadInto.TheVariants.{Variable, Record}
 use Rattle.host_worlds.specs.declared.input.MainRead.{MainRead}
 use Rattle.host_worlds.specs.declared.input.MainRead.TheVariants.{Loop, Getline}
 
@@ -68,15 +68,15 @@ AnswerPends (Err stop) old new = Unit {0}
 
 -- a line is there now, or it is as it was
 
-abbrev pub HasLineBy : Keep → Input → Input → Type 0
-HasLineBy Line old new = IsSome new.line
+abbrev pub HasLineBy : ReadInto → Input → Input → Type 0
+HasLineBy Variable old new = IsSome new.line
 HasLineBy Record old new = new.line ≡ old.line
 
-abbrev pub keep_of : MainRead → Keep
+abbrev pub keep_of : MainRead → ReadInto
 keep_of Loop = Record
 keep_of (Getline to) = to
 
-abbrev pub AnswerLine : Keep → Result InputAnswer Stop → Input → Input → Type 0
+abbrev pub AnswerLine : ReadInto → Result InputAnswer Stop → Input → Input → Type 0
 AnswerLine to (Ok Read) old new = HasLineBy to old new
 AnswerLine to (Ok answer) old new = new.line ≡ old.line
 AnswerLine to (Err stop) old new = Unit {0}

@@ -5,12 +5,12 @@ use Rattle.awk_values.specs.declared.fault.Stop.TheVariants as stop
 use Rattle.awk_values.specs.declared.fault.Fault.{Fault}
 use Rattle.awk_values.specs.declared.fault.Fault.TheVariants.{OpenOutput, WriteFailed}
 use Rattle.world_core.specs.Calls.{Kind}
-use Rattle.sem_primitives.specs.SharedState.{Does, Shared}
+use Rattle.sem_primitives.specs.SharedState.{HostResult, Shared}
 use Rattle.world_core.specs.WorldState.{Action, Entry, State}
 use Rattle.wasm_store.specs.declared.word.Word.{Word}
 use Rattle.wasm_store.specs.declared.word.Word.TheVariants.{I32}
-use Rattle.host_values.specs.declared.reply.Refusal.{Refusal}
-use Rattle.host_values.specs.declared.reply.Refusal.TheVariants as why
+use Rattle.host_step.specs.declared.refusal.Refusal.{Refusal}
+use Rattle.host_step.specs.declared.refusal.Refusal.TheVariants as why
 use Rattle.host_streams.specs.OpenFiles.{HoldsOpen, OthersStay, WritersGo, names_of}
 use Rattle.host_streams.specs.Outputs.{IsOf, PutsIs}
 use Rattle.host_streams.specs.Puts.{Spares}
@@ -27,10 +27,10 @@ pub record Keeps (tells : Type 0) (kinds kinds' : ℕ → Kind) (state state' : 
   pub spares : tells → Spares kinds state state'
 
 -- the world's failures go up by one where a write or an opening fails, and nowhere else
-abbrev pub FailsBy : Result (Option Word) Refusal → ℕ → ℕ → Type 0
-FailsBy (Err (why.Fault WriteFailed)) n m = m ≡ (n + 1) % 2 ^ 64
-FailsBy (Err (why.Fault OpenOutput)) n m = m ≡ (n + 1) % 2 ^ 64
-FailsBy _ n m = m ≡ n
+abbrev pub CountsFailure : Result (Option Word) Refusal → ℕ → ℕ → Type 0
+CountsFailure (Err (why.Fault WriteFailed)) n m = m ≡ (n + 1) % 2 ^ 64
+CountsFailure (Err (why.Fault OpenOutput)) n m = m ≡ (n + 1) % 2 ^ 64
+CountsFailure _ n m = m ≡ n
 
 -- the answer to a text that was put out, or was not
 abbrev pub answer_of : Result (Unit {0}) Stop → Result (Option Word) Refusal
@@ -39,7 +39,7 @@ answer_of (Err (stop.Fault f)) = Err (why.Fault f)
 answer_of (Err stop.NoMemory) = Err why.NoMemory
 
 -- What went out, the answer and the files that are open for writing are those of the definition.
-abbrev pub PutsAs : (Shared → Does (Result (Unit {0}) Fault)) → Streams → State → Result (Unit {0}) Stop → Streams → State → Type 0
+abbrev pub PutsAs : (Shared → HostResult (Result (Unit {0}) Fault)) → Streams → State → Result (Unit {0}) Stop → Streams → State → Type 0
 PutsAs does old before answer new after =
     (shared : Shared) → IsOf old before shared
     → PutsIs (does shared) answer before after (names_of old.writers.items) (names_of new.writers.items)
@@ -61,7 +61,7 @@ left_by (Ok u) found later = later
 left_by (Err fault) found later = found ++ later
 
 -- It answers so, puts this out, and leaves these files open for writing; and then these are found.
-pub record PutsFound (d : Does (Result (Unit {0}) Fault)) (streams' : Streams) (answer : Result (Unit {0}) Fault) (added : List Action)
+pub record PutsFound (d : HostResult (Result (Unit {0}) Fault)) (streams' : Streams) (answer : Result (Unit {0}) Fault) (added : List Action)
     (rest : List Entry) : Type 0 where
   pub answer_is : d.answer ≡ answer
   pub writers : d.inner.writers ≡ names_of streams'.writers.items
@@ -69,11 +69,11 @@ pub record PutsFound (d : Does (Result (Unit {0}) Fault)) (streams' : Streams) (
   pub finds : d.inner.finds ≡ Some rest
 
 -- Something is found where the definition answers so, whatever is found later.
-abbrev pub SomeFound : (Shared → Does (Result (Unit {0}) Fault)) → Streams → Streams → Result (Unit {0}) Fault → Type 0
+abbrev pub SomeFound : (Shared → HostResult (Result (Unit {0}) Fault)) → Streams → Streams → Result (Unit {0}) Fault → Type 0
 SomeFound does streams streams' answer = (found : List Entry) × (added : List Action) × ((later : List Entry) (shared : Shared) → HasFiles streams shared
     → PutsFound (does (finding (found ++ later) shared)) streams' answer added (left_by answer found later))
 
-abbrev pub Could : (Shared → Does (Result (Unit {0}) Fault)) → Streams → Streams → Result (Unit {0}) Stop → Type 0
-Could does streams streams' (Ok u) = SomeFound does streams streams' (Ok tt)
-Could does streams streams' (Err (stop.Fault f)) = SomeFound does streams streams' (Err f)
-Could does streams streams' (Err stop.NoMemory) = Unit {0}
+abbrev pub PossibleOutcome : (Shared → HostResult (Result (Unit {0}) Fault)) → Streams → Streams → Result (Unit {0}) Stop → Type 0
+PossibleOutcome does streams streams' (Ok u) = SomeFound does streams streams' (Ok tt)
+PossibleOutcome does streams streams' (Err (stop.Fault f)) = SomeFound does streams streams' (Err f)
+PossibleOutcome does streams streams' (Err stop.NoMemory) = Unit {0}

@@ -5,7 +5,7 @@ ghost use Rattle.sem_primitives.specs.declared.table.Primitive.TheVariants as ro
 ghost use Rattle.host_imports.specs.declared.import.Import.{Import};
 ghost use Rattle.host_values.specs.Forms.{HostForm};
 ghost use Rattle.host_streams.specs.OpenFiles.{HoldsOpen, OthersKeep, OthersStay, WritersGo};
-ghost use Rattle.host_values.specs.Calls.{spare};
+ghost use Rattle.host_values.specs.Calls.{reserved_handle};
 ghost use Rattle.host_values.specs.WorldCalls.{IsCalled};
 ghost use Rattle.host_worlds.specs.Forms.{closing, closed_code};
 
@@ -37,17 +37,17 @@ pub fn close<W: World>(
     words: &[Word],
 ) -> Result<Option<Word>, Refusal>
     requires held { HoldsOpen streams.old (W.kinds world.old) }
-    requires goes { W.tells → WritersGo streams.old.writers.items (W.state world.old) }
-    ensures step { (f : HostForm) (memory : List ℕ) → f.fault ≡ None → IsCalled W.tells
-        (Import.Of row.Close) (closing handles.old streams.old (W.state world.old) f) words.now
+    requires goes { W.is_modelled → WritersGo streams.old.writers.items (W.state world.old) }
+    ensures step { (f : HostForm) (memory : List ℕ) → f.fault ≡ None → IsCalled W.is_modelled
+        (Import.OfPrimitive row.Close) (closing handles.old streams.old (W.state world.old) f) words.now
         memory result (closing handles.new streams.new (W.state world.new) f) [] }
-    ensures spare { map.get handles.old spare ≡ None → map.get handles.new spare ≡ None }
+    ensures spare { map.get handles.old reserved_handle ≡ None → map.get handles.new reserved_handle ≡ None }
     ensures held { HoldsOpen streams.new (W.kinds world.new) }
-    ensures goes { W.tells → WritersGo streams.new.writers.items (W.state world.new) }
+    ensures goes { W.is_modelled → WritersGo streams.new.writers.items (W.state world.new) }
     ensures count { W.count world.new ≡ W.count world.old }
     ensures others { OthersStay streams.old streams.new (W.kinds world.old) (W.kinds world.new) }
     ensures no_others { OthersStay streams.new streams.old (W.kinds world.new) (W.kinds world.old) }
-    ensures places { W.tells
+    ensures places { W.is_modelled
         → OthersKeep streams.old (W.kinds world.old) (W.state world.old) (W.state world.new) }
 {
     let (handle, value) = match only_handle(handles, words) {

@@ -12,7 +12,7 @@ ghost use Rattle.host_worlds.specs.Givens.{FileGives, RowGives, file_row};
 ghost use Rattle.host_worlds.specs.Keeps.{AnswerLine, IsReadOn, KeepsSubstituted, with_files};
 ghost use Rattle.host_worlds.specs.States.{HoldsInput, Over, with_tables};
 
-use crate::input::{Input, Keep};
+use crate::input::{Input, ReadInto};
 use crate::main_record::keep;
 use awk_values::Stop;
 use host_streams::FileNext;
@@ -31,15 +31,15 @@ fn next<W: World>(
     name: &[u8],
 ) -> Result<FileNext, Stop>
     requires held { HoldsInput input.old (W.kinds world.old) }
-    requires goes { W.tells → WritersGo input.old.files.writers.items (W.state world.old) }
+    requires goes { W.is_modelled → WritersGo input.old.files.writers.items (W.state world.old) }
     ensures held { HoldsInput input.new (W.kinds world.new) }
-    ensures goes { W.tells → WritersGo input.new.files.writers.items (W.state world.new) }
-    ensures told { W.tells → (inner : Inner) (keep : List ℕ → Inner → Result (Inner × AnyAnswer)
+    ensures goes { W.is_modelled → WritersGo input.new.files.writers.items (W.state world.new) }
+    ensures told { W.is_modelled → (inner : Inner) (keep : List ℕ → Inner → Result (Inner × AnyAnswer)
         AnyFault) (value : AnyValue) → text_of_value value ≡ name.now → FileGives (getline_file_by
         keep value (W.state world.old).outside
         (with_tables texts.now input.old (Over (W.state world.old)) inner)) keep result
         (with_tables texts.now input.new (Over (W.state world.new)) inner) }
-    ensures outside { W.tells → (W.state world.new).outside ≡ (W.state world.old).outside }
+    ensures outside { W.is_modelled → (W.state world.new).outside ≡ (W.state world.old).outside }
     ensures rest { input.new ≡ with_files input.new.files input.old }
     ensures writers { input.new.files.writers ≡ input.old.files.writers }
     ensures finds { FindsFile name.now texts.now input.old result input.new }
@@ -55,17 +55,17 @@ pub(crate) fn read<W: World>(
     texts: &mut Texts,
     input: &mut Input,
     name: &[u8],
-    to: Keep,
+    to: ReadInto,
 ) -> Result<InputAnswer, Stop>
     requires held { HoldsInput input.old (W.kinds world.old) }
-    requires goes { W.tells → WritersGo input.old.files.writers.items (W.state world.old) }
+    requires goes { W.is_modelled → WritersGo input.old.files.writers.items (W.state world.old) }
     ensures held { HoldsInput input.new (W.kinds world.new) }
-    ensures goes { W.tells → WritersGo input.new.files.writers.items (W.state world.new) }
-    ensures told { W.tells → (inner : Inner) (value : AnyValue) → text_of_value value ≡ name.now
+    ensures goes { W.is_modelled → WritersGo input.new.files.writers.items (W.state world.new) }
+    ensures told { W.is_modelled → (inner : Inner) (value : AnyValue) → text_of_value value ≡ name.now
         → RowGives (file_row to value (W.state world.old).outside
         (with_tables texts.old input.old (Over (W.state world.old)) inner)) result
         (with_tables texts.new input.new (Over (W.state world.new)) inner) }
-    ensures outside { W.tells → (W.state world.new).outside ≡ (W.state world.old).outside }
+    ensures outside { W.is_modelled → (W.state world.new).outside ≡ (W.state world.old).outside }
     ensures rest { IsReadOn input.old input.new }
     ensures writers { input.new.files.writers ≡ input.old.files.writers }
     ensures line { AnswerLine to result input.old input.new }

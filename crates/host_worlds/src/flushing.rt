@@ -5,7 +5,7 @@ ghost use Rattle.sem_primitives.specs.declared.table.Primitive.TheVariants as ro
 ghost use Rattle.host_imports.specs.declared.import.Import.{Import};
 ghost use Rattle.host_values.specs.ElementCalls.{IsTableCall};
 ghost use Rattle.host_values.specs.Forms.{HostForm};
-ghost use Rattle.host_values.specs.Calls.{spare};
+ghost use Rattle.host_values.specs.Calls.{reserved_handle};
 ghost use Rattle.host_worlds.specs.Forms.{flushing};
 
 use crate::closing::code;
@@ -29,9 +29,9 @@ pub fn flush(
     words: &[Word],
 ) -> Result<Option<Word>, Refusal>
     ensures step { (f : HostForm) (memory : List ℕ) → f.fault ≡ None → IsTableCall
-        (Import.Of row.Flush) (flushing handles.old streams.now f) words.now memory result
+        (Import.OfPrimitive row.Flush) (flushing handles.old streams.now f) words.now memory result
         (flushing handles.new streams.now f) }
-    ensures spare { map.get handles.old spare ≡ None → map.get handles.new spare ≡ None }
+    ensures spare { map.get handles.old reserved_handle ≡ None → map.get handles.new reserved_handle ≡ None }
 {
     let (handle, value) = match only_handle(handles, words) {
         Ok(read) => read,

@@ -44,11 +44,11 @@ impl Input {
 
 /// Where a record goes.
 #[derive(Clone, Copy, Drop)]
-pub enum Keep {
+pub enum ReadInto {
     /// `$0`.
     Record,
     /// A variable: it is kept until `line` gives it.
-    Line,
+    Variable,
 }
 
 /// Which import reads the main input.
@@ -57,7 +57,7 @@ pub enum MainRead {
     /// `next_main`: a file that does not open, or does not read, is a fault.
     Loop,
     /// `getline` and `getline_var`: that is an answer.
-    Getline(Keep),
+    Getline(ReadInto),
 }
 
 /// What the main input gives, once the assignments that need no script are made.

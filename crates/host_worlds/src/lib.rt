@@ -6,11 +6,11 @@
 #![tactic(auto)]
 
 mod argv;
-mod calls;
 mod closing;
 mod files;
 mod flushing;
 mod input;
+mod input_calls;
 mod main_record;
 mod outlets;
 mod output_line;
@@ -20,8 +20,8 @@ mod shown;
 mod taken;
 mod turn;
 
-pub use calls::{begin_end, line, next_file, read_file, read_main};
 pub use closing::close;
 pub use flushing::flush;
-pub use input::{Input, Keep, MainRead};
+pub use input::{Input, MainRead, ReadInto};
+pub use input_calls::{begin_end, line, next_file, read_file, read_main};
 pub use printing::{print, printf};

@@ -9,7 +9,7 @@ ghost use Rattle.host_worlds.specs.Givens.{AnswerTells, GivesMain, OffersTexts, 
 ghost use Rattle.host_worlds.specs.Keeps.{AnswerLine, AnswerPends, GivenPends, HasLineBy, IsMoved, IsMovedOn, KeepsSubstituted, keep_of, with_line};
 ghost use Rattle.host_worlds.specs.States.{Around, HoldsInput, Over, with_tables};
 
-use crate::input::{Given, Input, Keep, MainRead};
+use crate::input::{Given, Input, MainRead, ReadInto};
 use crate::record::count_record;
 use crate::turn::turn;
 use awk_values::{Bytes, Fault, Stop, Value};
@@ -28,14 +28,14 @@ fn given<W: World, O: Operands>(
     input: &mut Input,
 ) -> Result<Given, Stop>
     requires held { HoldsInput input.old (W.kinds world.old) }
-    requires goes { W.tells → WritersGo input.old.files.writers.items (W.state world.old) }
+    requires goes { W.is_modelled → WritersGo input.old.files.writers.items (W.state world.old) }
     ensures held { HoldsInput input.new (W.kinds world.new) }
-    ensures goes { W.tells → WritersGo input.new.files.writers.items (W.state world.new) }
-    ensures told { W.tells → (inner : Inner) → OffersTexts (O.text operands.now) inner → GivesMain
+    ensures goes { W.is_modelled → WritersGo input.new.files.writers.items (W.state world.new) }
+    ensures told { W.is_modelled → (inner : Inner) → OffersTexts (O.text operands.now) inner → GivesMain
         (main_input (W.state world.old).outside
         (with_tables texts.old input.old (Over (W.state world.old)) inner)) result
         (with_tables texts.new input.new (Over (W.state world.new)) inner) }
-    ensures outside { W.tells → (W.state world.new).outside ≡ (W.state world.old).outside }
+    ensures outside { W.is_modelled → (W.state world.new).outside ≡ (W.state world.old).outside }
     ensures rest { IsMoved input.old input.new }
     ensures substituted { KeepsSubstituted texts.old texts.new }
     ensures pending { GivenPends result input.old input.new }
@@ -58,7 +58,7 @@ pub(crate) fn keep(
     texts: &mut Texts,
     input: &mut Input,
     text: Bytes,
-    to: Keep,
+    to: ReadInto,
 ) -> Result<(), Stop>
     ensures ok { OnOk result ((around : Around) (inner : Inner)
         → kept_by to text (with_tables texts.old input.old around inner)
@@ -70,8 +70,8 @@ pub(crate) fn keep(
     ensures substituted { KeepsSubstituted texts.old texts.new }
 {
     match to {
-        Keep::Record => put_record(alloc, texts, text),
-        Keep::Line => {
+        ReadInto::Record => put_record(alloc, texts, text),
+        ReadInto::Variable => {
             input.line = Some(Value::StrNum(text));
             Ok(())
         }
@@ -79,11 +79,11 @@ pub(crate) fn keep(
 }
 
 /// Where an import puts a record.
-fn keep_of(how: MainRead) -> Keep
+fn keep_of(how: MainRead) -> ReadInto
     ensures { result ≡ keep_of how }
 {
     match how {
-        MainRead::Loop => Keep::Record,
+        MainRead::Loop => ReadInto::Record,
         MainRead::Getline(to) => to,
     }
 }
@@ -170,14 +170,14 @@ pub(crate) fn read<W: World, O: Operands>(
     how: MainRead,
 ) -> Result<InputAnswer, Stop>
     requires held { HoldsInput input.old (W.kinds world.old) }
-    requires goes { W.tells → WritersGo input.old.files.writers.items (W.state world.old) }
+    requires goes { W.is_modelled → WritersGo input.old.files.writers.items (W.state world.old) }
     ensures held { HoldsInput input.new (W.kinds world.new) }
-    ensures goes { W.tells → WritersGo input.new.files.writers.items (W.state world.new) }
-    ensures told { W.tells → (inner : Inner) → OffersTexts (O.text operands.now) inner → RowGives
+    ensures goes { W.is_modelled → WritersGo input.new.files.writers.items (W.state world.new) }
+    ensures told { W.is_modelled → (inner : Inner) → OffersTexts (O.text operands.now) inner → RowGives
         (main_row how (W.state world.old).outside
         (with_tables texts.old input.old (Over (W.state world.old)) inner)) result
         (with_tables texts.new input.new (Over (W.state world.new)) inner) }
-    ensures outside { W.tells → (W.state world.new).outside ≡ (W.state world.old).outside }
+    ensures outside { W.is_modelled → (W.state world.new).outside ≡ (W.state world.old).outside }
     ensures rest { IsMovedOn input.old input.new }
     ensures line { AnswerLine (keep_of how) result input.old input.new }
     ensures pending { AnswerPends result input.old input.new }

@@ -4,8 +4,8 @@ ghost use Rattle.sem_primitives.specs.InTurn.{with_name};
 ghost use Rattle.sem_primitives.specs.OutputMeaning.{file_name, last_text, put_text};
 ghost use Rattle.host_streams.specs.OpenFiles.{HoldsOpen, WritersGo};
 ghost use Rattle.host_streams.specs.Outputs.{IsOf};
-ghost use Rattle.host_streams.specs.Puts.{BeginsBy, PutCounts};
-ghost use Rattle.host_worlds.specs.OutputCalls.{Could, Keeps, PutsAs};
+ghost use Rattle.host_streams.specs.Puts.{OutputPrefix, PutCounts};
+ghost use Rattle.host_worlds.specs.OutputCalls.{PossibleOutcome, Keeps, PutsAs};
 
 use awk_values::{Bytes, Stop, Value, to_text};
 use host_streams::{Streams, Target};
@@ -35,16 +35,16 @@ pub(crate) fn put_out<W: World>(
     text: &[u8],
 ) -> Result<(), Stop>
     requires held { HoldsOpen streams.old (W.kinds world.old) }
-    requires goes { W.tells → WritersGo streams.old.writers.items (W.state world.old) }
+    requires goes { W.is_modelled → WritersGo streams.old.writers.items (W.state world.old) }
     requires named { with_name to 0 ≤ length values.now }
-    ensures keeps { Keeps W.tells (W.kinds world.old) (W.kinds world.new) (W.state world.old)
+    ensures keeps { Keeps W.is_modelled (W.kinds world.old) (W.kinds world.new) (W.state world.old)
         (W.state world.new) streams.old streams.new }
     ensures count { PutCounts result (W.count world.old) (W.count world.new) }
-    ensures anyhow { Could (put_text to (file_name to values.now) text.now) streams.old streams.new
+    ensures in_any_world { PossibleOutcome (put_text to (file_name to values.now) text.now) streams.old streams.new
         result }
-    ensures begun { BeginsBy W.tells (IsOf streams.old (W.state world.old)) (put_text to
+    ensures begun { OutputPrefix W.is_modelled (IsOf streams.old (W.state world.old)) (put_text to
         (file_name to values.now) text.now) result (W.state world.old) (W.state world.new) }
-    ensures told { W.tells → PutsAs (put_text to (file_name to values.now) text.now) streams.old
+    ensures told { W.is_modelled → PutsAs (put_text to (file_name to values.now) text.now) streams.old
         (W.state world.old) result streams.new (W.state world.new) }
 {
     match to {

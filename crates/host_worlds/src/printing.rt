@@ -4,14 +4,14 @@ ghost use Rattle.sem_primitives.specs.InTurn.{with_name};
 ghost use Rattle.sem_primitives.specs.OutputMeaning.{formatted_values, print_row, printf_row};
 ghost use Rattle.world_core.specs.WorldState.{Action};
 ghost use Rattle.host_imports.specs.declared.import.Import.{Import};
-ghost use Rattle.host_imports.specs.declared.import.Listing.{Listing};
+ghost use Rattle.host_imports.specs.declared.import.VariadicImport.{VariadicImport};
 ghost use Rattle.host_values.specs.Forms.{HostForm};
 ghost use Rattle.host_format.specs.Outcomes.{IsStopOf};
 ghost use Rattle.host_streams.specs.OpenFiles.{HoldsOpen, WritersGo};
 ghost use Rattle.host_streams.specs.Outputs.{IsOf};
-ghost use Rattle.host_streams.specs.Puts.{BeginsBy, PutCounts};
+ghost use Rattle.host_streams.specs.Puts.{OutputPrefix, PutCounts};
 ghost use Rattle.host_values.specs.WorldCalls.{IsCalled};
-ghost use Rattle.host_worlds.specs.OutputCalls.{Could, FailsBy, Keeps, PutsAs, answer_of};
+ghost use Rattle.host_worlds.specs.OutputCalls.{PossibleOutcome, CountsFailure, Keeps, PutsAs, answer_of};
 ghost use Rattle.host_worlds.specs.Forms.{printing, shared_with, writing};
 
 use crate::outlets::put_out;
@@ -50,17 +50,17 @@ fn print_values<W: World>(
     values: &[Value],
 ) -> Result<(), Stop>
     requires held { HoldsOpen streams.old (W.kinds world.old) }
-    requires goes { W.tells → WritersGo streams.old.writers.items (W.state world.old) }
+    requires goes { W.is_modelled → WritersGo streams.old.writers.items (W.state world.old) }
     requires named { with_name to 0 ≤ length values.now }
-    ensures keeps { Keeps W.tells (W.kinds world.old) (W.kinds world.new) (W.state world.old)
+    ensures keeps { Keeps W.is_modelled (W.kinds world.old) (W.kinds world.new) (W.state world.old)
         (W.state world.new) streams.old streams.new }
     ensures count { PutCounts result (W.count world.old) (W.count world.new) }
-    ensures anyhow { Could (λ shared. print_row to values.now (shared_with specials.now shared))
+    ensures in_any_world { PossibleOutcome (λ shared. print_row to values.now (shared_with specials.now shared))
         streams.old streams.new result }
-    ensures begun { BeginsBy W.tells (IsOf streams.old (W.state world.old))
+    ensures begun { OutputPrefix W.is_modelled (IsOf streams.old (W.state world.old))
         (λ shared. print_row to values.now (shared_with specials.now shared)) result
         (W.state world.old) (W.state world.new) }
-    ensures told { W.tells
+    ensures told { W.is_modelled
         → PutsAs (λ shared. print_row to values.now (shared_with specials.now shared)) streams.old
         (W.state world.old) result streams.new (W.state world.new) }
 {
@@ -91,15 +91,15 @@ fn printf_values<W: World>(
     values: &[Value],
 ) -> Result<(), Stop>
     requires held { HoldsOpen streams.old (W.kinds world.old) }
-    requires goes { W.tells → WritersGo streams.old.writers.items (W.state world.old) }
+    requires goes { W.is_modelled → WritersGo streams.old.writers.items (W.state world.old) }
     requires named { with_name to 1 ≤ length values.now }
-    ensures keeps { Keeps W.tells (W.kinds world.old) (W.kinds world.new) (W.state world.old)
+    ensures keeps { Keeps W.is_modelled (W.kinds world.old) (W.kinds world.new) (W.state world.old)
         (W.state world.new) streams.old streams.new }
-    ensures count { FailsBy (answer_of result) (W.count world.old) (W.count world.new) }
-    ensures anyhow { Could (printf_row to values.now) streams.old streams.new result }
-    ensures begun { BeginsBy W.tells (IsOf streams.old (W.state world.old))
+    ensures count { CountsFailure (answer_of result) (W.count world.old) (W.count world.new) }
+    ensures in_any_world { PossibleOutcome (printf_row to values.now) streams.old streams.new result }
+    ensures begun { OutputPrefix W.is_modelled (IsOf streams.old (W.state world.old))
         (printf_row to values.now) result (W.state world.old) (W.state world.new) }
-    ensures told { W.tells → PutsAs (printf_row to values.now) streams.old (W.state world.old)
+    ensures told { W.is_modelled → PutsAs (printf_row to values.now) streams.old (W.state world.old)
         result streams.new (W.state world.new) }
 {
     fill_formatted(alloc, line, operands(to, values))?;
@@ -122,14 +122,14 @@ pub fn print<W: World>(
     words: &[Word],
 ) -> Result<Option<Word>, Refusal>
     requires held { HoldsOpen streams.old (W.kinds world.old) }
-    requires goes { W.tells → WritersGo streams.old.writers.items (W.state world.old) }
+    requires goes { W.is_modelled → WritersGo streams.old.writers.items (W.state world.old) }
     ensures step { (f : HostForm) (memory : List ℕ) → f.fault ≡ None → (output : List Action)
-        × IsCalled W.tells (Import.Over Listing.Print) (printing arguments.old.items specials.now
+        × IsCalled W.is_modelled (Import.Variadic VariadicImport.Print) (printing arguments.old.items specials.now
         streams.old (W.state world.old) f) words.now memory result
         (printing arguments.new.items specials.now streams.new (W.state world.new) f) output }
-    ensures keeps { Keeps W.tells (W.kinds world.old) (W.kinds world.new) (W.state world.old)
+    ensures keeps { Keeps W.is_modelled (W.kinds world.old) (W.kinds world.new) (W.state world.old)
         (W.state world.new) streams.old streams.new }
-    ensures count { FailsBy result (W.count world.old) (W.count world.new) }
+    ensures count { CountsFailure result (W.count world.old) (W.count world.new) }
 {
     let (count, to) = match taken(arguments.as_slice(), 0, words) {
         Ok(taken) => taken,
@@ -157,14 +157,14 @@ pub fn printf<W: World>(
     words: &[Word],
 ) -> Result<Option<Word>, Refusal>
     requires held { HoldsOpen streams.old (W.kinds world.old) }
-    requires goes { W.tells → WritersGo streams.old.writers.items (W.state world.old) }
+    requires goes { W.is_modelled → WritersGo streams.old.writers.items (W.state world.old) }
     ensures step { (f : HostForm) (memory : List ℕ) → f.fault ≡ None → (output : List Action)
-        × IsCalled W.tells (Import.Over Listing.Printf)
+        × IsCalled W.is_modelled (Import.Variadic VariadicImport.Printf)
         (writing arguments.old.items streams.old (W.state world.old) f) words.now memory result
         (writing arguments.new.items streams.new (W.state world.new) f) output }
-    ensures keeps { Keeps W.tells (W.kinds world.old) (W.kinds world.new) (W.state world.old)
+    ensures keeps { Keeps W.is_modelled (W.kinds world.old) (W.kinds world.new) (W.state world.old)
         (W.state world.new) streams.old streams.new }
-    ensures count { FailsBy result (W.count world.old) (W.count world.new) }
+    ensures count { CountsFailure result (W.count world.old) (W.count world.new) }
 {
     let (count, to) = match taken(arguments.as_slice(), 1, words) {
         Ok(taken) => taken,

@@ -9,7 +9,7 @@ ghost use Rattle.host_values.specs.Fronts.{owned};
 ghost use Rattle.host_worlds.specs.Lists.{enough, listed, listing_words};
 
 use awk_values::Value;
-use host_values::ends;
+use host_values::expect_end;
 use sem_primitives::Destination;
 use wasm_store::{TrapKind, Word};
 
@@ -55,7 +55,7 @@ fn listing_words(words: &[Word]) -> Result<(u32, Destination), TrapKind>
 {
     let (count, behind) = count_front(words)?;
     let (to, rest) = destination_front(behind)?;
-    ends(rest)?;
+    expect_end(rest)?;
     Ok((count, to))
 }
 

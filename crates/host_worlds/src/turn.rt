@@ -44,15 +44,15 @@ fn next<W: World, O: Operands>(
     input: &mut Input,
 ) -> Result<MainNext, Stop>
     requires held { HoldsInput input.old (W.kinds world.old) }
-    requires goes { W.tells → WritersGo input.old.files.writers.items (W.state world.old) }
+    requires goes { W.is_modelled → WritersGo input.old.files.writers.items (W.state world.old) }
     ensures held { HoldsInput input.new (W.kinds world.new) }
-    ensures goes { W.tells → WritersGo input.new.files.writers.items (W.state world.new) }
-    ensures told { W.tells → (inner : Inner) → OffersTexts (O.text operands.now) inner → AnswerIs
+    ensures goes { W.is_modelled → WritersGo input.new.files.writers.items (W.state world.new) }
+    ensures told { W.is_modelled → (inner : Inner) → OffersTexts (O.text operands.now) inner → AnswerIs
         (main_input (W.state world.old).outside
         (with_tables texts.now input.old (Over (W.state world.old)) inner)) result
         (W.state world.old).outside (with_tables texts.now input.old (Over (W.state world.old))
         inner) (with_tables texts.now input.new (Over (W.state world.new)) inner) }
-    ensures outside { W.tells → (W.state world.new).outside ≡ (W.state world.old).outside }
+    ensures outside { W.is_modelled → (W.state world.new).outside ≡ (W.state world.old).outside }
     ensures rest { input.new ≡ with_main_input input.new.main input.old }
     ensures passes { NextPasses input.old.main result input.new.main }
     ensures rests { RestsAfter result input.new.main.reading input.new.main.found }
@@ -84,15 +84,15 @@ pub(crate) fn turn<W: World, O: Operands>(
     input: &mut Input,
 ) -> Result<Option<Given>, Stop>
     requires held { HoldsInput input.old (W.kinds world.old) }
-    requires goes { W.tells → WritersGo input.old.files.writers.items (W.state world.old) }
+    requires goes { W.is_modelled → WritersGo input.old.files.writers.items (W.state world.old) }
     ensures held { HoldsInput input.new (W.kinds world.new) }
-    ensures goes { W.tells → WritersGo input.new.files.writers.items (W.state world.new) }
-    ensures told { W.tells → (inner : Inner) → OffersTexts (O.text operands.now) inner
+    ensures goes { W.is_modelled → WritersGo input.new.files.writers.items (W.state world.new) }
+    ensures told { W.is_modelled → (inner : Inner) → OffersTexts (O.text operands.now) inner
         → TurnGives (main_input (W.state world.old).outside
         (with_tables texts.old input.old (Over (W.state world.old)) inner)) result
         (W.state world.old).outside
         (with_tables texts.new input.new (Over (W.state world.new)) inner) }
-    ensures outside { W.tells → (W.state world.new).outside ≡ (W.state world.old).outside }
+    ensures outside { W.is_modelled → (W.state world.new).outside ≡ (W.state world.old).outside }
     ensures rest { IsMoved input.old input.new }
     ensures substituted { KeepsSubstituted texts.old texts.new }
     ensures pending { TurnPends result input.old input.new }

@@ -18,7 +18,7 @@ use Rattle.lower_model.specs.Arithmetic.{compared, is_value}
 use Rattle.lower_model.specs.Emission.{Layout, Immediate, added_or, immediate_in, immediate_or, immediately_compared, all_appended, all_boxed, all_emitted, all_freed, all_given, all_given_pushed, asked, emitted, field_in, field_or, field_read, function_number, keeping_closed, left_over, listed_asked, performed, sequence_closed, slot_set}
 use Rattle.lower_model.specs.Quick.{Addition, addition_in}
 use Rattle.lower_model.specs.Places.{made_in, array_local, handle_local}
-use Rattle.lower_model.specs.Small.{answer_kept, ask_row, code_number, converted, does, either, let_go, truth}
+use Rattle.lower_model.specs.Small.{answer_kept, ask_row, code_number, converted, emit, emit_if, let_go, truth}
 use Rattle.host_imports.specs.declared.import.Import.TheVariants.{Drop}
 use Rattle.lower_pieces.specs.Emits.{Emits}
 use Rattle.lower_pieces.specs.Forms.{view_form}
@@ -48,7 +48,7 @@ unfolding emitted all_emitted
 fixed_emitted y fs ts m es all t w d a z e q k = q k ⨟ same (ap (λ (x : Codes). all_emitted y fs ts x t w d k) e)
 
 pub fresh_emitted : (y : Layout) (fs : List plain.Form) (ts : List ℕ) (es all : Codes) (t w d : ℕ) (a b z : Emitted) → Fresh es ≡ all
-    → Emits a b (λ k. ask_row row.NewArray (does (LocalSet (array_local y.bases w)) k)) → Emits b z (all_emitted y fs ts es t (suc w) d) → Emits a z (all_emitted y fs ts all t w d)
+    → Emits a b (λ k. ask_row row.NewArray (emit (LocalSet (array_local y.bases w)) k)) → Emits b z (all_emitted y fs ts es t (suc w) d) → Emits a z (all_emitted y fs ts all t w d)
 unfolding emitted all_emitted
 fresh_emitted y fs ts es all t w d a b z e p q k = q k ⨟ p (all_emitted y fs ts es t (suc w) d k) ⨟ same (ap (λ (x : Codes). all_emitted y fs ts x t w d k) e)
 
@@ -115,7 +115,7 @@ listing_emitted y v fs gs ts l es t w d a b z all e p q k =
 
 called_are : (y : Layout) (fs : List plain.Form) (f : ℕ) (es : Codes) (t w d : ℕ) (k : Instructions) → IsGiven (parameters_at y.calls f) es
     → called_with y (forms_in fs es) f es t w d k
-    ≡ all_given y fs (parameters_at y.calls f) es t (all_given_pushed y (parameters_at y.calls f) es t w (does (CallOf (function_number f)) (answer_kept y.bases t d (all_freed y w (made_in es) k))))
+    ≡ all_given y fs (parameters_at y.calls f) es t (all_given_pushed y (parameters_at y.calls f) es t w (emit (CallOf (function_number f)) (answer_kept y.bases t d (all_freed y w (made_in es) k))))
 called_are y fs f es t w d k q =
     let ks = parameters_at y.calls f in
     given_are y fs ks es t _ q
@@ -130,10 +130,10 @@ call_emitted y v fs gs ts f es t w d a b z given e p q k =
 
 pub replace_emitted : (y : Layout) (v : Bool) (fs gs : List plain.Form) (ts : List ℕ) (every : Bool) (es : Codes) (s : Code) (t w d : ℕ) (a b c z : Emitted) → Unrefused b (gs ≡ forms_in fs es)
     → Emits a b (all_emitted y fs ts es t w d) → Emits b c (replaced_with y gs every es t d)
-    → Emits c z (either Done (stored_with y fs ts row.SubResult s t w d Done)) → Emits a z (emitted y v fs ts (plain.Replace every es s) t w d)
+    → Emits c z (emit_if Done (stored_with y fs ts row.SubResult s t w d Done)) → Emits a z (emitted y v fs ts (plain.Replace every es s) t w d)
 unfolding emitted all_emitted
 replace_emitted y v fs gs ts every es s t w d a b c z e p q r k =
-    r k ⨟ q _ ⨟ told (λ (x : List plain.Form). replaced_with y x every es t d (either Done (stored_with y fs ts row.SubResult s t w d Done) k)) e
+    r k ⨟ q _ ⨟ told (λ (x : List plain.Form). replaced_with y x every es t d (emit_if Done (stored_with y fs ts row.SubResult s t w d Done) k)) e
     ⨟ same (converted_are y fs _ es t d _) ⨟ p _
 
 -- Expressions of other ones.
@@ -173,10 +173,10 @@ assignment_emitted y v fs ts x e f t w d a b z h p q k = q k ⨟ same (ap (λ (g
 
 pub choice_emitted : (y : Layout) (v : Bool) (fs : List plain.Form) (ts : List ℕ) (s : Sort) (e l r : Code) (f : plain.Form) (t w d : ℕ) (a b c z : Emitted) → f ≡ form_of fs e
     → Emits a b (emitted y false fs ts e t w d) → Emits b c (truth y.bases f t)
-    → Emits c z (either (branch_with y fs ts s l t w d Done) (branch_with y fs ts s r t w d Done)) → Emits a z (emitted y v fs ts (plain.Choose s e l r) t w d)
+    → Emits c z (emit_if (branch_with y fs ts s l t w d Done) (branch_with y fs ts s r t w d Done)) → Emits a z (emitted y v fs ts (plain.Choose s e l r) t w d)
 unfolding emitted all_emitted
 choice_emitted y v fs ts s e l r f t w d a b c z h p q u k =
-    u k ⨟ q _ ⨟ same (ap (λ (g : plain.Form). truth y.bases g t (either (branch_with y fs ts s l t w d Done) (branch_with y fs ts s r t w d Done) k)) h) ⨟ p _
+    u k ⨟ q _ ⨟ same (ap (λ (g : plain.Form). truth y.bases g t (emit_if (branch_with y fs ts s l t w d Done) (branch_with y fs ts s r t w d Done) k)) h) ⨟ p _
 
 pub sequence_emitted : (y : Layout) (v : Bool) (fs : List plain.Form) (ts : List ℕ) (l r : Code) (f g : plain.Form) (t w d : ℕ) (a b c i z : Emitted) → f ≡ form_of fs l → g ≡ form_of fs r
     → Emits a b (emitted y true fs ts l t w d) → Emits b c (left_over y l f t) → Emits c i (emitted y v fs ts r t w d) → Emits i z (sequence_closed y v r g t) → Emits a z (emitted y v fs ts (plain.Seq l r) t w d)
@@ -201,7 +201,7 @@ keeping_emitted y v fs ts l r f g t w d a b c z h j p q u k =
 -- Lists of their own.
 
 pub stored_emitted : (y : Layout) (fs : List plain.Form) (ts : List ℕ) (p : Primitive) (s : Code) (f : plain.Form) (t n w d : ℕ) (a b c z : Emitted) → n ≡ suc t → f ≡ form_of (plain.a_value ∷ fs) s
-    → Emits a b (λ k. ask_row p (does (LocalSet (handle_local y.bases (suc t))) k)) → Emits b c (emitted y true (plain.a_value ∷ fs) (n ∷ ts) s (suc (suc t)) w (suc d))
+    → Emits a b (λ k. ask_row p (emit (LocalSet (handle_local y.bases (suc t))) k)) → Emits b c (emitted y true (plain.a_value ∷ fs) (n ∷ ts) s (suc (suc t)) w (suc d))
     → Emits c z (λ k. left_over y s f (suc (suc t)) (let_go Drop (handle_local y.bases (suc t)) k)) → Emits a z (stored_with y fs ts p s t w d)
 stored_emitted y fs ts p s f t n w d a b c z e j q u x k =
     let rest : plain.Form → Instructions = λ g. left_over y s g (suc (suc t)) (let_go Drop (handle_local y.bases (suc t)) k) in

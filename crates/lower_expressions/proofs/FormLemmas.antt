@@ -5,11 +5,11 @@ use Rattle.sem_primitives.specs.declared.sorts.Argument.TheVariants as argument
 use Rattle.wasm_types.specs.Syntax.{Instructions}
 use Rattle.wasm_types.specs.declared.instr.Simple.TheVariants.{LocalGet, LocalTee}
 use Rattle.mid_program.specs.Mid as plain
-use Rattle.mid_program.specs.Mid.{Kind, Boxed, Unboxed, Many, Codes, End, At, Fixed, Fresh, form_of}
+use Rattle.mid_program.specs.Mid.{Kind, Boxed, Unboxed, ArrayKind, Codes, End, At, Fixed, Fresh, form_of}
 use Rattle.mid_program.specs.Sorted.{count_of}
 use Rattle.lower_model.specs.Emission.{Layout, all_appended, all_boxed, all_converted, all_freed, all_given, all_given_pushed, one_given}
 use Rattle.lower_model.specs.Places.{Bases, array_local, handle_local}
-use Rattle.lower_model.specs.Small.{ask, converted, does, moved_out, to_value}
+use Rattle.lower_model.specs.Small.{ask, converted, emit, moved_out, to_value}
 use Rattle.host_imports.specs.declared.import.Import.TheVariants.{Arg, FreeArray}
 use Rattle.lower_expressions.specs.Fits.{AllCode, IsGiven}
 use Rattle.lower_expressions.specs.Parts.{appended_with, boxed_with, converted_with, forms_in, freed_with, given_with, pushed_with}
@@ -81,16 +81,16 @@ given_are y fs [] (Fixed m es) t k q = absurd q
 given_are y fs [] (Fresh es) t k q = absurd q
 given_are y fs (Boxed ∷ ks) End t k q = absurd q
 given_are y fs (Unboxed ∷ ks) End t k q = absurd q
-given_are y fs (Many ∷ ks) End t k q = absurd q
+given_are y fs (ArrayKind ∷ ks) End t k q = absurd q
 given_are y fs (Boxed ∷ ks) (At e es) t k q = ap (to_value y.bases (form_of fs e) t) (given_are y fs ks es (suc t) k q)
 given_are y fs (Unboxed ∷ ks) (At e es) t k q = given_are y fs ks es (suc t) k q
-given_are y fs (Many ∷ ks) (At e es) t k q = given_are y fs ks es (suc t) k q
+given_are y fs (ArrayKind ∷ ks) (At e es) t k q = given_are y fs ks es (suc t) k q
 given_are y fs (Boxed ∷ ks) (Fixed m es) t k q = absurd q
 given_are y fs (Unboxed ∷ ks) (Fixed m es) t k q = absurd q
-given_are y fs (Many ∷ ks) (Fixed m es) t k q = absurd q
+given_are y fs (ArrayKind ∷ ks) (Fixed m es) t k q = absurd q
 given_are y fs (Boxed ∷ ks) (Fresh es) t k q = absurd q
 given_are y fs (Unboxed ∷ ks) (Fresh es) t k q = absurd q
-given_are y fs (Many ∷ ks) (Fresh es) t k q = fresh_given y.bases (forms_in fs es) Many ks es t k ∙ given_are y fs ks es t k q
+given_are y fs (ArrayKind ∷ ks) (Fresh es) t k q = fresh_given y.bases (forms_in fs es) ArrayKind ks es t k ∙ given_are y fs ks es t k q
 
 pub pushed_are : (y : Layout) (ks : List Kind) (es : Codes) (t w : ℕ) (k : Instructions) → IsGiven ks es → pushed_with y ks es t w k ≡ all_given_pushed y ks es t w k
 pushed_are y [] End t w k q = refl
@@ -99,17 +99,17 @@ pushed_are y [] (Fixed m es) t w k q = absurd q
 pushed_are y [] (Fresh es) t w k q = absurd q
 pushed_are y (Boxed ∷ ks) End t w k q = absurd q
 pushed_are y (Unboxed ∷ ks) End t w k q = absurd q
-pushed_are y (Many ∷ ks) End t w k q = absurd q
+pushed_are y (ArrayKind ∷ ks) End t w k q = absurd q
 pushed_are y (Boxed ∷ ks) (At e es) t w k q = ap (one_given y Boxed e t) (pushed_are y ks es (suc t) w k q)
 pushed_are y (Unboxed ∷ ks) (At e es) t w k q = ap (one_given y Unboxed e t) (pushed_are y ks es (suc t) w k q)
-pushed_are y (Many ∷ ks) (At e es) t w k q = ap (one_given y Many e t) (pushed_are y ks es (suc t) w k q)
+pushed_are y (ArrayKind ∷ ks) (At e es) t w k q = ap (one_given y ArrayKind e t) (pushed_are y ks es (suc t) w k q)
 pushed_are y (Boxed ∷ ks) (Fixed m es) t w k q = absurd q
 pushed_are y (Unboxed ∷ ks) (Fixed m es) t w k q = absurd q
-pushed_are y (Many ∷ ks) (Fixed m es) t w k q = absurd q
+pushed_are y (ArrayKind ∷ ks) (Fixed m es) t w k q = absurd q
 pushed_are y (Boxed ∷ ks) (Fresh es) t w k q = absurd q
 pushed_are y (Unboxed ∷ ks) (Fresh es) t w k q = absurd q
-pushed_are y (Many ∷ ks) (Fresh es) t w k q =
-    ap (λ (x : Instructions). does (LocalGet (array_local y.bases w)) (does (LocalTee (array_local y.bases w)) x)) (pushed_are y ks es t (suc w) k q)
+pushed_are y (ArrayKind ∷ ks) (Fresh es) t w k q =
+    ap (λ (x : Instructions). emit (LocalGet (array_local y.bases w)) (emit (LocalTee (array_local y.bases w)) x)) (pushed_are y ks es t (suc w) k q)
 
 pub freed_are : (y : Layout) (w m : ℕ) (k : Instructions) → freed_with y.bases w m k ≡ all_freed y w m k
 freed_are y w zero k = refl

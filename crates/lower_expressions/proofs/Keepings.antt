@@ -2,7 +2,7 @@
 use Rattle.std.proofs.Common.{◌≡◌, ℕ, zero, suc, ◌-◌, ◌<◌, ◌≤◌, List, [], ◌∷◌, get_or, length, reverse, refl, sym, ap, ◌∙◌, arith}
 use Rattle.std.proofs.lemmas.List.{get_or-reverse, length-reverse}
 use Rattle.sem_primitives.specs.declared.sorts.Answer.TheVariants.{Nothing}
-use Rattle.mid_program.specs.Mid.{Answered, form_at}
+use Rattle.mid_program.specs.Mid.{PrimitiveAnswer, form_at}
 use Rattle.lower_pieces.specs.Forms.{view_form}
 use Rattle.lower_expressions.specs.Keeping.{Keeping, keeping_of}
 use Rattle.lower_expressions.specs.declared.entry.Entry.{Entry}
@@ -17,7 +17,7 @@ temporary_there [] i d lt = absurd (omega arith)
 temporary_there (e ∷ es) zero d lt = refl
 temporary_there (e ∷ es) (suc i) d lt = temporary_there es i d (omega arith)
 
-no_form : (es : List Entry) (i : ℕ) → length es ≤ i → Answered Nothing ≡ form_at (keeping_of es).forms i
+no_form : (es : List Entry) (i : ℕ) → length es ≤ i → PrimitiveAnswer Nothing ≡ form_at (keeping_of es).forms i
 no_form [] i le = refl
 no_form (e ∷ es) zero le = absurd (omega arith)
 no_form (e ∷ es) (suc i) le = no_form es i (omega arith)
@@ -44,7 +44,7 @@ temporary_from_end es i place r k e lt at h =
 past_reverse : (es : List Entry) (i : ℕ) → length es ≤ i → length (reverse es) ≤ i
 past_reverse es i le = let e = length-reverse es in omega (arith, e)
 
-pub form_past_end : (es : List Entry) (i : ℕ) (k : Keeping) → keeping_of (reverse es) ≡ k → length es ≤ i → Answered Nothing ≡ form_at k.forms i
+pub form_past_end : (es : List Entry) (i : ℕ) (k : Keeping) → keeping_of (reverse es) ≡ k → length es ≤ i → PrimitiveAnswer Nothing ≡ form_at k.forms i
 form_past_end es i k e le = no_form (reverse es) i (past_reverse es i le) ∙ ap (λ (x : Keeping). form_at x.forms i) e
 
 pub temporary_past_end : (es : List Entry) (i : ℕ) (k : Keeping) → keeping_of (reverse es) ≡ k → length es ≤ i → 0 ≡ get_or k.temporaries i 0

@@ -12,7 +12,7 @@ use Rattle.mid_program.specs.declared.mid.Operation.TheVariants.{Inline}
 use Rattle.mid_program.specs.Mid.{Code, Codes, Get, Number, End, At, Global, Parameter}
 use Rattle.lower_model.specs.Emission.{Layout, source_pushed}
 use Rattle.lower_model.specs.Quick.{Addition, addition_in, addition_of, all_unsure, and_name, and_source, Constant, Held, Holder, is_among, is_near, is_sum, joined, shifted, Source, source_in}
-use Rattle.lower_model.specs.Small.{does}
+use Rattle.lower_model.specs.Small.{emit}
 use Rattle.lower_quick.specs.View.{view_holder}
 use Rattle.lower_quick.specs.declared.source.Holder as quick
 use Rattle.lower_expressions.specs.Fits.{AllFit, Fits}
@@ -42,7 +42,7 @@ pub names_left : (is : List quick.Holder) (i : ℕ) (d : quick.Holder) → i < l
 names_left is i d lt f = subst (λ (js : List quick.Holder). NamesFit (map view_holder js)) (left_at is i d lt) f
 
 pub joined_step : (read : Holder → Simple) (is : List quick.Holder) (i : ℕ) (d : quick.Holder) (q : ℤ) (k : Instructions) → i < length is →
-    shifted (read (view_holder (get_or is i d))) q (does (Binary I64 Or) (joined read (map view_holder (drop (i + 1) is)) q k)) ≡ joined read (map view_holder (drop i is)) q k
+    shifted (read (view_holder (get_or is i d))) q (emit (Binary I64 Or) (joined read (map view_holder (drop (i + 1) is)) q k)) ≡ joined read (map view_holder (drop i is)) q k
 joined_step read is i d q k lt = sym (ap (λ (js : List quick.Holder). joined read (map view_holder js) q k) (left_at is i d lt))
 
 -- the test of names, from that of the first and the others
@@ -52,7 +52,7 @@ all_of read [] d q w k h = absurd (omega arith)
 all_of read (i ∷ is) d q w k h = ap (λ (js : List quick.Holder). shifted (read (view_holder i)) q (joined read (map view_holder js) q (past w k))) (take_all (suc (length is) - 1) is (omega arith))
 
 -- two sources on the stack
-pub two_read : (y : Layout) (a b : Source) (k : Instructions) → does (source_read y a) (does (source_read y b) k) ≡ source_pushed y a (source_pushed y b k)
+pub two_read : (y : Layout) (a b : Source) (k : Instructions) → emit (source_read y a) (emit (source_read y b) k) ≡ source_pushed y a (source_pushed y b k)
 two_read y (Held i) (Held j) k = refl
 two_read y (Held i) (Constant z) k = refl
 two_read y (Constant z) (Held j) k = refl

@@ -1,7 +1,7 @@
 -- Which code can be emitted: no place and no label is past its field.
 use Rattle.std.specs.Prelude.{ℕ, suc, ◌+◌, ◌≤◌, ◌<◌, if◌then◌else◌, is_some, List, [], ◌∷◌, length}
 use Rattle.sem_scripts.specs.Names.{ArrayName, Numbered, Given}
-use Rattle.mid_program.specs.Mid.{Kind, Many, Slot, Global, Parameter, Code, Do, Over, Compare, Call, Ask, AskLine, FileLine, Replace, Number, Text, Unset, Get, Set, Array, IsOpen, Choose, Seq, Let, Bound, Codes, End, At, Fixed, Fresh, parameters_at}
+use Rattle.mid_program.specs.Mid.{Kind, ArrayKind, Slot, Global, Parameter, Code, Do, Over, Compare, Call, Ask, AskLine, FileLine, Replace, Number, Text, Unset, Get, Set, Array, IsOpen, Choose, Seq, Let, Bound, Codes, End, At, Fixed, Fresh, parameters_at}
 use Rattle.lower_pieces.specs.Bounds.{most_places, most_labels}
 use Rattle.lower_model.specs.Emission.{Layout, Immediate, FieldOf, TextOf, NumberOf, array_meant}
 use Rattle.lower_model.specs.Places.{made_in}
@@ -43,7 +43,7 @@ AllCode (Fresh operands) = ⊥
 abbrev pub IsGiven : List Kind → Codes → Type 0
 IsGiven [] End = Unit {0}
 IsGiven (kind ∷ kinds) (At code operands) = IsGiven kinds operands
-IsGiven (Many ∷ kinds) (Fresh operands) = IsGiven kinds operands
+IsGiven (ArrayKind ∷ kinds) (Fresh operands) = IsGiven kinds operands
 IsGiven _ _ = ⊥
 
 -- code that is emitted for a temporary, with so many arrays of calls in use and so many labels around it

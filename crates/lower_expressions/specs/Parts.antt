@@ -20,33 +20,33 @@ use Rattle.wasm_types.specs.declared.instr.Simple.TheVariants.{Br, Call as CallO
 use Rattle.mid_program.specs.Mid as plain
 use Rattle.mid_program.specs.declared.mid.Operation.{Operation}
 use Rattle.mid_program.specs.declared.mid.Operation.TheVariants.{Host}
-use Rattle.mid_program.specs.Mid.{Kind, Boxed, Unboxed, Many, Code, Codes, End, At, Fixed, Fresh, arguments, form_of, parameters_at}
+use Rattle.mid_program.specs.Mid.{Kind, Boxed, Unboxed, ArrayKind, Code, Codes, End, At, Fixed, Fresh, arguments, form_of, parameters_at}
 use Rattle.lower_model.specs.Places.{Bases, array_local, made_in, handle_local, number_local}
-use Rattle.lower_model.specs.Small.{ask, ask_row, does, either, kept, kept_code, answer_kept, minus_one, moved_out, number_is, to_value, converted, when}
+use Rattle.lower_model.specs.Small.{ask, ask_row, emit, emit_if, kept, kept_code, answer_kept, minus_one, moved_out, number_is, to_value, converted, when}
 use Rattle.lower_model.specs.Emission.{Layout, added, all_converted, all_emitted, all_pushed, emitted, name_read, text_kept, text_let_go, assigned, function_number, global_handle, global_number, listed_asked, one_given, pending_assigned, performed, text_dropped}
 use Rattle.lower_model.specs.Quick.{Addition, addition_names, all_unsure}
 use Rattle.host_imports.specs.declared.import.Import.TheVariants.{Arg, Drop, FreeArray}
 
 -- a constant, and the value that a row has of it
 abbrev pub constant_asked : (bits : ℕ) → Primitive → Instructions → Instructions
-constant_asked bits primitive after = does (I64Const bits) (ask_row primitive after)
+constant_asked bits primitive after = emit (I64Const bits) (ask_row primitive after)
 
 -- the text beside an unboxed name is dropped
 abbrev pub handle_dropped : Layout → ℕ → Instructions → Instructions
 handle_dropped layout name after =
-    does (GlobalGet (global_handle layout name)) (ask Drop (does (I32Const minus_one) (does (GlobalSet (global_handle layout name)) after)))
+    emit (GlobalGet (global_handle layout name)) (ask Drop (emit (I32Const minus_one) (emit (GlobalSet (global_handle layout name)) after)))
 
 -- an unboxed name takes a number
 abbrev pub bare_set : Layout → ℕ → ℕ → Instructions → Instructions
 bare_set layout name temporary after =
-    text_dropped layout name (does (LocalGet (number_local layout.bases temporary)) (does (GlobalSet (global_number layout name)) after))
+    text_dropped layout name (emit (LocalGet (number_local layout.bases temporary)) (emit (GlobalSet (global_number layout name)) after))
 
 -- what becomes of one name where the command line assigns
 abbrev pub number_assigned : Layout → Kind → ℕ → ℕ → Instructions → Instructions
 number_assigned layout kind name temporary after = number_is (number_local layout.bases temporary) name (when (assigned layout kind name temporary Done) after)
 
 abbrev pub one_assigned : Layout → Kind → ℕ → ℕ → Instructions → Instructions
-one_assigned layout Many name temporary after = after
+one_assigned layout ArrayKind name temporary after = after
 one_assigned layout kind name temporary after = number_assigned layout kind name temporary after
 
 -- an import is asked, and whether an assignment is pending
@@ -57,7 +57,7 @@ asked_once bases primitive temporary exit after =
 -- one turn of asking
 abbrev pub one_asked : Layout → Primitive → ℕ → ℕ → Instructions → Instructions
 one_asked layout primitive temporary exit after =
-    asked_once layout.bases primitive temporary exit (when (pending_assigned layout temporary (does (Br 1) Done)) after)
+    asked_once layout.bases primitive temporary exit (when (pending_assigned layout temporary (emit (Br 1) Done)) after)
 
 -- the forms of operands that are code
 abbrev pub forms_in : List plain.Form → Codes → List plain.Form
@@ -99,8 +99,8 @@ pushed_with layout (kind ∷ kinds) (At code operands) temporary arrays after =
     one_given layout kind code temporary (pushed_with layout kinds operands (suc temporary) arrays after)
 pushed_with layout (kind ∷ kinds) (Fixed number operands) temporary arrays after = pushed_with layout kinds operands temporary arrays after
 pushed_with layout (kind ∷ kinds) (Fresh operands) temporary arrays after =
-    does (LocalGet (array_local layout.bases arrays))
-    (does (LocalTee (array_local layout.bases arrays)) (pushed_with layout kinds operands temporary (suc arrays) after))
+    emit (LocalGet (array_local layout.bases arrays))
+    (emit (LocalTee (array_local layout.bases arrays)) (pushed_with layout kinds operands temporary (suc arrays) after))
 pushed_with layout _ _ temporary arrays after = after
 
 abbrev pub freed_with : Bases → ℕ → ℕ → Instructions → Instructions
@@ -128,7 +128,7 @@ anyway_with layout forms temporaries operation operands temporary arrays exit af
 abbrev pub sum_with : Layout → List plain.Form → List ℕ → Addition → Operation → Codes → ℕ → ℕ → ℕ → Instructions → Instructions
 sum_with layout forms temporaries addition operation operands temporary arrays exit after =
     all_unsure (name_read layout) (addition_names addition) (pos (2 ^ 52)) (2 ^ 53)
-    (either (anyway_with layout forms temporaries operation operands temporary arrays (suc exit) Done) (added layout addition temporary Done) after)
+    (emit_if (anyway_with layout forms temporaries operation operands temporary arrays (suc exit) Done) (added layout addition temporary Done) after)
 
 -- two subscripts of these forms are joined
 abbrev pub joined_with : Layout → plain.Form → plain.Form → ℕ → ℕ → Instructions → Instructions
@@ -136,7 +136,7 @@ joined_with layout first second temporary exit after =
     operated layout (first ∷ second ∷ []) (Host Join) (At plain.Unset (At plain.Unset End)) temporary exit after
 
 abbrev pub joined_form : plain.Form
-joined_form = plain.Answered (answer_of Join)
+joined_form = plain.PrimitiveAnswer (answer_of Join)
 
 -- the form of the key of subscripts, the last one apart
 abbrev pub key_form : List plain.Form → plain.Form → plain.Form
@@ -161,7 +161,7 @@ passed_with layout forms kinds operands temporary arrays after =
 
 -- a function is entered, and its answer kept
 abbrev pub entered : Bases → ℕ → ℕ → ℕ → Instructions → Instructions
-entered bases function temporary exit after = does (CallOf (function_number function)) (answer_kept bases temporary exit after)
+entered bases function temporary exit after = emit (CallOf (function_number function)) (answer_kept bases temporary exit after)
 
 -- a call whose operands, of these forms, are evaluated
 abbrev pub called_with : Layout → List plain.Form → ℕ → Codes → ℕ → ℕ → ℕ → Instructions → Instructions
@@ -181,7 +181,7 @@ stored_when bases store temporary after = number_is (number_local bases temporar
 -- the host is asked for a replacement
 abbrev pub replaced_asked : Layout → Bool → Codes → ℕ → ℕ → Instructions → Instructions
 replaced_asked layout every operands temporary exit after = all_pushed layout three_values operands temporary
-    (does (I32Const (flag_number every)) (ask_row Sub (kept layout.bases true (answer.Of sort.Number) temporary exit after)))
+    (emit (I32Const (flag_number every)) (ask_row Sub (kept layout.bases true (answer.Of sort.Number) temporary exit after)))
 
 -- code that stores a text, from within one label more
 abbrev pub stored_with : Layout → List plain.Form → List ℕ → Primitive → Code → ℕ → ℕ → ℕ → Instructions → Instructions
@@ -194,7 +194,7 @@ stored_with layout forms temporaries primitive store temporary arrays exit after
 abbrev pub replaced_with : Layout → List plain.Form → Bool → Codes → ℕ → ℕ → Instructions → Instructions
 replaced_with layout forms every operands temporary exit after =
     converted_with layout.bases forms three_values operands temporary exit
-    (replaced_asked layout every operands temporary exit (does (LocalGet (number_local layout.bases temporary)) (does (Test I64 Eqz) after)))
+    (replaced_asked layout every operands temporary exit (emit (LocalGet (number_local layout.bases temporary)) (emit (Test I64 Eqz) after)))
 
 -- one of two ways, as the sort that is wanted
 abbrev pub branch_with : Layout → List plain.Form → List ℕ → Sort → Code → ℕ → ℕ → ℕ → Instructions → Instructions

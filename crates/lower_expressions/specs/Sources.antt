@@ -8,7 +8,7 @@ use Rattle.wasm_types.specs.declared.instr.Simple.{Simple}
 use Rattle.wasm_types.specs.declared.instr.Simple.TheVariants.{Compare, I64Const}
 use Rattle.lower_model.specs.Emission.{Layout, name_read}
 use Rattle.lower_model.specs.Quick.{Addition, Constant, Held, Holder, OfName, OfParameter, Source}
-use Rattle.lower_model.specs.Small.{does}
+use Rattle.lower_model.specs.Small.{emit}
 use Rattle.lower_pieces.specs.Bounds.{most_places}
 
 abbrev pub HolderFits : Holder → Type 0
@@ -33,4 +33,4 @@ source_read layout (Constant number) = I64Const (cast_unsigned w64 number)
 
 -- a word is past a width
 abbrev pub past : ℕ → Instructions → Instructions
-past width after = does (I64Const width) (does (Compare I64 GtU) after)
+past width after = emit (I64Const width) (emit (Compare I64 GtU) after)

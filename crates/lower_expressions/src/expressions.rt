@@ -15,9 +15,9 @@ ghost use Rattle.lower_expressions.specs.View.{view_layout};
 ghost use Rattle.lower_quick.specs.View.{view_addition};
 
 use crate::at::{At, after_array, inner_at, next, stored_at};
-use crate::calls::called;
 use crate::entry::Entry;
 use crate::fields::{field_in, field_read};
+use crate::function_calls::called;
 use crate::function_layout::FunctionLayout;
 use crate::immediates::{immediate_in, immediately_compared};
 use crate::kept::{Keeps, Kept};
@@ -33,7 +33,7 @@ use crate::storing::{
 };
 use crate::walks::noted;
 use awk_values::CompareOp;
-use lower_pieces::{Emitted, Form, compared, converted, either, is_value, truth};
+use lower_pieces::{Emitted, Form, compared, converted, emit_if, is_value, truth};
 use lower_quick::{Addition, addition_in};
 use mid_program::{Code, Operand, Operation, Slot};
 use sem_primitives::{Answer, Listed, Primitive, Sort};
@@ -91,7 +91,7 @@ fn evaluated<'a>(
         Code::Unset => unset(layout, out, at),
         Code::Get(slot) => variable(layout, out, *slot, at),
         Code::Set(slot, value) => assignment(layout, keeps, out, only, *slot, value, at),
-        Code::Array(_) => Form::Answered(Answer::Of(Sort::Array)),
+        Code::Array(_) => Form::PrimitiveAnswer(Answer::Of(Sort::Array)),
         Code::IsOpen(item) => is_open(layout, out, *item, at),
         Code::Choose(sort, test, yes, no) => choice(layout, keeps, out, *sort, test, yes, no, at),
         Code::Seq(first, second) => sequence(layout, keeps, out, only, first, second, at),
@@ -187,7 +187,7 @@ fn sum<'a>(
     addition_unsure(layout, out, addition);
     let mut code = Emitted::new(layout.alloc);
     anyway(layout, keeps, &mut code, what, operands, inner_at(at));
-    either(
+    emit_if(
         layout.alloc,
         out,
         code,
@@ -271,7 +271,7 @@ fn listing<'a>(
     let mut forms = Vec::new(layout.alloc);
     all_operands(layout, keeps, out, &mut forms, operands, at);
     listed(layout, out, &forms, what, at.temporary, at.exit);
-    Form::Answered(what.answer())
+    Form::PrimitiveAnswer(what.answer())
 }
 
 /// Adds a call of a function.
@@ -294,7 +294,7 @@ fn call<'a>(
     let mut forms = Vec::new(layout.alloc);
     all_operands(layout, keeps, out, &mut forms, operands, at);
     called(layout, out, &forms, function, operands, at);
-    Form::Bare
+    Form::NumberOrText
 }
 
 /// Adds a comparison.
@@ -330,7 +330,7 @@ fn comparison<'a>(
         temporary,
         at.exit,
     );
-    Form::Answered(Answer::Truth)
+    Form::PrimitiveAnswer(Answer::Truth)
 }
 
 /// Adds code that stores a text, which is kept, and lets go of what is left of it; in a list of its own, from within one label more.
@@ -352,7 +352,7 @@ fn stored<'a>(
     let mut code = Emitted::new(layout.alloc);
     text_kept(layout.bases, &mut code, primitive, at.temporary);
     let entry = Entry {
-        form: Form::Answered(Answer::Of(Sort::Value)),
+        form: Form::PrimitiveAnswer(Answer::Of(Sort::Value)),
         temporary: at.temporary + 1,
     };
     let more = Keeps::Last(entry, keeps);
@@ -379,7 +379,7 @@ fn line_into<'a>(
     asked(layout, out, Primitive::GetlineVar, at.temporary, at.exit);
     let store = stored(layout, keeps, Primitive::Line, store, at);
     line_stored(layout, out, store, at.temporary);
-    Form::Answered(Answer::Of(Sort::Number))
+    Form::PrimitiveAnswer(Answer::Of(Sort::Number))
 }
 
 /// Adds the reading of a record of a file.
@@ -402,7 +402,7 @@ fn file_line<'a>(
     file_asked(layout, out, form, at.temporary, at.exit);
     let store = stored(layout, keeps, Primitive::Line, store, at);
     line_stored(layout, out, store, at.temporary);
-    Form::Answered(Answer::Of(Sort::Number))
+    Form::PrimitiveAnswer(Answer::Of(Sort::Number))
 }
 
 /// Adds a replacement.
@@ -426,8 +426,8 @@ fn replacement<'a>(
     all_operands(layout, keeps, out, &mut forms, operands, at);
     replaced(layout, out, &forms, all, operands, at.temporary, at.exit);
     let store = stored(layout, keeps, Primitive::SubResult, store, at);
-    either(layout.alloc, out, Emitted::new(layout.alloc), store);
-    Form::Answered(Answer::Of(Sort::Number))
+    emit_if(layout.alloc, out, Emitted::new(layout.alloc), store);
+    Form::PrimitiveAnswer(Answer::Of(Sort::Number))
 }
 
 /// Adds an assignment.
@@ -508,8 +508,8 @@ fn choice<'a>(
     truth(layout.alloc, layout.bases, out, form, at.temporary);
     let yes = branch(layout, keeps, sort, yes, at);
     let no = branch(layout, keeps, sort, no, at);
-    either(layout.alloc, out, yes, no);
-    Form::Answered(Answer::Of(sort))
+    emit_if(layout.alloc, out, yes, no);
+    Form::PrimitiveAnswer(Answer::Of(sort))
 }
 
 /// Adds one expression after another, whose answer is dropped.

@@ -9,7 +9,7 @@ ghost use Rattle.lower_pieces.specs.Forms.{view_form};
 ghost use Rattle.lower_expressions.specs.View.{view_layout};
 
 use crate::function_layout::FunctionLayout;
-use lower_pieces::{Emitted, Form, does_all, row_call};
+use lower_pieces::{Emitted, Form, emit_all, row_call};
 use mid_program::{Code, Operand, Operation};
 use sem_primitives::{Answer, MAX_FIELDS, Primitive, Sort};
 use wasm_types::Simple;
@@ -80,6 +80,6 @@ pub(crate) fn field_read(
         row_call(Primitive::Field),
         Simple::LocalSet(layout.bases.handle(temporary)),
     ];
-    does_all(out, &all);
-    Form::Answered(Answer::Of(Sort::Value))
+    emit_all(out, &all);
+    Form::PrimitiveAnswer(Answer::Of(Sort::Value))
 }

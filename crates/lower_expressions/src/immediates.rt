@@ -2,7 +2,7 @@
 ghost use Rattle.std.specs.Option.{option_map};
 ghost use Rattle.std.specs.Prelude.{◌≡◌, ◌≤◌, suc};
 ghost use Rattle.sem_primitives.specs.declared.sorts.Answer.TheVariants.{Truth};
-ghost use Rattle.mid_program.specs.Mid.{Answered};
+ghost use Rattle.mid_program.specs.Mid.{PrimitiveAnswer};
 ghost use Rattle.mid_program.specs.ViewCode.{view};
 ghost use Rattle.lower_model.specs.Emission.{immediate_field, immediate_in, immediate_pushed, immediately_compared};
 ghost use Rattle.lower_pieces.specs.Bounds.{most_places};
@@ -17,7 +17,7 @@ use crate::function_layout::FunctionLayout;
 use crate::places::text_pushed;
 use awk_values::CompareOp;
 use lower_pieces::{
-    Emitted, Form, MINUS_ONE, ask_row, comparison_number, does_all, kept_code, row_call, to_value,
+    Emitted, Form, MINUS_ONE, ask_row, comparison_number, emit_all, kept_code, row_call, to_value,
 };
 use mid_program::Code;
 use sem_primitives::{Answer, Primitive};
@@ -65,7 +65,7 @@ pub(crate) fn immediate_in(valued: bool, code: &Code) -> Option<Immediate>
 fn constant_asked(out: &mut Emitted, bits: u64, primitive: Primitive)
     ensures { Emits out.old out.new (constant_asked bits primitive) }
 {
-    does_all(out, &[Simple::I64Const(bits), row_call(primitive)]);
+    emit_all(out, &[Simple::I64Const(bits), row_call(primitive)]);
 }
 
 /// Puts the value of such an operand on the stack.
@@ -96,7 +96,7 @@ pub(crate) fn immediately_compared(
 ) -> Form
     requires places { suc temporary ≤ most_places }
     requires operand { ImmediateFits (view_layout layout.now) (view_immediate operand) }
-    ensures form { view_form result ≡ Answered Truth }
+    ensures form { view_form result ≡ PrimitiveAnswer Truth }
     ensures emits { Emits out.old out.new (immediately_compared
         (view_layout layout.now) op (view_form form) (view_immediate operand) temporary exit) }
 {
@@ -108,9 +108,9 @@ pub(crate) fn immediately_compared(
         Simple::I32Const(MINUS_ONE),
         Simple::LocalSet(local),
     ];
-    does_all(out, &all);
+    emit_all(out, &all);
     immediate_pushed(layout, out, operand);
     ask_row(out, Primitive::Compare);
     kept_code(layout.bases, out, true, temporary, exit);
-    Form::Answered(Answer::Truth)
+    Form::PrimitiveAnswer(Answer::Truth)
 }

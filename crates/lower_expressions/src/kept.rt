@@ -54,7 +54,7 @@ impl Kept {
         let count = self.entries.len();
         if count <= after {
             return Entry {
-                form: Form::Answered(Answer::Nothing),
+                form: Form::PrimitiveAnswer(Answer::Nothing),
                 temporary: 0,
             };
         }

@@ -3,11 +3,11 @@ ghost use Rattle.std.specs.Prelude.{◌≡◌, ◌<◌, ◌≤◌, get_or, lengt
 ghost use Rattle.sem_primitives.specs.declared.table.Primitive.TheVariants.{Getline, Lit};
 ghost use Rattle.wasm_types.specs.declared.instr.CvtOp.TheVariants.{I64ExtendI32U};
 ghost use Rattle.wasm_types.specs.declared.instr.Simple.TheVariants.{Convert, GlobalGet, I64Const, LocalSet};
-ghost use Rattle.mid_program.specs.Mid.{Answered, Perhaps, a_number, a_value, form_at, slot_form};
+ghost use Rattle.mid_program.specs.Mid.{PrimitiveAnswer, OptionalNumber, a_number, a_value, form_at, slot_form};
 ghost use Rattle.mid_program.specs.ViewCode.{view_slot};
 ghost use Rattle.lower_model.specs.Emission.{asked, bound_read, slot_read, text_pushed};
 ghost use Rattle.lower_model.specs.Places.{range_global, handle_local, number_local};
-ghost use Rattle.lower_model.specs.Small.{ask_row, code_number, does, least};
+ghost use Rattle.lower_model.specs.Small.{ask_row, code_number, emit, least};
 ghost use Rattle.lower_pieces.specs.Bounds.{most_places};
 ghost use Rattle.lower_pieces.specs.Emits.{Emits};
 ghost use Rattle.lower_pieces.specs.Forms.{view_form};
@@ -21,7 +21,7 @@ use crate::kept::{Keeps, kept_at};
 use crate::pending::asked;
 use crate::places::text_pushed;
 use crate::slots::{slot_form, slot_read};
-use lower_pieces::{Emitted, Form, LEAST, bound_from, code_number, does_all, row_call};
+use lower_pieces::{Emitted, Form, LEAST, bound_from, code_number, emit_all, row_call};
 use mid_program::Slot;
 use sem_primitives::{Answer, Primitive, Sort};
 use wasm_types::{CvtOp, Simple};
@@ -36,19 +36,19 @@ pub(crate) fn line(layout: &FunctionLayout<'_>, out: &mut Emitted, at: At) -> Fo
 {
     asked(layout, out, Primitive::Getline, at.temporary, at.exit);
     code_number(layout.bases, out, at.temporary);
-    Form::Answered(Answer::Of(Sort::Number))
+    Form::PrimitiveAnswer(Answer::Of(Sort::Number))
 }
 
 /// Adds a number, by its bits.
 pub(crate) fn constant(layout: &FunctionLayout<'_>, out: &mut Emitted, bits: u64, at: At) -> Form
     requires { Within at.temporary at.arrays at.exit }
     ensures form { view_form result ≡ a_number }
-    ensures emits { Emits out.old out.new (λ after. does
-        (I64Const bits) (does (LocalSet (number_local layout.now.bases.now at.temporary)) after)) }
+    ensures emits { Emits out.old out.new (λ after. emit
+        (I64Const bits) (emit (LocalSet (number_local layout.now.bases.now at.temporary)) after)) }
 {
     let put = Simple::LocalSet(layout.bases.number(at.temporary));
-    does_all(out, &[Simple::I64Const(bits), put]);
-    Form::Answered(Answer::Of(Sort::Number))
+    emit_all(out, &[Simple::I64Const(bits), put]);
+    Form::PrimitiveAnswer(Answer::Of(Sort::Number))
 }
 
 /// Adds a text of the script.
@@ -57,24 +57,24 @@ pub(crate) fn text(layout: &FunctionLayout<'_>, out: &mut Emitted, place: usize,
     requires there { place < length (view_layout layout.now).texts }
     ensures form { view_form result ≡ a_value }
     ensures emits { Emits out.old out.new (λ after. text_pushed (view_layout layout.now) place
-        (ask_row Lit (does (LocalSet (handle_local layout.now.bases.now at.temporary)) after))) }
+        (ask_row Lit (emit (LocalSet (handle_local layout.now.bases.now at.temporary)) after))) }
 {
     text_pushed(layout, out, place);
     let put = Simple::LocalSet(layout.bases.handle(at.temporary));
-    does_all(out, &[row_call(Primitive::Lit), put]);
-    Form::Answered(Answer::Of(Sort::Value))
+    emit_all(out, &[row_call(Primitive::Lit), put]);
+    Form::PrimitiveAnswer(Answer::Of(Sort::Value))
 }
 
 /// Adds what a parameter is without an argument.
 pub(crate) fn unset(layout: &FunctionLayout<'_>, out: &mut Emitted, at: At) -> Form
     requires { Within at.temporary at.arrays at.exit }
-    ensures form { view_form result ≡ Perhaps }
-    ensures emits { Emits out.old out.new (λ after. does (I64Const least)
-        (does (LocalSet (number_local layout.now.bases.now at.temporary)) after)) }
+    ensures form { view_form result ≡ OptionalNumber }
+    ensures emits { Emits out.old out.new (λ after. emit (I64Const least)
+        (emit (LocalSet (number_local layout.now.bases.now at.temporary)) after)) }
 {
     let put = Simple::LocalSet(layout.bases.number(at.temporary));
-    does_all(out, &[Simple::I64Const(LEAST), put]);
-    Form::Perhaps
+    emit_all(out, &[Simple::I64Const(LEAST), put]);
+    Form::OptionalNumber
 }
 
 /// Adds the reading of a scalar.
@@ -93,18 +93,18 @@ pub(crate) fn variable(layout: &FunctionLayout<'_>, out: &mut Emitted, slot: Slo
 pub(crate) fn is_open(layout: &FunctionLayout<'_>, out: &mut Emitted, item: usize, at: At) -> Form
     requires within { Within at.temporary at.arrays at.exit }
     requires few { item ≤ most_places }
-    ensures form { view_form result ≡ Answered Answer.Truth }
+    ensures form { view_form result ≡ PrimitiveAnswer Answer.Truth }
     ensures emits { Emits out.old out.new
-        (λ after. does (GlobalGet (range_global item)) (does (Convert I64ExtendI32U)
-        (does (LocalSet (number_local layout.now.bases.now at.temporary)) after))) }
+        (λ after. emit (GlobalGet (range_global item)) (emit (Convert I64ExtendI32U)
+        (emit (LocalSet (number_local layout.now.bases.now at.temporary)) after))) }
 {
     let all = [
         Simple::GlobalGet(item as u32 + 3),
         Simple::Convert(CvtOp::I64ExtendI32U),
         Simple::LocalSet(layout.bases.number(at.temporary)),
     ];
-    does_all(out, &all);
-    Form::Answered(Answer::Truth)
+    emit_all(out, &all);
+    Form::PrimitiveAnswer(Answer::Truth)
 }
 
 /// Adds what was kept. Where `only` what is done counts, that is nothing.

@@ -2,10 +2,10 @@
 #![tactic(auto)]
 
 mod at;
-mod calls;
 mod entry;
 mod expressions;
 mod fields;
+mod function_calls;
 mod function_layout;
 mod immediates;
 mod kept;

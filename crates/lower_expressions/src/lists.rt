@@ -10,8 +10,8 @@ ghost use Rattle.lower_expressions.specs.View.{view_layout};
 
 use crate::function_layout::FunctionLayout;
 use crate::walks::{all_appended, all_boxed};
-use host_imports::{Import, Listing};
-use lower_pieces::{Emitted, Form, does_all, import_call, kept, kept_value};
+use host_imports::{Import, VariadicImport};
+use lower_pieces::{Emitted, Form, emit_all, import_call, kept, kept_value};
 use sem_primitives::{Answer, Destination, Listed};
 use wasm_types::Simple;
 
@@ -50,19 +50,19 @@ fn listed_asked(
 {
     let (listing, to) = match listed {
         Listed::Sprintf => {
-            let call = import_call(Import::Over(Listing::Sprintf));
-            does_all(out, &[Simple::I32Const(count), call]);
+            let call = import_call(Import::Variadic(VariadicImport::Sprintf));
+            emit_all(out, &[Simple::I32Const(count), call]);
             return kept_value(layout.bases, out, true, temporary, exit);
         }
-        Listed::Print(to) => (Listing::Print, to),
-        Listed::Printf(to) => (Listing::Printf, to),
+        Listed::Print(to) => (VariadicImport::Print, to),
+        Listed::Printf(to) => (VariadicImport::Printf, to),
     };
     let all = [
         Simple::I32Const(values_counted(to, count)),
         Simple::I32Const(destination_number(to)),
-        import_call(Import::Over(listing)),
+        import_call(Import::Variadic(listing)),
     ];
-    does_all(out, &all);
+    emit_all(out, &all);
     kept(layout.bases, out, true, Answer::Done, temporary, exit);
 }
 

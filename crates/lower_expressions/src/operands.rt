@@ -1,6 +1,6 @@
 //! Operands that are evaluated: converted, and taken by an operation.
 ghost use Rattle.std.specs.Prelude.{◌≡◌, ◌+◌, suc, ◌≤◌, length, map};
-ghost use Rattle.mid_program.specs.Mid.{Answered, answer_by, arguments};
+ghost use Rattle.mid_program.specs.Mid.{PrimitiveAnswer, answer_by, arguments};
 ghost use Rattle.mid_program.specs.Sorted.{count_of};
 ghost use Rattle.mid_program.specs.ViewCode.{view, view_array, views};
 ghost use Rattle.lower_model.specs.Emission.{all_pushed, array_meant, one_pushed, performed};
@@ -15,7 +15,7 @@ use crate::function_layout::FunctionLayout;
 use crate::places::array_pushed;
 use crate::walks::{all_boxed, all_converted};
 use lower_pieces::{
-    Emitted, Form, ask_row, calculated, does, field_checked, kept, kept_value, moved_out,
+    Emitted, Form, ask_row, calculated, emit, field_checked, kept, kept_value, moved_out,
 };
 use mid_program::{ArrayName, Code, Operand, Operation};
 use sem_primitives::{Answer, Argument, Primitive, Sort};
@@ -58,7 +58,7 @@ fn one_pushed(
 {
     match wanted {
         Argument::Of(Sort::Value) => moved_out(out, layout.bases.handle(temporary)),
-        Argument::Of(Sort::Number) => does(out, Simple::LocalGet(layout.bases.number(temporary))),
+        Argument::Of(Sort::Number) => emit(out, Simple::LocalGet(layout.bases.number(temporary))),
         Argument::Of(Sort::Array) => array_pushed(layout, out, array_meant(code)),
         Argument::Of(Sort::Iterator) | Argument::Constant(_) | Argument::Place => {}
     }
@@ -89,7 +89,7 @@ pub(crate) fn all_pushed(
             all_pushed(layout, out, wanted, operands, temporary + 1);
         }
         Operand::Constant(number) => {
-            does(out, Simple::I32Const(*number));
+            emit(out, Simple::I32Const(*number));
             all_pushed(layout, out, wanted, operands, temporary);
         }
         Operand::Fresh => {}
@@ -186,13 +186,12 @@ pub(crate) fn operated(
 
 /// What an operation answers.
 pub(crate) fn operation_form(operation: Operation) -> Form
-    ensures { view_form result ≡ Answered (answer_by operation) }
+    ensures { view_form result ≡ PrimitiveAnswer (answer_by operation) }
 {
     match operation {
-        Operation::Host(primitive) => Form::Answered(primitive.answer()),
-        Operation::Inline(_) | Operation::AsNumber | Operation::FieldNumber => Form::Answered(
-            Answer::Of(Sort::Number),
-        ),
+        Operation::Host(primitive) => Form::PrimitiveAnswer(primitive.answer()),
+        Operation::Inline(_) | Operation::AsNumber | Operation::FieldNumber =>
+            Form::PrimitiveAnswer(Answer::Of(Sort::Number)),
     }
 }
 

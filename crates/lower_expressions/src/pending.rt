@@ -4,7 +4,7 @@ ghost use Rattle.wasm_types.specs.declared.instr.Simple.TheVariants.{Br};
 ghost use Rattle.mid_program.specs.Mid.{Boxed, Unboxed};
 ghost use Rattle.mid_program.specs.View.{view_kind};
 ghost use Rattle.lower_model.specs.Emission.{asked, assigned, assigned_by_number, pending_assigned};
-ghost use Rattle.lower_model.specs.Small.{does};
+ghost use Rattle.lower_model.specs.Small.{emit};
 ghost use Rattle.lower_pieces.specs.Bounds.{most_labels, most_places};
 ghost use Rattle.lower_pieces.specs.Emits.{Emits, Holds};
 ghost use Rattle.lower_expressions.specs.Parts.{asked_once, number_assigned, one_asked, one_assigned};
@@ -15,7 +15,7 @@ use crate::places::{global_handle, global_number};
 use crate::slots::text_dropped;
 use host_imports::Import;
 use lower_pieces::{
-    Bases, Emitted, TEXT_BESIDE, again, ask_row, does, does_all, import_call, kept_code, moved_out,
+    Bases, Emitted, TEXT_BESIDE, again, ask_row, emit, emit_all, import_call, kept_code, moved_out,
     number_is, row_call, when,
 };
 use mid_program::Kind;
@@ -30,9 +30,9 @@ fn boxed_assigned(layout: &FunctionLayout<'_>, out: &mut Emitted, name: usize, t
         (assigned (view_layout layout.now) Boxed name temporary) }
 {
     let global = global_handle(layout, name);
-    does_all(out, &[Simple::GlobalGet(global), import_call(Import::Drop)]);
+    emit_all(out, &[Simple::GlobalGet(global), import_call(Import::Drop)]);
     moved_out(out, layout.bases.handle(temporary));
-    does(out, Simple::GlobalSet(global));
+    emit(out, Simple::GlobalSet(global));
 }
 
 /// Gives an unboxed name the text of a temporary.
@@ -49,7 +49,7 @@ fn text_assigned(layout: &FunctionLayout<'_>, out: &mut Emitted, name: usize, te
         Simple::I64Const(TEXT_BESIDE),
         Simple::GlobalSet(global_number(layout, name)),
     ];
-    does_all(out, &all);
+    emit_all(out, &all);
 }
 
 /// What gives a name the value of a temporary.
@@ -63,7 +63,7 @@ fn assigned_code(layout: &FunctionLayout<'_>, kind: Kind, name: usize, temporary
     match kind {
         Kind::Boxed => boxed_assigned(layout, &mut code, name, temporary),
         Kind::Unboxed => text_assigned(layout, &mut code, name, temporary),
-        Kind::Many => {}
+        Kind::Array => {}
     }
     code
 }
@@ -104,7 +104,7 @@ fn one_assigned(
 {
     match kind {
         Kind::Boxed | Kind::Unboxed => number_assigned(layout, out, kind, name, temporary),
-        Kind::Many => {}
+        Kind::Array => {}
     }
 }
 
@@ -133,7 +133,7 @@ pub fn pending_assigned(layout: &FunctionLayout<'_>, out: &mut Emitted, temporar
         row_call(Primitive::PendingValue),
         Simple::LocalSet(layout.bases.handle(temporary)),
     ];
-    does_all(out, &all);
+    emit_all(out, &all);
     assigned_by_number(layout, out, temporary);
 }
 
@@ -141,11 +141,11 @@ pub fn pending_assigned(layout: &FunctionLayout<'_>, out: &mut Emitted, temporar
 pub fn pending_code(layout: &FunctionLayout<'_>, temporary: u32) -> Emitted
     requires { suc temporary ≤ most_places }
     ensures { Holds result
-        (λ after. pending_assigned (view_layout layout.now) temporary (does (Br 1) after)) }
+        (λ after. pending_assigned (view_layout layout.now) temporary (emit (Br 1) after)) }
 {
     let mut code = Emitted::new(layout.alloc);
     pending_assigned(layout, &mut code, temporary);
-    does(&mut code, Simple::Br(1));
+    emit(&mut code, Simple::Br(1));
     code
 }
 

@@ -8,7 +8,7 @@ ghost use Rattle.lower_expressions.specs.Fits.{ArrayFits};
 ghost use Rattle.lower_expressions.specs.View.{view_layout};
 
 use crate::function_layout::FunctionLayout;
-use lower_pieces::{Emitted, does, does_all};
+use lower_pieces::{Emitted, emit, emit_all};
 use mid_program::ArrayName;
 use wasm_types::Simple;
 
@@ -37,13 +37,13 @@ pub fn array_pushed(layout: &FunctionLayout<'_>, out: &mut Emitted, array: Array
         (array_pushed (view_layout layout.now) (view_array array)) }
 {
     match array {
-        ArrayName::Numbered(0) => does(out, Simple::I32Const(0)),
-        ArrayName::Numbered(1) => does(out, Simple::I32Const(1)),
+        ArrayName::Numbered(0) => emit(out, Simple::I32Const(0)),
+        ArrayName::Numbered(1) => emit(out, Simple::I32Const(1)),
         ArrayName::Numbered(number) => {
             let name = layout.script.array_name(number - 2);
-            does(out, Simple::GlobalGet(global_handle(layout, name)));
+            emit(out, Simple::GlobalGet(global_handle(layout, name)));
         }
-        ArrayName::Given(parameter) => does(out, Simple::LocalGet(parameter as u32)),
+        ArrayName::Given(parameter) => emit(out, Simple::LocalGet(parameter as u32)),
     }
 }
 
@@ -53,7 +53,7 @@ pub fn text_pushed(layout: &FunctionLayout<'_>, out: &mut Emitted, text: usize)
     ensures { Emits out.old out.new (text_pushed (view_layout layout.now) text) }
 {
     let span = layout.script.span(text);
-    does_all(
+    emit_all(
         out,
         &[Simple::I32Const(span.place), Simple::I32Const(span.size)],
     );

@@ -1,6 +1,6 @@
 //! Scalars that are read and written.
 ghost use Rattle.std.specs.Prelude.{◌≡◌, ◌≤◌, true, false};
-ghost use Rattle.mid_program.specs.Mid.{Bare, Global as GlobalSlot, slot_form};
+ghost use Rattle.mid_program.specs.Mid.{NumberOrText, Global as GlobalSlot, slot_form};
 ghost use Rattle.mid_program.specs.ViewCode.{view_slot};
 ghost use Rattle.lower_model.specs.Emission.{handle_stored, slot_read, slot_set, text_dropped, value_stored};
 ghost use Rattle.lower_model.specs.Small.{boxed_perhaps};
@@ -15,8 +15,8 @@ use crate::function_layout::FunctionLayout;
 use crate::places::{global_handle, global_number};
 use host_imports::Import;
 use lower_pieces::{
-    Emitted, Form, MINUS_ONE, TEXT_BESIDE, boxed_number, boxed_perhaps, copied_by, does, does_all,
-    either, import_call, moved_out, number_is, row_call, when_all,
+    Emitted, Form, MINUS_ONE, TEXT_BESIDE, boxed_number, boxed_perhaps, copied_by, emit, emit_all,
+    emit_if, import_call, moved_out, number_is, row_call, when_all,
 };
 use mid_program::Slot;
 use sem_primitives::{Answer, Primitive, Sort};
@@ -27,9 +27,9 @@ pub(crate) fn slot_form(slot: Slot) -> Form
     ensures { view_form result ≡ slot_form (view_slot slot) }
 {
     match slot {
-        Slot::Global(true, _) | Slot::Parameter(true, _) => Form::Bare,
+        Slot::Global(true, _) | Slot::Parameter(true, _) => Form::NumberOrText,
         Slot::Global(false, _) | Slot::Parameter(false, _) => {
-            Form::Answered(Answer::Of(Sort::Value))
+            Form::PrimitiveAnswer(Answer::Of(Sort::Value))
         }
     }
 }
@@ -47,7 +47,7 @@ fn bare_read(layout: &FunctionLayout<'_>, out: &mut Emitted, name: usize, tempor
         Simple::I64Const(TEXT_BESIDE),
         Simple::Compare(ValType::I64, IRelOp::Eq),
     ];
-    does_all(out, &all);
+    emit_all(out, &all);
     let global = global_handle(layout, name);
     let copy = [
         Simple::GlobalGet(global),
@@ -79,7 +79,7 @@ pub(crate) fn slot_read(layout: &FunctionLayout<'_>, out: &mut Emitted, slot: Sl
         }
         Slot::Parameter(true, place) => {
             let get = Simple::LocalGet(place as u32);
-            does_all(
+            emit_all(
                 out,
                 &[get, Simple::LocalSet(layout.bases.number(temporary))],
             );
@@ -102,7 +102,7 @@ fn handle_stored(
     let local = layout.bases.handle(temporary);
     if only {
         moved_out(out, local);
-        does(out, put);
+        emit(out, put);
     } else {
         copied_by(out, Simple::LocalGet(local), put, local);
     }
@@ -118,14 +118,14 @@ fn bare_stored(
 )
     requires { temporary ≤ most_places }
     ensures { Emits out.old out.new
-        (value_stored (view_layout layout.now) only Bare temporary put) }
+        (value_stored (view_layout layout.now) only NumberOrText temporary put) }
 {
     number_is(out, layout.bases.number(temporary), TEXT_BESIDE);
     let mut text = Emitted::new(layout.alloc);
     handle_stored(layout, &mut text, only, temporary, put);
     let mut number = Emitted::new(layout.alloc);
     boxed_perhaps(layout.alloc, layout.bases, &mut number, temporary, put);
-    either(layout.alloc, out, text, number);
+    emit_if(layout.alloc, out, text, number);
 }
 
 /// Stores what stands in a temporary, as a value.
@@ -142,14 +142,16 @@ fn value_stored(
         (value_stored (view_layout layout.now) only (view_form form) temporary put) }
 {
     match form {
-        Form::Answered(Answer::Of(Sort::Value)) => handle_stored(layout, out, only, temporary, put),
-        Form::Answered(Answer::Of(Sort::Number) | Answer::Truth) => {
+        Form::PrimitiveAnswer(Answer::Of(Sort::Value)) => handle_stored(
+            layout, out, only, temporary, put,
+        ),
+        Form::PrimitiveAnswer(Answer::Of(Sort::Number) | Answer::Truth) => {
             boxed_number(layout.bases, out, temporary);
-            does(out, put);
+            emit(out, put);
         }
-        Form::Bare => bare_stored(layout, out, only, temporary, put),
-        Form::Perhaps => boxed_perhaps(layout.alloc, layout.bases, out, temporary, put),
-        Form::Answered(_) => does_all(out, &[row_call(Primitive::Uninit), put]),
+        Form::NumberOrText => bare_stored(layout, out, only, temporary, put),
+        Form::OptionalNumber => boxed_perhaps(layout.alloc, layout.bases, out, temporary, put),
+        Form::PrimitiveAnswer(_) => emit_all(out, &[row_call(Primitive::Uninit), put]),
     }
 }
 
@@ -163,7 +165,7 @@ pub fn text_dropped(layout: &FunctionLayout<'_>, out: &mut Emitted, name: usize)
         Simple::I64Const(TEXT_BESIDE),
         Simple::Compare(ValType::I64, IRelOp::Eq),
     ];
-    does_all(out, &all);
+    emit_all(out, &all);
     let global = global_handle(layout, name);
     let drop = [
         Simple::GlobalGet(global),
@@ -185,7 +187,7 @@ fn bare_set(layout: &FunctionLayout<'_>, out: &mut Emitted, name: usize, tempora
         Simple::LocalGet(layout.bases.number(temporary)),
         Simple::GlobalSet(global_number(layout, name)),
     ];
-    does_all(out, &all);
+    emit_all(out, &all);
 }
 
 /// Writes a scalar.
@@ -205,7 +207,7 @@ pub(crate) fn slot_set(
     match slot {
         Slot::Global(false, name) => {
             let global = global_handle(layout, name);
-            does_all(out, &[Simple::GlobalGet(global), import_call(Import::Drop)]);
+            emit_all(out, &[Simple::GlobalGet(global), import_call(Import::Drop)]);
             value_stored(
                 layout,
                 out,
@@ -218,12 +220,12 @@ pub(crate) fn slot_set(
         Slot::Global(true, name) => bare_set(layout, out, name, temporary),
         Slot::Parameter(false, place) => {
             let local = place as u32;
-            does_all(out, &[Simple::LocalGet(local), import_call(Import::Drop)]);
+            emit_all(out, &[Simple::LocalGet(local), import_call(Import::Drop)]);
             value_stored(layout, out, only, form, temporary, Simple::LocalSet(local));
         }
         Slot::Parameter(true, place) => {
             let put = Simple::LocalSet(place as u32);
-            does_all(
+            emit_all(
                 out,
                 &[Simple::LocalGet(layout.bases.number(temporary)), put],
             );

@@ -10,7 +10,7 @@ ghost use Rattle.lower_quick.specs.View.{view_addition, view_holder, view_source
 
 use crate::function_layout::FunctionLayout;
 use crate::places::global_number;
-use lower_pieces::{Emitted, code_of, does, does_all};
+use lower_pieces::{Emitted, code_of, emit, emit_all};
 use lower_quick::{Addition, Holder, Source, addition_names};
 use mid_program::Arithmetic;
 use wasm_types::{IBinOp, IRelOp, Simple, ValType};
@@ -53,7 +53,7 @@ fn joined(layout: &FunctionLayout<'_>, out: &mut Emitted, names: &[Holder], shif
             Simple::Binary(ValType::I64, IBinOp::Add),
             Simple::Binary(ValType::I64, IBinOp::Or),
         ];
-        does_all(out, &all);
+        emit_all(out, &all);
     }
 }
 
@@ -72,20 +72,20 @@ pub fn all_unsure(
         (pos shift) width) }
 {
     let [first, others @ ..] = names else {
-        return does(out, Simple::I32Const(0));
+        return emit(out, Simple::I32Const(0));
     };
     let word = [
         name_read(layout, *first),
         Simple::I64Const(shift),
         Simple::Binary(ValType::I64, IBinOp::Add),
     ];
-    does_all(out, &word);
+    emit_all(out, &word);
     joined(layout, out, others, shift);
     let past = [
         Simple::I64Const(width),
         Simple::Compare(ValType::I64, IRelOp::GtU),
     ];
-    does_all(out, &past);
+    emit_all(out, &past);
 }
 
 /// Adds the test whether a name of a sum has no number, or one that is not near 0.

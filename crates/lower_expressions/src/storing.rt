@@ -8,7 +8,7 @@ ghost use Rattle.mid_program.specs.ViewCode.{view, views};
 ghost use Rattle.host_imports.specs.declared.import.Import.TheVariants.{Drop};
 ghost use Rattle.lower_model.specs.Emission.{keeping_closed, left_over, sequence_closed};
 ghost use Rattle.lower_model.specs.Places.{array_local, handle_local};
-ghost use Rattle.lower_model.specs.Small.{ask_row, code_number, does, let_go};
+ghost use Rattle.lower_model.specs.Small.{ask_row, code_number, emit, let_go};
 ghost use Rattle.lower_pieces.specs.Bounds.{most_labels, most_places};
 ghost use Rattle.lower_pieces.specs.Emits.{Emits, Reads};
 ghost use Rattle.lower_pieces.specs.Forms.{view_form};
@@ -21,7 +21,7 @@ use crate::operands::all_pushed;
 use crate::walks::all_converted;
 use host_imports::Import;
 use lower_pieces::{
-    Bases, Emitted, Form, ask_row, code_number, does_all, kept, kept_code, let_go, moved_from,
+    Bases, Emitted, Form, ask_row, code_number, emit_all, kept, kept_code, let_go, moved_from,
     moved_out, number_is, released, row_call, to_value, unused, when,
 };
 use mid_program::{Code, Operand};
@@ -32,20 +32,20 @@ use wasm_types::{ITestOp, Simple, ValType};
 pub(crate) fn array_made(bases: &Bases, out: &mut Emitted, arrays: u32)
     requires { arrays ≤ most_places }
     ensures { Emits out.old out.new
-        (λ after. ask_row NewArray (does (LocalSet (array_local bases.now arrays)) after)) }
+        (λ after. ask_row NewArray (emit (LocalSet (array_local bases.now arrays)) after)) }
 {
     let put = Simple::LocalSet(bases.array(arrays));
-    does_all(out, &[row_call(Primitive::NewArray), put]);
+    emit_all(out, &[row_call(Primitive::NewArray), put]);
 }
 
 /// Keeps a text that was read or replaced.
 pub(crate) fn text_kept(bases: &Bases, out: &mut Emitted, primitive: Primitive, temporary: u32)
     requires { suc temporary ≤ most_places }
     ensures { Emits out.old out.new (λ after. ask_row primitive
-        (does (LocalSet (handle_local bases.now (suc temporary))) after)) }
+        (emit (LocalSet (handle_local bases.now (suc temporary))) after)) }
 {
     let put = Simple::LocalSet(bases.handle(temporary + 1));
-    does_all(out, &[row_call(primitive), put]);
+    emit_all(out, &[row_call(primitive), put]);
 }
 
 /// Drops what code left that was evaluated for what it does alone. An assignment has given its value away then, what was kept is dropped where it was kept, and
@@ -183,7 +183,7 @@ fn replaced_asked(
     ];
     all_pushed(layout, out, &wanted, operands, temporary);
     let all = [Simple::I32Const(u32::from(every)), row_call(Primitive::Sub)];
-    does_all(out, &all);
+    emit_all(out, &all);
     kept(
         layout.bases,
         out,
@@ -230,5 +230,5 @@ pub(crate) fn replaced(
         Simple::LocalGet(layout.bases.number(temporary)),
         Simple::Test(ValType::I64, ITestOp::Eqz),
     ];
-    does_all(out, &all);
+    emit_all(out, &all);
 }

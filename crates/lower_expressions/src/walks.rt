@@ -122,7 +122,7 @@ pub(crate) fn given_one(
 {
     match kind {
         Kind::Boxed => to_value(alloc, bases, out, form, temporary),
-        Kind::Unboxed | Kind::Many => {}
+        Kind::Unboxed | Kind::Array => {}
     }
 }
 

@@ -1,6 +1,6 @@
 -- Which of the names are arrays.
 use Rattle.std.proofs.Common.{◌≡◌, ℕ, zero, suc, ◌+◌, ◌≤◌, List, [], ◌∷◌, length, get_or, refl, ap, ◌∙◌, arith}
-use Rattle.mid_program.specs.Mid.{Kind, Boxed, Many, Unboxed}
+use Rattle.mid_program.specs.Mid.{Kind, Boxed, ArrayKind, Unboxed}
 use Rattle.lower_model.specs.Places.{array_name}
 use Rattle.lower_layout.specs.Spans.{arrays_from}
 
@@ -12,8 +12,8 @@ name_after n arrays i most name is =
 
 name_from : (n : ℕ) (ks : List Kind) (i : ℕ) → get_or (arrays_from n ks) i (n + length ks) ≡ n + array_name ks i
 name_from n [] i = refl
-name_from n (Many ∷ ks) zero = omega arith
-name_from n (Many ∷ ks) (suc i) = name_after n (arrays_from (suc n) ks) i (length ks) (array_name ks i) (name_from (suc n) ks i)
+name_from n (ArrayKind ∷ ks) zero = omega arith
+name_from n (ArrayKind ∷ ks) (suc i) = name_after n (arrays_from (suc n) ks) i (length ks) (array_name ks i) (name_from (suc n) ks i)
 name_from n (Boxed ∷ ks) i = name_after n (arrays_from (suc n) ks) i (length ks) (array_name ks i) (name_from (suc n) ks i)
 name_from n (Unboxed ∷ ks) i = name_after n (arrays_from (suc n) ks) i (length ks) (array_name ks i) (name_from (suc n) ks i)
 
@@ -25,7 +25,7 @@ name_found ks i =
 
 pub name_within : (ks : List Kind) (i : ℕ) → array_name ks i ≤ length ks
 name_within [] i = omega arith
-name_within (Many ∷ ks) zero = omega arith
-name_within (Many ∷ ks) (suc i) = let few = name_within ks i in omega (arith, few)
+name_within (ArrayKind ∷ ks) zero = omega arith
+name_within (ArrayKind ∷ ks) (suc i) = let few = name_within ks i in omega (arith, few)
 name_within (Boxed ∷ ks) i = let few = name_within ks i in omega (arith, few)
 name_within (Unboxed ∷ ks) i = let few = name_within ks i in omega (arith, few)

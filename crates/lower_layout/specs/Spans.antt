@@ -1,6 +1,6 @@
 -- Where the texts and the arrays of a script stand, and which scripts are small enough.
 use Rattle.std.specs.Prelude.{ℕ, suc, ◌+◌, ◌++◌, ◌≡◌, ◌≤◌, ◌<◌, ◌^◌, List, [], ◌∷◌, length, map}
-use Rattle.mid_program.specs.Mid.{Kind, Boxed, Declared, Many, Program, Routine, Unboxed}
+use Rattle.mid_program.specs.Mid.{Kind, Boxed, Declared, ArrayKind, Program, Routine, Unboxed}
 use Rattle.wasm_types.specs.Profile.{most_module_bytes}
 use Rattle.lower_model.specs.Places.{memory_of}
 use Rattle.lower_model.specs.Functions.{texts_of}
@@ -20,7 +20,7 @@ spans_from at (s ∷ ss) = (record { place = at; size = length s }) ∷ spans_fr
 -- the places of the arrays among names, of which the first has this one
 abbrev pub arrays_from : ℕ → List Kind → List ℕ
 arrays_from at [] = []
-arrays_from at (Many ∷ ks) = at ∷ arrays_from (suc at) ks
+arrays_from at (ArrayKind ∷ ks) = at ∷ arrays_from (suc at) ks
 arrays_from at (Boxed ∷ ks) = arrays_from (suc at) ks
 arrays_from at (Unboxed ∷ ks) = arrays_from (suc at) ks
 

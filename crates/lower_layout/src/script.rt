@@ -21,7 +21,7 @@ fn array_names(alloc: Global, names: &[Declared]) -> Result<Vec<usize>, AllocErr
 {
     let mut arrays = Vec::new(alloc);
     for (place, name) in names.iter().enumerate() {
-        if let Kind::Many = name.kind {
+        if let Kind::Array = name.kind {
             arrays.push(place)?;
         }
     }

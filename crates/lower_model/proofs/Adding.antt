@@ -20,8 +20,8 @@ use Rattle.lower_model.specs.Arithmetic.{calculated}
 use Rattle.lower_model.specs.Machine.{Conf, Label, Frame, Store, at, label}
 use Rattle.lower_model.specs.Places.{Bases, number_local}
 use Rattle.lower_model.specs.Quick.{Source, Held, Constant, source_in, and_source, is_sum, sum_op, Addition, addition_names, addition_of, addition_in}
-use Rattle.lower_model.specs.Small.{does}
-use Rattle.lower_model.proofs.Watch.{Watch}
+use Rattle.lower_model.specs.Small.{emit}
+use Rattle.lower_model.proofs.Observer.{Observer}
 use Rattle.lower_model.proofs.Runs.{then_goes, goes_from, first, within, there, Onward}
 use Rattle.lower_model.proofs.Locals.{Locals, Number as NumberAt, laid}
 use Rattle.lower_model.proofs.Steps.{set_ok}
@@ -36,7 +36,7 @@ use Rattle.lower_model.proofs.QuickNames.{num_of, source_steps, all_flag, all_st
 use Rattle.lower_model.proofs.QuickParts.{two_calculated, AllUnboxed, all_unsure_ok, calculated_means}
 use Rattle.lower_model.proofs.QuickSteps.{SourceFits, source_unboxed, operand, near_fits, both_added}
 
-module _ (p : Program) (deepest : Watch) (ks : List Kind) (F : List Frame) (b : Bases) (M n : ℕ) where
+module _ (p : Program) (deepest : Observer) (ks : List Kind) (F : List Frame) (b : Bases) (M n : ℕ) where
   -- what comes to the end of a block goes on after it
   done_closes : (v : Bool) (e : Code) (fs : List Form) (env : Env fs) (ts : List ℕ) (st : ℕ → Standing) (t u w : ℕ) (k : Instructions) (K : List Label) (l : Locals) (σ : State) (x : Holds (form_of fs e)) (σ1 : State) (c : Conf) →
       Done p deepest ks F b M n v e fs env ts st t u w NoMore (label [] None k ∷ K) l σ x σ1 c → Onward (machine p deepest ks F) M 1 (Done p deepest ks F b M n v e fs env ts st t u w k K l σ x σ1) c
@@ -144,7 +144,7 @@ module _ (p : Program) (deepest : Watch) (ks : List Kind) (F : List Frame) (b : 
           let ro = operator_room o in
           subst (λ g. Reached p deepest ks F b M 5 σ.turns (at ks [] K1 (laid b l) F (fast q) S) P Q g) (sym (a.means env σ o1.number o2.number y o1.num o2.num r.outcome))
           (there (machine p deepest ks F) M 5 ((source_steps q.left + (source_steps q.right + 1)) + (1 + 1)) _ _ y σ P Q
-          (then_goes (both_added p deepest ks F b M n K1 (does (LocalSet (number_local b t)) NoMore) q.op q.left q.right y t u w l σ a.left a.right rd.parameters rd.fit (ap₂ (binary_at w64 (sum_op q.op)) o1.words o2.words ∙ r.words))
+          (then_goes (both_added p deepest ks F b M n K1 (emit (LocalSet (number_local b t)) NoMore) q.op q.left q.right y t u w l σ a.left a.right rd.parameters rd.fit (ap₂ (binary_at w64 (sum_op q.op)) o1.words o2.words ∙ r.words))
           (then_goes (set_ok b l (NumberAt t) (Bits (I64 (number_word y))) (omega (arith, rm, ro)) (rd.fit.numbers t)) closes)) (omega (arith, f1, f2))
           (put_done p deepest ks F b M n (Do (Inline o) es) v fs env ts st t u w k K l l σ σ y _ rd.below (same_self ts t w l) (λ i h. refl) (a.keeps ts st l env rd.kept) refl tt
           (put_word p deepest ks F b M t u w (number_word y) a_number k K l y σ (refl, refl) rd.fit)))

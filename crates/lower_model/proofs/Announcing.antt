@@ -19,11 +19,11 @@ use Rattle.awk_values.specs.declared.value.Value.TheVariants.{Uninit}
 use Rattle.wasm_types.specs.Syntax.{Instructions}
 use Rattle.wasm_types.specs.declared.instr.Simple.TheVariants.{GlobalSet}
 use Rattle.wasm_store.specs.declared.word.Word.TheVariants.{I32}
-use Rattle.mid_program.specs.Mid.{Kind, Boxed, Unboxed, Many, Program, Declared, Routine}
+use Rattle.mid_program.specs.Mid.{Kind, Boxed, Unboxed, ArrayKind, Program, Declared, Routine}
 use Rattle.mid_program.specs.MidMeaning.{global_name, routine_name}
 use Rattle.sem_scripts.specs.Names.{same_name}
 use Rattle.sem_scripts.specs.ScriptRun.{kind_of, announced, arrays_made}
-use Rattle.sem_scripts.specs.ScriptState.{State, Gives, Doing, ◌>>◌, nothing, does}
+use Rattle.sem_scripts.specs.ScriptState.{State, Gives, Execution, ◌>>◌, nothing, call}
 use Rattle.mid_program.specs.Sorted.{kinds_of, is_many, is_named, all_differ, same_kind}
 use Rattle.lower_model.specs.Cells.{Cell, Bits, Held, OwnedArray, is_owned}
 use Rattle.lower_model.specs.Emission.{Layout}
@@ -31,11 +31,11 @@ use Rattle.lower_model.specs.Functions.{layout_of, texts_of}
 use Rattle.lower_model.specs.ImportCalls.{Host, with_some, where_so, and_rest, row_in, acted, replied, primitive_acts}
 use Rattle.lower_model.specs.Machine.{Label, Store, at}
 use Rattle.lower_model.specs.Places.{Bases, place_of, memory_of, handle_global}
-use Rattle.lower_model.specs.Small.{does as instruction}
+use Rattle.lower_model.specs.Small.{emit as instruction}
 use Rattle.lower_model.specs.Statements.{declared, declared_kind, names_declared, routines_declared, names_made}
-use Rattle.host_imports.specs.declared.import.Import.TheVariants.{Of}
+use Rattle.host_imports.specs.declared.import.Import.TheVariants.{OfPrimitive}
 use Rattle.lower_model.proofs.HostLaws.{Few}
-use Rattle.lower_model.proofs.Watch.{Watch}
+use Rattle.lower_model.proofs.Observer.{Observer}
 use Rattle.lower_model.proofs.Runs.{Goes, goes_to, then_goes, stays}
 use Rattle.lower_model.proofs.Regions.{upd, upd_same, upd_other, behind_at}
 use Rattle.lower_model.proofs.Globals.{Globals, Hand, placed}
@@ -66,19 +66,19 @@ abbrev pub tells : Layout → ℕ → List Telling → Instructions → Instruct
 tells y i [] k = k
 tells y i (t ∷ ts) k = declared y t.1 i (tells y (suc i) ts k)
 
-abbrev pub telling : List Telling → Doing (Unit {0})
+abbrev pub telling : List Telling → Execution (Unit {0})
 telling [] = nothing
-telling (t ∷ ts) = does row.Declare (t.0, (t.1, tt)) >> telling ts
+telling (t ∷ ts) = call row.Declare (t.0, (t.1, tt)) >> telling ts
 
 kind_emitted : (y : Layout) (k : Kind) → declared_kind y k ≡ kind_told k
 kind_emitted y Boxed = refl
 kind_emitted y Unboxed = refl
-kind_emitted y Many = refl
+kind_emitted y ArrayKind = refl
 
 kind_meant : (k : Kind) → kind_of (is_many k) ≡ kind_told k
 kind_meant Boxed = refl
 kind_meant Unboxed = refl
-kind_meant Many = refl
+kind_meant ArrayKind = refl
 
 pub globals_emitted : (y : Layout) (ds : List Declared) (i : ℕ) (rest : Instructions) → names_declared y i (kinds_of ds) rest ≡ tells y i (globals_told ds []) rest
 globals_emitted y [] i rest = refl
@@ -90,11 +90,11 @@ routines_emitted y (r ∷ rs) i rest = ap (declared y ArrayOrFunction i) (routin
 
 pub globals_meant : (ds : List Declared) → announced (map global_name ds) ≡ telling (globals_told ds [])
 globals_meant [] = refl
-globals_meant (d ∷ ds) = ap₂ (λ k (r : Doing (Unit {0})). does row.Declare (d.name, (k, tt)) >> r) (kind_meant d.kind) (globals_meant ds)
+globals_meant (d ∷ ds) = ap₂ (λ k (r : Execution (Unit {0})). call row.Declare (d.name, (k, tt)) >> r) (kind_meant d.kind) (globals_meant ds)
 
 pub routines_meant : (rs : List Routine) → announced (map routine_name rs) ≡ telling (routines_told rs)
 routines_meant [] = refl
-routines_meant (r ∷ rs) = ap (λ (m : Doing (Unit {0})). does row.Declare (r.name, (ArrayOrFunction, tt)) >> m) (routines_meant rs)
+routines_meant (r ∷ rs) = ap (λ (m : Execution (Unit {0})). call row.Declare (r.name, (ArrayOrFunction, tt)) >> m) (routines_meant rs)
 
 -- Names that differ.
 
@@ -146,7 +146,7 @@ kind_read memory ArrayOrFunction = refl
 abbrev pub host_with : Shared → Host
 host_with sh = record { shared = sh; arguments = []; fault = None }
 
-module _ (p : Program) (deepest : Watch) (b : Bases) (K : List Label) (L gs : List Cell) where
+module _ (p : Program) (deepest : Observer) (b : Bases) (K : List Label) (L gs : List Cell) where
   -- one name is told
   tell_ok : (i : ℕ) (t : Telling) (sh : Shared) (k : Instructions) → get_or (texts_of p) i [] ≡ t.0 → told_at 0 t.0 sh.inner.names ≡ None →
       Goes (machine p deepest [] []) 1 (at [] [] K L [] (declared (layout_of p b) t.1 i k) (storing gs (host_with sh))) (at [] [] K L [] k (storing gs (host_with (shared_after sh (meaning row.Declare (t.0, (t.1, tt)) sh)))))
@@ -160,8 +160,8 @@ module _ (p : Program) (deepest : Watch) (b : Bases) (K : List Label) (L gs : Li
       let read : row_in memory (arguments_of row.Declare) (place ∷ (size ∷ (kind ∷ []))) ≡ Some (t.0, (t.1, tt)) =
       ap (λ o. with_some (and_rest o (kind ∷ [])) (λ x. with_some (row_in memory (argument.Constant constant.NameKind ∷ []) x.1) (λ rest. Some (x.0, rest)))) (text_placed ts i ∙ ap Some e)
       ∙ ap (λ o. with_some o (λ rest. Some (t.0, rest))) (kind_read memory t.1) in
-      called (Of row.Declare) (place ∷ (size ∷ (kind ∷ []))) [] (storing gs (host_with sh)) None (host_with (shared_after sh (meaning row.Declare (t.0, (t.1, tt)) sh))) refl refl
-      (ap (acted (Of row.Declare) (host_with sh)) read
+      called (OfPrimitive row.Declare) (place ∷ (size ∷ (kind ∷ []))) [] (storing gs (host_with sh)) None (host_with (shared_after sh (meaning row.Declare (t.0, (t.1, tt)) sh))) refl refl
+      (ap (acted (OfPrimitive row.Declare) (host_with sh)) read
       ∙ ap (λ q. with_some (where_so q (Some d)) (λ a. Some (replied (answer_of row.Declare) (host_with sh) a a.does.answer))) (ap (λ o. not (is_some o)) u))
 
   -- so many names were told
@@ -194,19 +194,19 @@ module _ (p : Program) (deepest : Watch) (b : Bases) (K : List Label) (L gs : Li
 
 -- What names have.
 
-abbrev pub making : List Kind → Doing (Unit {0})
+abbrev pub making : List Kind → Execution (Unit {0})
 making [] = nothing
-making (k ∷ ks) = (if is_many k then (does row.NewArray tt >> nothing) else nothing) >> making ks
+making (k ∷ ks) = (if is_many k then (call row.NewArray tt >> nothing) else nothing) >> making ks
 
 pub making_meant : (ds : List Declared) → arrays_made (map global_name ds) ≡ making (kinds_of ds)
 making_meant [] = refl
-making_meant (d ∷ ds) = ap (λ (m : Doing (Unit {0})). (if is_many d.kind then (does row.NewArray tt >> nothing) else nothing) >> m) (making_meant ds)
+making_meant (d ∷ ds) = ap (λ (m : Execution (Unit {0})). (if is_many d.kind then (call row.NewArray tt >> nothing) else nothing) >> m) (making_meant ds)
 
 abbrev pub make_work : List Kind → ℕ
 make_work [] = 0
 make_work (k ∷ ks) = 2 + make_work ks
 
-module _ (p : Program) (deepest : Watch) (b : Bases) (K : List Label) (L : List Cell) where
+module _ (p : Program) (deepest : Observer) (b : Bases) (K : List Label) (L : List Cell) where
   abbrev pub kinds : List Kind
   kinds = kinds_of p.globals
 
@@ -295,7 +295,7 @@ module _ (p : Program) (deepest : Watch) (b : Bases) (K : List Label) (L : List 
         steps = 2 + r.steps;
         few = (let q = r.few in omega (arith, q));
         goes = then_goes
-            (then_goes (goes_to (called (Of row.Uninit) [] [] (store_of g σ.shared) (Some (Held Uninit)) (host_with sh1) refl refl refl) (ap (λ z. at [] (Held Uninit ∷ []) K L [] (instruction (GlobalSet (handle_global p.ranges i)) (names_made (layout_of p b) (suc i) ks k)) (store_of g z)) same))
+            (then_goes (goes_to (called (OfPrimitive row.Uninit) [] [] (store_of g σ.shared) (Some (Held Uninit)) (host_with sh1) refl refl refl) (ap (λ z. at [] (Held Uninit ∷ []) K L [] (instruction (GlobalSet (handle_global p.ranges i)) (names_made (layout_of p b) (suc i) ks k)) (store_of g z)) same))
             (global_set_ok p.ranges nn g (Hand i) (Held Uninit) (within_names Boxed ks i a g σ.shared h) (ap is_owned (h.todo i (omega arith)))
             (boxed_comes p.ranges kinds None i (g.hand i) (Held Uninit) (no_number Boxed ks i a g σ.shared h refl)))) r.goes;
         means = r.means;
@@ -304,23 +304,23 @@ module _ (p : Program) (deepest : Watch) (b : Bases) (K : List Label) (L : List 
         pending = r.pending;
         fields = r.fields;
       }
-  names_ok (Many ∷ ks) i a k g σ h =
+  names_ok (ArrayKind ∷ ks) i a k g σ h =
       let sh1 = shared_after σ.shared (meaning row.NewArray tt σ.shared) in
       let m = length σ.shared.inner.arrays in
       let nn = length kinds in
       let more = length-append σ.shared.inner.arrays ([] ∷ []) in
       let counted = h.arrays in
       let r = names_ok ks (suc i) (suc a) k (record g { hand = upd g.hand i (OwnedArray m) }) (record σ { shared = sh1 })
-      (onward Many ks i a (suc a) g (OwnedArray m) σ.shared sh1 h (λ x. omega arith) (omega (arith, more, counted)) (kind_first Many ks i a g σ.shared h ∙ ap OwnedArray (sym counted))) in
+      (onward ArrayKind ks i a (suc a) g (OwnedArray m) σ.shared sh1 h (λ x. omega arith) (omega (arith, more, counted)) (kind_first ArrayKind ks i a g σ.shared h ∙ ap OwnedArray (sym counted))) in
       record {
         hands = r.hands;
         last = r.last;
         steps = 2 + r.steps;
         few = (let q = r.few in omega (arith, q));
         goes = then_goes
-            (then_goes (called (Of row.NewArray) [] [] (store_of g σ.shared) (Some (OwnedArray m)) (host_with sh1) refl refl refl)
-            (global_set_ok p.ranges nn g (Hand i) (OwnedArray m) (within_names Many ks i a g σ.shared h) (ap is_owned (h.todo i (omega arith)))
-            (boxed_comes p.ranges kinds None i (g.hand i) (OwnedArray m) (no_number Many ks i a g σ.shared h refl)))) r.goes;
+            (then_goes (called (OfPrimitive row.NewArray) [] [] (store_of g σ.shared) (Some (OwnedArray m)) (host_with sh1) refl refl refl)
+            (global_set_ok p.ranges nn g (Hand i) (OwnedArray m) (within_names ArrayKind ks i a g σ.shared h) (ap is_owned (h.todo i (omega arith)))
+            (boxed_comes p.ranges kinds None i (g.hand i) (OwnedArray m) (no_number ArrayKind ks i a g σ.shared h refl)))) r.goes;
         means = r.means;
         each = r.each;
         names = r.names;

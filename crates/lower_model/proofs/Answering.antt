@@ -13,14 +13,14 @@ use Rattle.wasm_types.specs.declared.instr.Simple.TheVariants.{BrIf}
 use Rattle.wasm_store.specs.Integers.{compare_at}
 use Rattle.wasm_store.specs.declared.word.Word.TheVariants.{I64}
 use Rattle.wasm_store.specs.Words.{flag}
-use Rattle.mid_program.specs.Mid.{Kind, Program, Bare}
+use Rattle.mid_program.specs.Mid.{Kind, Program, NumberOrText}
 use Rattle.mid_program.specs.Sorted.{kinds_of}
 use Rattle.sem_scripts.specs.ScriptState.{State}
 use Rattle.lower_model.specs.Cells.{Cell, Bits, Held, is_owned}
 use Rattle.lower_model.specs.Machine.{Conf, Code, Label, Frame, at}
 use Rattle.lower_model.specs.Places.{Bases, number_local}
-use Rattle.lower_model.specs.Small.{does, when, least, text_beside, was_left, number_is, answer_kept, text_or_left, text_taken}
-use Rattle.lower_model.proofs.Watch.{Watch}
+use Rattle.lower_model.specs.Small.{emit, when, least, text_beside, was_left, number_is, answer_kept, text_or_left, text_taken}
+use Rattle.lower_model.proofs.Observer.{Observer}
 use Rattle.lower_model.proofs.Runs.{Goes, goes_to, goes_from, then_goes, by_steps}
 use Rattle.lower_model.proofs.Regions.{upd_same}
 use Rattle.lower_model.proofs.Globals.{Text, with_global_at}
@@ -41,7 +41,7 @@ word_answered x = ap (λ z. int_le z (cast_signed w64 was_left)) (to_z-of_z w64 
     by (pos k) e = refl
     by (negsuc k) e = lt-leb (2 ^ 63 - 3) k (omega (arith, e))
 
-module _ (p : Program) (deepest : Watch) (ks : List Kind) (F : List Frame) (b : Bases) where
+module _ (p : Program) (deepest : Observer) (ks : List Kind) (F : List Frame) (b : Bases) where
   abbrev u : Code
   u = machine p deepest ks F
 
@@ -52,7 +52,7 @@ module _ (p : Program) (deepest : Watch) (ks : List Kind) (F : List Frame) (b : 
     pub few : steps ≤ 12
     pub goes : Goes u steps c (at ks [] K (laid b next) F k (beside_state p deepest ks F σ))
     pub fit : Fit p deepest ks F (suc t) i w next σ
-    pub holds : HoldsAt Bare t next v
+    pub holds : HoldsAt NumberOrText t next v
     pub keeps : Keeps t l next
 
   pub taken_ok : (t i w d m : ℕ) (text : Cell) (k : Instructions) (K : List Label) (l : Locals) (σ : State) (v : Value) → t < b.temporaries → Fit p deepest ks F t i w l σ → AnswerIs v m text →
@@ -77,7 +77,7 @@ module _ (p : Program) (deepest : Watch) (ks : List Kind) (F : List Frame) (b : 
       let c = Bits (I64 least) in
       let l1 = with_at l (NumberAt t) c in
       let e = upd_same l.number t c in
-      let left = number_is (number_local b t) was_left (does (BrIf (suc (suc d))) Done) in
+      let left = number_is (number_local b t) was_left (emit (BrIf (suc (suc d))) Done) in
       record {
         next = l1;
         steps = 11;
@@ -96,7 +96,7 @@ module _ (p : Program) (deepest : Watch) (ks : List Kind) (F : List Frame) (b : 
       let e = upd_same l.number t c in
       let nn = length (kinds_of p.globals) in
       let g = with_global_at p.ranges nn (cells_of (kinds_of p.globals) 0 σ) Text (Held v) in
-      let left = number_is (number_local b t) was_left (does (BrIf (suc (suc d))) Done) in
+      let left = number_is (number_local b t) was_left (emit (BrIf (suc (suc d))) Done) in
       let f1 = fit_number p deepest ks F t (suc t) i w l σ c refl (fit_more p deepest ks F t i w l σ ft) in
       record {
         next = with_at l1 (Hand t) (Held v);

@@ -20,7 +20,7 @@ use Rattle.sem_primitives.specs.declared.table.Primitive.{Primitive}
 use Rattle.sem_primitives.specs.declared.table.Primitive.TheVariants as row
 use Rattle.wasm_types.specs.Syntax.{Instructions}
 use Rattle.wasm_store.specs.declared.word.Word.TheVariants.{I32, I64}
-use Rattle.mid_program.specs.Mid.{Kind, Program, Form, Answered}
+use Rattle.mid_program.specs.Mid.{Kind, Program, Form, PrimitiveAnswer}
 use Rattle.mid_program.specs.MidMeaning.{Holds}
 use Rattle.sem_scripts.specs.ScriptState.{State, Stop, Faulted, Outcome, settled, or_fault}
 use Rattle.mid_program.specs.Sorted.{kinds_of}
@@ -32,8 +32,8 @@ use Rattle.lower_model.specs.Machine.{Code, Conf, Label, Frame, Store, at, br, a
 use Rattle.lower_model.specs.Places.{Bases}
 use Rattle.lower_model.specs.Runs.{noting_code}
 use Rattle.lower_model.specs.Small.{ask_row, kept, least}
-use Rattle.host_imports.specs.declared.import.Import.TheVariants.{Of}
-use Rattle.lower_model.proofs.Watch.{Watch}
+use Rattle.host_imports.specs.declared.import.Import.TheVariants.{OfPrimitive}
+use Rattle.lower_model.proofs.Observer.{Observer}
 use Rattle.lower_model.proofs.Runs.{Goes, goes_to, Arrives, there, faulted}
 use Rattle.lower_model.proofs.Locals.{Locals, Hand, Number as NumberAt, with_at, laid}
 use Rattle.lower_model.proofs.Regions.{upd_same}
@@ -51,12 +51,12 @@ takes_row row.IterNext = false
 takes_row row.PendingName = false
 takes_row _ = true
 
-row_taken : (q : Primitive) (memory : List ℕ) (words : List Cell) → takes_row q ≡ true → taken memory (Of q) words ≡ row_in memory (arguments_of q) words
+row_taken : (q : Primitive) (memory : List ℕ) (words : List Cell) → takes_row q ≡ true → taken memory (OfPrimitive q) words ≡ row_in memory (arguments_of q) words
 row_taken row.Dup memory words e = cc
 row_taken row.IterNext memory words e = cc
 row_taken _ memory words e = refl
 
-begins_none : (q : Primitive) (G : Store) → takes_row q ≡ true → assigning_after (Of q) G ≡ G.assigning
+begins_none : (q : Primitive) (G : Store) → takes_row q ≡ true → assigning_after (OfPrimitive q) G ≡ G.assigning
 begins_none row.PendingName G e = cc
 begins_none _ G e = refl
 
@@ -74,7 +74,7 @@ abbrev pub reply : (a : Answer) → Result (InAnswer a) Fault → List Cell → 
 reply a (Ok x) vs = onto (cell_of a x) vs
 reply a (Err f) vs = onto (fault_cell a) vs
 
-module _ (p : Program) (deepest : Watch) (ks : List Kind) (F : List Frame) where
+module _ (p : Program) (deepest : Observer) (ks : List Kind) (F : List Frame) where
   abbrev pub machine : Code
   machine = noting_code deepest.notes p deepest.callers
 
@@ -108,20 +108,20 @@ module _ (p : Program) (deepest : Watch) (ks : List Kind) (F : List Frame) where
 
   -- a row that is asked with its arguments on the stack, while code makes an assignment too
   pub row_asked : {L : List Cell} {K : List Label} {c : Instructions} → (q : Primitive) (r : Row (arguments_of q)) (words vs : List Cell) (name : Option ℕ) (σ : State) →
-      taken machine.memory (Of q) words ≡ Some r → length words ≡ width (Of q) → all_live L F (beside_state σ).globals words ≡ true → in_turn q r σ.shared ≡ true →
+      taken machine.memory (OfPrimitive q) words ≡ Some r → length words ≡ width (OfPrimitive q) → all_live L F (beside_state σ).globals words ≡ true → in_turn q r σ.shared ≡ true →
       Goes machine 1 (at ks (reverse words ++ vs) K L F (ask_row q c) (while_assigning name (beside_state σ)))
-      (at ks (reply (answer_of q) (answered_by q r σ) vs) K L F c (while_assigning (assigning_after (Of q) (while_assigning name (beside_state σ))) (after_reply (answered_by q r σ) (done_by q r σ))))
+      (at ks (reply (answer_of q) (answered_by q r σ) vs) K L F c (while_assigning (assigning_after (OfPrimitive q) (while_assigning name (beside_state σ))) (after_reply (answered_by q r σ) (done_by q r σ))))
   row_asked {L = L} {K = K} {c = c} q r words vs name σ tk wd live turn =
       let G = while_assigning name (beside_state σ) in
       let o = (beside_state σ).host in
       let d = primitive_acts {A = InAnswer (answer_of q)} [] (can_fault q) (meaning q r σ.shared) in
       let x = replied (answer_of q) o d d.does.answer in
       goes_to
-      (called (Of q) words vs G x.0 x.1 wd live
-      (ap (acted (Of q) o) tk
+      (called (OfPrimitive q) words vs G x.0 x.1 wd live
+      (ap (acted (OfPrimitive q) o) tk
       ∙ ap (λ t. with_some (where_so t (Some d)) (λ a. Some (replied (answer_of q) o a a.does.answer))) turn))
-      (ap (λ z. at ks (onto (replied (answer_of q) o d z).0 vs) K L F c (record (beside_state σ) { host = (replied (answer_of q) o d z).1; assigning = assigning_after (Of q) G })) (same_fault (can_fault q) (meaning q r σ.shared).answer)
-      ∙ reply_is L K c (answer_of q) (answered_by q r σ) vs (assigning_after (Of q) G) σ (done_by q r σ) d refl refl refl)
+      (ap (λ z. at ks (onto (replied (answer_of q) o d z).0 vs) K L F c (record (beside_state σ) { host = (replied (answer_of q) o d z).1; assigning = assigning_after (OfPrimitive q) G })) (same_fault (can_fault q) (meaning q r σ.shared).answer)
+      ∙ reply_is L K c (answer_of q) (answered_by q r σ) vs (assigning_after (OfPrimitive q) G) σ (done_by q r σ) d refl refl refl)
 
   reply_plain : {A : Type 0} → (r : Result A Fault) (σ : State) → while_assigning None (after_reply r σ) ≡ after_reply r σ
   reply_plain (Ok x) σ = refl
@@ -129,7 +129,7 @@ module _ (p : Program) (deepest : Watch) (ks : List Kind) (F : List Frame) where
 
   -- the same between two parts of code
   pub row_called : {L : List Cell} {K : List Label} {c : Instructions} → (q : Primitive) (r : Row (arguments_of q)) (words vs : List Cell) (σ : State) →
-      takes_row q ≡ true → length words ≡ width (Of q) → all_live L F (beside_state σ).globals words ≡ true → row_in machine.memory (arguments_of q) words ≡ Some r → in_turn q r σ.shared ≡ true →
+      takes_row q ≡ true → length words ≡ width (OfPrimitive q) → all_live L F (beside_state σ).globals words ≡ true → row_in machine.memory (arguments_of q) words ≡ Some r → in_turn q r σ.shared ≡ true →
       Goes machine 1 (at ks (reverse words ++ vs) K L F (ask_row q c) (beside_state σ)) (at ks (reply (answer_of q) (answered_by q r σ) vs) K L F c (after_reply (answered_by q r σ) (done_by q r σ)))
   row_called {L = L} {K = K} {c = c} q r words vs σ tk wd live e turn =
       let z = after_reply (answered_by q r σ) (done_by q r σ) in
@@ -150,7 +150,7 @@ module _ (p : Program) (deepest : Watch) (ks : List Kind) (F : List Frame) where
     Reached w l c P Q r = Arrives machine M w l c P Q r
 
     pub put_value : (t u w : ℕ) (k : Instructions) (K : List Label) (l : Locals) (v : Value) (σ : State) → Fit p deepest ks F t u w l σ →
-        Put b t u w (Answered (answer.Of sort.Value)) k K l v σ (at ks [] K (laid b (with_at l (Hand t) (Held v))) F k (beside_state σ))
+        Put b t u w (PrimitiveAnswer (answer.Of sort.Value)) k K l v σ (at ks [] K (laid b (with_at l (Hand t) (Held v))) F k (beside_state σ))
     put_value t u w k K l v σ f = record {
       next = with_at l (Hand t) (Held v);
       comes = refl;
@@ -189,11 +189,11 @@ module _ (p : Program) (deepest : Watch) (ks : List Kind) (F : List Frame) where
 
     -- an answer comes into a temporary, or is a fault's
     pub kept_ok : (f : Bool) (a : Answer) (r : OrFault f (InAnswer a)) (t u w d : ℕ) (k : Instructions) (K : List Label) (l : Locals) (σ : State) → IsPlain a → t < b.temporaries → Fit p deepest ks F t u w l σ →
-        Reached 4 σ.turns (at ks (reply a (or_fault f r) []) K (laid b l) F (kept b f a t d k) (after_reply (or_fault f r) σ)) (Put b t u w (Answered a) k K l) (Away p deepest ks F b d K) (settled (or_fault f r) σ)
+        Reached 4 σ.turns (at ks (reply a (or_fault f r) []) K (laid b l) F (kept b f a t d k) (after_reply (or_fault f r) σ)) (Put b t u w (PrimitiveAnswer a) k K l) (Away p deepest ks F b d K) (settled (or_fault f r) σ)
     kept_ok true (answer.Of sort.Value) (Ok v) t u w d k K l σ pl lt ft =
-        there machine M 4 3 _ _ v σ (Put b t u w (Answered (answer.Of sort.Value)) k K l) (Away p deepest ks F b d K) (value_kept b l t d v lt (hand_free t u w l σ ft)) (omega arith) (put_value t u w k K l v σ ft)
+        there machine M 4 3 _ _ v σ (Put b t u w (PrimitiveAnswer (answer.Of sort.Value)) k K l) (Away p deepest ks F b d K) (value_kept b l t d v lt (hand_free t u w l σ ft)) (omega arith) (put_value t u w k K l v σ ft)
     kept_ok true (answer.Of sort.Value) (Err f) t u w d k K l σ pl lt ft =
-        faulted machine M 4 3 _ _ f σ (Put b t u w (Answered (answer.Of sort.Value)) k K l) (Away p deepest ks F b d K) (value_failed b l t d lt (hand_free t u w l σ ft)) (omega arith)
+        faulted machine M 4 3 _ _ f σ (Put b t u w (PrimitiveAnswer (answer.Of sort.Value)) k K l) (Away p deepest ks F b d K) (value_failed b l t d lt (hand_free t u w l σ ft)) (omega arith)
         (record {
           next = with_at l (Hand t) empty;
           comes = refl;
@@ -202,20 +202,20 @@ module _ (p : Program) (deepest : Watch) (ks : List Kind) (F : List Frame) where
           after = tt;
         })
     kept_ok true (answer.Of sort.Number) (Ok v) t u w d k K l σ pl lt ft =
-        there machine M 4 3 _ _ v σ (Put b t u w (Answered (answer.Of sort.Number)) k K l) (Away p deepest ks F b d K) (number_kept b l t d (number_word v) lt (ft.numbers t) (word_not_least v)) (omega arith)
-        (put_word t u w (number_word v) (Answered (answer.Of sort.Number)) k K l v σ (refl, refl) ft)
+        there machine M 4 3 _ _ v σ (Put b t u w (PrimitiveAnswer (answer.Of sort.Number)) k K l) (Away p deepest ks F b d K) (number_kept b l t d (number_word v) lt (ft.numbers t) (word_not_least v)) (omega arith)
+        (put_word t u w (number_word v) (PrimitiveAnswer (answer.Of sort.Number)) k K l v σ (refl, refl) ft)
     kept_ok true (answer.Of sort.Number) (Err f) t u w d k K l σ pl lt ft =
-        faulted machine M 4 3 _ _ f σ (Put b t u w (Answered (answer.Of sort.Number)) k K l) (Away p deepest ks F b d K) (number_failed b l t d lt (ft.numbers t)) (omega arith) (away_with t u w d least K l σ f ft)
+        faulted machine M 4 3 _ _ f σ (Put b t u w (PrimitiveAnswer (answer.Of sort.Number)) k K l) (Away p deepest ks F b d K) (number_failed b l t d lt (ft.numbers t)) (omega arith) (away_with t u w d least K l σ f ft)
     kept_ok true answer.Truth (Ok v) t u w d k K l σ pl lt ft =
-        there machine M 4 4 _ _ v σ (Put b t u w (Answered answer.Truth) k K l) (Away p deepest ks F b d K) (truth_kept v) (omega arith) (put_word t u w (flag_number v) (Answered answer.Truth) k K l v σ (refl, refl) ft)
+        there machine M 4 4 _ _ v σ (Put b t u w (PrimitiveAnswer answer.Truth) k K l) (Away p deepest ks F b d K) (truth_kept v) (omega arith) (put_word t u w (flag_number v) (PrimitiveAnswer answer.Truth) k K l v σ (refl, refl) ft)
       where
         truth_kept : (v : Bool) → Goes machine 4 (at ks (Bits (I32 (flag_number v)) ∷ []) K (laid b l) F (kept b true answer.Truth t d k) (beside_state σ)) (at ks [] K (laid b (with_at l (NumberAt t) (Bits (I64 (flag_number v))))) F k (beside_state σ))
         truth_kept true = code_kept b l t d 1 lt (ft.numbers t) refl refl
         truth_kept false = code_kept b l t d 0 lt (ft.numbers t) refl refl
     kept_ok true answer.Truth (Err f) t u w d k K l σ pl lt ft =
-        faulted machine M 4 4 _ _ f σ (Put b t u w (Answered answer.Truth) k K l) (Away p deepest ks F b d K) (code_failed b l t d lt (ft.numbers t)) (omega arith) (away_with t u w d (2 ^ 64 - 1) K l σ f ft)
+        faulted machine M 4 4 _ _ f σ (Put b t u w (PrimitiveAnswer answer.Truth) k K l) (Away p deepest ks F b d K) (code_failed b l t d lt (ft.numbers t)) (omega arith) (away_with t u w d (2 ^ 64 - 1) K l σ f ft)
     kept_ok true answer.Input (Ok v) t u w d k K l σ pl lt ft =
-        there machine M 4 4 _ _ v σ (Put b t u w (Answered answer.Input) k K l) (Away p deepest ks F b d K) (input_kept v) (omega arith) (put_word t u w (input_code v) (Answered answer.Input) k K l v σ (refl, refl) ft)
+        there machine M 4 4 _ _ v σ (Put b t u w (PrimitiveAnswer answer.Input) k K l) (Away p deepest ks F b d K) (input_kept v) (omega arith) (put_word t u w (input_code v) (PrimitiveAnswer answer.Input) k K l v σ (refl, refl) ft)
       where
         input_kept : (v : InputAnswer) → Goes machine 4 (at ks (Bits (I32 (input_code v)) ∷ []) K (laid b l) F (kept b true answer.Input t d k) (beside_state σ)) (at ks [] K (laid b (with_at l (NumberAt t) (Bits (I64 (input_code v))))) F k (beside_state σ))
         input_kept input.End = code_kept b l t d 0 lt (ft.numbers t) refl refl
@@ -223,32 +223,32 @@ module _ (p : Program) (deepest : Watch) (ks : List Kind) (F : List Frame) where
         input_kept input.Pending = code_kept b l t d 2 lt (ft.numbers t) refl refl
         input_kept input.Failed = code_kept b l t d 3 lt (ft.numbers t) refl refl
     kept_ok true answer.Input (Err f) t u w d k K l σ pl lt ft =
-        faulted machine M 4 4 _ _ f σ (Put b t u w (Answered answer.Input) k K l) (Away p deepest ks F b d K) (code_failed b l t d lt (ft.numbers t)) (omega arith) (away_with t u w d (2 ^ 64 - 1) K l σ f ft)
+        faulted machine M 4 4 _ _ f σ (Put b t u w (PrimitiveAnswer answer.Input) k K l) (Away p deepest ks F b d K) (code_failed b l t d lt (ft.numbers t)) (omega arith) (away_with t u w d (2 ^ 64 - 1) K l σ f ft)
     kept_ok true answer.Stream (Ok v) t u w d k K l σ pl lt ft =
-        there machine M 4 4 _ _ v σ (Put b t u w (Answered answer.Stream) k K l) (Away p deepest ks F b d K) (stream_kept v) (omega arith) (put_word t u w (stream_code v) (Answered answer.Stream) k K l v σ (refl, refl) ft)
+        there machine M 4 4 _ _ v σ (Put b t u w (PrimitiveAnswer answer.Stream) k K l) (Away p deepest ks F b d K) (stream_kept v) (omega arith) (put_word t u w (stream_code v) (PrimitiveAnswer answer.Stream) k K l v σ (refl, refl) ft)
       where
         stream_kept : (v : StreamAnswer) → Goes machine 4 (at ks (Bits (I32 (stream_code v)) ∷ []) K (laid b l) F (kept b true answer.Stream t d k) (beside_state σ)) (at ks [] K (laid b (with_at l (NumberAt t) (Bits (I64 (stream_code v))))) F k (beside_state σ))
         stream_kept stream.Done = code_kept b l t d 0 lt (ft.numbers t) refl refl
         stream_kept stream.NotOpen = code_kept b l t d 3 lt (ft.numbers t) refl refl
     kept_ok true answer.Stream (Err f) t u w d k K l σ pl lt ft =
-        faulted machine M 4 4 _ _ f σ (Put b t u w (Answered answer.Stream) k K l) (Away p deepest ks F b d K) (code_failed b l t d lt (ft.numbers t)) (omega arith) (away_with t u w d (2 ^ 64 - 1) K l σ f ft)
+        faulted machine M 4 4 _ _ f σ (Put b t u w (PrimitiveAnswer answer.Stream) k K l) (Away p deepest ks F b d K) (code_failed b l t d lt (ft.numbers t)) (omega arith) (away_with t u w d (2 ^ 64 - 1) K l σ f ft)
     kept_ok true answer.Done (Ok v) t u w d k K l σ pl lt ft =
-        there machine M 4 2 _ _ v σ (Put b t u w (Answered answer.Done) k K l) (Away p deepest ks F b d K) (done_kept b d) (omega arith)
+        there machine M 4 2 _ _ v σ (Put b t u w (PrimitiveAnswer answer.Done) k K l) (Away p deepest ks F b d K) (done_kept b d) (omega arith)
         (record { next = l; comes = refl; fit = fit_more p deepest ks F t u w l σ ft; same = same_self [] t w l; holds = (ft.free t (omega arith), tt) })
     kept_ok true answer.Done (Err f) t u w d k K l σ pl lt ft =
-        faulted machine M 4 2 _ _ f σ (Put b t u w (Answered answer.Done) k K l) (Away p deepest ks F b d K) (done_failed b d) (omega arith) (away_plain t u w d K l σ f ft)
+        faulted machine M 4 2 _ _ f σ (Put b t u w (PrimitiveAnswer answer.Done) k K l) (Away p deepest ks F b d K) (done_failed b d) (omega arith) (away_plain t u w d K l σ f ft)
     kept_ok false (answer.Of sort.Value) v t u w d k K l σ pl lt ft =
-        there machine M 4 1 _ _ v σ (Put b t u w (Answered (answer.Of sort.Value)) k K l) (Away p deepest ks F b d K) (set_ok b l (Hand t) (Held v) lt (hand_free t u w l σ ft)) (omega arith) (put_value t u w k K l v σ ft)
+        there machine M 4 1 _ _ v σ (Put b t u w (PrimitiveAnswer (answer.Of sort.Value)) k K l) (Away p deepest ks F b d K) (set_ok b l (Hand t) (Held v) lt (hand_free t u w l σ ft)) (omega arith) (put_value t u w k K l v σ ft)
     kept_ok false (answer.Of sort.Number) v t u w d k K l σ pl lt ft =
-        there machine M 4 1 _ _ v σ (Put b t u w (Answered (answer.Of sort.Number)) k K l) (Away p deepest ks F b d K) (set_ok b l (NumberAt t) (Bits (I64 (number_word v))) lt (ft.numbers t)) (omega arith)
-        (put_word t u w (number_word v) (Answered (answer.Of sort.Number)) k K l v σ (refl, refl) ft)
+        there machine M 4 1 _ _ v σ (Put b t u w (PrimitiveAnswer (answer.Of sort.Number)) k K l) (Away p deepest ks F b d K) (set_ok b l (NumberAt t) (Bits (I64 (number_word v))) lt (ft.numbers t)) (omega arith)
+        (put_word t u w (number_word v) (PrimitiveAnswer (answer.Of sort.Number)) k K l v σ (refl, refl) ft)
     kept_ok false answer.Truth v t u w d k K l σ pl lt ft =
-        there machine M 4 2 _ _ v σ (Put b t u w (Answered answer.Truth) k K l) (Away p deepest ks F b d K) (code_stored b l t d (flag_number v) lt (ft.numbers t)) (omega arith) (put_word t u w (flag_number v) (Answered answer.Truth) k K l v σ (refl, refl) ft)
+        there machine M 4 2 _ _ v σ (Put b t u w (PrimitiveAnswer answer.Truth) k K l) (Away p deepest ks F b d K) (code_stored b l t d (flag_number v) lt (ft.numbers t)) (omega arith) (put_word t u w (flag_number v) (PrimitiveAnswer answer.Truth) k K l v σ (refl, refl) ft)
     kept_ok false answer.Input v t u w d k K l σ pl lt ft =
-        there machine M 4 2 _ _ v σ (Put b t u w (Answered answer.Input) k K l) (Away p deepest ks F b d K) (code_stored b l t d (input_code v) lt (ft.numbers t)) (omega arith) (put_word t u w (input_code v) (Answered answer.Input) k K l v σ (refl, refl) ft)
+        there machine M 4 2 _ _ v σ (Put b t u w (PrimitiveAnswer answer.Input) k K l) (Away p deepest ks F b d K) (code_stored b l t d (input_code v) lt (ft.numbers t)) (omega arith) (put_word t u w (input_code v) (PrimitiveAnswer answer.Input) k K l v σ (refl, refl) ft)
     kept_ok false answer.Stream v t u w d k K l σ pl lt ft =
-        there machine M 4 2 _ _ v σ (Put b t u w (Answered answer.Stream) k K l) (Away p deepest ks F b d K) (code_stored b l t d (stream_code v) lt (ft.numbers t)) (omega arith) (put_word t u w (stream_code v) (Answered answer.Stream) k K l v σ (refl, refl) ft)
+        there machine M 4 2 _ _ v σ (Put b t u w (PrimitiveAnswer answer.Stream) k K l) (Away p deepest ks F b d K) (code_stored b l t d (stream_code v) lt (ft.numbers t)) (omega arith) (put_word t u w (stream_code v) (PrimitiveAnswer answer.Stream) k K l v σ (refl, refl) ft)
     kept_ok false answer.Done v t u w d k K l σ pl lt ft =
-        there machine M 4 1 _ _ v σ (Put b t u w (Answered answer.Done) k K l) (Away p deepest ks F b d K) (done_dropped b d) (omega arith)
+        there machine M 4 1 _ _ v σ (Put b t u w (PrimitiveAnswer answer.Done) k K l) (Away p deepest ks F b d K) (done_dropped b d) (omega arith)
         (record { next = l; comes = refl; fit = fit_more p deepest ks F t u w l σ ft; same = same_self [] t w l; holds = (ft.free t (omega arith), tt) })
     kept_ok f _ r t u w d k K l σ pl lt ft = absurd pl

@@ -16,7 +16,7 @@ use Rattle.sem_primitives.specs.declared.sorts.Sort.TheVariants as sort
 use Rattle.sem_primitives.proofs.Words.{word_again}
 use Rattle.wasm_types.specs.Syntax.{Instructions}
 use Rattle.wasm_store.specs.declared.word.Word.TheVariants.{I32, I64}
-use Rattle.mid_program.specs.Mid.{Kind, Program, Form, Answered, Bare, Code, Codes, End, At, Fixed, Fresh, form_of}
+use Rattle.mid_program.specs.Mid.{Kind, Program, Form, PrimitiveAnswer, NumberOrText, Code, Codes, End, At, Fixed, Fresh, form_of}
 use Rattle.mid_program.specs.MidMeaning.{Holds, Values, converted, then_row, or_constant, row_of}
 use Rattle.sem_scripts.specs.Names.{ArrayName}
 use Rattle.sem_scripts.specs.ScriptState.{State, settled}
@@ -27,7 +27,7 @@ use Rattle.lower_model.specs.ImportCalls.{with_some, and_rest, in_sort, row_in}
 use Rattle.host_imports.specs.Imports.{params_of}
 use Rattle.lower_model.specs.Machine.{Conf, Label, Frame, at, all_live, live_if_lent}
 use Rattle.lower_model.specs.Places.{Bases}
-use Rattle.lower_model.proofs.Watch.{Watch}
+use Rattle.lower_model.proofs.Observer.{Observer}
 use Rattle.lower_model.proofs.Runs.{Goes, then_goes, stays, goes_to, there, first, then_both}
 use Rattle.lower_model.proofs.Regions.{upd_same}
 use Rattle.lower_model.proofs.Locals.{Locals, Hand, Number as NumberAt, with_at, laid}
@@ -74,11 +74,11 @@ pub onto_reverse : (c : Cell) (ws vs : List Cell) → reverse ws ++ (c ∷ vs) �
 onto_reverse c ws vs = sym (append_assoc (reverse ws) (c ∷ []) vs) ∙ ap (λ r. r ++ vs) (sym (reverse-append (c ∷ []) ws))
 
 no_iterator : (f : Form) → fits f sort.Iterator ≡ true → ⊥
-no_iterator (Answered (answer.Of sort.Value)) e = cc
-no_iterator Bare e = cc
+no_iterator (PrimitiveAnswer (answer.Of sort.Value)) e = cc
+no_iterator NumberOrText e = cc
 no_iterator f e = cc
 
-module _ (p : Program) (deepest : Watch) (ks : List Kind) (F : List Frame) (b : Bases) (M n : ℕ) where
+module _ (p : Program) (deepest : Observer) (ks : List Kind) (F : List Frame) (b : Bases) (M n : ℕ) where
   pub record RowDone (wanted : List Argument) (es : Codes) (t q i w : ℕ) (k : Instructions) (K : List Label) (l : Locals) (r : Row wanted) (σ : State) (c : Conf) : Type 0 where
     pub next : Locals
     pub comes : c ≡ at ks [] K (laid b next) F k (beside_state p deepest ks F σ)
@@ -97,8 +97,8 @@ module _ (p : Program) (deepest : Watch) (ks : List Kind) (F : List Frame) (b : 
   ok_value d (Ok z) = z
   ok_value d (Err f) = d
 
-  row_meant : (s : Sort) (g : Form) (y : Holds g) (x : In s) (a : ArrayName) (σ : State) → fits g s ≡ true → converted g s y ≡ Ok x → Meant p deepest ks F g y a σ → Meant p deepest ks F (Answered (answer.Of s)) x a σ
-  row_meant sort.Array (Answered (answer.Of sort.Array)) y x a σ f e m = (m.0 ∙ ap (ok_value y) e, m.1)
+  row_meant : (s : Sort) (g : Form) (y : Holds g) (x : In s) (a : ArrayName) (σ : State) → fits g s ≡ true → converted g s y ≡ Ok x → Meant p deepest ks F g y a σ → Meant p deepest ks F (PrimitiveAnswer (answer.Of s)) x a σ
+  row_meant sort.Array (PrimitiveAnswer (answer.Of sort.Array)) y x a σ f e m = (m.0 ∙ ap (ok_value y) e, m.1)
   row_meant sort.Array g y x a σ f e m = cc
   row_meant sort.Value g y x a σ f e m = tt
   row_meant sort.Number g y x a σ f e m = tt
@@ -114,7 +114,7 @@ module _ (p : Program) (deepest : Watch) (ks : List Kind) (F : List Frame) (b : 
       let k1 = all_converted (layout p deepest ks F b M n) fs rest es (suc t) d k in
       let Q = Away p deepest ks F b d K in
       let P = RowDone (argument.Of s ∷ rest) (At e es) t q i w k K l in
-      then_both mach M 16 (conv_work es) (conv_work (At e es)) _ σ (Converted p deepest ks F b M q i w t (Answered (answer.Of s)) k1 K l) P Q (converted (form_of fs e) s vs.0) (λ x. then_row (row_of fs rest es vs.1) (λ xs. Ok (x, xs))) (omega arith)
+      then_both mach M 16 (conv_work es) (conv_work (At e es)) _ σ (Converted p deepest ks F b M q i w t (PrimitiveAnswer (answer.Of s)) k1 K l) P Q (converted (form_of fs e) s vs.0) (λ x. then_row (row_of fs rest es vs.1) (λ xs. Ok (x, xs))) (omega arith)
       (converted_ok p deepest ks F b M (form_of fs e) s vs.0 q i w t d k1 K l σ ff.0 (omega (arith, pf, lq)) (omega (arith, pf, lt)) ft hd.0)
       (λ x c1 er a.
       let hd1 = all_held_same p deepest ks F b M n fs es (suc t) w l a.next σ σ vs.1 (λ j h. refl) (λ y le ly. a.keeps.hands y (λ z. omega (arith, z, le))) (λ y le ly. a.keeps.numbers y (λ z. omega (arith, z, le))) (λ y le ly. a.keeps.arrays y) hd.2 in
@@ -127,7 +127,7 @@ module _ (p : Program) (deepest : Watch) (ks : List Kind) (F : List Frame) (b : 
         comes = a2.comes;
         fit = a2.fit;
         under = under_then t (suc t) l a.next a2.next (omega arith) (under_keeps t t l a.next (omega arith) a.keeps) a2.under;
-        row = (holds_same (Answered (answer.Of s)) t a.next a2.next x (a2.under.hands t (omega arith)) (a2.under.numbers t (omega arith)) a.holds, row_meant s (form_of fs e) vs.0 x (array_meant e) σ ff.0 er hd.1, a2.row);
+        row = (holds_same (PrimitiveAnswer (answer.Of s)) t a.next a2.next x (a2.under.hands t (omega arith)) (a2.under.numbers t (omega arith)) a.holds, row_meant s (form_of fs e) vs.0 x (array_meant e) σ ff.0 er hd.1, a2.row);
       }))))
   row_ok (argument.Constant c ∷ rest) (Fixed m es) fs vs t q i w d k K l σ f lq lt ft hd =
       let mach = machine p deepest ks F in
@@ -166,7 +166,7 @@ module _ (p : Program) (deepest : Watch) (ks : List Kind) (F : List Frame) (b : 
     hand : next.hand t ≡ empty
     keeps : Keeps t l next
 
-  one_ok : (s : Sort) (e : Code) (g : Form) (t q i w : ℕ) (vs : List Cell) (k : Instructions) (K : List Label) (l : Locals) (σ : State) (x : In s) → fits g s ≡ true → length ks ≡ b.parameters → t < q → t < b.temporaries → Fit p deepest ks F q i w l σ → HoldsAt (Answered (answer.Of s)) t l x → Meant p deepest ks F (Answered (answer.Of s)) x (array_meant e) σ → PushedOne s e t q i w vs k K l σ x
+  one_ok : (s : Sort) (e : Code) (g : Form) (t q i w : ℕ) (vs : List Cell) (k : Instructions) (K : List Label) (l : Locals) (σ : State) (x : In s) → fits g s ≡ true → length ks ≡ b.parameters → t < q → t < b.temporaries → Fit p deepest ks F q i w l σ → HoldsAt (PrimitiveAnswer (answer.Of s)) t l x → Meant p deepest ks F (PrimitiveAnswer (answer.Of s)) x (array_meant e) σ → PushedOne s e t q i w vs k K l σ x
   one_ok sort.Value e g t q i w vs k K l σ x f pk lq lt ft hd m = record {
     word = Held x;
     next = with_at l (Hand t) empty;
@@ -215,7 +215,7 @@ module _ (p : Program) (deepest : Watch) (ks : List Kind) (F : List Frame) (b : 
 
   row_same : (wanted : List Argument) (es : Codes) (t : ℕ) (l l1 : Locals) (σ : State) (r : Row wanted) → ((x : ℕ) → t ≤ x → l1.hand x ≡ l.hand x) → ((x : ℕ) → t ≤ x → l1.number x ≡ l.number x) → RowAt p deepest ks F b M n wanted es t l σ r → RowAt p deepest ks F b M n wanted es t l1 σ r
   row_same [] End t l l1 σ r h m q = tt
-  row_same (argument.Of s ∷ rest) (At e es) t l l1 σ r h m q = (holds_same (Answered (answer.Of s)) t l l1 r.0 (h t (omega arith)) (m t (omega arith)) q.0, q.1, row_same rest es (suc t) l l1 σ r.1 (λ x le. h x (omega (arith, le))) (λ x le. m x (omega (arith, le))) q.2)
+  row_same (argument.Of s ∷ rest) (At e es) t l l1 σ r h m q = (holds_same (PrimitiveAnswer (answer.Of s)) t l l1 r.0 (h t (omega arith)) (m t (omega arith)) q.0, q.1, row_same rest es (suc t) l l1 σ r.1 (λ x le. h x (omega (arith, le))) (λ x le. m x (omega (arith, le))) q.2)
   row_same (argument.Constant c ∷ rest) (Fixed j es) t l l1 σ r h m q = (q.0, row_same rest es t l l1 σ r.1 h m q.1)
   row_same wanted es t l l1 σ r h m q = absurd q
 

@@ -5,7 +5,7 @@ use Rattle.std.proofs.lemmas.Bool.{lt-ltb, ltb-true, eq-eqb, or_left, or_right, 
 use Rattle.sem_primitives.specs.declared.sorts.Sort.TheVariants as sort
 use Rattle.wasm_types.specs.Syntax.{Instructions}
 use Rattle.wasm_store.specs.declared.word.Word.TheVariants.{I32}
-use Rattle.mid_program.specs.Mid.{Kind, Boxed, Unboxed, Many, Program, Declared}
+use Rattle.mid_program.specs.Mid.{Kind, Boxed, Unboxed, ArrayKind, Program, Declared}
 use Rattle.sem_scripts.specs.Names.{ArrayName, Numbered, Given}
 use Rattle.sem_scripts.specs.ScriptState.{State, local_array, global_value}
 use Rattle.mid_program.specs.Sorted.{context_of, is_array_place, has_kind, kinds_of, arrays_among, is_many}
@@ -15,7 +15,7 @@ use Rattle.lower_model.specs.Functions.{layout_of}
 use Rattle.lower_model.specs.ImportCalls.{in_sort}
 use Rattle.lower_model.specs.Machine.{Label, Frame, at, is_live, live_if_lent, owner_waits}
 use Rattle.lower_model.specs.Places.{Bases, array_name}
-use Rattle.lower_model.proofs.Watch.{Watch}
+use Rattle.lower_model.proofs.Observer.{Observer}
 use Rattle.lower_model.proofs.Runs.{Goes, stays}
 use Rattle.lower_model.proofs.Globals.{Hand, placed_at}
 use Rattle.lower_model.proofs.Locals.{Locals, Param, laid}
@@ -28,12 +28,12 @@ use Rattle.lower_model.proofs.Answers.{machine, beside_state}
 -- the name of each array of the script is one of an array, and as many arrays stand before it
 pub record ArrayNamed (kinds : List Kind) (i : ℕ) : Type 0 where
   pub there : array_name kinds i < length kinds
-  pub many : kind_here kinds (array_name kinds i) ≡ Many
+  pub many : kind_here kinds (array_name kinds i) ≡ ArrayKind
   pub before : arrays_before kinds (array_name kinds i) ≡ i
 
 named_at : (k : Kind) (ds : List Declared) → ((i : ℕ) → i < arrays_among ds → ArrayNamed (kinds_of ds) i) → (i : ℕ) → i < (if is_many k then suc (arrays_among ds) else arrays_among ds) → ArrayNamed (k ∷ kinds_of ds) i
-named_at Many ds f zero h = record { there = omega arith; many = refl; before = refl }
-named_at Many ds f (suc i) h = let r = f i (omega (arith, h)) in record { there = omega (arith, r.there); many = r.many; before = ap suc r.before }
+named_at ArrayKind ds f zero h = record { there = omega arith; many = refl; before = refl }
+named_at ArrayKind ds f (suc i) h = let r = f i (omega (arith, h)) in record { there = omega (arith, r.there); many = r.many; before = ap suc r.before }
 named_at Boxed ds f i h = let r = f i h in record { there = omega (arith, r.there); many = r.many; before = r.before }
 named_at Unboxed ds f i h = let r = f i h in record { there = omega (arith, r.there); many = r.many; before = r.before }
 
@@ -46,7 +46,7 @@ owner_at [] x a e = cc
 owner_at (c ∷ cs) zero a e = or_left (owns a c) (has_owner a cs) (ap (owns a) e ∙ eq-eqb a a refl)
 owner_at (c ∷ cs) (suc x) a e = or_right (owns a c) (has_owner a cs) (owner_at cs x a e)
 
-module _ (p : Program) (deepest : Watch) (ks : List Kind) (F : List Frame) where
+module _ (p : Program) (deepest : Observer) (ks : List Kind) (F : List Frame) where
   -- the global of an array's name has the array
   array_owned : (i : ℕ) (σ : State) → i < arrays_among p.globals → (cells_of (kinds_of p.globals) 0 σ).hand (array_name (kinds_of p.globals) i) ≡ OwnedArray (suc (suc i))
   array_owned i σ h =
@@ -114,7 +114,7 @@ module _ (p : Program) (deepest : Watch) (ks : List Kind) (F : List Frame) where
     where
       below : nat_lt (suc (suc i)) (suc (suc (arrays_among p.globals))) ≡ true → i < arrays_among p.globals
       below e = let l = ltb-true (suc (suc i)) (suc (suc (arrays_among p.globals))) e in omega (arith, l)
-  array_pushed_ok b (Given i) t u w vs k K l σ h n f = let lt = kind_below ks i Many h in param_pushed b i t u w vs k K l σ (omega (arith, lt, n)) (f.params i Many h)
+  array_pushed_ok b (Given i) t u w vs k K l σ h n f = let lt = kind_below ks i ArrayKind h in param_pushed b i t u w vs k K l σ (omega (arith, lt, n)) (f.params i ArrayKind h)
     where
       kind_below : (ks : List Kind) (i : ℕ) (k : Kind) → has_kind ks i k ≡ true → i < length ks
       kind_below [] i k e = cc

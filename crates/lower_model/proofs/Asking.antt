@@ -18,8 +18,8 @@ use Rattle.wasm_types.specs.declared.instr.Simple.TheVariants.{Br}
 use Rattle.wasm_store.specs.Words.{flag}
 use Rattle.wasm_store.specs.declared.word.Word.TheVariants.{I32, I64}
 use Rattle.sem_scripts.specs.Meaning.{asked, unless_pending, assign_pending}
-use Rattle.mid_program.specs.Mid.{Kind, Program, Answered}
-use Rattle.sem_scripts.specs.ScriptState.{State, Stop, OutOfTurns, Gives, Doing, ◌>>◌, go_on, give, stop, spend, settled}
+use Rattle.mid_program.specs.Mid.{Kind, Program, PrimitiveAnswer}
+use Rattle.sem_scripts.specs.ScriptState.{State, Stop, OutOfTurns, Gives, Execution, ◌>>◌, go_on, give, stop, spend, settled}
 use Rattle.mid_program.specs.Sorted.{kinds_of}
 use Rattle.lower_model.specs.Cells.{Bits, Held, is_owned}
 use Rattle.lower_model.specs.Emission.{pending_assigned}
@@ -27,9 +27,9 @@ use Rattle.host_imports.specs.Codes.{input_code}
 use Rattle.lower_model.specs.Machine.{Conf, Label, Frame, at, label, carried_if}
 use Rattle.lower_model.specs.Machine
 use Rattle.lower_model.specs.Places.{Bases, number_local}
-use Rattle.lower_model.specs.Small.{does, ask_row, when, number_is, kept_code}
-use Rattle.host_imports.specs.declared.import.Import.TheVariants.{Of}
-use Rattle.lower_model.proofs.Watch.{Watch}
+use Rattle.lower_model.specs.Small.{emit, ask_row, when, number_is, kept_code}
+use Rattle.host_imports.specs.declared.import.Import.TheVariants.{OfPrimitive}
+use Rattle.lower_model.proofs.Observer.{Observer}
 use Rattle.lower_model.proofs.Runs.{Goes, then_goes, goes_to, by_steps, there, faulted, turned, weaker}
 use Rattle.lower_model.proofs.Regions.{upd_same}
 use Rattle.lower_model.proofs.Locals.{Locals, Hand, Number as NumberAt, with_at, laid}
@@ -64,11 +64,11 @@ line_if : (t : Bool) (j : Inner) (x : InputAnswer) → LineIf t (Ok (j, x)) → 
 line_if true j x h = h
 line_if false j x h = h
 
-module _ (p : Program) (deepest : Watch) (ks : List Kind) (F : List Frame) (b : Bases) (M n : ℕ) where
+module _ (p : Program) (deepest : Observer) (ks : List Kind) (F : List Frame) (b : Bases) (M n : ℕ) where
   -- The loop: a call is made until no assignment is pending.
 
   abbrev pub behind_call : (t d : ℕ) → Instructions
-  behind_call t d = kept_code b true t (suc d) (number_is (number_local b t) 2 (when (pending_assigned (layout p deepest ks F b M n) t (does (Br 1) NoMore)) NoMore))
+  behind_call t d = kept_code b true t (suc d) (number_is (number_local b t) 2 (when (pending_assigned (layout p deepest ks F b M n) t (emit (Br 1) NoMore)) NoMore))
 
   abbrev pub loop_at : (code : Instructions → Instructions) → (t d : ℕ) → Instructions → Label
   loop_at code t d k = label [] (Some (code (behind_call t d))) k
@@ -78,7 +78,7 @@ module _ (p : Program) (deepest : Watch) (ks : List Kind) (F : List Frame) (b : 
       Goes (machine p deepest ks F) 9 (at ks (Bits (I32 m) ∷ []) (loop_at code t d k ∷ K) (laid b l) F (behind_call t d) (beside_state p deepest ks F σ)) (at ks [] K (laid b (with_at l (NumberAt t) (Bits (I64 m)))) F k (beside_state p deepest ks F σ))
   came_out code m t d k K l σ e1 e2 e lt o =
       let l1 = with_at l (NumberAt t) (Bits (I64 m)) in
-      let block = pending_assigned (layout p deepest ks F b M n) t (does (Br 1) NoMore) in
+      let block = pending_assigned (layout p deepest ks F b M n) t (emit (Br 1) NoMore) in
       then_goes (code_kept b l t (suc d) m lt o e1 e2)
       (then_goes (goes_to (number_is_ok b l1 t m 2 lt (upd_same l.number t (Bits (I64 m)))) (ap (λ f. at ks (Bits (flag f) ∷ []) (loop_at code t d k ∷ K) (laid b l1) F (when block NoMore) (beside_state p deepest ks F σ)) e))
       (then_goes (chooses block NoMore 0) (then_goes closes (by_steps 1 refl))))
@@ -103,7 +103,7 @@ module _ (p : Program) (deepest : Watch) (ks : List Kind) (F : List Frame) (b : 
   same_steps : {i j : ℕ} {c c1 : Conf} → i ≡ j → Goes (machine p deepest ks F) i c c1 → Goes (machine p deepest ks F) j c c1
   same_steps {c = c} {c1 = c1} q g = subst (λ z. Goes (machine p deepest ks F) z c c1) q g
 
-  pub pends_ok : {B : Type 0} → (code : Instructions → Instructions) (rest : Doing B) (m : ℕ) → assign_work ≤ M → (t u w d : ℕ) (k : Instructions) (K : List Label) (l : Locals) (σ : State) (P : B → State → Conf → Type 0) (Q : Stop → State → Conf → Type 0) → suc t < b.temporaries → Fit p deepest ks F t u w l σ → (τ : State) → IsPending τ.shared.inner → τ.shared.inner.names ≡ σ.shared.inner.names → (Few σ.shared.inner → Few τ.shared.inner) → τ ≡ record σ { turns = τ.turns; shared = τ.shared } → τ.turns ≤ suc m →
+  pub pends_ok : {B : Type 0} → (code : Instructions → Instructions) (rest : Execution B) (m : ℕ) → assign_work ≤ M → (t u w d : ℕ) (k : Instructions) (K : List Label) (l : Locals) (σ : State) (P : B → State → Conf → Type 0) (Q : Stop → State → Conf → Type 0) → suc t < b.temporaries → Fit p deepest ks F t u w l σ → (τ : State) → IsPending τ.shared.inner → τ.shared.inner.names ≡ σ.shared.inner.names → (Few σ.shared.inner → Few τ.shared.inner) → τ ≡ record σ { turns = τ.turns; shared = τ.shared } → τ.turns ≤ suc m →
       ((l2 : Locals) (σ2 : State) → Fit p deepest ks F t u w l2 σ2 → σ2.turns ≤ m → Same [] t w l l2 → SameOwn p deepest ks F σ σ2 → Reached p deepest ks F b M 10 σ2.turns (at ks [] (loop_at code t d k ∷ K) (laid b l2) F (code (behind_call t d)) (beside_state p deepest ks F σ2)) P Q (rest σ2)) →
       Reached p deepest ks F b M 9 τ.turns (at ks (Bits (I32 2) ∷ []) (loop_at code t d k ∷ K) (laid b l) F (behind_call t d) (beside_state p deepest ks F (record σ { turns = τ.turns; shared = τ.shared }))) P Q ((spend >> (assign_pending >> rest)) (record σ { turns = τ.turns; shared = τ.shared }))
   pends_ok code rest m enough t u w d k K l σ P Q lt ft τ1 ip nm fw eτ tm next =
@@ -112,10 +112,10 @@ module _ (p : Program) (deepest : Watch) (ks : List Kind) (F : List Frame) (b : 
       let c2 = Bits (I64 2) in
       let l1 = with_at l (NumberAt t) c2 in
       let lp = loop_at code t d k in
-      let block = pending_assigned (layout p deepest ks F b M n) t (does (Br 1) NoMore) in
+      let block = pending_assigned (layout p deepest ks F b M n) t (emit (Br 1) NoMore) in
       let e0 = ft.free t (omega arith) in
       let e1 = ft.free (suc t) (omega arith) in
-      let pm = pending_made p deepest ks F b M n t (label [] None NoMore ∷ (lp ∷ K)) (does (Br 1) NoMore) l1 τ ip (nm ∙ ft.sound.calm.names) ft.sound.names lt (ap is_owned (upd_same l.number t c2)) e0 e1 in
+      let pm = pending_made p deepest ks F b M n t (label [] None NoMore ∷ (lp ∷ K)) (emit (Br 1) NoMore) l1 τ ip (nm ∙ ft.sound.calm.names) ft.sound.names lt (ap is_owned (upd_same l.number t c2)) e0 e1 in
       let q = pm.few in
       let l2 = made_locals p deepest ks F b M n t ip.number ip.text l1 in
       let number = Bits (I64 ip.number) in
@@ -161,7 +161,7 @@ module _ (p : Program) (deepest : Watch) (ks : List Kind) (F : List Frame) (b : 
     pub fit : Fit p deepest ks F (suc t) u w next τ
     pub same : Same [] t w l next
     pub own : SameOwn p deepest ks F σ τ
-    pub holds : HoldsAt (Answered answer.Input) t next x
+    pub holds : HoldsAt (PrimitiveAnswer answer.Input) t next x
     pub line : LineAtIf reads τ.shared.inner x
 
   module _ (a : Inputs) (t u w d : ℕ) (k : Instructions) (K : List Label) (l : Locals) (σ : State) (lt : t < b.temporaries) (ft : Fit p deepest ks F t u w l σ) where
@@ -202,16 +202,16 @@ module _ (p : Program) (deepest : Watch) (ks : List Kind) (F : List Frame) (b : 
         })
 
     -- what is done with an assignment that is pending
-    abbrev Pends : (InputAnswer → Doing InputAnswer) → Type 0
+    abbrev Pends : (InputAnswer → Execution InputAnswer) → Type 0
     Pends f = (m : ℕ) (j : Inner) → m ≤ σ.turns → j.names ≡ σ.shared.inner.names → (Few σ.shared.inner → Few j) → IsPending j → Reached p deepest ks F b M 9 m (after_reply_of (Ok (j, input.Pending))) P Q (f input.Pending (after_call m (Ok (j, input.Pending))))
 
-    abbrev Passes : (InputAnswer → Doing InputAnswer) → Type 0
+    abbrev Passes : (InputAnswer → Execution InputAnswer) → Type 0
     Passes f = (x : InputAnswer) → nat_eq (input_code x) 2 ≡ false → f x ≡ give x
 
-    passed_on : (m : ℕ) (j : Inner) (x : InputAnswer) (f : InputAnswer → Doing InputAnswer) → f x ≡ give x → nat_eq (input_code x) 2 ≡ false → Keeps σ.shared.inner j → LineIf a.reads (Ok (j, x)) → Reached p deepest ks F b M 9 m (after_reply_of (Ok (j, x))) P Q (f x (after_call m (Ok (j, x))))
+    passed_on : (m : ℕ) (j : Inner) (x : InputAnswer) (f : InputAnswer → Execution InputAnswer) → f x ≡ give x → nat_eq (input_code x) 2 ≡ false → Keeps σ.shared.inner j → LineIf a.reads (Ok (j, x)) → Reached p deepest ks F b M 9 m (after_reply_of (Ok (j, x))) P Q (f x (after_call m (Ok (j, x))))
     passed_on m j x f q e h li = subst (λ g. Reached p deepest ks F b M 9 m (after_reply_of (Ok (j, x))) P Q (g (after_call m (Ok (j, x))))) (sym q) (gave m j x e h li)
 
-    answered : (m : ℕ) (r : Result_of) (f : InputAnswer → Doing InputAnswer) → m ≤ σ.turns → GoodInput σ.shared.inner r → LineIf a.reads r → Passes f → Pends f → Reached p deepest ks F b M 9 m (after_reply_of r) P Q (go_on (settled (settles σ.shared r).answer (after_call m r)) f)
+    answered : (m : ℕ) (r : Result_of) (f : InputAnswer → Execution InputAnswer) → m ≤ σ.turns → GoodInput σ.shared.inner r → LineIf a.reads r → Passes f → Pends f → Reached p deepest ks F b M 9 m (after_reply_of r) P Q (go_on (settled (settles σ.shared r).answer (after_call m r)) f)
     answered m (Err g) f le h li pa pe =
         let τ = after_call m (Err g) in
         faulted mach M 9 4 _ _ g τ P Q (code_failed b l t (suc d) lt (ft.numbers t)) (omega arith) (away_with p deepest ks F b M t u w d (2 ^ 64 - 1) K l τ g (fit_faulted answer.Input t u w l σ m g ft))
@@ -220,14 +220,14 @@ module _ (p : Program) (deepest : Watch) (ks : List Kind) (F : List Frame) (b : 
     answered m (Ok (j, input.Read)) f le h li pa pe = passed_on m j input.Read f (pa input.Read refl) refl h li
     answered m (Ok (j, input.Failed)) f le h li pa pe = passed_on m j input.Failed f (pa input.Failed refl) refl h li
 
-    once_ok : (f : InputAnswer → Doing InputAnswer) → Passes f → Pends f → Reached p deepest ks F b M 10 σ.turns (at ks [] (loop_at a.asks.code t d k ∷ K) (laid b l) F (a.asks.code (behind_call t d)) (beside_state p deepest ks F σ)) P Q (go_on (asking p deepest ks F M answer.Input a.asks σ) f)
+    once_ok : (f : InputAnswer → Execution InputAnswer) → Passes f → Pends f → Reached p deepest ks F b M 10 σ.turns (at ks [] (loop_at a.asks.code t d k ∷ K) (laid b l) F (a.asks.code (behind_call t d)) (beside_state p deepest ks F σ)) P Q (go_on (asking p deepest ks F M answer.Input a.asks σ) f)
     once_ok f pa pe = spends_ok p deepest ks F M answer.Input a.asks 9 (loop_at a.asks.code t d k ∷ K) (laid b l) (behind_call t d) σ P Q f ft.sound.calm.pending (λ vs G. refl) (λ m le. answered m (a.asks.result σ.shared) f le (a.good σ.shared) (a.line σ.shared) pa pe)
 
   abbrev AskedFrom : (a : Inputs) (m : ℕ) → Type 0
   AskedFrom a m = (t u w d : ℕ) (k : Instructions) (K : List Label) (l : Locals) (σ : State) → suc t < b.temporaries → Fit p deepest ks F t u w l σ → σ.turns ≤ m →
       Reached p deepest ks F b M 10 σ.turns (at ks [] (loop_at a.asks.code t d k ∷ K) (laid b l) F (a.asks.code (behind_call t d)) (beside_state p deepest ks F σ)) (Asked a.reads t u w k K l σ) (Away p deepest ks F b d K) (asked m (asking p deepest ks F M answer.Input a.asks) σ)
 
-  passes : (A : Doing InputAnswer) (x : InputAnswer) → nat_eq (input_code x) 2 ≡ false → unless_pending A give x ≡ give x
+  passes : (A : Execution InputAnswer) (x : InputAnswer) → nat_eq (input_code x) 2 ≡ false → unless_pending A give x ≡ give x
   passes A input.End e = refl
   passes A input.Read e = refl
   passes A input.Failed e = refl
@@ -258,7 +258,7 @@ module _ (p : Program) (deepest : Watch) (ks : List Kind) (F : List Frame) (b : 
       carried = carried_out row.Getline;
       result = λ s. getline_row s.outside s.inner;
       calls = λ K L c σ e. row_called p deepest ks F row.Getline tt [] [] σ refl refl refl refl (ap (λ z. not (is_some z)) e);
-      counts = λ K L c σ. ap (λ o. carried_if o (beside_state p deepest ks F σ)) (import_found (Of row.Getline));
+      counts = λ K L c σ. ap (λ o. carried_if o (beside_state p deepest ks F σ)) (import_found (OfPrimitive row.Getline));
     };
     reads = false;
     good = λ s. getline_row_good s.outside s.inner;
@@ -272,7 +272,7 @@ module _ (p : Program) (deepest : Watch) (ks : List Kind) (F : List Frame) (b : 
       carried = carried_out row.GetlineVar;
       result = λ s. getline_line_row s.outside s.inner;
       calls = λ K L c σ e. row_called p deepest ks F row.GetlineVar tt [] [] σ refl refl refl refl (ap (λ z. not (is_some z)) e);
-      counts = λ K L c σ. ap (λ o. carried_if o (beside_state p deepest ks F σ)) (import_found (Of row.GetlineVar));
+      counts = λ K L c σ. ap (λ o. carried_if o (beside_state p deepest ks F σ)) (import_found (OfPrimitive row.GetlineVar));
     };
     reads = true;
     good = λ s. getline_line_row_good s.outside s.inner;

@@ -6,7 +6,7 @@ use Rattle.sem_primitives.specs.declared.sorts.Sort.TheVariants as sort
 use Rattle.sem_primitives.specs.declared.table.Primitive.TheVariants as row
 use Rattle.wasm_types.specs.Syntax.{Done as NoMore}
 use Rattle.sem_scripts.specs.Meaning.{asked}
-use Rattle.mid_program.specs.Mid.{Kind, Program, Answered, a_value, a_number, Code, Ask, AskLine, form_of}
+use Rattle.mid_program.specs.Mid.{Kind, Program, PrimitiveAnswer, a_value, a_number, Code, Ask, AskLine, form_of}
 use Rattle.mid_program.specs.MidMeaning.{evaluated, all_evaluated, when_read}
 use Rattle.sem_scripts.specs.ScriptState.{give, asks}
 use Rattle.mid_program.specs.Sorted.{sorted, all_sorted, held_after, keeps_well, is_dropped, stores_well}
@@ -15,7 +15,7 @@ use Rattle.lower_model.specs.Emission.{emitted, all_emitted, text_kept, text_let
 use Rattle.lower_model.specs.Machine.{Frame, loops_walked}
 use Rattle.lower_model.specs.Places.{Bases, number_local}
 use Rattle.lower_model.specs.Small.{number_is, when, code_number}
-use Rattle.lower_model.proofs.Watch.{Watch}
+use Rattle.lower_model.proofs.Observer.{Observer}
 use Rattle.lower_model.proofs.Runs.{by_steps, first, then_on, weaker, weaker_settled}
 use Rattle.lower_model.proofs.Relation.{kept_same, same_then, Away}
 use Rattle.lower_model.proofs.Answers.{machine}
@@ -26,7 +26,7 @@ use Rattle.lower_model.proofs.Asking.{assign_work, Asked, asked_ok, asks_record,
 use Rattle.lower_model.proofs.Receiving.{same_any, Received, storing_meant, received_ok}
 use Rattle.lower_model.proofs.Simulation.{work_of, layout, context, Done, ExprOk, walking_same}
 
-module _ (p : Program) (deepest : Watch) (ks : List Kind) (F : List Frame) (b : Bases) (M n : ℕ) where
+module _ (p : Program) (deepest : Observer) (ks : List Kind) (F : List Frame) (b : Bases) (M n : ℕ) where
   pub ask_expr : assign_work p deepest ks F b M n ≤ M → ExprOk p deepest ks F b M n Ask
   unfolding emitted all_emitted evaluated all_evaluated sorted all_sorted
   ask_expr enough v fs env ts st t u w d k K l σ so us rm ar rd =
@@ -53,7 +53,7 @@ module _ (p : Program) (deepest : Watch) (ks : List Kind) (F : List Frame) (b : 
         stands = z.holds;
         meant = tt;
       })
-      (converted_ok p deepest ks F b M (Answered answer.Input) sort.Number x (suc t) u w t d k K g.next τ refl (omega arith) (omega (arith, rm)) g.fit g.holds))))
+      (converted_ok p deepest ks F b M (PrimitiveAnswer answer.Input) sort.Number x (suc t) u w t d k K g.next τ refl (omega arith) (omega (arith, rm)) g.fit g.holds))))
 
   pub ask_line_expr : assign_work p deepest ks F b M n ≤ M → (s : Code) → ExprOk p deepest ks F b M n s → ExprOk p deepest ks F b M n (AskLine s)
   unfolding emitted all_emitted evaluated all_evaluated sorted all_sorted

@@ -6,11 +6,11 @@ use Rattle.sem_primitives.specs.SharedState.{Shared}
 use Rattle.sem_primitives.specs.declared.constants.NameKind.{NameKind}
 use Rattle.wasm_types.specs.Syntax.{Instructions}
 use Rattle.wasm_store.specs.declared.word.Word.TheVariants.{I32, I64}
-use Rattle.mid_program.specs.Mid.{Kind, Boxed, Unboxed, Many, Program, Declared, Routine}
+use Rattle.mid_program.specs.Mid.{Kind, Boxed, Unboxed, ArrayKind, Program, Declared, Routine}
 use Rattle.mid_program.specs.MidMeaning.{global_name, routine_name}
 use Rattle.sem_scripts.specs.Names.{names_length}
 use Rattle.sem_scripts.specs.ScriptRun.{Setting, start, announced, arrays_made}
-use Rattle.sem_scripts.specs.ScriptState.{State, Outcome, Gives, Stops, Doing, ◌>>=◌, ◌>>◌, go_on}
+use Rattle.sem_scripts.specs.ScriptState.{State, Outcome, Gives, Stops, Execution, ◌>>=◌, ◌>>◌, go_on}
 use Rattle.mid_program.specs.Sorted.{kinds_of, all_differ, announced_names}
 use Rattle.lower_model.specs.Cells.{Cell, Bits, Gone}
 use Rattle.lower_model.specs.Functions.{layout_of}
@@ -19,7 +19,7 @@ use Rattle.lower_model.specs.Places.{Bases}
 use Rattle.lower_model.specs.Runs.{first_globals, zero_ranges, empty_names}
 use Rattle.lower_model.specs.Small.{least}
 use Rattle.lower_model.specs.Statements.{declared, names_declared, routines_declared, names_made}
-use Rattle.lower_model.proofs.Watch.{watched}
+use Rattle.lower_model.proofs.Observer.{watched}
 use Rattle.lower_model.proofs.Runs.{Goes, goes_to, goes_from, then_goes}
 use Rattle.lower_model.proofs.Regions.{cells, pairs, pairs_same}
 use Rattle.lower_model.proofs.Globals.{Globals, placed}
@@ -70,7 +70,7 @@ telling_both (t ∷ ts) us σ = telling_both ts us _
 word_unset : (k : Kind) → name_word k Uninit ≡ least
 word_unset Boxed = refl
 word_unset Unboxed = refl
-word_unset Many = refl
+word_unset ArrayKind = refl
 
 unset_there : (m x : ℕ) → get_or (replicate m Uninit) x Uninit ≡ Uninit
 unset_there zero x = refl
@@ -89,7 +89,7 @@ named_length : (ds : List Declared) → names_length (map global_name ds) ≡ le
 named_length [] = refl
 named_length (d ∷ ds) = ap suc (named_length ds)
 
-on_both : {A B C : Type 0} → (r : Outcome A) (m : Doing B) (f : B → Doing C) → go_on r (λ a. m >>= f) ≡ go_on (go_on r (λ a. m)) f
+on_both : {A B C : Type 0} → (r : Outcome A) (m : Execution B) (f : B → Execution C) → go_on r (λ a. m >>= f) ≡ go_on (go_on r (λ a. m)) f
 on_both (Gives a σ) m f = refl
 on_both (Stops why σ) m f = refl
 
@@ -112,7 +112,7 @@ module _ (p : Program) (notes : Notes) (s : Setting) (b : Bases) (turns : ℕ) (
   abbrev pub naming : Instructions → Instructions
   naming k = names_declared (layout_of p b) (length p.texts) (kinds_of p.globals) (routines_declared (layout_of p b) (length p.texts + length p.globals) (length p.routines) (names_made (layout_of p b) zero (kinds_of p.globals) k))
 
-  abbrev pub named_meant : Doing (Unit {0}) → Doing (Unit {0})
+  abbrev pub named_meant : Execution (Unit {0}) → Execution (Unit {0})
   named_meant rest = announced (map global_name p.globals) >>= λ u. announced (map routine_name p.routines) >>= λ v. arrays_made (map global_name p.globals) >>= λ w. rest
 
   naming_told : (k : Instructions) → naming k ≡ tells (layout_of p b) (length p.texts) globals_then (names_made (layout_of p b) zero (kinds_of p.globals) k)
@@ -129,7 +129,7 @@ module _ (p : Program) (notes : Notes) (s : Setting) (b : Bases) (turns : ℕ) (
     pub steps : ℕ
     pub few : steps ≤ tell_work globals_then + make_work (kinds_of p.globals)
     pub goes : Goes (machine p (watched notes s) [] []) steps (at [] [] K L [] (naming k) (storing (placed p.ranges (length (kinds_of p.globals)) first_cells) (host_of begins None))) (at [] [] K L [] k (beside_state p (watched notes s) [] [] (record begins { shared = last })))
-    pub means : (rest : Doing (Unit {0})) → named_meant rest begins ≡ rest (record begins { shared = last })
+    pub means : (rest : Execution (Unit {0})) → named_meant rest begins ≡ rest (record begins { shared = last })
     pub calm : Calm p last
 
   made_store : (hands : ℕ → Cell) (last : Shared) → ((x : ℕ) → x < length (kinds_of p.globals) → hands x ≡ first_hand p (watched notes s) b [] [] x) →
@@ -169,8 +169,8 @@ module _ (p : Program) (notes : Notes) (s : Setting) (b : Bases) (turns : ℕ) (
         means = λ rest.
             on_both (announced (map global_name p.globals) begins) (announced (map routine_name p.routines)) (λ v. arrays_made (map global_name p.globals) >>= λ w. rest)
             ∙ (ap (λ r. go_on r (λ v. arrays_made (map global_name p.globals) >>= λ w. rest))
-            (ap₂ (λ (m n : Doing (Unit {0})). (m >> n) begins) (globals_meant p.globals) (routines_meant p.routines) ∙ (sym (telling_both (globals_told p.globals []) (routines_told p.routines) begins) ∙ told.means))
-            ∙ ap (λ r. go_on r (λ w. rest)) (ap (λ (m : Doing (Unit {0})). m σ1) (making_meant p.globals) ∙ made.means));
+            (ap₂ (λ (m n : Execution (Unit {0})). (m >> n) begins) (globals_meant p.globals) (routines_meant p.routines) ∙ (sym (telling_both (globals_told p.globals []) (routines_told p.routines) begins) ∙ told.means))
+            ∙ ap (λ r. go_on r (λ w. rest)) (ap (λ (m : Execution (Unit {0})). m σ1) (making_meant p.globals) ∙ made.means));
         calm = record { pending = made.pending ∙ told.pending; names = made.names ∙ (told.names ∙ told_both p.globals (routines_told p.routines)); few = made.fields (told.fields (let none : 0 ≤ 2 ^ 20 = omega arith in none)) };
       }
 

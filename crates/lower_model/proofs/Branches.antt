@@ -7,7 +7,7 @@ use Rattle.wasm_types.specs.Syntax.{Instructions, Done as NoMore}
 use Rattle.wasm_store.specs.declared.word.Word.TheVariants.{I32}
 use Rattle.mid_program.specs.Mid.{Kind, Program, Code, Step, form_of}
 use Rattle.mid_program.specs.MidMeaning.{holds, truth_in}
-use Rattle.sem_scripts.specs.ScriptState.{State, Stop, Doing}
+use Rattle.sem_scripts.specs.ScriptState.{State, Stop, Execution}
 use Rattle.mid_program.specs.Sorted.{There, calls_of, sorted, is_tested, test_sorted, step_sorted}
 use Rattle.sem_scripts.specs.Statements.{Flow, Normal, Broke, Continued}
 use Rattle.lower_model.specs.Cells.{Cell, Bits}
@@ -17,7 +17,7 @@ use Rattle.lower_model.specs.Noted.{noted_called}
 use Rattle.lower_model.specs.Places.{Bases, room, arrays_in, step_room, step_iterators, step_arrays}
 use Rattle.lower_model.specs.Small.{truth}
 use Rattle.lower_model.specs.Statements.{step_emitted}
-use Rattle.lower_model.proofs.Watch.{Watch}
+use Rattle.lower_model.proofs.Observer.{Observer}
 use Rattle.lower_model.proofs.Runs.{goes_from, then_on, there, within, Onward, stays}
 use Rattle.lower_model.proofs.Locals.{Locals, laid}
 use Rattle.lower_model.proofs.Relation.{Away}
@@ -29,7 +29,7 @@ use Rattle.lower_model.proofs.Choosing.{truth_ok}
 use Rattle.lower_model.proofs.StatementForms.{step_work, step_meant, Starts, ready, starts_after, starts_among, StepDone, StepOk}
 use Rattle.lower_model.proofs.Sequences.{done_before}
 
-module _ (p : Program) (deepest : Watch) (ks : List Kind) (F : List Frame) (b : Bases) (M n : ℕ) where
+module _ (p : Program) (deepest : Observer) (ks : List Kind) (F : List Frame) (b : Bases) (M n : ℕ) where
   -- a truth is on the stack
   pub record TestDone (k : Instructions) (K : List Label) (u : ℕ) (l : Locals) (x : Bool) (σ : State) (c : Conf) : Type 0 where
     pub next : Locals
@@ -38,7 +38,7 @@ module _ (p : Program) (deepest : Watch) (ks : List Kind) (F : List Frame) (b : 
     pub iterators : (y : ℕ) → next.iterator y ≡ l.iterator y
 
   -- whether a test holds
-  abbrev pub test_meant : Code → Doing Bool
+  abbrev pub test_meant : Code → Execution Bool
   test_meant e = holds p.texts (calls_of p) n (noted_called deepest.notes p n) e
 
   pub test_ok : (e : Code) → ExprOk p deepest ks F b M n e → (u d : ℕ) (k : Instructions) (K : List Label) (l : Locals) (σ : State) → test_sorted (context p deepest ks F b M n) e ≡ true → room e ≤ b.temporaries → arrays_in e ≤ b.arrays → Starts p deepest ks F b M n u K l σ →
@@ -84,7 +84,7 @@ module _ (p : Program) (deepest : Watch) (ks : List Kind) (F : List Frame) (b : 
   }
 
   -- one of two, by a truth
-  pub one_way : (x : Bool) (w l : ℕ) (K : List Label) (L : List Cell) (A B : Instructions) (σ : State) (P : Flow → State → Conf → Type 0) (Q : Stop → State → Conf → Type 0) (m1 m2 : Doing Flow) →
+  pub one_way : (x : Bool) (w l : ℕ) (K : List Label) (L : List Cell) (A B : Instructions) (σ : State) (P : Flow → State → Conf → Type 0) (Q : Stop → State → Conf → Type 0) (m1 m2 : Execution Flow) →
       Reached p deepest ks F b M w l (at ks [] K L F A (beside_state p deepest ks F σ)) P Q (m1 σ) → Reached p deepest ks F b M w l (at ks [] K L F B (beside_state p deepest ks F σ)) P Q (m2 σ) →
       Reached p deepest ks F b M w l (at ks [] K L F (cond (nat_eq (flag_number x) 0) B A) (beside_state p deepest ks F σ)) P Q ((if x then m1 else m2) σ)
   one_way true w l K L A B σ P Q m1 m2 r1 r2 = r1

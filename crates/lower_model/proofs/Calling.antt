@@ -11,18 +11,18 @@ use Rattle.sem_primitives.specs.declared.sorts.Sort.TheVariants as sort
 use Rattle.wasm_types.specs.Syntax.{Instructions}
 use Rattle.wasm_types.specs.declared.instr.Simple.TheVariants.{Call as CallOf}
 use Rattle.wasm_store.specs.declared.word.Word.TheVariants.{I64}
-use Rattle.mid_program.specs.Mid.{Kind, Boxed, Unboxed, Many, Program, Routine, Form, Answered, Bare, Perhaps, a_value, Code, Call, Codes, End, At, Fixed, Fresh, form_of, parameters_at}
+use Rattle.mid_program.specs.Mid.{Kind, Boxed, Unboxed, ArrayKind, Program, Routine, Form, PrimitiveAnswer, NumberOrText, OptionalNumber, a_value, Code, Call, Codes, End, At, Fixed, Fresh, form_of, parameters_at}
 use Rattle.mid_program.specs.MidMeaning.{Holds, Values, evaluated, all_evaluated, boxed, array_in, locals_of}
 use Rattle.sem_scripts.specs.Names.{ArrayName}
-use Rattle.sem_scripts.specs.ScriptState.{State, Stop, Faulted, OutOfTurns, TooDeep, Nexted, Exited, Returned, Outcome, Gives, Stops, Own, Local, Scalar, value_in_local, array_in_local, go_on, spent}
+use Rattle.sem_scripts.specs.ScriptState.{State, Stop, Faulted, OutOfTurns, TooDeep, Nexted, Exited, Returned, Outcome, Gives, Stops, CallFrame, Local, Scalar, value_in_local, array_in_local, go_on, spent}
 use Rattle.mid_program.specs.Sorted.{sorted, all_sorted, held_after_all, fits, is_given, fit_call, is_array_place, context_of, calls_of, kinds_of}
 use Rattle.lower_model.specs.Cells.{Cell, Bits, Held, OwnedArray, LentArray, Gone, is_owned, has_owner}
 use Rattle.lower_model.specs.Emission.{array_meant, emitted, all_emitted, all_given, all_given_pushed, all_freed, function_number}
 use Rattle.lower_model.specs.Machine.{Conf, Deep, Label, Frame, at, br, owner_waits, loops_walked, waits}
 use Rattle.lower_model.specs.Noted.{noted_called}
 use Rattle.lower_model.specs.Places.{Bases, made_in, arrays_among as arrays_in_codes}
-use Rattle.lower_model.specs.Small.{does, answer_kept}
-use Rattle.lower_model.proofs.Watch.{Watch}
+use Rattle.lower_model.specs.Small.{emit, answer_kept}
+use Rattle.lower_model.proofs.Observer.{Observer}
 use Rattle.lower_model.proofs.Runs.{Goes, then_goes, goes_to, goes_from, stays, Arrives, Onward, reaches_on, first, then_on, then_step, within}
 use Rattle.lower_model.proofs.Regions.{upd_same, upd_other}
 use Rattle.lower_model.proofs.Locals.{Locals, Hand, Number as NumberAt, Array as Yard, local_of, with_at, has_with, laid, laid_at, laid_twice, laid_again}
@@ -42,13 +42,13 @@ use Rattle.lower_model.proofs.Waiting.{freed_after, waits_there}
 
 -- what an unboxed parameter is given is a number, or nothing yet
 unboxed_given : (f : Form) (x : Holds f) (t : ℕ) (l : Locals) → is_given f Unboxed ≡ true → HoldsAt f t l x → (l.hand t ≡ empty) × (l.number t ≡ Bits (I64 (bare (boxed f x)))) × (beside (boxed f x) ≡ empty)
-unboxed_given Perhaps None t l e q = (q.0, q.1, refl)
-unboxed_given Perhaps (Some m) t l e q = (q.0, q.1 ∙ ap (λ z. Bits (I64 z)) (sym (bare_number m)), beside_number m)
-unboxed_given (Answered a) x t l e q =
-    let nh = number_held (Answered a) x e t l q in
-    let nb = number_boxed (Answered a) x e in
-    (nh.0, nh.1 ∙ ap (λ z. Bits (I64 z)) (sym (ap bare nb ∙ bare_number (number_of_form (Answered a) x e))), ap beside nb ∙ beside_number (number_of_form (Answered a) x e))
-unboxed_given Bare x t l e q = absurd (true≢false (sym e))
+unboxed_given OptionalNumber None t l e q = (q.0, q.1, refl)
+unboxed_given OptionalNumber (Some m) t l e q = (q.0, q.1 ∙ ap (λ z. Bits (I64 z)) (sym (bare_number m)), beside_number m)
+unboxed_given (PrimitiveAnswer a) x t l e q =
+    let nh = number_held (PrimitiveAnswer a) x e t l q in
+    let nb = number_boxed (PrimitiveAnswer a) x e in
+    (nh.0, nh.1 ∙ ap (λ z. Bits (I64 z)) (sym (ap bare nb ∙ bare_number (number_of_form (PrimitiveAnswer a) x e))), ap beside nb ∙ beside_number (number_of_form (PrimitiveAnswer a) x e))
+unboxed_given NumberOrText x t l e q = absurd (true≢false (sym e))
 
 abbrev give_work : Codes → ℕ
 give_work End = 0
@@ -80,9 +80,9 @@ made_is w (At e es) = made_is w es
 made_is w (Fixed m es) = made_is w es
 made_is w (Fresh es) = let r = made_is (suc w) es in omega (arith, r)
 
-module _ (p : Program) (deepest : Watch) (ks : List Kind) (F : List Frame) (b : Bases) (M n : ℕ) where
+module _ (p : Program) (deepest : Observer) (ks : List Kind) (F : List Frame) (b : Bases) (M n : ℕ) where
   array_there : (f : Form) (x : Holds f) (a : ArrayName) (t : ℕ) (l : Locals) (σ : State) → fits f sort.Array ≡ true → HoldsAt f t l x → Meant p deepest ks F f x a σ → (l.hand t ≡ empty) × (array_at a σ ≡ array_in f x) × (is_array_place (context_of p ks) a ≡ true)
-  array_there (Answered (answer.Of sort.Array)) x a t l σ e hd m = (hd.0, m.0, m.1)
+  array_there (PrimitiveAnswer (answer.Of sort.Array)) x a t l σ e hd m = (hd.0, m.0, m.1)
   array_there f x a t l σ e hd m = absurd (true≢false (sym e))
 
   -- what is given for parameters of these kinds, as it stands in temporaries
@@ -90,8 +90,8 @@ module _ (p : Program) (deepest : Watch) (ks : List Kind) (F : List Frame) (b : 
   GivenAt fs [] End t w l σ vs = Unit {0}
   GivenAt fs (Boxed ∷ pks) (At e es) t w l σ vs = (l.hand t ≡ Held (boxed (form_of fs e) vs.0)) × GivenAt fs pks es (suc t) w l σ vs.1
   GivenAt fs (Unboxed ∷ pks) (At e es) t w l σ vs = ((l.hand t ≡ empty) × (l.number t ≡ Bits (I64 (bare (boxed (form_of fs e) vs.0)))) × (beside (boxed (form_of fs e) vs.0) ≡ empty)) × GivenAt fs pks es (suc t) w l σ vs.1
-  GivenAt fs (Many ∷ pks) (At e es) t w l σ vs = ((l.hand t ≡ empty) × (array_at (array_meant e) σ ≡ array_in (form_of fs e) vs.0) × (is_array_place (context_of p ks) (array_meant e) ≡ true)) × GivenAt fs pks es (suc t) w l σ vs.1
-  GivenAt fs (Many ∷ pks) (Fresh es) t w l σ vs = (l.array w ≡ OwnedArray vs.0) × GivenAt fs pks es t (suc w) l σ vs.1
+  GivenAt fs (ArrayKind ∷ pks) (At e es) t w l σ vs = ((l.hand t ≡ empty) × (array_at (array_meant e) σ ≡ array_in (form_of fs e) vs.0) × (is_array_place (context_of p ks) (array_meant e) ≡ true)) × GivenAt fs pks es (suc t) w l σ vs.1
+  GivenAt fs (ArrayKind ∷ pks) (Fresh es) t w l σ vs = (l.array w ≡ OwnedArray vs.0) × GivenAt fs pks es t (suc w) l σ vs.1
   GivenAt fs pks es t w l σ vs = ⊥
 
   record AllGiven (fs : List Form) (pks : List Kind) (es : Codes) (t q u y w : ℕ) (k : Instructions) (K : List Label) (l : Locals) (σ : State) (vs : Values fs es) : Type 0 where
@@ -136,13 +136,13 @@ module _ (p : Program) (deepest : Watch) (ks : List Kind) (F : List Frame) (b : 
       let z = all_given_ok fs pks es (suc t) q u y w k K l σ vs.1 ee.1 lq lt ft hd.2 in
       let zf = z.few in
       record { next = z.next; steps = z.steps; few = omega (arith, zf); goes = z.goes; fit = z.fit; under = under_less t l z.next z.under; given = ((z.under.hands t (omega arith) ∙ g.0, z.under.numbers t (omega arith) ∙ g.1, g.2), z.given) }
-  all_given_ok fs (Many ∷ pks) (At c es) t q u y w k K l σ vs e lq lt ft hd =
+  all_given_ok fs (ArrayKind ∷ pks) (At c es) t q u y w k K l σ vs e lq lt ft hd =
       let ee = and_parts (fits (form_of fs c) sort.Array) (fit_call fs pks es) e in
       let g = array_there (form_of fs c) vs.0 (array_meant c) t l σ ee.0 hd.0 hd.1 in
       let z = all_given_ok fs pks es (suc t) q u y w k K l σ vs.1 ee.1 lq lt ft hd.2 in
       let zf = z.few in
       record { next = z.next; steps = z.steps; few = omega (arith, zf); goes = z.goes; fit = z.fit; under = under_less t l z.next z.under; given = ((z.under.hands t (omega arith) ∙ g.0, g.1, g.2), z.given) }
-  all_given_ok fs (Many ∷ pks) (Fresh es) t q u y w k K l σ vs e lq lt ft hd =
+  all_given_ok fs (ArrayKind ∷ pks) (Fresh es) t q u y w k K l σ vs e lq lt ft hd =
       let z = all_given_ok fs pks es t q u y (suc w) k K l σ vs.1 e lq lt ft hd.1 in
       record { next = z.next; steps = z.steps; few = z.few; goes = z.goes; fit = z.fit; under = z.under; given = (z.under.arrays w ∙ hd.0, z.given) }
   all_given_ok fs pks es t q u y w k K l σ vs e lq lt ft hd = absurd (true≢false (sym e))
@@ -156,7 +156,7 @@ module _ (p : Program) (deepest : Watch) (ks : List Kind) (F : List Frame) (b : 
   abbrev WordFor : Locals → Kind → Local → Cell → Type 0
   WordFor l Boxed o c = c ≡ Held (value_in_local o)
   WordFor l Unboxed o c = (c ≡ Bits (I64 (bare (value_in_local o)))) × (beside (value_in_local o) ≡ empty)
-  WordFor l Many o c = LentFor l (array_in_local o) c
+  WordFor l ArrayKind o c = LentFor l (array_in_local o) c
 
   abbrev WordsAt : Locals → List Kind → List Local → List Cell → Type 0
   WordsAt l [] [] [] = Unit {0}
@@ -177,8 +177,8 @@ module _ (p : Program) (deepest : Watch) (ks : List Kind) (F : List Frame) (b : 
   given_same fs [] End t w l l1 σ vs h m a g = tt
   given_same fs (Boxed ∷ pks) (At e es) t w l l1 σ vs h m a g = (h t (omega arith) ∙ g.0, given_same fs pks es (suc t) w l l1 σ vs.1 (λ x le. h x (omega (arith, le))) (λ x le. m x (omega (arith, le))) a g.1)
   given_same fs (Unboxed ∷ pks) (At e es) t w l l1 σ vs h m a g = ((h t (omega arith) ∙ g.0.0, m t (omega arith) ∙ g.0.1, g.0.2), given_same fs pks es (suc t) w l l1 σ vs.1 (λ x le. h x (omega (arith, le))) (λ x le. m x (omega (arith, le))) a g.1)
-  given_same fs (Many ∷ pks) (At e es) t w l l1 σ vs h m a g = ((h t (omega arith) ∙ g.0.0, g.0.1, g.0.2), given_same fs pks es (suc t) w l l1 σ vs.1 (λ x le. h x (omega (arith, le))) (λ x le. m x (omega (arith, le))) a g.1)
-  given_same fs (Many ∷ pks) (Fresh es) t w l l1 σ vs h m a g = (a w ∙ g.0, given_same fs pks es t (suc w) l l1 σ vs.1 h m a g.1)
+  given_same fs (ArrayKind ∷ pks) (At e es) t w l l1 σ vs h m a g = ((h t (omega arith) ∙ g.0.0, g.0.1, g.0.2), given_same fs pks es (suc t) w l l1 σ vs.1 (λ x le. h x (omega (arith, le))) (λ x le. m x (omega (arith, le))) a g.1)
+  given_same fs (ArrayKind ∷ pks) (Fresh es) t w l l1 σ vs h m a g = (a w ∙ g.0, given_same fs pks es t (suc w) l l1 σ vs.1 h m a g.1)
   given_same fs pks es t w l l1 σ vs h m a g = absurd g
 
   all_given_pushed_ok : (fs : List Form) (pks : List Kind) (es : Codes) (t u y w : ℕ) (st : List Cell) (k : Instructions) (K : List Label) (l : Locals) (σ : State) (vs : Values fs es) → length ks ≡ b.parameters → past t es ≤ b.temporaries → made_past w es ≤ b.arrays → Fit p deepest ks F (past t es) u y l σ → GivenAt fs pks es t w l σ vs → AllPushed fs pks es t u y w st k K l σ vs
@@ -215,7 +215,7 @@ module _ (p : Program) (deepest : Watch) (ks : List Kind) (F : List Frame) (b : 
         under = under_less t l z.next z.under;
         given = ((refl, g.0.2), z.given);
       }
-  all_given_pushed_ok fs (Many ∷ pks) (At e es) t u y w st k K l σ vs pk lt lw ft g =
+  all_given_pushed_ok fs (ArrayKind ∷ pks) (At e es) t u y w st k K l σ vs pk lt lw ft g =
       let pf = past_from (suc t) es in
       let r = array_pushed_ok p deepest ks F b (array_meant e) (past (suc t) es) u y st (all_given_pushed (layout p deepest ks F b M n) pks es (suc t) w k) K l σ g.0.2 pk ft in
       let z = all_given_pushed_ok fs pks es (suc t) u y w (r.cell ∷ st) k K l σ vs.1 pk lt lw ft g.1 in
@@ -231,7 +231,7 @@ module _ (p : Program) (deepest : Watch) (ks : List Kind) (F : List Frame) (b : 
         under = under_less t l z.next z.under;
         given = (inl (subst (λ a. IsArray p deepest ks F a r.cell) g.0.1 r.array), z.given);
       }
-  all_given_pushed_ok fs (Many ∷ pks) (Fresh es) t u y w st k K l σ vs pk lt lw ft g =
+  all_given_pushed_ok fs (ArrayKind ∷ pks) (Fresh es) t u y w st k K l σ vs pk lt lw ft g =
       let mf = made_from (suc w) es in
       let a = vs.0 in
       let l1 = with_at l (Yard w) Gone in
@@ -349,7 +349,7 @@ module _ (p : Program) (deepest : Watch) (ks : List Kind) (F : List Frame) (b : 
   abbrev pub CallsDo : Type 0
   CallsDo = (f : ℕ) (own : List Local) (words : List Cell) (K : List Label) (L : List Cell) (rest : Instructions) (σ : State) → f < length p.routines → waits ks K L rest ≡ true →
       GivenTo (parameters_at (calls_of p) f) (waiting K L rest ∷ F) (parameters_at (calls_of p) f) own words → Sound p deepest ks F σ → σ.turns ≤ n →
-      Arrives (machine p deepest ks F) M 20 σ.turns (at ks (reverse words ++ []) K L F (does (CallOf (function_number f)) rest) (beside_state p deepest ks F σ)) (CameBack K L rest σ) (LeftCall K L rest) (go_on (spent σ.turns σ) (λ x. noted_called deepest.notes p n f own))
+      Arrives (machine p deepest ks F) M 20 σ.turns (at ks (reverse words ++ []) K L F (emit (CallOf (function_number f)) rest) (beside_state p deepest ks F σ)) (CameBack K L rest σ) (LeftCall K L rest) (go_on (spent σ.turns σ) (λ x. noted_called deepest.notes p n f own))
 
   lent_live : (kinds : List Kind) (K : List Label) (rest : Instructions) (l l1 : Locals) (a : ℕ) (c : Cell) → ((x : ℕ) → l1.array x ≡ l.array x) → LentFor l a c → IsArray p deepest kinds (waiting K (laid b l1) rest ∷ F) a c
   lent_live kinds K rest l l1 a c same (inl (inl q)) = inl q
@@ -361,7 +361,7 @@ module _ (p : Program) (deepest : Watch) (ks : List Kind) (F : List Frame) (b : 
   to_given kinds K rest l l1 [] [] [] same q = tt
   to_given kinds K rest l l1 (Boxed ∷ pks) (o ∷ os) (c ∷ cs) same q = (q.0, to_given kinds K rest l l1 pks os cs same q.1)
   to_given kinds K rest l l1 (Unboxed ∷ pks) (o ∷ os) (c ∷ cs) same q = (q.0, to_given kinds K rest l l1 pks os cs same q.1)
-  to_given kinds K rest l l1 (Many ∷ pks) (o ∷ os) (c ∷ cs) same q = (lent_live kinds K rest l l1 (array_in_local o) c same q.0, to_given kinds K rest l l1 pks os cs same q.1)
+  to_given kinds K rest l l1 (ArrayKind ∷ pks) (o ∷ os) (c ∷ cs) same q = (lent_live kinds K rest l l1 (array_in_local o) c same q.0, to_given kinds K rest l l1 pks os cs same q.1)
   to_given kinds K rest l l1 pks os cs same q = absurd q
 
   -- The caller goes on.
@@ -418,8 +418,8 @@ module _ (p : Program) (deepest : Watch) (ks : List Kind) (F : List Frame) (b : 
   -- the caller's own is as it was
   fit_back : (t u y : ℕ) (l : Locals) (σ σ1 : State) → σ1.own ≡ σ.own → Sound p deepest ks F σ1 → Fit p deepest ks F t u y l σ → Fit p deepest ks F t u y l σ1
   fit_back t u y l σ σ1 e s f = record {
-    params = λ i k h. subst (λ (o : Own). ParamIs p deepest ks F k (get_or o.locals i (Scalar Uninit)) (l.param i)) (sym e) (f.params i k h);
-    size = ap (λ (o : Own). length o.locals) e ∙ f.size;
+    params = λ i k h. subst (λ (o : CallFrame). ParamIs p deepest ks F k (get_or o.locals i (Scalar Uninit)) (l.param i)) (sym e) (f.params i k h);
+    size = ap (λ (o : CallFrame). length o.locals) e ∙ f.size;
     answer = f.answer;
     hands = f.hands;
     numbers = f.numbers;
@@ -445,7 +445,7 @@ module _ (p : Program) (deepest : Watch) (ks : List Kind) (F : List Frame) (b : 
       let ln = length-map p.routines (λ (r : Routine). r.parameters) in
       let k5 = all_freed lay w (made_in es) k in
       let k4 = answer_kept b t d k5 in
-      let k3 = does (CallOf (function_number f)) k4 in
+      let k3 = emit (CallOf (function_number f)) k4 in
       let k2 = all_given_pushed lay pks es t w k3 in
       let k1 = all_given lay fs pks es t k2 in
       let pr = past_room t es in
@@ -487,9 +487,9 @@ module _ (p : Program) (deepest : Watch) (ks : List Kind) (F : List Frame) (b : 
             iterators = λ y. r.iterators y ∙ (tk.keeps.iterators y ∙ (z.under.iterators y ∙ g.under.iterators y));
             arrays = λ y lt. r.arrays y lt ∙ (tk.keeps.arrays y ∙ (z.under.arrays y ∙ g.under.arrays y));
           });
-          own = λ i q. ap (λ (o : Own). array_in_local (get_or o.locals i (Scalar Uninit))) cb.own ∙ a.own i q;
+          own = λ i q. ap (λ (o : CallFrame). array_in_local (get_or o.locals i (Scalar Uninit))) cb.own ∙ a.own i q;
           kept = kept_same fs ts (λ i. held_after_all i es (st i)) a.next r.next env t rd.below hands numbers a.kept;
-          stands = holds_same Bare t tk.next r.next x (r.hands t) (r.numbers t) tk.holds;
+          stands = holds_same NumberOrText t tk.next r.next x (r.hands t) (r.numbers t) tk.holds;
           meant = tt;
         };
       })

@@ -12,35 +12,35 @@ use Rattle.lower_model.specs.ImportCalls.{Host, call}
 use Rattle.lower_model.specs.Machine.{Code, Label, Frame, Store, at, guarded, all_live, with_answer, assigning_after, onto, width, ask as asked, enter}
 use Rattle.lower_model.specs.Small.{ask}
 use Rattle.host_imports.specs.declared.import.Import.{Import}
-use Rattle.host_imports.specs.declared.import.Import.TheVariants.{Of, Over, Arg, Drop, IterFree, FreeArray}
-use Rattle.host_imports.specs.declared.import.Listing.TheVariants.{Sprintf, Print, Printf}
+use Rattle.host_imports.specs.declared.import.Import.TheVariants.{OfPrimitive, Variadic, Arg, Drop, IterFree, FreeArray}
+use Rattle.host_imports.specs.declared.import.VariadicImport.TheVariants.{Sprintf, Print, Printf}
 use Rattle.lower_model.proofs.Runs.{Goes}
 
 -- each import is found by its number
 
-row_found : (p : Primitive) → import_at (import_number (Of p)) ≡ Some (Of p)
+row_found : (p : Primitive) → import_at (import_number (OfPrimitive p)) ≡ Some (OfPrimitive p)
 row_found row.Num = refl
 row_found _ = refl
 
 pub import_found : (i : Import) → import_at (import_number i) ≡ Some i
-import_found (Of p) = row_found p
-import_found (Over Sprintf) = refl
-import_found (Over Print) = refl
-import_found (Over Printf) = refl
+import_found (OfPrimitive p) = row_found p
+import_found (Variadic Sprintf) = refl
+import_found (Variadic Print) = refl
+import_found (Variadic Printf) = refl
 import_found Arg = refl
 import_found Drop = refl
 import_found IterFree = refl
 import_found FreeArray = refl
 
-row_low : (p : Primitive) → nat_lt (import_number (Of p)) import_count ≡ true
+row_low : (p : Primitive) → nat_lt (import_number (OfPrimitive p)) import_count ≡ true
 row_low row.Num = refl
 row_low _ = refl
 
 import_low : (i : Import) → nat_lt (import_number i) import_count ≡ true
-import_low (Of p) = row_low p
-import_low (Over Sprintf) = refl
-import_low (Over Print) = refl
-import_low (Over Printf) = refl
+import_low (OfPrimitive p) = row_low p
+import_low (Variadic Sprintf) = refl
+import_low (Variadic Print) = refl
+import_low (Variadic Printf) = refl
 import_low Arg = refl
 import_low Drop = refl
 import_low IterFree = refl

@@ -19,18 +19,18 @@ use Rattle.wasm_types.specs.declared.instr.Simple.TheVariants.{LocalSet, Convert
 use Rattle.wasm_types.specs.declared.instr.CvtOp.TheVariants.{I64ExtendI32U}
 use Rattle.wasm_store.specs.declared.word.Word.TheVariants.{I32, I64}
 use Rattle.wasm_store.specs.Words.{flag}
-use Rattle.mid_program.specs.Mid.{Kind, Program, Form, Answered, Bare, Code, Choose, form_of}
+use Rattle.mid_program.specs.Mid.{Kind, Program, Form, PrimitiveAnswer, NumberOrText, Code, Choose, form_of}
 use Rattle.mid_program.specs.MidMeaning.{Holds, Env, evaluated, all_evaluated, truth_in, converted}
 use Rattle.sem_scripts.specs.Steps.{zero_number}
-use Rattle.sem_scripts.specs.ScriptState.{State, Stop, Doing, go_on, settled}
+use Rattle.sem_scripts.specs.ScriptState.{State, Stop, Execution, go_on, settled}
 use Rattle.mid_program.specs.Sorted.{Held as Standing, There, Moved, Misused, either_way, sorted, all_sorted, held_after, is_well_used, is_tested, is_chosen, fits}
 use Rattle.lower_model.specs.Cells.{Cell, Bits, Held}
 use Rattle.lower_model.specs.Emission.{emitted, all_emitted}
 use Rattle.lower_model.specs.Machine.{Conf, Label, Frame, at, label, loops_walked}
 use Rattle.lower_model.specs.Places.{Bases, room, arrays_in, handle_local, number_local}
-use Rattle.lower_model.specs.Small.{does, ask_row, either, moved_out, not_zero, zeroed, truth, text_beside}
+use Rattle.lower_model.specs.Small.{emit, ask_row, emit_if, moved_out, not_zero, zeroed, truth, text_beside}
 use Rattle.lower_model.specs.Small
-use Rattle.lower_model.proofs.Watch.{Watch}
+use Rattle.lower_model.proofs.Observer.{Observer}
 use Rattle.lower_model.proofs.Runs.{Goes, then_goes, goes_to, goes_from, by_steps, first, then_on, step_settled, within, weaker}
 use Rattle.lower_model.proofs.Regions.{upd_same}
 use Rattle.lower_model.proofs.Locals.{Locals, Hand, Number as NumberAt, with_at, laid}
@@ -108,13 +108,13 @@ kept_right_way [] (s ∷ ts) st st1 l env k = k
 kept_right_way (f ∷ fs) [] st st1 l env k = k
 kept_right_way (f ∷ fs) (s ∷ ts) st st1 l env k = (right_way (st zero) (st1 zero) f s l env.0 k.0, kept_right_way fs ts (λ i. st (suc i)) (λ i. st1 (suc i)) l env.1 k.1)
 
-chosen_plain : (s : Sort) → is_chosen s ≡ true → NoArray (Answered (answer.Of s))
+chosen_plain : (s : Sort) → is_chosen s ≡ true → NoArray (PrimitiveAnswer (answer.Of s))
 chosen_plain sort.Value e = tt
 chosen_plain sort.Number e = tt
 chosen_plain sort.Array e = absurd cc
 chosen_plain sort.Iterator e = tt
 
-module _ (p : Program) (deepest : Watch) (ks : List Kind) (F : List Frame) (b : Bases) (M n : ℕ) where
+module _ (p : Program) (deepest : Observer) (ks : List Kind) (F : List Frame) (b : Bases) (M n : ℕ) where
   -- a truth is on the stack, and the temporary is free
   pub record Tested (t u w : ℕ) (k : Instructions) (K : List Label) (l : Locals) (σ : State) (x : Bool) (c : Conf) : Type 0 where
     pub next : Locals
@@ -145,9 +145,9 @@ module _ (p : Program) (deepest : Watch) (ks : List Kind) (F : List Frame) (b : 
   emptied_fit t u w l σ ft = fit_less p deepest ks F t u w (with_at l (Hand t) empty) σ (upd_same l.hand t empty) (fit_hand p deepest ks F t (suc t) u w l σ empty (inl refl) (omega arith) ft)
 
   zeroed_tested : (t u w : ℕ) (k : Instructions) (K : List Label) (l : Locals) (σ : State) (v : Value) (x : Number) → t < b.temporaries → Fit p deepest ks F (suc t) u w l σ → (n0 : ℕ) → l.number t ≡ Bits (I64 n0) → l.hand t ≡ empty → nat_eq n0 text_beside ≡ false → ZeroedIs p deepest ks F b n0 x → truth_of_value v ≡ not (is_zero x.number) →
-      Tested t u w k K l σ (truth_of_value v) (at ks [] K (laid b l) F (truth b Bare t k) (beside_state p deepest ks F σ))
+      Tested t u w k K l σ (truth_of_value v) (at ks [] K (laid b l) F (truth b NumberOrText t k) (beside_state p deepest ks F σ))
   zeroed_tested t u w k K l σ v x lt ft n0 en eh nb zi tv =
-      let a1 = moved_out (handle_local b t) (ask_row row.Truth (does (Convert I64ExtendI32U) (does (LocalSet (number_local b t)) NoMore))) in
+      let a1 = moved_out (handle_local b t) (ask_row row.Truth (emit (Convert I64ExtendI32U) (emit (LocalSet (number_local b t)) NoMore))) in
       let z = zeroed_ok p deepest ks F b NoMore (label [] None (not_zero b t k) ∷ K) l t n0 σ x lt en zi in
       let l1 = with_at l (NumberAt t) (Bits (I64 (number_word x))) in
       record {
@@ -155,17 +155,17 @@ module _ (p : Program) (deepest : Watch) (ks : List Kind) (F : List Frame) (b : 
         steps = 3 + (z.steps + 4);
         few = omega (arith, z.few);
         goes = then_goes
-            (then_goes (goes_to (number_is_ok b l t n0 text_beside lt en) (ap (λ f. at ks (Bits (flag f) ∷ []) K (laid b l) F (either a1 (zeroed b t NoMore) (not_zero b t k)) (beside_state p deepest ks F σ)) nb)) (chooses a1 (zeroed b t NoMore) 0))
+            (then_goes (goes_to (number_is_ok b l t n0 text_beside lt en) (ap (λ f. at ks (Bits (flag f) ∷ []) K (laid b l) F (emit_if a1 (zeroed b t NoMore) (not_zero b t k)) (beside_state p deepest ks F σ)) nb)) (chooses a1 (zeroed b t NoMore) 0))
             (then_goes z.goes
             (then_goes closes (goes_to (not_zero_ok l1 t (number_word x) σ lt (upd_same l.number t (Bits (I64 (number_word x))))) (truth_comes k K (laid b l1) (not (nat_eq (number_word x) 0)) (truth_of_value v) σ (ap not (zero_word x) ∙ sym tv)))));
         fit = fit_less p deepest ks F t u w l1 σ eh (fit_number p deepest ks F t (suc t) u w l σ (Bits (I64 (number_word x))) refl ft);
         keeps = keeps_number t l (Bits (I64 (number_word x)));
       }
 
-  bare_tested : (t u w : ℕ) (k : Instructions) (K : List Label) (l : Locals) (σ : State) (v : Value) → t < b.temporaries → Fit p deepest ks F (suc t) u w l σ → (n0 : ℕ) → l.number t ≡ Bits (I64 n0) → BareIs v n0 (l.hand t) → Tested t u w k K l σ (truth_of_value v) (at ks [] K (laid b l) F (truth b Bare t k) (beside_state p deepest ks F σ))
+  bare_tested : (t u w : ℕ) (k : Instructions) (K : List Label) (l : Locals) (σ : State) (v : Value) → t < b.temporaries → Fit p deepest ks F (suc t) u w l σ → (n0 : ℕ) → l.number t ≡ Bits (I64 n0) → BareIs v n0 (l.hand t) → Tested t u w k K l σ (truth_of_value v) (at ks [] K (laid b l) F (truth b NumberOrText t k) (beside_state p deepest ks F σ))
   bare_tested t u w k K l σ v lt ft n0 en (IsBeside e e1) =
       let x = truth_of_value v in
-      let a1 = moved_out (handle_local b t) (ask_row row.Truth (does (Convert I64ExtendI32U) (does (LocalSet (number_local b t)) NoMore))) in
+      let a1 = moved_out (handle_local b t) (ask_row row.Truth (emit (Convert I64ExtendI32U) (emit (LocalSet (number_local b t)) NoMore))) in
       let l1 = with_at l (Hand t) empty in
       let l2 = with_at l1 (NumberAt t) (Bits (I64 (flag_number x))) in
       record {
@@ -183,7 +183,7 @@ module _ (p : Program) (deepest : Watch) (ks : List Kind) (F : List Frame) (b : 
   bare_tested t u w k K l σ v lt ft n0 en (IsNumber m e e1 e2) = zeroed_tested t u w k K l σ v m lt ft n0 en e2 (ap (λ z. nat_eq z text_beside) e1 ∙ word_not_beside m) (Itself e1) (ap truth_of_value e)
 
   pub truth_ok : (f : Form) (x : Holds f) (t u w : ℕ) (k : Instructions) (K : List Label) (l : Locals) (σ : State) → is_tested f ≡ true → t < b.temporaries → Fit p deepest ks F (suc t) u w l σ → HoldsAt f t l x → Tested t u w k K l σ (truth_in f x) (at ks [] K (laid b l) F (truth b f t k) (beside_state p deepest ks F σ))
-  truth_ok (Answered (answer.Of sort.Value)) x t u w k K l σ e lt ft hd = record {
+  truth_ok (PrimitiveAnswer (answer.Of sort.Value)) x t u w k K l σ e lt ft hd = record {
     next = with_at l (Hand t) empty;
     steps = 3;
     few = omega arith;
@@ -191,9 +191,9 @@ module _ (p : Program) (deepest : Watch) (ks : List Kind) (F : List Frame) (b : 
     fit = emptied_fit t u w l σ ft;
     keeps = keeps_hand t l empty;
   }
-  truth_ok (Answered (answer.Of sort.Number)) x t u w k K l σ e lt ft hd = plain_tested t u w (number_word x) k K l σ (not (is_zero x.number)) lt ft hd.0 hd.1 (ap not (zero_word x))
-  truth_ok (Answered answer.Truth) x t u w k K l σ e lt ft hd = plain_tested t u w (flag_number x) k K l σ x lt ft hd.0 hd.1 (flag_nought x)
-  truth_ok Bare x t u w k K l σ e lt ft hd = bare_tested t u w k K l σ x lt ft hd.0 hd.1 hd.2
+  truth_ok (PrimitiveAnswer (answer.Of sort.Number)) x t u w k K l σ e lt ft hd = plain_tested t u w (number_word x) k K l σ (not (is_zero x.number)) lt ft hd.0 hd.1 (ap not (zero_word x))
+  truth_ok (PrimitiveAnswer answer.Truth) x t u w k K l σ e lt ft hd = plain_tested t u w (flag_number x) k K l σ x lt ft hd.0 hd.1 (flag_nought x)
+  truth_ok NumberOrText x t u w k K l σ e lt ft hd = bare_tested t u w k K l σ x lt ft hd.0 hd.1 hd.2
   truth_ok f x t u w k K l σ e lt ft hd = cc
 
   -- one of two, in a block
@@ -215,11 +215,11 @@ module _ (p : Program) (deepest : Watch) (ks : List Kind) (F : List Frame) (b : 
       (weaker mach M (work_of a) σ.turns _ (Done p deepest ks F b M n false a fs env ts st t u w k1 (label [] None k ∷ K) l σ) (Done p deepest ks F b M n false a fs env ts st t u w k1 (label [] None k ∷ K) l σ) Q1 Q (meant p deepest ks F b M n fs env a σ) (λ x τ c1 q. q) out
       (ok false fs env ts st t u w (suc d) k1 (label [] None k ∷ K) l σ so us rm ar rd))
       (λ x τ c1 le h1.
-      let C = Converted p deepest ks F b M (suc t) u w t (Answered (answer.Of s)) NoMore (label [] None k ∷ K) h1.next in
+      let C = Converted p deepest ks F b M (suc t) u w t (PrimitiveAnswer (answer.Of s)) NoMore (label [] None k ∷ K) h1.next in
       first mach M 0 17 17 τ.turns c1 _ P Q _ (record { it = h1.comes }) (omega arith)
       (step_settled mach M 1 16 17 _ τ C P Q (converted g s x) (omega arith)
       (λ y c2 z.
-      let o = conv_closes p deepest ks F b M (suc t) u w t (Answered (answer.Of s)) k K h1.next y τ c2 z in
+      let o = conv_closes p deepest ks F b M (suc t) u w t (PrimitiveAnswer (answer.Of s)) k K h1.next y τ c2 z in
       record {
         conf = o.conf;
         steps = o.steps;
@@ -233,13 +233,13 @@ module _ (p : Program) (deepest : Watch) (ks : List Kind) (F : List Frame) (b : 
           own = λ i q. h1.own i q ∙ own i q;
           kept = keep o.holds.next (kept_same fs ts (λ i. held_after i a (st i)) h1.next o.holds.next env t rd.below (λ z1 lz. o.holds.keeps.hands z1 (λ e. omega (arith, e, lz))) (λ z1 lz. o.holds.keeps.numbers z1 (λ e. omega (arith, e, lz))) h1.kept);
           stands = o.holds.holds;
-          meant = plain_stands p deepest ks F b M n (Answered (answer.Of s)) y _ τ (chosen_plain s ch);
+          meant = plain_stands p deepest ks F b M n (PrimitiveAnswer (answer.Of s)) y _ τ (chosen_plain s ch);
         };
       })
       (weaker mach M 16 τ.turns _ C C Q1 Q (settled (converted g s x) τ) (λ y τ1 c2 q. q) out
       (converted_ok p deepest ks F b M g s x (suc t) u w t (suc d) NoMore (label [] None k ∷ K) h1.next τ fit (omega arith) (omega (arith, rm, r1)) h1.fit (still_stands a g t h1.next x h1.stands)))))
 
-  two_ways : {X : Type 0} (y : Bool) (w l : ℕ) (K : List Label) (L : List Cell) (A B : Instructions) (σ : State) (P : X → State → Conf → Type 0) (Q : Stop → State → Conf → Type 0) (m1 m2 : Doing X) →
+  two_ways : {X : Type 0} (y : Bool) (w l : ℕ) (K : List Label) (L : List Cell) (A B : Instructions) (σ : State) (P : X → State → Conf → Type 0) (Q : Stop → State → Conf → Type 0) (m1 m2 : Execution X) →
       Reached p deepest ks F b M w l (at ks [] K L F A (beside_state p deepest ks F σ)) P Q (m1 σ) → Reached p deepest ks F b M w l (at ks [] K L F B (beside_state p deepest ks F σ)) P Q (m2 σ) →
       Reached p deepest ks F b M w l (at ks [] K L F (cond (nat_eq (flag_number y) 0) B A) (beside_state p deepest ks F σ)) P Q ((if y then m1 else m2) σ)
   two_ways true w l K L A B σ P Q m1 m2 r1 r2 = r1
@@ -263,14 +263,14 @@ module _ (p : Program) (deepest : Watch) (ks : List Kind) (F : List Frame) (b : 
       let s6 = and_parts (sorted ctx fs a1) (sorted ctx fs a2) s5.1 in
       let A = emitted lay false fs ts a1 t w (suc d) (Small.converted b (form_of fs a1) s t (suc d) NoMore) in
       let B = emitted lay false fs ts a2 t w (suc d) (Small.converted b (form_of fs a2) s t (suc d) NoMore) in
-      let k1 = truth b g t (either A B k) in
+      let k1 = truth b g t (emit_if A B k) in
       let r1 = room_one c in
       let us1 : (i : ℕ) → i < length fs → is_well_used (held_after i a1 (st1 i)) ≡ true = λ i lt. well_left (held_after i a1 (st1 i)) (held_after i a2 (st1 i)) (us i lt) in
       let us2 : (i : ℕ) → i < length fs → is_well_used (held_after i a2 (st1 i)) ≡ true = λ i lt. well_right (held_after i a1 (st1 i)) (held_after i a2 (st1 i)) (us i lt) in
       then_on mach M (work_of c) (40 + (work_of a1 + work_of a2)) (work_of (Choose s c a1 a2)) σ.turns _ (Done p deepest ks F b M n false c fs env ts st t u w k1 K l σ) P Q (meant p deepest ks F b M n fs env c σ) _ (omega arith)
       (okc false fs env ts st t u w d k1 K l σ s5.0 (λ i lt. well_before i a1 (st1 i) (us1 i lt)) (omega (arith, rm)) (omega (arith, ar)) rd)
       (λ x τ c1 le h1.
-      let z = truth_ok g x t u w (either A B k) K h1.next τ s2.0 (omega (arith, rm, r1)) h1.fit (still_stands c g t h1.next x h1.stands) in
+      let z = truth_ok g x t u w (emit_if A B k) K h1.next τ s2.0 (omega (arith, rm, r1)) h1.fit (still_stands c g t h1.next x h1.stands) in
       let same : Same ts t w l z.next = same_then ts t t w w l h1.next z.next (omega arith) (omega arith) h1.same (under_same ts t w h1.next z.next (under_keeps t t h1.next z.next (omega arith) z.keeps)) in
       let rd1 : Ready p deepest ks F b M n fs env ts st1 t u w (loops_walked K) z.next τ = record {
         below = rd.below;
@@ -282,8 +282,8 @@ module _ (p : Program) (deepest : Watch) (ks : List Kind) (F : List Frame) (b : 
         walking = walking_same p deepest ks F b M n (loops_walked K) u l z.next (λ x. same.iterators x) rd.walking;
         none = rd.none;
       } in
-      let m1 : Doing (In s) = λ τ1. go_on (meant p deepest ks F b M n fs env a1 τ1) (λ x1. settled (converted (form_of fs a1) s x1)) in
-      let m2 : Doing (In s) = λ τ1. go_on (meant p deepest ks F b M n fs env a2 τ1) (λ x1. settled (converted (form_of fs a2) s x1)) in
+      let m1 : Execution (In s) = λ τ1. go_on (meant p deepest ks F b M n fs env a1 τ1) (λ x1. settled (converted (form_of fs a1) s x1)) in
+      let m2 : Execution (In s) = λ τ1. go_on (meant p deepest ks F b M n fs env a2 τ1) (λ x1. settled (converted (form_of fs a2) s x1)) in
       let w2 = work_of a1 + work_of a2 + 17 in
       first mach M (z.steps + 1) (work_of a1 + work_of a2 + 17) (40 + (work_of a1 + work_of a2)) τ.turns c1 _ P Q _ (goes_from h1.comes (then_goes z.goes (chooses A B (flag_number (truth_in g x))))) (omega (arith, z.few))
       (two_ways (truth_in g x) w2 τ.turns (label [] None k ∷ K) (laid b z.next) A B τ P Q m1 m2

@@ -20,10 +20,10 @@ use Rattle.wasm_types.specs.declared.instr.CvtOp.TheVariants.{I64ExtendI32U}
 use Rattle.wasm_types.specs.declared.instr.Simple.TheVariants.{LocalGet, LocalSet, I32Const, Convert, Compare as Comparing}
 use Rattle.wasm_store.specs.Words.{flag}
 use Rattle.wasm_store.specs.declared.word.Word.TheVariants.{I32, I64}
-use Rattle.mid_program.specs.Mid.{Kind, Program, Form, Answered, Bare, Perhaps, a_value, Code, Compare, Codes, At, End, form_of}
+use Rattle.mid_program.specs.Mid.{Kind, Program, Form, PrimitiveAnswer, NumberOrText, OptionalNumber, a_value, Code, Compare, Codes, At, End, form_of}
 use Rattle.mid_program.specs.MidMeaning.{Holds, Env, evaluated, all_evaluated, boxed}
 use Rattle.sem_scripts.specs.Steps.{zero_number, truth_number}
-use Rattle.sem_scripts.specs.ScriptState.{State, Outcome, Gives, Stops, Doing, go_on, give, settled}
+use Rattle.sem_scripts.specs.ScriptState.{State, Outcome, Gives, Stops, Execution, go_on, give, settled}
 use Rattle.mid_program.specs.Sorted.{Held as Standing, sorted, all_sorted, held_after, fits}
 use Rattle.lower_model.specs.Arithmetic.{relation, is_value, may_be_text, values_compared, numbers_compared, texts_beside, zeroed_if, bare_compared, compared}
 use Rattle.lower_model.specs.Cells.{Cell, Bits, Held, is_marked}
@@ -32,9 +32,9 @@ use Rattle.lower_model.specs.ImportCalls.{with_some, and_rest, row_in}
 use Rattle.lower_model.specs.Machine
 use Rattle.lower_model.specs.Machine.{Conf, Label, Frame, at, label, loops_walked}
 use Rattle.lower_model.specs.Places.{Bases, room, arrays_in, handle_local, number_local}
-use Rattle.lower_model.specs.Small.{does, ask_row, text_beside, moved_out, kept_code, to_value}
+use Rattle.lower_model.specs.Small.{emit, ask_row, text_beside, moved_out, kept_code, to_value}
 use Rattle.lower_model.specs.Small
-use Rattle.lower_model.proofs.Watch.{Watch}
+use Rattle.lower_model.proofs.Observer.{Observer}
 use Rattle.lower_model.proofs.Runs.{Goes, then_goes, goes_to, goes_from, by_steps, stays, there, first, then_on, within, weaker, weaker_settled, Onward}
 use Rattle.lower_model.proofs.Regions.{upd_same, upd_other}
 use Rattle.lower_model.proofs.Locals.{Locals, Hand, Number as NumberAt, with_at, laid, laid_again}
@@ -71,14 +71,14 @@ or_parts false t e = (refl, e)
 
 -- whether a text stands beside a number
 abbrev text_flag : Form → (number : Cell) → Bool
-text_flag Bare d = is_marked d
+text_flag NumberOrText d = is_marked d
 text_flag f d = false
 
 no_text_there : (f : Form) (d : Cell) → may_be_text f ≡ false → text_flag f d ≡ false
-no_text_there Bare d e = cc
+no_text_there NumberOrText d e = cc
 no_text_there f d e = refl
 
-module _ (p : Program) (deepest : Watch) (ks : List Kind) (F : List Frame) (b : Bases) (M n : ℕ) where
+module _ (p : Program) (deepest : Observer) (ks : List Kind) (F : List Frame) (b : Bases) (M n : ℕ) where
   -- at the end of a block what was put is there still
   pub put_closes : (t u w : ℕ) (f : Form) (k : Instructions) (K : List Label) (l : Locals) (x : Holds f) (σ : State) (c : Conf) → Put p deepest ks F b t u w f NoMore (label [] None k ∷ K) l x σ c → Onward (machine p deepest ks F) M 1 (Put p deepest ks F b t u w f k K l x σ) c
   put_closes t u w f k K l x σ c a = record {
@@ -96,13 +96,13 @@ module _ (p : Program) (deepest : Watch) (ks : List Kind) (F : List Frame) (b : 
   -- By the host.
 
   values_ok : (c : CompareOp) (f g : Form) (x : Holds f) (y : Holds g) (t u w d : ℕ) (k : Instructions) (K : List Label) (l : Locals) (σ : State) → fits f sort.Value ≡ true → fits g sort.Value ≡ true → suc t < b.temporaries → Fit p deepest ks F (suc (suc t)) u w l σ → HoldsAt f t l x → HoldsAt g (suc t) l y →
-      Reached p deepest ks F b M 41 σ.turns (at ks [] K (laid b l) F (values_compared b c f g t d k) (beside_state p deepest ks F σ)) (Put p deepest ks F b t u w (Answered answer.Truth) k K l) (Away p deepest ks F b d K) (settled (comparison (boxed f x) (boxed g y) c) σ)
+      Reached p deepest ks F b M 41 σ.turns (at ks [] K (laid b l) F (values_compared b c f g t d k) (beside_state p deepest ks F σ)) (Put p deepest ks F b t u w (PrimitiveAnswer answer.Truth) k K l) (Away p deepest ks F b d K) (settled (comparison (boxed f x) (boxed g y) c) σ)
   values_ok c f g x y t u w d k K l σ ef eg lt ft hx hy =
       let mach = machine p deepest ks F in
-      let P = Put p deepest ks F b t u w (Answered answer.Truth) k K l in
+      let P = Put p deepest ks F b t u w (PrimitiveAnswer answer.Truth) k K l in
       let Q = Away p deepest ks F b d K in
       let k3 = kept_code b true t d k in
-      let k2 = does (I32Const (comparison_number c)) (moved_out (handle_local b t) (moved_out (handle_local b (suc t)) (ask_row row.Compare k3))) in
+      let k2 = emit (I32Const (comparison_number c)) (moved_out (handle_local b t) (moved_out (handle_local b (suc t)) (ask_row row.Compare k3))) in
       let k1 = to_value b g (suc t) k2 in
       then_on mach M 16 25 41 σ.turns _ (Converted p deepest ks F b M (suc (suc t)) u w t a_value k1 K l) P Q (settled (Ok (boxed f x)) σ) (λ v. settled (comparison v (boxed g y) c)) (omega arith)
       (converted_ok p deepest ks F b M f sort.Value x (suc (suc t)) u w t d k1 K l σ ef (omega arith) (omega (arith, lt)) ft hx)
@@ -127,8 +127,8 @@ module _ (p : Program) (deepest : Watch) (ks : List Kind) (F : List Frame) (b : 
       (goes_to (row_called p deepest ks F row.Compare (c, (v, (v2, tt))) words [] τ2 refl refl refl
       (ap (λ o. with_some (and_rest o (Held v ∷ (Held v2 ∷ []))) (λ z. with_some (row_in mach.memory (argument.Of sort.Value ∷ argument.Of sort.Value ∷ []) z.1) (λ rest. Some (z.0, rest)))) (constant_again constant.Comparison c)) refl)
       (after_same p deepest ks F (laid b l4) K k3 r (done_by p deepest ks F row.Compare (c, (v, (v2, tt))) τ2) τ2 (same_state τ2 r) _))))) (omega arith)
-      (weaker mach M 4 τ2.turns _ (Put p deepest ks F b t u w (Answered answer.Truth) k K l4) P Q Q (settled r τ2)
-      (λ z τ3 c3 q. put_from t u w (Answered answer.Truth) k K l l4 z τ3 c3
+      (weaker mach M 4 τ2.turns _ (Put p deepest ks F b t u w (PrimitiveAnswer answer.Truth) k K l4) P Q Q (settled r τ2)
+      (λ z τ3 c3 q. put_from t u w (PrimitiveAnswer answer.Truth) k K l l4 z τ3 c3
       (same_then [] t t w w l a.next l4 (omega arith) (omega arith) (under_same [] t w l a.next (under_keeps t t l a.next (omega arith) a.keeps))
       (same_then [] t t w w a.next a2.next l4 (omega arith) (omega arith) (under_same [] t w a.next a2.next (under_keeps t (suc t) a.next a2.next (omega arith) a2.keeps))
       (same_then [] t t w w a2.next l3 l4 (omega arith) (omega arith) (same_hand [] t w t a2.next empty (omega arith)) (same_hand [] t w (suc t) l3 empty (omega arith))))) q)
@@ -148,7 +148,7 @@ module _ (p : Program) (deepest : Watch) (ks : List Kind) (F : List Frame) (b : 
   itself : (x : Number) (t : ℕ) (k : Instructions) (K : List Label) (l : Locals) (σ : State) → t < b.temporaries → l.number t ≡ Bits (I64 (number_word x)) → Goes (machine p deepest ks F) 0 (at ks [] K (laid b l) F k (beside_state p deepest ks F σ)) (at ks [] K (laid b (with_at l (NumberAt t) (Bits (I64 (number_word x))))) F k (beside_state p deepest ks F σ))
   itself x t k K l σ lt e = goes_to stays (ap (λ L. at ks [] K L F k (beside_state p deepest ks F σ)) (sym (laid_again b l (NumberAt t) (Bits (I64 (number_word x))) lt e)))
 
-  bare_side : (x : Holds Bare) (t : ℕ) (k : Instructions) (K : List Label) (l : Locals) (σ : State) → is_marked (l.number t) ≡ false → t < b.temporaries → (n0 : ℕ) → l.number t ≡ Bits (I64 n0) → BareIs x n0 (l.hand t) → Side Bare x t k K l σ
+  bare_side : (x : Holds NumberOrText) (t : ℕ) (k : Instructions) (K : List Label) (l : Locals) (σ : State) → is_marked (l.number t) ≡ false → t < b.temporaries → (n0 : ℕ) → l.number t ≡ Bits (I64 n0) → BareIs x n0 (l.hand t) → Side NumberOrText x t k K l σ
   bare_side x t k K l σ nt lt n0 en (IsBeside e e1) = absurd (true≢false (sym (ap is_marked (en ∙ ap (λ m. Bits (I64 m)) e)) ∙ nt))
   bare_side x t k K l σ nt lt n0 en (IsNone e e1 e2) =
       let z = zeroed_ok p deepest ks F b k K l t n0 σ zero_number lt en (Nought e1 refl) in
@@ -157,7 +157,7 @@ module _ (p : Program) (deepest : Watch) (ks : List Kind) (F : List Frame) (b : 
       let z = zeroed_ok p deepest ks F b k K l t n0 σ m lt en (Itself e1) in
       record { number = m; side = ap numeric_side e; hand = e2; steps = z.steps; few = z.few; goes = z.goes }
 
-  perhaps_side : (x : Holds Perhaps) (t : ℕ) (k : Instructions) (K : List Label) (l : Locals) (σ : State) → t < b.temporaries → HoldsAt Perhaps t l x → Side Perhaps x t k K l σ
+  perhaps_side : (x : Holds OptionalNumber) (t : ℕ) (k : Instructions) (K : List Label) (l : Locals) (σ : State) → t < b.temporaries → HoldsAt OptionalNumber t l x → Side OptionalNumber x t k K l σ
   perhaps_side None t k K l σ lt hd =
       let z = zeroed_ok p deepest ks F b k K l t (perhaps None) σ zero_number lt hd.1 (Nought refl refl) in
       record { number = zero_number; side = refl; hand = hd.0; steps = z.steps; few = z.few; goes = z.goes }
@@ -166,22 +166,22 @@ module _ (p : Program) (deepest : Watch) (ks : List Kind) (F : List Frame) (b : 
       record { number = m; side = refl; hand = hd.0; steps = z.steps; few = z.few; goes = z.goes }
 
   side_ok : (f : Form) (x : Holds f) (t : ℕ) (k : Instructions) (K : List Label) (l : Locals) (σ : State) → is_value f ≡ false → text_flag f (l.number t) ≡ false → t < b.temporaries → HoldsAt f t l x → Side f x t k K l σ
-  side_ok (Answered (answer.Of sort.Number)) x t k K l σ iv nt lt hd = record { number = x; side = refl; hand = hd.0; steps = 0; few = omega arith; goes = itself x t k K l σ lt hd.1 }
-  side_ok (Answered answer.Truth) x t k K l σ iv nt lt hd = record { number = truth_number x; side = refl; hand = hd.0; steps = 0; few = omega arith; goes = itself (truth_number x) t k K l σ lt (hd.1 ∙ ap (λ m. Bits (I64 m)) (flag_word x)) }
-  side_ok Bare x t k K l σ iv nt lt hd = bare_side x t k K l σ nt lt hd.0 hd.1 hd.2
-  side_ok Perhaps x t k K l σ iv nt lt hd = perhaps_side x t k K l σ lt hd
+  side_ok (PrimitiveAnswer (answer.Of sort.Number)) x t k K l σ iv nt lt hd = record { number = x; side = refl; hand = hd.0; steps = 0; few = omega arith; goes = itself x t k K l σ lt hd.1 }
+  side_ok (PrimitiveAnswer answer.Truth) x t k K l σ iv nt lt hd = record { number = truth_number x; side = refl; hand = hd.0; steps = 0; few = omega arith; goes = itself (truth_number x) t k K l σ lt (hd.1 ∙ ap (λ m. Bits (I64 m)) (flag_word x)) }
+  side_ok NumberOrText x t k K l σ iv nt lt hd = bare_side x t k K l σ nt lt hd.0 hd.1 hd.2
+  side_ok OptionalNumber x t k K l σ iv nt lt hd = perhaps_side x t k K l σ lt hd
   side_ok f x t k K l σ iv nt lt hd = cc
 
   numbers_ok : (c : CompareOp) (f g : Form) (x : Holds f) (y : Holds g) (t u w d : ℕ) (k : Instructions) (K : List Label) (l : Locals) (σ : State) → is_value f ≡ false → is_value g ≡ false → text_flag f (l.number t) ≡ false → text_flag g (l.number (suc t)) ≡ false → suc t < b.temporaries → Fit p deepest ks F (suc (suc t)) u w l σ → HoldsAt f t l x → HoldsAt g (suc t) l y →
-      Reached p deepest ks F b M 15 σ.turns (at ks [] K (laid b l) F (numbers_compared b c f g t k) (beside_state p deepest ks F σ)) (Put p deepest ks F b t u w (Answered answer.Truth) k K l) (Away p deepest ks F b d K) (settled (comparison (boxed f x) (boxed g y) c) σ)
+      Reached p deepest ks F b M 15 σ.turns (at ks [] K (laid b l) F (numbers_compared b c f g t k) (beside_state p deepest ks F σ)) (Put p deepest ks F b t u w (PrimitiveAnswer answer.Truth) k K l) (Away p deepest ks F b d K) (settled (comparison (boxed f x) (boxed g y) c) σ)
   numbers_ok c f g x y t u w d k K l σ ivf ivg nf ng lt ft hx hy =
       let mach = machine p deepest ks F in
-      let P = Put p deepest ks F b t u w (Answered answer.Truth) k K l in
+      let P = Put p deepest ks F b t u w (PrimitiveAnswer answer.Truth) k K l in
       let Q = Away p deepest ks F b d K in
       let S = beside_state p deepest ks F σ in
-      let k4 = does (Convert I64ExtendI32U) (does (LocalSet (number_local b t)) k) in
-      let k3 = does (Comparing ty.I64 (relation c)) k4 in
-      let k2 = does (LocalGet (number_local b t)) (does (LocalGet (number_local b (suc t))) k3) in
+      let k4 = emit (Convert I64ExtendI32U) (emit (LocalSet (number_local b t)) k) in
+      let k3 = emit (Comparing ty.I64 (relation c)) k4 in
+      let k2 = emit (LocalGet (number_local b t)) (emit (LocalGet (number_local b (suc t))) k3) in
       let s1 = side_ok f x t (zeroed_if b g (suc t) k2) K l σ ivf nf (omega (arith, lt)) hx in
       let m1 = s1.number in
       let l1 = with_at l (NumberAt t) (Bits (I64 (number_word m1))) in
@@ -205,7 +205,7 @@ module _ (p : Program) (deepest : Watch) (ks : List Kind) (F : List Frame) (b : 
       (then_goes s1.goes (then_goes s2.goes
       (then_goes (get_copied b l2 (NumberAt t) (Bits (I64 (number_word m1))) (omega (arith, lt)) e1 refl)
       (then_goes (get_copied b l2 (NumberAt (suc t)) (Bits (I64 (number_word m2))) lt e2 refl)
-      (then_goes (goes_to (by_steps 2 refl) (ap (λ q. at ks (Bits (I64 q) ∷ []) K (laid b l2) F (does (LocalSet (number_local b t)) k) S) (ap (λ q. if q then 1 else 0) (words_compared m1 m2 c) ∙ flag_numbered z)))
+      (then_goes (goes_to (by_steps 2 refl) (ap (λ q. at ks (Bits (I64 q) ∷ []) K (laid b l2) F (emit (LocalSet (number_local b t)) k) S) (ap (λ q. if q then 1 else 0) (words_compared m1 m2 c) ∙ flag_numbered z)))
       (set_ok b l2 (NumberAt t) (Bits (I64 (flag_number z))) (omega (arith, lt)) (f2.numbers t))))))) (omega (arith, q1, q2))
       (record {
         next = l3;
@@ -229,29 +229,29 @@ module _ (p : Program) (deepest : Watch) (ks : List Kind) (F : List Frame) (b : 
   marked_ok {vs = vs} {k = k} {K = K} {G = G} l t m lt e = goes_to (number_is_ok b l t m text_beside lt e) (ap (λ c. at ks (Bits (flag (is_marked c)) ∷ vs) K (laid b l) F k G) (sym e))
 
   texts_ok : (f g : Form) (x : Holds f) (y : Holds g) (t : ℕ) (k : Instructions) (K : List Label) (l : Locals) (σ : State) → may_be_text f || may_be_text g ≡ true → suc t < b.temporaries → HoldsAt f t l x → HoldsAt g (suc t) l y → Tells f g t k K l σ
-  texts_ok Bare Bare x y t k K l σ e lt hx hy = record {
+  texts_ok NumberOrText NumberOrText x y t k K l σ e lt hx hy = record {
     steps = 5;
     few = omega arith;
     goes = then_goes (marked_ok l t hx.0 (omega (arith, lt)) hx.1) (then_goes (marked_ok l (suc t) hy.0 lt hy.1)
         (goes_to (by_steps 1 refl) (ap (λ q. at ks (Bits (I32 q) ∷ []) K (laid b l) F k (beside_state p deepest ks F σ)) (flags_or (is_marked (l.number t)) (is_marked (l.number (suc t)))))));
   }
-  texts_ok Bare g x y t k K l σ e lt hx hy = record {
+  texts_ok NumberOrText g x y t k K l σ e lt hx hy = record {
     steps = 2;
     few = omega arith;
     goes = goes_to (marked_ok l t hx.0 (omega (arith, lt)) hx.1) (ap (λ q. at ks (Bits (flag q) ∷ []) K (laid b l) F k (beside_state p deepest ks F σ)) (sym (or_false (is_marked (l.number t)))));
   }
-  texts_ok f Bare x y t k K l σ e lt hx hy = record { steps = 2; few = omega arith; goes = marked_ok l (suc t) hy.0 lt hy.1 }
+  texts_ok f NumberOrText x y t k K l σ e lt hx hy = record { steps = 2; few = omega arith; goes = marked_ok l (suc t) hy.0 lt hy.1 }
   texts_ok f g x y t k K l σ e lt hx hy = cc
 
   bare_ok : (c : CompareOp) (f g : Form) (x : Holds f) (y : Holds g) (t u w d : ℕ) (k : Instructions) (K : List Label) (l : Locals) (σ : State) → fits f sort.Value ≡ true → fits g sort.Value ≡ true → is_value f ≡ false → is_value g ≡ false → suc t < b.temporaries → Fit p deepest ks F (suc (suc t)) u w l σ → HoldsAt f t l x → HoldsAt g (suc t) l y →
-      Reached p deepest ks F b M 48 σ.turns (at ks [] K (laid b l) F (bare_compared b c f g t d k) (beside_state p deepest ks F σ)) (Put p deepest ks F b t u w (Answered answer.Truth) k K l) (Away p deepest ks F b d K) (settled (comparison (boxed f x) (boxed g y) c) σ)
+      Reached p deepest ks F b M 48 σ.turns (at ks [] K (laid b l) F (bare_compared b c f g t d k) (beside_state p deepest ks F σ)) (Put p deepest ks F b t u w (PrimitiveAnswer answer.Truth) k K l) (Away p deepest ks F b d K) (settled (comparison (boxed f x) (boxed g y) c) σ)
   bare_ok c f g x y t u w d k K l σ ef eg ivf ivg lt ft hx hy = by (may_be_text f || may_be_text g) refl
     where
       mach : Machine.Code
       mach = machine p deepest ks F
 
       P : List Label → Instructions → Bool → State → Conf → Type 0
-      P = λ K1 k1. Put p deepest ks F b t u w (Answered answer.Truth) k1 K1 l
+      P = λ K1 k1. Put p deepest ks F b t u w (PrimitiveAnswer answer.Truth) k1 K1 l
 
       r : Result Bool Fault
       r = comparison (boxed f x) (boxed g y) c
@@ -269,17 +269,17 @@ module _ (p : Program) (deepest : Watch) (ks : List Kind) (F : List Frame) (b : 
       other = numbers_compared b c f g t NoMore
 
       branch : (s : Bool) → text_flag f xd || text_flag g yd ≡ s → Reached p deepest ks F b M 42 σ.turns (at ks [] (label [] None k ∷ K) (laid b l) F (cond (nat_eq (if s then 1 else 0) 0) other inner) (beside_state p deepest ks F σ)) (P K k) (Away p deepest ks F b d K) (settled r σ)
-      branch true e = blocked p deepest ks F b M 41 σ.turns d k K _ (P (label [] None k ∷ K) NoMore) (P K k) (settled r σ) (λ z τ c1 a. put_closes t u w (Answered answer.Truth) k K l z τ c1 a)
+      branch true e = blocked p deepest ks F b M 41 σ.turns d k K _ (P (label [] None k ∷ K) NoMore) (P K k) (settled r σ) (λ z τ c1 a. put_closes t u w (PrimitiveAnswer answer.Truth) k K l z τ c1 a)
           (values_ok c f g x y t u w (suc d) NoMore (label [] None k ∷ K) l σ ef eg lt ft hx hy)
       branch false e =
           let q = or_parts (text_flag f xd) (text_flag g yd) e in
           within mach M 16 42 σ.turns _ (P K k) (Away p deepest ks F b d K) (settled r σ) (omega arith)
-          (blocked p deepest ks F b M 15 σ.turns d k K _ (P (label [] None k ∷ K) NoMore) (P K k) (settled r σ) (λ z τ c1 a. put_closes t u w (Answered answer.Truth) k K l z τ c1 a)
+          (blocked p deepest ks F b M 15 σ.turns d k K _ (P (label [] None k ∷ K) NoMore) (P K k) (settled r σ) (λ z τ c1 a. put_closes t u w (PrimitiveAnswer answer.Truth) k K l z τ c1 a)
           (numbers_ok c f g x y t u w (suc d) NoMore (label [] None k ∷ K) l σ ivf ivg q.0 q.1 lt ft hx hy))
 
-      by : (s : Bool) → may_be_text f || may_be_text g ≡ s → Reached p deepest ks F b M 48 σ.turns (at ks [] K (laid b l) F (if s then texts_beside b f g t (Small.either inner other k) else numbers_compared b c f g t k) (beside_state p deepest ks F σ)) (P K k) (Away p deepest ks F b d K) (settled r σ)
+      by : (s : Bool) → may_be_text f || may_be_text g ≡ s → Reached p deepest ks F b M 48 σ.turns (at ks [] K (laid b l) F (if s then texts_beside b f g t (Small.emit_if inner other k) else numbers_compared b c f g t k) (beside_state p deepest ks F σ)) (P K k) (Away p deepest ks F b d K) (settled r σ)
       by true e =
-          let a = texts_ok f g x y t (Small.either inner other k) K l σ e lt hx hy in
+          let a = texts_ok f g x y t (Small.emit_if inner other k) K l σ e lt hx hy in
           let q = a.few in
           first mach M (a.steps + 1) 42 48 σ.turns _ _ (P K k) (Away p deepest ks F b d K) (settled r σ) (then_goes a.goes (chooses inner other (if text_flag f xd || text_flag g yd then 1 else 0))) (omega (arith, q)) (branch (text_flag f xd || text_flag g yd) refl)
       by false e =
@@ -288,18 +288,18 @@ module _ (p : Program) (deepest : Watch) (ks : List Kind) (F : List Frame) (b : 
           (numbers_ok c f g x y t u w d k K l σ ivf ivg (no_text_there f xd q.0) (no_text_there g yd q.1) lt ft hx hy)
 
   compared_ok : (c : CompareOp) (f g : Form) (x : Holds f) (y : Holds g) (t u w d : ℕ) (k : Instructions) (K : List Label) (l : Locals) (σ : State) → fits f sort.Value ≡ true → fits g sort.Value ≡ true → suc t < b.temporaries → Fit p deepest ks F (suc (suc t)) u w l σ → HoldsAt f t l x → HoldsAt g (suc t) l y →
-      Reached p deepest ks F b M 48 σ.turns (at ks [] K (laid b l) F (compared b c f g t d k) (beside_state p deepest ks F σ)) (Put p deepest ks F b t u w (Answered answer.Truth) k K l) (Away p deepest ks F b d K) (settled (comparison (boxed f x) (boxed g y) c) σ)
+      Reached p deepest ks F b M 48 σ.turns (at ks [] K (laid b l) F (compared b c f g t d k) (beside_state p deepest ks F σ)) (Put p deepest ks F b t u w (PrimitiveAnswer answer.Truth) k K l) (Away p deepest ks F b d K) (settled (comparison (boxed f x) (boxed g y) c) σ)
   compared_ok c f g x y t u w d k K l σ ef eg lt ft hx hy = by (is_value f || is_value g) refl
     where
-      by : (s : Bool) → is_value f || is_value g ≡ s → Reached p deepest ks F b M 48 σ.turns (at ks [] K (laid b l) F (if s then values_compared b c f g t d k else bare_compared b c f g t d k) (beside_state p deepest ks F σ)) (Put p deepest ks F b t u w (Answered answer.Truth) k K l) (Away p deepest ks F b d K) (settled (comparison (boxed f x) (boxed g y) c) σ)
-      by true e = within (machine p deepest ks F) M 41 48 σ.turns _ (Put p deepest ks F b t u w (Answered answer.Truth) k K l) (Away p deepest ks F b d K) (settled (comparison (boxed f x) (boxed g y) c) σ) (omega arith) (values_ok c f g x y t u w d k K l σ ef eg lt ft hx hy)
+      by : (s : Bool) → is_value f || is_value g ≡ s → Reached p deepest ks F b M 48 σ.turns (at ks [] K (laid b l) F (if s then values_compared b c f g t d k else bare_compared b c f g t d k) (beside_state p deepest ks F σ)) (Put p deepest ks F b t u w (PrimitiveAnswer answer.Truth) k K l) (Away p deepest ks F b d K) (settled (comparison (boxed f x) (boxed g y) c) σ)
+      by true e = within (machine p deepest ks F) M 41 48 σ.turns _ (Put p deepest ks F b t u w (PrimitiveAnswer answer.Truth) k K l) (Away p deepest ks F b d K) (settled (comparison (boxed f x) (boxed g y) c) σ) (omega arith) (values_ok c f g x y t u w d k K l σ ef eg lt ft hx hy)
       by false e = let q = or_parts (is_value f) (is_value g) e in bare_ok c f g x y t u w d k K l σ ef eg q.0 q.1 lt ft hx hy
 
   -- two operands, one after the other, as a row
-  abbrev row_of_two : {A B : Type 0} → Outcome A → Doing B → Outcome (A × (B × Unit {0}))
+  abbrev row_of_two : {A B : Type 0} → Outcome A → Execution B → Outcome (A × (B × Unit {0}))
   row_of_two {A} {B} r m = go_on {A = A} {B = A × (B × Unit {0})} r (λ v τ. go_on {A = B × Unit {0}} {B = A × (B × Unit {0})} (go_on {A = B} {B = B × Unit {0}} (m τ) (λ w τ1. go_on {A = Unit {0}} {B = B × Unit {0}} (Gives tt τ1) (λ e. give (w, e)))) (λ vs. give (v, vs)))
 
-  two_meant : {A B C : Type 0} → (r : Outcome A) (m : Doing B) (g : A → B → Doing C) → go_on {A = A × (B × Unit {0})} {B = C} (row_of_two r m) (λ vs. g vs.0 vs.1.0) ≡ go_on r (λ v τ. go_on (m τ) (λ w. g v w))
+  two_meant : {A B C : Type 0} → (r : Outcome A) (m : Execution B) (g : A → B → Execution C) → go_on {A = A × (B × Unit {0})} {B = C} (row_of_two r m) (λ vs. g vs.0 vs.1.0) ≡ go_on r (λ v τ. go_on (m τ) (λ w. g v w))
   two_meant (Stops why σ) m g = refl
   two_meant {A} {B} {C} (Gives v σ) m g = by (m σ)
     where
@@ -335,6 +335,6 @@ module _ (p : Program) (deepest : Watch) (ks : List Kind) (F : List Frame) (b : 
       (oks fs env ts st t u w d k1 K l σ (ap₂ (λ y z. y && (z && true)) s3.0 s3.1) us (omega (arith, rm, r1)) (omega (arith, ar)) rd)
       (λ vs τ c1 le h.
       first mach M 0 48 48 τ.turns c1 _ P Q _ (record { it = h.comes }) (omega arith)
-      (weaker_settled mach M 48 _ τ (Put p deepest ks F b t u w (Answered answer.Truth) k K h.next) P Q (comparison (boxed f vs.0) (boxed g vs.1.0) c)
+      (weaker_settled mach M 48 _ τ (Put p deepest ks F b t u w (PrimitiveAnswer answer.Truth) k K h.next) P Q (comparison (boxed f vs.0) (boxed g vs.1.0) c)
       (λ z c2 q. put_done p deepest ks F b M n (Compare c a e) v fs env ts st t u w k K l h.next σ τ z c2 rd.below h.same h.own h.kept refl tt q)
       (compared_ok c f g vs.0 vs.1.0 t u w d k K h.next τ s1.0 s2.0 (omega (arith, rm, r1)) h.fit h.held.0 h.held.2.0))))

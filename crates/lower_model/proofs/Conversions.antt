@@ -27,8 +27,8 @@ use Rattle.lower_model.specs.Cells.{Cell, Bits, Held, is_owned}
 use Rattle.lower_model.specs.ImportCalls.{with_some, and_rest, row_in}
 use Rattle.lower_model.specs.Machine.{Label, Frame, at, go}
 use Rattle.lower_model.specs.Places.{Bases, handle_local, number_local}
-use Rattle.lower_model.specs.Small.{does, ask_row, either, when, least, boxed_number, boxed_perhaps, zeroed, code_number}
-use Rattle.lower_model.proofs.Watch.{Watch}
+use Rattle.lower_model.specs.Small.{emit, ask_row, emit_if, when, least, boxed_number, boxed_perhaps, zeroed, code_number}
+use Rattle.lower_model.proofs.Observer.{Observer}
 use Rattle.lower_model.proofs.Runs.{Goes, then_goes, goes_to, by_steps}
 use Rattle.lower_model.proofs.Locals.{Locals, Hand, Number as NumberAt, with_at, laid, laid_again}
 use Rattle.lower_model.proofs.Steps.{set_ok, get_copied}
@@ -56,7 +56,7 @@ bare_is (value.Num z) = by (number_of z) refl
 pub same_state : {A : Type 0} (σ : State) (a : A) → record σ { shared = shared_after σ.shared (gives σ.shared a) } ≡ σ
 same_state σ a = ap (λ o. record σ { shared = record { inner = σ.shared.inner; outside = σ.shared.outside; output = o } }) (append-nil σ.shared.output)
 
-module _ (p : Program) (deepest : Watch) (ks : List Kind) (F : List Frame) where
+module _ (p : Program) (deepest : Observer) (ks : List Kind) (F : List Frame) where
   pub after_same : {A : Type 0} (L : List Cell) (K : List Label) (c : Instructions) (r : Result A Fault) (τ σ : State) → τ ≡ σ → (cs : List Cell) → at ks cs K L F c (after_reply p deepest ks F r τ) ≡ at ks cs K L F c (after_reply p deepest ks F r σ)
   after_same L K c (Ok x) τ σ e cs = ap (λ s. at ks cs K L F c (beside_state p deepest ks F s)) e
   after_same L K c (Err f) τ σ e cs = ap (λ s. at ks cs K L F c (left_beside p deepest ks F (Faulted f) s)) e
@@ -90,7 +90,7 @@ module _ (p : Program) (deepest : Watch) (ks : List Kind) (F : List Frame) where
 
     -- the number of a temporary comes as a value into its local
     pub boxed_number_ok : {K : List Label} {k : Instructions} → (l : Locals) (t : ℕ) (σ : State) (x : Number) → t < b.temporaries → l.number t ≡ Bits (I64 (number_word x)) → is_owned (l.hand t) ≡ false →
-        Goes (machine p deepest ks F) 3 (at ks [] K (laid b l) F (boxed_number b t (does (LocalSet (handle_local b t)) k)) (beside_state p deepest ks F σ)) (at ks [] K (laid b (with_at l (Hand t) (Held (value.Num x.number)))) F k (beside_state p deepest ks F σ))
+        Goes (machine p deepest ks F) 3 (at ks [] K (laid b l) F (boxed_number b t (emit (LocalSet (handle_local b t)) k)) (beside_state p deepest ks F σ)) (at ks [] K (laid b (with_at l (Hand t) (Held (value.Num x.number)))) F k (beside_state p deepest ks F σ))
     boxed_number_ok l t σ x lt e o = then_goes (get_copied b l (NumberAt t) (Bits (I64 (number_word x))) lt e refl) (then_goes (ask_num [] σ x) (set_ok b l (Hand t) (Held (value.Num x.number)) lt o))
 
     pub record Boxed (t : ℕ) (code : Instructions) (k : Instructions) (K : List Label) (l : Locals) (σ : State) (v : Value) : Type 0 where
@@ -105,7 +105,7 @@ module _ (p : Program) (deepest : Watch) (ks : List Kind) (F : List Frame) where
       few = omega arith;
       goes = goes_to
           (then_goes (number_is_ok b l t least least lt (e ∙ ap (λ x. Bits (I64 x)) q))
-          (then_goes (chooses (ask_row row.Uninit (does (LocalSet (handle_local b t)) Done)) (boxed_number b t (does (LocalSet (handle_local b t)) Done)) 1)
+          (then_goes (chooses (ask_row row.Uninit (emit (LocalSet (handle_local b t)) Done)) (boxed_number b t (emit (LocalSet (handle_local b t)) Done)) 1)
           (then_goes (ask_uninit [] σ) (then_goes (set_ok b l (Hand t) (Held value.Uninit) lt o) closes))))
           (ap (λ w. at ks [] K (laid b (with_at l (Hand t) (Held w))) F k (beside_state p deepest ks F σ)) (sym q1));
     }
@@ -113,8 +113,8 @@ module _ (p : Program) (deepest : Watch) (ks : List Kind) (F : List Frame) where
       steps = 7;
       few = omega arith;
       goes = goes_to
-          (then_goes (goes_to (number_is_ok b l t (number_word x) least lt (e ∙ ap (λ x. Bits (I64 x)) q)) (ap (λ f. at ks (Bits (flag f) ∷ []) K (laid b l) F (either (ask_row row.Uninit (does (LocalSet (handle_local b t)) Done)) (boxed_number b t (does (LocalSet (handle_local b t)) Done)) k) (beside_state p deepest ks F σ)) (word_not_least x)))
-          (then_goes (chooses (ask_row row.Uninit (does (LocalSet (handle_local b t)) Done)) (boxed_number b t (does (LocalSet (handle_local b t)) Done)) 0)
+          (then_goes (goes_to (number_is_ok b l t (number_word x) least lt (e ∙ ap (λ x. Bits (I64 x)) q)) (ap (λ f. at ks (Bits (flag f) ∷ []) K (laid b l) F (emit_if (ask_row row.Uninit (emit (LocalSet (handle_local b t)) Done)) (boxed_number b t (emit (LocalSet (handle_local b t)) Done)) k) (beside_state p deepest ks F σ)) (word_not_least x)))
+          (then_goes (chooses (ask_row row.Uninit (emit (LocalSet (handle_local b t)) Done)) (boxed_number b t (emit (LocalSet (handle_local b t)) Done)) 0)
           (then_goes (boxed_number_ok l t σ x lt (e ∙ ap (λ x. Bits (I64 x)) q) o) closes)))
           (ap (λ w. at ks [] K (laid b (with_at l (Hand t) (Held w))) F k (beside_state p deepest ks F σ)) (sym q1));
     }
@@ -135,7 +135,7 @@ module _ (p : Program) (deepest : Watch) (ks : List Kind) (F : List Frame) where
       few = omega arith;
       goes = goes_to
           (then_goes (number_is_ok b l t least least lt (e ∙ ap (λ y. Bits (I64 y)) q))
-          (then_goes (chooses (does (I64Const 0) (does (LocalSet (number_local b t)) Done)) Done 1)
+          (then_goes (chooses (emit (I64Const 0) (emit (LocalSet (number_local b t)) Done)) Done 1)
           (then_goes (set_ok b l (NumberAt t) (Bits (I64 0)) lt (ap is_owned e)) closes)))
           (ap (λ y. at ks [] K (laid b (with_at l (NumberAt t) (Bits (I64 (number_word y))))) F k (beside_state p deepest ks F σ)) (sym q1));
     }
@@ -145,14 +145,14 @@ module _ (p : Program) (deepest : Watch) (ks : List Kind) (F : List Frame) where
           steps = 4;
           few = omega arith;
           goes = goes_to
-              (then_goes (goes_to (number_is_ok b l t (number_word x) least lt e1) (ap (λ f. at ks (Bits (flag f) ∷ []) K (laid b l) F (when (does (I64Const 0) (does (LocalSet (number_local b t)) Done)) k) (beside_state p deepest ks F σ)) (word_not_least x)))
-              (then_goes (chooses (does (I64Const 0) (does (LocalSet (number_local b t)) Done)) Done 0) closes))
+              (then_goes (goes_to (number_is_ok b l t (number_word x) least lt e1) (ap (λ f. at ks (Bits (flag f) ∷ []) K (laid b l) F (when (emit (I64Const 0) (emit (LocalSet (number_local b t)) Done)) k) (beside_state p deepest ks F σ)) (word_not_least x)))
+              (then_goes (chooses (emit (I64Const 0) (emit (LocalSet (number_local b t)) Done)) Done 0) closes))
               (ap (λ M. at ks [] K M F k (beside_state p deepest ks F σ)) (sym (laid_again b l (NumberAt t) (Bits (I64 (number_word x))) lt e1)));
         }
 
     -- a code of the input or of `close` as a number
     pub code_number_ok : (k : Instructions) (K : List Label) (l : Locals) (t m r : ℕ) (σ : State) → t < b.temporaries → l.number t ≡ Bits (I64 m) →
-        ((vs : List Cell) → go (machine p deepest ks F) 2 (at ks (Bits (flag (nat_eq m 3)) ∷ (Bits (flag (nat_eq m 1)) ∷ [])) K (laid b l) F (does (Binary ty.I32 Sub) (does (Convert I64ExtendI32S) (does (LocalSet (number_local b t)) k))) (beside_state p deepest ks F σ)) ≡ at ks (Bits (I64 r) ∷ []) K (laid b l) F (does (LocalSet (number_local b t)) k) (beside_state p deepest ks F σ)) →
+        ((vs : List Cell) → go (machine p deepest ks F) 2 (at ks (Bits (flag (nat_eq m 3)) ∷ (Bits (flag (nat_eq m 1)) ∷ [])) K (laid b l) F (emit (Binary ty.I32 Sub) (emit (Convert I64ExtendI32S) (emit (LocalSet (number_local b t)) k))) (beside_state p deepest ks F σ)) ≡ at ks (Bits (I64 r) ∷ []) K (laid b l) F (emit (LocalSet (number_local b t)) k) (beside_state p deepest ks F σ)) →
         Goes (machine p deepest ks F) 7 (at ks [] K (laid b l) F (code_number b t k) (beside_state p deepest ks F σ)) (at ks [] K (laid b (with_at l (NumberAt t) (Bits (I64 r)))) F k (beside_state p deepest ks F σ))
     code_number_ok k K l t m r σ lt e q =
         then_goes (number_is_ok b l t m 1 lt e) (then_goes (number_is_ok b l t m 3 lt e) (then_goes (by_steps 2 (q [])) (set_ok b l (NumberAt t) (Bits (I64 r)) lt (ap is_owned e))))

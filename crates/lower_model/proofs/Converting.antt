@@ -22,7 +22,7 @@ use Rattle.wasm_types.specs.declared.instr.IRelOp.TheVariants.{LeS}
 use Rattle.wasm_store.specs.Integers.{compare_at}
 use Rattle.wasm_store.specs.declared.word.Word.TheVariants.{I64}
 use Rattle.wasm_store.specs.Words.{flag}
-use Rattle.mid_program.specs.Mid.{Kind, Program, Form, Answered, Bare, Perhaps}
+use Rattle.mid_program.specs.Mid.{Kind, Program, Form, PrimitiveAnswer, NumberOrText, OptionalNumber}
 use Rattle.mid_program.specs.MidMeaning.{Holds, converted, boxed}
 use Rattle.mid_program.specs.Sorted.{fits}
 use Rattle.sem_scripts.specs.Steps.{zero_number, one_number, minus_one, numeric, truth_number}
@@ -30,9 +30,9 @@ use Rattle.sem_scripts.specs.ScriptState.{State, Faulted, Outcome, Gives, settle
 use Rattle.lower_model.specs.Cells.{Cell, Bits, Held, is_owned}
 use Rattle.lower_model.specs.Machine.{Code, Conf, Label, Frame, Store, at, br, label}
 use Rattle.lower_model.specs.Places.{Bases, handle_local, number_local}
-use Rattle.lower_model.specs.Small.{does, either, least, text_beside, boxed_perhaps, number_of_value, number_made, unnumbered, kept_number}
+use Rattle.lower_model.specs.Small.{emit, emit_if, least, text_beside, boxed_perhaps, number_of_value, number_made, unnumbered, kept_number}
 use Rattle.lower_model.specs.Small
-use Rattle.lower_model.proofs.Watch.{Watch}
+use Rattle.lower_model.proofs.Observer.{Observer}
 use Rattle.lower_model.proofs.Runs.{Goes, by_steps, then_goes, goes_to, goes_from, stays, there, faulted, first, within, weaker, then_step, Onward}
 use Rattle.lower_model.proofs.Regions.{upd_same, upd_other}
 use Rattle.lower_model.proofs.Locals.{Locals, Hand, Number as NumberAt, with_at, laid}
@@ -66,7 +66,7 @@ pub flag_word : (x : Bool) → flag_number x ≡ number_word (truth_number x)
 flag_word true = refl
 flag_word false = refl
 
-module _ (p : Program) (deepest : Watch) (ks : List Kind) (F : List Frame) (b : Bases) (M : ℕ) where
+module _ (p : Program) (deepest : Observer) (ks : List Kind) (F : List Frame) (b : Bases) (M : ℕ) where
   abbrev u : Code
   u = machine p deepest ks F
 
@@ -81,7 +81,7 @@ module _ (p : Program) (deepest : Watch) (ks : List Kind) (F : List Frame) (b : 
   conv_self : (q i w t : ℕ) (f : Form) (k : Instructions) (K : List Label) (l : Locals) (x : Holds f) (σ : State) → Fit p deepest ks F q i w l σ → HoldsAt f t l x → Converted q i w t f k K l x σ (at ks [] K (laid b l) F k (beside_state p deepest ks F σ))
   conv_self q i w t f k K l x σ ft hd = record { next = l; comes = refl; fit = ft; keeps = keeps_self t l; holds = hd }
 
-  conv_hand : (q i w t : ℕ) (k : Instructions) (K : List Label) (l : Locals) (v : Value) (σ : State) → t < q → Fit p deepest ks F q i w l σ → Converted q i w t (Answered (answer.Of sort.Value)) k K l v σ (at ks [] K (laid b (with_at l (Hand t) (Held v))) F k (beside_state p deepest ks F σ))
+  conv_hand : (q i w t : ℕ) (k : Instructions) (K : List Label) (l : Locals) (v : Value) (σ : State) → t < q → Fit p deepest ks F q i w l σ → Converted q i w t (PrimitiveAnswer (answer.Of sort.Value)) k K l v σ (at ks [] K (laid b (with_at l (Hand t) (Held v))) F k (beside_state p deepest ks F σ))
   conv_hand q i w t k K l v σ lt ft = record {
     next = with_at l (Hand t) (Held v);
     comes = refl;
@@ -90,7 +90,7 @@ module _ (p : Program) (deepest : Watch) (ks : List Kind) (F : List Frame) (b : 
     holds = (upd_same l.hand t (Held v), tt);
   }
 
-  pub conv_number : (q i w t : ℕ) (k : Instructions) (K : List Label) (l : Locals) (x : Number) (σ : State) → Fit p deepest ks F q i w l σ → l.hand t ≡ empty → Converted q i w t (Answered (answer.Of sort.Number)) k K l x σ (at ks [] K (laid b (with_at l (NumberAt t) (Bits (I64 (number_word x))))) F k (beside_state p deepest ks F σ))
+  pub conv_number : (q i w t : ℕ) (k : Instructions) (K : List Label) (l : Locals) (x : Number) (σ : State) → Fit p deepest ks F q i w l σ → l.hand t ≡ empty → Converted q i w t (PrimitiveAnswer (answer.Of sort.Number)) k K l x σ (at ks [] K (laid b (with_at l (NumberAt t) (Bits (I64 (number_word x))))) F k (beside_state p deepest ks F σ))
   conv_number q i w t k K l x σ ft e = record {
     next = with_at l (NumberAt t) (Bits (I64 (number_word x)));
     comes = refl;
@@ -104,45 +104,45 @@ module _ (p : Program) (deepest : Watch) (ks : List Kind) (F : List Frame) (b : 
 
   -- a number that may not be there yet, or have a text beside it, as a value
   bare_boxed : (q i w t d : ℕ) (k : Instructions) (K : List Label) (l : Locals) (v : Value) (σ : State) → t < q → t < b.temporaries → Fit p deepest ks F q i w l σ → (n0 : ℕ) → l.number t ≡ Bits (I64 n0) → BareIs v n0 (l.hand t) →
-      Reached p deepest ks F b M 16 σ.turns (at ks [] K (laid b l) F (Small.to_value b Bare t k) (beside_state p deepest ks F σ)) (Converted q i w t (Answered (answer.Of sort.Value)) k K l) (Away p deepest ks F b d K) (settled (Ok v) σ)
+      Reached p deepest ks F b M 16 σ.turns (at ks [] K (laid b l) F (Small.to_value b NumberOrText t k) (beside_state p deepest ks F σ)) (Converted q i w t (PrimitiveAnswer (answer.Of sort.Value)) k K l) (Away p deepest ks F b d K) (settled (Ok v) σ)
   bare_boxed q i w t d k K l v σ lq lt ft n0 en (IsBeside e e1) =
-      there u M 16 4 _ _ v σ (Converted q i w t (Answered (answer.Of sort.Value)) k K l) (Away p deepest ks F b d K)
+      there u M 16 4 _ _ v σ (Converted q i w t (PrimitiveAnswer (answer.Of sort.Value)) k K l) (Away p deepest ks F b d K)
       (then_goes (number_is_ok b l t text_beside text_beside lt (en ∙ ap (λ m. Bits (I64 m)) e)) (then_goes (chooses Done (boxed_perhaps b t (LocalSet (handle_local b t)) Done) 1) closes)) (omega arith)
-      (conv_self q i w t (Answered (answer.Of sort.Value)) k K l v σ ft (e1, tt))
+      (conv_self q i w t (PrimitiveAnswer (answer.Of sort.Value)) k K l v σ ft (e1, tt))
   bare_boxed q i w t d k K l v σ lq lt ft n0 en (IsNone e e1 e2) =
       let x = boxed_perhaps_ok p deepest ks F b Done (label [] None k ∷ K) l t n0 σ v lt en (ap is_owned e2) (NoNumber e1 e) in
-      there u M 16 (3 + (x.steps + 1)) _ _ v σ (Converted q i w t (Answered (answer.Of sort.Value)) k K l) (Away p deepest ks F b d K)
+      there u M 16 (3 + (x.steps + 1)) _ _ v σ (Converted q i w t (PrimitiveAnswer (answer.Of sort.Value)) k K l) (Away p deepest ks F b d K)
       (then_goes (then_goes (number_is_ok b l t least text_beside lt (en ∙ ap (λ m. Bits (I64 m)) e1)) (chooses Done (boxed_perhaps b t (LocalSet (handle_local b t)) Done) 0)) (then_goes x.goes closes)) (omega (arith, x.few))
       (conv_hand q i w t k K l v σ lq ft)
   bare_boxed q i w t d k K l v σ lq lt ft n0 en (IsNumber m e e1 e2) =
       let x = boxed_perhaps_ok p deepest ks F b Done (label [] None k ∷ K) l t n0 σ v lt en (ap is_owned e2) (There m e1 e) in
-      there u M 16 (3 + (x.steps + 1)) _ _ v σ (Converted q i w t (Answered (answer.Of sort.Value)) k K l) (Away p deepest ks F b d K)
-      (then_goes (then_goes (goes_to (number_is_ok b l t (number_word m) text_beside lt (en ∙ ap (λ z. Bits (I64 z)) e1)) (ap (λ f. at ks (Bits (flag f) ∷ []) K (laid b l) F (either Done (boxed_perhaps b t (LocalSet (handle_local b t)) Done) k) (beside_state p deepest ks F σ)) (word_not_beside m)))
+      there u M 16 (3 + (x.steps + 1)) _ _ v σ (Converted q i w t (PrimitiveAnswer (answer.Of sort.Value)) k K l) (Away p deepest ks F b d K)
+      (then_goes (then_goes (goes_to (number_is_ok b l t (number_word m) text_beside lt (en ∙ ap (λ z. Bits (I64 z)) e1)) (ap (λ f. at ks (Bits (flag f) ∷ []) K (laid b l) F (emit_if Done (boxed_perhaps b t (LocalSet (handle_local b t)) Done) k) (beside_state p deepest ks F σ)) (word_not_beside m)))
       (chooses Done (boxed_perhaps b t (LocalSet (handle_local b t)) Done) 0)) (then_goes x.goes closes)) (omega (arith, x.few))
       (conv_hand q i w t k K l v σ lq ft)
 
-  pub perhaps_is : (o : Option Number) → PerhapsIs p deepest ks F b (perhaps o) (boxed Perhaps o)
+  pub perhaps_is : (o : Option Number) → PerhapsIs p deepest ks F b (perhaps o) (boxed OptionalNumber o)
   perhaps_is None = NoNumber refl refl
   perhaps_is (Some x) = There x refl refl
 
   -- a value as a number
   pub value_numbered : (q i w t d : ℕ) (k : Instructions) (K : List Label) (l : Locals) (v : Value) (σ : State) → t < q → t < b.temporaries → Fit p deepest ks F q i w l σ → l.hand t ≡ Held v →
-      Reached p deepest ks F b M 6 σ.turns (at ks [] K (laid b l) F (number_of_value b t d k) (beside_state p deepest ks F σ)) (Converted q i w t (Answered (answer.Of sort.Number)) k K l) (Away p deepest ks F b d K) (settled (number_of_row v) σ)
+      Reached p deepest ks F b M 6 σ.turns (at ks [] K (laid b l) F (number_of_value b t d k) (beside_state p deepest ks F σ)) (Converted q i w t (PrimitiveAnswer (answer.Of sort.Number)) k K l) (Away p deepest ks F b d K) (settled (number_of_row v) σ)
   value_numbered q i w t d k K l v σ lq lt ft e =
       let l1 = with_at l (Hand t) empty in
       let f1 = fit_hand p deepest ks F t q i w l σ empty (inl refl) lq ft in
-      first u M 3 3 6 σ.turns _ _ (Converted q i w t (Answered (answer.Of sort.Number)) k K l) (Away p deepest ks F b d K) (settled (number_of_row v) σ)
+      first u M 3 3 6 σ.turns _ _ (Converted q i w t (PrimitiveAnswer (answer.Of sort.Number)) k K l) (Away p deepest ks F b d K) (settled (number_of_row v) σ)
       (then_goes (moved_out_ok b l (Hand t) (Held v) lt e) (ask_to_num p deepest ks F [] σ v)) (omega arith)
       (by (number_of_row v) l1 f1)
     where
       by : (r : Result Number Fault) (l1 : Locals) → Fit p deepest ks F q i w (with_at l (Hand t) empty) σ →
-          Reached p deepest ks F b M 3 σ.turns (at ks (reply (answer.Of sort.Number) r []) K (laid b (with_at l (Hand t) empty)) F (kept_number b true t d k) (after_reply p deepest ks F r σ)) (Converted q i w t (Answered (answer.Of sort.Number)) k K l) (Away p deepest ks F b d K) (settled r σ)
+          Reached p deepest ks F b M 3 σ.turns (at ks (reply (answer.Of sort.Number) r []) K (laid b (with_at l (Hand t) empty)) F (kept_number b true t d k) (after_reply p deepest ks F r σ)) (Converted q i w t (PrimitiveAnswer (answer.Of sort.Number)) k K l) (Away p deepest ks F b d K) (settled r σ)
       by (Ok x) l1 f1 =
           let l2 = with_at l (Hand t) empty in
           let c = conv_number q i w t k K l2 x σ f1 (upd_same l.hand t empty) in
-          there u M 3 3 _ _ x σ (Converted q i w t (Answered (answer.Of sort.Number)) k K l) (Away p deepest ks F b d K) (number_kept b l2 t d (number_word x) lt (f1.numbers t) (word_not_least x)) (omega arith)
+          there u M 3 3 _ _ x σ (Converted q i w t (PrimitiveAnswer (answer.Of sort.Number)) k K l) (Away p deepest ks F b d K) (number_kept b l2 t d (number_word x) lt (f1.numbers t) (word_not_least x)) (omega arith)
           (record { next = c.next; comes = c.comes; fit = c.fit; keeps = keeps_then t l l2 c.next (keeps_hand t l empty) c.keeps; holds = c.holds })
-      by (Err g) l1 f1 = faulted u M 3 3 _ _ g σ (Converted q i w t (Answered (answer.Of sort.Number)) k K l) (Away p deepest ks F b d K) (number_failed b (with_at l (Hand t) empty) t d lt (f1.numbers t)) (omega arith) (leaves f1)
+      by (Err g) l1 f1 = faulted u M 3 3 _ _ g σ (Converted q i w t (PrimitiveAnswer (answer.Of sort.Number)) k K l) (Away p deepest ks F b d K) (number_failed b (with_at l (Hand t) empty) t d lt (f1.numbers t)) (omega arith) (leaves f1)
         where
           leaves : Fit p deepest ks F q i w (with_at l (Hand t) empty) σ → Away p deepest ks F b d K (Faulted g) σ (br d ks K (laid b (with_at (with_at l (Hand t) empty) (NumberAt t) (Bits (I64 least)))) F (left_beside p deepest ks F (Faulted g) σ))
           leaves f1 = record {
@@ -191,12 +191,12 @@ module _ (p : Program) (deepest : Watch) (ks : List Kind) (F : List Frame) (b : 
 
   -- what an unboxed name has, as a number
   bare_numbered : (q i w t d : ℕ) (k : Instructions) (K : List Label) (l : Locals) (v : Value) (σ : State) → t < q → t < b.temporaries → Fit p deepest ks F q i w l σ → (n0 : ℕ) → l.number t ≡ Bits (I64 n0) → BareIs v n0 (l.hand t) →
-      Reached p deepest ks F b M 14 σ.turns (at ks [] K (laid b l) F (Small.to_number b Bare t d k) (beside_state p deepest ks F σ)) (Converted q i w t (Answered (answer.Of sort.Number)) k K l) (Away p deepest ks F b d K) (settled (number_of_row v) σ)
+      Reached p deepest ks F b M 14 σ.turns (at ks [] K (laid b l) F (Small.to_number b NumberOrText t d k) (beside_state p deepest ks F σ)) (Converted q i w t (PrimitiveAnswer (answer.Of sort.Number)) k K l) (Away p deepest ks F b d K) (settled (number_of_row v) σ)
   bare_numbered q i w t d k K l v σ lq lt ft n0 en (IsBeside e e1) =
       let K1 = label [] None k ∷ K in
       let K2 = label [] None Done ∷ K1 in
-      let zero_put = does (I64Const 0) (does (LocalSet (number_local b t)) Done) in
-      let N = Answered (answer.Of sort.Number) in
+      let zero_put = emit (I64Const 0) (emit (LocalSet (number_local b t)) Done) in
+      let N = PrimitiveAnswer (answer.Of sort.Number) in
       let he = en ∙ ap (λ m. Bits (I64 m)) e in
       first u M 6 8 14 σ.turns _ _ (Converted q i w t N k K l) (Away p deepest ks F b d K) (settled (number_of_row v) σ)
       (then_goes (then_goes (unnumbered_ok l t text_beside true lt he refl) (chooses (number_made b t d Done) Done 1))
@@ -207,50 +207,50 @@ module _ (p : Program) (deepest : Watch) (ks : List Kind) (F : List Frame) (b : 
       (λ x τ c1 a. conv_closes q i w t N Done K1 l x τ c1 a)
       (value_numbered q i w t (suc (suc d)) Done K2 l v σ lq lt ft e1)))
   bare_numbered q i w t d k K l v σ lq lt ft n0 en (IsNone e e1 e2) =
-      let zero_put = does (I64Const 0) (does (LocalSet (number_local b t)) Done) in
+      let zero_put = emit (I64Const 0) (emit (LocalSet (number_local b t)) Done) in
       let he = en ∙ ap (λ m. Bits (I64 m)) e1 in
-      subst (λ r. Reached p deepest ks F b M 14 σ.turns (at ks [] K (laid b l) F (Small.to_number b Bare t d k) (beside_state p deepest ks F σ)) (Converted q i w t (Answered (answer.Of sort.Number)) k K l) (Away p deepest ks F b d K) (settled r σ)) (sym (none_number v e))
-      (there u M 14 9 _ _ zero_number σ (Converted q i w t (Answered (answer.Of sort.Number)) k K l) (Away p deepest ks F b d K)
+      subst (λ r. Reached p deepest ks F b M 14 σ.turns (at ks [] K (laid b l) F (Small.to_number b NumberOrText t d k) (beside_state p deepest ks F σ)) (Converted q i w t (PrimitiveAnswer (answer.Of sort.Number)) k K l) (Away p deepest ks F b d K) (settled r σ)) (sym (none_number v e))
+      (there u M 14 9 _ _ zero_number σ (Converted q i w t (PrimitiveAnswer (answer.Of sort.Number)) k K l) (Away p deepest ks F b d K)
       (then_goes (then_goes (unnumbered_ok l t least true lt he refl) (chooses (number_made b t d Done) Done 1))
       (then_goes (then_goes (number_is_ok b l t least text_beside lt he) (chooses (number_of_value b t (suc (suc d)) Done) zero_put 0))
       (then_goes (set_ok b l (NumberAt t) (Bits (I64 0)) lt (ft.numbers t)) (then_goes closes closes)))) (omega arith)
       (conv_number q i w t k K l zero_number σ ft e2))
   bare_numbered q i w t d k K l v σ lq lt ft n0 en (IsNumber m e e1 e2) =
       let he = en ∙ ap (λ z. Bits (I64 z)) e1 in
-      subst (λ r. Reached p deepest ks F b M 14 σ.turns (at ks [] K (laid b l) F (Small.to_number b Bare t d k) (beside_state p deepest ks F σ)) (Converted q i w t (Answered (answer.Of sort.Number)) k K l) (Away p deepest ks F b d K) (settled r σ)) (sym (own_number v m e))
-      (there u M 14 4 _ _ m σ (Converted q i w t (Answered (answer.Of sort.Number)) k K l) (Away p deepest ks F b d K)
+      subst (λ r. Reached p deepest ks F b M 14 σ.turns (at ks [] K (laid b l) F (Small.to_number b NumberOrText t d k) (beside_state p deepest ks F σ)) (Converted q i w t (PrimitiveAnswer (answer.Of sort.Number)) k K l) (Away p deepest ks F b d K) (settled r σ)) (sym (own_number v m e))
+      (there u M 14 4 _ _ m σ (Converted q i w t (PrimitiveAnswer (answer.Of sort.Number)) k K l) (Away p deepest ks F b d K)
       (then_goes (unnumbered_ok l t (number_word m) false lt he (word_numbered m)) (then_goes (chooses (number_made b t d Done) Done 0) closes)) (omega arith)
-      (conv_self q i w t (Answered (answer.Of sort.Number)) k K l m σ ft (e2, he)))
+      (conv_self q i w t (PrimitiveAnswer (answer.Of sort.Number)) k K l m σ ft (e2, he)))
 
   coded : (q i w t d : ℕ) (k : Instructions) (K : List Label) (l : Locals) (x : Number) (σ : State) → Fit p deepest ks F q i w l σ → l.hand t ≡ empty →
       {c : Conf} → Goes u 7 c (at ks [] K (laid b (with_at l (NumberAt t) (Bits (I64 (number_word x))))) F k (beside_state p deepest ks F σ)) →
-      Reached p deepest ks F b M 16 σ.turns c (Converted q i w t (Answered (answer.Of sort.Number)) k K l) (Away p deepest ks F b d K) (Gives x σ)
-  coded q i w t d k K l x σ ft e g = there u M 16 7 _ _ x σ (Converted q i w t (Answered (answer.Of sort.Number)) k K l) (Away p deepest ks F b d K) g (omega arith) (conv_number q i w t k K l x σ ft e)
+      Reached p deepest ks F b M 16 σ.turns c (Converted q i w t (PrimitiveAnswer (answer.Of sort.Number)) k K l) (Away p deepest ks F b d K) (Gives x σ)
+  coded q i w t d k K l x σ ft e g = there u M 16 7 _ _ x σ (Converted q i w t (PrimitiveAnswer (answer.Of sort.Number)) k K l) (Away p deepest ks F b d K) g (omega arith) (conv_number q i w t k K l x σ ft e)
 
   -- A temporary is converted to what is wanted, or the function is left.
   pub converted_ok : (f : Form) (s : Sort) (x : Holds f) (q i w t d : ℕ) (k : Instructions) (K : List Label) (l : Locals) (σ : State) → fits f s ≡ true → t < q → t < b.temporaries → Fit p deepest ks F q i w l σ → HoldsAt f t l x →
-      Reached p deepest ks F b M 16 σ.turns (at ks [] K (laid b l) F (Small.converted b f s t d k) (beside_state p deepest ks F σ)) (Converted q i w t (Answered (answer.Of s)) k K l) (Away p deepest ks F b d K) (settled (converted f s x) σ)
-  converted_ok (Answered (answer.Of sort.Value)) sort.Value x q i w t d k K l σ e lq lt ft hd = there u M 16 0 _ _ x σ (Converted q i w t (Answered (answer.Of sort.Value)) k K l) (Away p deepest ks F b d K) stays (omega arith) (conv_self q i w t (Answered (answer.Of sort.Value)) k K l x σ ft hd)
-  converted_ok (Answered (answer.Of sort.Number)) sort.Value x q i w t d k K l σ e lq lt ft hd =
-      there u M 16 3 _ _ (numeric x) σ (Converted q i w t (Answered (answer.Of sort.Value)) k K l) (Away p deepest ks F b d K) (boxed_number_ok p deepest ks F b l t σ x lt hd.1 (ap is_owned hd.0)) (omega arith) (conv_hand q i w t k K l (numeric x) σ lq ft)
-  converted_ok (Answered answer.Truth) sort.Value x q i w t d k K l σ e lq lt ft hd =
-      there u M 16 3 _ _ (numeric (truth_number x)) σ (Converted q i w t (Answered (answer.Of sort.Value)) k K l) (Away p deepest ks F b d K) (boxed_number_ok p deepest ks F b l t σ (truth_number x) lt (hd.1 ∙ ap (λ m. Bits (I64 m)) (flag_word x)) (ap is_owned hd.0)) (omega arith)
+      Reached p deepest ks F b M 16 σ.turns (at ks [] K (laid b l) F (Small.converted b f s t d k) (beside_state p deepest ks F σ)) (Converted q i w t (PrimitiveAnswer (answer.Of s)) k K l) (Away p deepest ks F b d K) (settled (converted f s x) σ)
+  converted_ok (PrimitiveAnswer (answer.Of sort.Value)) sort.Value x q i w t d k K l σ e lq lt ft hd = there u M 16 0 _ _ x σ (Converted q i w t (PrimitiveAnswer (answer.Of sort.Value)) k K l) (Away p deepest ks F b d K) stays (omega arith) (conv_self q i w t (PrimitiveAnswer (answer.Of sort.Value)) k K l x σ ft hd)
+  converted_ok (PrimitiveAnswer (answer.Of sort.Number)) sort.Value x q i w t d k K l σ e lq lt ft hd =
+      there u M 16 3 _ _ (numeric x) σ (Converted q i w t (PrimitiveAnswer (answer.Of sort.Value)) k K l) (Away p deepest ks F b d K) (boxed_number_ok p deepest ks F b l t σ x lt hd.1 (ap is_owned hd.0)) (omega arith) (conv_hand q i w t k K l (numeric x) σ lq ft)
+  converted_ok (PrimitiveAnswer answer.Truth) sort.Value x q i w t d k K l σ e lq lt ft hd =
+      there u M 16 3 _ _ (numeric (truth_number x)) σ (Converted q i w t (PrimitiveAnswer (answer.Of sort.Value)) k K l) (Away p deepest ks F b d K) (boxed_number_ok p deepest ks F b l t σ (truth_number x) lt (hd.1 ∙ ap (λ m. Bits (I64 m)) (flag_word x)) (ap is_owned hd.0)) (omega arith)
       (conv_hand q i w t k K l (numeric (truth_number x)) σ lq ft)
-  converted_ok Bare sort.Value x q i w t d k K l σ e lq lt ft hd = bare_boxed q i w t d k K l x σ lq lt ft hd.0 hd.1 hd.2
-  converted_ok Perhaps sort.Value x q i w t d k K l σ e lq lt ft hd =
-      let y = boxed_perhaps_ok p deepest ks F b k K l t (perhaps x) σ (boxed Perhaps x) lt hd.1 (ap is_owned hd.0) (perhaps_is x) in
-      there u M 16 y.steps _ _ (boxed Perhaps x) σ (Converted q i w t (Answered (answer.Of sort.Value)) k K l) (Away p deepest ks F b d K) y.goes (omega (arith, y.few)) (conv_hand q i w t k K l (boxed Perhaps x) σ lq ft)
-  converted_ok (Answered (answer.Of sort.Value)) sort.Number x q i w t d k K l σ e lq lt ft hd = within u M 6 16 σ.turns _ (Converted q i w t (Answered (answer.Of sort.Number)) k K l) (Away p deepest ks F b d K) (settled (number_of_row x) σ) (omega arith) (value_numbered q i w t d k K l x σ lq lt ft hd.0)
-  converted_ok (Answered (answer.Of sort.Number)) sort.Number x q i w t d k K l σ e lq lt ft hd = there u M 16 0 _ _ x σ (Converted q i w t (Answered (answer.Of sort.Number)) k K l) (Away p deepest ks F b d K) stays (omega arith) (conv_self q i w t (Answered (answer.Of sort.Number)) k K l x σ ft hd)
-  converted_ok (Answered answer.Truth) sort.Number x q i w t d k K l σ e lq lt ft hd =
-      there u M 16 0 _ _ (truth_number x) σ (Converted q i w t (Answered (answer.Of sort.Number)) k K l) (Away p deepest ks F b d K) stays (omega arith)
-      (conv_self q i w t (Answered (answer.Of sort.Number)) k K l (truth_number x) σ ft (hd.0, hd.1 ∙ ap (λ m. Bits (I64 m)) (flag_word x)))
-  converted_ok (Answered answer.Input) sort.Number input.End q i w t d k K l σ e lq lt ft hd = coded q i w t d k K l zero_number σ ft hd.0 (code_number_ok p deepest ks F b k K l t 0 0 σ lt hd.1 (λ vs. refl))
-  converted_ok (Answered answer.Input) sort.Number input.Read q i w t d k K l σ e lq lt ft hd = coded q i w t d k K l one_number σ ft hd.0 (code_number_ok p deepest ks F b k K l t 1 1 σ lt hd.1 (λ vs. refl))
-  converted_ok (Answered answer.Input) sort.Number input.Pending q i w t d k K l σ e lq lt ft hd = coded q i w t d k K l zero_number σ ft hd.0 (code_number_ok p deepest ks F b k K l t 2 0 σ lt hd.1 (λ vs. refl))
-  converted_ok (Answered answer.Input) sort.Number input.Failed q i w t d k K l σ e lq lt ft hd = coded q i w t d k K l minus_one σ ft hd.0 (code_number_ok p deepest ks F b k K l t 3 (2 ^ 64 - 1) σ lt hd.1 (λ vs. refl))
-  converted_ok (Answered answer.Stream) sort.Number stream.Done q i w t d k K l σ e lq lt ft hd = coded q i w t d k K l zero_number σ ft hd.0 (code_number_ok p deepest ks F b k K l t 0 0 σ lt hd.1 (λ vs. refl))
-  converted_ok (Answered answer.Stream) sort.Number stream.NotOpen q i w t d k K l σ e lq lt ft hd = coded q i w t d k K l minus_one σ ft hd.0 (code_number_ok p deepest ks F b k K l t 3 (2 ^ 64 - 1) σ lt hd.1 (λ vs. refl))
-  converted_ok Bare sort.Number x q i w t d k K l σ e lq lt ft hd = within u M 14 16 σ.turns _ (Converted q i w t (Answered (answer.Of sort.Number)) k K l) (Away p deepest ks F b d K) (settled (number_of_row x) σ) (omega arith) (bare_numbered q i w t d k K l x σ lq lt ft hd.0 hd.1 hd.2)
-  converted_ok (Answered (answer.Of sort.Array)) sort.Array x q i w t d k K l σ e lq lt ft hd = there u M 16 0 _ _ x σ (Converted q i w t (Answered (answer.Of sort.Array)) k K l) (Away p deepest ks F b d K) stays (omega arith) (conv_self q i w t (Answered (answer.Of sort.Array)) k K l x σ ft hd)
+  converted_ok NumberOrText sort.Value x q i w t d k K l σ e lq lt ft hd = bare_boxed q i w t d k K l x σ lq lt ft hd.0 hd.1 hd.2
+  converted_ok OptionalNumber sort.Value x q i w t d k K l σ e lq lt ft hd =
+      let y = boxed_perhaps_ok p deepest ks F b k K l t (perhaps x) σ (boxed OptionalNumber x) lt hd.1 (ap is_owned hd.0) (perhaps_is x) in
+      there u M 16 y.steps _ _ (boxed OptionalNumber x) σ (Converted q i w t (PrimitiveAnswer (answer.Of sort.Value)) k K l) (Away p deepest ks F b d K) y.goes (omega (arith, y.few)) (conv_hand q i w t k K l (boxed OptionalNumber x) σ lq ft)
+  converted_ok (PrimitiveAnswer (answer.Of sort.Value)) sort.Number x q i w t d k K l σ e lq lt ft hd = within u M 6 16 σ.turns _ (Converted q i w t (PrimitiveAnswer (answer.Of sort.Number)) k K l) (Away p deepest ks F b d K) (settled (number_of_row x) σ) (omega arith) (value_numbered q i w t d k K l x σ lq lt ft hd.0)
+  converted_ok (PrimitiveAnswer (answer.Of sort.Number)) sort.Number x q i w t d k K l σ e lq lt ft hd = there u M 16 0 _ _ x σ (Converted q i w t (PrimitiveAnswer (answer.Of sort.Number)) k K l) (Away p deepest ks F b d K) stays (omega arith) (conv_self q i w t (PrimitiveAnswer (answer.Of sort.Number)) k K l x σ ft hd)
+  converted_ok (PrimitiveAnswer answer.Truth) sort.Number x q i w t d k K l σ e lq lt ft hd =
+      there u M 16 0 _ _ (truth_number x) σ (Converted q i w t (PrimitiveAnswer (answer.Of sort.Number)) k K l) (Away p deepest ks F b d K) stays (omega arith)
+      (conv_self q i w t (PrimitiveAnswer (answer.Of sort.Number)) k K l (truth_number x) σ ft (hd.0, hd.1 ∙ ap (λ m. Bits (I64 m)) (flag_word x)))
+  converted_ok (PrimitiveAnswer answer.Input) sort.Number input.End q i w t d k K l σ e lq lt ft hd = coded q i w t d k K l zero_number σ ft hd.0 (code_number_ok p deepest ks F b k K l t 0 0 σ lt hd.1 (λ vs. refl))
+  converted_ok (PrimitiveAnswer answer.Input) sort.Number input.Read q i w t d k K l σ e lq lt ft hd = coded q i w t d k K l one_number σ ft hd.0 (code_number_ok p deepest ks F b k K l t 1 1 σ lt hd.1 (λ vs. refl))
+  converted_ok (PrimitiveAnswer answer.Input) sort.Number input.Pending q i w t d k K l σ e lq lt ft hd = coded q i w t d k K l zero_number σ ft hd.0 (code_number_ok p deepest ks F b k K l t 2 0 σ lt hd.1 (λ vs. refl))
+  converted_ok (PrimitiveAnswer answer.Input) sort.Number input.Failed q i w t d k K l σ e lq lt ft hd = coded q i w t d k K l minus_one σ ft hd.0 (code_number_ok p deepest ks F b k K l t 3 (2 ^ 64 - 1) σ lt hd.1 (λ vs. refl))
+  converted_ok (PrimitiveAnswer answer.Stream) sort.Number stream.Done q i w t d k K l σ e lq lt ft hd = coded q i w t d k K l zero_number σ ft hd.0 (code_number_ok p deepest ks F b k K l t 0 0 σ lt hd.1 (λ vs. refl))
+  converted_ok (PrimitiveAnswer answer.Stream) sort.Number stream.NotOpen q i w t d k K l σ e lq lt ft hd = coded q i w t d k K l minus_one σ ft hd.0 (code_number_ok p deepest ks F b k K l t 3 (2 ^ 64 - 1) σ lt hd.1 (λ vs. refl))
+  converted_ok NumberOrText sort.Number x q i w t d k K l σ e lq lt ft hd = within u M 14 16 σ.turns _ (Converted q i w t (PrimitiveAnswer (answer.Of sort.Number)) k K l) (Away p deepest ks F b d K) (settled (number_of_row x) σ) (omega arith) (bare_numbered q i w t d k K l x σ lq lt ft hd.0 hd.1 hd.2)
+  converted_ok (PrimitiveAnswer (answer.Of sort.Array)) sort.Array x q i w t d k K l σ e lq lt ft hd = there u M 16 0 _ _ x σ (Converted q i w t (PrimitiveAnswer (answer.Of sort.Array)) k K l) (Away p deepest ks F b d K) stays (omega arith) (conv_self q i w t (PrimitiveAnswer (answer.Of sort.Array)) k K l x σ ft hd)
   converted_ok f s x q i w t d k K l σ e lq lt ft hd = absurd (true≢false (sym e))

@@ -15,9 +15,9 @@ use Rattle.sem_scripts.specs.ScriptState.{State}
 use Rattle.lower_model.specs.Cells.{Cell, Bits, Held, Gone, is_owned, cell_at}
 use Rattle.lower_model.specs.Machine.{Look, Label, Frame, Store, at, label, ask_looking, with_operands, push_word, looked_compared}
 use Rattle.lower_model.specs.Places.{Bases, handle_local}
-use Rattle.lower_model.specs.Small.{does, ask_row, copied, copied_if_any, when, minus_one}
-use Rattle.host_imports.specs.declared.import.Import.TheVariants.{Of}
-use Rattle.lower_model.proofs.Watch.{Watch}
+use Rattle.lower_model.specs.Small.{emit, ask_row, copied, copied_if_any, when, minus_one}
+use Rattle.host_imports.specs.declared.import.Import.TheVariants.{OfPrimitive}
+use Rattle.lower_model.proofs.Observer.{Observer}
 use Rattle.lower_model.proofs.Runs.{Goes, then_goes, goes_to, by_steps}
 use Rattle.lower_model.proofs.Globals.{Global, global_of, IsGlobal, has_global, with_global_at, has_global_with, placed, placed_twice, placed_again}
 use Rattle.lower_model.proofs.Locals.{Locals, Place, Hand, local_of, IsPlace, has, with_at, has_with, laid, laid_at, laid_set, laid_twice, laid_again}
@@ -55,15 +55,15 @@ module _ (b : Bases) (l : Locals) (P Q : Place) (c d : Cell) (pp : IsPlace b P) 
       ∙ (ap (λ M. set M y d) (set-set L x c v ∙ (ap (set L x) (sym e ∙ sym (laid_at b l P pp)) ∙ set-get_or L x Gone))
       ∙ laid_set b l Q d qq))))
 
-module _ (p : Program) (deepest : Watch) (ks : List Kind) (F : List Frame) (b : Bases) where
+module _ (p : Program) (deepest : Observer) (ks : List Kind) (F : List Frame) (b : Bases) where
   pub dup_ok : {vs : List Cell} {K : List Label} {c : Instructions} → (x : ℕ) (L gs : List Cell) (v : Value) (σ : State) → cell_at L x ≡ Held v →
       Goes (machine p deepest ks F) 1 (Look x ks vs K L F (ask_row row.Dup c) (storing gs (host_of σ None))) (at ks (Held v ∷ vs) K L F c (storing gs (host_of σ None)))
   dup_ok {vs = vs} {K = K} {c = c} x L gs v σ e = by_steps 1
-      (ap (λ w. ask_looking (Some (Of row.Dup)) w ks vs K L F c (storing gs (host_of σ None))) e
+      (ap (λ w. ask_looking (Some (OfPrimitive row.Dup)) w ks vs K L F c (storing gs (host_of σ None))) e
       ∙ ap (λ τ. at ks (Held v ∷ vs) K L F c (storing gs (host_of τ None))) (same_state σ v))
 
   pub looked : {vs : List Cell} {K : List Label} {c : Instructions} → (x : ℕ) (L : List Cell) (G : Store) (v : Value) → cell_at L x ≡ Held v →
-      Goes (machine p deepest ks F) 1 (Look x ks vs K L F (does (I32Const minus_one) (does (Compare ty.I32 Ne) c)) G) (at ks (Bits (flag true) ∷ vs) K L F c G)
+      Goes (machine p deepest ks F) 1 (Look x ks vs K L F (emit (I32Const minus_one) (emit (Compare ty.I32 Ne) c)) G) (at ks (Bits (flag true) ∷ vs) K L F c G)
   looked {vs = vs} {K = K} {c = c} x L G v e = by_steps 1 (ap (λ w. with_operands (push_word vs (looked_compared Ne w minus_one)) ks K L F c G) e)
 
   -- from a local
@@ -111,7 +111,7 @@ module _ (p : Program) (deepest : Watch) (ks : List Kind) (F : List Frame) (b : 
       (then_goes (chooses k1 Done 1)
       (then_goes (get_moved b l1 (Hand t) (Held v) lt (has_with l (Hand t) (Held v)))
       (then_goes (goes_to (tee_ok b l2 (Hand t) (Held v) lt (ap is_owned (has_with l1 (Hand t) Gone)))
-      (ap (λ L. Look (handle_local b t) ks [] (label [] None k ∷ K) L F (ask_row row.Dup (does (GlobalSet x) Done)) (storing (placed p.ranges nn g1) (host_of σ None))) (laid_twice b l1 (Hand t) Gone (Held v) lt ∙ laid_again b l1 (Hand t) (Held v) lt (has_with l (Hand t) (Held v)))))
+      (ap (λ L. Look (handle_local b t) ks [] (label [] None k ∷ K) L F (ask_row row.Dup (emit (GlobalSet x) Done)) (storing (placed p.ranges nn g1) (host_of σ None))) (laid_twice b l1 (Hand t) Gone (Held v) lt ∙ laid_again b l1 (Hand t) (Held v) lt (has_with l (Hand t) (Held v)))))
       (then_goes (dup_ok (handle_local b t) (laid b l1) (placed p.ranges nn g1) v σ e1)
       (then_goes (goes_to (global_set_ok p.ranges nn g1 P (Held v) pp (ap is_owned (has_global_with p.ranges nn g P Gone)) (comes_back p.ranges (kinds_of p.globals) None g P (Held v)))
       (ap (λ m. at ks [] (label [] None k ∷ K) (laid b l1) F Done (storing m (host_of σ None))) (placed_twice p.ranges nn g P Gone (Held v) pp ∙ placed_again p.ranges nn g P (Held v) pp e)))
@@ -124,7 +124,7 @@ module _ (p : Program) (deepest : Watch) (ks : List Kind) (F : List Frame) (b : 
       let x = global_of p.ranges nn P in
       let k1 = copied (LocalGet (handle_local b t)) (GlobalSet x) (handle_local b t) Done in
       then_goes (global_copied p.ranges nn (cells_of (kinds_of p.globals) 0 σ) P empty pp e refl)
-      (then_goes (goes_to (tee_ok b l (Hand t) empty lt (ap is_owned o)) (ap (λ L. at ks (empty ∷ []) K L F (does (I32Const minus_one) (does (Compare ty.I32 Ne) (when k1 k))) (beside_state p deepest ks F σ)) (laid_again b l (Hand t) empty lt o)))
+      (then_goes (goes_to (tee_ok b l (Hand t) empty lt (ap is_owned o)) (ap (λ L. at ks (empty ∷ []) K L F (emit (I32Const minus_one) (emit (Compare ty.I32 Ne) (when k1 k))) (beside_state p deepest ks F σ)) (laid_again b l (Hand t) empty lt o)))
       (then_goes (by_steps 1 refl)
       (then_goes (chooses k1 Done 0) closes)))
 
@@ -144,7 +144,7 @@ module _ (p : Program) (deepest : Watch) (ks : List Kind) (F : List Frame) (b : 
       (then_goes (chooses k1 Done 1)
       (then_goes (get_moved b l1 (Hand t) (Held v) lt (has_with l0 (Hand t) (Held v)))
       (then_goes (goes_to (tee_ok b l2 (Hand t) (Held v) lt (ap is_owned (has_with l1 (Hand t) Gone)))
-      (ap (λ L. Look (handle_local b t) ks [] (label [] None k ∷ K) L F (ask_row row.Dup (does (LocalSet x) Done)) (beside_state p deepest ks F σ)) (laid_twice b l1 (Hand t) Gone (Held v) lt ∙ laid_again b l1 (Hand t) (Held v) lt (has_with l0 (Hand t) (Held v)))))
+      (ap (λ L. Look (handle_local b t) ks [] (label [] None k ∷ K) L F (ask_row row.Dup (emit (LocalSet x) Done)) (beside_state p deepest ks F σ)) (laid_twice b l1 (Hand t) Gone (Held v) lt ∙ laid_again b l1 (Hand t) (Held v) lt (has_with l0 (Hand t) (Held v)))))
       (then_goes (dup_ok (handle_local b t) (laid b l1) gs v σ e1)
       (then_goes (goes_to (set_ok b l1 P (Held v) pp (ap is_owned (first_still b l P (Hand t) Gone (Held v) pp lt ne))) (ap (λ L. at ks [] (label [] None k ∷ K) L F Done (beside_state p deepest ks F σ)) (given_back b l P (Hand t) Gone (Held v) pp lt ne (Held v) e)))
       closes)))))))
@@ -155,6 +155,6 @@ module _ (p : Program) (deepest : Watch) (ks : List Kind) (F : List Frame) (b : 
       let x = local_of b P in
       let k1 = copied (LocalGet (handle_local b t)) (LocalSet x) (handle_local b t) Done in
       then_goes (get_copied b l P empty pp e refl)
-      (then_goes (goes_to (tee_ok b l (Hand t) empty lt (ap is_owned o)) (ap (λ L. at ks (empty ∷ []) K L F (does (I32Const minus_one) (does (Compare ty.I32 Ne) (when k1 k))) (beside_state p deepest ks F σ)) (laid_again b l (Hand t) empty lt o)))
+      (then_goes (goes_to (tee_ok b l (Hand t) empty lt (ap is_owned o)) (ap (λ L. at ks (empty ∷ []) K L F (emit (I32Const minus_one) (emit (Compare ty.I32 Ne) (when k1 k))) (beside_state p deepest ks F σ)) (laid_again b l (Hand t) empty lt o)))
       (then_goes (by_steps 1 refl)
       (then_goes (chooses k1 Done 0) closes)))

@@ -11,7 +11,7 @@ use Rattle.wasm_types.specs.Syntax.{Instructions, Done}
 use Rattle.wasm_types.specs.declared.instr.Simple.TheVariants.{GlobalGet, Convert}
 use Rattle.wasm_types.specs.declared.instr.CvtOp.TheVariants.{I32WrapI64}
 use Rattle.wasm_store.specs.declared.word.Word.TheVariants.{I32, I64}
-use Rattle.mid_program.specs.Mid.{Kind, Boxed, Unboxed, Many, Program}
+use Rattle.mid_program.specs.Mid.{Kind, Boxed, Unboxed, ArrayKind, Program}
 use Rattle.sem_scripts.specs.ScriptRun.{Setting, Ended, ending}
 use Rattle.sem_scripts.specs.ScriptState.{State, Faulted, OutOfTurns, TooDeep, Nexted, Exited, Returned, Outcome, Gives, Stops}
 use Rattle.mid_program.specs.Sorted.{kinds_of}
@@ -22,9 +22,9 @@ use Rattle.lower_model.specs.Machine.{Notes, Conf, Over, Store, at, ending_at, e
 use Rattle.lower_model.specs.ImportCalls.{Host}
 use Rattle.lower_model.specs.Places.{Bases, status_global}
 use Rattle.lower_model.specs.Runs.{noting_code, begun}
-use Rattle.lower_model.specs.Small.{does}
+use Rattle.lower_model.specs.Small.{emit}
 use Rattle.lower_model.specs.Statements.{swept}
-use Rattle.lower_model.proofs.Watch.{Watch}
+use Rattle.lower_model.proofs.Observer.{Observer}
 use Rattle.lower_model.proofs.Runs.{Goes, then_goes, by_steps, Arrives}
 use Rattle.lower_model.proofs.Globals.{Globals, Status, placed}
 use Rattle.lower_model.proofs.GlobalSteps.{global_copied, storing}
@@ -53,14 +53,14 @@ beside_ended v (IsNumber m e e1 e2) = ap (ended_name Unboxed) e2
 name_ended : (k : Kind) (a : ℕ) (v : Value) → ended_name k (name_hand k a v) ≡ true
 name_ended Boxed a v = refl
 name_ended Unboxed a v = beside_ended v (bare_is v)
-name_ended Many a v = refl
+name_ended ArrayKind a v = refl
 
 abbrev pub main_exit_work : Bases → ℕ
 main_exit_work b = 8 * (b.temporaries + (b.iterators + b.arrays)) + 3
 
-module _ (p : Program) (deepest : Watch) (b : Bases) where
+module _ (p : Program) (deepest : Observer) (b : Bases) where
   abbrev pub main_exit : Instructions
-  main_exit = swept (layout_of p b) (does (GlobalGet status_global) (does (Convert I32WrapI64) Done))
+  main_exit = swept (layout_of p b) (emit (GlobalGet status_global) (emit (Convert I32WrapI64) Done))
 
   -- `main` ends with the status, and holds nothing
   pub record MainEnds (w : ℕ) (G : Store) (l : Locals) : Type 0 where
@@ -74,7 +74,7 @@ module _ (p : Program) (deepest : Watch) (b : Bases) where
       let G = storing (placed p.ranges (length (kinds_of p.globals)) g) o in
       let mach = machine p deepest [] [] in
       let v = Bits (I32 (w % 2 ^ 32)) in
-      let a = sweep_ok p deepest [] [] b [] G l (does (GlobalGet status_global) (does (Convert I32WrapI64) Done)) lo in
+      let a = sweep_ok p deepest [] [] b [] G l (emit (GlobalGet status_global) (emit (Convert I32WrapI64) Done)) lo in
       let clean : none_owned (laid b a.next) ≡ true =
       unowned_laid p deepest [] [] b a.next (λ i lt. absurd (omega (arith, lt, none))) (ap is_owned (a.answer ∙ an)) (λ x lt. ap is_owned (a.hands x lt)) (λ x. ap is_owned (a.numbers x) ∙ lo.numbers x)
       (λ x lt. ap is_owned (a.iterators x lt)) (λ x lt. ap is_owned (a.arrays x lt)) in

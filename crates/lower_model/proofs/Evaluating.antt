@@ -8,7 +8,7 @@ use Rattle.lower_model.specs.Machine.{Label, Frame, at}
 use Rattle.lower_model.specs.Places.{Bases, room, arrays_in}
 use Rattle.lower_model.specs.Quick.{Update, update_in, Tally, tally_in, Remainder, remainder_in}
 use Rattle.lower_model.specs.Statements.{remainder_dropped, barely_dropped, plainly_dropped}
-use Rattle.lower_model.proofs.Watch.{Watch}
+use Rattle.lower_model.proofs.Observer.{Observer}
 use Rattle.lower_model.proofs.Runs.{within}
 use Rattle.lower_model.proofs.Locals.{Locals, laid}
 use Rattle.lower_model.proofs.Relation.{Away}
@@ -21,7 +21,7 @@ use Rattle.lower_model.proofs.Tallying.{tallied_ok}
 use Rattle.lower_model.proofs.Remainders.{IsRemainder, remainder_is, remainder_ok, remainder_code}
 use Rattle.lower_model.proofs.Updating.{added_is, updated_ok}
 
-module _ (p : Program) (deepest : Watch) (ks : List Kind) (F : List Frame) (b : Bases) (M n : ℕ) where
+module _ (p : Program) (deepest : Observer) (ks : List Kind) (F : List Frame) (b : Bases) (M n : ℕ) where
   module _ (exprs : (x : Code) → ExprOk p deepest ks F b M n x) (lo : Bool) (u d bk ct : ℕ) (k : Instructions) (K : List Label) (l : Locals) (σ : State) (s : Starts p deepest ks F b M n u K l σ) where
     -- code that is this does what it means
     abbrev Does : Instructions → ℕ → Code → Type 0

@@ -4,18 +4,18 @@ use Rattle.std.specs.Prelude.{◌&&◌, not}
 use Rattle.std.proofs.lemmas.Bool.{cases_eq}
 use Rattle.wasm_types.specs.Syntax.{Instructions, Done}
 use Rattle.wasm_types.specs.declared.instr.Simple.TheVariants.{LocalGet}
-use Rattle.mid_program.specs.Mid.{Kind, Boxed, Unboxed, Many, Program}
+use Rattle.mid_program.specs.Mid.{Kind, Boxed, Unboxed, ArrayKind, Program}
 use Rattle.mid_program.specs.Sorted.{has_kind}
 use Rattle.lower_model.specs.Cells.{Cell, Held, Gone, is_owned, left_by, none_owned}
 use Rattle.lower_model.specs.Emission.{Layout}
 use Rattle.lower_model.specs.Functions.{layout_of}
 use Rattle.lower_model.specs.Machine.{Code, Label, Frame, Store, at, guarded, leave_function}
 use Rattle.lower_model.specs.Places.{Bases, answer_local, iterator_local, array_local, handle_local}
-use Rattle.lower_model.specs.Small.{does, emptied, let_go}
+use Rattle.lower_model.specs.Small.{emit, emptied, let_go}
 use Rattle.lower_model.specs.Statements.{temporaries_emptied, iterators_emptied, arrays_emptied, temporaries_swept, iterators_swept, arrays_swept, swept, operands_swept, left_swept, has_functions, parameters_dropped, routine_exit}
 use Rattle.host_imports.specs.declared.import.Import.{Import}
 use Rattle.host_imports.specs.declared.import.Import.TheVariants.{Drop, IterFree, FreeArray}
-use Rattle.lower_model.proofs.Watch.{Watch}
+use Rattle.lower_model.proofs.Observer.{Observer}
 use Rattle.lower_model.proofs.Runs.{Goes, goes_from, then_goes, by_steps, stays}
 use Rattle.lower_model.proofs.Regions.{cells, upd_other}
 use Rattle.lower_model.proofs.Locals.{Locals, Place, Param, Answer, Hand, Number, Iterator, Array, local_of, has, with_at, has_with, temporaries_on, laid}
@@ -156,7 +156,7 @@ exit_work b = 8 * (b.temporaries + (b.iterators + b.arrays)) + (2 * b.parameters
 abbrev pub begin_work : Bases → ℕ
 begin_work b = 1 + 8 * (b.temporaries + (b.iterators + b.arrays))
 
-module _ (p : Program) (deepest : Watch) (ks : List Kind) (F : List Frame) (b : Bases) where
+module _ (p : Program) (deepest : Observer) (ks : List Kind) (F : List Frame) (b : Bases) where
   abbrev y : Layout
   y = layout_of p b
 
@@ -327,7 +327,7 @@ module _ (p : Program) (deepest : Watch) (ks : List Kind) (F : List Frame) (b : 
       Dropped x (length js) K G l (parameters_dropped y x js k) k
   drop_ok_from [] x K G l k le lo = record { next = l; steps = 0; few = omega arith; goes = stays; unowned = λ i lx ly. absurd (omega (arith, lx, ly)); others = λ q ne. refl }
   drop_ok_from (Unboxed ∷ js) x K G l k le lo = kept_param x (length js) K G l _ k (lo zero Unboxed x refl (omega arith)) (drop_ok_from js (suc x) K G l k (omega (arith, le)) (λ i j z e q. lo (suc i) j z e (omega (arith, q))))
-  drop_ok_from (Many ∷ js) x K G l k le lo = kept_param x (length js) K G l _ k (lo zero Many x refl (omega arith)) (drop_ok_from js (suc x) K G l k (omega (arith, le)) (λ i j z e q. lo (suc i) j z e (omega (arith, q))))
+  drop_ok_from (ArrayKind ∷ js) x K G l k le lo = kept_param x (length js) K G l _ k (lo zero ArrayKind x refl (omega arith)) (drop_ok_from js (suc x) K G l k (omega (arith, le)) (λ i j z e q. lo (suc i) j z e (omega (arith, q))))
   drop_ok_from (Boxed ∷ js) x K G l k le lo =
       let v = lo zero Boxed x refl (omega arith) in
       let l1 = with_at l (Param x) Gone in
@@ -356,7 +356,7 @@ module _ (p : Program) (deepest : Watch) (ks : List Kind) (F : List Frame) (b : 
       (unowned_pairs l.hand l.number b.temporaries (cells l.iterator b.iterators ++ (cells l.array b.arrays ++ [])) oh (λ x lt. on x)
       (unowned_cells l.iterator b.iterators (cells l.array b.arrays ++ []) ow (unowned_cells l.array b.arrays [] oy refl))))
 
-module _ (p : Program) (deepest : Watch) (ks : List Kind) (f : Frame) (F : List Frame) (b : Bases) where
+module _ (p : Program) (deepest : Observer) (ks : List Kind) (f : Frame) (F : List Frame) (b : Bases) where
   -- a function ends with what its answer has, and the caller goes on
   pub record Exits (G : Store) (l : Locals) : Type 0 where
     pub steps : ℕ
@@ -365,8 +365,8 @@ module _ (p : Program) (deepest : Watch) (ks : List Kind) (f : Frame) (F : List 
 
   pub exit_ok : (G : Store) (l : Locals) → length ks ≡ b.parameters → Loose p deepest ks (f ∷ F) l → ((x : ℕ) → x < b.temporaries → l.hand x ≡ empty) → ((x : ℕ) → x < b.arrays → l.array x ≡ empty) → Exits G l
   exit_ok G l size lo hands arrays =
-      let s = iterators_ok p deepest ks (f ∷ F) b [] G l (parameters_dropped (layout_of p b) zero ks (does (LocalGet (answer_local b)) Done)) lo hands arrays in
-      let d = drop_ok_from p deepest ks (f ∷ F) b ks zero [] G s.next (does (LocalGet (answer_local b)) Done) (omega (arith, size)) (λ i j z e q. loose_still (s.next) s.params i j z e (omega (arith, q))) in
+      let s = iterators_ok p deepest ks (f ∷ F) b [] G l (parameters_dropped (layout_of p b) zero ks (emit (LocalGet (answer_local b)) Done)) lo hands arrays in
+      let d = drop_ok_from p deepest ks (f ∷ F) b ks zero [] G s.next (emit (LocalGet (answer_local b)) Done) (omega (arith, size)) (λ i j z e q. loose_still (s.next) s.params i j z e (omega (arith, q))) in
       let an : d.next.answer ≡ l.answer = d.others Answer (λ i li q. cc) ∙ s.answer in
       let l3 = with_at d.next Answer (left_by l.answer) in
       let clean : none_owned (laid b l3) ≡ true =

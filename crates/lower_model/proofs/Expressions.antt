@@ -9,15 +9,15 @@ use Rattle.sem_primitives.specs.declared.table.Primitive.{Primitive}
 use Rattle.sem_primitives.proofs.Words.{number_again}
 use Rattle.wasm_types.specs.Syntax.{Instructions}
 use Rattle.mid_program.specs.declared.mid.Operation.TheVariants.{Host}
-use Rattle.mid_program.specs.Mid.{Kind, Program, Form, Answered, Code, Do, Codes, form_of}
+use Rattle.mid_program.specs.Mid.{Kind, Program, Form, PrimitiveAnswer, Code, Do, Codes, form_of}
 use Rattle.mid_program.specs.MidMeaning.{Holds, Env, evaluated, all_evaluated, or_zero}
-use Rattle.sem_scripts.specs.ScriptState.{State, does, or_fault}
+use Rattle.sem_scripts.specs.ScriptState.{State, call, or_fault}
 use Rattle.mid_program.specs.Sorted.{Held as Standing, sorted, all_sorted, held_after, is_operation, fit_row}
 use Rattle.lower_model.specs.Emission.{array_meant, emitted, all_emitted, all_converted, performed, field_in, field_or}
 use Rattle.lower_model.specs.Machine.{Conf, Label, Frame, at}
 use Rattle.lower_model.specs.Places.{Bases}
 use Rattle.lower_model.specs.Small.{kept}
-use Rattle.lower_model.proofs.Watch.{Watch}
+use Rattle.lower_model.proofs.Observer.{Observer}
 use Rattle.lower_model.proofs.Runs.{first, weaker_settled}
 use Rattle.lower_model.proofs.Locals.{Locals, laid}
 use Rattle.lower_model.proofs.Relation.{Meant, Kept, kept_same, Below, Same, same_then, SameOwn, Away}
@@ -30,7 +30,7 @@ use Rattle.lower_model.proofs.HostCalls.{operation_takes, operation_in_turn, ope
 pub constant_word : (z : ℤ) → nat_le (unsigned_abs z) (2 ^ 53) ≡ true → number_word (or_zero (number_of z)) ≡ cast_unsigned w64 z
 constant_word z e = ap (λ o. number_word (or_zero o)) (number_again (record { number = z; in_range = subst T (sym e) tt }))
 
-module _ (p : Program) (deepest : Watch) (ks : List Kind) (F : List Frame) (b : Bases) (M n : ℕ) where
+module _ (p : Program) (deepest : Observer) (ks : List Kind) (F : List Frame) (b : Bases) (M n : ℕ) where
   -- nothing but temporary t was touched
   pub put_done : (e : Code) (v : Bool) (fs : List Form) (env : Env fs) (ts : List ℕ) (st : ℕ → Standing) (t u w : ℕ) (k : Instructions) (K : List Label) (l0 l : Locals) (σ σ1 : State) (x : Holds (form_of fs e)) (c : Conf) →
       Below t ts → Same ts t w l0 l → SameOwn p deepest ks F σ σ1 → Kept fs ts (λ i. held_after i e (st i)) l env → gives_away e v ≡ false → Meant p deepest ks F (form_of fs e) x (array_meant e) σ1 → Put p deepest ks F b t u w (form_of fs e) k K l x σ1 c →
@@ -59,10 +59,10 @@ module _ (p : Program) (deepest : Watch) (ks : List Kind) (F : List Frame) (b : 
       let Q = Away p deepest ks F b d K in
       let A = all_emitted y fs ts es t w d (all_converted y fs (arguments_of q) es t d (performed y (Host q) es t d k)) in
       subst (λ (o : Option ℤ). Reached p deepest ks F b M (work_of (Do (Host q) es)) σ.turns (at ks [] K (laid b l) F (field_or y o t k A) (beside_state p deepest ks F σ)) P Q (meant p deepest ks F b M n fs env (Do (Host q) es) σ)) (sym none)
-      (row_then p deepest ks F b M n (arguments_of q) es ok fs env ts st t u w d _ K l σ (push_work es + 5) (work_of (Do (Host q) es)) P (λ r. does q r)
+      (row_then p deepest ks F b M n (arguments_of q) es ok fs env ts st t u w d _ K l σ (push_work es + 5) (work_of (Do (Host q) es)) P (λ r. call q r)
       s2.0 s2.1 us (omega (arith, rm)) ar rd (omega (arith, ee))
       (λ r τ c le a.
-      first (machine p deepest ks F) M 0 (push_work es + 5) (push_work es + 5) τ.turns c _ P Q (does q r τ) (record { it = a.comes }) (omega arith)
-      (weaker_settled (machine p deepest ks F) M (push_work es + 5) _ (done_by p deepest ks F q r τ) (Put p deepest ks F b t u w (Answered (answer_of q)) k K a.next) P Q (or_fault (can_fault q) (meaning q r τ.shared).answer)
+      first (machine p deepest ks F) M 0 (push_work es + 5) (push_work es + 5) τ.turns c _ P Q (call q r τ) (record { it = a.comes }) (omega arith)
+      (weaker_settled (machine p deepest ks F) M (push_work es + 5) _ (done_by p deepest ks F q r τ) (Put p deepest ks F b t u w (PrimitiveAnswer (answer_of q)) k K a.next) P Q (or_fault (can_fault q) (meaning q r τ.shared).answer)
       (λ x c1 put. put_done (Do (Host q) es) v fs env ts st t u w k K l a.next σ (done_by p deepest ks F q r τ) x c1 rd.below a.same a.own a.kept refl (plain_meant p deepest ks F b M n (answer_of q) x (array_meant (Do (Host q) es)) (done_by p deepest ks F q r τ) (operation_plain q s1.0)) put)
       (host_asked p deepest ks F b M n q es fs t u w d k K a.next τ r (operation_takes q s1.0) (operation_in_turn q r τ.shared s1.0) (operation_quiet q s1.0) (operation_plain q s1.0) s2.0 rd.parameters (omega (arith, pr, rm)) (omega (arith, rm)) a.fit a.row))))

@@ -20,7 +20,7 @@ use Rattle.mid_program.specs.declared.mid.Operation.{Operation}
 use Rattle.mid_program.specs.declared.mid.Operation.TheVariants.{Host}
 use Rattle.mid_program.specs.Mid.{Kind, Program, Code, Do, Number, Codes, End, At}
 use Rattle.mid_program.specs.MidMeaning.{evaluated, all_evaluated, or_zero}
-use Rattle.sem_scripts.specs.ScriptState.{State, Outcome, Gives, does, settled}
+use Rattle.sem_scripts.specs.ScriptState.{State, Outcome, Gives, call, settled}
 use Rattle.mid_program.specs.Sorted.{sorted, all_sorted}
 use Rattle.sem_scripts.specs.Steps.{is_field_number}
 use Rattle.lower_model.specs.Cells.{Cell, Bits, Held, is_owned}
@@ -28,9 +28,9 @@ use Rattle.lower_model.specs.Emission.{emitted, all_emitted, all_converted, perf
 use Rattle.lower_model.specs.ImportCalls.{with_some, and_rest, row_in}
 use Rattle.lower_model.specs.Machine.{Label, Frame, at}
 use Rattle.lower_model.specs.Places.{Bases, handle_local}
-use Rattle.lower_model.specs.Small.{ask_row, does as then_does}
+use Rattle.lower_model.specs.Small.{ask_row, emit as then_does}
 use Rattle.wasm_types.specs.declared.instr.Simple.TheVariants.{LocalSet}
-use Rattle.lower_model.proofs.Watch.{Watch}
+use Rattle.lower_model.proofs.Observer.{Observer}
 use Rattle.lower_model.proofs.Runs.{Goes, goes_to, then_goes, there}
 use Rattle.lower_model.proofs.Locals.{Hand, laid}
 use Rattle.lower_model.proofs.Steps.{set_ok}
@@ -79,11 +79,11 @@ field_there k x σ is e =
 no_negative : (j : ℕ) → is_field_number (negsuc j) ≡ true → ⊥
 no_negative j e = true≢false (sym e ∙ ne_eqb (suc j) 0 (λ q. omega (arith, q)))
 
-module _ (p : Program) (deepest : Watch) (ks : List Kind) (F : List Frame) (b : Bases) (M n : ℕ) where
+module _ (p : Program) (deepest : Observer) (ks : List Kind) (F : List Frame) (b : Bases) (M n : ℕ) where
   -- such a field: what it means, and that its value comes onto the stack, whatever lies there
   pub record FieldThere (z : ℤ) (σ : State) : Type 0 where
     pub value : Value
-    pub means : does row.Field (or_zero (number_of z), tt) σ ≡ Gives value σ
+    pub means : call row.Field (or_zero (number_of z), tt) σ ≡ Gives value σ
     pub pushes : (vs : List Cell) (K : List Label) (L : List Cell) (k : Instructions) → Goes (machine p deepest ks F) 1 (at ks (Bits (I64 (cast_unsigned w64 z)) ∷ vs) K L F (ask_row row.Field k) (beside_state p deepest ks F σ)) (at ks (Held value ∷ vs) K L F k (beside_state p deepest ks F σ))
 
   pub field_found : (z : ℤ) (σ : State) → is_field_number z ≡ true → FieldThere z σ
@@ -98,7 +98,7 @@ module _ (p : Program) (deepest : Watch) (ks : List Kind) (F : List Frame) (b : 
       let after : Result Value Fault → State = λ r. record σ { shared = shared_after σ.shared (gives σ.shared r) } in
       record {
         value = a;
-        means = ap (λ (x : AnyNumber). does row.Field (x, tt) σ) same
+        means = ap (λ (x : AnyNumber). call row.Field (x, tt) σ) same
             ∙ ap (λ (r : Result Value Fault). settled r (after r)) found
             ∙ ap (Gives a) (same_state {A = Result Value Fault} σ (Ok a));
         pushes = λ vs K L k. goes_to
@@ -119,7 +119,7 @@ module _ (p : Program) (deepest : Watch) (ks : List Kind) (F : List Frame) (b : 
       let Q = Away p deepest ks F b d K in
       let whole = λ (o : Option ℤ). field_or y o t k (all_emitted y fs ts (At (Number z) End) t w d (all_converted y fs (argument.Of sort.Number ∷ []) (At (Number z) End) t d (performed y (Host row.Field) (At (Number z) End) t d k))) in
       let R = λ (o : Option ℤ) (r : Outcome Value). Reached p deepest ks F b M (work_of e) σ.turns (at ks [] K (laid b l) F (whole o) (beside_state p deepest ks F σ)) P Q r in
-      subst (λ (o : Option ℤ). R o (does row.Field (or_zero (number_of z), tt) σ)) (sym (ap (λ (c : Bool). if c then Some z else None) is))
+      subst (λ (o : Option ℤ). R o (call row.Field (or_zero (number_of z), tt) σ)) (sym (ap (λ (c : Bool). if c then Some z else None) is))
       (subst (λ (r : Outcome Value). R (Some z) r) (sym found.means)
       (there mach M (work_of e) 2 _ _ found.value σ P Q
       (then_goes (found.pushes [] K (laid b l) (then_does (LocalSet (handle_local b t)) k))

@@ -11,16 +11,16 @@ use Rattle.sem_primitives.specs.declared.sorts.Answer.TheVariants as answer
 use Rattle.sem_primitives.specs.declared.sorts.Sort.TheVariants as sort
 use Rattle.sem_primitives.specs.declared.table.Primitive.TheVariants as row
 use Rattle.wasm_types.specs.Syntax.{Done as NoMore}
-use Rattle.mid_program.specs.Mid.{Kind, Program, Answered, a_value, Code, FileLine, form_of}
+use Rattle.mid_program.specs.Mid.{Kind, Program, PrimitiveAnswer, a_value, Code, FileLine, form_of}
 use Rattle.mid_program.specs.MidMeaning.{evaluated, all_evaluated, boxed, when_read}
-use Rattle.sem_scripts.specs.ScriptState.{go_on, does}
+use Rattle.sem_scripts.specs.ScriptState.{go_on, call}
 use Rattle.mid_program.specs.Sorted.{Held as Standing, sorted, all_sorted, held_after, fits, keeps_well, is_dropped, stores_well}
 use Rattle.lower_model.specs.Cells.{Held}
 use Rattle.lower_model.specs.Emission.{emitted, all_emitted, text_kept, text_let_go}
 use Rattle.lower_model.specs.Machine.{Frame, loops_walked}
 use Rattle.lower_model.specs.Places.{Bases, handle_local, number_local}
 use Rattle.lower_model.specs.Small.{ask_row, number_is, when, code_number, moved_out, kept_code, to_value}
-use Rattle.lower_model.proofs.Watch.{Watch}
+use Rattle.lower_model.proofs.Observer.{Observer}
 use Rattle.lower_model.proofs.Runs.{then_goes, goes_from, first, then_on, then_settled, weaker}
 use Rattle.lower_model.proofs.Regions.{upd_same}
 use Rattle.lower_model.proofs.Locals.{Hand, with_at}
@@ -44,7 +44,7 @@ line_after : (s : Shared) (r : Result (Inner × InputAnswer) Fault) (x : InputAn
 line_after s (Ok y) x h e = subst (LineAt y.0) (ap (ok_of x) e) h
 line_after s (Err f) x h e = cc
 
-module _ (p : Program) (deepest : Watch) (ks : List Kind) (F : List Frame) (b : Bases) (M n : ℕ) where
+module _ (p : Program) (deepest : Observer) (ks : List Kind) (F : List Frame) (b : Bases) (M n : ℕ) where
   pub file_line_expr : (e s : Code) → ExprOk p deepest ks F b M n e → ExprOk p deepest ks F b M n s → ExprOk p deepest ks F b M n (FileLine e s)
   unfolding emitted all_emitted evaluated all_evaluated sorted all_sorted
   file_line_expr e s oke oks v fs env ts st t u w d k K l σ so us rm ar rd =
@@ -70,7 +70,7 @@ module _ (p : Program) (deepest : Watch) (ks : List Kind) (F : List Frame) (b : 
       (oke false fs env ts st t u w d k1 K l σ s2.0 (λ i lt. well_left (st1 i) (held_after (suc i) s (st1 i)) (us i lt)) (omega (arith, rm)) (omega (arith, ar)) rd)
       (λ x τ c1 le a.
       first mach M 0 (work_of s + 80) (work_of s + 80) τ.turns c1 _ P Q _ (record { it = a.comes }) (omega arith)
-      (then_settled mach M 16 (work_of s + 64) (work_of s + 80) _ τ (Converted p deepest ks F b M (suc t) u w t a_value k2 K a.next) P Q (Ok (boxed f x)) (λ y σ1. go_on (does row.GetlineVarFile (y, tt) σ1) stored) (omega arith)
+      (then_settled mach M 16 (work_of s + 64) (work_of s + 80) _ τ (Converted p deepest ks F b M (suc t) u w t a_value k2 K a.next) P Q (Ok (boxed f x)) (λ y σ1. go_on (call row.GetlineVarFile (y, tt) σ1) stored) (omega arith)
       (converted_ok p deepest ks F b M f sort.Value x (suc t) u w t d k2 K a.next τ s1.0 (omega arith) (omega (arith, rm, r1)) a.fit (still_stands e f t a.next x a.stands))
       (λ y c2 er a1.
       let D = meaning row.GetlineVarFile (y, tt) τ.shared in
@@ -80,7 +80,7 @@ module _ (p : Program) (deepest : Watch) (ks : List Kind) (F : List Frame) (b : 
       let f2 = fit_shared p deepest ks F t u w l2 τ τ1.shared (calm_after p row.GetlineVarFile (y, tt) τ.shared refl f1.sound.calm) f1 in
       first mach M 3 (work_of s + 44) (work_of s + 64) τ.turns c2 _ P Q _
       (goes_from a1.comes (then_goes (moved_out_ok b a1.next (Hand t) (Held y) (omega (arith, rm, r1)) a1.holds.0) (row_called p deepest ks F row.GetlineVarFile (y, tt) (Held y ∷ []) [] τ refl refl refl refl refl))) (omega arith)
-      (then_settled mach M 4 (work_of s + 40) (work_of s + 44) _ τ1 (Put p deepest ks F b t u w (Answered answer.Input) k4 K l2) P Q D.answer stored (omega arith)
+      (then_settled mach M 4 (work_of s + 40) (work_of s + 44) _ τ1 (Put p deepest ks F b t u w (PrimitiveAnswer answer.Input) k4 K l2) P Q D.answer stored (omega arith)
       (kept_ok p deepest ks F b M true answer.Input D.answer t u w d k4 K l2 τ1 tt (omega (arith, rm, r1)) f2)
       (λ z c3 er1 put.
       let sm = same_then [] t t w w a.next l2 put.next (omega arith) (omega arith) (same_then [] t t w w a.next a1.next l2 (omega arith) (omega arith) (under_same [] t w a.next a1.next (under_keeps t t a.next a1.next (omega arith) a1.keeps)) (same_hand [] t w t a1.next empty (omega arith))) put.same in

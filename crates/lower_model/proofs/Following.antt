@@ -11,7 +11,7 @@ use Rattle.lower_model.specs.Follows.{FollowsNoted, EmissionNotes}
 use Rattle.lower_model.specs.Functions.{main_bases}
 use Rattle.lower_model.specs.Machine.{Frame}
 use Rattle.lower_model.specs.Places.{Bases}
-use Rattle.lower_model.proofs.Watch.{Watch, watched}
+use Rattle.lower_model.proofs.Observer.{Observer, watched}
 use Rattle.lower_model.proofs.Relation.{globals_told, routines_told}
 use Rattle.lower_model.proofs.Simulation.{ExprOk}
 use Rattle.lower_model.proofs.StatementForms.{steps_work}
@@ -35,9 +35,9 @@ pub record Helped (p : Program) : Type 1 where
   pub least : ℕ
   pub first_work : ℕ
   pub read_work : ℕ
-  pub exprs : (M : ℕ) (deepest : Watch) (n : ℕ) → least ≤ M → CallsOk p deepest M n → (ks : List Kind) (F : List Frame) (b : Bases) (e : Code) → ExprOk p deepest ks F b M n e
-  pub starting : (M : ℕ) (deepest : Watch) (n : ℕ) → least ≤ M → Starting p deepest (main_bases p) M n first_work
-  pub reading : (M : ℕ) (deepest : Watch) (n : ℕ) → least ≤ M → Reading p deepest (main_bases p) M n read_work
+  pub exprs : (M : ℕ) (deepest : Observer) (n : ℕ) → least ≤ M → CallsOk p deepest M n → (ks : List Kind) (F : List Frame) (b : Bases) (e : Code) → ExprOk p deepest ks F b M n e
+  pub starting : (M : ℕ) (deepest : Observer) (n : ℕ) → least ≤ M → Starting p deepest (main_bases p) M n first_work
+  pub reading : (M : ℕ) (deepest : Observer) (n : ℕ) → least ≤ M → Reading p deepest (main_bases p) M n read_work
 
 module _ (p : Program) (ok : IsSorted p) (h : Helped p) where
   abbrev sorts : (all_differ (announced_names p) ≡ true) × (routines_sorted p p.routines && parts_sorted p (context_of p []) ≡ true)
@@ -69,7 +69,7 @@ module _ (p : Program) (ok : IsSorted p) (h : Helped p) where
   routines_few : (f : ℕ) → f < length p.routines → suc (routine_work (routine_at p.routines f)) ≤ bound
   routines_few f lt = let q = routine_within p.routines f lt in omega (arith, q)
 
-  exprs_of_main : (deepest : Watch) (n : ℕ) (e : Code) → ExprOk p deepest [] [] (main_bases p) bound n e
+  exprs_of_main : (deepest : Observer) (n : ℕ) (e : Code) → ExprOk p deepest [] [] (main_bases p) bound n e
   exprs_of_main deepest n e = h.exprs bound deepest n (omega arith) (calls_ok p deepest bound inner.0 routines_few (λ m. h.exprs bound deepest m (omega arith)) n) [] [] (main_bases p) e
 
   -- the machine shows what the program does, whatever is noted

@@ -12,7 +12,7 @@ use Rattle.wasm_types.specs.declared.instr.Simple.TheVariants.{Call}
 use Rattle.wasm_store.specs.declared.word.Word.TheVariants.{I32, I64}
 use Rattle.mid_program.specs.Mid.{Kind, Program, Routine, Code, Steps}
 use Rattle.mid_program.specs.MidMeaning.{no_routine, routine_at}
-use Rattle.sem_scripts.specs.ScriptState.{State, Own, Local, Scalar, Stop, Faulted, OutOfTurns, TooDeep, Nexted, Exited, Returned, Outcome, Gives, Stops, Doing, ◌>>◌, spend}
+use Rattle.sem_scripts.specs.ScriptState.{State, CallFrame, Local, Scalar, Stop, Faulted, OutOfTurns, TooDeep, Nexted, Exited, Returned, Outcome, Gives, Stops, Execution, ◌>>◌, spend}
 use Rattle.mid_program.specs.Sorted.{has_kind, kinds_of, calls_of, routines_sorted, steps_sorted, context_of}
 use Rattle.sem_scripts.specs.Statements.{Flow, Normal, Broke, Continued, returned, entered_with}
 use Rattle.lower_model.specs.Cells.{Cell, Bits, Gone, is_owned, none_owned}
@@ -22,9 +22,9 @@ use Rattle.lower_model.specs.Machine.{Conf, Deep, Label, Frame, Store, at, label
 use Rattle.host_imports.specs.Imports.{import_at, import_count}
 use Rattle.lower_model.specs.Noted.{noted_called, steps_noted, routine_rest}
 use Rattle.lower_model.specs.Places.{Bases, local_types, temporary_types, handle_types, steps_room, steps_iterators, steps_arrays}
-use Rattle.lower_model.specs.Small.{does, least}
+use Rattle.lower_model.specs.Small.{emit, least}
 use Rattle.lower_model.specs.Statements.{routine_body, routine_ended, routine_exit, operands_swept, steps_emitted, block}
-use Rattle.lower_model.proofs.Watch.{Watch}
+use Rattle.lower_model.proofs.Observer.{Observer}
 use Rattle.lower_model.proofs.Runs.{Goes, goes_to, goes_from, then_goes, by_steps, stays, first, within, turned, Arrives, reaches_on, Onward}
 use Rattle.lower_model.proofs.Regions.{cells, pairs, cells_same, pairs_same}
 use Rattle.lower_model.proofs.Locals.{Locals, Answer, with_at, laid}
@@ -96,7 +96,7 @@ laid_begun b words l ep ea eh en ei ey =
 abbrev pub waiting : List Kind → List Label → List Cell → Instructions → Frame
 waiting ks K L k = record { kinds = ks; under = []; labels = K; locals = L; rest = k }
 
-module _ (p : Program) (deepest : Watch) where
+module _ (p : Program) (deepest : Observer) where
   -- the words that a call pushes stand for what the function is given
   pub record GivenTo (js : List Kind) (F : List Frame) (words : List Cell) (os : List Local) : Type 0 where
     pub wide : length words ≡ length js
@@ -104,7 +104,7 @@ module _ (p : Program) (deepest : Watch) where
     pub each : (i : ℕ) (k : Kind) → has_kind js i k ≡ true → ParamIs p deepest js F k (get_or os i (Scalar Uninit)) (get_or words i Gone)
 
   -- after a call: the answer is on the stack, and the caller's own is as it was
-  pub record Back (f : Frame) (F : List Frame) (o : Own) (v : Value) (σ : State) (c : Conf) : Type 0 where
+  pub record Back (f : Frame) (F : List Frame) (o : CallFrame) (v : Value) (σ : State) (c : Conf) : Type 0 where
     pub word : ℕ
     pub text : Cell
     pub is : AnswerIs v word text
@@ -117,7 +117,7 @@ module _ (p : Program) (deepest : Watch) where
     pub comes : c ≡ left_to why (at f.kinds (unanswered ∷ f.under) f.labels f.locals F f.rest (left_beside p deepest f.kinds F why σ)) (Deep (beside_state p deepest f.kinds F σ))
     pub after : StopSound p deepest f.kinds F why σ
 
-  module _ (M n : ℕ) (js : List Kind) (f : Frame) (F : List Frame) (b : Bases) (size : length js ≡ b.parameters) (own : Own) (room : length F + own.room ≡ deepest.callers) where
+  module _ (M n : ℕ) (js : List Kind) (f : Frame) (F : List Frame) (b : Bases) (size : length js ≡ b.parameters) (own : CallFrame) (room : length F + own.calls_left ≡ deepest.callers) where
     abbrev exit_code : Instructions
     exit_code = routine_exit (layout_of p b) js
 
@@ -209,11 +209,11 @@ module _ (p : Program) (deepest : Watch) where
     run_ok : (body : Steps) → StepsOk p deepest js (f ∷ F) b M n body → steps_sorted (context_of p js) true false body ≡ true → steps_room body ≤ b.temporaries → steps_iterators body ≤ b.iterators → steps_arrays body ≤ b.arrays → steps_work body ≤ M →
         (words : List Cell) (os : List Local) (σ : State) (m : ℕ) → GivenTo js (f ∷ F) words os → length (f ∷ F) + m ≡ deepest.callers → Sound p deepest f.kinds F σ → σ.turns ≤ n →
         Arrives (machine p deepest js (f ∷ F)) M (begin_work b + (2 + (steps_work body + (exit_work b + 3)))) σ.turns (at js [] [] (words ++ zeros (local_types b)) (f ∷ F) (routine_body (layout_of p b) js body) (beside_state p deepest js (f ∷ F) σ)) (Back f F own) (Lost f F)
-        (returned own (steps_meant p deepest js (f ∷ F) b M n body zero zero zero zero end_code (record σ { own = record { locals = os; room = m } })))
+        (returned own (steps_meant p deepest js (f ∷ F) b M n body zero zero zero zero end_code (record σ { own = record { locals = os; calls_left = m } })))
     run_ok body oks so rm it ar wk words os σ m given deep s le =
         let mach = machine p deepest js (f ∷ F) in
         let G = beside_state p deepest js (f ∷ F) σ in
-        let σ1 : State = record σ { own = record { locals = os; room = m } } in
+        let σ1 : State = record σ { own = record { locals = os; calls_left = m } } in
         let code = steps_emitted (layout_of p b) body zero zero zero zero end_code in
         let a = begin_ok p deepest js (f ∷ F) b [] G (entry words) (block (block code left_code) exit_code) refl (λ x. refl) (λ x. refl) (λ x. refl) in
         let e = laid_begun b words a.next a.params a.answer a.hands a.numbers a.iterators a.arrays in
@@ -250,7 +250,7 @@ module _ (p : Program) (deepest : Watch) where
   abbrev pub CallOk : (M n f : ℕ) → Type 0
   CallOk M n f = (ks : List Kind) (F : List Frame) (K : List Label) (L : List Cell) (k : Instructions) (words : List Cell) (os : List Local) (σ : State) → waits ks K L k ≡ true →
       GivenTo (routine_at p.routines f).parameters (waiting ks K L k ∷ F) words os → Sound p deepest ks F σ → σ.turns ≤ n →
-      Arrives (machine p deepest ks F) M 0 σ.turns (at ks (reverse words ++ []) K L F (does (Call (function_number f)) k) (beside_state p deepest ks F σ)) (Back (waiting ks K L k) F σ.own) (Lost (waiting ks K L k) F) ((spend >> noted_called deepest.notes p n f os) σ)
+      Arrives (machine p deepest ks F) M 0 σ.turns (at ks (reverse words ++ []) K L F (emit (Call (function_number f)) k) (beside_state p deepest ks F σ)) (Back (waiting ks K L k) F σ.own) (Lost (waiting ks K L k) F) ((spend >> noted_called deepest.notes p n f os) σ)
 
   abbrev pub CallsOk : (M n : ℕ) → Type 0
   CallsOk M n = (f : ℕ) → f < length p.routines → CallOk M n f
@@ -277,7 +277,7 @@ module _ (p : Program) (deepest : Watch) where
 
   -- the frame is pushed, unless too many wait
   entered : (f : ℕ) (ks : List Kind) (F : List Frame) (K : List Label) (L : List Cell) (k : Instructions) (words : List Cell) (G : Store) → f < length p.routines → length words ≡ length (routine_at p.routines f).parameters → waits ks K L k ≡ true →
-      Goes (machine p deepest ks F) 1 (at ks (reverse words ++ []) K L F (does (Call (function_number f)) k) G)
+      Goes (machine p deepest ks F) 1 (at ks (reverse words ++ []) K L F (emit (Call (function_number f)) k) G)
       (cond (nat_lt (length F) deepest.callers) (begins f ks F K L k words G) (Deep G))
   entered f ks F K L k words G lt wide wt =
       let r = routine_at p.routines f in
@@ -303,14 +303,14 @@ module _ (p : Program) (deepest : Watch) where
   module _ (M : ℕ) (sorted : routines_sorted p p.routines ≡ true) (few : (f : ℕ) → f < length p.routines → suc (routine_work (routine_at p.routines f)) ≤ M)
       (exprs : (n : ℕ) → CallsOk M n → (ks : List Kind) (F : List Frame) (b : Bases) (e : Code) → ExprOk p deepest ks F b M n e) where
     -- what a function's body means
-    abbrev body_meant : (n f : ℕ) → Doing Flow
+    abbrev body_meant : (n f : ℕ) → Execution Flow
     body_meant n f =
         let r = routine_at p.routines f in
         steps_noted deepest.notes (layout_of p (routine_bases r)) p.texts (calls_of p) n (noted_called deepest.notes p n) r.body zero zero zero zero (routine_rest (routine_bases r))
 
     -- the frame is pushed where one more call may be nested
     pushed : (n f : ℕ) (room : ℕ) → CallsOk M n → f < length p.routines → (ks : List Kind) (F : List Frame) (K : List Label) (L : List Cell) (k : Instructions) (words : List Cell) (os : List Local) (σ : State) →
-        GivenTo (routine_at p.routines f).parameters (waiting ks K L k ∷ F) words os → Sound p deepest ks F σ → σ.turns ≤ n → σ.own.room ≡ room →
+        GivenTo (routine_at p.routines f).parameters (waiting ks K L k ∷ F) words os → Sound p deepest ks F σ → σ.turns ≤ n → σ.own.calls_left ≡ room →
         Arrives (machine p deepest ks F) M (routine_work (routine_at p.routines f)) σ.turns
         (cond (nat_lt (length F) deepest.callers) (begins f ks F K L k words (beside_state p deepest ks F σ)) (Deep (beside_state p deepest ks F σ)))
         (Back (waiting ks K L k) F σ.own) (Lost (waiting ks K L k) F)
@@ -343,4 +343,4 @@ module _ (p : Program) (deepest : Watch) where
         (λ m e. absurd (omega (arith, e, le)))
     calls_ok (suc n) f lt ks F K L k words os σ wt given s le =
         turned (machine p deepest ks F) M σ.turns 0 (routine_work (routine_at p.routines f)) 0 σ _ _ (Back (waiting ks K L k) F σ.own) (Lost (waiting ks K L k) F) (noted_called deepest.notes p (suc n) f os) refl (entered f ks F K L k words (beside_state p deepest ks F σ) lt given.wide wt) refl (let q = few f lt in omega (arith, q))
-        (λ m e. pushed n f σ.own.room (calls_ok n) lt ks F K L k words os (record σ { turns = m }) given (record { room = s.room; names = s.names; calm = s.calm }) (omega (arith, e, le)) refl)
+        (λ m e. pushed n f σ.own.calls_left (calls_ok n) lt ks F K L k words os (record σ { turns = m }) given (record { room = s.room; names = s.names; calm = s.calm }) (omega (arith, e, le)) refl)

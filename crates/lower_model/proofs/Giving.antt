@@ -10,9 +10,9 @@ use Rattle.sem_primitives.specs.declared.sorts.Sort.TheVariants as sort
 use Rattle.wasm_types.specs.Syntax.{Instructions, Done as NoMore}
 use Rattle.wasm_store.specs.declared.word.Word.TheVariants.{I64}
 use Rattle.wasm_store.specs.Words.{flag}
-use Rattle.mid_program.specs.Mid.{Kind, Unboxed, Program, Form, Answered, Bare, Perhaps, Code, Get, Parameter, Choose, form_of}
+use Rattle.mid_program.specs.Mid.{Kind, Unboxed, Program, Form, PrimitiveAnswer, NumberOrText, OptionalNumber, Code, Get, Parameter, Choose, form_of}
 use Rattle.mid_program.specs.MidMeaning.{Holds, evaluated, all_evaluated, boxed, converted, truth_in}
-use Rattle.sem_scripts.specs.ScriptState.{State, Returned, Outcome, Gives, Stops, Doing, give, go_on, local_value, settled, stop}
+use Rattle.sem_scripts.specs.ScriptState.{State, Returned, Outcome, Gives, Stops, Execution, give, go_on, local_value, settled, stop}
 use Rattle.sem_scripts.specs.Statements.{Flow}
 use Rattle.sem_scripts.specs.Steps.{truth_number}
 use Rattle.mid_program.specs.Sorted.{There, fits, is_tested, kinds_of, sorted, all_sorted, test_sorted}
@@ -21,9 +21,9 @@ use Rattle.lower_model.specs.Emission.{emitted, tested}
 use Rattle.lower_model.specs.Machine.{Conf, Label, Frame, at, br, label}
 use Rattle.lower_model.specs.Places.{Bases, room, arrays_in}
 use Rattle.lower_model.specs.Quick.{pair_in}
-use Rattle.lower_model.specs.Small.{either, when, text_beside}
+use Rattle.lower_model.specs.Small.{emit_if, when, text_beside}
 use Rattle.lower_model.specs.Statements.{answer_given, block, left_unless_pair, returned, text_given, word_given}
-use Rattle.lower_model.proofs.Watch.{Watch}
+use Rattle.lower_model.proofs.Observer.{Observer}
 use Rattle.lower_model.proofs.Runs.{Goes, goes_to, goes_from, then_goes, by_steps, first, then_on, weaker, within, Reaches}
 use Rattle.lower_model.proofs.Regions.{upd_same}
 use Rattle.lower_model.proofs.Globals.{Text}
@@ -46,15 +46,15 @@ no_handle : (v : Value) → empty ≡ Held v → ⊥
 no_handle v e = cc
 
 -- one thing after another, and then a third
-onward_twice : {A B C : Type 0} → (r : Outcome A) (f : A → Doing B) (g : B → Doing C) → go_on (go_on r f) g ≡ go_on r (λ a σ. go_on (f a σ) g)
+onward_twice : {A B C : Type 0} → (r : Outcome A) (f : A → Execution B) (g : B → Execution C) → go_on (go_on r f) g ≡ go_on r (λ a σ. go_on (f a σ) g)
 onward_twice (Gives a σ) f g = refl
 onward_twice (Stops why σ) f g = refl
 
-onward_same : {A B : Type 0} → (r : Outcome A) (f g : A → Doing B) → ((a : A) (σ : State) → f a σ ≡ g a σ) → go_on r f ≡ go_on r g
+onward_same : {A B : Type 0} → (r : Outcome A) (f g : A → Execution B) → ((a : A) (σ : State) → f a σ ≡ g a σ) → go_on r f ≡ go_on r g
 onward_same (Gives a σ) f g h = h a σ
 onward_same (Stops why σ) f g h = refl
 
-module _ (p : Program) (deepest : Watch) (ks : List Kind) (F : List Frame) (b : Bases) (M n : ℕ) where
+module _ (p : Program) (deepest : Observer) (ks : List Kind) (F : List Frame) (b : Bases) (M n : ℕ) where
   abbrev names : ℕ
   names = length (kinds_of p.globals)
 
@@ -119,12 +119,12 @@ module _ (p : Program) (deepest : Watch) (ks : List Kind) (F : List Frame) (b : 
       Given d K v σ (at ks [] K (laid b l) F (word_given (layout p deepest ks F b M n) d k) (beside_state p deepest ks F σ))
   plainly_given v m u d k K l σ lt ft e en is = (word_given_ok v m Gone u d k K l σ lt (fit_less p deepest ks F 0 u 0 l σ e ft) en is).0
 
-  perhaps_given : (x : Holds Perhaps) → AnswerIs (boxed Perhaps x) (perhaps x) Gone
+  perhaps_given : (x : Holds OptionalNumber) → AnswerIs (boxed OptionalNumber x) (perhaps x) Gone
   perhaps_given None = Nothing refl refl refl
   perhaps_given (Some m) = ANumber m refl refl refl
 
   bare_given : (v : Value) (m : ℕ) (u d : ℕ) (k : Instructions) (K : List Label) (l : Locals) (σ : State) → 0 < b.temporaries → Fit p deepest ks F 1 u 0 l σ → l.number 0 ≡ Bits (I64 m) → BareIs v m (l.hand 0) →
-      Given d K v σ (at ks [] K (laid b l) F (answer_given (layout p deepest ks F b M n) Bare d k) (beside_state p deepest ks F σ))
+      Given d K v σ (at ks [] K (laid b l) F (answer_given (layout p deepest ks F b M n) NumberOrText d k) (beside_state p deepest ks F σ))
   bare_given v m u d k K l σ lt ft en (IsBeside e e1) =
       let y = layout p deepest ks F b M n in
       let l1 = with_at l (Hand 0) empty in
@@ -148,7 +148,7 @@ module _ (p : Program) (deepest : Watch) (ks : List Kind) (F : List Frame) (b : 
   -- what temporary 0 has is the answer
   given_ok : (f : Form) (x : Holds f) (u d : ℕ) (k : Instructions) (K : List Label) (l : Locals) (σ : State) → fits f sort.Value ≡ true → 0 < b.temporaries → Fit p deepest ks F 1 u 0 l σ → HoldsAt f 0 l x →
       Given d K (boxed f x) σ (at ks [] K (laid b l) F (answer_given (layout p deepest ks F b M n) f d k) (beside_state p deepest ks F σ))
-  given_ok (Answered (answer.Of sort.Value)) x u d k K l σ e lt ft hd =
+  given_ok (PrimitiveAnswer (answer.Of sort.Value)) x u d k K l σ e lt ft hd =
       let l1 = with_at l (Hand 0) empty in
       let f0 = emptied_fit u l σ ft in
       record {
@@ -158,14 +158,14 @@ module _ (p : Program) (deepest : Watch) (ks : List Kind) (F : List Frame) (b : 
         goes = then_goes (text_given_ok K l σ x lt hd.0) (then_goes (set_ok b l1 Answer (Bits (I64 text_beside)) tt (ap is_owned ft.answer)) (by_steps 1 refl));
         holds = returns_word x text_beside (Held x) u d K l1 σ f0 (TextWaits refl refl);
       }
-  given_ok (Answered (answer.Of sort.Number)) x u d k K l σ e lt ft hd = plainly_given (boxed (Answered (answer.Of sort.Number)) x) (number_word x) u d k K l σ lt ft hd.0 hd.1 (ANumber x refl refl refl)
-  given_ok (Answered answer.Truth) x u d k K l σ e lt ft hd = plainly_given (boxed (Answered answer.Truth) x) (flag_number x) u d k K l σ lt ft hd.0 hd.1 (ANumber (truth_number x) refl (flag_word x) refl)
-  given_ok Bare x u d k K l σ e lt ft hd = bare_given x hd.0 u d k K l σ lt ft hd.1 hd.2
-  given_ok Perhaps x u d k K l σ e lt ft hd = plainly_given (boxed Perhaps x) (perhaps x) u d k K l σ lt ft hd.0 hd.1 (perhaps_given x)
+  given_ok (PrimitiveAnswer (answer.Of sort.Number)) x u d k K l σ e lt ft hd = plainly_given (boxed (PrimitiveAnswer (answer.Of sort.Number)) x) (number_word x) u d k K l σ lt ft hd.0 hd.1 (ANumber x refl refl refl)
+  given_ok (PrimitiveAnswer answer.Truth) x u d k K l σ e lt ft hd = plainly_given (boxed (PrimitiveAnswer answer.Truth) x) (flag_number x) u d k K l σ lt ft hd.0 hd.1 (ANumber (truth_number x) refl (flag_word x) refl)
+  given_ok NumberOrText x u d k K l σ e lt ft hd = bare_given x hd.0 u d k K l σ lt ft hd.1 hd.2
+  given_ok OptionalNumber x u d k K l σ e lt ft hd = plainly_given (boxed OptionalNumber x) (perhaps x) u d k K l σ lt ft hd.0 hd.1 (perhaps_given x)
   given_ok f x u d k K l σ e lt ft hd = cc
 
   -- what returning code means
-  abbrev returning : Code → Doing Flow
+  abbrev returning : Code → Execution Flow
   returning e σ = go_on (meant p deepest ks F b M n [] tt e σ) (λ x. stop {A = Flow} (Returned (boxed (form_of [] e) x)))
 
   -- `return` of code, from where a statement begins
@@ -212,17 +212,17 @@ module _ (p : Program) (deepest : Watch) (ks : List Kind) (F : List Frame) (b : 
 
   -- what is chosen is returned where it is chosen
 
-  abbrev either_returning : Code → Code → Bool → Doing Flow
+  abbrev either_returning : Code → Code → Bool → Execution Flow
   either_returning a1 a2 t = if t then returning a1 else returning a2
 
-  give_value : Value → Doing Flow
+  give_value : Value → Execution Flow
   give_value v = stop (Returned v)
 
   chosen_means : (c a1 a2 : Code) (σ : State) → go_on (test_meant p deepest ks F b M n c σ) (either_returning a1 a2) ≡ returning (Choose sort.Value c a1 a2) σ
   unfolding evaluated all_evaluated give_value
   chosen_means c a1 a2 σ =
       let g = form_of [] c in
-      let way : Code → Doing Value = λ a τ. go_on (meant p deepest ks F b M n [] tt a τ) (λ x. settled (converted (form_of [] a) sort.Value x)) in
+      let way : Code → Execution Value = λ a τ. go_on (meant p deepest ks F b M n [] tt a τ) (λ x. settled (converted (form_of [] a) sort.Value x)) in
       let each : (t : Bool) (τ : State) → either_returning a1 a2 t τ ≡ go_on ((if t then way a1 else way a2) τ) give_value = λ t τ. elim t as (λ t1. either_returning a1 a2 t1 τ ≡ go_on ((if t1 then way a1 else way a2) τ) give_value) [
         | true ↦ sym (onward_twice (meant p deepest ks F b M n [] tt a1 τ) (λ x. settled (converted (form_of [] a1) sort.Value x)) give_value)
         | false ↦ sym (onward_twice (meant p deepest ks F b M n [] tt a2 τ) (λ x. settled (converted (form_of [] a2) sort.Value x)) give_value)
@@ -276,10 +276,10 @@ module _ (p : Program) (deepest : Watch) (ks : List Kind) (F : List Frame) (b : 
           let s6 = and_parts (sorted ctx [] a1) (sorted ctx [] a2) s5.1 in
           (ap₂ (λ t q. t && q) s2.0 s5.0, s3.0, s4.0, s6.0, s6.1)
 
-      plain : Reached p deepest ks F b M W σ.turns (at ks [] K (laid b l) F (tested (layout p deepest ks F b M n) [] [] c 0 0 d (either A B k)) (beside_state p deepest ks F σ)) P (Away p deepest ks F b d K) (go_on (test_meant p deepest ks F b M n c σ) (either_returning a1 a2))
+      plain : Reached p deepest ks F b M W σ.turns (at ks [] K (laid b l) F (tested (layout p deepest ks F b M n) [] [] c 0 0 d (emit_if A B k)) (beside_state p deepest ks F σ)) P (Away p deepest ks F b d K) (go_on (test_meant p deepest ks F b M n c σ) (either_returning a1 a2))
       plain =
-          then_on (machine p deepest ks F) M (work_of c + 14) (1 + w) W σ.turns _ (TestDone p deepest ks F b M n (either A B k) K u l) P (Away p deepest ks F b d K) (test_meant p deepest ks F b M n c σ) _ (omega arith)
-          (test_ok p deepest ks F b M n c okc u d (either A B k) K l σ parts.0 (omega (arith, rm)) (omega (arith, ar)) s)
+          then_on (machine p deepest ks F) M (work_of c + 14) (1 + w) W σ.turns _ (TestDone p deepest ks F b M n (emit_if A B k) K u l) P (Away p deepest ks F b d K) (test_meant p deepest ks F b M n c σ) _ (omega arith)
+          (test_ok p deepest ks F b M n c okc u d (emit_if A B k) K l σ parts.0 (omega (arith, rm)) (omega (arith, ar)) s)
           (λ t τ c1 le h.
           let h1 = starts_among p deepest ks F b M n u K K1 h.next τ refl h.starts in
           first (machine p deepest ks F) M 1 w (1 + w) τ.turns c1 _ P (Away p deepest ks F b d K) _ (goes_from h.comes (chooses A B (flag_number t))) (omega arith)
@@ -303,7 +303,7 @@ module _ (p : Program) (deepest : Watch) (ks : List Kind) (F : List Frame) (b : 
           (left_unless_pair_ok p deepest ks F b M n c okc u (suc d) 0 A K2 l σ parts.0 (omega (arith, rm)) (omega (arith, ar)) (starts_among p deepest ks F b M n u K K2 l σ refl s)))
           (λ t τ c1 le h. way t τ c1 h))
 
-      by : (j : Bool) → Reached p deepest ks F b M W σ.turns (at ks [] K (laid b l) F (if j then block (left_unless_pair (layout p deepest ks F b M n) (pair_in c) c (suc d) 0 A) after else tested (layout p deepest ks F b M n) [] [] c 0 0 d (either A B k)) (beside_state p deepest ks F σ)) P (Away p deepest ks F b d K) (go_on (test_meant p deepest ks F b M n c σ) (either_returning a1 a2))
+      by : (j : Bool) → Reached p deepest ks F b M W σ.turns (at ks [] K (laid b l) F (if j then block (left_unless_pair (layout p deepest ks F b M n) (pair_in c) c (suc d) 0 A) after else tested (layout p deepest ks F b M n) [] [] c 0 0 d (emit_if A B k)) (beside_state p deepest ks F σ)) P (Away p deepest ks F b d K) (go_on (test_meant p deepest ks F b M n c σ) (either_returning a1 a2))
       by true = quick
       by false = plain
 

@@ -10,7 +10,7 @@ use Rattle.lower_model.specs.Cells.{Cell, Gone, is_owned, is_word, is_gone, is_b
 use Rattle.lower_model.specs.ImportCalls.{Host}
 use Rattle.lower_model.specs.Machine.{Code, Label, Frame, Store, assigning_then, at, guarded}
 use Rattle.lower_model.specs.Places.{handle_global}
-use Rattle.lower_model.specs.Small.{does}
+use Rattle.lower_model.specs.Small.{emit}
 use Rattle.lower_model.proofs.Runs.{Goes, goes_to}
 use Rattle.lower_model.proofs.Globals.{Globals, Global, global_of, IsGlobal, has_global, with_global_at, has_global_with, placed, placed_at, placed_set, placed_again, global_there}
 use Rattle.lower_model.proofs.State.{kind_here}
@@ -55,7 +55,7 @@ boxed_comes ranges ks name i old new e =
 
 module _ {u : Code} {ks : List Kind} {F : List Frame} (ranges names : ℕ) where
   pub global_moved : {vs : List Cell} {K : List Label} {L : List Cell} {c : Instructions} {o : Host} {name : Option ℕ} → (g : Globals) (p : Global) (v : Cell) → IsGlobal ranges names p → has_global ranges names g p ≡ v →
-      Goes u 1 (at ks vs K L F (does (GlobalGet (global_of ranges names p)) c) (while_assigning name (storing (placed ranges names g) o)))
+      Goes u 1 (at ks vs K L F (emit (GlobalGet (global_of ranges names p)) c) (while_assigning name (storing (placed ranges names g) o)))
       (at ks (read_global v ∷ vs) K L F c (while_assigning name (storing (placed ranges names (with_global_at ranges names g p (left_in_global v))) o)))
   global_moved {vs = vs} {K = K} {L = L} {c = c} {o = o} {name = name} g p v h e =
       let gs = placed ranges names g in
@@ -68,7 +68,7 @@ module _ {u : Code} {ks : List Kind} {F : List Frame} (ranges names : ℕ) where
 
   -- what is not owned, and an array, stays where it is
   pub global_copied : {vs : List Cell} {K : List Label} {L : List Cell} {c : Instructions} {o : Host} {name : Option ℕ} → (g : Globals) (p : Global) (v : Cell) → IsGlobal ranges names p → has_global ranges names g p ≡ v → left_in_global v ≡ v →
-      Goes u 1 (at ks vs K L F (does (GlobalGet (global_of ranges names p)) c) (while_assigning name (storing (placed ranges names g) o))) (at ks (read_global v ∷ vs) K L F c (while_assigning name (storing (placed ranges names g) o)))
+      Goes u 1 (at ks vs K L F (emit (GlobalGet (global_of ranges names p)) c) (while_assigning name (storing (placed ranges names g) o))) (at ks (read_global v ∷ vs) K L F c (while_assigning name (storing (placed ranges names g) o)))
   global_copied {vs = vs} {K = K} {L = L} {c = c} {o = o} {name = name} g p v h e s =
       goes_to (global_moved g p v h e)
       (ap (λ w. at ks (read_global v ∷ vs) K L F c (while_assigning name (storing (placed ranges names (with_global_at ranges names g p w)) o))) s
@@ -76,7 +76,7 @@ module _ {u : Code} {ks : List Kind} {F : List Frame} (ranges names : ℕ) where
 
   pub global_set_ok : {vs : List Cell} {K : List Label} {L : List Cell} {c : Instructions} {o : Host} {name : Option ℕ} → (g : Globals) (p : Global) (v : Cell) → IsGlobal ranges names p → is_owned (has_global ranges names g p) ≡ false →
       may_come u.before u.names name (global_of ranges names p) (has_global ranges names g p) v ≡ true →
-      Goes u 1 (at ks (v ∷ vs) K L F (does (GlobalSet (global_of ranges names p)) c) (while_assigning name (storing (placed ranges names g) o))) (at ks vs K L F c (while_assigning (assigning_then v name) (storing (placed ranges names (with_global_at ranges names g p v)) o)))
+      Goes u 1 (at ks (v ∷ vs) K L F (emit (GlobalSet (global_of ranges names p)) c) (while_assigning name (storing (placed ranges names g) o))) (at ks vs K L F c (while_assigning (assigning_then v name) (storing (placed ranges names (with_global_at ranges names g p v)) o)))
   global_set_ok {vs = vs} {K = K} {L = L} {c = c} {o = o} {name = name} g p v h e may =
       let x = global_of ranges names p in
       record {

@@ -13,16 +13,16 @@ use Rattle.sem_primitives.specs.declared.sorts.Sort.TheVariants as sort
 use Rattle.sem_primitives.specs.declared.table.Primitive.{Primitive}
 use Rattle.sem_primitives.specs.declared.table.Primitive.TheVariants as row
 use Rattle.wasm_types.specs.Syntax.{Instructions}
-use Rattle.mid_program.specs.Mid.{Kind, Program, Form, Answered, Codes, End, At, Fixed, Fresh}
+use Rattle.mid_program.specs.Mid.{Kind, Program, Form, PrimitiveAnswer, Codes, End, At, Fixed, Fresh}
 use Rattle.mid_program.specs.MidMeaning.{Env, row_of}
 use Rattle.sem_scripts.specs.Names.{ArrayName}
-use Rattle.sem_scripts.specs.ScriptState.{State, Doing, go_on, settled, does}
+use Rattle.sem_scripts.specs.ScriptState.{State, Execution, go_on, settled, call}
 use Rattle.mid_program.specs.Sorted.{Held as Standing, all_sorted, held_after_all, is_operation, fit_row}
 use Rattle.lower_model.specs.Emission.{all_emitted, all_converted, all_pushed}
 use Rattle.lower_model.specs.Machine.{Conf, Label, Frame, at, loops_walked}
 use Rattle.lower_model.specs.Places.{Bases, rooms, arrays_among}
 use Rattle.lower_model.specs.Small.{ask_row, kept}
-use Rattle.lower_model.proofs.Watch.{Watch}
+use Rattle.lower_model.proofs.Observer.{Observer}
 use Rattle.lower_model.proofs.Runs.{then_goes, first, then_on, then_settled, weaker}
 use Rattle.lower_model.proofs.Locals.{Locals, laid}
 use Rattle.lower_model.proofs.HostLaws.{row_keeps, is_quiet}
@@ -87,8 +87,8 @@ extra_enough (At e es) = let r = extra_enough es in omega (arith, r)
 extra_enough (Fixed m es) = extra_enough es
 extra_enough (Fresh es) = let r = extra_enough es in omega (arith, r)
 
-module _ (p : Program) (deepest : Watch) (ks : List Kind) (F : List Frame) (b : Bases) (M n : ℕ) where
-  pub plain_meant : (a : Answer) (x : InAnswer a) (y : ArrayName) (σ : State) → IsPlain a → Meant p deepest ks F (Answered a) x y σ
+module _ (p : Program) (deepest : Observer) (ks : List Kind) (F : List Frame) (b : Bases) (M n : ℕ) where
+  pub plain_meant : (a : Answer) (x : InAnswer a) (y : ArrayName) (σ : State) → IsPlain a → Meant p deepest ks F (PrimitiveAnswer a) x y σ
   plain_meant (answer.Of sort.Array) x y σ h = absurd h
   plain_meant _ x y σ h = tt
 
@@ -102,7 +102,7 @@ module _ (p : Program) (deepest : Watch) (ks : List Kind) (F : List Frame) (b : 
     pub kept : Kept fs ts (λ i. held_after_all i es (st i)) next env
     pub row : RowAt p deepest ks F b M n wanted es t next σ1 r
 
-  pub row_then : {B : Type 0} → (wanted : List Argument) (es : Codes) → CodesOk p deepest ks F b M n es → (fs : List Form) (env : Env fs) (ts : List ℕ) (st : ℕ → Standing) (t u w d : ℕ) (k : Instructions) (K : List Label) (l : Locals) (σ : State) (w1 w' : ℕ) (P : B → State → Conf → Type 0) (f : Row wanted → Doing B) →
+  pub row_then : {B : Type 0} → (wanted : List Argument) (es : Codes) → CodesOk p deepest ks F b M n es → (fs : List Form) (env : Env fs) (ts : List ℕ) (st : ℕ → Standing) (t u w d : ℕ) (k : Instructions) (K : List Label) (l : Locals) (σ : State) (w1 w' : ℕ) (P : B → State → Conf → Type 0) (f : Row wanted → Execution B) →
       fit_row fs wanted es ≡ true → all_sorted (context p deepest ks F b M n) fs es ≡ true → WellUsed p deepest ks F b M n fs (λ i. held_after_all i es (st i)) → t + rooms es ≤ b.temporaries → w + arrays_among es ≤ b.arrays → Ready p deepest ks F b M n fs env ts st t u w (loops_walked K) l σ → works_of es + conv_work es + w1 ≤ w' →
       ((r : Row wanted) (τ : State) (c : Conf) → τ.turns ≤ σ.turns → RowReady wanted es fs env ts st t u w k K l σ r τ c → Reached p deepest ks F b M w1 τ.turns c P (Away p deepest ks F b d K) (f r τ)) →
       Reached p deepest ks F b M w' σ.turns (at ks [] K (laid b l) F (all_emitted (layout p deepest ks F b M n) fs ts es t w d (all_converted (layout p deepest ks F b M n) fs wanted es t d k)) (beside_state p deepest ks F σ)) P (Away p deepest ks F b d K)
@@ -133,15 +133,15 @@ module _ (p : Program) (deepest : Watch) (ks : List Kind) (F : List Frame) (b : 
   pub host_asked : (q : Primitive) (es : Codes) (fs : List Form) (t u w d : ℕ) (k : Instructions) (K : List Label) (l : Locals) (σ : State) (r : Row (arguments_of q)) →
       takes_row q ≡ true → in_turn q r σ.shared ≡ true → is_quiet q ≡ true → IsPlain (answer_of q) → fit_row fs (arguments_of q) es ≡ true → length ks ≡ b.parameters → past t es ≤ b.temporaries → t < b.temporaries →
       Fit p deepest ks F (past t es) u w l σ → RowAt p deepest ks F b M n (arguments_of q) es t l σ r →
-      Reached p deepest ks F b M (push_work es + 5) σ.turns (at ks [] K (laid b l) F (all_pushed (layout p deepest ks F b M n) (arguments_of q) es t (ask_row q (kept b (can_fault q) (answer_of q) t d k))) (beside_state p deepest ks F σ)) (Put p deepest ks F b t u w (Answered (answer_of q)) k K l) (Away p deepest ks F b d K) (does q r σ)
+      Reached p deepest ks F b M (push_work es + 5) σ.turns (at ks [] K (laid b l) F (all_pushed (layout p deepest ks F b M n) (arguments_of q) es t (ask_row q (kept b (can_fault q) (answer_of q) t d k))) (beside_state p deepest ks F σ)) (Put p deepest ks F b t u w (PrimitiveAnswer (answer_of q)) k K l) (Away p deepest ks F b d K) (call q r σ)
   host_asked q es fs t u w d k K l σ r tk turn quiet plain fr pk lt lt1 ft ra =
       let mach = machine p deepest ks F in
       let k1 = kept b (can_fault q) (answer_of q) t d k in
       let x = push_ok p deepest ks F b M n (arguments_of q) es fs t u w [] (ask_row q k1) K l σ r fr pk lt ft ra in
       let σ1 = done_by p deepest ks F q r σ in
       let f1 = fit_shared p deepest ks F t u w x.next σ (shared_after σ.shared (meaning q r σ.shared)) (calm_after p q r σ.shared quiet ft.sound.calm) x.fit in
-      first mach M (x.steps + 1) 4 (push_work es + 5) σ.turns _ _ (Put p deepest ks F b t u w (Answered (answer_of q)) k K l) (Away p deepest ks F b d K) (does q r σ)
+      first mach M (x.steps + 1) 4 (push_work es + 5) σ.turns _ _ (Put p deepest ks F b t u w (PrimitiveAnswer (answer_of q)) k K l) (Away p deepest ks F b d K) (call q r σ)
       (then_goes x.goes (row_called p deepest ks F q r x.words [] σ tk x.wide (x.live (laid b x.next)) x.decoded turn)) (omega (arith, x.few))
-      (weaker mach M 4 σ.turns _ (Put p deepest ks F b t u w (Answered (answer_of q)) k K x.next) (Put p deepest ks F b t u w (Answered (answer_of q)) k K l) (Away p deepest ks F b d K) (Away p deepest ks F b d K) (does q r σ)
+      (weaker mach M 4 σ.turns _ (Put p deepest ks F b t u w (PrimitiveAnswer (answer_of q)) k K x.next) (Put p deepest ks F b t u w (PrimitiveAnswer (answer_of q)) k K l) (Away p deepest ks F b d K) (Away p deepest ks F b d K) (call q r σ)
       (λ v τ c a. record { next = a.next; comes = a.comes; fit = a.fit; same = same_then [] t t w w l x.next a.next (omega arith) (omega arith) (under_same [] t w l x.next x.under) a.same; holds = a.holds }) (λ why τ c a. a)
       (kept_ok p deepest ks F b M (can_fault q) (answer_of q) (meaning q r σ.shared).answer t u w d k K x.next σ1 plain lt1 f1))

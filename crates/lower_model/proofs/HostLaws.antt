@@ -20,7 +20,7 @@ use Rattle.sem_primitives.specs.FieldMeaning.{with_record, with_fields, with_fie
 use Rattle.sem_primitives.specs.ArrayMeaning.{found, visited, with_array, numbered}
 use Rattle.sem_primitives.specs.TextMeaning.{match_row, match_start, with_match, substitute_row, substituted_by, replaced, places_of, split_row, splits_at}
 use Rattle.sem_primitives.specs.FirstMatch.{expression_of, first_match}
-use Rattle.sem_primitives.specs.Finds.{looked, looked_by, seen}
+use Rattle.sem_primitives.specs.Finds.{observed, observed_by, seen}
 use Rattle.sem_primitives.specs.InputMeaning.{next_record, as_record, as_line, got_file, read_file, opened_file, open_or_read, getline_file_by, gives_up, source_of, reader_named}
 use Rattle.sem_primitives.specs.OutputMeaning.{kept_open, opened_if, written_by, put_text, printf_by, has_room, is_writing, formatted_values, operands_of, file_name, printed}
 use Rattle.sem_primitives.specs.Table.{arguments_of, meaning, listed_meaning}
@@ -176,10 +176,10 @@ given_up_keeps (Some Standard) i = record { pending = refl; names = refl; assign
 given_up_keeps (Some (File source)) i = record { pending = refl; names = refl; assigns = refl; few = λ h. h }
 
 -- something was looked at
-looked_keeps : (i : Inner) → Keeps i (looked i)
+looked_keeps : (i : Inner) → Keeps i (observed i)
 looked_keeps i = record { pending = refl; names = refl; assigns = refl; few = λ h. h }
 
-looked_by_keeps : (r : Result (Unit {0}) Fault) (i : Inner) → Keeps i (looked_by r i)
+looked_by_keeps : (r : Result (Unit {0}) Fault) (i : Inner) → Keeps i (observed_by r i)
 looked_by_keeps r i = record { pending = refl; names = refl; assigns = refl; few = λ h. h }
 
 -- Reading a file by its name.
@@ -212,13 +212,13 @@ module _ (keep : List ℕ → Inner → Result (Inner × InputAnswer) Fault) (go
   open_good name o (Some s) i = read_good name s i i (keeps_same i)
   open_good name o None i = by (has_room i)
     where
-      by : (r : Bool) → Good (λ x. x.0) i (elim r [ true ↦ opened_file keep name (source_of (seen i o (Named name))) (looked i) | false ↦ Err TooManyStreams ])
-      by true = opened_good name (source_of (seen i o (Named name))) i (looked i) (looked_keeps i)
+      by : (r : Bool) → Good (λ x. x.0) i (elim r [ true ↦ opened_file keep name (source_of (seen i o (Named name))) (observed i) | false ↦ Err TooManyStreams ])
+      by true = opened_good name (source_of (seen i o (Named name))) i (observed i) (looked_keeps i)
       by false = tt
 
 -- Writing.
 
-open_keeps : (name : List ℕ) (i : Inner) (r : Result (Unit {0}) Fault) → Keeps i (kept_open name (looked_by r i) r)
+open_keeps : (name : List ℕ) (i : Inner) (r : Result (Unit {0}) Fault) → Keeps i (kept_open name (observed_by r i) r)
 open_keeps name i (Ok x) = record { pending = refl; names = refl; assigns = refl; few = λ h. h }
 open_keeps name i (Err f) = looked_by_keeps (Err f) i
 

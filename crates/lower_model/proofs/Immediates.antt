@@ -19,7 +19,7 @@ use Rattle.sem_scripts.specs.Steps.{is_field_number}
 use Rattle.wasm_types.specs.Syntax.{Instructions}
 use Rattle.wasm_types.specs.declared.instr.Simple.TheVariants.{I32Const}
 use Rattle.wasm_store.specs.declared.word.Word.TheVariants.{I32, I64}
-use Rattle.mid_program.specs.Mid.{Kind, Program, Form, Answered, a_value, Code, Do, Compare, Number, Text, form_of}
+use Rattle.mid_program.specs.Mid.{Kind, Program, Form, PrimitiveAnswer, a_value, Code, Do, Compare, Number, Text, form_of}
 use Rattle.mid_program.specs.MidMeaning.{Holds, Env, evaluated, all_evaluated, boxed, or_zero}
 use Rattle.mid_program.specs.Sorted.{Held as Standing, sorted, all_sorted, held_after, fits}
 use Rattle.lower_model.specs.Arithmetic.{is_value, compared}
@@ -28,8 +28,8 @@ use Rattle.lower_model.specs.Emission.{Immediate, FieldOf, TextOf, NumberOf, imm
 use Rattle.lower_model.specs.ImportCalls.{with_some, and_rest, row_in}
 use Rattle.lower_model.specs.Machine.{Label, Frame, at}
 use Rattle.lower_model.specs.Places.{Bases, handle_local}
-use Rattle.lower_model.specs.Small.{does, ask_row, moved_out, kept_code}
-use Rattle.lower_model.proofs.Watch.{Watch}
+use Rattle.lower_model.specs.Small.{emit, ask_row, moved_out, kept_code}
+use Rattle.lower_model.proofs.Observer.{Observer}
 use Rattle.lower_model.proofs.Runs.{Goes, then_goes, goes_to, goes_from, same_goes, first, then_on, then_settled, weaker, weaker_settled}
 use Rattle.lower_model.proofs.Regions.{upd_same}
 use Rattle.lower_model.proofs.Locals.{Locals, Hand, with_at, laid}
@@ -74,7 +74,7 @@ immediate_is v (Text j) i e = meant_itself (TextOf j) i tt e
 immediate_is true (Number z) i e = meant_itself (NumberOf z) i tt e
 immediate_is v _ i e = cc
 
-module _ (p : Program) (deepest : Watch) (ks : List Kind) (F : List Frame) (b : Bases) (M n : ℕ) where
+module _ (p : Program) (deepest : Observer) (ks : List Kind) (F : List Frame) (b : Bases) (M n : ℕ) where
   -- such an operand gives its value, changes nothing, and uses nothing that is kept
   record Immediately (i : Immediate) (e : Code) (fs : List Form) (env : Env fs) (ts : List ℕ) : Type 0 where
     value : State → Holds (form_of fs e)
@@ -110,15 +110,15 @@ module _ (p : Program) (deepest : Watch) (ks : List Kind) (F : List Frame) (b : 
   -- the host compares what stands in a temporary with what comes onto the stack
   host_compares : (c : CompareOp) (f : Form) (x : Holds f) (i : Immediate) (a : Value) (t u w d : ℕ) (k : Instructions) (K : List Label) (l : Locals) (σ : State) → fits f sort.Value ≡ true → t < b.temporaries → Fit p deepest ks F (suc t) u w l σ → HoldsAt f t l x →
       ((vs : List Cell) (L : List Cell) (k1 : Instructions) → Goes (machine p deepest ks F) 1 (at ks vs K L F (immediate_pushed (layout p deepest ks F b M n) i k1) (beside_state p deepest ks F σ)) (at ks (Held a ∷ vs) K L F k1 (beside_state p deepest ks F σ))) →
-      Reached p deepest ks F b M 25 σ.turns (at ks [] K (laid b l) F (immediately_compared (layout p deepest ks F b M n) c f i t d k) (beside_state p deepest ks F σ)) (Put p deepest ks F b t u w (Answered answer.Truth) k K l) (Away p deepest ks F b d K) (settled (comparison (boxed f x) a c) σ)
+      Reached p deepest ks F b M 25 σ.turns (at ks [] K (laid b l) F (immediately_compared (layout p deepest ks F b M n) c f i t d k) (beside_state p deepest ks F σ)) (Put p deepest ks F b t u w (PrimitiveAnswer answer.Truth) k K l) (Away p deepest ks F b d K) (settled (comparison (boxed f x) a c) σ)
   host_compares c f x i a t u w d k K l σ ef lt ft hx pushes =
       let mach = machine p deepest ks F in
       let y = layout p deepest ks F b M n in
-      let P = Put p deepest ks F b t u w (Answered answer.Truth) k K l in
+      let P = Put p deepest ks F b t u w (PrimitiveAnswer answer.Truth) k K l in
       let Q = Away p deepest ks F b d K in
       let k4 = kept_code b true t d k in
       let k3 = ask_row row.Compare k4 in
-      let k2 = does (I32Const (comparison_number c)) (moved_out (handle_local b t) (immediate_pushed y i k3)) in
+      let k2 = emit (I32Const (comparison_number c)) (moved_out (handle_local b t) (immediate_pushed y i k3)) in
       then_settled mach M 16 9 25 _ σ (Converted p deepest ks F b M (suc t) u w t a_value k2 K l) P Q (Ok (boxed f x)) (λ v. settled (comparison v a c)) (omega arith)
       (converted_ok p deepest ks F b M f sort.Value x (suc t) u w t d k2 K l σ ef (omega arith) lt ft hx)
       (λ v c1 e1 a1.
@@ -132,8 +132,8 @@ module _ (p : Program) (deepest : Watch) (ks : List Kind) (F : List Frame) (b : 
       (goes_to (row_called p deepest ks F row.Compare (c, (v, (a, tt))) words [] σ refl refl refl
       (ap (λ o. with_some (and_rest o (Held v ∷ (Held a ∷ []))) (λ z. with_some (row_in mach.memory (argument.Of sort.Value ∷ argument.Of sort.Value ∷ []) z.1) (λ rest. Some (z.0, rest)))) (constant_again constant.Comparison c)) refl)
       (after_same p deepest ks F (laid b l1) K k4 r (done_by p deepest ks F row.Compare (c, (v, (a, tt))) σ) σ (same_state σ r) _))))) (omega arith)
-      (weaker mach M 4 σ.turns _ (Put p deepest ks F b t u w (Answered answer.Truth) k K l1) P Q Q (settled r σ)
-      (λ z τ c2 q. put_from p deepest ks F b M n t u w (Answered answer.Truth) k K l l1 z τ c2
+      (weaker mach M 4 σ.turns _ (Put p deepest ks F b t u w (PrimitiveAnswer answer.Truth) k K l1) P Q Q (settled r σ)
+      (λ z τ c2 q. put_from p deepest ks F b M n t u w (PrimitiveAnswer answer.Truth) k K l l1 z τ c2
       (same_then [] t t w w l a1.next l1 (omega arith) (omega arith) (under_same [] t w l a1.next (under_keeps t t l a1.next (omega arith) a1.keeps)) (same_hand [] t w t a1.next empty (omega arith))) q)
       (λ why τ c2 q. q)
       (kept_ok p deepest ks F b M true answer.Truth r t u w d k K l1 σ tt lt f0)))
@@ -160,7 +160,7 @@ module _ (p : Program) (deepest : Watch) (ks : List Kind) (F : List Frame) (b : 
       let r = comparison (boxed f x) (boxed g z) c in
       subst (λ o. Reached p deepest ks F b M 25 τ.turns c1 P Q (go_on o (λ y. settled (comparison (boxed f x) (boxed g y) c)))) (sym (it.means τ))
       (first mach M 0 25 25 τ.turns c1 _ P Q _ (same_goes h.comes) (omega arith)
-      (weaker_settled mach M 25 _ τ (Put p deepest ks F b t u w (Answered answer.Truth) k K h.next) P Q r
+      (weaker_settled mach M 25 _ τ (Put p deepest ks F b t u w (PrimitiveAnswer answer.Truth) k K h.next) P Q r
       (λ q c2 put. put_done p deepest ks F b M n (Compare c a e) v fs env ts st t u w k K l h.next σ τ q c2 rd.below h.same h.own (it.kept (λ j. held_after j a (st j)) h.next h.kept) refl tt put)
       (host_compares c f x i (boxed g z) t u w d k K h.next τ s1.0 (omega (arith, rm)) h.fit (still_stands a f t h.next x h.stands) (λ vs L k2. it.pushes τ vs K L k2)))))
 

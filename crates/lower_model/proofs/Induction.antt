@@ -5,7 +5,7 @@ use Rattle.mid_program.specs.declared.mid.Operation.TheVariants.{Host, Inline, A
 use Rattle.mid_program.specs.Mid.{Kind, Program, Global, Parameter, Code, Do, Over, Compare, Call, Ask, AskLine, FileLine, Replace, Number, Text, Unset, Get, Set, Array, IsOpen, Choose, Seq, Let, Bound, Codes, End, At, Fixed, Fresh}
 use Rattle.lower_model.specs.Machine.{Frame}
 use Rattle.lower_model.specs.Places.{Bases}
-use Rattle.lower_model.proofs.Watch.{Watch}
+use Rattle.lower_model.proofs.Observer.{Observer}
 use Rattle.lower_model.proofs.Simulation.{ExprOk, CodesOk}
 use Rattle.lower_model.proofs.Operands.{codes_end, codes_at, codes_fixed}
 use Rattle.lower_model.proofs.Making.{codes_fresh}
@@ -26,7 +26,7 @@ use Rattle.lower_model.proofs.Asking.{assign_work}
 use Rattle.lower_model.proofs.AskingLines.{ask_expr, ask_line_expr}
 use Rattle.lower_model.proofs.Replacing.{replace_expr}
 
-module _ (p : Program) (deepest : Watch) (ks : List Kind) (F : List Frame) (b : Bases) (M n : ℕ) where
+module _ (p : Program) (deepest : Observer) (ks : List Kind) (F : List Frame) (b : Bases) (M n : ℕ) where
   abbrev pub Expr : Code → Type 0
   Expr e = ExprOk p deepest ks F b M n e
 

@@ -35,8 +35,8 @@ use Rattle.lower_model.specs.Cells.{Cell, Bits}
 use Rattle.lower_model.specs.Emission.{all_emitted, all_converted}
 use Rattle.lower_model.specs.Machine.{Conf, Label, Frame, at, br, loops_walked, with_operands, push_result}
 use Rattle.lower_model.specs.Places.{Bases, calculated_room, room, arrays_in, number_local}
-use Rattle.lower_model.specs.Small.{does, fail_if}
-use Rattle.lower_model.proofs.Watch.{Watch}
+use Rattle.lower_model.specs.Small.{emit, fail_if}
+use Rattle.lower_model.proofs.Observer.{Observer}
 use Rattle.lower_model.proofs.Runs.{Goes, then_goes, goes_to, by_steps, stays, there, faulted, first, within, weaker_settled}
 use Rattle.lower_model.proofs.Regions.{upd_same, upd_other}
 use Rattle.lower_model.proofs.Locals.{Locals, Number as NumberAt, with_at, laid}
@@ -108,7 +108,7 @@ module _ (m n : Number) (nz : is_zero n.number ≡ false) where
 abbrev pub two_wanted : List Argument
 two_wanted = argument.Of sort.Number ∷ (argument.Of sort.Number ∷ [])
 
-module _ (p : Program) (deepest : Watch) (ks : List Kind) (F : List Frame) (b : Bases) (M n : ℕ) where
+module _ (p : Program) (deepest : Observer) (ks : List Kind) (F : List Frame) (b : Bases) (M n : ℕ) where
   -- two numbers stand in temporaries, and no handle
   record Pair (x y : Number) (t u w : ℕ) (l : Locals) (σ : State) : Type 0 where
     left : l.number t ≡ Bits (I64 (number_word x))
@@ -211,10 +211,10 @@ module _ (p : Program) (deepest : Watch) (ks : List Kind) (F : List Frame) (b : 
       let f2 = fit_number p deepest ks F t (suc t) u w l1 σ c refl f1 in
       let s1 = same_then [] t t w w l0 l l1 (omega arith) (omega arith) sm (same_number [] t w (suc (suc t)) l c (omega arith)) in
       let s2 = same_then [] t t w w l0 l1 l2 (omega arith) (omega arith) s1 (same_number [] t w t l1 c (omega arith)) in
-      let move = does (LocalGet pp) (does (LocalSet xx) k) in
+      let move = emit (LocalGet pp) (emit (LocalSet xx) k) in
       let k4 = fail_if Range d move in
-      let k3 = out_of_range pp (does (Binary ty.I32 bin.Or) k4) in
-      let k2 = does (LocalGet yy) (does (Compare ty.I64 Ne) (does (LocalGet xx) (does (I64Const 0) (does (Compare ty.I64 Ne) (does (Binary ty.I32 bin.And) k3))))) in
+      let k3 = out_of_range pp (emit (Binary ty.I32 bin.Or) k4) in
+      let k2 = emit (LocalGet yy) (emit (Compare ty.I64 Ne) (emit (LocalGet xx) (emit (I64Const 0) (emit (Compare ty.I64 Ne) (emit (Binary ty.I32 bin.And) k3))))) in
       let differ = not (nat_eq facts.quotient (number_word y)) && not (nat_eq (number_word x) 0) in
       first mach M 4 26 30 σ.turns _ _ P Q r
       (then_goes (computed_ok bin.Mul x y q t u w l σ (omega (arith, lt)) a refl) (set_ok b l (NumberAt (suc (suc t))) c lt (a.fit.numbers (suc (suc t))))) (omega arith)

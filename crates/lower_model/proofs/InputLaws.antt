@@ -21,7 +21,7 @@ use Rattle.sem_primitives.specs.FirstMatch.{expression_of}
 use Rattle.sem_primitives.specs.TextMeaning.{substitute_row, substituted_by, replaced, places_of}
 use Rattle.sem_primitives.specs.OutputMeaning.{has_room}
 use Rattle.sem_primitives.specs.Records.{Got, Record, AtEnd, Broken}
-use Rattle.sem_primitives.specs.Finds.{looked, seen}
+use Rattle.sem_primitives.specs.Finds.{observed, seen}
 use Rattle.sem_primitives.specs.InputMeaning.{Main, Taken, Over, Pending, NotOpened, Failed, reader_source, leaves, stops_reading, begins_reading, with_operands, file_named, got_main, read_main, reader_of, opened, made, file_or_assignment, taken, operand_text, text_or_none, passes_operand, over, follows, is_below, reached, reach, reach_by, next_operand, go_on, main_input, next_record, got_file, read_file, opened_file, open_or_read, getline_line_file_row, source_of, reader_named, with_reader, counted_by, counted_record, as_record, as_line, next_of, next_main_row, getline_of, getline_by, getline_row, getline_line_row, start_by, start_from}
 use Rattle.sem_primitives.specs.declared.answers.InputAnswer.{InputAnswer}
 use Rattle.sem_primitives.specs.declared.answers.InputAnswer.TheVariants as input
@@ -324,8 +324,8 @@ line_got i Broken = tt
 line_read : (name : List ℕ) (source : Source) (i : Inner) → LineThere (read_file as_line name source i)
 line_read name source i = by (next_record i source)
   where
-    by : (r : Result (Got × Source) Fault) → LineThere (r >>= λ got. got_file as_line (looked (record i { readers = with_reader name got.1 i.readers })) got.0)
-    by (Ok x) = line_got (looked (record i { readers = with_reader name x.1 i.readers })) x.0
+    by : (r : Result (Got × Source) Fault) → LineThere (r >>= λ got. got_file as_line (observed (record i { readers = with_reader name got.1 i.readers })) got.0)
+    by (Ok x) = line_got (observed (record i { readers = with_reader name x.1 i.readers })) x.0
     by (Err f) = tt
 
 line_opened : (name : List ℕ) (s : Option Source) (i : Inner) → LineThere (opened_file as_line name s i)
@@ -336,8 +336,8 @@ line_named : (name : List ℕ) (o : Outside) (s : Option Source) (i : Inner) →
 line_named name o (Some s) i = line_read name s i
 line_named name o None i = by (has_room i)
   where
-    by : (t : Bool) → LineThere (elim t [ true ↦ opened_file as_line name (source_of (seen i o (Named name))) (looked i) | false ↦ Err TooManyStreams ])
-    by true = line_opened name (source_of (seen i o (Named name))) (looked i)
+    by : (t : Bool) → LineThere (elim t [ true ↦ opened_file as_line name (source_of (seen i o (Named name))) (observed i) | false ↦ Err TooManyStreams ])
+    by true = line_opened name (source_of (seen i o (Named name))) (observed i)
     by false = tt
 
 pub file_line_there : (name : Value) (o : Outside) (i : Inner) → LineThere (getline_line_file_row name o i)

@@ -9,7 +9,7 @@ use Rattle.sem_primitives.specs.declared.sorts.Sort.TheVariants as sort
 use Rattle.wasm_types.specs.Syntax.{Instructions}
 use Rattle.wasm_types.specs.declared.instr.Simple.TheVariants.{LocalGet, GlobalSet}
 use Rattle.wasm_store.specs.declared.word.Word.TheVariants.{I32, I64}
-use Rattle.mid_program.specs.Mid.{Kind, Program, Answered, Code, Break, Continue, Next, Exit, ExitWith, Return, Mark, form_of}
+use Rattle.mid_program.specs.Mid.{Kind, Program, PrimitiveAnswer, Code, Break, Continue, Next, Exit, ExitWith, Return, Mark, form_of}
 use Rattle.mid_program.specs.MidMeaning.{stepped, numbered}
 use Rattle.sem_scripts.specs.ScriptState.{State, Nexted, Exited, changed, with_range}
 use Rattle.mid_program.specs.Sorted.{There, sorted, fits, kinds_of, step_sorted, steps_sorted}
@@ -18,9 +18,9 @@ use Rattle.lower_model.specs.Cells.{Cell, Bits}
 use Rattle.lower_model.specs.Machine.{Label, Frame, at, br}
 use Rattle.lower_model.specs.Noted.{step_noted, steps_noted}
 use Rattle.lower_model.specs.Places.{Bases, status_global, number_local}
-use Rattle.lower_model.specs.Small.{does, to_number}
+use Rattle.lower_model.specs.Small.{emit, to_number}
 use Rattle.lower_model.specs.Statements.{way_next, way_exit, left_by, step_emitted, steps_emitted}
-use Rattle.lower_model.proofs.Watch.{Watch}
+use Rattle.lower_model.proofs.Observer.{Observer}
 use Rattle.lower_model.proofs.Runs.{Goes, goes_to, goes_from, then_goes, by_steps, first, then_on, then_settled, there}
 use Rattle.lower_model.proofs.Regions.{upd, cells_same}
 use Rattle.lower_model.proofs.Globals.{Way, Status, Range, placed, names_on, with_global_at}
@@ -51,7 +51,7 @@ marked f zero c (suc j) = refl
 marked f (suc i) c zero = refl
 marked f (suc i) c (suc j) = marked (λ x. f (suc x)) i c j
 
-module _ (p : Program) (deepest : Watch) (ks : List Kind) (F : List Frame) (b : Bases) (M n : ℕ) where
+module _ (p : Program) (deepest : Observer) (ks : List Kind) (F : List Frame) (b : Bases) (M n : ℕ) where
   pub break_step : StepOk p deepest ks F b M n Break
   unfolding step_emitted steps_emitted step_noted steps_noted stepped step_sorted steps_sorted
   break_step r lo u d bk ct k K l σ so rm it ar wk s =
@@ -89,7 +89,7 @@ module _ (p : Program) (deepest : Watch) (ks : List Kind) (F : List Frame) (b : 
 
   -- the status is told too
   exits_with : {k : Instructions} {K : List Label} → (d : ℕ) (l : Locals) (m : Number) (σ : State) → zero < b.temporaries → l.number zero ≡ Bits (I64 (number_word m)) →
-      Goes (machine p deepest ks F) 4 (at ks [] K (laid b l) F (does (LocalGet (number_local b zero)) (does (GlobalSet status_global) (left_by way_exit d k))) (beside_state p deepest ks F σ))
+      Goes (machine p deepest ks F) 4 (at ks [] K (laid b l) F (emit (LocalGet (number_local b zero)) (emit (GlobalSet status_global) (left_by way_exit d k))) (beside_state p deepest ks F σ))
       (br d ks K (laid b l) F (gone p.ranges (kinds_of p.globals) Exited (with_status m σ)))
   exits_with d l m σ lt e =
       then_goes (get_copied b l (NumberAt zero) (Bits (I64 (number_word m))) lt e refl)
@@ -103,7 +103,7 @@ module _ (p : Program) (deepest : Watch) (ks : List Kind) (F : List Frame) (b : 
       let Q = Away p deepest ks F b d K in
       let P = StepDone p deepest ks F b M n lo u bk ct k K l in
       let f = form_of [] e in
-      let k2 = does (LocalGet (number_local b zero)) (does (GlobalSet status_global) (left_by way_exit d k)) in
+      let k2 = emit (LocalGet (number_local b zero)) (emit (GlobalSet status_global) (left_by way_exit d k)) in
       let k1 = to_number b f zero d k2 in
       let s1 = and_parts (fits f sort.Number) (sorted ctx [] e) so in
       let r1 = room_one e in
@@ -111,7 +111,7 @@ module _ (p : Program) (deepest : Watch) (ks : List Kind) (F : List Frame) (b : 
       (λ σ s. then_on mach M (work_of e) 20 (work_of e + 20) σ.turns _ (Done p deepest ks F b M n false e [] tt [] (λ i. There) zero u zero k1 K l σ) P Q (meant p deepest ks F b M n [] tt e σ) _ (omega arith)
       (ok false [] tt [] (λ i. There) zero u zero d k1 K l σ s1.1 (λ i lt. absurd (omega (arith, lt))) (omega (arith, rm)) (omega (arith, ar)) (ready p deepest ks F b M n u K l σ s))
       (λ x τ c1 le h.
-      let C = Converted p deepest ks F b M 1 u zero zero (Answered (answer.Of sort.Number)) k2 K h.next in
+      let C = Converted p deepest ks F b M 1 u zero zero (PrimitiveAnswer (answer.Of sort.Number)) k2 K h.next in
       first mach M 0 20 20 τ.turns c1 _ P Q _ (record { it = h.comes }) (omega arith)
       (then_settled mach M 16 4 20 _ τ C P Q (numbered f x) _ (omega arith)
       (converted_ok p deepest ks F b M f sort.Number x 1 u zero zero d k2 K h.next τ s1.0 (omega arith) (omega (arith, rm, r1)) h.fit (still_stands e f zero h.next x h.stands))

@@ -5,7 +5,7 @@ use Rattle.std.proofs.lemmas.Bool.{and_parts}
 use Rattle.sem_primitives.specs.declared.sorts.Answer.TheVariants as answer
 use Rattle.sem_primitives.specs.declared.sorts.Sort.TheVariants as sort
 use Rattle.wasm_types.specs.Syntax.{Instructions}
-use Rattle.mid_program.specs.Mid.{Kind, Program, Form, Answered, Bare, Code, Set, Seq, Let, Bound, form_of, form_at}
+use Rattle.mid_program.specs.Mid.{Kind, Program, Form, PrimitiveAnswer, NumberOrText, Code, Set, Seq, Let, Bound, form_of, form_at}
 use Rattle.mid_program.specs.MidMeaning.{Holds, Env, evaluated, all_evaluated}
 use Rattle.sem_scripts.specs.ScriptState.{State}
 use Rattle.mid_program.specs.Sorted.{Held as Standing, There, Moved, Misused, sorted, all_sorted, held_after, is_well_used, is_dropped, is_kept, keeps_well}
@@ -15,7 +15,7 @@ use Rattle.lower_model.specs.Machine.{Conf, Label, Frame, at, loops_walked}
 use Rattle.lower_model.specs.Places.{Bases, handle_local}
 use Rattle.lower_model.specs.Small.{unused, released, moved_from, number_copied, let_go, moved}
 use Rattle.host_imports.specs.declared.import.Import.TheVariants.{Drop}
-use Rattle.lower_model.proofs.Watch.{Watch}
+use Rattle.lower_model.proofs.Observer.{Observer}
 use Rattle.lower_model.proofs.Runs.{Goes, then_goes, stays, goes_from, first, then_on, then_step}
 use Rattle.lower_model.proofs.Regions.{upd_same, upd_other}
 use Rattle.lower_model.proofs.Locals.{Locals, Hand, Number as NumberAt, with_at, laid}
@@ -39,12 +39,12 @@ unowned_left Gone e = refl
 
 -- what a move leaves in a local for a handle
 abbrev pub LeftHand : Form → Cell → Cell
-LeftHand (Answered (answer.Of sort.Value)) c = empty
-LeftHand Bare c = empty
+LeftHand (PrimitiveAnswer (answer.Of sort.Value)) c = empty
+LeftHand NumberOrText c = empty
 LeftHand f c = c
 
 pub kept_plain : (g : Form) → is_kept g ≡ true → NoArray g
-kept_plain (Answered (answer.Of sort.Array)) e = absurd cc
+kept_plain (PrimitiveAnswer (answer.Of sort.Array)) e = absurd cc
 kept_plain g e = tt
 
 -- one more is kept
@@ -57,7 +57,7 @@ kept_left There f t l x q = hand_left f t l x q
 kept_left Moved f t l x q = q
 kept_left Misused f t l x q = q
 
-module _ (p : Program) (deepest : Watch) (ks : List Kind) (F : List Frame) (b : Bases) (M n : ℕ) where
+module _ (p : Program) (deepest : Observer) (ks : List Kind) (F : List Frame) (b : Bases) (M n : ℕ) where
   -- a temporary has no handle any more
   pub record Freed (t u w : ℕ) (most : ℕ) (c : Conf) (k : Instructions) (K : List Label) (l : Locals) (σ : State) : Type 0 where
     pub next : Locals
@@ -81,7 +81,7 @@ module _ (p : Program) (deepest : Watch) (ks : List Kind) (F : List Frame) (b : 
 
   -- what is in a temporary is dropped
   pub unused_ok : (f : Form) (x : Holds f) (t u w : ℕ) (k : Instructions) (K : List Label) (l : Locals) (σ : State) → t < b.temporaries → Fit p deepest ks F (suc t) u w l σ → HoldsAt f t l x → Freed t u w 8 (at ks [] K (laid b l) F (unused b f t k) (beside_state p deepest ks F σ)) k K l σ
-  unused_ok (Answered (answer.Of sort.Value)) x t u w k K l σ lt ft q = record {
+  unused_ok (PrimitiveAnswer (answer.Of sort.Value)) x t u w k K l σ lt ft q = record {
     next = with_at l (Hand t) empty;
     steps = 3;
     few = omega arith;
@@ -90,7 +90,7 @@ module _ (p : Program) (deepest : Watch) (ks : List Kind) (F : List Frame) (b : 
     hand = upd_same l.hand t empty;
     keeps = keeps_hand t l empty;
   }
-  unused_ok Bare x t u w k K l σ lt ft q = freed_hand t u w k K l σ lt ft
+  unused_ok NumberOrText x t u w k K l σ lt ft q = freed_hand t u w k K l σ lt ft
   unused_ok _ x t u w k K l σ lt ft q = freed_self t u w 8 k K l σ ft q.0
 
   pub left_ok : (a : Code) (f : Form) (x : Holds f) (t u w : ℕ) (k : Instructions) (K : List Label) (l : Locals) (σ : State) → t < b.temporaries → Fit p deepest ks F (suc t) u w l σ → StandsAt (gives_away a true) f t l x → Freed t u w 8 (at ks [] K (laid b l) F (left_over (layout p deepest ks F b M n) a f t k) (beside_state p deepest ks F σ)) k K l σ
@@ -187,7 +187,7 @@ module _ (p : Program) (deepest : Watch) (ks : List Kind) (F : List Frame) (b : 
 
   pub moved_from_ok : (f : Form) (x : Holds f) (s t u w q0 : ℕ) (k : Instructions) (K : List Label) (l : Locals) (σ : State) → s < b.temporaries → t < b.temporaries → t ≢ s → Fit p deepest ks F q0 u w l σ → HoldsAt f s l x → l.hand t ≡ empty →
       MovedTo s t f k K l x σ (at ks [] K (laid b l) F (moved_from b f s t k) (beside_state p deepest ks F σ))
-  moved_from_ok (Answered (answer.Of sort.Value)) x s t u w q0 k K l σ ls lt ne ft hd e =
+  moved_from_ok (PrimitiveAnswer (answer.Of sort.Value)) x s t u w q0 k K l σ ls lt ne ft hd e =
       let l1 = with_at l (Hand s) empty in
       record {
         next = with_at l1 (Hand t) (l.hand s);
@@ -202,7 +202,7 @@ module _ (p : Program) (deepest : Watch) (ks : List Kind) (F : List Frame) (b : 
         arrays = λ y. refl;
         fit = λ q u1 w1 lq lq1 g. fit_moved s t q u1 w1 l σ lq lq1 (ft.hands s) g;
       }
-  moved_from_ok Bare x s t u w q0 k K l σ ls lt ne ft hd e =
+  moved_from_ok NumberOrText x s t u w q0 k K l σ ls lt ne ft hd e =
       let l0 = with_at l (NumberAt t) (l.number s) in
       let l1 = with_at l0 (Hand s) empty in
       record {
@@ -248,14 +248,14 @@ module _ (p : Program) (deepest : Watch) (ks : List Kind) (F : List Frame) (b : 
       record { next = with_at l (Hand t) empty; steps = g.steps; few = g.few; goes = g.goes; hand = upd_same l.hand t empty; keeps = keeps_hand t l empty; fit = λ q u w lq f. fit_hand p deepest ks F t q u w l σ empty (inl refl) lq f }
 
   pub released_ok : (f : Form) (t : ℕ) (k : Instructions) (K : List Label) (l : Locals) (σ : State) → t < b.temporaries → IsHand (l.hand t) → LeftBy f (l.hand t) → Released t (at ks [] K (laid b l) F (released b f t k) (beside_state p deepest ks F σ)) k K l σ
-  released_ok (Answered (answer.Of sort.Value)) t k K l σ lt hd q = released_hand t k K l σ lt hd
-  released_ok Bare t k K l σ lt hd q = released_hand t k K l σ lt hd
+  released_ok (PrimitiveAnswer (answer.Of sort.Value)) t k K l σ lt hd q = released_hand t k K l σ lt hd
+  released_ok NumberOrText t k K l σ lt hd q = released_hand t k K l σ lt hd
   released_ok f t k K l σ lt hd q = record { next = l; steps = 0; few = omega arith; goes = stays; hand = q; keeps = keeps_self t l; fit = λ q u w lq g. g }
 
   -- where a temporary is empty a move leaves nothing behind
   pub left_empty : (f : Form) (c d : Cell) → LeftBy f c → d ≡ LeftHand f c → d ≡ empty
-  left_empty (Answered (answer.Of sort.Value)) c d e q = q
-  left_empty Bare c d e q = q
+  left_empty (PrimitiveAnswer (answer.Of sort.Value)) c d e q = q
+  left_empty NumberOrText c d e q = q
   left_empty f c d e q = q ∙ e
 
   pub record Closed (v : Bool) (c : Code) (g f : Form) (y : Holds f) (t u w : ℕ) (k : Instructions) (K : List Label) (l : Locals) (σ : State) : Type 0 where

@@ -12,7 +12,7 @@ use Rattle.wasm_types.specs.declared.instr.IRelOp.TheVariants.{Eq}
 use Rattle.mid_program.specs.Mid.{Kind, Program, Code, Step, Each, a_value, form_of, form_at}
 use Rattle.mid_program.specs.MidMeaning.{keyed}
 use Rattle.sem_scripts.specs.Names.{ArrayName, Numbered, Given}
-use Rattle.sem_scripts.specs.ScriptState.{State, Stop, Gives, Doing, ◌>>=◌, does, go_on}
+use Rattle.sem_scripts.specs.ScriptState.{State, Stop, Gives, Execution, ◌>>=◌, call, go_on}
 use Rattle.mid_program.specs.Sorted.{There, calls_of, sorted, stores_well, keeps_well, is_dropped, is_well_used, held_after, is_array_place, step_sorted, steps_sorted}
 use Rattle.sem_scripts.specs.Statements.{Flow, Normal, Broke, Continued, at_key, after_round, over_keys}
 use Rattle.sem_scripts.specs.Steps.{array_number}
@@ -23,10 +23,10 @@ use Rattle.lower_model.specs.ImportCalls.{key_or_end, with_some, and_rest, row_i
 use Rattle.lower_model.specs.Machine.{Conf, Look, Label, Frame, at, label, ask_looking, with_operands, push_word, looked_compared, go}
 use Rattle.lower_model.specs.Noted.{noted_called, step_noted, steps_noted}
 use Rattle.lower_model.specs.Places.{Bases, room, arrays_in, iterator_local, step_room, step_iterators, step_arrays, handle_local}
-use Rattle.lower_model.specs.Small.{does as instruction, ask_row, ask, let_go, moved_out, end_code}
+use Rattle.lower_model.specs.Small.{emit as instruction, ask_row, ask, let_go, moved_out, end_code}
 use Rattle.lower_model.specs.Statements.{block, again, key_stored, iterator_left, step_emitted, steps_emitted}
-use Rattle.host_imports.specs.declared.import.Import.TheVariants.{Of, Drop, IterFree}
-use Rattle.lower_model.proofs.Watch.{Watch}
+use Rattle.host_imports.specs.declared.import.Import.TheVariants.{OfPrimitive, Drop, IterFree}
+use Rattle.lower_model.proofs.Observer.{Observer}
 use Rattle.lower_model.proofs.Runs.{Goes, goes_to, goes_from, then_goes, by_steps, stays, first, then_on, then_step, there, turned, weaker, Onward}
 use Rattle.lower_model.proofs.Regions.{upd_same, upd_other, upd_all}
 use Rattle.lower_model.proofs.Locals.{Locals, Hand, Iterator, with_at, has_with, laid, laid_at, laid_twice, laid_again}
@@ -54,7 +54,7 @@ array_told : (a : ArrayName) (σ : State) → array_number a σ ≡ Gives (array
 array_told (Numbered i) σ = refl
 array_told (Given i) σ = refl
 
-module _ (p : Program) (deepest : Watch) (ks : List Kind) (F : List Frame) (b : Bases) (M n : ℕ) where
+module _ (p : Program) (deepest : Observer) (ks : List Kind) (F : List Frame) (b : Bases) (M n : ℕ) where
   -- one iterator more is in use, or one less
   fit_walked : (i t u w : ℕ) (l : Locals) (σ : State) → Fit p deepest ks F t u w l σ → Fit p deepest ks F t (suc u) w (with_at l (Iterator u) (IteratorOf i)) σ
   fit_walked i t u w l σ f = record {
@@ -98,7 +98,7 @@ module _ (p : Program) (deepest : Watch) (ks : List Kind) (F : List Frame) (b : 
       then_goes (get_moved b l (Iterator u) (IteratorOf t) lt e)
       (then_goes (goes_to (tee_ok b l1 (Iterator u) (IteratorOf t) lt (ap is_owned (has_with l (Iterator u) Gone)))
       (ap (λ L. Look (iterator_local b u) ks [] K L F (ask_row row.IterNext c) (beside_state p deepest ks F σ)) (laid_twice b l (Iterator u) Gone (IteratorOf t) lt ∙ laid_again b l (Iterator u) (IteratorOf t) lt e)))
-      (by_steps 1 (ap (λ w. ask_looking (Some (Of row.IterNext)) w ks [] K (laid b l) F c (beside_state p deepest ks F σ)) (laid_at b l (Iterator u) lt ∙ e))))
+      (by_steps 1 (ap (λ w. ask_looking (Some (OfPrimitive row.IterNext)) w ks [] K (laid b l) F c (beside_state p deepest ks F σ)) (laid_at b l (Iterator u) lt ∙ e))))
 
   -- a loop over keys: its key's code, its body, the loops around it, and what there was before
   module _ (e : Code) (s : Step) (u d : ℕ) (k : Instructions) (K : List Label) (l : Locals) (t : ℕ) (roomy : zero < b.temporaries) (there_is : u < b.iterators) where
@@ -225,17 +225,17 @@ module _ (p : Program) (deepest : Watch) (ks : List Kind) (F : List Frame) (b : 
         (ok r true (suc u) (suc (suc (suc d))) 2 zero NoMore K1 a.next σ so rm it ar wk (starts_among p deepest ks F b M n (suc u) key_labels K1 a.next σ refl a.starts))))
 
     -- what comes after the body
-    flowed : (f : Flow) (σ : State) (c : Conf) (X : Doing Flow) → after_body (At key_code) Passed f σ c → (At key_code σ c → Reached p deepest ks F b M 6 σ.turns c (after_loop Passed) (Away p deepest ks F b d K) (X σ)) →
+    flowed : (f : Flow) (σ : State) (c : Conf) (X : Execution Flow) → after_body (At key_code) Passed f σ c → (At key_code σ c → Reached p deepest ks F b M 6 σ.turns c (after_loop Passed) (Away p deepest ks F b d K) (X σ)) →
         Reached p deepest ks F b M 6 σ.turns c (after_loop Passed) (Away p deepest ks F b d K) (after_round f X σ)
     flowed Normal σ c X h next = next h
     flowed Broke σ c X h next = there (machine p deepest ks F) M 6 0 c c Normal σ (after_loop Passed) (Away p deepest ks F b d K) stays (omega arith) h
     flowed Continued σ c X h next = next h
 
     -- the next key is asked for; where there is one a turn is spent on it
-    keys_next : (w : ℕ) (σ : State) (c : Conf) (G : Value → Doing Flow) → 3 + w ≤ M → At key_code σ c →
+    keys_next : (w : ℕ) (σ : State) (c : Conf) (G : Value → Execution Flow) → 3 + w ≤ M → At key_code σ c →
         ((key : Value) (τ : State) (l1 : Locals) (j : ℕ) → σ.turns ≡ suc j → τ.turns ≡ j → Starts p deepest ks F b M n (suc u) key_labels l1 τ → ((x : ℕ) → l1.iterator x ≡ walking.iterator x) →
         Reached p deepest ks F b M w τ.turns (at ks [] key_labels (laid b (with_at l1 (Hand zero) (Held key))) F (dropped (layout p deepest ks F b M n) (a_value ∷ []) (zero ∷ []) e 1 zero (suc (suc d)) drop_code) (beside_state p deepest ks F τ)) (after_loop Passed) (Away p deepest ks F b d K) (G key τ)) →
-        Reached p deepest ks F b M 6 σ.turns c (after_loop Passed) (Away p deepest ks F b d K) ((does row.IterNext (t, tt) >>= at_key G) σ)
+        Reached p deepest ks F b M 6 σ.turns c (after_loop Passed) (Away p deepest ks F b d K) ((call row.IterNext (t, tt) >>= at_key G) σ)
     keys_next w σ c G few a next =
         let τ = done_by p deepest ks F row.IterNext (t, tt) σ in
         let st = starts_after p deepest ks F b M n (suc u) key_labels key_labels a.next a.next σ τ a.starts refl (omega arith) (λ x. refl) (fit_shared p deepest ks F zero (suc u) zero a.next σ τ.shared (calm_after p row.IterNext (t, tt) σ.shared refl a.starts.fit.sound.calm) a.starts.fit) in
@@ -318,8 +318,8 @@ module _ (p : Program) (deepest : Watch) (ks : List Kind) (F : List Frame) (b : 
       (block (step_emitted (layout p deepest ks F b M n) s (suc u) (suc (suc (suc d))) 2 zero NoMore) (instruction (Br zero) NoMore))) NoMore) (iterator_left (layout p deepest ks F b M n) u k))))
 
   -- what a loop over keys means once its place is noted
-  abbrev walk_meant : ArrayName → Code → Step → (u d : ℕ) → Doing Flow
-  walk_meant a e s u d = array_number a >>= λ m. does row.Iter (m, tt) >>= λ keys. over_keys n keys (keyed p.texts (calls_of p) n (noted_called deepest.notes p n) e) (step_meant p deepest ks F b M n s (suc u) (suc (suc (suc d))) 2 zero NoMore)
+  abbrev walk_meant : ArrayName → Code → Step → (u d : ℕ) → Execution Flow
+  walk_meant a e s u d = array_number a >>= λ m. call row.Iter (m, tt) >>= λ keys. over_keys n keys (keyed p.texts (calls_of p) n (noted_called deepest.notes p n) e) (step_meant p deepest ks F b M n s (suc u) (suc (suc (suc d))) 2 zero NoMore)
 
   each_done : (a : ArrayName) (e : Code) (s : Step) → ExprOk p deepest ks F b M n e → StepOk p deepest ks F b M n s → (r lo : Bool) (u d bk ct : ℕ) (k : Instructions) (K : List Label) (l : Locals) (σ : State) →
       step_sorted (context p deepest ks F b M n) r lo (Each a e s) ≡ true → step_room (Each a e s) ≤ b.temporaries → u + step_iterators (Each a e s) ≤ b.iterators → step_arrays (Each a e s) ≤ b.arrays → step_work (Each a e s) ≤ M → Starts p deepest ks F b M n u K l σ →
@@ -354,7 +354,7 @@ module _ (p : Program) (deepest : Watch) (ks : List Kind) (F : List Frame) (b : 
       (then_goes y.goes
       (then_goes (row_called p deepest ks F row.Iter (x, tt) (y.cell ∷ []) [] σ refl refl (ap (λ q. q && true) (array_live p deepest ks F x y.cell (laid b l) σ y.array)) decoded refl)
       (then_goes (set_ok b l (Iterator u) (IteratorOf i) lu (ap is_owned (st.fit.still u (omega arith)))) (by_steps 2 refl)))) (omega (arith, y.few))
-      (subst (λ o. Reached p deepest ks F b M 10 σ.turns (at ks [] Kl (laid b l1) F kc (beside_state p deepest ks F τ)) P Q (go_on o (λ m. does row.Iter (m, tt) >>= λ keys. over_keys n keys (keyed p.texts (calls_of p) n (noted_called deepest.notes p n) e) (step_meant p deepest ks F b M n s (suc u) (suc (suc (suc d))) 2 zero NoMore)))) (sym (array_told a σ))
+      (subst (λ o. Reached p deepest ks F b M 10 σ.turns (at ks [] Kl (laid b l1) F kc (beside_state p deepest ks F τ)) P Q (go_on o (λ m. call row.Iter (m, tt) >>= λ keys. over_keys n keys (keyed p.texts (calls_of p) n (noted_called deepest.notes p n) e) (step_meant p deepest ks F b M n s (suc u) (suc (suc (suc d))) 2 zero NoMore)))) (sym (array_told a σ))
       (then_step mach M 4 6 10 σ.turns _ (after_loop (Passed e s u d k K l i lt lu)) P Q _ (omega arith)
       (λ f τ1 c1 q. passed_ends e s u d k K l i lt lu lo bk ct σ f τ1 c1 st q)
       (keys_ok e s u d k K l i lt lu oke oks r s3.0 s4.0 (omega (arith, rm)) (omega (arith, ar)) s4.1 (omega (arith, rm)) (omega (arith, it)) (omega (arith, ar)) (omega (arith, wk)) n τ _ st.turns

@@ -87,5 +87,5 @@ pub mod Records
 pub mod Mains
 pub mod Wholes
 pub mod Following
-pub mod Watch
+pub mod Observer
 pub mod Silent

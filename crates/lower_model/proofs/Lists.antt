@@ -20,7 +20,7 @@ use Rattle.sem_primitives.specs.declared.table.Listed.TheVariants as listed
 use Rattle.sem_primitives.proofs.Words.{constant_again}
 use Rattle.wasm_types.specs.Syntax.{Instructions}
 use Rattle.wasm_store.specs.declared.word.Word.TheVariants.{I32}
-use Rattle.mid_program.specs.Mid.{Kind, Program, Form, Answered, Code, Over, Codes, End, At, Fixed, Fresh, form_of}
+use Rattle.mid_program.specs.Mid.{Kind, Program, Form, PrimitiveAnswer, Code, Over, Codes, End, At, Fixed, Fresh, form_of}
 use Rattle.mid_program.specs.MidMeaning.{Values, evaluated, all_evaluated, boxed, listing}
 use Rattle.sem_scripts.specs.Names.{ArrayName}
 use Rattle.sem_scripts.specs.ScriptState.{State}
@@ -31,9 +31,9 @@ use Rattle.lower_model.specs.ImportCalls.{Host, Acts, with_some, and_rest, row_i
 use Rattle.lower_model.specs.Machine.{Conf, Label, Frame, at, onto}
 use Rattle.lower_model.specs.Places.{Bases}
 use Rattle.lower_model.specs.Small.{ask, kept, to_value}
-use Rattle.host_imports.specs.declared.import.Import.TheVariants.{Over as OverLast, Arg}
-use Rattle.host_imports.specs.declared.import.Listing.TheVariants as last
-use Rattle.lower_model.proofs.Watch.{Watch}
+use Rattle.host_imports.specs.declared.import.Import.TheVariants.{Variadic as OverLast, Arg}
+use Rattle.host_imports.specs.declared.import.VariadicImport.TheVariants as last
+use Rattle.lower_model.proofs.Observer.{Observer}
 use Rattle.lower_model.proofs.Runs.{Goes, then_goes, goes_to, goes_from, stays, first, then_on, weaker_settled}
 use Rattle.lower_model.proofs.Regions.{upd_same, upd_other}
 use Rattle.lower_model.proofs.Locals.{Locals, Hand, with_at, laid}
@@ -86,7 +86,7 @@ all_taken n vs e = let z : length vs - n ≡ zero = omega (arith, e) in ap (λ m
 none_left : (n : ℕ) (vs : List Value) → n ≡ length vs → before_last_of n vs ≡ []
 none_left n vs e = let z : length vs - n ≡ zero = omega (arith, e) in ap (λ m. take m vs) z
 
-module _ (p : Program) (deepest : Watch) (ks : List Kind) (F : List Frame) (b : Bases) (M n : ℕ) where
+module _ (p : Program) (deepest : Observer) (ks : List Kind) (F : List Frame) (b : Bases) (M n : ℕ) where
   -- the state with an argument list
   abbrev with_list : State → List Value → Host
   with_list σ vs = record { shared = σ.shared; arguments = vs; fault = None }
@@ -112,7 +112,7 @@ module _ (p : Program) (deepest : Watch) (ks : List Kind) (F : List Frame) (b : 
 
   one_boxed : (fs : List Form) (e : Code) (es : Codes) (t q u w : ℕ) (k : Instructions) (K : List Label) (l : Locals) (σ : State) (vs : Values fs (At e es)) (c : Conf) (steps : ℕ) → steps ≤ 16 →
       Goes (machine p deepest ks F) steps (at ks [] K (laid b l) F (to_value b (form_of fs e) t (all_boxed (layout p deepest ks F b M n) fs es (suc t) k)) (beside_state p deepest ks F σ)) c →
-      (x : Converted p deepest ks F b M q u w t (Answered (answer.Of sort.Value)) (all_boxed (layout p deepest ks F b M n) fs es (suc t) k) K l (boxed (form_of fs e) vs.0) σ c) → AllBoxed fs es (suc t) q u w k K x.next σ vs.1 → AllBoxed fs (At e es) t q u w k K l σ vs
+      (x : Converted p deepest ks F b M q u w t (PrimitiveAnswer (answer.Of sort.Value)) (all_boxed (layout p deepest ks F b M n) fs es (suc t) k) K l (boxed (form_of fs e) vs.0) σ c) → AllBoxed fs es (suc t) q u w k K x.next σ vs.1 → AllBoxed fs (At e es) t q u w k K l σ vs
   one_boxed fs e es t q u w k K l σ vs c steps few goes x y = record {
     next = y.next;
     steps = steps + y.steps;
@@ -228,7 +228,7 @@ module _ (p : Program) (deepest : Watch) (ks : List Kind) (F : List Frame) (b : 
       ∙ ap (λ o. with_some o (λ a. Some (replied (listed_answer l) (with_list σ vs) a a.does.answer))) (listed_acts_ok l (values_taken l m) vs σ (counted_taken to 1 count en ∙ e) (ap (nat_le (values_wanted l)) (sym e) ∙ en))))
       (listed_reply L K (kept b true (listed_answer l) t d k) l vs σ (listed_meaning l vs σ.shared).answer)
 
-  listed_stands : (l : Listed) (x : InAnswer (listed_answer l)) (y : ArrayName) (σ : State) → Meant p deepest ks F (Answered (listed_answer l)) x y σ
+  listed_stands : (l : Listed) (x : InAnswer (listed_answer l)) (y : ArrayName) (σ : State) → Meant p deepest ks F (PrimitiveAnswer (listed_answer l)) x y σ
   listed_stands listed.Sprintf x y σ = tt
   listed_stands (listed.Print to) x y σ = tt
   listed_stands (listed.Printf to) x y σ = tt
@@ -262,6 +262,6 @@ module _ (p : Program) (deepest : Watch) (ks : List Kind) (F : List Frame) (b : 
       let un : Under t a.next y.next = under_then t t a.next bx.next y.next (omega arith) bx.under y.under in
       first mach M (bx.steps + (list_work 3 es + 1)) 4 (extra_of es + 10) τ.turns c1 _ P Q _
       (goes_from a.comes (then_goes bx.goes (then_goes y.goes (listed_called lo (count_of es) t d k K (laid b y.next) args τ (values_counted_so fs es vs s2.0) s1.0)))) (omega (arith, bx.few, ex))
-      (weaker_settled mach M 4 _ τ1 (Put p deepest ks F b t u w (Answered (listed_answer lo)) k K y.next) P Q d1.answer
+      (weaker_settled mach M 4 _ τ1 (Put p deepest ks F b t u w (PrimitiveAnswer (listed_answer lo)) k K y.next) P Q d1.answer
       (λ x c2 put. put_done p deepest ks F b M n (Over lo es) v fs env ts st t u w k K l y.next σ τ1 x c2 rd.below (same_then ts t t w w l a.next y.next (omega arith) (omega arith) a.same (under_same ts t w a.next y.next un)) a.own (kept_same fs ts (λ i. held_after_all i es (st i)) a.next y.next env t rd.below un.hands un.numbers a.kept) refl (listed_stands lo x _ τ1) put)
       (kept_ok p deepest ks F b M true (listed_answer lo) d1.answer t u w d k K y.next τ1 (listed_plain lo) (omega (arith, rm)) f1)))

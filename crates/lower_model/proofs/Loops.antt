@@ -8,7 +8,7 @@ use Rattle.wasm_types.specs.declared.instr.Simple.TheVariants.{Nop, Br, BrIf, Te
 use Rattle.wasm_types.specs.declared.instr.ITestOp.TheVariants.{Eqz}
 use Rattle.mid_program.specs.Mid.{Kind, Program, Code, Step, Loop}
 use Rattle.sem_scripts.specs.ScriptRun.{GoesOn}
-use Rattle.sem_scripts.specs.ScriptState.{State, Stop, Outcome, Doing, ◌>>=◌, ◌>>◌, nothing, give, go_on}
+use Rattle.sem_scripts.specs.ScriptState.{State, Stop, Outcome, Execution, ◌>>=◌, ◌>>◌, nothing, give, go_on}
 use Rattle.mid_program.specs.Sorted.{test_sorted, step_sorted, steps_sorted}
 use Rattle.sem_scripts.specs.Statements.{Flow, Normal, Broke, Continued, after_round, loop}
 use Rattle.lower_model.specs.Emission.{tested, name_read}
@@ -16,9 +16,9 @@ use Rattle.lower_model.specs.Noted.{noted, noting, step_noted, steps_noted}
 use Rattle.lower_model.specs.Quick.{Within, test_within, Counted, counted_in, Pair, pair_in, pair_names, all_unsure, step_jumps, is_nothing, Holder, OfName, OfParameter}
 use Rattle.lower_model.specs.Machine.{Conf, Label, Frame, at, label, ending_at, is_walk, loops_walked}
 use Rattle.lower_model.specs.Places.{Bases, step_room, step_iterators, step_arrays}
-use Rattle.lower_model.specs.Small.{does}
+use Rattle.lower_model.specs.Small.{emit}
 use Rattle.lower_model.specs.Statements.{block, again, left_unless, left_unless_counted, left_unless_pair, step_emitted, steps_emitted}
-use Rattle.lower_model.proofs.Watch.{Watch}
+use Rattle.lower_model.proofs.Observer.{Observer}
 use Rattle.lower_model.proofs.Runs.{Goes, goes_from, by_steps, stays, first, then_on, then_step, there, turned, weaker, Onward}
 use Rattle.lower_model.proofs.Locals.{Locals, laid}
 use Rattle.lower_model.proofs.Relation.{Away, away_out, fit_turns}
@@ -48,7 +48,7 @@ after_loop outside Normal σ c = outside σ c
 after_loop outside Broke σ c = ⊥
 after_loop outside Continued σ c = ⊥
 
-module _ (p : Program) (deepest : Watch) (ks : List Kind) (F : List Frame) (b : Bases) (M n : ℕ) where
+module _ (p : Program) (deepest : Observer) (ks : List Kind) (F : List Frame) (b : Bases) (M n : ℕ) where
   -- a step before a test, which spends a turn
   pub record Turn (Test : State → Conf → Type 0) (σ : State) (c : Conf) : Type 0 where
     pub conf : Conf
@@ -57,24 +57,24 @@ module _ (p : Program) (deepest : Watch) (ks : List Kind) (F : List Frame) (b : 
     pub tests : (m : ℕ) → σ.turns ≡ suc m → Test (record σ { turns = m }) conf
 
   -- Any loop, if its parts do what they mean.
-  module _ (Q : Stop → State → Conf → Type 0) (Test Body Between End : State → Conf → Type 0) (wt wb ws : ℕ) (test : Doing Bool) (body : Doing Flow) (between : Doing (Unit {0})) (few : suc (wt + (wb + ws)) ≤ M)
+  module _ (Q : Stop → State → Conf → Type 0) (Test Body Between End : State → Conf → Type 0) (wt wb ws : ℕ) (test : Execution Bool) (body : Execution Flow) (between : Execution (Unit {0})) (few : suc (wt + (wb + ws)) ≤ M)
       (tests : (σ : State) (c : Conf) → Test σ c → Reached p deepest ks F b M wt σ.turns c (after_test Body End) Q (test σ))
       (bodies : (σ : State) (c : Conf) → Body σ c → Reached p deepest ks F b M wb σ.turns c (after_body Between End) Q (body σ))
       (betweens : (σ : State) (c : Conf) → Between σ c → Reached p deepest ks F b M ws σ.turns c (λ x. Turn Test) Q (between σ)) where
-    flowed : (f : Flow) (σ : State) (c : Conf) (X : Doing Flow) → after_body Between End f σ c → ((τ : State) (c1 : Conf) → τ.turns ≤ σ.turns → Turn Test τ c1 → Reached p deepest ks F b M 0 τ.turns c1 (after_loop End) Q (X τ)) →
+    flowed : (f : Flow) (σ : State) (c : Conf) (X : Execution Flow) → after_body Between End f σ c → ((τ : State) (c1 : Conf) → τ.turns ≤ σ.turns → Turn Test τ c1 → Reached p deepest ks F b M 0 τ.turns c1 (after_loop End) Q (X τ)) →
         Reached p deepest ks F b M ws σ.turns c (after_loop End) Q (after_round f (between >> X) σ)
     flowed Normal σ c X h next = then_on (machine p deepest ks F) M ws 0 ws σ.turns c (λ x. Turn Test) (after_loop End) Q (between σ) (λ x. X) (omega arith) (betweens σ c h) (λ x τ c1 le t. next τ c1 le t)
     flowed Broke σ c X h next = there (machine p deepest ks F) M ws 0 c c Normal σ (after_loop End) Q stays (omega arith) h
     flowed Continued σ c X h next = then_on (machine p deepest ks F) M ws 0 ws σ.turns c (λ x. Turn Test) (after_loop End) Q (between σ) (λ x. X) (omega arith) (betweens σ c h) (λ x τ c1 le t. next τ c1 le t)
 
     -- a body, and what comes after it
-    pub round_ok : (σ : State) (c : Conf) (X : Doing Flow) → Body σ c → ((τ : State) (c1 : Conf) → τ.turns ≤ σ.turns → Turn Test τ c1 → Reached p deepest ks F b M 0 τ.turns c1 (after_loop End) Q (X τ)) →
+    pub round_ok : (σ : State) (c : Conf) (X : Execution Flow) → Body σ c → ((τ : State) (c1 : Conf) → τ.turns ≤ σ.turns → Turn Test τ c1 → Reached p deepest ks F b M 0 τ.turns c1 (after_loop End) Q (X τ)) →
         Reached p deepest ks F b M (wb + ws) σ.turns c (after_loop End) Q (go_on (body σ) (λ flow. after_round flow (between >> X)))
     round_ok σ c X h next =
         then_on (machine p deepest ks F) M wb ws (wb + ws) σ.turns c (after_body Between End) (after_loop End) Q (body σ) (λ flow. after_round flow (between >> X)) (omega arith) (bodies σ c h)
         (λ f τ c1 le q. flowed f τ c1 X q (λ τ1 c2 le1 t. next τ1 c2 (omega (arith, le, le1)) t))
 
-    chosen : (x : Bool) (w : ℕ) (σ : State) (c : Conf) (X : Doing Flow) → after_test Body End x σ c → (Body σ c → Reached p deepest ks F b M w σ.turns c (after_loop End) Q (X σ)) → Reached p deepest ks F b M w σ.turns c (after_loop End) Q ((if x then X else give Normal) σ)
+    chosen : (x : Bool) (w : ℕ) (σ : State) (c : Conf) (X : Execution Flow) → after_test Body End x σ c → (Body σ c → Reached p deepest ks F b M w σ.turns c (after_loop End) Q (X σ)) → Reached p deepest ks F b M w σ.turns c (after_loop End) Q ((if x then X else give Normal) σ)
     chosen true w σ c X h next = next h
     chosen false w σ c X h next = there (machine p deepest ks F) M w 0 c c Normal σ (after_loop End) Q stays (omega arith) h
 
@@ -196,7 +196,7 @@ module _ (p : Program) (deepest : Watch) (ks : List Kind) (F : List Frame) (b : 
   -- A loop that begins with its test. Its body has a block where it may be left by `break` or `continue`.
   module _ (e : Code) (x y : Step) (u d : ℕ) (k : Instructions) (K : List Label) (l : Locals) where
     abbrev back : Instructions
-    back = does (Br zero) NoMore
+    back = emit (Br zero) NoMore
 
     abbrev first_rest : Instructions
     first_rest = if is_nothing y then back else step_emitted (layout p deepest ks F b M n) y u (suc (suc d)) 1 zero back
@@ -207,10 +207,10 @@ module _ (p : Program) (deepest : Watch) (ks : List Kind) (F : List Frame) (b : 
     abbrev first_body : Instructions
     first_body = body_code (step_jumps x)
 
-    abbrev body_meant : Bool → Doing Flow
+    abbrev body_meant : Bool → Execution Flow
     body_meant j = if j then step_meant p deepest ks F b M n x u (suc (suc (suc d))) 2 zero NoMore else step_meant p deepest ks F b M n x u (suc (suc d)) 1 zero first_rest
 
-    abbrev between_meant : Bool → Doing (Unit {0})
+    abbrev between_meant : Bool → Execution (Unit {0})
     between_meant j = if j then nothing else (step_meant p deepest ks F b M n y u (suc (suc d)) 1 zero back >> nothing)
 
     abbrev first_round : Instructions
@@ -219,7 +219,7 @@ module _ (p : Program) (deepest : Watch) (ks : List Kind) (F : List Frame) (b : 
     first_plain : is_walk (Some first_round) ≡ false
     first_plain = by (test_within e)
       where
-        reads : (h : Holder) (z : ℕ) (k1 : Instructions) → is_walk (Some (does (name_read (layout p deepest ks F b M n) h) (does (I64Const z) k1))) ≡ false
+        reads : (h : Holder) (z : ℕ) (k1 : Instructions) → is_walk (Some (emit (name_read (layout p deepest ks F b M n) h) (emit (I64Const z) k1))) ≡ false
         reads (OfName i) z k1 = refl
         reads (OfParameter i) z k1 = refl
 
@@ -228,7 +228,7 @@ module _ (p : Program) (deepest : Watch) (ks : List Kind) (F : List Frame) (b : 
         names (i ∷ is) k1 = reads i _ _
 
         counted : (o : Option Counted) → is_walk (Some (left_unless_counted (layout p deepest ks F b M n) o e (suc (suc d)) 1 first_body)) ≡ false
-        counted None = test_walks (layout p deepest ks F b M n) e (suc (suc d)) (does (Test I32 Eqz) (does (BrIf 1) first_body))
+        counted None = test_walks (layout p deepest ks F b M n) e (suc (suc d)) (emit (Test I32 Eqz) (emit (BrIf 1) first_body))
         counted (Some q) = reads q.name _ _
 
         pair : (o : Option Pair) → is_walk (Some (left_unless_pair (layout p deepest ks F b M n) o e (suc (suc d)) 1 first_body)) ≡ false
@@ -295,7 +295,7 @@ module _ (p : Program) (deepest : Watch) (ks : List Kind) (F : List Frame) (b : 
       let Body = Here p deepest ks F b M n (first_body e x y u d k K l) Kl u l in
       let Between = Here p deepest ks F b M n (first_rest e x y u d k K l) Kl u l in
       let s3 = enters u d k K l round plain l σ s in
-      let turn : (τ1 : State) (c1 : Conf) → Here p deepest ks F b M n (does (Br zero) NoMore) Kl u l τ1 c1 → Turn Tests τ1 c1 = λ τ1 c1 q. record {
+      let turn : (τ1 : State) (c1 : Conf) → Here p deepest ks F b M n (emit (Br zero) NoMore) Kl u l τ1 c1 → Turn Tests τ1 c1 = λ τ1 c1 q. record {
         conf = at ks [] Kl (laid b q.next) F round (beside_state p deepest ks F τ1);
         goes = goes_from q.comes (by_steps 1 refl);
         shows = ap ending_at q.comes;
@@ -311,7 +311,7 @@ module _ (p : Program) (deepest : Watch) (ks : List Kind) (F : List Frame) (b : 
       (λ t τ1 c1 q. first_chosen e x y u d k K l h.next t τ1 c1 h.iterators q) (λ why τ1 c1 q. away_loop d round k K why τ1 c1 q)
       (left_unless_ok p deepest ks F b M n e oke u (suc (suc d)) 1 (first_body e x y u d k K l) Kl h.next τ s1.0 (omega (arith, rm)) (omega (arith, ar)) h.starts)))
       (λ τ c h. first_bodies e x y u d k K l okx r τ c s2.0 (omega (arith, rm)) (omega (arith, it)) (omega (arith, ar)) (omega (arith, wk)) h)
-      (λ τ c h. between_or_not u d k K l round plain y oky r (does (Br zero) NoMore) τ c (Turn Tests) s2.1 (omega (arith, rm)) (omega (arith, it)) (omega (arith, ar)) (omega (arith, wk)) turn h)
+      (λ τ c h. between_or_not u d k K l round plain y oky r (emit (Br zero) NoMore) τ c (Turn Tests) s2.1 (omega (arith, rm)) (omega (arith, it)) (omega (arith, ar)) (omega (arith, wk)) turn h)
       n σ _ s.turns
       (record {
         conf = at ks [] Kl (laid b l) F round (beside_state p deepest ks F σ);
@@ -320,7 +320,7 @@ module _ (p : Program) (deepest : Watch) (ks : List Kind) (F : List Frame) (b : 
         tests = λ m eq. at_spent u d k K l round plain round σ l m s3 (λ z. refl) eq;
       })))
     where
-      meant_between : (u d : ℕ) (cs : Instructions) (y : Step) → Bool → Doing (Unit {0})
+      meant_between : (u d : ℕ) (cs : Instructions) (y : Step) → Bool → Execution (Unit {0})
       meant_between u d cs y j = if j then nothing else (step_meant p deepest ks F b M n y u (suc (suc d)) 1 zero cs >> nothing)
 
       between_or_not : (u d : ℕ) (k : Instructions) (K : List Label) (l : Locals) (round : Instructions) (plain : is_walk (Some round) ≡ false) (y : Step) → StepOk p deepest ks F b M n y → (r : Bool) (cs : Instructions) (σ : State) (c : Conf) (P : State → Conf → Type 0) →
@@ -344,26 +344,26 @@ module _ (p : Program) (deepest : Watch) (ks : List Kind) (F : List Frame) (b : 
   -- A loop whose first round goes without the test.
   module _ (e : Code) (x y : Step) (u d : ℕ) (k : Instructions) (K : List Label) (l : Locals) where
     abbrev last_test : Instructions
-    last_test = tested (layout p deepest ks F b M n) [] [] e zero zero (suc (suc d)) (does (BrIf zero) NoMore)
+    last_test = tested (layout p deepest ks F b M n) [] [] e zero zero (suc (suc d)) (emit (BrIf zero) NoMore)
 
     abbrev last_rest : Instructions
-    last_rest = step_emitted (layout p deepest ks F b M n) y u (suc (suc d)) 1 zero (does Nop last_test)
+    last_rest = step_emitted (layout p deepest ks F b M n) y u (suc (suc d)) 1 zero (emit Nop last_test)
 
     abbrev last_round : Instructions
     last_round = block (step_emitted (layout p deepest ks F b M n) x u (suc (suc (suc d))) 2 zero NoMore) last_rest
 
-    abbrev last_tested : Doing Bool
-    last_tested = noted deepest.notes (does Nop last_test) >> test_meant p deepest ks F b M n e
+    abbrev last_tested : Execution Bool
+    last_tested = noted deepest.notes (emit Nop last_test) >> test_meant p deepest ks F b M n e
 
-    abbrev last_between : Doing (Unit {0})
-    last_between = step_meant p deepest ks F b M n y u (suc (suc d)) 1 zero (does Nop last_test) >> nothing
+    abbrev last_between : Execution (Unit {0})
+    last_between = step_meant p deepest ks F b M n y u (suc (suc d)) 1 zero (emit Nop last_test) >> nothing
 
-    abbrev last_meant : Doing Flow
+    abbrev last_meant : Execution Flow
     last_meant =
         step_meant p deepest ks F b M n x u (suc (suc (suc d))) 2 zero NoMore >>= λ flow.
         after_round flow (last_between >> loop n last_tested (step_meant p deepest ks F b M n x u (suc (suc (suc d))) 2 zero NoMore) last_between)
 
-    last_chosen : (l1 : Locals) (t : Bool) (σ : State) (c : Conf) → ((z : ℕ) → l1.iterator z ≡ l.iterator z) → TestDone p deepest ks F b M n (does (BrIf zero) NoMore) (loop_labels last_round k K) u l1 t σ c →
+    last_chosen : (l1 : Locals) (t : Bool) (σ : State) (c : Conf) → ((z : ℕ) → l1.iterator z ≡ l.iterator z) → TestDone p deepest ks F b M n (emit (BrIf zero) NoMore) (loop_labels last_round k K) u l1 t σ c →
         Onward (machine p deepest ks F) M 3 (after_test (Here p deepest ks F b M n last_round (loop_labels last_round k K) u l) (Here p deepest ks F b M n k K u l) t σ) c
     last_chosen l1 true σ c same h = record {
       conf = at ks [] (loop_labels last_round k K) (laid b h.next) F last_round (beside_state p deepest ks F σ);
@@ -394,7 +394,7 @@ module _ (p : Program) (deepest : Watch) (ks : List Kind) (F : List Frame) (b : 
       let test = last_test e x y u d k K l in
       let Kl = loop_labels round k K in
       let Q = Away p deepest ks F b d K in
-      let place = does Nop test in
+      let place = emit Nop test in
       let Tests : State → Conf → Type 0 = λ τ c. Here p deepest ks F b M n test Kl u l (noting deepest.notes place τ) c in
       let End = Here p deepest ks F b M n k K u l in
       let Body = Here p deepest ks F b M n round Kl u l in
@@ -402,15 +402,15 @@ module _ (p : Program) (deepest : Watch) (ks : List Kind) (F : List Frame) (b : 
       let tests : (τ : State) (c : Conf) → Tests τ c → Reached p deepest ks F b M (work_of e + 17) τ.turns c (after_test Body End) Q ((noted deepest.notes place >> test_meant p deepest ks F b M n e) τ) = (λ τ0 c h.
       let τ : State = noting deepest.notes place τ0 in
       first mach M 0 (work_of e + 17) (work_of e + 17) τ.turns c _ (after_test Body End) Q _ (record { it = h.comes }) (omega arith)
-      (then_step mach M 3 (work_of e + 14) (work_of e + 17) τ.turns _ (TestDone p deepest ks F b M n (does (BrIf zero) NoMore) Kl u h.next) (after_test Body End) Q (test_meant p deepest ks F b M n e τ) (omega arith)
+      (then_step mach M 3 (work_of e + 14) (work_of e + 17) τ.turns _ (TestDone p deepest ks F b M n (emit (BrIf zero) NoMore) Kl u h.next) (after_test Body End) Q (test_meant p deepest ks F b M n e τ) (omega arith)
       (λ t τ1 c1 q. last_chosen e x y u d k K l h.next t τ1 c1 h.iterators q)
-      (weaker mach M (work_of e + 14) τ.turns _ (TestDone p deepest ks F b M n (does (BrIf zero) NoMore) Kl u h.next) (TestDone p deepest ks F b M n (does (BrIf zero) NoMore) Kl u h.next) (Away p deepest ks F b (suc (suc d)) Kl) Q (test_meant p deepest ks F b M n e τ)
+      (weaker mach M (work_of e + 14) τ.turns _ (TestDone p deepest ks F b M n (emit (BrIf zero) NoMore) Kl u h.next) (TestDone p deepest ks F b M n (emit (BrIf zero) NoMore) Kl u h.next) (Away p deepest ks F b (suc (suc d)) Kl) Q (test_meant p deepest ks F b M n e τ)
       (λ t τ1 c1 q. q) (λ why τ1 c1 q. away_loop d round k K why τ1 c1 q)
-      (test_ok p deepest ks F b M n e oke u (suc (suc d)) (does (BrIf zero) NoMore) Kl h.next τ s1.0 (omega (arith, rm)) (omega (arith, ar)) h.starts)))) in
+      (test_ok p deepest ks F b M n e oke u (suc (suc d)) (emit (BrIf zero) NoMore) Kl h.next τ s1.0 (omega (arith, rm)) (omega (arith, ar)) h.starts)))) in
       let bodies : (τ : State) (c : Conf) → Body τ c → Reached p deepest ks F b M (step_work x + 2) τ.turns c (after_body Between End) Q (step_meant p deepest ks F b M n x u (suc (suc (suc d))) 2 zero NoMore τ) =
       (λ τ c h. body_ok u d k K l round refl x okx r (last_rest e x y u d k K l) τ c s2.0 (omega (arith, rm)) (omega (arith, it)) (omega (arith, ar)) (omega (arith, wk)) h) in
       let betweens : (τ : State) (c : Conf) → Between τ c → Reached p deepest ks F b M (step_work y) τ.turns c (λ z. Turn Tests) Q ((step_meant p deepest ks F b M n y u (suc (suc d)) 1 zero place >> nothing) τ) =
-      (λ τ c h. between_ok u d k K l round refl y oky r (does Nop test) τ c (Turn Tests) s2.1 (omega (arith, rm)) (omega (arith, it)) (omega (arith, ar)) (omega (arith, wk))
+      (λ τ c h. between_ok u d k K l round refl y oky r (emit Nop test) τ c (Turn Tests) s2.1 (omega (arith, rm)) (omega (arith, it)) (omega (arith, ar)) (omega (arith, wk))
       (λ τ1 c1 q. record {
         conf = at ks [] Kl (laid b q.next) F test (beside_state p deepest ks F (noting deepest.notes place τ1));
         goes = goes_from q.comes (nop_ok p deepest ks F b M n u Kl q.next τ1 q.starts);

@@ -17,7 +17,7 @@ use Rattle.wasm_store.specs.declared.word.Word.TheVariants.{I64}
 use Rattle.sem_scripts.specs.Meaning.{assign_pending}
 use Rattle.mid_program.specs.Mid.{Program}
 use Rattle.sem_scripts.specs.ScriptRun.{first_assigned, on_assignment}
-use Rattle.sem_scripts.specs.ScriptState.{State, Faulted, OutOfTurns, TooDeep, Nexted, Exited, Returned, Outcome, Gives, Stops, Doing, ◌>>◌, go_on, give, stop, spend_all, spent, settled, asks, does}
+use Rattle.sem_scripts.specs.ScriptState.{State, Faulted, OutOfTurns, TooDeep, Nexted, Exited, Returned, Outcome, Gives, Stops, Execution, ◌>>◌, go_on, give, stop, spend_all, spent, settled, asks, call}
 use Rattle.mid_program.specs.Sorted.{kinds_of}
 use Rattle.lower_model.specs.Cells.{Bits, Held}
 use Rattle.lower_model.specs.Emission.{asked, pending_assigned}
@@ -27,8 +27,8 @@ use Rattle.lower_model.specs.Machine.{Conf, Label, at, carried_if, loops_walked}
 use Rattle.lower_model.specs.Machine
 use Rattle.lower_model.specs.Places.{Bases}
 use Rattle.lower_model.specs.Small.{ask_row, kept_code}
-use Rattle.host_imports.specs.declared.import.Import.TheVariants.{Of}
-use Rattle.lower_model.proofs.Watch.{Watch}
+use Rattle.host_imports.specs.declared.import.Import.TheVariants.{OfPrimitive}
+use Rattle.lower_model.proofs.Observer.{Observer}
 use Rattle.lower_model.proofs.Runs.{Arrives, stays, there, faulted, then_on}
 use Rattle.lower_model.proofs.Regions.{upd_same}
 use Rattle.lower_model.proofs.Locals.{Locals, Hand, Number as NumberAt, with_at, laid}
@@ -58,7 +58,7 @@ OnlyFaults (Stops OutOfTurns σ) = Unit {0}
 OnlyFaults (Stops TooDeep σ) = Unit {0}
 OnlyFaults (Stops why σ) = ⊥
 
-then_only : {A B : Type 0} → (r : Outcome A) (f : A → Doing B) → OnlyFaults r → ((a : A) (σ : State) → OnlyFaults (f a σ)) → OnlyFaults (go_on r f)
+then_only : {A B : Type 0} → (r : Outcome A) (f : A → Execution B) → OnlyFaults r → ((a : A) (σ : State) → OnlyFaults (f a σ)) → OnlyFaults (go_on r f)
 then_only (Gives a σ) f h k = k a σ
 then_only (Stops (Faulted x) σ) f h k = tt
 then_only (Stops OutOfTurns σ) f h k = tt
@@ -84,7 +84,7 @@ onward : {A : Type 0} → (r : Outcome A) → go_on r give ≡ r
 onward (Gives a σ) = refl
 onward (Stops why σ) = refl
 
-module _ (p : Program) (deepest : Watch) (b : Bases) (M n : ℕ) (none : zero ≡ b.parameters) (two : suc zero < b.temporaries) where
+module _ (p : Program) (deepest : Observer) (b : Bases) (M n : ℕ) (none : zero ≡ b.parameters) (two : suc zero < b.temporaries) where
   abbrev mach : Machine.Code
   mach = machine p deepest [] []
 
@@ -141,7 +141,7 @@ module _ (p : Program) (deepest : Watch) (b : Bases) (M n : ℕ) (none : zero �
     carried = carried_out row.NextMain;
     result = λ s. next_main_row s.outside s.inner;
     calls = λ K L c σ e. row_called p deepest [] [] row.NextMain tt [] [] σ refl refl refl refl (ap (λ z. not (is_some z)) e);
-    counts = λ K L c σ. ap (λ o. carried_if o (beside_state p deepest [] [] σ)) (import_found (Of row.NextMain));
+    counts = λ K L c σ. ap (λ o. carried_if o (beside_state p deepest [] [] σ)) (import_found (OfPrimitive row.NextMain));
   }
 
   module _ (d : ℕ) (k : Instructions) (K : List Label) (l : Locals) (σ : State) (st : Starts p deepest [] [] b M n 0 K l σ) where
@@ -201,9 +201,9 @@ module _ (p : Program) (deepest : Watch) (b : Bases) (M n : ℕ) (none : zero �
   -- ---- the assignments before BEGIN
 
   start_only : (σ : State) → OnlyFaults (asks row.StartAssign tt σ)
-  start_only σ = then_only (spend_all (carried_out row.StartAssign σ.shared) σ) (λ x. does row.StartAssign tt) (all_spent_only (carried_out row.StartAssign σ.shared) σ) (λ x τ. settled_only _ _)
+  start_only σ = then_only (spend_all (carried_out row.StartAssign σ.shared) σ) (λ x. call row.StartAssign tt) (all_spent_only (carried_out row.StartAssign σ.shared) σ) (λ x τ. settled_only _ _)
 
-  on_only : (go : Doing (Unit {0})) → ((σ : State) → OnlyFaults (go σ)) → (x : AssignAnswer) (σ : State) → OnlyFaults (on_assignment go x σ)
+  on_only : (go : Execution (Unit {0})) → ((σ : State) → OnlyFaults (go σ)) → (x : AssignAnswer) (σ : State) → OnlyFaults (on_assignment go x σ)
   on_only go h assign.Pending σ = then_only (spent σ.turns σ) (λ x. go) (spent_only σ.turns σ) (λ x τ. h τ)
   on_only go h assign.NoneLeft σ = tt
 

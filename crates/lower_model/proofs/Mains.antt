@@ -6,16 +6,16 @@ use Rattle.wasm_types.specs.Syntax.{Instructions, Done}
 use Rattle.wasm_types.specs.declared.instr.Simple.TheVariants.{Br}
 use Rattle.mid_program.specs.Mid.{Program, Code, Steps}
 use Rattle.sem_scripts.specs.ScriptRun.{first_assigned, records_done, part}
-use Rattle.sem_scripts.specs.ScriptState.{State, Stop, Faulted, OutOfTurns, TooDeep, Nexted, Exited, Returned, Outcome, Gives, Stops, Doing, ◌>>=◌, ◌>>◌, does, nothing}
+use Rattle.sem_scripts.specs.ScriptState.{State, Stop, Faulted, OutOfTurns, TooDeep, Nexted, Exited, Returned, Outcome, Gives, Stops, Execution, ◌>>=◌, ◌>>◌, call, nothing}
 use Rattle.mid_program.specs.Sorted.{calls_of, context_of, steps_sorted}
 use Rattle.lower_model.specs.Emission.{asked}
 use Rattle.lower_model.specs.Functions.{layout_of}
 use Rattle.lower_model.specs.Machine.{Conf, Label, at, label, ending_at}
 use Rattle.lower_model.specs.Noted.{noted_called, noted_done, begin_rest, out_of_part}
 use Rattle.lower_model.specs.Places.{Bases, steps_room, steps_iterators, steps_arrays}
-use Rattle.lower_model.specs.Small.{does as instruction, ask_row}
+use Rattle.lower_model.specs.Small.{emit as instruction, ask_row}
 use Rattle.lower_model.specs.Statements.{part_done, first_part, last_part, records_read}
-use Rattle.lower_model.proofs.Watch.{Watch}
+use Rattle.lower_model.proofs.Observer.{Observer}
 use Rattle.lower_model.proofs.Runs.{goes_from, then_goes, stays, first, then_on, there, within, Arrives, reaches_on, Onward}
 use Rattle.lower_model.proofs.Locals.{Locals, laid}
 use Rattle.lower_model.proofs.Relation.{Away, fit_loose, fit_shared}
@@ -30,7 +30,7 @@ use Rattle.lower_model.proofs.Parts.{On, Left, part_work, part_ok, steps_done, r
 use Rattle.lower_model.proofs.Endings.{main_exit, main_exit_work, main_ends, shows_ended, EndsWell}
 use Rattle.lower_model.proofs.Records.{Reading, reading_ok}
 
-module _ (p : Program) (deepest : Watch) (b : Bases) (M n : ℕ) where
+module _ (p : Program) (deepest : Observer) (b : Bases) (M n : ℕ) where
   abbrev pub exit_labels : List Label
   exit_labels = label [] None (main_exit p deepest b) ∷ []
 
@@ -78,7 +78,7 @@ module _ (p : Program) (deepest : Watch) (b : Bases) (M n : ℕ) where
     done_ok : (ss : Steps) → StepsOk p deepest [] [] b M n ss
     done_ok ss = steps_ok p deepest [] [] b M n exprs ss
 
-    abbrev records_meant : Doing (Unit {0})
+    abbrev records_meant : Execution (Unit {0})
     records_meant = if p.reads then records_done n (noted_done deepest.notes p b n p.items out_of_part) else nothing
 
     -- records, if there are any to be read
@@ -112,8 +112,8 @@ module _ (p : Program) (deepest : Watch) (b : Bases) (M n : ℕ) where
         (λ K2 e s2. steps_done p deepest b M n p.end (done_ok p.end) zero (instruction (Br 1) Done) K2 l σ end_sorted end_room end_iterators end_arrays end_few s2)
 
     -- what a script does once its names are there
-    abbrev pub main_meant : Doing (Unit {0})
-    main_meant = first_assigned n >>= λ d. part (noted_done deepest.notes p b n p.begin (begin_rest p b) >> records_meant) >>= λ e. does row.BeginEnd tt >>= λ f. part (noted_done deepest.notes p b n p.end out_of_part)
+    abbrev pub main_meant : Execution (Unit {0})
+    main_meant = first_assigned n >>= λ d. part (noted_done deepest.notes p b n p.begin (begin_rest p b) >> records_meant) >>= λ e. call row.BeginEnd tt >>= λ f. part (noted_done deepest.notes p b n p.end out_of_part)
 
     abbrev pub main_work : ℕ
     main_work = first_work + (((steps_work p.begin + 17) + (part_work p deepest b M n + 3)) + (1 + (steps_work p.end + (part_work p deepest b M n + 3))))

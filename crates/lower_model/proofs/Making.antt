@@ -3,7 +3,7 @@ use Rattle.std.proofs.Common.{◌≡◌, inr, ℕ, suc, ◌+◌, ◌≤◌, true
 use Rattle.std.proofs.lemmas.Bool.{and_parts}
 use Rattle.sem_primitives.specs.declared.table.Primitive.TheVariants as row
 use Rattle.wasm_types.specs.Syntax.{Instructions}
-use Rattle.mid_program.specs.Mid.{Kind, Program, Unset, Codes, End, At, Fixed, Fresh, Form, Perhaps}
+use Rattle.mid_program.specs.Mid.{Kind, Program, Unset, Codes, End, At, Fixed, Fresh, Form, OptionalNumber}
 use Rattle.mid_program.specs.MidMeaning.{Env, evaluated, all_evaluated}
 use Rattle.sem_scripts.specs.ScriptState.{State, ◌>>=◌, give}
 use Rattle.mid_program.specs.Sorted.{Held as Standing, are_missing, sorted, all_sorted}
@@ -11,7 +11,7 @@ use Rattle.lower_model.specs.Cells.{OwnedArray, is_owned}
 use Rattle.lower_model.specs.Emission.{emitted, all_emitted}
 use Rattle.lower_model.specs.Machine.{Frame, Label, at}
 use Rattle.lower_model.specs.Places.{Bases, arrays_among, rooms}
-use Rattle.lower_model.proofs.Watch.{Watch}
+use Rattle.lower_model.proofs.Observer.{Observer}
 use Rattle.lower_model.proofs.Runs.{then_goes, stays, there, first, then_on}
 use Rattle.lower_model.proofs.Regions.{upd_same, upd_other}
 use Rattle.lower_model.proofs.Locals.{Locals, Array, laid, with_at}
@@ -22,7 +22,7 @@ use Rattle.lower_model.proofs.HostCalls.{calm_after}
 use Rattle.lower_model.proofs.Leaves.{unset_there}
 use Rattle.lower_model.proofs.Simulation.{work_of, works_of, meant, all_meant, context, layout, AllDone, CodesOk, Done}
 
-module _ (p : Program) (deepest : Watch) (ks : List Kind) (F : List Frame) (b : Bases) (M n : ℕ) where
+module _ (p : Program) (deepest : Observer) (ks : List Kind) (F : List Frame) (b : Bases) (M n : ℕ) where
   -- one more array is in use
   fit_made : (t u w : ℕ) (l : Locals) (σ : State) → Fit p deepest ks F t u w l σ → Fit p deepest ks F t u (suc w) l σ
   fit_made t u w l σ f = record { params = f.params; size = f.size; answer = f.answer; hands = f.hands; numbers = f.numbers; free = f.free; walks = f.walks; still = f.still; yards = f.yards; spare = λ x h. f.spare x (omega (arith, h)); sound = f.sound }
@@ -57,7 +57,7 @@ module _ (p : Program) (deepest : Watch) (ks : List Kind) (F : List Frame) (b : 
         own = λ i h. a2.own i h ∙ a.own i h;
         kept = a2.kept;
         held = (
-          holds_same Perhaps t a.next a2.next v (a2.same.hands t (omega arith) (outside_below t t ts below (omega arith))) (a2.same.numbers t (omega arith)) a.stands,
+          holds_same OptionalNumber t a.next a2.next v (a2.same.hands t (omega arith) (outside_below t t ts below (omega arith))) (a2.same.numbers t (omega arith)) a.stands,
           tt,
           a2.held,
         );

@@ -19,7 +19,7 @@ use Rattle.wasm_types.specs.declared.instr.Simple.TheVariants.{I32Const, Br}
 use Rattle.wasm_store.specs.declared.word.Word.TheVariants.{I32, I64}
 use Rattle.wasm_store.specs.Words.{flag}
 use Rattle.mid_program.specs.declared.mid.Operation.TheVariants.{AsNumber, FieldNumber}
-use Rattle.mid_program.specs.Mid.{Kind, Program, Answered, Do, Codes, End, At, Fixed, Fresh}
+use Rattle.mid_program.specs.Mid.{Kind, Program, PrimitiveAnswer, Do, Codes, End, At, Fixed, Fresh}
 use Rattle.mid_program.specs.MidMeaning.{evaluated, all_evaluated}
 use Rattle.sem_scripts.specs.Steps.{field_checked, is_field_number}
 use Rattle.sem_scripts.specs.ScriptState.{State, Faulted, settled, give}
@@ -30,8 +30,8 @@ use Rattle.lower_model.specs.Emission.{emitted, all_emitted}
 use Rattle.lower_model.specs.ImportCalls.{with_some, and_rest, row_in}
 use Rattle.lower_model.specs.Machine.{Conf, Label, Frame, at, br, label}
 use Rattle.lower_model.specs.Places.{Bases}
-use Rattle.lower_model.specs.Small.{does, ask_row, fail_if}
-use Rattle.lower_model.proofs.Watch.{Watch}
+use Rattle.lower_model.specs.Small.{emit, ask_row, fail_if}
+use Rattle.lower_model.proofs.Observer.{Observer}
 use Rattle.lower_model.proofs.Runs.{Goes, then_goes, goes_to, goes_from, by_steps, stays, there, faulted, first}
 use Rattle.lower_model.proofs.Locals.{Locals, Number as NumberAt, laid}
 use Rattle.lower_model.proofs.Steps.{get_copied}
@@ -50,17 +50,17 @@ field_word x = by x.number (small x)
     by (pos k) e = ⊎_elim (λ l. lt-ltb (2 ^ 20) k l ∙ sym (ap not (lt-leb k (2 ^ 20) l))) (λ g. le-ltb (2 ^ 20) k g ∙ sym (ap not (le-leb k (2 ^ 20) g))) (cases_lt (2 ^ 20) k)
     by (negsuc k) e = lt-ltb (2 ^ 20) (2 ^ 64 - suc k) (omega (arith, e)) ∙ sym (ap not (ne_eqb (suc k) 0 (λ q. omega (arith, q))))
 
-module _ (p : Program) (deepest : Watch) (ks : List Kind) (F : List Frame) (b : Bases) (M n : ℕ) where
+module _ (p : Program) (deepest : Observer) (ks : List Kind) (F : List Frame) (b : Bases) (M n : ℕ) where
   -- a fault is kept and the function is left
   pub fails_ok : {K : List Label} {L : List Cell} {k : Instructions} → (f : Fault) (d : ℕ) (σ : State) →
       Goes (machine p deepest ks F) 3 (at ks (Bits (flag true) ∷ []) K L F (fail_if f d k) (beside_state p deepest ks F σ)) (br d ks K L F (left_beside p deepest ks F (Faulted f) σ))
   fails_ok {K = K} {L = L} {k = k} f d σ =
       let mach = machine p deepest ks F in
-      then_goes (chooses (does (I32Const (fault_number f)) (ask_row row.Fail (does (Br (suc d)) NoMore))) NoMore 1)
+      then_goes (chooses (emit (I32Const (fault_number f)) (ask_row row.Fail (emit (Br (suc d)) NoMore))) NoMore 1)
       (then_goes
       (goes_to
       (row_called p deepest ks F row.Fail (f, tt) (Bits (I32 (fault_number f)) ∷ []) [] σ refl refl refl (ap (λ o. with_some (and_rest o []) (λ x. with_some (row_in mach.memory [] x.1) (λ rest. Some (x.0, rest)))) (constant_again constant.Fault f)) refl)
-      (ap (λ τ. at ks [] (label [] None k ∷ K) L F (does (Br (suc d)) NoMore) (left_beside p deepest ks F (Faulted f) τ)) (same_state {A = Result (Unit {0}) Fault} σ (Err f))))
+      (ap (λ τ. at ks [] (label [] None k ∷ K) L F (emit (Br (suc d)) NoMore) (left_beside p deepest ks F (Faulted f) τ)) (same_state {A = Result (Unit {0}) Fault} σ (Err f))))
       (by_steps 1 refl))
 
   pub passes_ok : {K : List Label} {L : List Cell} {k : Instructions} → (f : Fault) (d : ℕ) (σ : State) →
@@ -68,7 +68,7 @@ module _ (p : Program) (deepest : Watch) (ks : List Kind) (F : List Frame) (b : 
   passes_ok f d σ = by_steps 2 refl
 
   -- the only operand of a row of one number
-  number_row : (es : Codes) (t : ℕ) (l : Locals) (σ : State) (r : Row (argument.Of sort.Number ∷ [])) → RowAt p deepest ks F b M n (argument.Of sort.Number ∷ []) es t l σ r → HoldsAt (Answered (answer.Of sort.Number)) t l r.0 × (past t es ≡ suc t)
+  number_row : (es : Codes) (t : ℕ) (l : Locals) (σ : State) (r : Row (argument.Of sort.Number ∷ [])) → RowAt p deepest ks F b M n (argument.Of sort.Number ∷ []) es t l σ r → HoldsAt (PrimitiveAnswer (answer.Of sort.Number)) t l r.0 × (past t es ≡ suc t)
   number_row End t l σ r q = absurd q
   number_row (At e End) t l σ r q = (q.0, refl)
   number_row (At e (At c es)) t l σ r q = absurd q.2

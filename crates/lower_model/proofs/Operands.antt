@@ -4,7 +4,7 @@ use Rattle.std.specs.Prelude.{if◌then◌else◌}
 use Rattle.std.proofs.lemmas.Bool.{and_parts}
 use Rattle.sem_primitives.specs.declared.sorts.Answer.TheVariants as answer
 use Rattle.sem_primitives.specs.declared.sorts.Sort.TheVariants as sort
-use Rattle.mid_program.specs.Mid.{Kind, Program, Form, Answered, Code, Do, Over, Compare, Call, Ask, AskLine, FileLine, Replace, Number, Text, Unset, Get, Set, Array, IsOpen, Choose, Seq, Let, Bound, Codes, End, At, Fixed, Fresh, form_of}
+use Rattle.mid_program.specs.Mid.{Kind, Program, Form, PrimitiveAnswer, Code, Do, Over, Compare, Call, Ask, AskLine, FileLine, Replace, Number, Text, Unset, Get, Set, Array, IsOpen, Choose, Seq, Let, Bound, Codes, End, At, Fixed, Fresh, form_of}
 use Rattle.mid_program.specs.MidMeaning.{Holds, Values, evaluated, all_evaluated}
 use Rattle.sem_scripts.specs.Names.{ArrayName, Numbered, Given}
 use Rattle.sem_scripts.specs.ScriptState.{State}
@@ -12,7 +12,7 @@ use Rattle.mid_program.specs.Sorted.{Held as Standing, There, Moved, Misused, us
 use Rattle.lower_model.specs.Emission.{array_meant, emitted, all_emitted}
 use Rattle.lower_model.specs.Machine.{Frame, loops_walked}
 use Rattle.lower_model.specs.Places.{Bases}
-use Rattle.lower_model.proofs.Watch.{Watch}
+use Rattle.lower_model.proofs.Observer.{Observer}
 use Rattle.lower_model.proofs.Runs.{stays, there, first, then_on, weaker}
 use Rattle.lower_model.proofs.Locals.{Locals}
 use Rattle.lower_model.proofs.Relation.{Meant, holds_same, outside_below, below_more, same_self, same_then, SameOwn, Away}
@@ -68,11 +68,11 @@ well_before i e g h = not_misused g (held_after i e g) (λ q. ap (held_after i e
 pub all_well_before : (i : ℕ) (es : Codes) (g : Standing) → is_well_used (held_after_all i es g) ≡ true → is_well_used g ≡ true
 all_well_before i es g h = not_misused g (held_after_all i es g) (λ q. ap (held_after_all i es) q ∙ all_misused_stays i es) h
 
-module _ (p : Program) (deepest : Watch) (ks : List Kind) (F : List Frame) (b : Bases) (M n : ℕ) where
+module _ (p : Program) (deepest : Observer) (ks : List Kind) (F : List Frame) (b : Bases) (M n : ℕ) where
   -- an array that a name stands for stays the same
   pub meant_same : (f : Form) (x : Holds f) (a : ArrayName) (σ σ1 : State) → SameOwn p deepest ks F σ σ1 → Meant p deepest ks F f x a σ → Meant p deepest ks F f x a σ1
-  meant_same (Answered (answer.Of sort.Array)) x (Numbered i) σ σ1 s q = q
-  meant_same (Answered (answer.Of sort.Array)) x (Given i) σ σ1 s q = (s i q.1 ∙ q.0, q.1)
+  meant_same (PrimitiveAnswer (answer.Of sort.Array)) x (Numbered i) σ σ1 s q = q
+  meant_same (PrimitiveAnswer (answer.Of sort.Array)) x (Given i) σ σ1 s q = (s i q.1 ∙ q.0, q.1)
   meant_same _ x a σ σ1 s q = tt
 
   -- operands that stand there stand there still

@@ -12,7 +12,7 @@ use Rattle.wasm_types.specs.declared.instr.ITestOp.TheVariants.{Eqz}
 use Rattle.wasm_store.specs.declared.word.Word.TheVariants as word
 use Rattle.mid_program.specs.Mid.{Program, Steps}
 use Rattle.sem_scripts.specs.ScriptRun.{next_over, for_record, part_over, part}
-use Rattle.sem_scripts.specs.ScriptState.{State, Stop, Faulted, OutOfTurns, TooDeep, Nexted, Exited, Returned, Outcome, Gives, Stops, Doing, ◌>>◌, nothing}
+use Rattle.sem_scripts.specs.ScriptState.{State, Stop, Faulted, OutOfTurns, TooDeep, Nexted, Exited, Returned, Outcome, Gives, Stops, Execution, ◌>>◌, nothing}
 use Rattle.mid_program.specs.Sorted.{calls_of, context_of, kinds_of, steps_sorted}
 use Rattle.sem_scripts.specs.Statements.{Flow, Normal, Broke, Continued}
 use Rattle.lower_model.specs.Cells.{Cell, Bits, is_owned}
@@ -20,10 +20,10 @@ use Rattle.lower_model.specs.Functions.{layout_of}
 use Rattle.lower_model.specs.Machine.{Conf, Deep, Label, at, br, label, loops_walked}
 use Rattle.lower_model.specs.Noted.{noted_done, out_of_part}
 use Rattle.lower_model.specs.Places.{Bases, way_global, steps_room, steps_iterators, steps_arrays}
-use Rattle.lower_model.specs.Small.{does, ask_row, when}
+use Rattle.lower_model.specs.Small.{emit, ask_row, when}
 use Rattle.lower_model.specs.Statements.{way_next, goes_on, record_done, part_done, steps_emitted}
-use Rattle.host_imports.specs.declared.import.Import.TheVariants.{Of}
-use Rattle.lower_model.proofs.Watch.{Watch}
+use Rattle.host_imports.specs.declared.import.Import.TheVariants.{OfPrimitive}
+use Rattle.lower_model.proofs.Observer.{Observer}
 use Rattle.lower_model.proofs.Runs.{Goes, goes_to, goes_from, then_goes, by_steps, stays, first, then_on, then_step, there, within, Arrives, reaches_on}
 use Rattle.lower_model.proofs.Regions.{cells, cells_same, pairs_same}
 use Rattle.lower_model.proofs.Globals.{Way}
@@ -64,10 +64,10 @@ ForGood why = ⊥
 abbrev pub going_work : Bases → ℕ
 going_work b = 1 + 8 * (b.temporaries + (b.iterators + b.arrays))
 
-module _ (p : Program) (deepest : Watch) (b : Bases) (M n : ℕ) where
+module _ (p : Program) (deepest : Observer) (b : Bases) (M n : ℕ) where
   -- after the items for a record, where they were left
   abbrev next_code : ℕ → Instructions
-  next_code d = does (GlobalGet way_global) (does (I32Const way_next) (does (Compare I32 Ne) (does (BrIf (suc d)) (goes_on (layout_of p b) Done))))
+  next_code d = emit (GlobalGet way_global) (emit (I32Const way_next) (emit (Compare I32 Ne) (emit (BrIf (suc d)) (goes_on (layout_of p b) Done))))
 
   -- `main` is at code k among labels K, where a step may begin
   pub record On (k : Instructions) (K : List Label) (σ : State) (c : Conf) : Type 0 where
@@ -125,7 +125,7 @@ module _ (p : Program) (deepest : Watch) (b : Bases) (M n : ℕ) where
       }
 
   -- steps of `main`
-  abbrev pub steps_only : Steps → (d : ℕ) → Instructions → Doing (Unit {0})
+  abbrev pub steps_only : Steps → (d : ℕ) → Instructions → Execution (Unit {0})
   steps_only ss d k = steps_meant p deepest [] [] b M n ss zero d zero zero k >> nothing
 
   pub steps_done : (ss : Steps) → StepsOk p deepest [] [] b M n ss → (d : ℕ) (k : Instructions) (K : List Label) (l : Locals) (σ : State) → steps_sorted (context_of p []) false false ss ≡ true → steps_room ss ≤ b.temporaries → steps_iterators ss ≤ b.iterators → steps_arrays ss ≤ b.arrays → steps_work ss ≤ M → Starts p deepest [] [] b M n 0 K l σ →
@@ -142,9 +142,9 @@ module _ (p : Program) (deepest : Watch) (b : Bases) (M n : ℕ) where
 
   -- out of two blocks, at the end of what is in them
   pub out_of_two : (w m : ℕ) (c : Conf) (x : Label) (k : Instructions) (K : List Label) (Q : Stop → State → Conf → Type 0) (r : Outcome (Unit {0})) →
-      Arrives (machine p deepest [] []) M w m c (λ u. On (does (Br 1) Done) (x ∷ (label [] None k ∷ K))) Q r → loops_walked K ≡ 0 → Arrives (machine p deepest [] []) M (w + 1) m c (λ u. On k K) Q r
+      Arrives (machine p deepest [] []) M w m c (λ u. On (emit (Br 1) Done) (x ∷ (label [] None k ∷ K))) Q r → loops_walked K ≡ 0 → Arrives (machine p deepest [] []) M (w + 1) m c (λ u. On k K) Q r
   out_of_two w m c x k K Q r a e =
-      then_step (machine p deepest [] []) M 1 w (w + 1) m c (λ u. On (does (Br 1) Done) (x ∷ (label [] None k ∷ K))) (λ u. On k K) Q r (omega arith)
+      then_step (machine p deepest [] []) M 1 w (w + 1) m c (λ u. On (emit (Br 1) Done) (x ∷ (label [] None k ∷ K))) (λ u. On k K) Q r (omega arith)
       (λ u σ c1 h. record {
         conf = at [] [] K (laid b h.next) [] k (beside_state p deepest [] [] σ);
         steps = 1;
@@ -203,36 +203,36 @@ module _ (p : Program) (deepest : Watch) (b : Bases) (M n : ℕ) where
   record_ok ss ok d k K l σ plain so rm it ar wk s =
       let x = label [] None (next_code d) in
       let K2 = x ∷ (label [] None k ∷ K) in
-      let body = steps_emitted (layout_of p b) ss zero zero zero zero (does (Br 1) Done) in
+      let body = steps_emitted (layout_of p b) ss zero zero zero zero (emit (Br 1) Done) in
       first (machine p deepest [] []) M 2 (steps_work ss + 1 + record_work) (steps_work ss + (record_work + 3)) σ.turns _ (at [] [] K2 (laid b l) [] body (beside_state p deepest [] [] σ)) (λ u. On k K) (Away p deepest [] [] b d K) _ (by_steps 2 refl) (omega arith)
       (nexted (steps_work ss + 1) σ.turns d _ k K (noted_done deepest.notes p b n ss out_of_part σ) s.parameters s.loops s.turns (plain.at σ) (plain.sized σ ∙ s.fit.size)
       (out_of_two (steps_work ss) σ.turns _ x k K (Away p deepest [] [] b zero K2) (noted_done deepest.notes p b n ss out_of_part σ)
-      (steps_done ss ok zero (does (Br 1) Done) K2 l σ so rm it ar wk (record { fit = s.fit; walked = s.walked; walks = s.walks; loops = s.loops; turns = s.turns; parameters = s.parameters })) s.loops))
+      (steps_done ss ok zero (emit (Br 1) Done) K2 l σ so rm it ar wk (record { fit = s.fit; walked = s.walked; walks = s.walks; loops = s.loops; turns = s.turns; parameters = s.parameters })) s.loops))
 
   -- `exit` ends a part, and no more; what `next` would leave is not there
 
   abbrev outside_code : ℕ → Instructions
-  outside_code d = does (I32Const (fault_number NextOutside)) (ask_row row.Fail (does (Br (suc (suc d))) Done))
+  outside_code d = emit (I32Const (fault_number NextOutside)) (ask_row row.Fail (emit (Br (suc (suc d))) Done))
 
   -- after the actions of a part, where they were left
   abbrev part_code : ℕ → Instructions
   part_code d =
-      does (GlobalGet way_global) (does (Test I32 Eqz) (does (BrIf (suc d))
-      (does (GlobalGet way_global) (does (I32Const way_next) (does (Compare I32 Eq) (when (outside_code d) (goes_on (layout_of p b) Done)))))))
+      emit (GlobalGet way_global) (emit (Test I32 Eqz) (emit (BrIf (suc d))
+      (emit (GlobalGet way_global) (emit (I32Const way_next) (emit (Compare I32 Eq) (when (outside_code d) (goes_on (layout_of p b) Done)))))))
 
   abbrev pub part_work : ℕ
   part_work = going_work b + 12
 
   -- the way is looked at
   way_told : {K : List Label} {L : List Cell} {k : Instructions} → (way : ℕ) (fault : Option Fault) (σ : State) →
-      Goes (machine p deepest [] []) 1 (at [] [] K L [] (does (GlobalGet way_global) k) (store_with p.ranges (kinds_of p.globals) way fault σ)) (at [] (Bits (word.I32 way) ∷ []) K L [] k (store_with p.ranges (kinds_of p.globals) way fault σ))
+      Goes (machine p deepest [] []) 1 (at [] [] K L [] (emit (GlobalGet way_global) k) (store_with p.ranges (kinds_of p.globals) way fault σ)) (at [] (Bits (word.I32 way) ∷ []) K L [] k (store_with p.ranges (kinds_of p.globals) way fault σ))
   way_told way fault σ = global_copied p.ranges (length (kinds_of p.globals)) (cells_of (kinds_of p.globals) way σ) Way (Bits (word.I32 way)) tt refl refl
 
   -- a fault is kept by the host
   outside_kept : {K : List Label} {L : List Cell} {k : Instructions} → (σ : State) →
-      Goes (machine p deepest [] []) 1 (at [] [] K L [] (does (I32Const (fault_number NextOutside)) (ask_row row.Fail k)) (store_with p.ranges (kinds_of p.globals) 1 None σ)) (at [] [] K L [] k (store_with p.ranges (kinds_of p.globals) 1 (Some NextOutside) σ))
+      Goes (machine p deepest [] []) 1 (at [] [] K L [] (emit (I32Const (fault_number NextOutside)) (ask_row row.Fail k)) (store_with p.ranges (kinds_of p.globals) 1 None σ)) (at [] [] K L [] k (store_with p.ranges (kinds_of p.globals) 1 (Some NextOutside) σ))
   outside_kept {K = K} {L = L} {k = k} σ =
-      goes_to (called (Of row.Fail) (Bits (word.I32 (fault_number NextOutside)) ∷ []) [] (store_with p.ranges (kinds_of p.globals) 1 None σ) None _ refl refl refl)
+      goes_to (called (OfPrimitive row.Fail) (Bits (word.I32 (fault_number NextOutside)) ∷ []) [] (store_with p.ranges (kinds_of p.globals) 1 None σ) None _ refl refl refl)
       (ap (λ τ. at [] [] K L [] k (store_with p.ranges (kinds_of p.globals) 1 (Some NextOutside) τ)) (same_state {A = Result (Unit {0}) Fault} σ (Err NextOutside)))
 
   parted : (w m d : ℕ) (c : Conf) (k : Instructions) (K : List Label) (r : Outcome (Unit {0})) → zero ≡ b.parameters → loops_walked K ≡ 0 → m ≤ n → NoReturn r → length (own_at r).locals ≡ 0 →
@@ -275,8 +275,8 @@ module _ (p : Program) (deepest : Watch) (b : Bases) (M n : ℕ) where
       }) h
 
   -- a part, if its actions come to its end
-  pub part_ok : (w d : ℕ) (actions k : Instructions) (K : List Label) (l : Locals) (σ : State) (doing : Doing (Unit {0})) → Plainly doing → Starts p deepest [] [] b M n 0 K l σ →
-      ((K2 : List Label) → loops_walked K2 ≡ 0 → Starts p deepest [] [] b M n 0 K2 l σ → Arrives (machine p deepest [] []) M w σ.turns (at [] [] K2 (laid b l) [] actions (beside_state p deepest [] [] σ)) (λ u. On (does (Br 1) Done) K2) (Away p deepest [] [] b zero K2) (doing σ)) →
+  pub part_ok : (w d : ℕ) (actions k : Instructions) (K : List Label) (l : Locals) (σ : State) (doing : Execution (Unit {0})) → Plainly doing → Starts p deepest [] [] b M n 0 K l σ →
+      ((K2 : List Label) → loops_walked K2 ≡ 0 → Starts p deepest [] [] b M n 0 K2 l σ → Arrives (machine p deepest [] []) M w σ.turns (at [] [] K2 (laid b l) [] actions (beside_state p deepest [] [] σ)) (λ u. On (emit (Br 1) Done) K2) (Away p deepest [] [] b zero K2) (doing σ)) →
       Arrives (machine p deepest [] []) M (w + (part_work + 3)) σ.turns (at [] [] K (laid b l) [] (part_done (layout_of p b) actions d k) (beside_state p deepest [] [] σ)) (λ u. On k K) (Left d K) (part doing σ)
   part_ok w d actions k K l σ doing plain s acts =
       let x = label [] None (part_code d) in

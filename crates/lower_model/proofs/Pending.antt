@@ -16,16 +16,16 @@ use Rattle.wasm_types.specs.declared.instr.Simple.TheVariants.{LocalSet, GlobalS
 use Rattle.wasm_store.specs.Words.{flag}
 use Rattle.wasm_store.specs.declared.word.Word.TheVariants.{I32, I64}
 use Rattle.sem_scripts.specs.Meaning.{assign_pending}
-use Rattle.mid_program.specs.Mid.{Kind, Boxed, Unboxed, Many, Program, Declared, Routine}
-use Rattle.sem_scripts.specs.ScriptState.{State, Gives, go_on, change, does as does_row, with_global, global_value}
+use Rattle.mid_program.specs.Mid.{Kind, Boxed, Unboxed, ArrayKind, Program, Declared, Routine}
+use Rattle.sem_scripts.specs.ScriptState.{State, Gives, go_on, change, call as does_row, with_global, global_value}
 use Rattle.mid_program.specs.Sorted.{has_kind, same_kind, scalar_kind, kinds_of}
 use Rattle.lower_model.specs.Cells.{Bits, Held, Gone, is_owned}
 use Rattle.lower_model.specs.Emission.{assigned, assigned_by_number, pending_assigned}
 use Rattle.lower_model.specs.Machine.{Label, Frame, at, label, number_pending}
 use Rattle.lower_model.specs.Places.{Bases, handle_local, number_local}
-use Rattle.lower_model.specs.Small.{does, ask_row, when, text_beside, moved_out}
+use Rattle.lower_model.specs.Small.{emit, ask_row, when, text_beside, moved_out}
 use Rattle.lower_model.specs.Small
-use Rattle.lower_model.proofs.Watch.{Watch}
+use Rattle.lower_model.proofs.Observer.{Observer}
 use Rattle.lower_model.proofs.Runs.{Goes, then_goes, goes_to, by_steps, stays}
 use Rattle.lower_model.proofs.Regions.{upd_same, upd_other}
 use Rattle.lower_model.proofs.Locals.{Locals, Hand, Number as NumberAt, with_at, laid}
@@ -77,7 +77,7 @@ no_routine (r ∷ rs) i m name e = by (λ q. no_routine rs (i + 1) m name q) (sa
 first_told : (k : Kind) (ds : List Declared) (d : Declared) (i m : ℕ) → d.kind ≡ k → told_as i (kind_told k) ≡ told_as m Scalar → Told (d ∷ ds) i m
 first_told Boxed ds d i m q e = record { place = 0; it = let z = ap number_told e in omega (arith, z); unboxed = false; has = ap (λ k. same_kind k Boxed) q }
 first_told Unboxed ds d i m q e = record { place = 0; it = let z = ap number_told e in omega (arith, z); unboxed = true; has = ap (λ k. same_kind k Unboxed) q }
-first_told Many ds d i m q e = absurd (true≢false (sym (ap scalar_told e)))
+first_told ArrayKind ds d i m q e = absurd (true≢false (sym (ap scalar_told e)))
 
 next_told : (ds : List Declared) (d : Declared) (i m : ℕ) → Told ds (i + 1) m → Told (d ∷ ds) i m
 next_told ds d i m r = record { place = suc r.place; it = let z = r.it in omega (arith, z); unboxed = r.unboxed; has = r.has }
@@ -90,7 +90,7 @@ told_name (d ∷ ds) rs i m name e = by (λ q. told_name ds rs (i + 1) m name q)
     by on true q = first_told d.kind ds d i m refl q
     by on false q = next_told ds d i m (on q)
 
-module _ (p : Program) (deepest : Watch) (ks : List Kind) (F : List Frame) (b : Bases) (M n : ℕ) where
+module _ (p : Program) (deepest : Observer) (ks : List Kind) (F : List Frame) (b : Bases) (M n : ℕ) where
   -- code comes to the code after it, where the assignment to this name is made
   pub record Makes (most : ℕ) (code k : Instructions) (K : List Label) (l : Locals) (name : Option ℕ) (σ : State) (l1 : Locals) (σ1 : State) : Type 0 where
     pub steps : ℕ
@@ -125,8 +125,8 @@ module _ (p : Program) (deepest : Watch) (ks : List Kind) (F : List Frame) (b : 
       let v = StrNum text in
       let g2 = with_global_at p.ranges nn g (NameHand i) (Held v) in
       let l1 = with_at l (Hand t) empty in
-      let k3 = does (I64Const text_beside) (does (GlobalSet (global_of p.ranges nn (NameNumber i))) k) in
-      let k2 = does (GlobalSet (global_of p.ranges nn (NameHand i))) k3 in
+      let k3 = emit (I64Const text_beside) (emit (GlobalSet (global_of p.ranges nn (NameNumber i))) k) in
+      let k2 = emit (GlobalSet (global_of p.ranges nn (NameHand i))) k3 in
       let s = text_dropped_ok p deepest ks F b M n (Some i) i (moved_out (handle_local b t) k2) K l σ hk (bare_is (global_value i σ)) in
       let q = s.few in
       record {
@@ -154,7 +154,7 @@ module _ (p : Program) (deepest : Watch) (ks : List Kind) (F : List Frame) (b : 
 
     passed : (kinds : List Kind) (i : ℕ) (l : Locals) → m < i → l.number t ≡ Bits (I64 m) → Makes (4 * length kinds) (assigned_by_number (layout p deepest ks F b M n) kinds i t k) k K l None σ l σ
     passed [] i l le e = record { steps = 0; few = omega arith; goes = stays }
-    passed (Many ∷ kinds) i l le e = let r = passed kinds (suc i) l (omega (arith, le)) e in let q = r.few in record { steps = r.steps; few = omega (arith, q); goes = r.goes }
+    passed (ArrayKind ∷ kinds) i l le e = let r = passed kinds (suc i) l (omega (arith, le)) e in let q = r.few in record { steps = r.steps; few = omega (arith, q); goes = r.goes }
     passed (Boxed ∷ kinds) i l le e = let r = passed kinds (suc i) l (omega (arith, le)) e in let q = r.few in record { steps = 4 + r.steps; few = omega (arith, q); goes = then_goes (not_this None i l _ _ e (ne_eqb m i (λ z. omega (arith, z, le)))) r.goes }
     passed (Unboxed ∷ kinds) i l le e = let r = passed kinds (suc i) l (omega (arith, le)) e in let q = r.few in record { steps = 4 + r.steps; few = omega (arith, q); goes = then_goes (not_this None i l _ _ e (ne_eqb m i (λ z. omega (arith, z, le)))) r.goes }
 
@@ -192,9 +192,9 @@ module _ (p : Program) (deepest : Watch) (ks : List Kind) (F : List Frame) (b : 
       record { steps = a.steps + r.steps; few = omega (arith, fa, fr); goes = then_goes a.goes r.goes }
   assigned_there true (Boxed ∷ kinds) i zero t m text K k l σ lt q h hk sz e e1 e2 = absurd (true≢false (sym h))
   assigned_there false (Unboxed ∷ kinds) i zero t m text K k l σ lt q h hk sz e e1 e2 = absurd (true≢false (sym h))
-  assigned_there true (Many ∷ kinds) i zero t m text K k l σ lt q h hk sz e e1 e2 = absurd (true≢false (sym h))
-  assigned_there false (Many ∷ kinds) i zero t m text K k l σ lt q h hk sz e e1 e2 = absurd (true≢false (sym h))
-  assigned_there t1 (Many ∷ kinds) i (suc j) t m text K k l σ lt q h hk sz e e1 e2 =
+  assigned_there true (ArrayKind ∷ kinds) i zero t m text K k l σ lt q h hk sz e e1 e2 = absurd (true≢false (sym h))
+  assigned_there false (ArrayKind ∷ kinds) i zero t m text K k l σ lt q h hk sz e e1 e2 = absurd (true≢false (sym h))
+  assigned_there t1 (ArrayKind ∷ kinds) i (suc j) t m text K k l σ lt q h hk sz e e1 e2 =
       let r = assigned_there t1 kinds (suc i) j t m text K k l σ lt (omega (arith, q)) h hk sz e e1 e2 in
       let fr = r.few in
       record { steps = r.steps; few = omega (arith, fr); goes = r.goes }
@@ -233,8 +233,8 @@ module _ (p : Program) (deepest : Watch) (ks : List Kind) (F : List Frame) (b : 
       let l1 = with_at l (NumberAt t) (Bits (I64 m)) in
       let l2 = with_at l1 (Hand t) (Held v) in
       let k3 = assigned_by_number (layout p deepest ks F b M n) (kinds_of p.globals) 0 t k in
-      let k2 = does (LocalSet (handle_local b t)) k3 in
-      let k1 = does (Convert I64ExtendI32U) (does (LocalSet (number_local b t)) (ask_row row.PendingValue k2)) in
+      let k2 = emit (LocalSet (handle_local b t)) k3 in
+      let k1 = emit (Convert I64ExtendI32U) (emit (LocalSet (number_local b t)) (ask_row row.PendingValue k2)) in
       let τ = done_by p deepest ks F row.PendingValue tt σ in
       let z = tl.it in
       let pm : m ≡ tl.place = omega (arith, z) in

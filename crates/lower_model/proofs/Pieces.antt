@@ -16,7 +16,7 @@ use Rattle.lower_model.specs.Cells.{Cell, Bits, Held, IteratorOf, OwnedArray, Le
 use Rattle.lower_model.specs.ImportCalls.{Host, call}
 use Rattle.lower_model.specs.Machine.{Code, Look, Label, Frame, Store, at, br, label, with_operands, push_word, looked_compared, go}
 use Rattle.lower_model.specs.Places.{Bases, number_local}
-use Rattle.lower_model.specs.Small.{does, ask, minus_one, least, text_beside, was_left, moved_out, has_handle, either, let_go, number_is, kept_code, kept_value, kept_number, kept_done, answer_kept, text_or_left, text_taken}
+use Rattle.lower_model.specs.Small.{emit, ask, minus_one, least, text_beside, was_left, moved_out, has_handle, emit_if, let_go, number_is, kept_code, kept_value, kept_number, kept_done, answer_kept, text_or_left, text_taken}
 use Rattle.host_imports.specs.declared.import.Import.{Import}
 use Rattle.host_imports.specs.declared.import.Import.TheVariants.{Drop, IterFree, FreeArray}
 use Rattle.lower_model.proofs.Runs.{Goes, then_goes, goes_to, by_steps}
@@ -29,7 +29,7 @@ use Rattle.lower_model.proofs.Relation.{IsHand, IsWalk, IsYard}
 -- Branches.
 
 pub chooses : {u : Code} {ks : List Kind} {K : List Label} {L : List Cell} {F : List Frame} {c : Instructions} {G : Store} → (a b : Instructions) (m : ℕ) →
-    Goes u 1 (at ks (Bits (I32 m) ∷ []) K L F (either a b c) G) (at ks [] (label [] None c ∷ K) L F (cond (nat_eq m 0) b a) G)
+    Goes u 1 (at ks (Bits (I32 m) ∷ []) K L F (emit_if a b c) G) (at ks [] (label [] None c ∷ K) L F (cond (nat_eq m 0) b a) G)
 chooses a b m = record { it = refl }
 
 pub closes : {u : Code} {ks : List Kind} {K : List Label} {L : List Cell} {F : List Frame} {c : Instructions} {G : Store} →
@@ -93,12 +93,12 @@ module _ {u : Code} {ks : List Kind} {F : List Frame} (b : Bases) where
       Goes u 3 (at ks [] K (laid b l) F (has_handle (local_of b p) c) G) (at ks (Bits (flag false) ∷ []) K (laid b l) F c G)
   has_none {K = K} {c = c} {G = G} l p h e =
       then_goes (get_copied b l p empty h e refl)
-      (then_goes (goes_to (tee_ok b l p empty h (ap is_owned e)) (ap (λ M. at ks (empty ∷ []) K M F (does (I32Const minus_one) (does (Compare ty.I32 Ne) c)) G) (laid_again b l p empty h e)))
+      (then_goes (goes_to (tee_ok b l p empty h (ap is_owned e)) (ap (λ M. at ks (empty ∷ []) K M F (emit (I32Const minus_one) (emit (Compare ty.I32 Ne) c)) G) (laid_again b l p empty h e)))
       (by_steps 1 refl))
 
   -- a look at what was just stored, which is compared
   looks : {K : List Label} {c : Instructions} {G : Store} → (l : Locals) (p : Place) (v : Cell) → IsPlace b p → has l p ≡ v → (f : Bool) → ((vs : List Cell) → push_word vs (looked_compared Ne v minus_one) ≡ Some (Bits (flag f) ∷ vs)) →
-      Goes u 1 (Look (local_of b p) ks [] K (laid b l) F (does (I32Const minus_one) (does (Compare ty.I32 Ne) c)) G) (at ks (Bits (flag f) ∷ []) K (laid b l) F c G)
+      Goes u 1 (Look (local_of b p) ks [] K (laid b l) F (emit (I32Const minus_one) (emit (Compare ty.I32 Ne) c)) G) (at ks (Bits (flag f) ∷ []) K (laid b l) F c G)
   looks {K = K} {c = c} {G = G} l p v h e f q = record {
     it =
         ap (λ w. with_operands (push_word [] (looked_compared Ne w minus_one)) ks K (laid b l) F c G) (laid_at b l p h ∙ e)
@@ -109,21 +109,21 @@ module _ {u : Code} {ks : List Kind} {F : List Frame} (b : Bases) where
       Goes u 3 (at ks [] K (laid b l) F (has_handle (local_of b p) c) G) (at ks (Bits (flag true) ∷ []) K (laid b l) F c G)
   has_value {K = K} {c = c} {G = G} l p v h e =
       then_goes (get_moved b l p (Held v) h e)
-      (then_goes (goes_to (tee_ok b (with_at l p Gone) p (Held v) h (ap is_owned (has_with l p Gone))) (ap (λ M. Look (local_of b p) ks [] K M F (does (I32Const minus_one) (does (Compare ty.I32 Ne) c)) G) (restored b l p (Held v) h e)))
+      (then_goes (goes_to (tee_ok b (with_at l p Gone) p (Held v) h (ap is_owned (has_with l p Gone))) (ap (λ M. Look (local_of b p) ks [] K M F (emit (I32Const minus_one) (emit (Compare ty.I32 Ne) c)) G) (restored b l p (Held v) h e)))
       (looks l p (Held v) h e true (λ vs. refl)))
 
   pub has_iterator : {K : List Label} {c : Instructions} {G : Store} → (l : Locals) (p : Place) (t : ℕ) → IsPlace b p → has l p ≡ IteratorOf t →
       Goes u 3 (at ks [] K (laid b l) F (has_handle (local_of b p) c) G) (at ks (Bits (flag true) ∷ []) K (laid b l) F c G)
   has_iterator {K = K} {c = c} {G = G} l p t h e =
       then_goes (get_moved b l p (IteratorOf t) h e)
-      (then_goes (goes_to (tee_ok b (with_at l p Gone) p (IteratorOf t) h (ap is_owned (has_with l p Gone))) (ap (λ M. Look (local_of b p) ks [] K M F (does (I32Const minus_one) (does (Compare ty.I32 Ne) c)) G) (restored b l p (IteratorOf t) h e)))
+      (then_goes (goes_to (tee_ok b (with_at l p Gone) p (IteratorOf t) h (ap is_owned (has_with l p Gone))) (ap (λ M. Look (local_of b p) ks [] K M F (emit (I32Const minus_one) (emit (Compare ty.I32 Ne) c)) G) (restored b l p (IteratorOf t) h e)))
       (looks l p (IteratorOf t) h e true (λ vs. refl)))
 
   pub has_array : {K : List Label} {c : Instructions} {G : Store} → (l : Locals) (p : Place) (a : ℕ) → IsPlace b p → has l p ≡ OwnedArray a →
       Goes u 3 (at ks [] K (laid b l) F (has_handle (local_of b p) c) G) (at ks (Bits (flag true) ∷ []) K (laid b l) F c G)
   has_array {K = K} {c = c} {G = G} l p a h e =
       then_goes (get_moved b l p (OwnedArray a) h e)
-      (then_goes (goes_to (tee_ok b (with_at l p Gone) p (OwnedArray a) h (ap is_owned (has_with l p Gone))) (ap (λ M. at ks (LentArray a ∷ []) K M F (does (I32Const minus_one) (does (Compare ty.I32 Ne) c)) G) (restored b l p (OwnedArray a) h e)))
+      (then_goes (goes_to (tee_ok b (with_at l p Gone) p (OwnedArray a) h (ap is_owned (has_with l p Gone))) (ap (λ M. at ks (LentArray a ∷ []) K M F (emit (I32Const minus_one) (emit (Compare ty.I32 Ne) c)) G) (restored b l p (OwnedArray a) h e)))
       (by_steps 1 refl))
 
   let_go_none : (i : Import) (p : Place) (K : List Label) (l : Locals) (c : Instructions) (G : Store) → IsPlace b p → has l p ≡ empty → LetGo u ks F b i p K l c G
@@ -177,9 +177,9 @@ module _ {u : Code} {ks : List Kind} {F : List Frame} (b : Bases) where
       Goes u 4 (at ks (Bits (I32 m) ∷ []) K (laid b l) F (kept_code b true t d c) G) (at ks [] K (laid b (with_at l (Number t) (Bits (I64 m)))) F c G)
   code_kept {K = K} {c = c} {G = G} l t d m h o e ne =
       let l1 = with_at l (Number t) (Bits (I64 m)) in
-      then_goes (goes_to (by_steps 1 refl) (ap (λ x. at ks (Bits (I64 x) ∷ []) K (laid b l) F (does (LocalTee (number_local b t)) (does (I64Const (2 ^ 64 - 1)) (does (Compare ty.I64 Eq) (does (BrIf d) c)))) G) e))
+      then_goes (goes_to (by_steps 1 refl) (ap (λ x. at ks (Bits (I64 x) ∷ []) K (laid b l) F (emit (LocalTee (number_local b t)) (emit (I64Const (2 ^ 64 - 1)) (emit (Compare ty.I64 Eq) (emit (BrIf d) c)))) G) e))
       (then_goes (tee_ok b l (Number t) (Bits (I64 m)) h o)
-      (then_goes (goes_to (by_steps 1 refl) (ap (λ f. at ks (Bits (flag f) ∷ []) K (laid b l1) F (does (BrIf d) c) G) ne)) (by_steps 1 refl)))
+      (then_goes (goes_to (by_steps 1 refl) (ap (λ f. at ks (Bits (flag f) ∷ []) K (laid b l1) F (emit (BrIf d) c) G) ne)) (by_steps 1 refl)))
 
   pub code_failed : {K : List Label} {c : Instructions} {G : Store} → (l : Locals) (t d : ℕ) → t < b.temporaries → is_owned (l.number t) ≡ false →
       Goes u 4 (at ks (Bits (I32 (2 ^ 32 - 1)) ∷ []) K (laid b l) F (kept_code b true t d c) G) (br d ks K (laid b (with_at l (Number t) (Bits (I64 (2 ^ 64 - 1))))) F G)
@@ -195,7 +195,7 @@ module _ {u : Code} {ks : List Kind} {F : List Frame} (b : Bases) where
   value_kept {K = K} {c = c} {G = G} l t d v h o =
       let l1 = with_at l (Hand t) (Held v) in
       then_goes (tee_ok b l (Hand t) (Held v) h o)
-      (by_steps 2 (ap (λ w. go u 1 (with_operands (push_word [] (looked_compared Eq w minus_one)) ks K (laid b l1) F (does (BrIf d) c) G)) (laid_at b l1 (Hand t) h ∙ has_with l (Hand t) (Held v))))
+      (by_steps 2 (ap (λ w. go u 1 (with_operands (push_word [] (looked_compared Eq w minus_one)) ks K (laid b l1) F (emit (BrIf d) c) G)) (laid_at b l1 (Hand t) h ∙ has_with l (Hand t) (Held v))))
 
   pub value_failed : {K : List Label} {c : Instructions} {G : Store} → (l : Locals) (t d : ℕ) → t < b.temporaries → is_owned (l.hand t) ≡ false →
       Goes u 3 (at ks (empty ∷ []) K (laid b l) F (kept_value b true t d c) G) (br d ks K (laid b (with_at l (Hand t) empty)) F G)
@@ -208,7 +208,7 @@ module _ {u : Code} {ks : List Kind} {F : List Frame} (b : Bases) where
       let l1 = with_at l (Number t) unanswered in
       let e = upd_same l.number t unanswered in
       then_goes (then_goes (tee_ok b l (Number t) unanswered h o) (then_goes (by_steps 1 refl) (chooses (text_or_left b t d Done) Done 1)))
-      (then_goes (then_goes (number_is_ok l1 t was_left text_beside h e) (chooses (text_taken b t Done) (number_is (number_local b t) was_left (does (BrIf (suc (suc d))) Done)) 0))
+      (then_goes (then_goes (number_is_ok l1 t was_left text_beside h e) (chooses (text_taken b t Done) (number_is (number_local b t) was_left (emit (BrIf (suc (suc d))) Done)) 0))
       (then_goes (number_is_ok l1 t was_left was_left h e) (by_steps 1 refl)))
 
   -- a number, which is not the least one
@@ -217,7 +217,7 @@ module _ {u : Code} {ks : List Kind} {F : List Frame} (b : Bases) where
   number_kept {K = K} {c = c} {G = G} l t d m h o ne =
       let l1 = with_at l (Number t) (Bits (I64 m)) in
       then_goes (tee_ok b l (Number t) (Bits (I64 m)) h o)
-      (then_goes (goes_to (by_steps 1 refl) (ap (λ f. at ks (Bits (flag f) ∷ []) K (laid b l1) F (does (BrIf d) c) G) ne)) (by_steps 1 refl))
+      (then_goes (goes_to (by_steps 1 refl) (ap (λ f. at ks (Bits (flag f) ∷ []) K (laid b l1) F (emit (BrIf d) c) G) ne)) (by_steps 1 refl))
 
   pub number_failed : {K : List Label} {c : Instructions} {G : Store} → (l : Locals) (t d : ℕ) → t < b.temporaries → is_owned (l.number t) ≡ false →
       Goes u 3 (at ks (Bits (I64 least) ∷ []) K (laid b l) F (kept_number b true t d c) G) (br d ks K (laid b (with_at l (Number t) (Bits (I64 least)))) F G)

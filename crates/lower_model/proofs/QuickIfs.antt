@@ -6,7 +6,7 @@ use Rattle.sem_primitives.specs.Constants.{flag_number}
 use Rattle.wasm_types.specs.Syntax.{Instructions, Done as NoMore}
 use Rattle.wasm_types.specs.declared.instr.Simple.TheVariants.{Br}
 use Rattle.mid_program.specs.Mid.{Kind, Program, Code, Step, If}
-use Rattle.sem_scripts.specs.ScriptState.{State, Stop, Doing, ◌>>=◌}
+use Rattle.sem_scripts.specs.ScriptState.{State, Stop, Execution, ◌>>=◌}
 use Rattle.mid_program.specs.Sorted.{test_sorted, step_sorted, steps_sorted}
 use Rattle.sem_scripts.specs.Statements.{Flow, Normal, Broke, Continued}
 use Rattle.lower_model.specs.Emission.{tested}
@@ -14,9 +14,9 @@ use Rattle.lower_model.specs.Machine.{Conf, Label, Frame, at, label}
 use Rattle.lower_model.specs.Noted.{step_noted, steps_noted}
 use Rattle.lower_model.specs.Places.{Bases, step_room, step_iterators, step_arrays}
 use Rattle.lower_model.specs.Quick.{pair_in}
-use Rattle.lower_model.specs.Small.{does, either}
+use Rattle.lower_model.specs.Small.{emit, emit_if}
 use Rattle.lower_model.specs.Statements.{block, left_unless_pair, step_emitted, steps_emitted}
-use Rattle.lower_model.proofs.Watch.{Watch}
+use Rattle.lower_model.proofs.Observer.{Observer}
 use Rattle.lower_model.proofs.Runs.{goes_from, by_steps, stays, first, then_on, then_step, weaker, Onward}
 use Rattle.lower_model.proofs.Locals.{Locals, laid}
 use Rattle.lower_model.proofs.Relation.{Away, away_out}
@@ -28,24 +28,24 @@ use Rattle.lower_model.proofs.Tidy.{begun_step}
 use Rattle.lower_model.proofs.Branches.{TestDone, test_meant, test_ok, one_way, inner_step}
 use Rattle.lower_model.proofs.QuickSteps.{Left, left_unless_pair_ok}
 
-module _ (p : Program) (deepest : Watch) (ks : List Kind) (F : List Frame) (b : Bases) (M n : ℕ) where
+module _ (p : Program) (deepest : Observer) (ks : List Kind) (F : List Frame) (b : Bases) (M n : ℕ) where
   abbrev back_code : Instructions
-  back_code = does (Br 1) NoMore
+  back_code = emit (Br 1) NoMore
 
   abbrev plain_code : Code → Step → Step → (u d bk ct : ℕ) → Instructions → Instructions
   plain_code e x y u d bk ct k =
-      tested (layout p deepest ks F b M n) [] [] e zero zero d (either (step_emitted (layout p deepest ks F b M n) x u (suc d) (suc bk) (suc ct) NoMore) (step_emitted (layout p deepest ks F b M n) y u (suc d) (suc bk) (suc ct) NoMore) k)
+      tested (layout p deepest ks F b M n) [] [] e zero zero d (emit_if (step_emitted (layout p deepest ks F b M n) x u (suc d) (suc bk) (suc ct) NoMore) (step_emitted (layout p deepest ks F b M n) y u (suc d) (suc bk) (suc ct) NoMore) k)
 
   abbrev quick_code : Code → Step → Step → (u d bk ct : ℕ) → Instructions → Instructions
   quick_code e x y u d bk ct k =
       block (block (left_unless_pair (layout p deepest ks F b M n) (pair_in e) e (suc (suc d)) zero (step_emitted (layout p deepest ks F b M n) x u (suc (suc d)) (suc (suc bk)) (suc (suc ct)) back_code)) (step_emitted (layout p deepest ks F b M n) y u (suc d) (suc bk) (suc ct) NoMore)) k
 
   -- what is done where the test holds stands in one label more where the test has a quick way
-  abbrev yes_meant : Bool → Step → (u d bk ct : ℕ) → Doing Flow
+  abbrev yes_meant : Bool → Step → (u d bk ct : ℕ) → Execution Flow
   yes_meant j x u d bk ct =
       if j then step_meant p deepest ks F b M n x u (suc (suc d)) (suc (suc bk)) (suc (suc ct)) back_code else step_meant p deepest ks F b M n x u (suc d) (suc bk) (suc ct) NoMore
 
-  abbrev chosen_meant : Bool → Code → Step → Step → (u d bk ct : ℕ) → Doing Flow
+  abbrev chosen_meant : Bool → Code → Step → Step → (u d bk ct : ℕ) → Execution Flow
   chosen_meant j e x y u d bk ct = test_meant p deepest ks F b M n e >>= λ t. if t then yes_meant j x u d bk ct else step_meant p deepest ks F b M n y u (suc d) (suc bk) (suc ct) NoMore
 
   -- what is done once its place is noted
@@ -68,7 +68,7 @@ module _ (p : Program) (deepest : Watch) (ks : List Kind) (F : List Frame) (b : 
       K2 = label [] None B ∷ K1
 
       back : Instructions
-      back = does (Br 1) NoMore
+      back = emit (Br 1) NoMore
 
       A2 : Instructions
       A2 = step_emitted (layout p deepest ks F b M n) x u (suc (suc d)) (suc (suc bk)) (suc (suc ct)) back
@@ -77,7 +77,7 @@ module _ (p : Program) (deepest : Watch) (ks : List Kind) (F : List Frame) (b : 
       quick = block (block (left_unless_pair (layout p deepest ks F b M n) (pair_in e) e (suc (suc d)) zero A2) B) k
 
       plain : Instructions
-      plain = tested (layout p deepest ks F b M n) [] [] e zero zero d (either A B k)
+      plain = tested (layout p deepest ks F b M n) [] [] e zero zero d (emit_if A B k)
 
       s1 : (test_sorted (context p deepest ks F b M n) e ≡ true) × (step_sorted (context p deepest ks F b M n) r lo x && step_sorted (context p deepest ks F b M n) r lo y ≡ true)
       s1 = and_parts (test_sorted (context p deepest ks F b M n) e) (step_sorted (context p deepest ks F b M n) r lo x && step_sorted (context p deepest ks F b M n) r lo y) so
@@ -90,8 +90,8 @@ module _ (p : Program) (deepest : Watch) (ks : List Kind) (F : List Frame) (b : 
 
       plain_ok : Reached p deepest ks F b M (28 + (work_of e + (step_work x + step_work y))) σ.turns (at ks [] K (laid b l) F plain (beside_state p deepest ks F σ)) (StepDone p deepest ks F b M n lo u bk ct k K l) (Away p deepest ks F b d K) (chosen_meant false e x y u d bk ct σ)
       plain_ok =
-          then_on (machine p deepest ks F) M (work_of e + 14) (1 + w2) (28 + (work_of e + (step_work x + step_work y))) σ.turns _ (TestDone p deepest ks F b M n (either A B k) K u l) (StepDone p deepest ks F b M n lo u bk ct k K l) (Away p deepest ks F b d K) (test_meant p deepest ks F b M n e σ) _ (omega arith)
-          (test_ok p deepest ks F b M n e oke u d (either A B k) K l σ s1.0 (omega (arith, rm)) (omega (arith, ar)) s)
+          then_on (machine p deepest ks F) M (work_of e + 14) (1 + w2) (28 + (work_of e + (step_work x + step_work y))) σ.turns _ (TestDone p deepest ks F b M n (emit_if A B k) K u l) (StepDone p deepest ks F b M n lo u bk ct k K l) (Away p deepest ks F b d K) (test_meant p deepest ks F b M n e σ) _ (omega arith)
+          (test_ok p deepest ks F b M n e oke u d (emit_if A B k) K l σ s1.0 (omega (arith, rm)) (omega (arith, ar)) s)
           (λ t τ c1 le h.
           first (machine p deepest ks F) M 1 w2 (1 + w2) τ.turns c1 _ (StepDone p deepest ks F b M n lo u bk ct k K l) (Away p deepest ks F b d K) _ (goes_from h.comes (chooses A B (flag_number t))) (omega arith)
           (one_way p deepest ks F b M n t w2 τ.turns K1 (laid b h.next) A B τ (StepDone p deepest ks F b M n lo u bk ct k K l) (Away p deepest ks F b d K) (yes_meant false x u d bk ct) (step_meant p deepest ks F b M n y u (suc d) (suc bk) (suc ct) NoMore)

@@ -5,7 +5,7 @@ use Rattle.std.proofs.lemmas.Bool.{and_parts}
 use Rattle.awk_values.specs.declared.fault.Fault.{Fault}
 use Rattle.awk_values.specs.declared.value.Value.TheVariants as value
 use Rattle.sem_primitives.specs.declared.sorts.Sort.TheVariants as sort
-use Rattle.lower_model.proofs.Watch.{Watch}
+use Rattle.lower_model.proofs.Observer.{Observer}
 use Rattle.sem_primitives.specs.Numbers.{Number as AnyNumber, number_word, outcome_of}
 use Rattle.wasm_types.specs.Syntax.{Instructions}
 use Rattle.wasm_types.specs.declared.instr.Simple.{Simple}
@@ -23,7 +23,7 @@ use Rattle.lower_model.specs.Cells.{Cell, Bits, is_owned}
 use Rattle.lower_model.specs.Machine.{Label, Frame, at}
 use Rattle.lower_model.specs.Places.{Bases, number_global}
 use Rattle.lower_model.specs.Quick.{Holder, OfName, OfParameter, Source, Held, Constant, is_among, and_name, shifted, joined, all_unsure}
-use Rattle.lower_model.specs.Small.{does}
+use Rattle.lower_model.specs.Small.{emit}
 use Rattle.lower_model.proofs.Runs.{Goes, goes_to, then_goes, by_steps, stays}
 use Rattle.lower_model.proofs.Locals.{Locals, Param, with_at, laid}
 use Rattle.lower_model.proofs.Globals.{Hand as NameHand, Number as NameNumber, with_global_at, placed_again}
@@ -60,7 +60,7 @@ two_summed i o σ r1 r2 = go_on (go_on (two_calculated o σ r1 r2) (λ y. store_
 abbrev pub set_code : Holder → Arithmetic → Code → Code → Code
 set_code i o x y = Set (holder_slot i) (Do (Inline o) (At x (At y End)))
 
-module _ (p : Program) (deepest : Watch) (ks : List Kind) (F : List Frame) (b : Bases) (M n : ℕ) where
+module _ (p : Program) (deepest : Observer) (ks : List Kind) (F : List Frame) (b : Bases) (M n : ℕ) where
   abbrev kinds : List Kind
   kinds = kinds_of p.globals
 
@@ -83,7 +83,7 @@ module _ (p : Program) (deepest : Watch) (ks : List Kind) (F : List Frame) (b : 
   AllUnboxed (x ∷ xs) = HolderFits x × AllUnboxed xs
 
   pub name_got : (vs : List Cell) (K : List Label) (k : Instructions) (x : Holder) (t u w : ℕ) (l : Locals) (σ : State) → HolderFits x → length ks ≡ b.parameters → Fit p deepest ks F t u w l σ →
-      Goes (machine p deepest ks F) 1 (at ks vs K (laid b l) F (does (all_read x) k) (beside_state p deepest ks F σ)) (at ks (Bits (I64 (bare (holder_value x σ))) ∷ vs) K (laid b l) F k (beside_state p deepest ks F σ))
+      Goes (machine p deepest ks F) 1 (at ks vs K (laid b l) F (emit (all_read x) k) (beside_state p deepest ks F σ)) (at ks (Bits (I64 (bare (holder_value x σ))) ∷ vs) K (laid b l) F k (beside_state p deepest ks F σ))
   name_got vs K k (OfName i) t u w l σ hk pk ft =
       let x = global_value i σ in
       global_copied p.ranges (length kinds) (cells_of kinds 0 σ) (NameNumber i) (Bits (I64 (bare x))) (kind_below kinds i Unboxed hk) (ap (λ c. Bits (I64 (name_word c x))) (kind_found kinds i Unboxed hk)) refl
@@ -93,7 +93,7 @@ module _ (p : Program) (deepest : Watch) (ks : List Kind) (F : List Frame) (b : 
 
   -- a name takes a number, where no text stands beside it
   name_taken : (i : ℕ) (y : AnyNumber) (K : List Label) (k : Instructions) (l : Locals) (σ : State) → has_kind kinds i Unboxed ≡ true → length σ.globals ≡ length p.globals → beside (global_value i σ) ≡ empty →
-      Goes (machine p deepest ks F) 1 (at ks (Bits (I64 (number_word y)) ∷ []) K (laid b l) F (does (GlobalSet (number_global p.ranges i)) k) (beside_state p deepest ks F σ)) (at ks [] K (laid b l) F k (beside_state p deepest ks F (with_global i (value.Num y.number) σ)))
+      Goes (machine p deepest ks F) 1 (at ks (Bits (I64 (number_word y)) ∷ []) K (laid b l) F (emit (GlobalSet (number_global p.ranges i)) k) (beside_state p deepest ks F σ)) (at ks [] K (laid b l) F k (beside_state p deepest ks F (with_global i (value.Num y.number) σ)))
   name_taken i y K k l σ hk sz none =
       let nn = length kinds in
       let li = kind_below kinds i Unboxed hk in
@@ -113,7 +113,7 @@ module _ (p : Program) (deepest : Watch) (ks : List Kind) (F : List Frame) (b : 
   -- the same of a holder
   pub record Taken (h : Holder) (y : AnyNumber) (u : ℕ) (K : List Label) (k : Instructions) (l : Locals) (σ : State) : Type 0 where
     pub next : Locals
-    pub goes : Goes (machine p deepest ks F) 1 (at ks (Bits (I64 (number_word y)) ∷ []) K (laid b l) F (does (all_put h) k) (beside_state p deepest ks F σ)) (at ks [] K (laid b next) F k (beside_state p deepest ks F (stored_in (holder_slot h) (value.Num y.number) σ)))
+    pub goes : Goes (machine p deepest ks F) 1 (at ks (Bits (I64 (number_word y)) ∷ []) K (laid b l) F (emit (all_put h) k) (beside_state p deepest ks F σ)) (at ks [] K (laid b next) F k (beside_state p deepest ks F (stored_in (holder_slot h) (value.Num y.number) σ)))
     pub fit : Fit p deepest ks F 0 u 0 next (stored_in (holder_slot h) (value.Num y.number) σ)
     pub iterators : (z : ℕ) → next.iterator z ≡ l.iterator z
 

@@ -18,7 +18,7 @@ use Rattle.sem_primitives.specs.declared.sorts.Sort.TheVariants as sort
 use Rattle.sem_primitives.specs.declared.table.Primitive.TheVariants as row
 use Rattle.wasm_store.specs.Integers.{compare_at, binary_at}
 use Rattle.lower_model.specs.Arithmetic.{relation}
-use Rattle.lower_model.proofs.Watch.{Watch}
+use Rattle.lower_model.proofs.Observer.{Observer}
 use Rattle.lower_model.proofs.Orders.{words_compared}
 use Rattle.sem_primitives.specs.Numbers.{Number as AnyNumber, number_of, number_word, outcome_of}
 use Rattle.sem_primitives.proofs.Words.{small}
@@ -44,7 +44,7 @@ use Rattle.lower_model.specs.Machine.{Conf, Label, Frame, Store, at, br, label, 
 use Rattle.lower_model.specs.Noted.{step_noted, steps_noted}
 use Rattle.lower_model.specs.Places.{Bases, number_global, room, arrays_in, step_room, step_arrays}
 use Rattle.lower_model.specs.Quick.{Within, unsure, name_in, constant_in, first_ones, compared_within, both_within, test_within, Holder, OfName, OfParameter, holder_of, set_after, set_alone, Source, Held as Standing, Constant, source_in, and_source, Sum, sum_names, update_in, is_near, is_sum, sum_op, sum_of, two_sum, set_sum, kept_sum, update_sum, old_source, stored_name, new_sum, let_sum, sum_in, Counted, field_count, counted_of, counted_in, Pair, pair_names, pair_of, pair_in, contrary}
-use Rattle.lower_model.specs.Small.{does, ask_row, text_beside}
+use Rattle.lower_model.specs.Small.{emit, ask_row, text_beside}
 use Rattle.lower_model.specs.Statements.{counted_left, left_unless_counted, summed, summed_anyway, quickly_dropped, pair_left, left_unless_pair, left_unless, step_emitted, steps_emitted}
 use Rattle.lower_model.proofs.Runs.{Goes, goes_from, goes_to, then_goes, by_steps, stays, first, within, there, then_on, then_step, Onward}
 use Rattle.lower_model.proofs.Locals.{Locals, laid}
@@ -70,7 +70,7 @@ use Rattle.lower_model.proofs.Summing.{Summed, summed_in_turn, IsSource, anyway_
 use Rattle.lower_model.proofs.QuickParts.{HolderFits, slot_fits, all_read, all_put, Taken, taken, stored_normal, stored_turns, Two, sum_stored, two_summed, set_code, AllUnboxed, name_got, all_unsure_ok, name_unboxed, summed_means, set_means, Parts, set_sorted}
 use Rattle.lower_model.proofs.Evaluating.{plainly_ok}
 
-module _ (p : Program) (deepest : Watch) (ks : List Kind) (F : List Frame) (b : Bases) (M n : ℕ) where
+module _ (p : Program) (deepest : Observer) (ks : List Kind) (F : List Frame) (b : Bases) (M n : ℕ) where
   abbrev kinds : List Kind
   kinds = kinds_of p.globals
 
@@ -155,17 +155,17 @@ module _ (p : Program) (deepest : Watch) (ks : List Kind) (F : List Frame) (b : 
     pub starts : Starts p deepest ks F b M n u K next σ
     pub iterators : (y : ℕ) → next.iterator y ≡ l.iterator y
 
-  branched : (out u : ℕ) (k : Instructions) (K : List Label) (l : Locals) (t : Bool) (σ : State) (c : Conf) → TestDone p deepest ks F b M n (does (Test I32 Eqz) (does (BrIf out) k)) K u l t σ c → Onward (machine p deepest ks F) M 2 (Left out k K u l t σ) c
+  branched : (out u : ℕ) (k : Instructions) (K : List Label) (l : Locals) (t : Bool) (σ : State) (c : Conf) → TestDone p deepest ks F b M n (emit (Test I32 Eqz) (emit (BrIf out) k)) K u l t σ c → Onward (machine p deepest ks F) M 2 (Left out k K u l t σ) c
   branched out u k K l true σ c h = record { conf = at ks [] K (laid b h.next) F k (beside_state p deepest ks F σ); steps = 2; few = omega arith; goes = goes_from h.comes (by_steps 2 refl); holds = record { next = h.next; comes = refl; starts = h.starts; iterators = h.iterators } }
   branched out u k K l false σ c h = record { conf = br out ks K (laid b h.next) F (beside_state p deepest ks F σ); steps = 2; few = omega arith; goes = goes_from h.comes (by_steps 2 refl); holds = record { next = h.next; comes = refl; starts = h.starts; iterators = h.iterators } }
 
   -- the test as it is
   plain_ok : (e : Code) → ExprOk p deepest ks F b M n e → (u d out : ℕ) (k : Instructions) (K : List Label) (l : Locals) (σ : State) → test_sorted (context p deepest ks F b M n) e ≡ true → room e ≤ b.temporaries → arrays_in e ≤ b.arrays → Starts p deepest ks F b M n u K l σ →
-      Reached p deepest ks F b M (work_of e + 16) σ.turns (at ks [] K (laid b l) F (tested (layout p deepest ks F b M n) [] [] e zero zero d (does (Test I32 Eqz) (does (BrIf out) k))) (beside_state p deepest ks F σ)) (Left out k K u l) (Away p deepest ks F b d K) (test_meant p deepest ks F b M n e σ)
+      Reached p deepest ks F b M (work_of e + 16) σ.turns (at ks [] K (laid b l) F (tested (layout p deepest ks F b M n) [] [] e zero zero d (emit (Test I32 Eqz) (emit (BrIf out) k))) (beside_state p deepest ks F σ)) (Left out k K u l) (Away p deepest ks F b d K) (test_meant p deepest ks F b M n e σ)
   plain_ok e ok u d out k K l σ so rm ar s =
-      then_step (machine p deepest ks F) M 2 (work_of e + 14) (work_of e + 16) σ.turns _ (TestDone p deepest ks F b M n (does (Test I32 Eqz) (does (BrIf out) k)) K u l) (Left out k K u l) (Away p deepest ks F b d K) (test_meant p deepest ks F b M n e σ) (omega arith)
+      then_step (machine p deepest ks F) M 2 (work_of e + 14) (work_of e + 16) σ.turns _ (TestDone p deepest ks F b M n (emit (Test I32 Eqz) (emit (BrIf out) k)) K u l) (Left out k K u l) (Away p deepest ks F b d K) (test_meant p deepest ks F b M n e σ) (omega arith)
       (λ t τ c h. branched out u k K l t τ c h)
-      (test_ok p deepest ks F b M n e ok u d (does (Test I32 Eqz) (does (BrIf out) k)) K l σ so rm ar s)
+      (test_ok p deepest ks F b M n e ok u d (emit (Test I32 Eqz) (emit (BrIf out) k)) K l σ so rm ar s)
 
   left_closes : (out u : ℕ) (k : Instructions) (K : List Label) (l : Locals) (t : Bool) (σ : State) (c : Conf) → Left (suc out) NoMore (label [] None k ∷ K) u l t σ c → Onward (machine p deepest ks F) M 1 (Left out k K u l t σ) c
   left_closes out u k K l true σ c h = record { conf = at ks [] K (laid b h.next) F k (beside_state p deepest ks F σ); steps = 1; few = omega arith; goes = goes_from h.comes closes; holds = record { next = h.next; comes = refl; starts = starts_among p deepest ks F b M n u (label [] None k ∷ K) K h.next σ refl h.starts; iterators = h.iterators } }
@@ -298,7 +298,7 @@ module _ (p : Program) (deepest : Watch) (ks : List Kind) (F : List Frame) (b : 
     PK = label [] None k ∷ K
 
     abbrev pair_slow : Instructions
-    pair_slow = tested (layout p deepest ks F b M n) [] [] e zero zero (suc d) (does (Test I32 Eqz) (does (BrIf (suc out)) NoMore))
+    pair_slow = tested (layout p deepest ks F b M n) [] [] e zero zero (suc d) (emit (Test I32 Eqz) (emit (BrIf (suc out)) NoMore))
 
     slow_way : Reached p deepest ks F b M (work_of e + 17) σ.turns (at ks [] PK (laid b l) F pair_slow PS) (Left out k K u l) (Away p deepest ks F b d K) (test_meant p deepest ks F b M n e σ)
     slow_way =
@@ -307,7 +307,7 @@ module _ (p : Program) (deepest : Watch) (ks : List Kind) (F : List Frame) (b : 
         (plain_ok e ok u (suc d) (suc out) NoMore PK l σ so rm ar (starts_among p deepest ks F b M n u K PK l σ refl s)))
 
     -- the last step of a comparison
-    leaves_if : (z : Bool) → (j : ℕ) × (j ≤ 2) × Goes (machine p deepest ks F) j (at ks (Bits (flag (not z)) ∷ []) PK (laid b l) F (does (BrIf (suc out)) NoMore) PS) (way_of z (at ks [] K (laid b l) F k PS) (br out ks K (laid b l) F PS))
+    leaves_if : (z : Bool) → (j : ℕ) × (j ≤ 2) × Goes (machine p deepest ks F) j (at ks (Bits (flag (not z)) ∷ []) PK (laid b l) F (emit (BrIf (suc out)) NoMore) PS) (way_of z (at ks [] K (laid b l) F k PS) (br out ks K (laid b l) F PS))
     leaves_if true = (2, omega arith, by_steps 2 refl)
     leaves_if false = (1, omega arith, by_steps 1 refl)
 
@@ -327,7 +327,7 @@ module _ (p : Program) (deepest : Watch) (ks : List Kind) (F : List Frame) (b : 
         subst (λ o. Reached p deepest ks F b M (work_of e + 17) σ.turns (at ks [] PK (laid b l) F (pair_left (layout p deepest ks F b M n) q (suc out) NoMore) PS) (Left out k K u l) (Away p deepest ks F b d K) o) (sym (t.means σ z c))
         (there (machine p deepest ks F) M (work_of e + 17) (source_steps q.left + (source_steps q.right + (1 + w.0))) _ _ z σ (Left out k K u l) (Away p deepest ks F b d K)
         (then_goes (source_ok _ _ _ (2 ^ 53) q.left 0 u 0 l σ t.left s.parameters s.fit) (then_goes (source_ok _ _ _ (2 ^ 53) q.right 0 u 0 l σ t.right s.parameters s.fit)
-        (then_goes (goes_to (by_steps 1 refl) (ap (λ x. at ks (Bits (flag x) ∷ []) PK (laid b l) F (does (BrIf (suc out)) NoMore) PS) f)) w.2))) (omega (arith, w1, f1, f2))
+        (then_goes (goes_to (by_steps 1 refl) (ap (λ x. at ks (Bits (flag x) ∷ []) PK (laid b l) F (emit (BrIf (suc out)) NoMore) PS) f)) w.2))) (omega (arith, w1, f1, f2))
         (record { next = l; comes = refl; starts = s; iterators = λ y. refl }))
 
     -- how many fields there are is in range
@@ -348,15 +348,15 @@ module _ (p : Program) (deepest : Watch) (ks : List Kind) (F : List Frame) (b : 
         let x = Bits (I64 (number_word m)) in
         let w = leaves_if z in
         let w1 = w.1 in
-        let k2 = does (Comparing wide.I64 (relation (contrary q.op))) (does (BrIf (suc out)) NoMore) in
+        let k2 = emit (Comparing wide.I64 (relation (contrary q.op))) (emit (BrIf (suc out)) NoMore) in
         let c : compare_at w64 (relation (contrary q.op)) (number_word m) (number_word f) ≡ not z = words_compared m f (contrary q.op) ∙ contrary_holds q.op (int_cmp m.number f.number) in
         subst (λ o. Reached p deepest ks F b M (work_of e + 17) σ.turns (at ks [] PK (laid b l) F (counted_left (layout p deepest ks F b M n) q (suc out) NoMore) PS) (Left out k K u l) (Away p deepest ks F b d K) o) (sym (t.means σ m ev))
         (there mach M (work_of e + 17) (1 + (1 + (1 + (1 + w.0)))) _ _ z σ (Left out k K u l) (Away p deepest ks F b d K)
-        (then_goes (goes_to (name_got p deepest ks F b M n _ _ _ q.name 0 u 0 l σ t.kind s.parameters s.fit) (ap (λ g. at ks (Bits (I64 g) ∷ []) PK (laid b l) F (does (I32Const (special_number Nf)) (ask_row row.GetSpecial (ask_row row.ToNum k2))) PS) (ap bare ev ∙ bare_number m)))
+        (then_goes (goes_to (name_got p deepest ks F b M n _ _ _ q.name 0 u 0 l σ t.kind s.parameters s.fit) (ap (λ g. at ks (Bits (I64 g) ∷ []) PK (laid b l) F (emit (I32Const (special_number Nf)) (ask_row row.GetSpecial (ask_row row.ToNum k2))) PS) (ap bare ev ∙ bare_number m)))
         (then_goes (goes_to (row_called p deepest ks F row.GetSpecial (Nf, tt) (Bits (word.I32 (special_number Nf)) ∷ []) (x ∷ []) σ refl refl refl refl refl)
         (ap (λ τ. at ks (Held v ∷ (x ∷ [])) PK (laid b l) F (ask_row row.ToNum k2) (beside_state p deepest ks F τ)) (same_state σ v)))
         (then_goes (goes_to (ask_to_num p deepest ks F (x ∷ []) σ v) (ap (λ (o : Result AnyNumber Fault). at ks (reply (answer.Of sort.Number) o (x ∷ [])) PK (laid b l) F k2 (after_reply p deepest ks F o σ)) (own_number p deepest ks F b M v f refl)))
-        (then_goes (goes_to (by_steps 1 refl) (ap (λ g. at ks (Bits (flag g) ∷ []) PK (laid b l) F (does (BrIf (suc out)) NoMore) PS) c)) w.2)))) (omega (arith, w1))
+        (then_goes (goes_to (by_steps 1 refl) (ap (λ g. at ks (Bits (flag g) ∷ []) PK (laid b l) F (emit (BrIf (suc out)) NoMore) PS) c)) w.2)))) (omega (arith, w1))
         (record { next = l; comes = refl; starts = s; iterators = λ y. refl }))
 
     count_chosen : (q : Counted) → CountedIs e q → (f : Bool) → compare_at w64 LeS (bare (holder_value q.name σ)) text_beside ≡ f → BareOf (holder_value q.name σ) →
@@ -405,7 +405,7 @@ module _ (p : Program) (deepest : Watch) (ks : List Kind) (F : List Frame) (b : 
       K1 = label [] None k ∷ K
 
       slow : Instructions
-      slow = tested (layout p deepest ks F b M n) [] [] e zero zero (suc d) (does (Test I32 Eqz) (does (BrIf (suc out)) NoMore))
+      slow = tested (layout p deepest ks F b M n) [] [] e zero zero (suc d) (emit (Test I32 Eqz) (emit (BrIf (suc out)) NoMore))
 
       chosen : (q : Within) → TestIs e q → (f : Bool) → shown_by (holder_value q.name σ) q.shift q.width ≡ f →
           Reached p deepest ks F b M (work_of e + 17) σ.turns (at ks [] K1 (laid b l) F (cond (nat_eq (if f then 1 else 0) 0) NoMore slow) S) (Left out k K u l) (Away p deepest ks F b d K) (test_meant p deepest ks F b M n e σ)
@@ -625,7 +625,7 @@ module _ (p : Program) (deepest : Watch) (ks : List Kind) (F : List Frame) (b : 
 
   -- the machine adds
   pub both_added : (K : List Label) (k : Instructions) (o : Arithmetic) (a e : Source) (y : AnyNumber) (t u w : ℕ) (l : Locals) (σ : State) → SourceFits (2 ^ 52) a → SourceFits (2 ^ 52) e → length ks ≡ b.parameters → Fit p deepest ks F t u w l σ → binary_at w64 (sum_op o) (word_of a σ) (word_of e σ) ≡ Ok (number_word y) →
-      Goes (machine p deepest ks F) (source_steps a + (source_steps e + 1)) (at ks [] K (laid b l) F (source_pushed (layout p deepest ks F b M n) a (source_pushed (layout p deepest ks F b M n) e (does (Binary wide.I64 (sum_op o)) k))) (beside_state p deepest ks F σ)) (at ks (Bits (I64 (number_word y)) ∷ []) K (laid b l) F k (beside_state p deepest ks F σ))
+      Goes (machine p deepest ks F) (source_steps a + (source_steps e + 1)) (at ks [] K (laid b l) F (source_pushed (layout p deepest ks F b M n) a (source_pushed (layout p deepest ks F b M n) e (emit (Binary wide.I64 (sum_op o)) k))) (beside_state p deepest ks F σ)) (at ks (Bits (I64 (number_word y)) ∷ []) K (laid b l) F k (beside_state p deepest ks F σ))
   both_added K k o a e y t u w l σ f1 f2 pk ft q =
       then_goes (source_ok _ _ _ (2 ^ 52) a t u w l σ f1 pk ft) (then_goes (source_ok _ _ _ (2 ^ 52) e t u w l σ f2 pk ft)
       (by_steps 1 (ap (λ r. with_operands (push_result [] (Some (given_by I64 r))) ks K (laid b l) F k (beside_state p deepest ks F σ)) q)))
@@ -634,7 +634,7 @@ module _ (p : Program) (deepest : Watch) (ks : List Kind) (F : List Frame) (b : 
       binary_at w64 (sum_op s.op) (word_of s.left σ) (word_of s.right σ) ≡ Ok (number_word y) →
       Goes (machine p deepest ks F) ((source_steps s.left + (source_steps s.right + 1)) + 1) (at ks [] K (laid b l) F (summed (layout p deepest ks F b M n) s k) (beside_state p deepest ks F σ)) (at ks [] K (laid b t.next) F k (beside_state p deepest ks F (stored_in (holder_slot s.target) (value.Num y.number) σ)))
   summed_ok s y K k u l σ f1 f2 pk ft t e =
-      then_goes (both_added K (does (all_put p deepest ks F b M n s.target) k) s.op s.left s.right y 0 u 0 l σ f1 f2 pk ft e) t.goes
+      then_goes (both_added K (emit (all_put p deepest ks F b M n s.target) k) s.op s.left s.right y 0 u 0 l σ f1 f2 pk ft e) t.goes
 
   pub sum_unboxed : (e : Code) (s : Sum) → SumIs e s → AllUnboxed p deepest ks F b M n (sum_names s)
   sum_unboxed e s t = name_unboxed p deepest ks F b M n s.target (and_source s.left (and_source s.right [])) t.kind (source_unboxed (2 ^ 52) s.left (and_source s.right []) t.left (source_unboxed (2 ^ 52) s.right [] t.right tt))

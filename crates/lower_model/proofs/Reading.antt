@@ -7,7 +7,7 @@ use Rattle.sem_primitives.specs.declared.sorts.Answer.TheVariants as answer
 use Rattle.sem_primitives.specs.declared.sorts.Sort.TheVariants as sort
 use Rattle.wasm_types.specs.Syntax.{Instructions}
 use Rattle.wasm_store.specs.declared.word.Word.TheVariants.{I64}
-use Rattle.mid_program.specs.Mid.{Kind, Boxed, Unboxed, Many, Program, Global, Parameter, Form, Answered, Bare, Get, Bound, form_at}
+use Rattle.mid_program.specs.Mid.{Kind, Boxed, Unboxed, ArrayKind, Program, Global, Parameter, Form, PrimitiveAnswer, NumberOrText, Get, Bound, form_at}
 use Rattle.mid_program.specs.MidMeaning.{Holds, Env, evaluated, all_evaluated, held}
 use Rattle.sem_scripts.specs.Names.{Numbered}
 use Rattle.sem_scripts.specs.ScriptState.{State, global_value, local_value}
@@ -17,7 +17,7 @@ use Rattle.lower_model.specs.Emission.{emitted, all_emitted}
 use Rattle.lower_model.specs.Machine.{Conf, Label, Frame, at, loops_walked}
 use Rattle.lower_model.specs.Places.{Bases}
 use Rattle.lower_model.specs.Small.{copied_from}
-use Rattle.lower_model.proofs.Watch.{Watch}
+use Rattle.lower_model.proofs.Observer.{Observer}
 use Rattle.lower_model.proofs.Runs.{Goes, then_goes, stays, there}
 use Rattle.lower_model.proofs.Regions.{upd_same, upd_other}
 use Rattle.lower_model.proofs.Locals.{Locals, Param, Hand, Number as NumberAt, local_of, with_at, laid}
@@ -39,7 +39,7 @@ kind_below (j ∷ kinds) (suc i) k e = let r = kind_below kinds i k e in omega (
 kinds_same : (j k : Kind) → same_kind j k ≡ true → j ≡ k
 kinds_same Boxed Boxed e = refl
 kinds_same Unboxed Unboxed e = refl
-kinds_same Many Many e = refl
+kinds_same ArrayKind ArrayKind e = refl
 kinds_same j k e = cc
 
 pub kind_found : (kinds : List Kind) (i : ℕ) (k : Kind) → has_kind kinds i k ≡ true → kind_here kinds i ≡ k
@@ -108,7 +108,7 @@ same_true (suc i) = same_true i
 pub bound_there : (m : Bool) (i : ℕ) (h : Standing) → is_well_used (held_after i (Bound m i) h) ≡ true → h ≡ There
 bound_there m i h e = used_there m h (sym (ap (λ t. is_well_used (if t then used m h else h)) (same_true i)) ∙ e)
 
-module _ (p : Program) (deepest : Watch) (ks : List Kind) (F : List Frame) (b : Bases) (M n : ℕ) where
+module _ (p : Program) (deepest : Observer) (ks : List Kind) (F : List Frame) (b : Bases) (M n : ℕ) where
   outside_one : (ts : List ℕ) (i x : ℕ) → Outside x ts → i < length ts → x ≢ get_or ts i zero
   outside_one [] i x o lt = absurd (omega (arith, lt))
   outside_one (s ∷ ts) zero x o lt = o.0
@@ -121,8 +121,8 @@ module _ (p : Program) (deepest : Watch) (ks : List Kind) (F : List Frame) (b : 
   kept_lengths (f ∷ fs) (s ∷ ts) st l env k = ap suc (kept_lengths fs ts (λ j. st (suc j)) l env.1 k.1)
 
   moved_left : (f : Form) (c d : Cell) → LeftBy f c → d ≡ LeftHand f c → LeftBy f d
-  moved_left (Answered (answer.Of sort.Value)) c d e q = tt
-  moved_left Bare c d e q = tt
+  moved_left (PrimitiveAnswer (answer.Of sort.Value)) c d e q = tt
+  moved_left NumberOrText c d e q = tt
   moved_left f c d e q = q ∙ e
 
   -- where nobody asks for the answer nothing is done
@@ -195,8 +195,8 @@ module _ (p : Program) (deepest : Watch) (ks : List Kind) (F : List Frame) (b : 
   hands_apart : (s t : ℕ) → t ≢ s → local_of b (Hand s) ≢ local_of b (Hand t)
   hands_apart s t ne e = ne (omega (arith, e))
 
-  none_copied : (x : Value) (s t u w q0 : ℕ) (k : Instructions) (K : List Label) (l : Locals) (σ : State) → s < b.temporaries → t < b.temporaries → Fit p deepest ks F q0 u w l σ → (hd : HoldsAt Bare s l x) → l.hand t ≡ empty → l.hand s ≡ empty →
-      CopiedTo s t Bare k K l x σ (at ks [] K (laid b l) F (copied_from b Bare s t k) (beside_state p deepest ks F σ))
+  none_copied : (x : Value) (s t u w q0 : ℕ) (k : Instructions) (K : List Label) (l : Locals) (σ : State) → s < b.temporaries → t < b.temporaries → Fit p deepest ks F q0 u w l σ → (hd : HoldsAt NumberOrText s l x) → l.hand t ≡ empty → l.hand s ≡ empty →
+      CopiedTo s t NumberOrText k K l x σ (at ks [] K (laid b l) F (copied_from b NumberOrText s t k) (beside_state p deepest ks F σ))
   none_copied x s t u w q0 k K l σ ls lt ft hd e eh =
       let l0 = with_at l (NumberAt t) (l.number s) in
       record {
@@ -213,7 +213,7 @@ module _ (p : Program) (deepest : Watch) (ks : List Kind) (F : List Frame) (b : 
       }
 
   bare_copied : (x : Value) (s t u w q0 : ℕ) (k : Instructions) (K : List Label) (l : Locals) (σ : State) → s < b.temporaries → t < b.temporaries → t ≢ s → Fit p deepest ks F q0 u w l σ → (m : ℕ) → l.number s ≡ Bits (I64 m) → l.hand t ≡ empty → BareIs x m (l.hand s) →
-      CopiedTo s t Bare k K l x σ (at ks [] K (laid b l) F (copied_from b Bare s t k) (beside_state p deepest ks F σ))
+      CopiedTo s t NumberOrText k K l x σ (at ks [] K (laid b l) F (copied_from b NumberOrText s t k) (beside_state p deepest ks F σ))
   bare_copied x s t u w q0 k K l σ ls lt ne ft m en e (IsBeside eb eh) =
       let l0 = with_at l (NumberAt t) (l.number s) in
       record {
@@ -233,7 +233,7 @@ module _ (p : Program) (deepest : Watch) (ks : List Kind) (F : List Frame) (b : 
 
   copied_from_ok : (f : Form) (x : Holds f) (s t u w q0 : ℕ) (k : Instructions) (K : List Label) (l : Locals) (σ : State) → s < b.temporaries → t < b.temporaries → t ≢ s → Fit p deepest ks F q0 u w l σ → HoldsAt f s l x → l.hand t ≡ empty →
       CopiedTo s t f k K l x σ (at ks [] K (laid b l) F (copied_from b f s t k) (beside_state p deepest ks F σ))
-  copied_from_ok (Answered (answer.Of sort.Value)) x s t u w q0 k K l σ ls lt ne ft hd e = record {
+  copied_from_ok (PrimitiveAnswer (answer.Of sort.Value)) x s t u w q0 k K l σ ls lt ne ft hd e = record {
     next = with_at l (Hand t) (Held x);
     steps = 4;
     few = omega arith;
@@ -245,7 +245,7 @@ module _ (p : Program) (deepest : Watch) (ks : List Kind) (F : List Frame) (b : 
     arrays = λ y. refl;
     fit = λ q u1 w1 lq g. fit_hand p deepest ks F t q u1 w1 l σ (Held x) (inr (x, refl)) lq g;
   }
-  copied_from_ok Bare x s t u w q0 k K l σ ls lt ne ft hd e = bare_copied x s t u w q0 k K l σ ls lt ne ft hd.0 hd.1 e hd.2
+  copied_from_ok NumberOrText x s t u w q0 k K l σ ls lt ne ft hd e = bare_copied x s t u w q0 k K l σ ls lt ne ft hd.0 hd.1 e hd.2
   copied_from_ok g x s t u w q0 k K l σ ls lt ne ft hd e = record {
     next = with_at l (NumberAt t) (l.number s);
     steps = 2;

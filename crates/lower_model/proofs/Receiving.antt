@@ -17,9 +17,9 @@ use Rattle.wasm_types.specs.declared.instr.ITestOp.TheVariants.{Eqz}
 use Rattle.wasm_types.specs.declared.instr.Simple.TheVariants.{LocalGet, Test}
 use Rattle.wasm_store.specs.Words.{flag}
 use Rattle.wasm_store.specs.declared.word.Word.TheVariants.{I64}
-use Rattle.mid_program.specs.Mid.{Kind, Program, Form, Answered, a_value, a_number, Code, form_of, form_at}
+use Rattle.mid_program.specs.Mid.{Kind, Program, Form, PrimitiveAnswer, a_value, a_number, Code, form_of, form_at}
 use Rattle.mid_program.specs.MidMeaning.{Env, when_read, when_replaced}
-use Rattle.sem_scripts.specs.ScriptState.{State, Stop, Doing, go_on, nothing, give, does as does_row}
+use Rattle.sem_scripts.specs.ScriptState.{State, Stop, Execution, go_on, nothing, give, call as does_row}
 use Rattle.mid_program.specs.Sorted.{Held as Standing, There, either_way, sorted, held_after, is_well_used, keeps_well}
 use Rattle.sem_scripts.specs.Steps.{input_number}
 use Rattle.lower_model.specs.Cells.{Bits, Held, is_owned}
@@ -28,9 +28,9 @@ use Rattle.host_imports.specs.Codes.{input_code}
 use Rattle.lower_model.specs.Machine
 use Rattle.lower_model.specs.Machine.{Conf, Label, Frame, at, label, loops_walked}
 use Rattle.lower_model.specs.Places.{Bases, room, arrays_in, handle_local, number_local}
-use Rattle.lower_model.specs.Small.{does, number_is, when, either, code_number, let_go}
+use Rattle.lower_model.specs.Small.{emit, number_is, when, emit_if, code_number, let_go}
 use Rattle.host_imports.specs.declared.import.Import.TheVariants.{Drop}
-use Rattle.lower_model.proofs.Watch.{Watch}
+use Rattle.lower_model.proofs.Observer.{Observer}
 use Rattle.lower_model.proofs.Runs.{Goes, then_goes, goes_to, goes_from, by_steps, stays, there, first, then_on, weaker_settled, within, Onward}
 use Rattle.lower_model.proofs.Regions.{upd_same, upd_other}
 use Rattle.lower_model.proofs.Locals.{Locals, Hand, Number as NumberAt, with_at, laid}
@@ -54,7 +54,7 @@ plain_more f fs e q (suc i) = q i
 pub same_any : (ts : List ℕ) (t w : ℕ) (l l1 : Locals) → Same [] t w l l1 → Same ts t w l l1
 same_any ts t w l l1 a = record { hands = λ x h o. a.hands x h tt; numbers = a.numbers; iterators = a.iterators; arrays = a.arrays }
 
-module _ (p : Program) (deepest : Watch) (ks : List Kind) (F : List Frame) (b : Bases) (M n : ℕ) where
+module _ (p : Program) (deepest : Observer) (ks : List Kind) (F : List Frame) (b : Bases) (M n : ℕ) where
   -- what a text is kept for: what is kept beside it, and the code that stores it
   pub record Stores (s : Code) (fs : List Form) (env : Env fs) (ts : List ℕ) (st : ℕ → Standing) (t u w m : ℕ) (l : Locals) (σ : State) : Type 0 where
     pub ok : ExprOk p deepest ks F b M n s
@@ -82,7 +82,7 @@ module _ (p : Program) (deepest : Watch) (ks : List Kind) (F : List Frame) (b : 
     pub kept : Kept fs ts (λ i. held_after (suc i) s (st i)) next env
 
   -- what storing means
-  abbrev pub storing_meant : (s : Code) (fs : List Form) → Env fs → Value → Doing (Unit {0})
+  abbrev pub storing_meant : (s : Code) (fs : List Form) → Env fs → Value → Execution (Unit {0})
   storing_meant s fs env text = λ σ. go_on (meant p deepest ks F b M n (a_value ∷ fs) (text, env) s σ) (λ v. nothing)
 
   stored_text : (s : Code) (fs : List Form) (env : Env fs) (ts : List ℕ) (st : ℕ → Standing) (t u w d : ℕ) (k : Instructions) (K : List Label) (l : Locals) (σ : State) (text : Value) → Stores s fs env ts st t u w (loops_walked K) l σ →
@@ -173,7 +173,7 @@ module _ (p : Program) (deepest : Watch) (ks : List Kind) (F : List Frame) (b : 
   hand_free q t u w l σ le f = ap is_owned (f.free t le)
 
   -- an answer of the input as a number
-  numbered_in : (s : Code) (fs : List Form) (env : Env fs) (ts : List ℕ) (st : ℕ → Standing) (t u w d : ℕ) (k : Instructions) (K : List Label) (l l1 : Locals) (σ τ : State) (x : InputAnswer) → t < b.temporaries → Below t ts → Same ts t w l l1 → SameOwn p deepest ks F σ τ → Kept fs ts (λ i. either_way (st i) (held_after (suc i) s (st i))) l1 env → Fit p deepest ks F (suc t) u w l1 τ → HoldsAt (Answered answer.Input) t l1 x →
+  numbered_in : (s : Code) (fs : List Form) (env : Env fs) (ts : List ℕ) (st : ℕ → Standing) (t u w d : ℕ) (k : Instructions) (K : List Label) (l l1 : Locals) (σ τ : State) (x : InputAnswer) → t < b.temporaries → Below t ts → Same ts t w l l1 → SameOwn p deepest ks F σ τ → Kept fs ts (λ i. either_way (st i) (held_after (suc i) s (st i))) l1 env → Fit p deepest ks F (suc t) u w l1 τ → HoldsAt (PrimitiveAnswer answer.Input) t l1 x →
       Reached p deepest ks F b M 16 τ.turns (at ks [] K (laid b l1) F (code_number b t k) (beside_state p deepest ks F τ)) (Received s fs env ts st t u w k K l σ) (Away p deepest ks F b d K) (give (input_number x) τ)
   numbered_in s fs env ts st t u w d k K l l1 σ τ x lt bl sm own kp ft hd =
       weaker_settled (machine p deepest ks F) M 16 _ τ (Converted p deepest ks F b M (suc t) u w t a_number k K l1) (Received s fs env ts st t u w k K l σ) (Away p deepest ks F b d K) (Ok (input_number x))
@@ -186,7 +186,7 @@ module _ (p : Program) (deepest : Watch) (ks : List Kind) (F : List Frame) (b : 
         kept = kept_same fs ts (λ i. either_way (st i) (held_after (suc i) s (st i))) l1 a.next env t bl (λ y h. a.keeps.hands y (λ e. omega (arith, e, h))) (λ y h. a.keeps.numbers y (λ e. omega (arith, e, h))) kp;
         holds = a.holds;
       })
-      (converted_ok p deepest ks F b M (Answered answer.Input) sort.Number x (suc t) u w t d k K l1 τ refl (omega arith) lt ft hd)
+      (converted_ok p deepest ks F b M (PrimitiveAnswer answer.Input) sort.Number x (suc t) u w t d k K l1 τ refl (omega arith) lt ft hd)
 
   line_fetched : {K : List Label} {store : Instructions} → (t : ℕ) (l : Locals) (σ : State) → suc t < b.temporaries → is_owned (l.hand (suc t)) ≡ false → is_some σ.shared.inner.line ≡ true →
       Goes (machine p deepest ks F) 2 (at ks [] K (laid b l) F (text_kept (layout p deepest ks F b M n) row.Line t store) (beside_state p deepest ks F σ)) (at ks [] K (laid b (with_at l (Hand (suc t)) (Held (given σ.shared.inner.line)))) F store (beside_state p deepest ks F (done_by p deepest ks F row.Line tt σ)))
@@ -216,7 +216,7 @@ module _ (p : Program) (deepest : Watch) (ks : List Kind) (F : List Frame) (b : 
   }
 
   -- nothing was read
-  passed : (s : Code) (fs : List Form) (env : Env fs) (ts : List ℕ) (st : ℕ → Standing) (t u w d : ℕ) (k : Instructions) (K : List Label) (l : Locals) (σ : State) (x : InputAnswer) → Stores s fs env ts st t u w (loops_walked K) l σ → HoldsAt (Answered answer.Input) t l x → nat_eq (input_code x) 1 ≡ false → (block : Instructions) →
+  passed : (s : Code) (fs : List Form) (env : Env fs) (ts : List ℕ) (st : ℕ → Standing) (t u w d : ℕ) (k : Instructions) (K : List Label) (l : Locals) (σ : State) (x : InputAnswer) → Stores s fs env ts st t u w (loops_walked K) l σ → HoldsAt (PrimitiveAnswer answer.Input) t l x → nat_eq (input_code x) 1 ≡ false → (block : Instructions) →
       Reached p deepest ks F b M (work_of s + 40) σ.turns (at ks [] K (laid b l) F (number_is (number_local b t) 1 (when block (code_number b t k))) (beside_state p deepest ks F σ)) (Received s fs env ts st t u w k K l σ) (Away p deepest ks F b d K) (give (input_number x) σ)
   passed s fs env ts st t u w d k K l σ x g hd e block =
       let q = g.room_enough in
@@ -225,7 +225,7 @@ module _ (p : Program) (deepest : Watch) (ks : List Kind) (F : List Frame) (b : 
       (then_goes (chooses block NoMore 0) closes)) (omega arith)
       (numbered_in s fs env ts st t u w d k K l l σ σ x (omega (arith, q)) g.below (same_self ts t w l) (λ j h. refl) (kept_left_way fs ts st (λ i. held_after (suc i) s (st i)) l env g.kept) g.fit hd)
 
-  pub received_ok : (s : Code) (fs : List Form) (env : Env fs) (ts : List ℕ) (st : ℕ → Standing) (t u w d : ℕ) (k : Instructions) (K : List Label) (l : Locals) (σ : State) (x : InputAnswer) → Stores s fs env ts st t u w (loops_walked K) l σ → HoldsAt (Answered answer.Input) t l x → LineAt σ.shared.inner x →
+  pub received_ok : (s : Code) (fs : List Form) (env : Env fs) (ts : List ℕ) (st : ℕ → Standing) (t u w d : ℕ) (k : Instructions) (K : List Label) (l : Locals) (σ : State) (x : InputAnswer) → Stores s fs env ts st t u w (loops_walked K) l σ → HoldsAt (PrimitiveAnswer answer.Input) t l x → LineAt σ.shared.inner x →
       Reached p deepest ks F b M (work_of s + 40) σ.turns
       (at ks [] K (laid b l) F (number_is (number_local b t) 1 (when (text_kept (layout p deepest ks F b M n) row.Line t (emitted (layout p deepest ks F b M n) true (a_value ∷ fs) (suc t ∷ ts) s (suc (suc t)) w (suc d) (text_let_go (layout p deepest ks F b M n) fs s t NoMore))) (code_number b t k))) (beside_state p deepest ks F σ))
       (Received s fs env ts st t u w k K l σ) (Away p deepest ks F b d K) (when_read (storing_meant s fs env) x σ)
@@ -248,7 +248,7 @@ module _ (p : Program) (deepest : Watch) (ks : List Kind) (F : List Frame) (b : 
       first mach M 0 16 16 τ1.turns c1 _ P Q (give (input_number input.Read) τ1) (record { it = a.comes }) (omega arith)
       (numbered_in s fs env ts st t u w d k K l a.next σ τ1 input.Read (omega (arith, q)) g.below (same_less ts t w l a.next a.same) a.own
       (kept_right_way fs ts st (λ i. held_after (suc i) s (st i)) a.next env a.kept) a.fit
-      (holds_same (Answered answer.Input) t l a.next input.Read (a.same.hands t (omega arith) (outside_below t t ts g.below (omega arith))) (a.same.numbers t (omega arith)) hd))))
+      (holds_same (PrimitiveAnswer answer.Input) t l a.next input.Read (a.same.hands t (omega arith) (outside_below t t ts g.below (omega arith))) (a.same.numbers t (omega arith)) hd))))
   received_ok s fs env ts st t u w d k K l σ input.End g hd la = passed s fs env ts st t u w d k K l σ input.End g hd refl _
   received_ok s fs env ts st t u w d k K l σ input.Pending g hd la = passed s fs env ts st t u w d k K l σ input.Pending g hd refl _
   received_ok s fs env ts st t u w d k K l σ input.Failed g hd la = passed s fs env ts st t u w d k K l σ input.Failed g hd refl _
@@ -257,11 +257,11 @@ module _ (p : Program) (deepest : Watch) (ks : List Kind) (F : List Frame) (b : 
 
   pub replaced_ok : (s : Code) (fs : List Form) (env : Env fs) (ts : List ℕ) (st : ℕ → Standing) (t u w d : ℕ) (k : Instructions) (K : List Label) (l : Locals) (σ : State) (x : Number) → Stores s fs env ts st t u w (loops_walked K) l σ → HoldsAt a_number t l x → is_some σ.shared.inner.substituted ≡ true →
       Reached p deepest ks F b M (work_of s + 30) σ.turns
-      (at ks [] K (laid b l) F (does (LocalGet (number_local b t)) (does (Test ty.I64 Eqz) (either NoMore (text_kept (layout p deepest ks F b M n) row.SubResult t (emitted (layout p deepest ks F b M n) true (a_value ∷ fs) (suc t ∷ ts) s (suc (suc t)) w (suc d) (text_let_go (layout p deepest ks F b M n) fs s t NoMore))) k))) (beside_state p deepest ks F σ))
+      (at ks [] K (laid b l) F (emit (LocalGet (number_local b t)) (emit (Test ty.I64 Eqz) (emit_if NoMore (text_kept (layout p deepest ks F b M n) row.SubResult t (emitted (layout p deepest ks F b M n) true (a_value ∷ fs) (suc t ∷ ts) s (suc (suc t)) w (suc d) (text_let_go (layout p deepest ks F b M n) fs s t NoMore))) k))) (beside_state p deepest ks F σ))
       (Received s fs env ts st t u w k K l σ) (Away p deepest ks F b d K) (when_replaced (storing_meant s fs env) x σ)
   replaced_ok s fs env ts st t u w d k K l σ x g hd la =
       first mach M 2 (work_of s + 28) (work_of s + 30) σ.turns _ _ P Q _
-      (then_goes (get_copied b l (NumberAt t) (Bits (I64 (number_word x))) lt hd.1 refl) (goes_to (by_steps 1 refl) (ap (λ f. at ks (Bits (flag f) ∷ []) K (laid b l) F (either NoMore block k) (beside_state p deepest ks F σ)) (zero_word x)))) (omega arith)
+      (then_goes (get_copied b l (NumberAt t) (Bits (I64 (number_word x))) lt hd.1 refl) (goes_to (by_steps 1 refl) (ap (λ f. at ks (Bits (flag f) ∷ []) K (laid b l) F (emit_if NoMore block k) (beside_state p deepest ks F σ)) (zero_word x)))) (omega arith)
       (by (is_zero x.number))
     where
       mach : Machine.Code
@@ -288,7 +288,7 @@ module _ (p : Program) (deepest : Watch) (ks : List Kind) (F : List Frame) (b : 
       text : Value
       text = given σ.shared.inner.substituted
 
-      by : (z : Bool) → Reached p deepest ks F b M (work_of s + 28) σ.turns (at ks (Bits (flag z) ∷ []) K (laid b l) F (either NoMore block k) (beside_state p deepest ks F σ)) P Q (go_on ((if z then nothing else (λ σ1. go_on (does_row row.SubResult tt σ1) (storing_meant s fs env))) σ) (λ y. give x))
+      by : (z : Bool) → Reached p deepest ks F b M (work_of s + 28) σ.turns (at ks (Bits (flag z) ∷ []) K (laid b l) F (emit_if NoMore block k) (beside_state p deepest ks F σ)) P Q (go_on ((if z then nothing else (λ σ1. go_on (does_row row.SubResult tt σ1) (storing_meant s fs env))) σ) (λ y. give x))
       by true = there mach M (work_of s + 28) 2 _ _ x σ P Q (then_goes (chooses NoMore block 1) closes) (omega arith)
           (record { next = l; comes = refl; fit = g.fit; same = same_self ts t w l; own = λ j h. refl; kept = kept_left_way fs ts st (λ i. held_after (suc i) s (st i)) l env g.kept; holds = hd })
       by false =

@@ -11,7 +11,7 @@ use Rattle.wasm_store.specs.declared.word.Word.TheVariants.{I64}
 use Rattle.mid_program.specs.Mid.{Program, Steps}
 use Rattle.sem_scripts.specs.Meaning.{assign_pending}
 use Rattle.sem_scripts.specs.ScriptRun.{for_record, on_input, records_done}
-use Rattle.sem_scripts.specs.ScriptState.{State, OutOfTurns, Outcome, Doing, ◌>>◌, asks, nothing, stop}
+use Rattle.sem_scripts.specs.ScriptState.{State, OutOfTurns, Outcome, Execution, ◌>>◌, asks, nothing, stop}
 use Rattle.mid_program.specs.Sorted.{context_of, steps_sorted}
 use Rattle.lower_model.specs.Cells.{Bits}
 use Rattle.lower_model.specs.Emission.{pending_assigned}
@@ -20,9 +20,9 @@ use Rattle.host_imports.specs.Codes.{input_code}
 use Rattle.lower_model.specs.Machine.{Conf, Label, at, label, ending_at, loops_walked}
 use Rattle.lower_model.specs.Noted.{noted_done, out_of_part}
 use Rattle.lower_model.specs.Places.{Bases, steps_room, steps_iterators, steps_arrays, number_local}
-use Rattle.lower_model.specs.Small.{does, ask_row, when, number_is, kept_code}
+use Rattle.lower_model.specs.Small.{emit, ask_row, when, number_is, kept_code}
 use Rattle.lower_model.specs.Statements.{record_done, records_read}
-use Rattle.lower_model.proofs.Watch.{Watch}
+use Rattle.lower_model.proofs.Observer.{Observer}
 use Rattle.lower_model.proofs.Runs.{Goes, goes_from, goes_to, then_goes, by_steps, first, then_on, then_step, there, turned, weaker, Arrives}
 use Rattle.lower_model.proofs.Locals.{Locals, laid}
 use Rattle.lower_model.proofs.Relation.{Away, away_out, fit_turns}
@@ -32,7 +32,7 @@ use Rattle.lower_model.proofs.StatementForms.{steps_work, Starts, StepsOk}
 use Rattle.lower_model.proofs.Returning.{Plainly}
 use Rattle.lower_model.proofs.Parts.{On, record_work, record_ok}
 
-module _ (p : Program) (deepest : Watch) (b : Bases) (M n : ℕ) where
+module _ (p : Program) (deepest : Observer) (b : Bases) (M n : ℕ) where
   -- what is there after the main input was asked: where an assignment is pending, as `Pends` says
   abbrev pub After : (Locals → State → Type 0) → InputAnswer → List Label → Locals → State → Type 0
   After Pends input.Pending K l σ = Pends l σ
@@ -59,13 +59,13 @@ module _ (p : Program) (deepest : Watch) (b : Bases) (M n : ℕ) where
   module _ (work : ℕ) (r : Reading work) (items : Steps) (ok : StepsOk p deepest [] [] b M n items) (plain : Plainly (noted_done deepest.notes p b n items out_of_part)) (so : steps_sorted (context_of p []) false false items ≡ true) (room : steps_room items ≤ b.temporaries) (iterators : steps_iterators items ≤ b.iterators)
       (arrays : steps_arrays items ≤ b.arrays) (one : suc zero ≤ b.temporaries) (few : (steps_work items + (record_work p deepest b M n + 3)) + (work + 30) ≤ M) (d : ℕ) (k : Instructions) (K : List Label) where
     abbrev pending_code : Instructions
-    pending_code = pending_assigned (layout_of p b) zero (does (Br 1) Done)
+    pending_code = pending_assigned (layout_of p b) zero (emit (Br 1) Done)
 
     abbrev else_code : Instructions
     else_code = number_is (number_local b zero) 2 (when pending_code Done)
 
     abbrev record_code : Instructions
-    record_code = record_done (layout_of p b) items (suc (suc d)) (does (Br 1) Done)
+    record_code = record_done (layout_of p b) items (suc (suc d)) (emit (Br 1) Done)
 
     abbrev answer_code : Instructions
     answer_code = number_is (number_local b zero) 1 (when record_code else_code)
@@ -76,17 +76,17 @@ module _ (p : Program) (deepest : Watch) (b : Bases) (M n : ℕ) where
     abbrev inside : List Label
     inside = label [] (Some read_code) k ∷ K
 
-    abbrev rounds : ℕ → Doing (Unit {0})
+    abbrev rounds : ℕ → Execution (Unit {0})
     rounds m = records_done m (noted_done deepest.notes p b n items out_of_part)
 
     -- a round begins
     abbrev Round : State → Conf → Type 0
     Round = On p deepest b M n read_code inside
 
-    again_from : (x : Label) (m w : ℕ) (σ : State) (c : Conf) (l0 : ℕ) (rr : Outcome (Unit {0})) → Arrives (machine p deepest [] []) M w l0 c (λ u. On p deepest b M n (does (Br 1) Done) (x ∷ inside)) (Away p deepest [] [] b (suc (suc d)) (x ∷ inside)) rr → loops_walked inside ≡ 0 →
+    again_from : (x : Label) (m w : ℕ) (σ : State) (c : Conf) (l0 : ℕ) (rr : Outcome (Unit {0})) → Arrives (machine p deepest [] []) M w l0 c (λ u. On p deepest b M n (emit (Br 1) Done) (x ∷ inside)) (Away p deepest [] [] b (suc (suc d)) (x ∷ inside)) rr → loops_walked inside ≡ 0 →
         Arrives (machine p deepest [] []) M (w + 1) l0 c (λ u. Round) (Away p deepest [] [] b d K) rr
     again_from x m w σ c l0 rr a e =
-        then_step (machine p deepest [] []) M 1 w (w + 1) l0 c (λ u. On p deepest b M n (does (Br 1) Done) (x ∷ inside)) (λ u. Round) (Away p deepest [] [] b d K) rr (omega arith)
+        then_step (machine p deepest [] []) M 1 w (w + 1) l0 c (λ u. On p deepest b M n (emit (Br 1) Done) (x ∷ inside)) (λ u. Round) (Away p deepest [] [] b d K) rr (omega arith)
         (λ u τ c1 h. record {
           conf = at [] [] inside (laid b h.next) [] read_code (beside_state p deepest [] [] τ);
           steps = 1;
@@ -94,7 +94,7 @@ module _ (p : Program) (deepest : Watch) (b : Bases) (M n : ℕ) where
           goes = goes_from h.comes (by_steps 1 refl);
           holds = record { next = h.next; comes = refl; starts = record { fit = h.starts.fit; walked = h.starts.walked; walks = h.starts.walks; loops = e; turns = h.starts.turns; parameters = h.starts.parameters } };
         })
-        (weaker (machine p deepest [] []) M w l0 c (λ u. On p deepest b M n (does (Br 1) Done) (x ∷ inside)) (λ u. On p deepest b M n (does (Br 1) Done) (x ∷ inside)) (Away p deepest [] [] b (suc (suc d)) (x ∷ inside)) (Away p deepest [] [] b d K) rr (λ u τ c1 q. q)
+        (weaker (machine p deepest [] []) M w l0 c (λ u. On p deepest b M n (emit (Br 1) Done) (x ∷ inside)) (λ u. On p deepest b M n (emit (Br 1) Done) (x ∷ inside)) (Away p deepest [] [] b (suc (suc d)) (x ∷ inside)) (Away p deepest [] [] b d K) rr (λ u τ c1 q. q)
         (λ why τ c1 q. away_out p deepest [] [] b d (label [] (Some read_code) k) K why τ c1 (away_out p deepest [] [] b (suc d) x inside why τ c1 q)) a)
 
     -- out of the loop
@@ -117,7 +117,7 @@ module _ (p : Program) (deepest : Watch) (b : Bases) (M n : ℕ) where
         (then_goes (goes_to (number_is_ok b l zero x 2 one e) (ap (λ t. at [] (Bits (flag t) ∷ []) inside (laid b l) [] (when pending_code Done) (beside_state p deepest [] [] σ)) n2)) (by_steps 3 refl))
 
     -- what is done by the answer, where a turn more is spent on all that goes on
-    answered : (a : InputAnswer) (w : ℕ) (read pending : Doing (Unit {0})) (σ : State) (c : Conf) → 7 + w ≤ M → loops_walked K ≡ 0 → Answered r.Pends answer_code inside a σ c → σ.turns ≤ n →
+    answered : (a : InputAnswer) (w : ℕ) (read pending : Execution (Unit {0})) (σ : State) (c : Conf) → 7 + w ≤ M → loops_walked K ≡ 0 → Answered r.Pends answer_code inside a σ c → σ.turns ≤ n →
         ((l : Locals) (m : ℕ) → σ.turns ≡ suc m → Starts p deepest [] [] b M n 0 inside l (record σ { turns = m }) → Arrives (machine p deepest [] []) M w m (at [] [] (label [] None else_code ∷ inside) (laid b l) [] record_code (beside_state p deepest [] [] σ)) (λ u. On p deepest b M n k K) (Away p deepest [] [] b d K) (read (record σ { turns = m }))) →
         ((l : Locals) (m : ℕ) → σ.turns ≡ suc m → r.Pends l (record σ { turns = m }) → Arrives (machine p deepest [] []) M w m (at [] [] (label [] None Done ∷ inside) (laid b l) [] pending_code (beside_state p deepest [] [] σ)) (λ u. On p deepest b M n k K) (Away p deepest [] [] b d K) (pending (record σ { turns = m }))) →
         Arrives (machine p deepest [] []) M 10 σ.turns c (λ u. On p deepest b M n k K) (Away p deepest [] [] b d K) (on_input read pending a σ)
@@ -154,11 +154,11 @@ module _ (p : Program) (deepest : Watch) (b : Bases) (M n : ℕ) where
         (λ l j e s.
         then_on (machine p deepest [] []) M ((steps_work items + (record_work p deepest b M n + 3)) + 1) 16 round_work j _ (λ u. Round) (λ u. On p deepest b M n k K) (Away p deepest [] [] b d K) (for_record (noted_done deepest.notes p b n items out_of_part) (record τ { turns = j })) (λ u. rounds m) (omega arith)
         (again_from (label [] None else_code) m (steps_work items + (record_work p deepest b M n + 3)) (record τ { turns = j }) _ j _
-        (record_ok p deepest b M n items ok (suc (suc d)) (does (Br 1) Done) (label [] None else_code ∷ inside) l (record τ { turns = j }) plain so room iterators arrays (omega (arith, few)) (record { fit = s.fit; walked = s.walked; walks = s.walks; loops = s.loops; turns = s.turns; parameters = s.parameters })) walks)
+        (record_ok p deepest b M n items ok (suc (suc d)) (emit (Br 1) Done) (label [] None else_code ∷ inside) l (record τ { turns = j }) plain so room iterators arrays (omega (arith, few)) (record { fit = s.fit; walked = s.walked; walks = s.walks; loops = s.loops; turns = s.turns; parameters = s.parameters })) walks)
         (λ u τ1 c2 le2 h2. records_ok walks m τ1 c2 (omega (arith, le, le1, e, le2)) (omega (arith, len, le1, e, le2)) h2))
         (λ l j e s.
         then_on (machine p deepest [] []) M (work + 1) 16 round_work j _ (λ u. Round) (λ u. On p deepest b M n k K) (Away p deepest [] [] b d K) (assign_pending (record τ { turns = j })) (λ u. rounds m) (omega arith)
-        (again_from (label [] None Done) m work (record τ { turns = j }) (at [] [] (label [] None Done ∷ inside) (laid b l) [] pending_code (beside_state p deepest [] [] τ)) j (assign_pending (record τ { turns = j })) (r.assigned (suc (suc d)) (does (Br 1) Done) (label [] None Done ∷ inside) l (record τ { turns = j }) walks (omega (arith, len, le1, e)) s) walks)
+        (again_from (label [] None Done) m work (record τ { turns = j }) (at [] [] (label [] None Done ∷ inside) (laid b l) [] pending_code (beside_state p deepest [] [] τ)) j (assign_pending (record τ { turns = j })) (r.assigned (suc (suc d)) (emit (Br 1) Done) (label [] None Done ∷ inside) l (record τ { turns = j }) walks (omega (arith, len, le1, e)) s) walks)
         (λ u τ1 c2 le2 h2. records_ok walks m τ1 c2 (omega (arith, le, le1, e, le2)) (omega (arith, len, le1, e, le2)) h2))))
 
     -- the records of the main input

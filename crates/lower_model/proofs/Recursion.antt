@@ -4,9 +4,9 @@ use Rattle.std.specs.Prelude.{get_or, map}
 use Rattle.awk_values.specs.declared.value.Value.{Value}
 use Rattle.awk_values.specs.declared.value.Value.TheVariants.{Uninit}
 use Rattle.wasm_types.specs.Syntax.{Instructions}
-use Rattle.mid_program.specs.Mid.{Kind, Boxed, Unboxed, Many, Program, Routine, Code, parameters_at}
+use Rattle.mid_program.specs.Mid.{Kind, Boxed, Unboxed, ArrayKind, Program, Routine, Code, parameters_at}
 use Rattle.mid_program.specs.MidMeaning.{routine_at}
-use Rattle.sem_scripts.specs.ScriptState.{State, Own, Local, Scalar, Stop, Faulted, OutOfTurns, TooDeep, Nexted, Exited, Returned, Outcome, Gives, Stops, Doing, go_on, spent}
+use Rattle.sem_scripts.specs.ScriptState.{State, CallFrame, Local, Scalar, Stop, Faulted, OutOfTurns, TooDeep, Nexted, Exited, Returned, Outcome, Gives, Stops, Execution, go_on, spent}
 use Rattle.mid_program.specs.Sorted.{has_kind, same_kind, calls_of, kinds_of}
 use Rattle.sem_scripts.specs.Statements.{Flow, returned, entered_with}
 use Rattle.lower_model.specs.Cells.{Cell, Gone}
@@ -14,7 +14,7 @@ use Rattle.lower_model.specs.Functions.{layout_of, routine_bases}
 use Rattle.lower_model.specs.Machine.{Notes, Conf, Label, Frame}
 use Rattle.lower_model.specs.Noted.{noted_called, steps_noted, routine_rest}
 use Rattle.lower_model.specs.Places.{Bases}
-use Rattle.lower_model.proofs.Watch.{Watch}
+use Rattle.lower_model.proofs.Observer.{Observer}
 use Rattle.lower_model.proofs.Runs.{Reaches, Arrives, within}
 use Rattle.lower_model.proofs.Relation.{ParamIs}
 use Rattle.lower_model.proofs.Answers.{machine}
@@ -31,7 +31,7 @@ Ends (Gives v σ) = Unit {0}
 Ends (Stops (Returned v) σ) = ⊥
 Ends (Stops why σ) = Unit {0}
 
-returned_ends : (own : Own) (r : Outcome Flow) → Ends (returned own r)
+returned_ends : (own : CallFrame) (r : Outcome Flow) → Ends (returned own r)
 returned_ends own (Gives flow σ) = tt
 returned_ends own (Stops (Returned x) σ) = tt
 returned_ends own (Stops (Faulted x) σ) = tt
@@ -40,16 +40,16 @@ returned_ends own (Stops TooDeep σ) = tt
 returned_ends own (Stops Nexted σ) = tt
 returned_ends own (Stops Exited σ) = tt
 
-entered_ends : (room : ℕ) (os : List Local) (body : Doing Flow) (σ : State) → Ends (entered_with room os body σ)
+entered_ends : (room : ℕ) (os : List Local) (body : Execution Flow) (σ : State) → Ends (entered_with room os body σ)
 entered_ends zero os body σ = tt
-entered_ends (suc room) os body σ = returned_ends σ.own (body (record σ { own = record { locals = os; room = room } }))
+entered_ends (suc room) os body σ = returned_ends σ.own (body (record σ { own = record { locals = os; calls_left = room } }))
 
 called_ends : (notes : Notes) (p : Program) (n f : ℕ) (os : List Local) (σ : State) → Ends (noted_called notes p n f os σ)
 unfolding noted_called
 called_ends notes p zero f os σ = tt
 called_ends notes p (suc n) f os σ =
     let r = routine_at p.routines f in
-    entered_ends σ.own.room os (steps_noted notes (layout_of p (routine_bases r)) p.texts (calls_of p) n (noted_called notes p n) r.body zero zero zero zero (routine_rest (routine_bases r))) σ
+    entered_ends σ.own.calls_left os (steps_noted notes (layout_of p (routine_bases r)) p.texts (calls_of p) n (noted_called notes p n) r.body zero zero zero zero (routine_rest (routine_bases r))) σ
 
 spent_ends : (notes : Notes) (p : Program) (n f : ℕ) (os : List Local) (m : ℕ) (σ : State) → Ends (go_on (spent m σ) (λ x. noted_called notes p n f os))
 spent_ends notes p n f os zero σ = tt
@@ -60,20 +60,20 @@ spent_ends notes p n f os (suc m) σ = called_ends notes p n f os (record σ { t
 same_kinds : (j k : Kind) → same_kind j k ≡ true → j ≡ k
 same_kinds Boxed Boxed e = refl
 same_kinds Boxed Unboxed e = absurd cc
-same_kinds Boxed Many e = absurd cc
+same_kinds Boxed ArrayKind e = absurd cc
 same_kinds Unboxed Boxed e = absurd cc
 same_kinds Unboxed Unboxed e = refl
-same_kinds Unboxed Many e = absurd cc
-same_kinds Many Boxed e = absurd cc
-same_kinds Many Unboxed e = absurd cc
-same_kinds Many Many e = refl
+same_kinds Unboxed ArrayKind e = absurd cc
+same_kinds ArrayKind Boxed e = absurd cc
+same_kinds ArrayKind Unboxed e = absurd cc
+same_kinds ArrayKind ArrayKind e = refl
 
 parameters_of : (rs : List Routine) (f : ℕ) → parameters_at (map (λ (r : Routine). r.parameters) rs) f ≡ (routine_at rs f).parameters
 parameters_of [] f = refl
 parameters_of (r ∷ rs) zero = refl
 parameters_of (r ∷ rs) (suc f) = parameters_of rs f
 
-module _ (p : Program) (deepest : Watch) where
+module _ (p : Program) (deepest : Observer) where
   module _ (kinds : List Kind) (Fs : List Frame) where
     as_many_cells : (ks : List Kind) (F : List Frame) (b : Bases) (M n : ℕ) (pks : List Kind) (os : List Local) (cs : List Cell) → GivenTo p deepest ks F b M n kinds Fs pks os cs → length cs ≡ length pks
     as_many_cells ks F b M n [] [] [] g = refl
@@ -127,5 +127,5 @@ module _ (p : Program) (deepest : Watch) where
         (came_back K L rest σ 0 σ.turns _ (go_on (spent σ.turns σ) (λ x. noted_called deepest.notes p n f own)) (spent_ends deepest.notes p n f own σ.turns σ)
         (calls f lt ks F K L rest words own σ wt (given (routine_at p.routines f).parameters (parameters_at (calls_of p) f) (function.waiting ks K L rest ∷ F) own words (parameters_of p.routines f) g) s le))
 
-pub exprs_do : (p : Program) (M : ℕ) (deepest : Watch) (n : ℕ) → 40 + 4 * length (kinds_of p.globals) ≤ M → CallsOk p deepest M n → (ks : List Kind) (F : List Frame) (b : Bases) (e : Code) → ExprOk p deepest ks F b M n e
+pub exprs_do : (p : Program) (M : ℕ) (deepest : Observer) (n : ℕ) → 40 + 4 * length (kinds_of p.globals) ≤ M → CallsOk p deepest M n → (ks : List Kind) (F : List Frame) (b : Bases) (e : Code) → ExprOk p deepest ks F b M n e
 exprs_do p M deepest n paid calls ks F b e = expr_ok p deepest ks F b M n (record { paid = paid; calls = calls_do p deepest ks F b M n calls }) e

@@ -13,7 +13,7 @@ use Rattle.sem_primitives.specs.declared.constants.NameKind.TheVariants as name_
 use Rattle.sem_primitives.specs.declared.sorts.Answer.TheVariants as answer
 use Rattle.sem_primitives.specs.declared.sorts.Sort.TheVariants as sort
 use Rattle.wasm_store.specs.declared.word.Word.TheVariants.{I32, I64}
-use Rattle.mid_program.specs.Mid.{Kind, Boxed, Unboxed, Many, Program, Declared, Routine, Form, Answered, Bare, Perhaps}
+use Rattle.mid_program.specs.Mid.{Kind, Boxed, Unboxed, ArrayKind, Program, Declared, Routine, Form, PrimitiveAnswer, NumberOrText, OptionalNumber}
 use Rattle.mid_program.specs.MidMeaning.{Holds, Env}
 use Rattle.sem_scripts.specs.Names.{ArrayName, Numbered, Given}
 use Rattle.sem_scripts.specs.ScriptState.{State, Stop, TooDeep, Nexted, Exited, Returned, Local, Scalar, value_in_local, array_in_local, local_array}
@@ -23,7 +23,7 @@ use Rattle.host_imports.specs.Codes.{input_code, stream_code}
 use Rattle.lower_model.specs.Machine.{Conf, Deep, Label, Frame, br, owner_waits}
 use Rattle.lower_model.specs.Places.{Bases}
 use Rattle.lower_model.proofs.HostLaws.{Few}
-use Rattle.lower_model.proofs.Watch.{Watch}
+use Rattle.lower_model.proofs.Observer.{Observer}
 use Rattle.lower_model.proofs.Regions.{upd_other, upd_all}
 use Rattle.lower_model.proofs.Locals.{Locals, Hand, Number as NumberAt, Array, with_at, laid}
 use Rattle.lower_model.proofs.Steps.{empty, unanswered}
@@ -43,20 +43,20 @@ IsYard c = (c ≡ empty) ⊎ ((a : ℕ) × (c ≡ OwnedArray a))
 -- What stands in a temporary, by its form.
 
 abbrev pub hand_of : (f : Form) → Holds f → Cell
-hand_of (Answered (answer.Of sort.Value)) x = Held x
+hand_of (PrimitiveAnswer (answer.Of sort.Value)) x = Held x
 hand_of _ x = empty
 
 abbrev pub WordIs : (f : Form) → Holds f → Cell → Type 0
-WordIs (Answered (answer.Of sort.Number)) x c = c ≡ Bits (I64 (number_word x))
-WordIs (Answered answer.Truth) x c = c ≡ Bits (I64 (flag_number x))
-WordIs (Answered answer.Input) x c = c ≡ Bits (I64 (input_code x))
-WordIs (Answered answer.Stream) x c = c ≡ Bits (I64 (stream_code x))
-WordIs Perhaps x c = c ≡ Bits (I64 (perhaps x))
+WordIs (PrimitiveAnswer (answer.Of sort.Number)) x c = c ≡ Bits (I64 (number_word x))
+WordIs (PrimitiveAnswer answer.Truth) x c = c ≡ Bits (I64 (flag_number x))
+WordIs (PrimitiveAnswer answer.Input) x c = c ≡ Bits (I64 (input_code x))
+WordIs (PrimitiveAnswer answer.Stream) x c = c ≡ Bits (I64 (stream_code x))
+WordIs OptionalNumber x c = c ≡ Bits (I64 (perhaps x))
 WordIs f x c = Unit {0}
 
 -- a handle and a word are what there is
 abbrev pub HoldsBy : (f : Form) → Holds f → Cell → Cell → Type 0
-HoldsBy Bare x c d = (m : ℕ) × (d ≡ Bits (I64 m)) × BareIs x m c
+HoldsBy NumberOrText x c d = (m : ℕ) × (d ≡ Bits (I64 m)) × BareIs x m c
 HoldsBy f x c d = (c ≡ hand_of f x) × WordIs f x d
 
 abbrev pub HoldsAt : (f : Form) → ℕ → Locals → Holds f → Type 0
@@ -74,13 +74,13 @@ array_at (Given i) σ = local_array i σ
 
 -- a handle may have been moved away, or not; where there is none, none comes
 abbrev pub LeftBy : Form → Cell → Type 0
-LeftBy (Answered (answer.Of sort.Value)) c = Unit {0}
-LeftBy Bare c = Unit {0}
+LeftBy (PrimitiveAnswer (answer.Of sort.Value)) c = Unit {0}
+LeftBy NumberOrText c = Unit {0}
 LeftBy f c = c ≡ empty
 
 pub hand_left : (f : Form) (t : ℕ) (l : Locals) (x : Holds f) → HoldsAt f t l x → LeftBy f (l.hand t)
-hand_left (Answered (answer.Of sort.Value)) t l x q = tt
-hand_left Bare t l x q = tt
+hand_left (PrimitiveAnswer (answer.Of sort.Value)) t l x q = tt
+hand_left NumberOrText t l x q = tt
 hand_left _ t l x q = q.0
 
 abbrev pub KeptAs : Standing → (f : Form) → ℕ → Locals → Holds f → Type 0
@@ -152,7 +152,7 @@ kept_same (f ∷ fs) (s ∷ ts) st l l1 env t bl h n k =
 abbrev pub kind_told : Kind → NameKind
 kind_told Boxed = name_kind.Scalar
 kind_told Unboxed = name_kind.Scalar
-kind_told Many = name_kind.ArrayOrFunction
+kind_told ArrayKind = name_kind.ArrayOrFunction
 
 abbrev pub globals_told : List Declared → List (List ℕ × NameKind) → List (List ℕ × NameKind)
 globals_told [] rest = rest
@@ -173,7 +173,7 @@ left_to TooDeep away deep = deep
 left_to _ away deep = away
 
 -- In a function with parameters of kinds ks, where F wait.
-module _ (p : Program) (deepest : Watch) (ks : List Kind) (F : List Frame) where
+module _ (p : Program) (deepest : Observer) (ks : List Kind) (F : List Frame) where
   -- an array of the program, or one that a caller owns
   abbrev pub Lives : ℕ → Type 0
   Lives a = (a < suc (suc (arrays_among p.globals))) ⊎ (owner_waits a F ≡ true)
@@ -183,18 +183,18 @@ module _ (p : Program) (deepest : Watch) (ks : List Kind) (F : List Frame) where
 
   -- an array has no temporary: its name says where it is
   abbrev pub Meant : (f : Form) → Holds f → ArrayName → State → Type 0
-  Meant (Answered (answer.Of sort.Array)) x a σ = (array_at a σ ≡ x) × (is_array_place (context_of p ks) a ≡ true)
+  Meant (PrimitiveAnswer (answer.Of sort.Array)) x a σ = (array_at a σ ≡ x) × (is_array_place (context_of p ks) a ≡ true)
   Meant f x a σ = Unit {0}
 
   abbrev pub ParamIs : Kind → Local → Cell → Type 0
   ParamIs Boxed o c = c ≡ Held (value_in_local o)
   ParamIs Unboxed o c = (c ≡ Bits (I64 (bare (value_in_local o)))) × (beside (value_in_local o) ≡ empty)
-  ParamIs Many o c = IsArray (array_in_local o) c
+  ParamIs ArrayKind o c = IsArray (array_in_local o) c
 
   abbrev pub ParamLoose : Kind → Cell → Type 0
   ParamLoose Boxed c = (v : AnyValue) × (c ≡ Held v)
   ParamLoose Unboxed c = is_owned c ≡ false
-  ParamLoose Many c = is_owned c ≡ false
+  ParamLoose ArrayKind c = is_owned c ≡ false
 
   -- what the exit of a function finds
   pub record Loose (l : Locals) : Type 0 where
@@ -206,7 +206,7 @@ module _ (p : Program) (deepest : Watch) (ks : List Kind) (F : List Frame) where
 
   -- of the state, whatever the locals hold
   pub record Sound (σ : State) : Type 0 where
-    pub room : length F + σ.own.room ≡ deepest.callers
+    pub room : length F + σ.own.calls_left ≡ deepest.callers
     pub names : length σ.globals ≡ length p.globals
     pub calm : Calm p σ.shared
 
@@ -230,7 +230,7 @@ module _ (p : Program) (deepest : Watch) (ks : List Kind) (F : List Frame) where
   pub param_loose : (k : Kind) (o : Local) (c : Cell) → ParamIs k o c → ParamLoose k c
   param_loose Boxed o c h = (value_in_local o, h)
   param_loose Unboxed o c h = ap is_owned h.0
-  param_loose Many o c h = array_loose (array_in_local o) c h
+  param_loose ArrayKind o c h = array_loose (array_in_local o) c h
 
   pub fit_loose : (t u w : ℕ) (l : Locals) (σ : State) → Fit t u w l σ → Loose l
   fit_loose t u w l σ f = record { params = λ i k h. param_loose k (get_or σ.own.locals i (Scalar Uninit)) (l.param i) (f.params i k h); hands = f.hands; numbers = f.numbers; walks = f.walks; yards = f.yards }
@@ -333,7 +333,7 @@ module _ (p : Program) (deepest : Watch) (ks : List Kind) (F : List Frame) where
 
   -- arrays that are parameters stay what they are
   abbrev pub SameOwn : State → State → Type 0
-  SameOwn σ σ1 = (i : ℕ) → has_kind ks i Many ≡ true → local_array i σ1 ≡ local_array i σ
+  SameOwn σ σ1 = (i : ℕ) → has_kind ks i ArrayKind ≡ true → local_array i σ1 ≡ local_array i σ
 
   -- what a stop leaves that a caller, or what comes after a part, goes on with
   abbrev pub StopSound : Stop → State → Type 0

@@ -32,10 +32,10 @@ use Rattle.lower_model.specs.Cells.{Bits}
 use Rattle.lower_model.specs.Machine.{Conf, Label, Frame, Store, at, label, with_operands, push_result}
 use Rattle.lower_model.specs.Places.{Bases, number_global, room, arrays_in}
 use Rattle.lower_model.specs.Quick.{Holder, OfName, OfParameter, holder_of, multiple_of, remainder_alone, Held, Constant, name_in, factor_in, Multiple, Remainder, product_of, two_product, multiple_in, remainder_of, two_remainder, set_remainder, remainder_in, remainder_names, most_multiplied, multiplied}
-use Rattle.lower_model.specs.Small.{does}
+use Rattle.lower_model.specs.Small.{emit}
 use Rattle.lower_model.specs.Emission.{dropped}
 use Rattle.lower_model.specs.Statements.{remainder_taken, remainder_dropped}
-use Rattle.lower_model.proofs.Watch.{Watch}
+use Rattle.lower_model.proofs.Observer.{Observer}
 use Rattle.lower_model.proofs.Runs.{Goes, goes_to, then_goes, by_steps, stays, first, within, there}
 use Rattle.lower_model.proofs.Locals.{Locals, laid}
 use Rattle.lower_model.proofs.State.{bare, beside, bare_number, beside_number, holder_slot, holder_value, stored_in}
@@ -151,7 +151,7 @@ most_few (Some c) h = part_few (unsigned_abs c)
     part_few : (k : ℕ) → 2 ^ 53 / k ≤ 2 ^ 53
     part_few k = omega arith
 
-module _ (p : Program) (deepest : Watch) (ks : List Kind) (F : List Frame) (b : Bases) (M n : ℕ) where
+module _ (p : Program) (deepest : Observer) (ks : List Kind) (F : List Frame) (b : Bases) (M n : ℕ) where
   abbrev kinds : List Kind
   kinds = kinds_of p.globals
 
@@ -299,7 +299,7 @@ module _ (p : Program) (deepest : Watch) (ks : List Kind) (F : List Frame) (b : 
           let y : AnyNumber = record { number = r; in_range = subst T (sym rs) tt } in
           let σ1 = stored_in (holder_slot q.target) (value.Num y.number) σ in
           let xf = x.few in
-          let last = does (all_put p deepest ks F b M n q.target) NoMore in
+          let last = emit (all_put p deepest ks F b M n q.target) NoMore in
           let to_taken = taken p deepest ks F b M n q.target y u K1 NoMore l σ parts.target s.parameters s.fit (ap beside to.value ∙ beside_number to.number) in
           let tk = stored_turns p deepest ks F b M n q.target y σ in
           let means : meant ≡ Gives Normal σ1 =
@@ -307,8 +307,8 @@ module _ (p : Program) (deepest : Watch) (ks : List Kind) (F : List Frame) (b : 
           subst (λ o. Reached p deepest ks F b M (W + 12) σ.turns (at ks [] K1 (laid b l) F fast S) P Q o) (sym means)
           (subst (λ g. Reached p deepest ks F b M (W + 12) g (at ks [] K1 (laid b l) F fast S) P Q (Gives Normal σ1)) tk
           (there (machine p deepest ks F) M (W + 12) (1 + (x.steps + (1 + (1 + 1)))) _ _ Normal σ1 P Q
-          (then_goes (goes_to (name_got p deepest ks F b M n _ _ _ q.multiple.name 0 u 0 l σ parts.name s.parameters s.fit) (ap (λ v. at ks (Bits (I64 v) ∷ []) K1 (laid b l) F (multiplied q.multiple.factor (does (I64Const (word q.divisor)) (does (Binary ty.I64 RemS) last))) S) (ap bare own.value ∙ bare_number m)))
-          (then_goes (x.goes K1 (does (I64Const (word q.divisor)) (does (Binary ty.I64 RemS) last)) l)
+          (then_goes (goes_to (name_got p deepest ks F b M n _ _ _ q.multiple.name 0 u 0 l σ parts.name s.parameters s.fit) (ap (λ v. at ks (Bits (I64 v) ∷ []) K1 (laid b l) F (multiplied q.multiple.factor (emit (I64Const (word q.divisor)) (emit (Binary ty.I64 RemS) last))) S) (ap bare own.value ∙ bare_number m)))
+          (then_goes (x.goes K1 (emit (I64Const (word q.divisor)) (emit (Binary ty.I64 RemS) last)) l)
           (then_goes (by_steps 1 (ap (λ o. with_operands (push_result [] (Some (given_by I64 o))) ks K1 (laid b l) F last S) (ap (λ v. remainder_by x.number v) (sym ez) ∙ remainder_word x.number nz some)))
           (then_goes to_taken.goes closes)))) (omega (arith, xf))
           (record { next = to_taken.next; comes = refl; starts = starts_after p deepest ks F b M n u K K l to_taken.next σ σ1 s refl (let e = tk in omega (arith, e)) to_taken.iterators to_taken.fit; iterators = to_taken.iterators; flows = flows_on lo })))

@@ -20,13 +20,13 @@ use Rattle.wasm_types.specs.declared.instr.ITestOp.TheVariants.{Eqz}
 use Rattle.wasm_types.specs.declared.instr.Simple.TheVariants.{LocalGet, Test}
 use Rattle.mid_program.specs.Mid.{Kind, Program, Form, a_value, a_number, Code, Replace, Codes, End, At, Fixed, Fresh, form_of}
 use Rattle.mid_program.specs.MidMeaning.{evaluated, all_evaluated, three_values, when_replaced}
-use Rattle.sem_scripts.specs.ScriptState.{go_on, does}
+use Rattle.sem_scripts.specs.ScriptState.{go_on, call}
 use Rattle.mid_program.specs.Sorted.{Held as Standing, sorted, all_sorted, held_after, held_after_all, fits, fit_row, is_constant, keeps_well, is_dropped, stores_well}
 use Rattle.lower_model.specs.Emission.{emitted, all_emitted, text_kept, text_let_go}
 use Rattle.lower_model.specs.Machine.{Frame, loops_walked}
 use Rattle.lower_model.specs.Places.{Bases, number_local}
-use Rattle.lower_model.specs.Small.{does as do_it, either}
-use Rattle.lower_model.proofs.Watch.{Watch}
+use Rattle.lower_model.specs.Small.{emit as do_it, emit_if}
+use Rattle.lower_model.proofs.Observer.{Observer}
 use Rattle.lower_model.proofs.Runs.{first, then_settled, weaker}
 use Rattle.lower_model.proofs.Relation.{kept_same, same_then, Away}
 use Rattle.lower_model.proofs.Answers.{machine, done_by, Put}
@@ -73,7 +73,7 @@ three_there fs End h = none_there h
 three_there fs (Fixed m es) h = none_there h
 three_there fs (Fresh es) h = none_there h
 
-module _ (p : Program) (deepest : Watch) (ks : List Kind) (F : List Frame) (b : Bases) (M n : ℕ) where
+module _ (p : Program) (deepest : Observer) (ks : List Kind) (F : List Frame) (b : Bases) (M n : ℕ) where
   flag_constant : (all : Bool) → is_constant constant.Flag (flag_number all) ≡ true
   flag_constant true = refl
   flag_constant false = refl
@@ -98,9 +98,9 @@ module _ (p : Program) (deepest : Watch) (ks : List Kind) (F : List Frame) (b : 
       let p3 = and_parts (fits (form_of fs e2) sort.Value) true p2.1 in
       let fr : fit_row fs (arguments_of row.Sub) es1 ≡ true = ap₂ (λ x y. x && y) p1.0 (ap₂ (λ x y. x && y) p2.0 (ap₂ (λ x y. x && (y && true)) p3.0 (flag_constant all))) in
       let block = text_kept lay row.SubResult t (emitted lay true (a_value ∷ fs) (suc t ∷ ts) s (suc (suc t)) w (suc d) (text_let_go lay fs s t NoMore)) in
-      let k4 = do_it (LocalGet (number_local b t)) (do_it (Test ty.I64 Eqz) (either NoMore block k)) in
+      let k4 = do_it (LocalGet (number_local b t)) (do_it (Test ty.I64 Eqz) (emit_if NoMore block k)) in
       let stored = when_replaced (storing_meant p deepest ks F b M n s fs env) in
-      row_then p deepest ks F b M n three_values es oke fs env ts st t u w d _ K l σ (work_of s + 41) (work_of (Replace all es s)) P (λ r τ. go_on (does row.Sub (r.0, (r.1.0, (r.1.1.0, (all, tt)))) τ) stored)
+      row_then p deepest ks F b M n three_values es oke fs env ts st t u w d _ K l σ (work_of s + 41) (work_of (Replace all es s)) P (λ r τ. go_on (call row.Sub (r.0, (r.1.0, (r.1.1.0, (all, tt)))) τ) stored)
       s1.0 s2.0 (λ i lt. well_left (st1 i) (held_after (suc i) s (st1 i)) (us i lt)) (omega (arith, rm)) (omega (arith, ar)) rd (omega arith)
       (λ r τ c le a.
       let r1 : Row (arguments_of row.Sub) = (r.0, (r.1.0, (r.1.1.0, (all, tt)))) in

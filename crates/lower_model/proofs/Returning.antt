@@ -10,7 +10,7 @@ use Rattle.awk_values.specs.declared.value.Value.{Value}
 use Rattle.awk_values.specs.declared.value.Value.TheVariants as value
 use Rattle.sem_primitives.specs.Carried.{carried_out}
 use Rattle.sem_primitives.specs.Numbers.{Number as AnyNumber, number_of, outcome_of}
-use Rattle.sem_primitives.specs.SharedState.{Shared, Does, shared_after}
+use Rattle.sem_primitives.specs.SharedState.{Shared, HostResult, shared_after}
 use Rattle.sem_primitives.specs.Sorts.{Row, OrFault}
 use Rattle.sem_primitives.specs.Table.{arguments_of, can_fault, meaning, listed_meaning}
 use Rattle.sem_primitives.specs.declared.answers.InputAnswer.{InputAnswer}
@@ -22,7 +22,7 @@ use Rattle.mid_program.specs.declared.mid.Operation.TheVariants.{Host, Inline, A
 use Rattle.mid_program.specs.Mid.{Kind, Program, Routine, Slot, Global, Parameter, Code, Do, Over, Compare, Call, Ask, AskLine, FileLine, Replace, Number, Text, Unset, Get, Set, Array, IsOpen, Choose, Seq, Let, Bound, Codes, End, At, Fixed, Fresh, Step, Eval, Block, If, Loop, Each, Break, Continue, Next, Exit, ExitWith, Return, Mark, Steps, NoStep, Then, Form, a_value, form_of, arguments, parameters_at}
 use Rattle.mid_program.specs.MidMeaning.{Env, evaluated, all_evaluated, stepped, routine_at, holds, keyed, operated, locals_of, or_zero, held, read_as, read_slot, store_slot, listing, row_of, numbered, converted, truth_in, boxed, arithmetic_of, three_values, when_read, when_replaced}
 use Rattle.sem_scripts.specs.Names.{ArrayName, Numbered, Given}
-use Rattle.sem_scripts.specs.ScriptState.{State, Own, Local, Scalar, Stop, Faulted, OutOfTurns, TooDeep, Nexted, Exited, Returned, Outcome, Gives, Stops, Doing, ◌>>=◌, ◌>>◌, go_on, give, nothing, stop, settled, or_fault, perform, does, asks, look, change, local_array, global_value, local_value, with_global, with_local, with_range, spent, spend, spend_all}
+use Rattle.sem_scripts.specs.ScriptState.{State, CallFrame, Local, Scalar, Stop, Faulted, OutOfTurns, TooDeep, Nexted, Exited, Returned, Outcome, Gives, Stops, Execution, ◌>>=◌, ◌>>◌, go_on, give, nothing, stop, settled, or_fault, perform, call, asks, look, change, local_array, global_value, local_value, with_global, with_local, with_range, spent, spend, spend_all}
 use Rattle.mid_program.specs.Sorted.{Context, calls_of, step_sorted, steps_sorted, test_sorted, is_array_place, stores_well, sorted}
 use Rattle.sem_scripts.specs.Statements.{Flow, Normal, Broke, Continued, after, after_round, loop, at_key, over_keys, with_status, returned, entered_with}
 use Rattle.sem_scripts.specs.Steps.{array_number, one_number, input_number, field_checked}
@@ -36,7 +36,7 @@ use Rattle.lower_model.specs.Functions.{layout_of, routine_bases}
 use Rattle.lower_model.specs.Machine.{Notes}
 use Rattle.lower_model.specs.Noted.{noting, noted, test_place, step_noted, steps_noted, noted_called, routine_rest}
 use Rattle.lower_model.specs.Quick.{pair_in, step_jumps, is_nothing}
-use Rattle.lower_model.specs.Small.{does as instruction}
+use Rattle.lower_model.specs.Small.{emit as instruction}
 use Rattle.lower_model.specs.Statements.{step_emitted, steps_emitted}
 
 abbrev pub NoReturn : {A : Type 0} → Outcome A → Type 0
@@ -48,12 +48,12 @@ NoReturn (Stops TooDeep σ) = Unit {0}
 NoReturn (Stops Nexted σ) = Unit {0}
 NoReturn (Stops Exited σ) = Unit {0}
 
-abbrev pub own_at : {A : Type 0} → Outcome A → Own
+abbrev pub own_at : {A : Type 0} → Outcome A → CallFrame
 own_at (Gives a σ) = σ.own
 own_at (Stops why σ) = σ.own
 
 -- something that is done, which never stops by `return`, and leaves as many parameters
-pub record Plainly {A : Type 0} (m : Doing A) : Type 0 where
+pub record Plainly {A : Type 0} (m : Execution A) : Type 0 where
   pub at : (σ : State) → NoReturn (m σ)
   pub sized : (σ : State) → length (own_at (m σ)).locals ≡ length σ.own.locals
 
@@ -65,15 +65,15 @@ stops_alike A B TooDeep σ h = tt
 stops_alike A B Nexted σ h = tt
 stops_alike A B Exited σ h = tt
 
-on_plainly : {A B : Type 0} → (r : Outcome A) (f : A → Doing B) → NoReturn r → ((a : A) → Plainly (f a)) → NoReturn (go_on r f)
+on_plainly : {A B : Type 0} → (r : Outcome A) (f : A → Execution B) → NoReturn r → ((a : A) → Plainly (f a)) → NoReturn (go_on r f)
 on_plainly (Gives a σ) f h k = (k a).at σ
 on_plainly {A = A} {B = B} (Stops why σ) f h k = stops_alike A B why σ h
 
-on_sized : {A B : Type 0} → (r : Outcome A) (f : A → Doing B) (m : ℕ) → length (own_at r).locals ≡ m → ((a : A) → Plainly (f a)) → length (own_at (go_on r f)).locals ≡ m
+on_sized : {A B : Type 0} → (r : Outcome A) (f : A → Execution B) (m : ℕ) → length (own_at r).locals ≡ m → ((a : A) → Plainly (f a)) → length (own_at (go_on r f)).locals ≡ m
 on_sized (Gives a σ) f m e k = (k a).sized σ ∙ e
 on_sized (Stops why σ) f m e k = e
 
-pub then_plainly : {A B : Type 0} {m : Doing A} {f : A → Doing B} → Plainly m → ((a : A) → Plainly (f a)) → Plainly (m >>= f)
+pub then_plainly : {A B : Type 0} {m : Execution A} {f : A → Execution B} → Plainly m → ((a : A) → Plainly (f a)) → Plainly (m >>= f)
 then_plainly {m = m} {f = f} h k = record { at = λ σ. on_plainly (m σ) f (h.at σ) k; sized = λ σ. on_sized (m σ) f (length σ.own.locals) (h.sized σ) k }
 
 gives_plainly : {A : Type 0} → (a : A) → Plainly (give a)
@@ -95,10 +95,10 @@ settled_plainly : {A : Type 0} → (r : Result A Fault) → Plainly (settled r)
 settled_plainly (Ok a) = record { at = λ σ. tt; sized = λ σ. refl }
 settled_plainly (Err f) = record { at = λ σ. tt; sized = λ σ. refl }
 
-performed_plainly : {A : Type 0} → (b : Bool) (f : Shared → Does (OrFault b A)) → Plainly (perform b f)
+performed_plainly : {A : Type 0} → (b : Bool) (f : Shared → HostResult (OrFault b A)) → Plainly (perform b f)
 performed_plainly b f = record { at = λ σ. (settled_plainly _).at _; sized = λ σ. (settled_plainly (or_fault b (f σ.shared).answer)).sized (record σ { shared = shared_after σ.shared (f σ.shared) }) }
 
-does_plainly : (q : Primitive) (r : Row (arguments_of q)) → Plainly (does q r)
+does_plainly : (q : Primitive) (r : Row (arguments_of q)) → Plainly (call q r)
 does_plainly q r = performed_plainly (can_fault q) (meaning q r)
 
 spent_plainly : (t : ℕ) (σ : State) → NoReturn (spent t σ)
@@ -123,7 +123,7 @@ asks_plainly q r = then_plainly (looks_plainly (λ state. carried_out q state.sh
 pub pending_plainly : Plainly assign_pending
 pending_plainly = then_plainly (does_plainly row.PendingName tt) (λ i. then_plainly (does_plainly row.PendingValue tt) (λ v. changes_plainly (with_global i v) (λ σ. refl)))
 
-asked_plainly : (k : ℕ) (ask : Doing InputAnswer) → Plainly ask → Plainly (asked k ask)
+asked_plainly : (k : ℕ) (ask : Execution InputAnswer) → Plainly ask → Plainly (asked k ask)
 unfolding asked
 asked_plainly zero ask h = then_plainly h (λ a. by a)
   where
@@ -140,18 +140,18 @@ asked_plainly (suc k) ask h = then_plainly h (λ a. by a (asked_plainly k ask h)
     by input.Read r = gives_plainly input.Read
     by input.Failed r = gives_plainly input.Failed
 
-either_plainly : {A : Type 0} → (t : Bool) (m k : Doing A) → Plainly m → Plainly k → Plainly (if t then m else k)
+either_plainly : {A : Type 0} → (t : Bool) (m k : Execution A) → Plainly m → Plainly k → Plainly (if t then m else k)
 either_plainly true m k h g = h
 either_plainly false m k h g = g
 
-read_plainly : (s : Value → Doing (Unit {0})) → ((v : Value) → Plainly (s v)) → (a : InputAnswer) → Plainly (when_read s a)
+read_plainly : (s : Value → Execution (Unit {0})) → ((v : Value) → Plainly (s v)) → (a : InputAnswer) → Plainly (when_read s a)
 read_plainly s h input.Read = then_plainly (does_plainly row.Line tt) (λ v. then_plainly (h v) (λ u. gives_plainly one_number))
 read_plainly s h input.End = gives_plainly (input_number input.End)
 read_plainly s h input.Pending = gives_plainly (input_number input.Pending)
 read_plainly s h input.Failed = gives_plainly (input_number input.Failed)
 
-replaced_plainly : (s : Value → Doing (Unit {0})) → ((v : Value) → Plainly (s v)) → (count : AnyNumber) → Plainly (when_replaced s count)
-replaced_plainly s h count = then_plainly (either_plainly (is_zero count.number) nothing (does row.SubResult tt >>= s) nothing_plainly (then_plainly (does_plainly row.SubResult tt) h)) (λ u. gives_plainly count)
+replaced_plainly : (s : Value → Execution (Unit {0})) → ((v : Value) → Plainly (s v)) → (count : AnyNumber) → Plainly (when_replaced s count)
+replaced_plainly s h count = then_plainly (either_plainly (is_zero count.number) nothing (call row.SubResult tt >>= s) nothing_plainly (then_plainly (does_plainly row.SubResult tt) h)) (λ u. gives_plainly count)
 
 array_plainly : (a : ArrayName) → Plainly (array_number a)
 array_plainly (Numbered i) = gives_plainly i
@@ -171,24 +171,24 @@ operated_plainly (Inline a) r = settled_plainly (outcome_of (arithmetic_of a r.0
 operated_plainly AsNumber r = gives_plainly r.0
 operated_plainly FieldNumber r = settled_plainly (field_checked r.0)
 
-round_plainly : (f : Flow) (m : Doing Flow) → Plainly m → Plainly (after_round f m)
+round_plainly : (f : Flow) (m : Execution Flow) → Plainly m → Plainly (after_round f m)
 round_plainly Normal m h = h
 round_plainly Broke m h = gives_plainly Normal
 round_plainly Continued m h = h
 
-after_plainly : (f : Flow) (m : Doing Flow) → Plainly m → Plainly (after f m)
+after_plainly : (f : Flow) (m : Execution Flow) → Plainly m → Plainly (after f m)
 after_plainly Normal m h = h
 after_plainly Broke m h = gives_plainly Broke
 after_plainly Continued m h = gives_plainly Continued
 
-loop_plainly : (k : ℕ) (test : Doing Bool) (body : Doing Flow) (between : Doing (Unit {0})) → Plainly test → Plainly body → Plainly between → Plainly (loop k test body between)
+loop_plainly : (k : ℕ) (test : Execution Bool) (body : Execution Flow) (between : Execution (Unit {0})) → Plainly test → Plainly body → Plainly between → Plainly (loop k test body between)
 unfolding loop
 loop_plainly zero test body between t y z = stops_plainly OutOfTurns (λ σ. tt)
 loop_plainly (suc k) test body between t y z =
     then_plainly spend_plainly (λ u. then_plainly t (λ x. either_plainly x (body >>= λ flow. after_round flow (between >> loop k test body between)) (give Normal)
     (then_plainly y (λ f. round_plainly f (between >> loop k test body between) (then_plainly z (λ u. loop_plainly k test body between t y z)))) (gives_plainly Normal)))
 
-keys_plainly : (k keys : ℕ) (store : Value → Doing (Unit {0})) (body : Doing Flow) → ((v : Value) → Plainly (store v)) → Plainly body → Plainly (over_keys k keys store body)
+keys_plainly : (k keys : ℕ) (store : Value → Execution (Unit {0})) (body : Execution Flow) → ((v : Value) → Plainly (store v)) → Plainly body → Plainly (over_keys k keys store body)
 unfolding over_keys
 keys_plainly zero keys store body s y = then_plainly (does_plainly row.IterNext (keys, tt)) (λ o. by o)
   where
@@ -240,10 +240,10 @@ module _ (texts : List (List ℕ)) (parameters : List (List Kind)) (n : ℕ) (ca
 
   -- steps that stand in no function; the place of each is noted first
   module _ (notes : Notes) (y : Layout) where
-    begun_plainly : {A : Type 0} {m : Doing A} → (place : Instructions) → Plainly m → Plainly (noted notes place >> m)
+    begun_plainly : {A : Type 0} {m : Execution A} → (place : Instructions) → Plainly m → Plainly (noted notes place >> m)
     begun_plainly place h = then_plainly (changes_plainly (noting notes place) (λ σ. refl)) (λ u. h)
 
-    abbrev St : Step → (u d bk ct : ℕ) → Instructions → Doing Flow
+    abbrev St : Step → (u d bk ct : ℕ) → Instructions → Execution Flow
     St s u d bk ct k = step_noted notes y texts parameters n calls s u d bk ct k
 
     mutual
@@ -305,7 +305,7 @@ module _ (texts : List (List ℕ)) (parameters : List (List Kind)) (n : ℕ) (ca
           let s1 = and_parts (step_sorted c false lo s) (steps_sorted c false lo ss) so in
           then_plainly (step_plainly c lo s u d bk ct (steps_emitted y ss u d bk ct k) s1.0) (λ f. after_plainly f (steps_noted notes y texts parameters n calls ss u d bk ct k) (noted_plainly c lo ss u d bk ct k s1.1))
 
-returned_plainly : (own : Own) (r : Outcome Flow) → NoReturn (returned own r)
+returned_plainly : (own : CallFrame) (r : Outcome Flow) → NoReturn (returned own r)
 returned_plainly own (Gives f σ) = tt
 returned_plainly own (Stops (Returned v) σ) = tt
 returned_plainly own (Stops (Faulted f) σ) = tt
@@ -314,7 +314,7 @@ returned_plainly own (Stops TooDeep σ) = tt
 returned_plainly own (Stops Nexted σ) = tt
 returned_plainly own (Stops Exited σ) = tt
 
-returned_own : (own : Own) (r : Outcome Flow) → own_at (returned own r) ≡ own
+returned_own : (own : CallFrame) (r : Outcome Flow) → own_at (returned own r) ≡ own
 returned_own own (Gives f σ) = refl
 returned_own own (Stops (Returned v) σ) = refl
 returned_own own (Stops (Faulted f) σ) = refl
@@ -323,23 +323,23 @@ returned_own own (Stops TooDeep σ) = refl
 returned_own own (Stops Nexted σ) = refl
 returned_own own (Stops Exited σ) = refl
 
-entered_plainly : (room : ℕ) (os : List Local) (body : Doing Flow) (σ : State) → NoReturn (entered_with room os body σ)
+entered_plainly : (room : ℕ) (os : List Local) (body : Execution Flow) (σ : State) → NoReturn (entered_with room os body σ)
 entered_plainly zero os body σ = tt
-entered_plainly (suc room) os body σ = returned_plainly σ.own (body (record σ { own = record { locals = os; room = room } }))
+entered_plainly (suc room) os body σ = returned_plainly σ.own (body (record σ { own = record { locals = os; calls_left = room } }))
 
-entered_own : (room : ℕ) (os : List Local) (body : Doing Flow) (σ : State) → own_at (entered_with room os body σ) ≡ σ.own
+entered_own : (room : ℕ) (os : List Local) (body : Execution Flow) (σ : State) → own_at (entered_with room os body σ) ≡ σ.own
 entered_own zero os body σ = refl
-entered_own (suc room) os body σ = returned_own σ.own (body (record σ { own = record { locals = os; room = room } }))
+entered_own (suc room) os body σ = returned_own σ.own (body (record σ { own = record { locals = os; calls_left = room } }))
 
 pub called_plainly : (notes : Notes) (p : Program) (n f : ℕ) (os : List Local) → Plainly (noted_called notes p n f os)
 unfolding noted_called
 called_plainly notes p zero f os = stops_plainly OutOfTurns (λ σ. tt)
-called_plainly notes p (suc n) f os = record { at = λ σ. entered_plainly σ.own.room os body σ; sized = λ σ. ap (λ (o : Own). length o.locals) (entered_own σ.own.room os body σ) }
+called_plainly notes p (suc n) f os = record { at = λ σ. entered_plainly σ.own.calls_left os body σ; sized = λ σ. ap (λ (o : CallFrame). length o.locals) (entered_own σ.own.calls_left os body σ) }
   where
     r : Routine
     r = routine_at p.routines f
 
-    body : Doing Flow
+    body : Execution Flow
     body = steps_noted notes (layout_of p (routine_bases r)) p.texts (calls_of p) n (noted_called notes p n) r.body zero zero zero zero (routine_rest (routine_bases r))
 
 -- The records of the main input.
@@ -362,16 +362,16 @@ next_own (Stops TooDeep σ) = refl
 next_own (Stops Nexted σ) = refl
 next_own (Stops Exited σ) = refl
 
-record_plainly : (m : Doing (Unit {0})) → Plainly m → Plainly (for_record m)
-record_plainly m h = record { at = λ σ. next_plainly (m σ) (h.at σ); sized = λ σ. ap (λ (o : Own). length o.locals) (next_own (m σ)) ∙ h.sized σ }
+record_plainly : (m : Execution (Unit {0})) → Plainly m → Plainly (for_record m)
+record_plainly m h = record { at = λ σ. next_plainly (m σ) (h.at σ); sized = λ σ. ap (λ (o : CallFrame). length o.locals) (next_own (m σ)) ∙ h.sized σ }
 
-on_input_plainly : (read pending : Doing (Unit {0})) → Plainly read → Plainly pending → (a : InputAnswer) → Plainly (on_input read pending a)
+on_input_plainly : (read pending : Execution (Unit {0})) → Plainly read → Plainly pending → (a : InputAnswer) → Plainly (on_input read pending a)
 on_input_plainly read pending h k input.Read = then_plainly spend_plainly (λ u. h)
 on_input_plainly read pending h k input.Pending = then_plainly spend_plainly (λ u. k)
 on_input_plainly read pending h k input.End = nothing_plainly
 on_input_plainly read pending h k input.Failed = nothing_plainly
 
-pub records_plainly : (m : ℕ) (items : Doing (Unit {0})) → Plainly items → Plainly (records_done m items)
+pub records_plainly : (m : ℕ) (items : Execution (Unit {0})) → Plainly items → Plainly (records_done m items)
 unfolding records_done
 records_plainly zero items h = then_plainly (asks_plainly row.NextMain tt) (λ a. on_input_plainly (stop OutOfTurns) (stop OutOfTurns) (stops_plainly OutOfTurns (λ σ. tt)) (stops_plainly OutOfTurns (λ σ. tt)) a)
 records_plainly (suc m) items h =

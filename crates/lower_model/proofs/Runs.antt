@@ -5,7 +5,7 @@ use Rattle.std.specs.Prelude.{List}
 use Rattle.awk_values.specs.declared.fault.Fault.{Fault}
 use Rattle.mid_program.specs.MidMeaning.{then_row}
 use Rattle.sem_scripts.specs.ScriptRun.{GoesOn}
-use Rattle.sem_scripts.specs.ScriptState.{State, Stop, Faulted, OutOfTurns, TooDeep, Nexted, Exited, Returned, Outcome, Gives, Stops, Doing, go_on, settled, spent}
+use Rattle.sem_scripts.specs.ScriptState.{State, Stop, Faulted, OutOfTurns, TooDeep, Nexted, Exited, Returned, Outcome, Gives, Stops, Execution, go_on, settled, spent}
 use Rattle.lower_model.specs.Machine.{Code, Conf, step, go, turns_within, ending_at}
 
 pub go_add : (u : Code) (i j : ℕ) (c : Conf) → go u (i + j) c ≡ go u j (go u i c)
@@ -131,12 +131,12 @@ module _ (u : Code) (M : ℕ) where
   within w w' l c P Q r h a = first 0 w w' l c c P Q r stays (omega (arith, h)) a
 
   -- one part after another
-  pub then_on : {A B : Type 0} → (w w1 w' l : ℕ) (c : Conf) (P : A → State → Conf → Type 0) (P1 : B → State → Conf → Type 0) (Q : Stop → State → Conf → Type 0) (r : Outcome A) (f : A → Doing B) → w + w1 ≤ w' → Arrives w l c P Q r → ((a : A) (σ : State) (c1 : Conf) → σ.turns ≤ l → P a σ c1 → Arrives w1 σ.turns c1 P1 Q (f a σ)) → Arrives w' l c P1 Q (go_on r f)
+  pub then_on : {A B : Type 0} → (w w1 w' l : ℕ) (c : Conf) (P : A → State → Conf → Type 0) (P1 : B → State → Conf → Type 0) (Q : Stop → State → Conf → Type 0) (r : Outcome A) (f : A → Execution B) → w + w1 ≤ w' → Arrives w l c P Q r → ((a : A) (σ : State) (c1 : Conf) → σ.turns ≤ l → P a σ c1 → Arrives w1 σ.turns c1 P1 Q (f a σ)) → Arrives w' l c P1 Q (go_on r f)
   then_on w w1 w' l c P P1 Q (Gives a σ) f h r next = arrives_after r.steps w1 w' l σ.turns c r.conf P1 Q (f a σ) r.goes (record { down = r.cost.down; paid = r.cost.paid; few = omega (arith, r.cost.few, h) }) (next a σ r.conf r.cost.down r.holds)
   then_on w w1 w' l c P P1 Q (Stops why σ) f h r next = halts_after 0 w w' l l c c Q why σ refl (record { down = omega arith; paid = omega arith; few = omega (arith, h) }) r
 
   -- the same for what only settles something, and leaves the state alone
-  pub then_settled : {A B : Type 0} → (w w1 w' : ℕ) (c : Conf) (σ : State) (P : A → State → Conf → Type 0) (P1 : B → State → Conf → Type 0) (Q : Stop → State → Conf → Type 0) (r : Result A Fault) (f : A → Doing B) → w + w1 ≤ w' → Arrives w σ.turns c P Q (settled r σ) → ((a : A) (c1 : Conf) → r ≡ Ok a → P a σ c1 → Arrives w1 σ.turns c1 P1 Q (f a σ)) → Arrives w' σ.turns c P1 Q (go_on (settled r σ) f)
+  pub then_settled : {A B : Type 0} → (w w1 w' : ℕ) (c : Conf) (σ : State) (P : A → State → Conf → Type 0) (P1 : B → State → Conf → Type 0) (Q : Stop → State → Conf → Type 0) (r : Result A Fault) (f : A → Execution B) → w + w1 ≤ w' → Arrives w σ.turns c P Q (settled r σ) → ((a : A) (c1 : Conf) → r ≡ Ok a → P a σ c1 → Arrives w1 σ.turns c1 P1 Q (f a σ)) → Arrives w' σ.turns c P1 Q (go_on (settled r σ) f)
   then_settled w w1 w' c σ P P1 Q (Ok a) f h r next = arrives_after r.steps w1 w' σ.turns σ.turns c r.conf P1 Q (f a σ) r.goes (record { down = omega arith; paid = omega arith; few = omega (arith, r.cost.few, h) }) (next a r.conf refl r.holds)
   then_settled w w1 w' c σ P P1 Q (Err x) f h r next = halts_after 0 w w' σ.turns σ.turns c c Q (Faulted x) σ refl (record { down = omega arith; paid = omega arith; few = omega (arith, h) }) r
 
@@ -201,7 +201,7 @@ module _ (u : Code) (M : ℕ) where
   faulted w j c c1 f σ P Q g h p = record { conf = c1; steps = j; goes = g.it; cost = record { down = omega arith; paid = omega arith; few = omega (arith, h) }; holds = p }
 
   -- a turn pays for M steps, and a step is taken for it at least
-  pub turned : {A : Type 0} → (l j w w' : ℕ) (σ : State) (c c1 : Conf) (P : A → State → Conf → Type 0) (Q : Stop → State → Conf → Type 0) (f : Doing A) → σ.turns ≡ l → Goes u (suc j) c c1 → ending_at c ≡ Some (GoesOn σ.shared.output) → suc j + w ≤ w' + M → ((m : ℕ) → l ≡ suc m → Arrives w m c1 P Q (f (record σ { turns = m }))) → Arrives w' l c P Q (go_on (spent l σ) (λ a. f))
+  pub turned : {A : Type 0} → (l j w w' : ℕ) (σ : State) (c c1 : Conf) (P : A → State → Conf → Type 0) (Q : Stop → State → Conf → Type 0) (f : Execution A) → σ.turns ≡ l → Goes u (suc j) c c1 → ending_at c ≡ Some (GoesOn σ.shared.output) → suc j + w ≤ w' + M → ((m : ℕ) → l ≡ suc m → Arrives w m c1 P Q (f (record σ { turns = m }))) → Arrives w' l c P Q (go_on (spent l σ) (λ a. f))
   turned zero j w w' σ c c1 P Q f e g o h next = record { steps = 0; few = omega arith; enough = omega arith; shows = o }
   turned (suc m) j w w' σ c c1 P Q f e g o h next =
       let s = steps_turn u (suc j) c in

@@ -4,7 +4,7 @@ use Rattle.std.proofs.lemmas.Bool.{and_parts}
 use Rattle.wasm_types.specs.Syntax.{Instructions}
 use Rattle.mid_program.specs.Mid.{Kind, Program, Code, Step, Eval, Block, Steps, NoStep, Then, form_of}
 use Rattle.mid_program.specs.MidMeaning.{stepped}
-use Rattle.sem_scripts.specs.ScriptState.{State, Stop, Outcome, Doing}
+use Rattle.sem_scripts.specs.ScriptState.{State, Stop, Outcome, Execution}
 use Rattle.mid_program.specs.Sorted.{There, sorted, step_sorted, steps_sorted}
 use Rattle.sem_scripts.specs.Statements.{Flow, Normal, Broke, Continued, after}
 use Rattle.lower_model.specs.Emission.{left_over, dropped}
@@ -12,7 +12,7 @@ use Rattle.lower_model.specs.Machine.{Conf, Label, Frame, at}
 use Rattle.lower_model.specs.Noted.{step_noted, steps_noted}
 use Rattle.lower_model.specs.Places.{Bases, room, arrays_in}
 use Rattle.lower_model.specs.Statements.{step_emitted, steps_emitted}
-use Rattle.lower_model.proofs.Watch.{Watch}
+use Rattle.lower_model.proofs.Observer.{Observer}
 use Rattle.lower_model.proofs.Runs.{stays, goes_from, first, then_on, there, weaker}
 use Rattle.lower_model.proofs.Locals.{Locals, laid}
 use Rattle.lower_model.proofs.Relation.{Away}
@@ -22,7 +22,7 @@ use Rattle.lower_model.proofs.Keeping.{left_ok}
 use Rattle.lower_model.proofs.StatementForms.{step_work, steps_work, flows_on, step_meant, steps_meant, plain_meant, Starts, ready, starts_after, StepDone, StepOk, StepsOk}
 use Rattle.lower_model.proofs.Tidy.{begun_step}
 
-module _ (p : Program) (deepest : Watch) (ks : List Kind) (F : List Frame) (b : Bases) (M n : ℕ) where
+module _ (p : Program) (deepest : Observer) (ks : List Kind) (F : List Frame) (b : Bases) (M n : ℕ) where
   -- an expression for what it does alone
   pub dropped_ok : (e : Code) → ExprOk p deepest ks F b M n e → (lo : Bool) (u d bk ct : ℕ) (k : Instructions) (K : List Label) (l : Locals) (σ : State) → sorted (context p deepest ks F b M n) [] e ≡ true → room e ≤ b.temporaries → arrays_in e ≤ b.arrays → Starts p deepest ks F b M n u K l σ →
       Reached p deepest ks F b M (work_of e + 8) σ.turns (at ks [] K (laid b l) F (dropped (layout p deepest ks F b M n) [] [] e zero zero d k) (beside_state p deepest ks F σ)) (StepDone p deepest ks F b M n lo u bk ct k K l) (Away p deepest ks F b d K) (plain_meant p deepest ks F b M n (Eval e) σ)
@@ -49,7 +49,7 @@ module _ (p : Program) (deepest : Watch) (ks : List Kind) (F : List Frame) (b : 
       (λ f σ c1 h. record { next = h.next; comes = h.comes; starts = h.starts; iterators = λ x. h.iterators x ∙ same x; flows = h.flows }) (λ why σ c1 q. q) a
 
   -- a step that jumped is done whatever comes after it
-  jumped : (w : ℕ) (lo : Bool) (u bk ct : ℕ) (k1 k : Instructions) (K : List Label) (l : Locals) (Q : Stop → State → Conf → Type 0) (f : Flow) (σ : State) (c : Conf) (rest : Doing Flow) → StepDone p deepest ks F b M n lo u bk ct k1 K l f σ c →
+  jumped : (w : ℕ) (lo : Bool) (u bk ct : ℕ) (k1 k : Instructions) (K : List Label) (l : Locals) (Q : Stop → State → Conf → Type 0) (f : Flow) (σ : State) (c : Conf) (rest : Execution Flow) → StepDone p deepest ks F b M n lo u bk ct k1 K l f σ c →
       ((l1 : Locals) → c ≡ at ks [] K (laid b l1) F k1 (beside_state p deepest ks F σ) → Starts p deepest ks F b M n u K l1 σ → ((x : ℕ) → l1.iterator x ≡ l.iterator x) → Reached p deepest ks F b M w σ.turns c (StepDone p deepest ks F b M n lo u bk ct k K l) Q (rest σ)) →
       Reached p deepest ks F b M w σ.turns c (StepDone p deepest ks F b M n lo u bk ct k K l) Q (after f rest σ)
   jumped w lo u bk ct k1 k K l Q Normal σ c rest h a = a h.next h.comes h.starts h.iterators

@@ -9,7 +9,7 @@ use Rattle.sem_primitives.specs.Numbers.{Number, number_word}
 use Rattle.sem_primitives.specs.declared.sorts.Answer.TheVariants as answer
 use Rattle.sem_primitives.specs.declared.sorts.Sort.TheVariants as sort
 use Rattle.wasm_store.specs.declared.word.Word.TheVariants.{I64}
-use Rattle.mid_program.specs.Mid.{Kind, Many, Program, Form, Answered}
+use Rattle.mid_program.specs.Mid.{Kind, ArrayKind, Program, Form, PrimitiveAnswer}
 use Rattle.mid_program.specs.MidMeaning.{Holds, boxed}
 use Rattle.sem_scripts.specs.Steps.{truth_number}
 use Rattle.sem_scripts.specs.ScriptState.{State, Scalar, with_local}
@@ -17,7 +17,7 @@ use Rattle.mid_program.specs.Sorted.{has_kind, is_number}
 use Rattle.lower_model.specs.Cells.{Cell, Bits}
 use Rattle.lower_model.specs.Machine.{Frame}
 use Rattle.lower_model.specs.Places.{Bases}
-use Rattle.lower_model.proofs.Watch.{Watch}
+use Rattle.lower_model.proofs.Observer.{Observer}
 use Rattle.lower_model.proofs.Regions.{upd_same, upd_other}
 use Rattle.lower_model.proofs.Locals.{Locals, Param, with_at}
 use Rattle.lower_model.proofs.Steps.{empty}
@@ -28,25 +28,25 @@ use Rattle.lower_model.proofs.Reading.{kind_below, kind_found}
 
 -- a number's word, by its form
 abbrev pub number_of_form : (f : Form) (x : Holds f) → is_number f ≡ true → Number
-number_of_form (Answered (answer.Of sort.Number)) x e = x
-number_of_form (Answered answer.Truth) x e = truth_number x
+number_of_form (PrimitiveAnswer (answer.Of sort.Number)) x e = x
+number_of_form (PrimitiveAnswer answer.Truth) x e = truth_number x
 number_of_form f x e = absurd cc
 
 pub number_boxed : (f : Form) (x : Holds f) (e : is_number f ≡ true) → boxed f x ≡ Num (number_of_form f x e).number
-number_boxed (Answered (answer.Of sort.Number)) x e = refl
-number_boxed (Answered answer.Truth) x e = refl
+number_boxed (PrimitiveAnswer (answer.Of sort.Number)) x e = refl
+number_boxed (PrimitiveAnswer answer.Truth) x e = refl
 number_boxed f x e = cc
 
 pub number_held : (f : Form) (x : Holds f) (e : is_number f ≡ true) (t : ℕ) (l : Locals) → HoldsAt f t l x → (l.hand t ≡ empty) × (l.number t ≡ Bits (I64 (number_word (number_of_form f x e))))
-number_held (Answered (answer.Of sort.Number)) x e t l q = (q.0, q.1)
-number_held (Answered answer.Truth) x e t l q = (q.0, q.1 ∙ ap (λ m. Bits (I64 m)) (flag_word x))
+number_held (PrimitiveAnswer (answer.Of sort.Number)) x e t l q = (q.0, q.1)
+number_held (PrimitiveAnswer answer.Truth) x e t l q = (q.0, q.1 ∙ ap (λ m. Bits (I64 m)) (flag_word x))
 number_held f x e t l q = absurd cc
 
 pub number_plain : (f : Form) → is_number f ≡ true → NoArray f
-number_plain (Answered (answer.Of sort.Array)) e = absurd cc
+number_plain (PrimitiveAnswer (answer.Of sort.Array)) e = absurd cc
 number_plain f e = tt
 
-module _ (p : Program) (deepest : Watch) (ks : List Kind) (F : List Frame) (b : Bases) (M n : ℕ) where
+module _ (p : Program) (deepest : Observer) (ks : List Kind) (F : List Frame) (b : Bases) (M n : ℕ) where
   -- a parameter has another value
   pub fit_param : (i : ℕ) (k : Kind) (v : Value) (c : Cell) (t u w : ℕ) (l : Locals) (σ : State) → has_kind ks i k ≡ true → ParamIs p deepest ks F k (Scalar v) c → Fit p deepest ks F t u w l σ → Fit p deepest ks F t u w (with_at l (Param i) c) (with_local i v σ)
   fit_param i k v c t u w l σ hk h f = record {
@@ -79,8 +79,8 @@ module _ (p : Program) (deepest : Watch) (ks : List Kind) (F : List Frame) (b : 
           (subst (λ o. ParamIs p deepest ks F k1 o ((with_at l (Param i) c).param i)) (sym (get_or-set_same σ.own.locals i (Scalar v) (Scalar Uninit) (omega (arith, sz, lt))))
           (subst (λ d. ParamIs p deepest ks F k1 (Scalar v) d) (sym (upd_same l.param i c)) (subst (λ z. ParamIs p deepest ks F z (Scalar v) c) kk h)))
 
-  pub kinds_apart : (i j : ℕ) (k : Kind) → has_kind ks i k ≡ true → has_kind ks j Many ≡ true → (k ≡ Many → ⊥) → j ≢ i
-  kinds_apart i j k h h1 ne e = ne (sym (kind_found ks i k h) ∙ kind_found ks i Many (ap (λ z. has_kind ks z Many) (sym e) ∙ h1))
+  pub kinds_apart : (i j : ℕ) (k : Kind) → has_kind ks i k ≡ true → has_kind ks j ArrayKind ≡ true → (k ≡ ArrayKind → ⊥) → j ≢ i
+  kinds_apart i j k h h1 ne e = ne (sym (kind_found ks i k h) ∙ kind_found ks i ArrayKind (ap (λ z. has_kind ks z ArrayKind) (sym e) ∙ h1))
 
   pub stands_number : (v : Bool) (f : Form) (t : ℕ) (l : Locals) (x : Holds f) → l.hand t ≡ empty → HoldsAt f t l x → StandsAt v f t l x
   stands_number true f t l x e q = e

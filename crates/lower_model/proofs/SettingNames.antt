@@ -14,7 +14,7 @@ use Rattle.wasm_types.specs.declared.types.ValType.TheVariants as ty
 use Rattle.wasm_types.specs.declared.instr.IRelOp.TheVariants.{Eq}
 use Rattle.wasm_types.specs.declared.instr.Simple.TheVariants.{LocalGet, LocalSet, GlobalGet, GlobalSet, I32Const, I64Const, Compare}
 use Rattle.wasm_store.specs.declared.word.Word.TheVariants.{I64}
-use Rattle.mid_program.specs.Mid.{Kind, Boxed, Unboxed, Many, Program, Slot, Global, Parameter, Form, Answered, Code, Set, form_of}
+use Rattle.mid_program.specs.Mid.{Kind, Boxed, Unboxed, ArrayKind, Program, Slot, Global, Parameter, Form, PrimitiveAnswer, Code, Set, form_of}
 use Rattle.mid_program.specs.MidMeaning.{Holds, Env, evaluated, all_evaluated, boxed, store_slot}
 use Rattle.sem_scripts.specs.ScriptState.{State, Gives, ◌>>◌, give, Scalar, with_local, with_global, global_value, local_value, array_in_local}
 use Rattle.mid_program.specs.Sorted.{Held as Standing, sorted, all_sorted, held_after, has_kind, kinds_of, is_slot, takes, fits}
@@ -22,9 +22,9 @@ use Rattle.lower_model.specs.Cells.{Cell, Bits, Held, Gone, is_owned}
 use Rattle.lower_model.specs.Emission.{emitted, all_emitted, slot_set, text_dropped}
 use Rattle.lower_model.specs.Machine.{Conf, Label, Frame, at}
 use Rattle.lower_model.specs.Places.{Bases}
-use Rattle.lower_model.specs.Small.{does, ask, when, minus_one, least, text_beside}
+use Rattle.lower_model.specs.Small.{emit, ask, when, minus_one, least, text_beside}
 use Rattle.host_imports.specs.declared.import.Import.TheVariants.{Drop}
-use Rattle.lower_model.proofs.Watch.{Watch}
+use Rattle.lower_model.proofs.Observer.{Observer}
 use Rattle.lower_model.proofs.Runs.{Goes, then_goes, goes_to, goes_from, by_steps, there, then_on}
 use Rattle.lower_model.proofs.Locals.{Locals, Param, Hand, Number as NumberAt, local_of, with_at, has_with, laid, laid_twice}
 use Rattle.lower_model.proofs.Globals.{Globals, Hand as NameHand, Number as NameNumber, global_of, with_global_at, has_global_with, placed, placed_twice, placed_again}
@@ -42,14 +42,14 @@ use Rattle.lower_model.proofs.Simulation.{work_of, StandsAt, still_stands, NoArr
 use Rattle.lower_model.proofs.Reading.{kind_below, kind_found}
 
 value_plain : (f : Form) → fits f sort.Value ≡ true → NoArray f
-value_plain (Answered (answer.Of sort.Array)) e = absurd cc
+value_plain (PrimitiveAnswer (answer.Of sort.Array)) e = absurd cc
 value_plain f e = tt
 
 handed_under : (o : Bool) (t w : ℕ) (l : Locals) → Same [] t w l (handed o t l)
 handed_under true t w l = same_hand [] t w t l empty (omega arith)
 handed_under false t w l = same_self [] t w l
 
-module _ (p : Program) (deepest : Watch) (ks : List Kind) (F : List Frame) (b : Bases) (M n : ℕ) where
+module _ (p : Program) (deepest : Observer) (ks : List Kind) (F : List Frame) (b : Bases) (M n : ℕ) where
   -- a name took the value, and all else is as it was
   set_done : (x : Slot) (e : Code) (v : Bool) (fs : List Form) (env : Env fs) (ts : List ℕ) (st : ℕ → Standing) (t u w : ℕ) (k k1 : Instructions) (K : List Label) (l l1 : Locals) (σ τ τ1 : State) (y : Holds (form_of fs e)) (c1 c : Conf) →
       Below t ts → (a : Done p deepest ks F b M n false e fs env ts st t u w k1 K l σ y τ c1) → c ≡ at ks [] K (laid b l1) F k (beside_state p deepest ks F τ1) →
@@ -142,14 +142,14 @@ module _ (p : Program) (deepest : Watch) (ks : List Kind) (F : List Frame) (b : 
 
   -- whether there is one
   text_told : (name : Option ℕ) (i : ℕ) (k : Instructions) (K : List Label) (l : Locals) (σ : State) → has_kind kinds i Unboxed ≡ true →
-      Goes (machine p deepest ks F) 2 (at ks [] K (laid b l) F (does (GlobalGet (global_of p.ranges (length kinds) (NameNumber i))) (does (I64Const text_beside) (does (Compare ty.I64 Eq) k))) (while_assigning name (beside_state p deepest ks F σ)))
+      Goes (machine p deepest ks F) 2 (at ks [] K (laid b l) F (emit (GlobalGet (global_of p.ranges (length kinds) (NameNumber i))) (emit (I64Const text_beside) (emit (Compare ty.I64 Eq) k))) (while_assigning name (beside_state p deepest ks F σ)))
       (at ks (Bits (flag (nat_eq (bare (global_value i σ)) text_beside)) ∷ []) K (laid b l) F k (while_assigning name (beside_state p deepest ks F σ)))
   text_told name i k K l σ hk =
       let x = global_value i σ in
       then_goes (global_copied p.ranges (length kinds) (globals_at σ) (NameNumber i) (Bits (I64 (bare x))) (kind_below kinds i Unboxed hk) (ap (λ c. Bits (I64 (name_word c x))) (kind_found kinds i Unboxed hk)) refl) (by_steps 1 refl)
 
   abbrev dropping : ℕ → Instructions
-  dropping i = does (GlobalGet (global_of p.ranges (length kinds) (NameHand i))) (ask Drop (does (I32Const minus_one) (does (GlobalSet (global_of p.ranges (length kinds) (NameHand i))) NoMore)))
+  dropping i = emit (GlobalGet (global_of p.ranges (length kinds) (NameHand i))) (ask Drop (emit (I32Const minus_one) (emit (GlobalSet (global_of p.ranges (length kinds) (NameHand i))) NoMore)))
 
   no_text : (name : Option ℕ) (i : ℕ) (k : Instructions) (K : List Label) (l : Locals) (σ : State) → has_kind kinds i Unboxed ≡ true → nat_eq (bare (global_value i σ)) text_beside ≡ false → beside (global_value i σ) ≡ empty → TextGone name i k K l σ
   no_text name i k K l σ hk ne eh =
@@ -197,7 +197,7 @@ module _ (p : Program) (deepest : Watch) (ks : List Kind) (F : List Frame) (b : 
       let g2 = with_global_at p.ranges nn g (NameHand i) empty in
       let c = Bits (I64 (number_word y)) in
       let hnum = global_of p.ranges nn (NameNumber i) in
-      let k2 = does (LocalGet (local_of b (NumberAt t))) (does (GlobalSet hnum) k) in
+      let k2 = emit (LocalGet (local_of b (NumberAt t))) (emit (GlobalSet hnum) k) in
       let s = text_dropped_ok None i k2 K l σ hk (bare_is (global_value i σ)) in
       let q = s.few in
       record {
@@ -240,7 +240,7 @@ module _ (p : Program) (deepest : Watch) (ks : List Kind) (F : List Frame) (b : 
     own : SameOwn p deepest ks F σ (stored_in x (boxed f y) σ)
     stands : StandsAt o f t next y
 
-  param_apart : (i : ℕ) (k : Kind) (v : Value) (σ : State) → has_kind ks i k ≡ true → (k ≡ Many → ⊥) → SameOwn p deepest ks F σ (with_local i v σ)
+  param_apart : (i : ℕ) (k : Kind) (v : Value) (σ : State) → has_kind ks i k ≡ true → (k ≡ ArrayKind → ⊥) → SameOwn p deepest ks F σ (with_local i v σ)
   param_apart i k v σ h ne j q = ap array_in_local (get_or-set_other σ.own.locals i j (Scalar v) (Scalar Uninit) (kinds_apart p deepest ks F b M n i j k h q ne))
 
   took : (x : Slot) (o : Bool) (f : Form) (y : Holds f) (t u w : ℕ) (k : Instructions) (K : List Label) (l : Locals) (σ : State) → is_slot (context p deepest ks F b M n) x ≡ true → takes x f ≡ true → length ks ≡ b.parameters → t < b.temporaries → Fit p deepest ks F (suc t) u w l σ → HoldsAt f t l y → Took x o f y t u w k K l σ

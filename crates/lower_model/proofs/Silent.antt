@@ -8,7 +8,7 @@ use Rattle.sem_scripts.specs.Meaning.{Calls}
 use Rattle.mid_program.specs.Mid.{Kind, Code, Step, Eval, Block, If, Loop, Each, Break, Continue, Next, Exit, ExitWith, Return, Mark, Steps, NoStep, Then, Program}
 use Rattle.mid_program.specs.MidMeaning.{stepped, all_stepped, holds, keyed, mid_called, mid_done, mid_run_in, routine_at, global_name, routine_name}
 use Rattle.sem_scripts.specs.ScriptRun.{Setting, run_with}
-use Rattle.sem_scripts.specs.ScriptState.{Doing, ◌>>=◌, ◌>>◌, nothing, does}
+use Rattle.sem_scripts.specs.ScriptState.{Execution, ◌>>=◌, ◌>>◌, nothing, call}
 use Rattle.mid_program.specs.Sorted.{calls_of}
 use Rattle.sem_scripts.specs.Statements.{Flow, after, after_round, loop, over_keys, entered}
 use Rattle.sem_scripts.specs.Steps.{array_number}
@@ -18,26 +18,26 @@ use Rattle.lower_model.specs.Machine.{no_notes}
 use Rattle.lower_model.specs.Noted.{step_noted, steps_noted, noted_called, noted_done, noted_run_in, routine_rest, begin_rest, out_of_part, test_place}
 use Rattle.lower_model.specs.Places.{Bases}
 use Rattle.lower_model.specs.Quick.{pair_in, step_jumps, is_nothing}
-use Rattle.lower_model.specs.Small.{does as instruction}
+use Rattle.lower_model.specs.Small.{emit as instruction}
 use Rattle.lower_model.specs.Statements.{step_emitted, steps_emitted}
 
-whichever : {A : Type 0} {m k x : Doing A} → (j : Bool) → m ≡ x → k ≡ x → (if j then m else k) ≡ x
+whichever : {A : Type 0} {m k x : Execution A} → (j : Bool) → m ≡ x → k ≡ x → (if j then m else k) ≡ x
 whichever true a b = a
 whichever false a b = b
 
 module _ (y : Layout) (texts : List (List ℕ)) (parameters : List (List Kind)) (n : ℕ) (calls : Calls) where
-  abbrev St : Step → Doing Flow
+  abbrev St : Step → Execution Flow
   St s = stepped texts parameters n calls s
 
-  abbrev H : Code → Doing Bool
+  abbrev H : Code → Execution Bool
   H e = holds texts parameters n calls e
 
   -- a third part in which there is nothing does nothing
-  nothing_done : (b : Step) (j : Bool) (m : Doing Flow) → is_nothing b ≡ j → m ≡ St b → (if j then nothing else (m >> nothing)) ≡ (St b >> nothing)
+  nothing_done : (b : Step) (j : Bool) (m : Execution Flow) → is_nothing b ≡ j → m ≡ St b → (if j then nothing else (m >> nothing)) ≡ (St b >> nothing)
   unfolding stepped all_stepped
   nothing_done (Block NoStep) true m e q = refl
   nothing_done b true m e q = cc
-  nothing_done b false m e q = ap (λ (f : Doing Flow). f >> nothing) q
+  nothing_done b false m e q = ap (λ (f : Execution Flow). f >> nothing) q
 
   mutual
     unfolding step_noted steps_noted stepped all_stepped
@@ -46,21 +46,21 @@ module _ (y : Layout) (texts : List (List ℕ)) (parameters : List (List Kind)) 
     silent_step (Eval e) u d bk ct k = refl
     silent_step (Block ss) u d bk ct k = silent_steps ss u d bk ct k
     silent_step (If e a b) u d bk ct k =
-        ap₂ (λ (x z : Doing Flow). H e >>= λ truth. if truth then x else z)
+        ap₂ (λ (x z : Execution Flow). H e >>= λ truth. if truth then x else z)
         (whichever (is_some (pair_in e)) (silent_step a u (suc (suc d)) (suc (suc bk)) (suc (suc ct)) (instruction (Br 1) Done)) (silent_step a u (suc d) (suc bk) (suc ct) Done))
         (silent_step b u (suc d) (suc bk) (suc ct) Done)
     silent_step (Loop true e a b) u d bk ct k =
         let back = instruction (Br zero) Done in
         let rest = if is_nothing b then back else step_emitted y b u (suc (suc d)) 1 zero back in
-        ap₂ (λ (x : Doing Flow) (z : Doing (Unit {0})). loop n (H e) x z)
+        ap₂ (λ (x : Execution Flow) (z : Execution (Unit {0})). loop n (H e) x z)
         (whichever (step_jumps a) (silent_step a u (suc (suc (suc d))) 2 zero Done) (silent_step a u (suc (suc d)) 1 zero rest))
         (nothing_done b (is_nothing b) (step_noted no_notes y texts parameters n calls b u (suc (suc d)) 1 zero back) refl (silent_step b u (suc (suc d)) 1 zero back))
     silent_step (Loop false e a b) u d bk ct k =
         let place = test_place y e (suc (suc d)) in
-        ap₂ (λ (x z : Doing Flow). x >>= λ flow. after_round flow ((z >> nothing) >> loop n (H e) x (z >> nothing)))
+        ap₂ (λ (x z : Execution Flow). x >>= λ flow. after_round flow ((z >> nothing) >> loop n (H e) x (z >> nothing)))
         (silent_step a u (suc (suc (suc d))) 2 zero Done) (silent_step b u (suc (suc d)) 1 zero place)
     silent_step (Each a e s) u d bk ct k =
-        ap (λ (x : Doing Flow). array_number a >>= λ i. does row.Iter (i, tt) >>= λ keys. over_keys n keys (keyed texts parameters n calls e) x) (silent_step s (suc u) (suc (suc (suc d))) 2 zero Done)
+        ap (λ (x : Execution Flow). array_number a >>= λ i. call row.Iter (i, tt) >>= λ keys. over_keys n keys (keyed texts parameters n calls e) x) (silent_step s (suc u) (suc (suc (suc d))) 2 zero Done)
     silent_step Break u d bk ct k = refl
     silent_step Continue u d bk ct k = refl
     silent_step Next u d bk ct k = refl
@@ -72,7 +72,7 @@ module _ (y : Layout) (texts : List (List ℕ)) (parameters : List (List Kind)) 
     pub silent_steps : (ss : Steps) (u d bk ct : ℕ) (k : Instructions) → steps_noted no_notes y texts parameters n calls ss u d bk ct k ≡ all_stepped texts parameters n calls ss
     silent_steps NoStep u d bk ct k = refl
     silent_steps (Then s ss) u d bk ct k =
-        ap₂ (λ (x z : Doing Flow). x >>= λ flow. after flow z) (silent_step s u d bk ct (steps_emitted y ss u d bk ct k)) (silent_steps ss u d bk ct k)
+        ap₂ (λ (x z : Execution Flow). x >>= λ flow. after flow z) (silent_step s u d bk ct (steps_emitted y ss u d bk ct k)) (silent_steps ss u d bk ct k)
 
 silent_called : (p : Program) (n : ℕ) → noted_called no_notes p n ≡ mid_called p n
 unfolding noted_called mid_called
@@ -83,12 +83,12 @@ silent_called p (suc n) = λ i. λ f locals.
 
 silent_done : (p : Program) (b : Bases) (n : ℕ) (ss : Steps) (k : Instructions) → noted_done no_notes p b n ss k ≡ mid_done p n ss
 silent_done p b n ss k =
-    ap (λ (m : Doing Flow). m >> nothing)
+    ap (λ (m : Execution Flow). m >> nothing)
     (silent_steps (layout_of p b) p.texts (calls_of p) n (noted_called no_notes p n) ss zero zero zero zero k ∙ ap (λ (calls : Calls). all_stepped p.texts (calls_of p) n calls ss) (silent_called p n))
 
 pub silent_run : (p : Program) (s : Setting) (turns : ℕ) → noted_run_in no_notes p s turns ≡ mid_run_in p s turns
 silent_run p s turns =
     let b = main_bases p in
-    let run = λ (x z w : Doing (Unit {0})). run_with s turns (record { globals = map global_name p.globals; functions = map routine_name p.routines; begin = x; reads = p.reads; items = z; end = w }) in
-    ap₂ (λ (x z : Doing (Unit {0})). run x z (noted_done no_notes p b turns p.end out_of_part)) (silent_done p b turns p.begin (begin_rest p b)) (silent_done p b turns p.items out_of_part)
-    ∙ ap (λ (w : Doing (Unit {0})). run (mid_done p turns p.begin) (mid_done p turns p.items) w) (silent_done p b turns p.end out_of_part)
+    let run = λ (x z w : Execution (Unit {0})). run_with s turns (record { globals = map global_name p.globals; functions = map routine_name p.routines; begin = x; reads = p.reads; items = z; end = w }) in
+    ap₂ (λ (x z : Execution (Unit {0})). run x z (noted_done no_notes p b turns p.end out_of_part)) (silent_done p b turns p.begin (begin_rest p b)) (silent_done p b turns p.items out_of_part)
+    ∙ ap (λ (w : Execution (Unit {0})). run (mid_done p turns p.begin) (mid_done p turns p.items) w) (silent_done p b turns p.end out_of_part)

@@ -12,10 +12,10 @@ use Rattle.wasm_types.specs.Syntax.{Instructions}
 use Rattle.mid_program.specs.declared.mid.Arithmetic.{Arithmetic}
 use Rattle.mid_program.specs.declared.mid.Arithmetic.TheVariants.{Times}
 use Rattle.mid_program.specs.declared.mid.Operation.TheVariants.{Host, Inline, AsNumber, FieldNumber}
-use Rattle.mid_program.specs.Mid.{Kind, Program, Form, Answered, Code, Do, Over, Compare, Call, Ask, AskLine, FileLine, Replace, Number, Text, Unset, Get, Set, Array, IsOpen, Choose, Seq, Let, Bound, Codes, End, At, Fixed, Fresh, form_of, form_at}
+use Rattle.mid_program.specs.Mid.{Kind, Program, Form, PrimitiveAnswer, Code, Do, Over, Compare, Call, Ask, AskLine, FileLine, Replace, Number, Text, Unset, Get, Set, Array, IsOpen, Choose, Seq, Let, Bound, Codes, End, At, Fixed, Fresh, form_of, form_at}
 use Rattle.mid_program.specs.MidMeaning.{Holds, Env, Values, evaluated, all_evaluated}
 use Rattle.sem_scripts.specs.Names.{ArrayName}
-use Rattle.sem_scripts.specs.ScriptState.{State, Doing}
+use Rattle.sem_scripts.specs.ScriptState.{State, Execution}
 use Rattle.mid_program.specs.Sorted.{Held as Standing, Context, context_of, calls_of, sorted, all_sorted, held_after, held_after_all, is_well_used}
 use Rattle.lower_model.specs.Cells.{IteratorOf, OwnedArray}
 use Rattle.lower_model.specs.Emission.{Layout, array_meant, emitted, all_emitted}
@@ -23,7 +23,7 @@ use Rattle.lower_model.specs.Functions.{layout_of}
 use Rattle.lower_model.specs.Machine.{Conf, Label, Frame, at, loops_walked}
 use Rattle.lower_model.specs.Noted.{noted_called}
 use Rattle.lower_model.specs.Places.{Bases, calculated_room, room, rooms, arrays_in, arrays_among}
-use Rattle.lower_model.proofs.Watch.{Watch}
+use Rattle.lower_model.proofs.Observer.{Observer}
 use Rattle.lower_model.proofs.Locals.{Locals, laid}
 use Rattle.lower_model.proofs.Steps.{empty}
 use Rattle.lower_model.proofs.Relation.{HoldsAt, Meant, Kept, Below, Same, Fit, SameOwn, Away}
@@ -136,7 +136,7 @@ gives_away e v = false
 
 -- what is kept is no array
 abbrev pub NoArray : Form → Type 0
-NoArray (Answered (answer.Of sort.Array)) = ⊥
+NoArray (PrimitiveAnswer (answer.Of sort.Array)) = ⊥
 NoArray f = Unit {0}
 
 abbrev pub StandsAt : Bool → (f : Form) → ℕ → Locals → Holds f → Type 0
@@ -150,7 +150,7 @@ still_stands (Let a c) f t l x q = q
 still_stands (Bound m i) f t l x q = q
 still_stands _ f t l x q = q
 
-module _ (p : Program) (deepest : Watch) (ks : List Kind) (F : List Frame) (b : Bases) (M n : ℕ) where
+module _ (p : Program) (deepest : Observer) (ks : List Kind) (F : List Frame) (b : Bases) (M n : ℕ) where
   abbrev pub context : Context
   context = context_of p ks
 
@@ -158,14 +158,14 @@ module _ (p : Program) (deepest : Watch) (ks : List Kind) (F : List Frame) (b : 
   layout = layout_of p b
 
   pub plain_stands : (f : Form) (x : Holds f) (a : ArrayName) (σ : State) → NoArray f → Meant p deepest ks F f x a σ
-  plain_stands (Answered (answer.Of sort.Array)) x a σ h = absurd h
+  plain_stands (PrimitiveAnswer (answer.Of sort.Array)) x a σ h = absurd h
   plain_stands f x a σ h = tt
 
   -- what code means, with n more calls inside one another
-  abbrev pub meant : (fs : List Form) → Env fs → (e : Code) → Doing (Holds (form_of fs e))
+  abbrev pub meant : (fs : List Form) → Env fs → (e : Code) → Execution (Holds (form_of fs e))
   meant fs env e = evaluated p.texts (calls_of p) n (noted_called deepest.notes p n) fs env e
 
-  abbrev pub all_meant : (fs : List Form) → Env fs → (es : Codes) → Doing (Values fs es)
+  abbrev pub all_meant : (fs : List Form) → Env fs → (es : Codes) → Execution (Values fs es)
   all_meant fs env es = all_evaluated p.texts (calls_of p) n (noted_called deepest.notes p n) fs env es
 
   -- u loops over keys are walked, m among the labels, and each has its iterator
@@ -232,6 +232,6 @@ module _ (p : Program) (deepest : Watch) (ks : List Kind) (F : List Frame) (b : 
   -- they stand there as a row of arguments
   abbrev pub RowAt : (wanted : List Argument) → Codes → ℕ → Locals → State → Row wanted → Type 0
   RowAt [] End t l σ r = Unit {0}
-  RowAt (argument.Of s ∷ rest) (At e es) t l σ r = HoldsAt (Answered (answer.Of s)) t l r.0 × Meant p deepest ks F (Answered (answer.Of s)) r.0 (array_meant e) σ × RowAt rest es (suc t) l σ r.1
+  RowAt (argument.Of s ∷ rest) (At e es) t l σ r = HoldsAt (PrimitiveAnswer (answer.Of s)) t l r.0 × Meant p deepest ks F (PrimitiveAnswer (answer.Of s)) r.0 (array_meant e) σ × RowAt rest es (suc t) l σ r.1
   RowAt (argument.Constant c ∷ rest) (Fixed m es) t l σ r = (constant_at c m ≡ Some r.0) × RowAt rest es t l σ r.1
   RowAt wanted es t l σ r = ⊥

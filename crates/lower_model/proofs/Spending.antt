@@ -7,11 +7,11 @@ use Rattle.sem_primitives.specs.Sorts.{InAnswer}
 use Rattle.sem_primitives.specs.declared.sorts.Answer.{Answer}
 use Rattle.wasm_types.specs.Syntax.{Instructions}
 use Rattle.mid_program.specs.Mid.{Kind, Program}
-use Rattle.sem_scripts.specs.ScriptState.{State, Stop, OutOfTurns, Gives, Stops, Doing, go_on, spent, spend_all, settled}
+use Rattle.sem_scripts.specs.ScriptState.{State, Stop, OutOfTurns, Gives, Stops, Execution, go_on, spent, spend_all, settled}
 use Rattle.sem_scripts.specs.ScriptRun.{GoesOn}
 use Rattle.lower_model.specs.Cells.{Cell}
 use Rattle.lower_model.specs.Machine.{Conf, Label, Frame, Store, at, carried_at, turns_within, ending_at}
-use Rattle.lower_model.proofs.Watch.{Watch}
+use Rattle.lower_model.proofs.Observer.{Observer}
 use Rattle.lower_model.proofs.Runs.{Goes, Arrives, arrives_after}
 use Rattle.lower_model.proofs.Answers.{machine, beside_state, reply, after_reply}
 
@@ -39,7 +39,7 @@ spending (suc n) σ = by (λ k. spending n (record σ { turns = k })) σ.turns r
     by on zero e = none_left n σ e
     by on (suc k) e = one_spent n k σ e (on k)
 
-module _ (p : Program) (deepest : Watch) (ks : List Kind) (F : List Frame) (M : ℕ) where
+module _ (p : Program) (deepest : Observer) (ks : List Kind) (F : List Frame) (M : ℕ) where
   -- such a call: its code, how many assignments it carries out, what it gives
   pub record Asks (a : Answer) : Type 0 where
     pub code : Instructions → Instructions
@@ -57,7 +57,7 @@ module _ (p : Program) (deepest : Watch) (ks : List Kind) (F : List Frame) (M : 
   conf_after a K L c σ r = at ks (reply a (settles σ.shared r).answer []) K L F c (after_reply p deepest ks F (settles σ.shared r).answer (record σ { shared = shared_after σ.shared (settles σ.shared r) }))
 
   -- what such a call means
-  abbrev pub asking : (a : Answer) → Asks a → Doing (InAnswer a)
+  abbrev pub asking : (a : Answer) → Asks a → Execution (InAnswer a)
   asking a q = λ σ. go_on (spend_all (q.carried σ.shared) σ) (λ x τ. settled (settles τ.shared (q.result τ.shared)).answer (record τ { shared = shared_after τ.shared (settles τ.shared (q.result τ.shared)) }))
 
   -- the machine is at work behind it
@@ -68,7 +68,7 @@ module _ (p : Program) (deepest : Watch) (ks : List Kind) (F : List Frame) (M : 
   still_shown a K L c σ (Ok x) work = work _ _ ∙ ap (λ o. Some (GoesOn o)) (append-nil σ.shared.output)
   still_shown a K L c σ (Err f) work = work _ _ ∙ ap (λ o. Some (GoesOn o)) (append-nil σ.shared.output)
 
-  module _ {B : Type 0} (a : Answer) (q : Asks a) (w : ℕ) (K : List Label) (L : List Cell) (c : Instructions) (σ : State) (P : B → State → Conf → Type 0) (Q : Stop → State → Conf → Type 0) (f : InAnswer a → Doing B) (none : σ.shared.inner.pending ≡ None) (work : IsWork K L c)
+  module _ {B : Type 0} (a : Answer) (q : Asks a) (w : ℕ) (K : List Label) (L : List Cell) (c : Instructions) (σ : State) (P : B → State → Conf → Type 0) (Q : Stop → State → Conf → Type 0) (f : InAnswer a → Execution B) (none : σ.shared.inner.pending ≡ None) (work : IsWork K L c)
       (next : (m : ℕ) → m ≤ σ.turns → Arrives (machine p deepest ks F) M w m (conf_after a K L c σ (q.result σ.shared)) P Q (go_on (settled (settles σ.shared (q.result σ.shared)).answer (state_after a σ m (q.result σ.shared))) f)) where
     abbrev start : Conf
     start = at ks [] K L F (q.code c) (beside_state p deepest ks F σ)

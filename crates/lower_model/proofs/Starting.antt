@@ -14,14 +14,14 @@ use Rattle.wasm_store.specs.declared.word.Word.TheVariants.{I64}
 use Rattle.sem_scripts.specs.Meaning.{assign_pending}
 use Rattle.mid_program.specs.Mid.{Kind, Program}
 use Rattle.sem_scripts.specs.ScriptRun.{first_assigned, on_assignment}
-use Rattle.sem_scripts.specs.ScriptState.{State, Stop, OutOfTurns, Doing, ◌>>◌, go_on, stop, spent, spend, settled}
+use Rattle.sem_scripts.specs.ScriptState.{State, Stop, OutOfTurns, Execution, ◌>>◌, go_on, stop, spent, spend, settled}
 use Rattle.lower_model.specs.Cells.{Bits}
 use Rattle.lower_model.specs.Emission.{asked}
 use Rattle.lower_model.specs.Machine.{Conf, Label, Frame, at, carried_if}
 use Rattle.lower_model.specs.Places.{Bases}
 use Rattle.lower_model.specs.Small.{ask_row}
-use Rattle.host_imports.specs.declared.import.Import.TheVariants.{Of}
-use Rattle.lower_model.proofs.Watch.{Watch}
+use Rattle.host_imports.specs.declared.import.Import.TheVariants.{OfPrimitive}
+use Rattle.lower_model.proofs.Observer.{Observer}
 use Rattle.lower_model.proofs.Runs.{by_steps, there, faulted, first, weaker}
 use Rattle.lower_model.proofs.Locals.{Locals, Number as NumberAt, with_at, laid}
 use Rattle.lower_model.proofs.Calls.{import_found}
@@ -34,14 +34,14 @@ use Rattle.lower_model.proofs.Spending.{Asks, state_after, conf_after, asking, s
 use Rattle.lower_model.proofs.Asking.{behind_call, loop_at, came_out, fit_answered, fit_faulted, assign_work, pends_ok}
 use Rattle.lower_model.proofs.Simulation.{layout}
 
-module _ (p : Program) (deepest : Watch) (ks : List Kind) (F : List Frame) (b : Bases) (M n : ℕ) where
+module _ (p : Program) (deepest : Observer) (ks : List Kind) (F : List Frame) (b : Bases) (M n : ℕ) where
   abbrev asks_start : Asks p deepest ks F M answer.Assign
   asks_start = record {
     code = ask_row row.StartAssign;
     carried = carried_out row.StartAssign;
     result = λ s. start_assign_row s.inner;
     calls = λ K L c σ e. row_called p deepest ks F row.StartAssign tt [] [] σ refl refl refl refl (ap (λ z. not (is_some z)) e);
-    counts = λ K L c σ. ap (λ o. carried_if o (beside_state p deepest ks F σ)) (import_found (Of row.StartAssign));
+    counts = λ K L c σ. ap (λ o. carried_if o (beside_state p deepest ks F σ)) (import_found (OfPrimitive row.StartAssign));
   }
 
   -- all of them are made
@@ -65,10 +65,10 @@ module _ (p : Program) (deepest : Watch) (ks : List Kind) (F : List Frame) (b : 
     abbrev after_reply_of : Result (Inner × AssignAnswer) Fault → Conf
     after_reply_of r = conf_after p deepest ks F M answer.Assign (loop_at p deepest ks F b M n (ask_row row.StartAssign) t d k ∷ K) (laid b l) (behind_call p deepest ks F b M n t d) σ r
 
-    abbrev Pends : Doing (Unit {0}) → Type 0
+    abbrev Pends : Execution (Unit {0}) → Type 0
     Pends go = (m : ℕ) (j : Inner) → m ≤ σ.turns → j.names ≡ σ.shared.inner.names → (Few σ.shared.inner → Few j) → IsPending j → Reached p deepest ks F b M 9 m (after_reply_of (Ok (j, assign.Pending))) P Q ((spend >> go) (after_call m (Ok (j, assign.Pending))))
 
-    answered : (m : ℕ) (r : Result (Inner × AssignAnswer) Fault) (go : Doing (Unit {0})) → m ≤ σ.turns → GoodStart σ.shared.inner.assigns σ.shared.inner r → Pends go → Reached p deepest ks F b M 9 m (after_reply_of r) P Q (go_on (settled (settles σ.shared r).answer (after_call m r)) (on_assignment go))
+    answered : (m : ℕ) (r : Result (Inner × AssignAnswer) Fault) (go : Execution (Unit {0})) → m ≤ σ.turns → GoodStart σ.shared.inner.assigns σ.shared.inner r → Pends go → Reached p deepest ks F b M 9 m (after_reply_of r) P Q (go_on (settled (settles σ.shared r).answer (after_call m r)) (on_assignment go))
     answered m (Err g) go le h pe =
         faulted (machine p deepest ks F) M 9 4 _ _ g (after_call m (Err g)) P Q (code_failed b l t (suc d) lt (ft.numbers t)) (omega arith) (away_with p deepest ks F b M t u w d (2 ^ 64 - 1) K l (after_call m (Err g)) g (fit_faulted p deepest ks F b M n answer.Assign t u w l σ m g ft))
     answered m (Ok (j, assign.Pending)) go le h pe = pe m j le h.0 h.4 h.1
@@ -78,7 +78,7 @@ module _ (p : Program) (deepest : Watch) (ks : List Kind) (F : List Frame) (b : 
         there (machine p deepest ks F) M 9 9 _ _ tt τ P Q (came_out p deepest ks F b M n (ask_row row.StartAssign) 0 t d k K l τ refl refl refl lt (ft.numbers t)) (omega arith)
         (record { next = with_at l (NumberAt t) (Bits (I64 0)); comes = refl; fit = fit_number p deepest ks F t t u w l τ (Bits (I64 0)) refl f0; same = same_number [] t w t l (Bits (I64 0)) (omega arith); own = λ i q. refl })
 
-    once_ok : (go : Doing (Unit {0})) → Pends go → Reached p deepest ks F b M 10 σ.turns (at ks [] (loop_at p deepest ks F b M n (ask_row row.StartAssign) t d k ∷ K) (laid b l) F (ask_row row.StartAssign (behind_call p deepest ks F b M n t d)) (beside_state p deepest ks F σ)) P Q (go_on (asking p deepest ks F M answer.Assign asks_start σ) (on_assignment go))
+    once_ok : (go : Execution (Unit {0})) → Pends go → Reached p deepest ks F b M 10 σ.turns (at ks [] (loop_at p deepest ks F b M n (ask_row row.StartAssign) t d k ∷ K) (laid b l) F (ask_row row.StartAssign (behind_call p deepest ks F b M n t d)) (beside_state p deepest ks F σ)) P Q (go_on (asking p deepest ks F M answer.Assign asks_start σ) (on_assignment go))
     once_ok go pe = spends_ok p deepest ks F M answer.Assign asks_start 9 (loop_at p deepest ks F b M n (ask_row row.StartAssign) t d k ∷ K) (laid b l) (behind_call p deepest ks F b M n t d) σ P Q (on_assignment go) ft.sound.calm.pending (λ vs G. refl)
         (λ m le. answered m (start_assign_row σ.shared.inner) go le (start_good σ.shared.inner.assigns σ.shared.inner) pe)
 

@@ -11,7 +11,7 @@ use Rattle.sem_primitives.specs.Constants.{flag_number}
 use Rattle.sem_primitives.specs.Numbers.{Number, number_of, number_word}
 use Rattle.sem_primitives.proofs.Words.{word_no_fault, small, fits, number_again}
 use Rattle.wasm_store.specs.declared.word.Word.TheVariants.{I32, I64}
-use Rattle.mid_program.specs.Mid.{Slot, Global, Parameter, Kind, Boxed, Unboxed, Many}
+use Rattle.mid_program.specs.Mid.{Slot, Global, Parameter, Kind, Boxed, Unboxed, ArrayKind}
 use Rattle.sem_scripts.specs.ScriptState.{State, Stop, Faulted, OutOfTurns, TooDeep, Nexted, Exited, Returned, global_value, local_value, with_global, with_local}
 use Rattle.lower_model.specs.Quick.{Holder, OfName, OfParameter}
 use Rattle.lower_model.specs.Cells.{Cell, Bits, Held, OwnedArray, Gone}
@@ -104,19 +104,19 @@ kind_here kinds i = get_or kinds i Boxed
 abbrev pub arrays_before : List Kind → ℕ → ℕ
 arrays_before [] i = zero
 arrays_before (k ∷ ks) zero = zero
-arrays_before (Many ∷ ks) (suc i) = suc (arrays_before ks i)
+arrays_before (ArrayKind ∷ ks) (suc i) = suc (arrays_before ks i)
 arrays_before (Boxed ∷ ks) (suc i) = arrays_before ks i
 arrays_before (Unboxed ∷ ks) (suc i) = arrays_before ks i
 
 abbrev pub name_hand : Kind → (array : ℕ) → Value → Cell
 name_hand Boxed a v = Held v
 name_hand Unboxed a v = beside v
-name_hand Many a v = OwnedArray a
+name_hand ArrayKind a v = OwnedArray a
 
 abbrev pub name_word : Kind → Value → ℕ
 name_word Unboxed v = bare v
 name_word Boxed v = least
-name_word Many v = least
+name_word ArrayKind v = least
 
 abbrev pub cells_of : List Kind → (way : ℕ) → State → Globals
 cells_of kinds way σ = record {

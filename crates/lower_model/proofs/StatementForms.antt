@@ -4,7 +4,7 @@ use Rattle.std.proofs.Common.{◌≡◌, ℕ, ◌+◌, ◌<◌, ◌≤◌, Bool,
 use Rattle.wasm_types.specs.Syntax.{Instructions}
 use Rattle.mid_program.specs.Mid.{Kind, Program, Step, Eval, Block, If, Loop, Each, Break, Continue, Next, Exit, ExitWith, Return, Mark, Steps, NoStep, Then}
 use Rattle.mid_program.specs.MidMeaning.{stepped}
-use Rattle.sem_scripts.specs.ScriptState.{State, Doing}
+use Rattle.sem_scripts.specs.ScriptState.{State, Execution}
 use Rattle.mid_program.specs.Sorted.{There, calls_of, step_sorted, steps_sorted}
 use Rattle.sem_scripts.specs.Statements.{Flow, Normal, Broke, Continued}
 use Rattle.lower_model.specs.Cells.{IteratorOf}
@@ -13,7 +13,7 @@ use Rattle.lower_model.specs.Machine.{Conf, Label, Frame, at, br, loops_walked}
 use Rattle.lower_model.specs.Noted.{noted_called, step_noted, steps_noted}
 use Rattle.lower_model.specs.Places.{Bases, step_room, steps_room, step_iterators, steps_iterators, step_arrays, steps_arrays}
 use Rattle.lower_model.specs.Statements.{step_emitted, steps_emitted}
-use Rattle.lower_model.proofs.Watch.{Watch}
+use Rattle.lower_model.proofs.Observer.{Observer}
 use Rattle.lower_model.proofs.Locals.{Locals, laid}
 use Rattle.lower_model.proofs.Relation.{Fit, Away}
 use Rattle.lower_model.proofs.Answers.{beside_state, Reached}
@@ -56,16 +56,16 @@ flow_at Normal on broke continued = on
 flow_at Broke on broke continued = broke
 flow_at Continued on broke continued = continued
 
-module _ (p : Program) (deepest : Watch) (ks : List Kind) (F : List Frame) (b : Bases) (M n : ℕ) where
+module _ (p : Program) (deepest : Observer) (ks : List Kind) (F : List Frame) (b : Bases) (M n : ℕ) where
   -- what steps mean, with n more calls inside one another
-  abbrev pub step_meant : Step → (u d bk ct : ℕ) → Instructions → Doing Flow
+  abbrev pub step_meant : Step → (u d bk ct : ℕ) → Instructions → Execution Flow
   step_meant s u d bk ct k = step_noted deepest.notes (layout_of p b) p.texts (calls_of p) n (noted_called deepest.notes p n) s u d bk ct k
 
-  abbrev pub steps_meant : Steps → (u d bk ct : ℕ) → Instructions → Doing Flow
+  abbrev pub steps_meant : Steps → (u d bk ct : ℕ) → Instructions → Execution Flow
   steps_meant ss u d bk ct k = steps_noted deepest.notes (layout_of p b) p.texts (calls_of p) n (noted_called deepest.notes p n) ss u d bk ct k
 
   -- what a step that has no others in it means once its place is noted
-  abbrev pub plain_meant : Step → Doing Flow
+  abbrev pub plain_meant : Step → Execution Flow
   plain_meant s = stepped p.texts (calls_of p) n (noted_called deepest.notes p n) s
 
   -- u loops over keys are walked, and each has its iterator

@@ -3,7 +3,7 @@ use Rattle.std.specs.Prelude.{ℕ, true, false, List}
 use Rattle.mid_program.specs.Mid.{Kind, Program, Code, Step, Eval, Block, If, Loop, Each, Break, Continue, Next, Exit, ExitWith, Return, Mark, Steps, NoStep, Then}
 use Rattle.lower_model.specs.Machine.{Frame}
 use Rattle.lower_model.specs.Places.{Bases}
-use Rattle.lower_model.proofs.Watch.{Watch}
+use Rattle.lower_model.proofs.Observer.{Observer}
 use Rattle.lower_model.proofs.Simulation.{ExprOk}
 use Rattle.lower_model.proofs.StatementForms.{StepOk, StepsOk}
 use Rattle.lower_model.proofs.QuickSteps.{eval_step}
@@ -13,7 +13,7 @@ use Rattle.lower_model.proofs.Loops.{loop_first, loop_last}
 use Rattle.lower_model.proofs.Keys.{each_step}
 use Rattle.lower_model.proofs.Jumps.{break_step, continue_step, next_step, exit_step, exit_with_step, return_step, mark_step}
 
-module _ (p : Program) (deepest : Watch) (ks : List Kind) (F : List Frame) (b : Bases) (M n : ℕ) (exprs : (e : Code) → ExprOk p deepest ks F b M n e) where
+module _ (p : Program) (deepest : Observer) (ks : List Kind) (F : List Frame) (b : Bases) (M n : ℕ) (exprs : (e : Code) → ExprOk p deepest ks F b M n e) where
   mutual
     pub step_ok : (s : Step) → StepOk p deepest ks F b M n s
     step_ok (Eval e) = eval_step p deepest ks F b M n exprs e

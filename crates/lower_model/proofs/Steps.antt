@@ -8,7 +8,7 @@ use Rattle.mid_program.specs.Mid.{Kind}
 use Rattle.lower_model.specs.Cells.{Cell, Bits, Held, IteratorOf, OwnedArray, LentArray, Gone, is_owned, left_by, cell_at, has_room}
 use Rattle.lower_model.specs.Places.{Bases}
 use Rattle.lower_model.specs.Machine.{Code, Label, Frame, Store, at, guarded, teed}
-use Rattle.lower_model.specs.Small.{does, minus_one, was_left, moved_out, emptied}
+use Rattle.lower_model.specs.Small.{emit, minus_one, was_left, moved_out, emptied}
 use Rattle.lower_model.proofs.Runs.{Goes, then_goes, goes_to}
 use Rattle.lower_model.proofs.Locals.{Locals, Place, local_of, IsPlace, has, with_at, has_with, laid, laid_at, laid_set, laid_twice, laid_again, place_there}
 
@@ -33,7 +33,7 @@ place_roomy b l p h e = ap₂ (λ x y. x && not y) (place_there b l p h) (ap is_
 
 module _ {u : Code} {ks : List Kind} {F : List Frame} (b : Bases) where
   pub get_moved : {vs : List Cell} {K : List Label} {c : Instructions} {G : Store} → (l : Locals) (p : Place) (v : Cell) → IsPlace b p → has l p ≡ v →
-      Goes u 1 (at ks vs K (laid b l) F (does (LocalGet (local_of b p)) c) G) (at ks (v ∷ vs) K (laid b (with_at l p (left_by v))) F c G)
+      Goes u 1 (at ks vs K (laid b l) F (emit (LocalGet (local_of b p)) c) G) (at ks (v ∷ vs) K (laid b (with_at l p (left_by v))) F c G)
   get_moved {vs = vs} {K = K} {c = c} {G = G} l p v h e =
       let L = laid b l in
       let x = local_of b p in
@@ -46,12 +46,12 @@ module _ {u : Code} {ks : List Kind} {F : List Frame} (b : Bases) where
 
   -- what is not owned stays where it is
   pub get_copied : {vs : List Cell} {K : List Label} {c : Instructions} {G : Store} → (l : Locals) (p : Place) (v : Cell) → IsPlace b p → has l p ≡ v → left_by v ≡ v →
-      Goes u 1 (at ks vs K (laid b l) F (does (LocalGet (local_of b p)) c) G) (at ks (v ∷ vs) K (laid b l) F c G)
+      Goes u 1 (at ks vs K (laid b l) F (emit (LocalGet (local_of b p)) c) G) (at ks (v ∷ vs) K (laid b l) F c G)
   get_copied {vs = vs} {K = K} {c = c} {G = G} l p v h e s =
       goes_to (get_moved l p v h e) (ap (λ w. at ks (v ∷ vs) K (laid b (with_at l p w)) F c G) s ∙ ap (λ M. at ks (v ∷ vs) K M F c G) (laid_again b l p v h e))
 
   pub set_ok : {vs : List Cell} {K : List Label} {c : Instructions} {G : Store} → (l : Locals) (p : Place) (v : Cell) → IsPlace b p → is_owned (has l p) ≡ false →
-      Goes u 1 (at ks (v ∷ vs) K (laid b l) F (does (LocalSet (local_of b p)) c) G) (at ks vs K (laid b (with_at l p v)) F c G)
+      Goes u 1 (at ks (v ∷ vs) K (laid b l) F (emit (LocalSet (local_of b p)) c) G) (at ks vs K (laid b (with_at l p v)) F c G)
   set_ok {vs = vs} {K = K} {c = c} {G = G} l p v h e =
       record {
         it =
@@ -60,7 +60,7 @@ module _ {u : Code} {ks : List Kind} {F : List Frame} (b : Bases) where
       }
 
   pub tee_ok : {vs : List Cell} {K : List Label} {c : Instructions} {G : Store} → (l : Locals) (p : Place) (v : Cell) → IsPlace b p → is_owned (has l p) ≡ false →
-      Goes u 1 (at ks (v ∷ vs) K (laid b l) F (does (LocalTee (local_of b p)) c) G) (teed v (local_of b p) ks vs K (laid b (with_at l p v)) F c G)
+      Goes u 1 (at ks (v ∷ vs) K (laid b l) F (emit (LocalTee (local_of b p)) c) G) (teed v (local_of b p) ks vs K (laid b (with_at l p v)) F c G)
   tee_ok {vs = vs} {K = K} {c = c} {G = G} l p v h e =
       record {
         it =

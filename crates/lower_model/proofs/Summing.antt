@@ -30,9 +30,9 @@ use Rattle.lower_model.specs.Emission.{slot_set}
 use Rattle.lower_model.specs.Machine.{Conf, Label, Frame, Store, at, label, with_operands, push_result}
 use Rattle.lower_model.specs.Places.{Bases, number_local}
 use Rattle.lower_model.specs.Quick.{Holder, OfName, OfParameter, Source, Held as Standing, Constant, Sum, is_sum, sum_op}
-use Rattle.lower_model.specs.Small.{does, fail_if, when, either, number_is, least, text_beside}
+use Rattle.lower_model.specs.Small.{emit, fail_if, when, emit_if, number_is, least, text_beside}
 use Rattle.lower_model.specs.Statements.{holder_cleared, name_put, number_there, name_numbered, source_numbered, source_taken, sum_kept, sum_taken, summed_anyway}
-use Rattle.lower_model.proofs.Watch.{Watch}
+use Rattle.lower_model.proofs.Observer.{Observer}
 use Rattle.lower_model.proofs.Runs.{Goes, then_goes, goes_to, goes_from, same_goes, by_steps, stays, there, first, weaker, then_settled}
 use Rattle.lower_model.proofs.Regions.{upd_same}
 use Rattle.lower_model.proofs.Locals.{Locals, Param, Hand, Number as NumberAt, with_at, laid}
@@ -55,7 +55,7 @@ use Rattle.lower_model.proofs.SettingNames.{bare_global_set}
 use Rattle.lower_model.proofs.Written.{fit_global}
 use Rattle.lower_model.proofs.Simulation.{layout}
 
-module _ (p : Program) (deepest : Watch) (ks : List Kind) (F : List Frame) (b : Bases) (M n : ℕ) where
+module _ (p : Program) (deepest : Observer) (ks : List Kind) (F : List Frame) (b : Bases) (M n : ℕ) where
   abbrev kinds : List Kind
   kinds = kinds_of p.globals
 
@@ -79,8 +79,8 @@ module _ (p : Program) (deepest : Watch) (ks : List Kind) (F : List Frame) (b : 
       let f1 = fit_number p deepest ks F t q u w l σ c refl ft in
       let e1 = upd_same l.number t c in
       let there_code = number_there (layout p deepest ks F b M n) i t (suc (suc d)) NoMore in
-      let zero_put = does (I64Const 0) (does (LocalSet (number_local b t)) NoMore) in
-      let made = number_is (number_local b t) text_beside (either there_code zero_put NoMore) in
+      let zero_put = emit (I64Const 0) (emit (LocalSet (number_local b t)) NoMore) in
+      let made = number_is (number_local b t) text_beside (emit_if there_code zero_put NoMore) in
       let K1 = label [] None k ∷ K in
       let K2 = label [] None NoMore ∷ K1 in
       let start : Goes (machine p deepest ks F) 3 (at ks [] K (laid b l) F (name_numbered (layout p deepest ks F b M n) (OfName i) t d k) S) (at ks (Bits (flag (compare_at w64 LeS (bare v) text_beside)) ∷ []) K (laid b l1) F (when made k) S) =
@@ -134,7 +134,7 @@ module _ (p : Program) (deepest : Watch) (ks : List Kind) (F : List Frame) (b : 
       let l1 = with_at l (NumberAt t) c in
       let f1 = fit_number p deepest ks F t q u w l σ c refl ft in
       let e1 = upd_same l.number t c in
-      let made = does (I64Const 0) (does (LocalSet (number_local b t)) NoMore) in
+      let made = emit (I64Const 0) (emit (LocalSet (number_local b t)) NoMore) in
       let start : Goes (machine p deepest ks F) 3 (at ks [] K (laid b l) F (name_numbered (layout p deepest ks F b M n) (OfParameter i) t d k) S) (at ks (Bits (flag (compare_at w64 LeS (bare v) text_beside)) ∷ []) K (laid b l1) F (when made k) S) =
       then_goes (get_copied b l (Param i) c (omega (arith, li, pk)) own.0 refl) (then_goes (tee_ok b l (NumberAt t) c lt (ft.numbers t)) (by_steps 1 refl)) in
       let shown : (f : Bool) → compare_at w64 LeS (bare v) text_beside ≡ f → Goes (machine p deepest ks F) 3 (at ks [] K (laid b l) F (name_numbered (layout p deepest ks F b M n) (OfParameter i) t d k) S) (at ks (Bits (flag f) ∷ []) K (laid b l1) F (when made k) S) =
@@ -223,7 +223,7 @@ module _ (p : Program) (deepest : Watch) (ks : List Kind) (F : List Frame) (b : 
       let l1 = with_at l (NumberAt t) c in
       let f1 = fit_number p deepest ks F t (suc t) u 0 l σ c refl ft in
       first (machine p deepest ks F) M 4 4 8 σ.turns _ _ (Put p deepest ks F b t u 0 a_number k K l) (Away p deepest ks F b d K) (settled (outcome_of (checked z)) σ)
-      (then_goes (by_steps 1 (ap (λ o. with_operands (push_result [] (Some (given_by I64 o))) ks K (laid b l) F (does (LocalTee (number_local b t)) (does (I64Const (2 ^ 53)) (does (Binary ty.I64 Add) (does (I64Const (2 ^ 54)) (does (Compare ty.I64 GtU) (fail_if Range d k)))))) S) e))
+      (then_goes (by_steps 1 (ap (λ o. with_operands (push_result [] (Some (given_by I64 o))) ks K (laid b l) F (emit (LocalTee (number_local b t)) (emit (I64Const (2 ^ 53)) (emit (Binary ty.I64 Add) (emit (I64Const (2 ^ 54)) (emit (Compare ty.I64 GtU) (fail_if Range d k)))))) S) e))
       (then_goes (tee_ok b l (NumberAt t) c lt (ft.numbers t)) (by_steps 2 refl))) (omega arith)
       (tested p deepest ks F b M n z (is_out (word z)) t u 0 d (suc t) 0 k k K l l1 l1 σ (out_word z fz) f1 (omega arith) stays f1 (same_number [] t 0 t l c (omega arith)) he (λ q. upd_same l.number t c))
 
@@ -232,7 +232,7 @@ module _ (p : Program) (deepest : Watch) (ks : List Kind) (F : List Frame) (b : 
     next : Locals
     steps : ℕ
     few : steps ≤ 16
-    goes : Goes (machine p deepest ks F) steps (at ks [] K (laid b l) F (holder_cleared (layout p deepest ks F b M n) h (does (LocalGet (number_local b 0)) (does (name_put (layout p deepest ks F b M n) h) k))) (beside_state p deepest ks F σ)) (at ks [] K (laid b next) F k (beside_state p deepest ks F (stored_in (holder_slot h) (value.Num m.number) σ)))
+    goes : Goes (machine p deepest ks F) steps (at ks [] K (laid b l) F (holder_cleared (layout p deepest ks F b M n) h (emit (LocalGet (number_local b 0)) (emit (name_put (layout p deepest ks F b M n) h) k))) (beside_state p deepest ks F σ)) (at ks [] K (laid b next) F k (beside_state p deepest ks F (stored_in (holder_slot h) (value.Num m.number) σ)))
     fit : Fit p deepest ks F 0 u 0 next (stored_in (holder_slot h) (value.Num m.number) σ)
     iterators : (y : ℕ) → next.iterator y ≡ l.iterator y
 
@@ -254,7 +254,7 @@ module _ (p : Program) (deepest : Watch) (ks : List Kind) (F : List Frame) (b : 
       Reached p deepest ks F b M 30 σ.turns (at ks (Bits (I64 (number_word y)) ∷ (Bits (I64 (number_word x)) ∷ [])) K (laid b l) F (sum_taken (layout p deepest ks F b M n) op h zero d k) (beside_state p deepest ks F σ)) (λ a. Summed u k K l) (Away p deepest ks F b d K) (sum_given h σ (outcome_of (checked z)))
   sum_taken_ok op h x y z u d k K l σ hk pk fz e lt ft he =
       let mach = machine p deepest ks F in
-      let k1 = holder_cleared (layout p deepest ks F b M n) h (does (LocalGet (number_local b 0)) (does (name_put (layout p deepest ks F b M n) h) k)) in
+      let k1 = holder_cleared (layout p deepest ks F b M n) h (emit (LocalGet (number_local b 0)) (emit (name_put (layout p deepest ks F b M n) h) k)) in
       let Q = Away p deepest ks F b d K in
       let P1 : AnyNumber → State → Conf → Type 0 = λ a. Summed u k K l in
       then_settled mach M 8 16 30 _ σ (Put p deepest ks F b 0 u 0 a_number k1 K l) P1 Q (outcome_of (checked z)) (λ m. store_slot (holder_slot h) (value.Num m.number) >> give m) (omega arith)

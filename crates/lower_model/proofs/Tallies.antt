@@ -12,16 +12,16 @@ use Rattle.sem_primitives.specs.declared.sorts.Sort.TheVariants as sort
 use Rattle.sem_primitives.specs.declared.table.Primitive.TheVariants as row
 use Rattle.mid_program.specs.declared.mid.Arithmetic.{Arithmetic}
 use Rattle.mid_program.specs.declared.mid.Operation.TheVariants.{Host, Inline, AsNumber}
-use Rattle.mid_program.specs.Mid.{Kind, Program, Form, Answered, Bare, Code, Do, Number, Array, Seq, Let, Bound, Codes, End, At, Eval, form_of, arguments}
+use Rattle.mid_program.specs.Mid.{Kind, Program, Form, PrimitiveAnswer, NumberOrText, Code, Do, Number, Array, Seq, Let, Bound, Codes, End, At, Eval, form_of, arguments}
 use Rattle.mid_program.specs.MidMeaning.{Holds, boxed, converted, or_zero, evaluated, all_evaluated, stepped, then_row, arithmetic_of}
 use Rattle.sem_scripts.specs.Names.{ArrayName, Numbered, Given}
-use Rattle.sem_scripts.specs.ScriptState.{State, Outcome, Gives, Stops, Doing, give, go_on, settled, does}
+use Rattle.sem_scripts.specs.ScriptState.{State, Outcome, Gives, Stops, Execution, give, go_on, settled, call}
 use Rattle.mid_program.specs.Sorted.{Held as Standing, There, Moved, Misused, Context, context_of, sorted, all_sorted, held_after, is_well_used, used, is_kept, keeps_well, fit_row, is_bound as is_kept_bound, is_array_place, fits as fits_sort}
 use Rattle.sem_scripts.specs.Statements.{Flow, Normal}
 use Rattle.lower_model.specs.Machine.{Frame}
 use Rattle.lower_model.specs.Places.{Bases, room, arrays_in}
 use Rattle.lower_model.specs.Quick.{Tally, is_sum, is_bound, array_here, array_where, element_at, element_read, number_read, element_set, element_last, tally_of, tally_by, tally_sum, tally_first, first_sum, tally_after, tally_kept, tally_in}
-use Rattle.lower_model.proofs.Watch.{Watch}
+use Rattle.lower_model.proofs.Observer.{Observer}
 use Rattle.lower_model.proofs.QuickNames.{some_is}
 use Rattle.lower_model.proofs.Relation.{array_at}
 use Rattle.lower_model.proofs.Simulation.{work_of, meant}
@@ -181,17 +181,17 @@ tally_room Leading q = record { key = omega arith; added = omega arith; three = 
 -- What is kept is a value, or what one is made of, and a number, or what one is made of.
 
 pub kept_value : (g : Form) → is_kept g ≡ true → fits_sort g sort.Value ≡ true
-kept_value (Answered (answer.Of sort.Value)) e = refl
-kept_value (Answered (answer.Of sort.Number)) e = refl
-kept_value (Answered answer.Truth) e = refl
-kept_value Bare e = refl
+kept_value (PrimitiveAnswer (answer.Of sort.Value)) e = refl
+kept_value (PrimitiveAnswer (answer.Of sort.Number)) e = refl
+kept_value (PrimitiveAnswer answer.Truth) e = refl
+kept_value NumberOrText e = refl
 kept_value g e = cc
 
 kept_number : (g : Form) → is_kept g ≡ true → fits_sort g sort.Number ≡ true
-kept_number (Answered (answer.Of sort.Value)) e = refl
-kept_number (Answered (answer.Of sort.Number)) e = refl
-kept_number (Answered answer.Truth) e = refl
-kept_number Bare e = refl
+kept_number (PrimitiveAnswer (answer.Of sort.Value)) e = refl
+kept_number (PrimitiveAnswer (answer.Of sort.Number)) e = refl
+kept_number (PrimitiveAnswer answer.Truth) e = refl
+kept_number NumberOrText e = refl
 kept_number g e = cc
 
 -- what is used twice, and well, was there
@@ -269,19 +269,19 @@ module _ (p : Program) (ks : List Kind) where
 
 -- the element takes the sum
 abbrev pub given_to : ArrayName → Value → AnyNumber → State → Outcome (Unit {0})
-given_to w v s τ = does row.SetElem (array_at w τ, (v, (value.Num s.number, tt))) τ
+given_to w v s τ = call row.SetElem (array_at w τ, (v, (value.Num s.number, tt))) τ
 
 -- its number is asked first, and then that of what is added
 abbrev pub numbers_summed : (w : ArrayName) → Arithmetic → Value → Result AnyNumber Fault → Result AnyNumber Fault → State → Outcome (Unit {0})
 numbers_summed w o v r1 r2 τ = go_on (settled r1 τ) (λ x τ1. go_on (settled r2 τ1) (λ y τ2. go_on (settled (outcome_of (arithmetic_of o x.number y.number)) τ2) (λ s. given_to w v s)))
 
 abbrev pub tally_meant : (a w : ArrayName) → Arithmetic → Value → Result AnyNumber Fault → State → Outcome (Unit {0})
-tally_meant a w o v r τ = go_on (does row.Elem (array_at a τ, (v, tt)) τ) (λ x τ1. numbers_summed w o v (number_of_row x) r τ1)
+tally_meant a w o v r τ = go_on (call row.Elem (array_at a τ, (v, tt)) τ) (λ x τ1. numbers_summed w o v (number_of_row x) r τ1)
 
 abbrev over : {A : Type 0} → Outcome A → Outcome Flow
 over m = go_on m (λ x. give Normal)
 
-over_on : {A B C : Type 0} → (m : Outcome A) (f : A → Doing B) (g : A → Doing C) → ((a : A) (τ : State) → over (f a τ) ≡ over (g a τ)) → over (go_on m f) ≡ over (go_on m g)
+over_on : {A B C : Type 0} → (m : Outcome A) (f : A → Execution B) (g : A → Execution C) → ((a : A) (τ : State) → over (f a τ) ≡ over (g a τ)) → over (go_on m f) ≡ over (go_on m g)
 over_on (Gives a τ) f g h = h a τ
 over_on (Stops why τ) f g h = refl
 
@@ -320,11 +320,11 @@ old_is w o v y (Ok x) τ = by (outcome_of (arithmetic_of o x.number y.number))
     by (Err f) = refl
 old_is w o v y (Err f) τ = refl
 
-module _ (p : Program) (deepest : Watch) (ks : List Kind) (F : List Frame) (b : Bases) (M n : ℕ) where
+module _ (p : Program) (deepest : Observer) (ks : List Kind) (F : List Frame) (b : Bases) (M n : ℕ) where
   module _ (o : Arithmetic) (g : Form) (x : Holds g) where
     update_row : (a w : ArrayName) (f : Form) (y : Holds f) (τ : State) →
         over (meant p deepest ks F b M n (f ∷ (g ∷ [])) (y, (x, tt)) (Let (Do (Inline o) (At (element_code a 1) (At (Bound true zero) End))) (Seq (set_code w false 2) (Bound true zero))) τ)
-        ≡ over (go_on (does row.Elem (array_at a τ, (boxed g x, tt)) τ) (λ z τ1. row_summed w o (boxed g x) (number_of_row z) (converted f sort.Number y) τ1))
+        ≡ over (go_on (call row.Elem (array_at a τ, (boxed g x, tt)) τ) (λ z τ1. row_summed w o (boxed g x) (number_of_row z) (converted f sort.Number y) τ1))
     unfolding evaluated all_evaluated
     update_row (Numbered i) (Numbered j) f y τ = refl
     update_row (Numbered i) (Given j) f y τ = refl
@@ -333,7 +333,7 @@ module _ (p : Program) (deepest : Watch) (ks : List Kind) (F : List Frame) (b : 
 
     lead_row : (a w : ArrayName) (z : ℤ) (τ : State) →
         over (meant p deepest ks F b M n (g ∷ []) (x, tt) (body_code Leading a w o (Number z)) τ)
-        ≡ over (go_on (does row.Elem (array_at a τ, (boxed g x, tt)) τ) (λ y τ1. row_summed w o (boxed g x) (number_of_row y) (Ok (or_zero (number_of z))) τ1))
+        ≡ over (go_on (call row.Elem (array_at a τ, (boxed g x, tt)) τ) (λ y τ1. row_summed w o (boxed g x) (number_of_row y) (Ok (or_zero (number_of z))) τ1))
     unfolding evaluated all_evaluated
     lead_row (Numbered i) (Numbered j) z τ = refl
     lead_row (Numbered i) (Given j) z τ = refl
@@ -342,7 +342,7 @@ module _ (p : Program) (deepest : Watch) (ks : List Kind) (F : List Frame) (b : 
 
     follow_row : (a w : ArrayName) (z : ℤ) (τ : State) →
         over (meant p deepest ks F b M n (g ∷ []) (x, tt) (body_code Following a w o (Number z)) τ)
-        ≡ over (go_on (does row.Elem (array_at a τ, (boxed g x, tt)) τ) (λ y τ1. old_summed w o (boxed g x) (or_zero (number_of z)) (number_of_row y) τ1))
+        ≡ over (go_on (call row.Elem (array_at a τ, (boxed g x, tt)) τ) (λ y τ1. old_summed w o (boxed g x) (or_zero (number_of z)) (number_of_row y) τ1))
     unfolding evaluated all_evaluated
     follow_row (Numbered i) (Numbered j) z τ = refl
     follow_row (Numbered i) (Given j) z τ = refl
@@ -353,9 +353,9 @@ module _ (p : Program) (deepest : Watch) (ks : List Kind) (F : List Frame) (b : 
     abbrev pub body_meant : (a w : ArrayName) → Code → State → Outcome (Unit {0})
     body_meant a w e τ = go_on (meant p deepest ks F b M n (g ∷ []) (x, tt) e τ) (λ y τ1. tally_meant a w o (boxed g x) (converted (form_of (g ∷ []) e) sort.Number y) τ1)
 
-    elements : {A : Type 0} → (a w : ArrayName) (r : Result AnyNumber Fault) (f : Value → Doing A) (τ : State) → ((z : Value) (τ1 : State) → over (f z τ1) ≡ over (numbers_summed w o (boxed g x) (number_of_row z) r τ1)) →
-        over (go_on (does row.Elem (array_at a τ, (boxed g x, tt)) τ) f) ≡ over (tally_meant a w o (boxed g x) r τ)
-    elements a w r f τ h = over_on (does row.Elem (array_at a τ, (boxed g x, tt)) τ) f (λ z τ1. numbers_summed w o (boxed g x) (number_of_row z) r τ1) h
+    elements : {A : Type 0} → (a w : ArrayName) (r : Result AnyNumber Fault) (f : Value → Execution A) (τ : State) → ((z : Value) (τ1 : State) → over (f z τ1) ≡ over (numbers_summed w o (boxed g x) (number_of_row z) r τ1)) →
+        over (go_on (call row.Elem (array_at a τ, (boxed g x, tt)) τ) f) ≡ over (tally_meant a w o (boxed g x) r τ)
+    elements a w r f τ h = over_on (call row.Elem (array_at a τ, (boxed g x, tt)) τ) f (λ z τ1. numbers_summed w o (boxed g x) (number_of_row z) r τ1) h
 
     constant_means : (s : Shape) (a w : ArrayName) (z : ℤ) (τ : State) → over (tally_meant a w o (boxed g x) (Ok (or_zero (number_of z))) τ) ≡ over (body_meant a w (Number z) τ)
     unfolding evaluated all_evaluated

@@ -18,7 +18,7 @@ use Rattle.mid_program.specs.declared.mid.Arithmetic.{Arithmetic}
 use Rattle.mid_program.specs.Mid.{Kind, Program, Form, Code, Eval, a_value, a_number, form_of, form_at}
 use Rattle.mid_program.specs.MidMeaning.{Holds, boxed, converted, arithmetic_of}
 use Rattle.sem_scripts.specs.Names.{ArrayName}
-use Rattle.sem_scripts.specs.ScriptState.{State, go_on, settled, does}
+use Rattle.sem_scripts.specs.ScriptState.{State, go_on, settled, call}
 use Rattle.mid_program.specs.Sorted.{There, context_of, sorted, held_after, is_well_used, is_kept, is_array_place, fits as fits_sort}
 use Rattle.sem_scripts.specs.Statements.{Normal}
 use Rattle.lower_model.specs.Cells.{Bits, Held, Gone, is_owned}
@@ -27,10 +27,10 @@ use Rattle.lower_model.specs.ImportCalls.{with_some, and_rest, row_in}
 use Rattle.lower_model.specs.Machine.{Conf, Look, Label, Frame, at, loops_walked}
 use Rattle.lower_model.specs.Places.{Bases, room, arrays_in, handle_local, number_local}
 use Rattle.lower_model.specs.Quick.{Tally, is_sum, sum_op}
-use Rattle.lower_model.specs.Small.{does as instruction, ask_row, moved_out}
+use Rattle.lower_model.specs.Small.{emit as instruction, ask_row, moved_out}
 use Rattle.lower_model.specs.Small
 use Rattle.lower_model.specs.Statements.{sum_kept, element_numbered, element_given, tallied}
-use Rattle.lower_model.proofs.Watch.{Watch}
+use Rattle.lower_model.proofs.Observer.{Observer}
 use Rattle.lower_model.proofs.Runs.{then_goes, goes_to, same_goes, stays, first, there, weaker, then_on, then_settled}
 use Rattle.lower_model.proofs.Regions.{upd_same, upd_other}
 use Rattle.lower_model.proofs.Locals.{Locals, Hand, Number as NumberAt, with_at, has_with, laid, laid_at, laid_twice, laid_again}
@@ -50,11 +50,11 @@ use Rattle.lower_model.proofs.Storing.{num_ok}
 use Rattle.lower_model.proofs.Summing.{Summed, any_sum, sum_kept_ok, summed_since}
 use Rattle.lower_model.proofs.Tallies.{Shape, tally_code, IsAdded, tally_sorted, tally_room, kept_value, given_to, tally_meant, body_meant, tally_means}
 
-module _ (p : Program) (deepest : Watch) (ks : List Kind) (F : List Frame) (b : Bases) (M n : ℕ) where
+module _ (p : Program) (deepest : Observer) (ks : List Kind) (F : List Frame) (b : Bases) (M n : ℕ) where
   -- the element's number comes to temporary 2
   element_numbered_ok : (a : ArrayName) (v : Value) (u d : ℕ) (k : Instructions) (K : List Label) (l : Locals) (σ : State) → is_array_place (context_of p ks) a ≡ true → length ks ≡ b.parameters → 2 < b.temporaries → Fit p deepest ks F 2 u 0 l σ → l.hand 0 ≡ Held v →
       Reached p deepest ks F b M 16 σ.turns (at ks [] K (laid b l) F (element_numbered (layout p deepest ks F b M n) a d k) (beside_state p deepest ks F σ)) (Put p deepest ks F b 2 u 0 a_number k K l) (Away p deepest ks F b d K)
-      (go_on (does row.Elem (array_at a σ, (v, tt)) σ) (λ x. settled (number_of_row x)))
+      (go_on (call row.Elem (array_at a σ, (v, tt)) σ) (λ x. settled (number_of_row x)))
   element_numbered_ok a v u d k K l σ pl pk lt ft e =
       let mach = machine p deepest ks F in
       let S = beside_state p deepest ks F σ in

@@ -10,7 +10,7 @@ use Rattle.wasm_types.specs.Syntax.{Instructions, Done as NoMore}
 use Rattle.wasm_types.specs.declared.instr.Simple.TheVariants.{LocalSet, GlobalGet, GlobalSet}
 use Rattle.wasm_store.specs.Words.{flag}
 use Rattle.wasm_store.specs.declared.word.Word.TheVariants.{I32, I64}
-use Rattle.mid_program.specs.Mid.{Kind, Unboxed, Program, Global, Parameter, Bare, Text, Get}
+use Rattle.mid_program.specs.Mid.{Kind, Unboxed, Program, Global, Parameter, NumberOrText, Text, Get}
 use Rattle.mid_program.specs.MidMeaning.{evaluated, all_evaluated}
 use Rattle.sem_scripts.specs.ScriptState.{State, global_value, local_value}
 use Rattle.mid_program.specs.Sorted.{sorted, all_sorted, kinds_of, announced_names}
@@ -20,8 +20,8 @@ use Rattle.lower_model.specs.Functions.{texts_of}
 use Rattle.lower_model.specs.ImportCalls.{with_some, and_rest, row_in, text_at}
 use Rattle.lower_model.specs.Machine.{Conf, Label, Frame, at}
 use Rattle.lower_model.specs.Places.{Bases, place_of, memory_of, handle_local}
-use Rattle.lower_model.specs.Small.{does, ask_row, when, copied, text_beside}
-use Rattle.lower_model.proofs.Watch.{Watch}
+use Rattle.lower_model.specs.Small.{emit, ask_row, when, copied, text_beside}
+use Rattle.lower_model.proofs.Observer.{Observer}
 use Rattle.lower_model.proofs.Runs.{Goes, then_goes, goes_to, by_steps, there}
 use Rattle.lower_model.proofs.Regions.{upd_same}
 use Rattle.lower_model.proofs.Locals.{Locals, Param, Hand, Number as NumberAt, with_at, laid}
@@ -57,7 +57,7 @@ text_placed ts i =
     ap (λ t. if t then Some (take (length (get_or ts i [])) (drop (place_of ts i) (memory_of ts))) else None) (le-leb (place_of ts i + length (get_or ts i [])) (length (memory_of ts)) (text_within ts i))
     ∙ ap Some (text_read ts i)
 
-module _ (p : Program) (deepest : Watch) (ks : List Kind) (F : List Frame) (b : Bases) (M n : ℕ) where
+module _ (p : Program) (deepest : Observer) (ks : List Kind) (F : List Frame) (b : Bases) (M n : ℕ) where
   -- a text comes onto the stack, whatever lies there
   pub text_found : (i : ℕ) (σ : State) (vs : List Cell) (K : List Label) (L : List Cell) (k : Instructions) → nat_lt i (length p.texts) ≡ true →
       Goes (machine p deepest ks F) 1 (at ks vs K L F (text_pushed (layout p deepest ks F b M n) i (ask_row row.Lit k)) (beside_state p deepest ks F σ)) (at ks (Held (value.Text (get_or p.texts i [])) ∷ vs) K L F k (beside_state p deepest ks F σ))
@@ -76,14 +76,14 @@ module _ (p : Program) (deepest : Watch) (ks : List Kind) (F : List Frame) (b : 
   text_expr i v fs env ts st t u w d k K l σ so us rm ar rd =
       let x : Value = value.Text (get_or p.texts i []) in
       there (machine p deepest ks F) M 2 2 _ _ x σ (Done p deepest ks F b M n v (Text i) fs env ts st t u w k K l σ) (Away p deepest ks F b d K)
-      (then_goes (text_found i σ [] K (laid b l) (does (LocalSet (handle_local b t)) k) so)
+      (then_goes (text_found i σ [] K (laid b l) (emit (LocalSet (handle_local b t)) k) so)
       (set_ok b l (Hand t) (Held x) (omega (arith, rm)) (ap is_owned (rd.fit.free t (omega arith))))) (omega arith)
       (put_done p deepest ks F b M n (Text i) v fs env ts st t u w k K l l σ σ x _ rd.below (same_self ts t w l) (λ j q. refl) rd.kept refl tt (put_value p deepest ks F b M t u w k K l x σ rd.fit))
 
   -- Unboxed names.
 
   -- what an unboxed name has, where no text stands beside it
-  put_bare : (t u w : ℕ) (k : Instructions) (K : List Label) (l : Locals) (x : Value) (σ : State) → beside x ≡ empty → Fit p deepest ks F t u w l σ → Put p deepest ks F b t u w Bare k K l x σ (at ks [] K (laid b (with_at l (NumberAt t) (Bits (I64 (bare x))))) F k (beside_state p deepest ks F σ))
+  put_bare : (t u w : ℕ) (k : Instructions) (K : List Label) (l : Locals) (x : Value) (σ : State) → beside x ≡ empty → Fit p deepest ks F t u w l σ → Put p deepest ks F b t u w NumberOrText k K l x σ (at ks [] K (laid b (with_at l (NumberAt t) (Bits (I64 (bare x))))) F k (beside_state p deepest ks F σ))
   put_bare t u w k K l x σ e ft =
       let c = Bits (I64 (bare x)) in
       record {
@@ -110,7 +110,7 @@ module _ (p : Program) (deepest : Watch) (ks : List Kind) (F : List Frame) (b : 
     steps : ℕ
     few : steps ≤ 12
     goes : Goes (machine p deepest ks F) steps (at ks [] K (laid b l) F (slot_read (layout p deepest ks F b M n) (Global true i) t k) (beside_state p deepest ks F σ)) conf
-    put : Put p deepest ks F b t u w Bare k K l x σ conf
+    put : Put p deepest ks F b t u w NumberOrText k K l x σ conf
 
   bare_read : (i t u w : ℕ) (k : Instructions) (K : List Label) (l : Locals) (σ : State) → i < length (kinds_of p.globals) → kind_here (kinds_of p.globals) i ≡ Unboxed → t < b.temporaries → Fit p deepest ks F t u w l σ → BareOf (global_value i σ) → BareRead i t u w k K l σ (global_value i σ)
   bare_read i t u w k K l σ li kh lt ft z = by z

@@ -6,18 +6,18 @@ use Rattle.std.proofs.lemmas.List.{take_at, drop_at}
 use Rattle.awk_values.specs.declared.value.Value.{Value}
 use Rattle.wasm_types.specs.Syntax.{Instructions}
 use Rattle.wasm_types.specs.declared.instr.Simple.TheVariants.{Nop}
-use Rattle.mid_program.specs.Mid.{Kind, Boxed, Unboxed, Many, Program}
+use Rattle.mid_program.specs.Mid.{Kind, Boxed, Unboxed, ArrayKind, Program}
 use Rattle.awk_values.specs.declared.value.Value.TheVariants.{Uninit}
 use Rattle.wasm_store.specs.declared.word.Word.TheVariants.{I64}
-use Rattle.sem_scripts.specs.ScriptState.{State, Stop, Doing, ◌>>◌, Local, Scalar, global_value, value_in_local}
+use Rattle.sem_scripts.specs.ScriptState.{State, Stop, Execution, ◌>>◌, Local, Scalar, global_value, value_in_local}
 use Rattle.sem_scripts.specs.Statements.{Flow}
 use Rattle.mid_program.specs.Sorted.{has_kind, same_kind, kinds_of}
 use Rattle.lower_model.specs.Cells.{Cell, Bits, Held, IteratorOf, OwnedArray, LentArray, Gone, is_owned, none_owned, is_held, is_array, is_iterator, no_temporary, count_cells, iterators_in, tidy_locals, tidy_name, each_name, globals_by, is_bare, mark_fits, marks_fit}
 use Rattle.lower_model.specs.Machine.{Conf, Label, Frame, at, guarded, loops_walked}
 use Rattle.lower_model.specs.Noted.{noted, noting}
 use Rattle.lower_model.specs.Places.{Bases}
-use Rattle.lower_model.specs.Small.{does}
-use Rattle.lower_model.proofs.Watch.{Watch}
+use Rattle.lower_model.specs.Small.{emit}
+use Rattle.lower_model.proofs.Observer.{Observer}
 use Rattle.lower_model.proofs.Runs.{Goes, first}
 use Rattle.lower_model.proofs.Regions.{cells, pairs, cells_length}
 use Rattle.lower_model.proofs.Globals.{Globals, names_on, placed}
@@ -119,7 +119,7 @@ bare_fine v q = by (bare_is v)
 
 mark_fine : (k : Kind) (a : ℕ) (v : Value) → mark_fits k (name_hand k a v) (Bits (I64 (name_word k v))) ≡ true
 mark_fine Boxed a v = refl
-mark_fine Many a v = refl
+mark_fine ArrayKind a v = refl
 mark_fine Unboxed a v = by (bare_is v)
   where
     by : BareOf v → mark_fits Unboxed (beside v) (Bits (I64 (bare v))) ≡ true
@@ -130,7 +130,7 @@ mark_fine Unboxed a v = by (bare_is v)
 pub name_tidy : (k : Kind) (a : ℕ) (v : Value) → tidy_name k (name_hand k a v) ≡ true
 name_tidy Boxed a v = refl
 name_tidy Unboxed a v = beside_tidy v (bare_is v)
-name_tidy Many a v = refl
+name_tidy ArrayKind a v = refl
 
 -- globals that hold nothing before the names, and names that have what they are to have
 pub placed_fine : (p : Program) (ok : Kind → Cell → Bool) (g : Globals) → is_owned g.way ≡ false → is_owned g.status ≡ false → is_owned g.text ≡ false → ((i : ℕ) → is_owned (g.range i) ≡ false) → ((i : ℕ) → ok (kind_here (kinds_of p.globals) i) (g.hand i) ≡ true) → ((i : ℕ) → is_owned (g.number i) ≡ false) →
@@ -166,15 +166,15 @@ marks_fine p way σ =
 pub same_self : (k : Kind) → same_kind k k ≡ true
 same_self Boxed = refl
 same_self Unboxed = refl
-same_self Many = refl
+same_self ArrayKind = refl
 
-module _ (p : Program) (deepest : Watch) (ks : List Kind) (F : List Frame) (b : Bases) (M n : ℕ) where
+module _ (p : Program) (deepest : Observer) (ks : List Kind) (F : List Frame) (b : Bases) (M n : ℕ) where
   -- parameters hold values, and nothing else that is owned
   module _ (q : Cell → Bool) (value : (v : Value) → q (Held v) ≡ false) (other : (c : Cell) → is_owned c ≡ false → q c ≡ false) where
     loose_still : (k : Kind) (c : Cell) → ParamLoose p deepest ks F k c → q c ≡ false
     loose_still Boxed c h = ap q h.1 ∙ value h.0
     loose_still Unboxed c h = other c h
-    loose_still Many c h = other c h
+    loose_still ArrayKind c h = other c h
 
     pub still_parameters : (js : List Kind) (f : ℕ → Cell) (rest : List Cell) → ((i : ℕ) (k : Kind) → has_kind js i k ≡ true → ParamLoose p deepest ks F k (f i)) → count_cells q (cells f (length js) ++ rest) ≡ count_cells q rest
     still_parameters [] f rest h = refl
@@ -186,7 +186,7 @@ module _ (p : Program) (deepest : Watch) (ks : List Kind) (F : List Frame) (b : 
   tidy_parameters [] o f rest h r = r
   tidy_parameters (Boxed ∷ js) o f rest h r = ap₂ (λ x y. x && y) (ap is_held (h zero Boxed refl)) (tidy_parameters js (λ i. o (suc i)) (λ i. f (suc i)) rest (λ i j e. h (suc i) j e) r)
   tidy_parameters (Unboxed ∷ js) o f rest h r = ap₂ (λ x y. x && y) (ap is_bare (h zero Unboxed refl).0 ∙ bare_fine (value_in_local (o zero)) (h zero Unboxed refl).1) (tidy_parameters js (λ i. o (suc i)) (λ i. f (suc i)) rest (λ i j e. h (suc i) j e) r)
-  tidy_parameters (Many ∷ js) o f rest h r = ap₂ (λ x y. not x && y) (param_loose p deepest ks F Many (o zero) (f zero) (h zero Many refl)) (tidy_parameters js (λ i. o (suc i)) (λ i. f (suc i)) rest (λ i j e. h (suc i) j e) r)
+  tidy_parameters (ArrayKind ∷ js) o f rest h r = ap₂ (λ x y. not x && y) (param_loose p deepest ks F ArrayKind (o zero) (f zero) (h zero ArrayKind refl)) (tidy_parameters js (λ i. o (suc i)) (λ i. f (suc i)) rest (λ i j e. h (suc i) j e) r)
 
   -- the locals behind the parameters
   abbrev behind : Locals → List Cell
@@ -219,9 +219,9 @@ module _ (p : Program) (deepest : Watch) (ks : List Kind) (F : List Frame) (b : 
 
   -- a `nop` where a step begins
   pub nop_ok : {k : Instructions} → (u : ℕ) (K : List Label) (l : Locals) (σ : State) → Starts p deepest ks F b M n u K l σ →
-      Goes (machine p deepest ks F) 1 (at ks [] K (laid b l) F (does Nop k) (beside_state p deepest ks F σ)) (at ks [] K (laid b l) F k (beside_state p deepest ks F (noting deepest.notes (does Nop k) σ)))
+      Goes (machine p deepest ks F) 1 (at ks [] K (laid b l) F (emit Nop k) (beside_state p deepest ks F σ)) (at ks [] K (laid b l) F k (beside_state p deepest ks F (noting deepest.notes (emit Nop k) σ)))
   nop_ok {k = k} u K l σ s = record {
-    it = ap (λ t. guarded t (at ks [] K (laid b l) F k (beside_state p deepest ks F (noting deepest.notes (does Nop k) σ)))) (
+    it = ap (λ t. guarded t (at ks [] K (laid b l) F k (beside_state p deepest ks F (noting deepest.notes (emit Nop k) σ)))) (
         ap₂ (λ x y. (true && true) && (x && y)) (ap₂ (λ x y. x && y) (locals_tidy u K l σ s) (locals_walked u K l σ s)) (ap₂ (λ x y. x && y) (globals_fine p tidy_name 0 σ name_tidy) (marks_fine p 0 σ))
         );
   }
@@ -233,9 +233,9 @@ module _ (p : Program) (deepest : Watch) (ks : List Kind) (F : List Frame) (b : 
   starts_noted c u K l σ s = record { fit = fit_noted c 0 u 0 l σ s.fit; walked = s.walked; walks = s.walks; loops = s.loops; turns = s.turns; parameters = s.parameters }
 
   -- where a step begins its place is noted, and then it does what it means
-  pub begun_step : (k : Instructions) (w w1 u : ℕ) (K : List Label) (l : Locals) (σ : State) (P : Flow → State → Conf → Type 0) (Q : Stop → State → Conf → Type 0) (m : Doing Flow) → 1 + w ≤ w1 → Starts p deepest ks F b M n u K l σ →
+  pub begun_step : (k : Instructions) (w w1 u : ℕ) (K : List Label) (l : Locals) (σ : State) (P : Flow → State → Conf → Type 0) (Q : Stop → State → Conf → Type 0) (m : Execution Flow) → 1 + w ≤ w1 → Starts p deepest ks F b M n u K l σ →
       ((τ : State) → Starts p deepest ks F b M n u K l τ → Reached p deepest ks F b M w τ.turns (at ks [] K (laid b l) F k (beside_state p deepest ks F τ)) P Q (m τ)) →
-      Reached p deepest ks F b M w1 σ.turns (at ks [] K (laid b l) F (does Nop k) (beside_state p deepest ks F σ)) P Q ((noted deepest.notes (does Nop k) >> m) σ)
+      Reached p deepest ks F b M w1 σ.turns (at ks [] K (laid b l) F (emit Nop k) (beside_state p deepest ks F σ)) P Q ((noted deepest.notes (emit Nop k) >> m) σ)
   begun_step k w w1 u K l σ P Q m le s next =
-      let c = does Nop k in
+      let c = emit Nop k in
       first (machine p deepest ks F) M 1 w w1 σ.turns _ _ P Q (m (noting deepest.notes c σ)) (nop_ok u K l σ s) le (next (noting deepest.notes c σ) (starts_noted c u K l σ s))

@@ -35,10 +35,10 @@ use Rattle.lower_model.specs.Emission.{field_at, text_dropped}
 use Rattle.lower_model.specs.Machine.{Conf, Label, Frame, at, with_operands, push_result}
 use Rattle.lower_model.specs.Places.{Bases, room, arrays_in, number_local}
 use Rattle.lower_model.specs.Quick.{Update, is_sum, sum_op, name_in, update_of, kept_update, set_update, let_update, update_in, Holder, holder_of, update_after, OfName, OfParameter}
-use Rattle.lower_model.specs.Small.{does, ask_row, fail_if}
+use Rattle.lower_model.specs.Small.{emit, ask_row, fail_if}
 use Rattle.lower_model.specs.Small
 use Rattle.lower_model.specs.Statements.{holder_cleared, name_put, name_numbered, field_numbered, sum_taken, both_asked, updated}
-use Rattle.lower_model.proofs.Watch.{Watch}
+use Rattle.lower_model.proofs.Observer.{Observer}
 use Rattle.lower_model.proofs.Runs.{then_goes, goes_to, goes_from, same_goes, by_steps, first, weaker, then_on, then_settled, there, faulted, stays}
 use Rattle.lower_model.proofs.Locals.{Locals, Number as NumberAt, with_at, laid}
 use Rattle.lower_model.proofs.Steps.{empty, get_copied, tee_ok}
@@ -50,7 +50,7 @@ use Rattle.lower_model.proofs.Conversions.{ask_to_num}
 use Rattle.lower_model.proofs.Converting.{Converted, converted_ok}
 use Rattle.lower_model.proofs.Fields.{field_code, field_at_is, field_found}
 use Rattle.lower_model.proofs.Products.{word, is_out, mod_small, mod_once}
-use Rattle.host_imports.specs.declared.import.Import.TheVariants.{Of}
+use Rattle.host_imports.specs.declared.import.Import.TheVariants.{OfPrimitive}
 use Rattle.lower_model.proofs.Quick.{holder_is, name_is}
 use Rattle.lower_model.proofs.QuickParts.{HolderFits, slot_fits, set_sorted}
 use Rattle.lower_model.proofs.State.{holder_slot, holder_value}
@@ -114,7 +114,7 @@ fault_summed inline.Plus m e = refl
 fault_summed inline.Minus m e = refl
 fault_summed o m e = cc
 
-module _ (p : Program) (deepest : Watch) (ks : List Kind) (F : List Frame) (b : Bases) (M n : ℕ) where
+module _ (p : Program) (deepest : Observer) (ks : List Kind) (F : List Frame) (b : Bases) (M n : ℕ) where
   abbrev kinds : List Kind
   kinds = kinds_of p.globals
 
@@ -165,7 +165,7 @@ module _ (p : Program) (deepest : Watch) (ks : List Kind) (F : List Frame) (b : 
 
   -- the name takes the sum, once what is added is there
   name_takes : (q : Update) (u d : ℕ) (k : Instructions) (K : List Label) (l : Locals) (x : Holds (form_of [] q.added)) (τ : State) → UpdateParts q → length ks ≡ b.parameters → is_sum q.op ≡ true → 1 < b.temporaries → Fit p deepest ks F 1 u 0 l τ → HoldsAt (form_of [] q.added) 0 l x →
-      Reached p deepest ks F b M 70 τ.turns (at ks [] K (laid b l) F (name_numbered (layout p deepest ks F b M n) q.name 1 d (Small.to_number b (form_of [] q.added) zero d (does (LocalGet (number_local b 1)) (does (LocalGet (number_local b zero)) (sum_taken (layout p deepest ks F b M n) (sum_op q.op) q.target zero d k))))) (beside_state p deepest ks F τ))
+      Reached p deepest ks F b M 70 τ.turns (at ks [] K (laid b l) F (name_numbered (layout p deepest ks F b M n) q.name 1 d (Small.to_number b (form_of [] q.added) zero d (emit (LocalGet (number_local b 1)) (emit (LocalGet (number_local b zero)) (sum_taken (layout p deepest ks F b M n) (sum_op q.op) q.target zero d k))))) (beside_state p deepest ks F τ))
       (λ a. Summed p deepest ks F b M n u k K l) (Away p deepest ks F b d K) (added_meant q x τ)
   name_takes q u d k K l x τ parts pk so lt ft hd =
       let mach = machine p deepest ks F in
@@ -174,7 +174,7 @@ module _ (p : Program) (deepest : Watch) (ks : List Kind) (F : List Frame) (b : 
       let Q = Away p deepest ks F b d K in
       let P : AnyNumber → State → Conf → Type 0 = λ a. Summed p deepest ks F b M n u k K l in
       let k3 = sum_taken y (sum_op q.op) q.target zero d k in
-      let k2 = does (LocalGet (number_local b 1)) (does (LocalGet (number_local b zero)) k3) in
+      let k2 = emit (LocalGet (number_local b 1)) (emit (LocalGet (number_local b zero)) k3) in
       let k1 = Small.to_number b g zero d k2 in
       let own = number_of_row (holder_value q.name τ) in
       let f2 = fit_more p deepest ks F 1 u 0 l τ ft in
@@ -203,7 +203,7 @@ module _ (p : Program) (deepest : Watch) (ks : List Kind) (F : List Frame) (b : 
       let Q = Away p deepest ks F b d K in
       let P0 : AnyNumber → State → Conf → Type 0 = λ a. Summed p deepest ks F b M n u k K l in
       let P = StepDone p deepest ks F b M n lo u bk ct k K l in
-      let k2 = does (LocalGet (number_local b 1)) (does (LocalGet (number_local b zero)) (sum_taken y (sum_op q.op) q.target zero d k)) in
+      let k2 = emit (LocalGet (number_local b 1)) (emit (LocalGet (number_local b zero)) (sum_taken y (sum_op q.op) q.target zero d k)) in
       let k1 = name_numbered y q.name 1 d (Small.to_number b g zero d k2) in
       let r1 = room_one q.added in
       then_on mach M (work_of q.added + 70) 0 (work_of q.added + 70) σ.turns _ P0 P Q (meant p deepest ks F b M n [] tt (added_code q) σ) _ (omega arith)
@@ -229,15 +229,15 @@ module _ (p : Program) (deepest : Watch) (ks : List Kind) (F : List Frame) (b : 
       let w = (number_word m + 2 ^ 63) % 2 ^ 64 in
       let c = Bits (I64 w) in
       let l1 = with_at l (NumberAt 0) c in
-      let k2 = holder_cleared (layout p deepest ks F b M n) i (does (LocalGet (number_local b zero)) (does (name_put (layout p deepest ks F b M n) i) k)) in
-      let k1 = does (I64Const (2 ^ 53)) (does (Binary ty.I64 bin.Add) (does (I64Const (2 ^ 54)) (does (Comparing ty.I64 GtU) (fail_if Range d k2)))) in
+      let k2 = holder_cleared (layout p deepest ks F b M n) i (emit (LocalGet (number_local b zero)) (emit (name_put (layout p deepest ks F b M n) i) k)) in
+      let k1 = emit (I64Const (2 ^ 53)) (emit (Binary ty.I64 bin.Add) (emit (I64Const (2 ^ 54)) (emit (Comparing ty.I64 GtU) (fail_if Range d k2)))) in
       let P : AnyNumber → State → Conf → Type 0 = λ a. Summed p deepest ks F b M n u k K l in
       faulted mach M 30 7 _ _ f σ P (Away p deepest ks F b d K)
-      (then_goes (by_steps 1 (ap (λ r. with_operands (push_result [] (Some (given_by I64 r))) ks K (laid b l) F (does (LocalTee (number_local b zero)) k1) G) (fault_summed o m so)))
+      (then_goes (by_steps 1 (ap (λ r. with_operands (push_result [] (Some (given_by I64 r))) ks K (laid b l) F (emit (LocalTee (number_local b zero)) k1) G) (fault_summed o m so)))
       (then_goes (tee_ok b l (NumberAt 0) c lt (ft.numbers 0))
       (then_goes (goes_to (by_steps 2 refl) (ap (λ t. at ks (Bits (flag t) ∷ []) K (laid b l1) F (fail_if Range d k2) G) (left_out m)))
-      (then_goes (chooses (does (I32Const (fault_number Range)) (ask_row row.Fail (does (Br (suc d)) NoMore))) NoMore 1)
-      (then_goes (called (Of row.Fail) (Bits (I32 (fault_number Range)) ∷ []) [] G None G.host refl refl refl)
+      (then_goes (chooses (emit (I32Const (fault_number Range)) (ask_row row.Fail (emit (Br (suc d)) NoMore))) NoMore 1)
+      (then_goes (called (OfPrimitive row.Fail) (Bits (I32 (fault_number Range)) ∷ []) [] G None G.host refl refl refl)
       (by_steps 1 refl)))))) (omega arith)
       (away_with p deepest ks F b M 0 u 0 d w K l σ f (fit_less p deepest ks F 0 u 0 l σ he ft))
 
@@ -268,7 +268,7 @@ module _ (p : Program) (deepest : Watch) (ks : List Kind) (F : List Frame) (b : 
       let P0 : AnyNumber → State → Conf → Type 0 = λ x. Summed p deepest ks F b M n u k K l in
       let P = StepDone p deepest ks F b M n lo u bk ct k K l in
       let k3 = sum_taken y (sum_op q.op) q.target zero d k in
-      let k1 = does (LocalGet (number_local b zero)) (field_numbered y z k3) in
+      let k1 = emit (LocalGet (number_local b zero)) (field_numbered y z k3) in
       let own = number_of_row (holder_value q.name σ) in
       let ft = (ready p deepest ks F b M n u K l σ s).fit in
       let lt : 0 < b.temporaries = omega (arith, rm) in

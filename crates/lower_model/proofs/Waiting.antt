@@ -3,7 +3,7 @@ use Rattle.std.proofs.Common.{◌≡◌, inl, inr, ℕ, zero, suc, ◌+◌, ◌<
 use Rattle.std.specs.Prelude.{not, ◌&&◌, cond, nat_eq, nat_le}
 use Rattle.std.proofs.lemmas.Bool.{eq-eqb, le-leb}
 use Rattle.wasm_types.specs.Syntax.{Instructions}
-use Rattle.mid_program.specs.Mid.{Kind, Boxed, Unboxed, Many, Program}
+use Rattle.mid_program.specs.Mid.{Kind, Boxed, Unboxed, ArrayKind, Program}
 use Rattle.sem_scripts.specs.ScriptState.{State}
 use Rattle.mid_program.specs.Sorted.{has_kind}
 use Rattle.lower_model.specs.Cells.{Cell, Bits, Held, IteratorOf, OwnedArray, LentArray, Gone, arrays_owned, is_array, is_owned, is_held, is_iterator, iterators_in, is_operand, locals_wait, no_value, operands_wait}
@@ -11,7 +11,7 @@ use Rattle.lower_model.specs.Emission.{Layout, all_freed}
 use Rattle.lower_model.specs.Machine.{Label, Frame, arrays_freed, loops_walked, waits}
 use Rattle.lower_model.specs.Places.{Bases}
 use Rattle.lower_model.specs.Small.{answer_kept}
-use Rattle.lower_model.proofs.Watch.{Watch}
+use Rattle.lower_model.proofs.Observer.{Observer}
 use Rattle.lower_model.proofs.Regions.{cells, pairs}
 use Rattle.lower_model.proofs.Locals.{Locals, temporaries_on, laid}
 use Rattle.lower_model.proofs.Steps.{empty}
@@ -106,7 +106,7 @@ pub freed_after : (y : Layout) (w i : ℕ) (k : Instructions) → i ≤ arrays_f
 freed_after y w zero k = omega arith
 freed_after y w (suc i) k = let r = freed_after y w i k in omega (arith, r)
 
-module _ (p : Program) (deepest : Watch) (ks : List Kind) (F : List Frame) (b : Bases) (M n : ℕ) where
+module _ (p : Program) (deepest : Observer) (ks : List Kind) (F : List Frame) (b : Bases) (M n : ℕ) where
   -- no more than w arrays
   few_arrays : (t u w : ℕ) (l : Locals) (σ : State) → Fit p deepest ks F t u w l σ → length ks ≡ b.parameters → arrays_owned (laid b l) ≤ w
   few_arrays t u w l σ fit same =
@@ -127,7 +127,7 @@ module _ (p : Program) (deepest : Watch) (ks : List Kind) (F : List Frame) (b : 
   parameters_wait (k ∷ js) f m zero rest e h r = absurd (omega (arith, e))
   parameters_wait (Boxed ∷ js) f m (suc x) rest e h r = ap₂ (λ x y. x && y) (ap is_held (h zero Boxed refl).1) (parameters_wait js (λ i. f (suc i)) m x rest (omega (arith, e)) (λ i j q. h (suc i) j q) r)
   parameters_wait (Unboxed ∷ js) f m (suc x) rest e h r = ap₂ (λ x y. not x && y) (h zero Unboxed refl) (parameters_wait js (λ i. f (suc i)) m x rest (omega (arith, e)) (λ i j q. h (suc i) j q) r)
-  parameters_wait (Many ∷ js) f m (suc x) rest e h r = ap₂ (λ x y. not x && y) (h zero Many refl) (parameters_wait js (λ i. f (suc i)) m x rest (omega (arith, e)) (λ i j q. h (suc i) j q) r)
+  parameters_wait (ArrayKind ∷ js) f m (suc x) rest e h r = ap₂ (λ x y. not x && y) (h zero ArrayKind refl) (parameters_wait js (λ i. f (suc i)) m x rest (omega (arith, e)) (λ i j q. h (suc i) j q) r)
 
   -- A CALLER WAITS
   pub waits_there : (t u w d : ℕ) (k : Instructions) (K : List Label) (l : Locals) (σ : State) → Fit p deepest ks F t u w l σ → Walking p deepest ks F b M n (loops_walked K) u l → length ks ≡ b.parameters → t < b.temporaries → w ≤ arrays_freed k → waits ks K (laid b l) (answer_kept b t d k) ≡ true

@@ -16,7 +16,7 @@ use Rattle.mid_program.specs.declared.mid.Arithmetic.{Arithmetic}
 use Rattle.mid_program.specs.declared.mid.Arithmetic.TheVariants as inline
 use Rattle.mid_program.specs.declared.mid.Operation.{Operation}
 use Rattle.mid_program.specs.declared.mid.Operation.TheVariants.{Host, Inline, AsNumber, FieldNumber}
-use Rattle.mid_program.specs.Mid.{Kind, Boxed, Unboxed, Many, Slot, Global, Parameter, Code, Do, Over, Compare, Call, Ask, AskLine, FileLine, Replace, Number, Text, Unset, Get, Set, Array, IsOpen, Choose, Seq, Let, Bound, Codes, End, At, Fixed, Fresh, Form, Answered, Bare, Perhaps, form_of, form_at, arguments, parameters_at}
+use Rattle.mid_program.specs.Mid.{Kind, Boxed, Unboxed, ArrayKind, Slot, Global, Parameter, Code, Do, Over, Compare, Call, Ask, AskLine, FileLine, Replace, Number, Text, Unset, Get, Set, Array, IsOpen, Choose, Seq, Let, Bound, Codes, End, At, Fixed, Fresh, Form, PrimitiveAnswer, NumberOrText, OptionalNumber, form_of, form_at, arguments, parameters_at}
 use Rattle.mid_program.specs.MidMeaning.{three_values}
 use Rattle.sem_scripts.specs.Names.{ArrayName, Numbered, Given}
 use Rattle.mid_program.specs.Sorted.{count_of}
@@ -25,7 +25,7 @@ use Rattle.lower_model.specs.Emission.{Layout, name_read, added_or, emitted, all
 use Rattle.lower_model.specs.Machine.{is_walk}
 use Rattle.lower_model.specs.Places.{Bases, number_local}
 use Rattle.lower_model.specs.Quick.{Holder, OfName, OfParameter, Addition, addition_names, addition_in, all_unsure}
-use Rattle.lower_model.specs.Small.{does, converted, to_value, to_number, truth, unused, released, moved_from, bound_from, copied_from}
+use Rattle.lower_model.specs.Small.{emit, converted, to_value, to_number, truth, unused, released, moved_from, bound_from, copied_from}
 
 abbrev begins_tee : Instructions → Bool
 begins_tee (Then (Plain (LocalTee x)) k) = true
@@ -35,7 +35,7 @@ begins_tee _ = false
 abbrev Stern : Instructions → Type 0
 Stern k = (is_walk (Some k) ≡ false) × (begins_tee k ≡ false)
 
-gets : (x : ℕ) (k : Instructions) → begins_tee k ≡ false → Stern (does (LocalGet x) k)
+gets : (x : ℕ) (k : Instructions) → begins_tee k ≡ false → Stern (emit (LocalGet x) k)
 gets x Done e = (refl, refl)
 gets x (Then (Plain (LocalTee y)) k) e = cc
 gets x (Then (Plain i) k) e = (refl, refl)
@@ -48,15 +48,15 @@ either_stern false A B h g = g
 -- Conversions.
 
 value_stern : (b : Bases) (f : Form) (t : ℕ) (k : Instructions) → Stern k → Stern (to_value b f t k)
-value_stern b (Answered (answer.Of sort.Value)) t k h = h
+value_stern b (PrimitiveAnswer (answer.Of sort.Value)) t k h = h
 value_stern b f t k h = (refl, refl)
 
 number_stern : (b : Bases) (f : Form) (t d : ℕ) (k : Instructions) → Stern k → Stern (to_number b f t d k)
-number_stern b (Answered (answer.Of sort.Value)) t d k h = (refl, refl)
-number_stern b (Answered answer.Input) t d k h = (refl, refl)
-number_stern b (Answered answer.Stream) t d k h = (refl, refl)
-number_stern b Bare t d k h = (refl, refl)
-number_stern b Perhaps t d k h = (refl, refl)
+number_stern b (PrimitiveAnswer (answer.Of sort.Value)) t d k h = (refl, refl)
+number_stern b (PrimitiveAnswer answer.Input) t d k h = (refl, refl)
+number_stern b (PrimitiveAnswer answer.Stream) t d k h = (refl, refl)
+number_stern b NumberOrText t d k h = (refl, refl)
+number_stern b OptionalNumber t d k h = (refl, refl)
 number_stern b f t d k h = h
 
 converted_stern : (b : Bases) (f : Form) (s : Sort) (t d : ℕ) (k : Instructions) → Stern k → Stern (converted b f s t d k)
@@ -66,26 +66,26 @@ converted_stern b f sort.Array t d k h = h
 converted_stern b f sort.Iterator t d k h = h
 
 truth_stern : (b : Bases) (f : Form) (t : ℕ) (k : Instructions) → Stern (truth b f t k)
-truth_stern b (Answered (answer.Of sort.Value)) t k = (refl, refl)
-truth_stern b Bare t k = (refl, refl)
+truth_stern b (PrimitiveAnswer (answer.Of sort.Value)) t k = (refl, refl)
+truth_stern b NumberOrText t k = (refl, refl)
 truth_stern b f t k = (refl, refl)
 
 unused_stern : (b : Bases) (f : Form) (t : ℕ) (k : Instructions) → Stern k → Stern (unused b f t k)
-unused_stern b (Answered (answer.Of sort.Value)) t k h = (refl, refl)
-unused_stern b Bare t k h = (refl, refl)
+unused_stern b (PrimitiveAnswer (answer.Of sort.Value)) t k h = (refl, refl)
+unused_stern b NumberOrText t k h = (refl, refl)
 unused_stern b f t k h = h
 
 released_stern : (b : Bases) (f : Form) (t : ℕ) (k : Instructions) → Stern k → Stern (released b f t k)
-released_stern b (Answered (answer.Of sort.Value)) t k h = (refl, refl)
-released_stern b Bare t k h = (refl, refl)
+released_stern b (PrimitiveAnswer (answer.Of sort.Value)) t k h = (refl, refl)
+released_stern b NumberOrText t k h = (refl, refl)
 released_stern b f t k h = h
 
 moved_stern : (b : Bases) (f : Form) (s t : ℕ) (k : Instructions) → Stern (moved_from b f s t k)
-moved_stern b (Answered (answer.Of sort.Value)) s t k = (refl, refl)
+moved_stern b (PrimitiveAnswer (answer.Of sort.Value)) s t k = (refl, refl)
 moved_stern b f s t k = (refl, refl)
 
 copied_stern : (b : Bases) (f : Form) (s t : ℕ) (k : Instructions) → Stern (copied_from b f s t k)
-copied_stern b (Answered (answer.Of sort.Value)) s t k = (refl, refl)
+copied_stern b (PrimitiveAnswer (answer.Of sort.Value)) s t k = (refl, refl)
 copied_stern b f s t k = (refl, refl)
 
 bound_stern : (b : Bases) (m : Bool) (f : Form) (s t : ℕ) (k : Instructions) → Stern (bound_from b m f s t k)
@@ -99,12 +99,12 @@ calculated_stern b inline.Plus t d k = (refl, refl)
 calculated_stern b a t d k = (refl, refl)
 
 zeroed_stern : (b : Bases) (f : Form) (t : ℕ) (k : Instructions) → Stern k → Stern (zeroed_if b f t k)
-zeroed_stern b Bare t k h = (refl, refl)
-zeroed_stern b Perhaps t k h = (refl, refl)
+zeroed_stern b NumberOrText t k h = (refl, refl)
+zeroed_stern b OptionalNumber t k h = (refl, refl)
 zeroed_stern b f t k h = h
 
 beside_stern : (b : Bases) (f g : Form) (t : ℕ) (k : Instructions) → Stern (texts_beside b f g t k)
-beside_stern b Bare Bare t k = (refl, refl)
+beside_stern b NumberOrText NumberOrText t k = (refl, refl)
 beside_stern b f g t k = (refl, refl)
 
 numbers_stern : (b : Bases) (c : CompareOp) (f g : Form) (t : ℕ) (k : Instructions) → Stern (numbers_compared b c f g t k)
@@ -172,7 +172,7 @@ module _ (y : Layout) where
   given_pushed_stern : (ks : List Kind) (es : Codes) (t w : ℕ) (k : Instructions) → makes es ≡ false → Stern k → Stern (all_given_pushed y ks es t w k)
   given_pushed_stern (Boxed ∷ ks) (At e es) t w k m h = (refl, refl)
   given_pushed_stern (Unboxed ∷ ks) (At e es) t w k m h = gets (number_local y.bases t) _ (given_pushed_stern ks es (suc t) w k m h).1
-  given_pushed_stern (Many ∷ ks) (At e es) t w k m h = array_stern _ _ (given_pushed_stern ks es (suc t) w k m h)
+  given_pushed_stern (ArrayKind ∷ ks) (At e es) t w k m h = array_stern _ _ (given_pushed_stern ks es (suc t) w k m h)
   given_pushed_stern (kind ∷ ks) (Fresh es) t w k m h = cc
   given_pushed_stern ks es t w k m h = h
 

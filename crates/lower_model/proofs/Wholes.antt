@@ -6,9 +6,9 @@ use Rattle.sem_primitives.specs.Numbers.{Number}
 use Rattle.sem_primitives.specs.declared.table.Primitive.TheVariants as row
 use Rattle.wasm_types.specs.Syntax.{Instructions, Done}
 use Rattle.wasm_store.specs.declared.word.Word.TheVariants.{I64}
-use Rattle.mid_program.specs.Mid.{Kind, Boxed, Unboxed, Many, Program}
+use Rattle.mid_program.specs.Mid.{Kind, Boxed, Unboxed, ArrayKind, Program}
 use Rattle.sem_scripts.specs.ScriptRun.{Setting, unless}
-use Rattle.sem_scripts.specs.ScriptState.{State, Faulted, Doing, Stops, Gives}
+use Rattle.sem_scripts.specs.ScriptState.{State, Faulted, Execution, Stops, Gives}
 use Rattle.mid_program.specs.Sorted.{kinds_of, all_differ, announced_names}
 use Rattle.lower_model.specs.Cells.{Cell, Bits, is_owned, ended_name}
 use Rattle.lower_model.specs.Functions.{layout_of, main_bases, main_callee}
@@ -18,8 +18,8 @@ use Rattle.lower_model.specs.Runs.{begun, first_globals, host_at_start}
 use Rattle.lower_model.specs.Small.{ask_row, kept_number, least}
 use Rattle.lower_model.specs.Statements.{block, started, part_done, first_part, last_part}
 use Rattle.lower_model.specs.Emission.{asked}
-use Rattle.host_imports.specs.declared.import.Import.TheVariants.{Of}
-use Rattle.lower_model.proofs.Watch.{watched}
+use Rattle.host_imports.specs.declared.import.Import.TheVariants.{OfPrimitive}
+use Rattle.lower_model.proofs.Observer.{watched}
 use Rattle.lower_model.proofs.Runs.{Goes, goes_to, goes_from, then_goes, by_steps, first, within, faulted, Arrives}
 use Rattle.lower_model.proofs.Regions.{upd_all}
 use Rattle.lower_model.proofs.Globals.{placed}
@@ -44,7 +44,7 @@ use Rattle.lower_model.proofs.Endings.{main_exit, main_exit_work, main_ends_by, 
 ended_empty : (k : Kind) → ended_name k empty ≡ true
 ended_empty Boxed = refl
 ended_empty Unboxed = refl
-ended_empty Many = refl
+ended_empty ArrayKind = refl
 
 module _ (p : Program) (notes : Notes) (s : Setting) (M turns : ℕ) (differ : all_differ (announced_names p) ≡ true) (one : suc zero ≤ (main_bases p).temporaries) where
   abbrev bases : Bases
@@ -79,7 +79,7 @@ module _ (p : Program) (notes : Notes) (s : Setting) (M turns : ℕ) (differ : a
       let G = storing globals_first (host_of state_first (Some f)) in
       let e = main_ends_by p (watched notes s) b first_cells (host_of state_first (Some f)) 0 (numbered least) refl (numbered_loose least) refl refl (placed_fine p ended_name first_cells refl refl refl (λ i. refl) (λ i. ended_empty _) (λ i. refl)) in
       faulted mach M {A = Unit {0}} (main_exit_work b + 4) (1 + (3 + e.steps)) _ _ f state_first (λ u σ. EndsWell (Gives u σ)) (λ why σ. EndsWell (Stops why σ))
-      (then_goes (called (Of row.Pow) (Bits (I64 1) ∷ (Bits (I64 1) ∷ [])) [] G (Some (Bits (I64 least))) (host_of state_first (Some f)) refl refl refl)
+      (then_goes (called (OfPrimitive row.Pow) (Bits (I64 1) ∷ (Bits (I64 1) ∷ [])) [] G (Some (Bits (I64 least))) (host_of state_first (Some f)) refl refl refl)
       (then_goes (number_failed b (Functions.begun []) zero zero one refl) e.goes)) (let q = e.few in omega (arith, q)) refl
 
   -- else the first call answers 1
@@ -89,7 +89,7 @@ module _ (p : Program) (notes : Notes) (s : Setting) (M turns : ℕ) (differ : a
       let b = main_bases p in
       let one_number : Number = record { number = pos 1; in_range = tt } in
       let same = ap (λ (τ : State). host_of τ None) (same_state {A = Number} state_first one_number) in
-      then_goes (goes_to (called (Of row.Pow) (Bits (I64 1) ∷ (Bits (I64 1) ∷ [])) [] (storing globals_first (host_of state_first None)) (Some (Bits (I64 1))) _ refl refl refl)
+      then_goes (goes_to (called (OfPrimitive row.Pow) (Bits (I64 1) ∷ (Bits (I64 1) ∷ [])) [] (storing globals_first (host_of state_first None)) (Some (Bits (I64 1))) _ refl refl refl)
       (ap (λ o. at [] (Bits (I64 1) ∷ []) exit (laid b (Functions.begun [])) [] (kept_number b true zero zero k) (storing globals_first o)) same))
       (number_kept b (Functions.begun []) zero zero 1 one refl refl)
 
@@ -123,7 +123,7 @@ module _ (p : Program) (notes : Notes) (s : Setting) (M turns : ℕ) (differ : a
       }
 
   -- a run shows as the script's does, if what comes after the names does
-  module _ (w : ℕ) (meant : Doing (Unit {0}))
+  module _ (w : ℕ) (meant : Execution (Unit {0}))
       (rest : (l : Locals) (σ : State) → Starts p (watched notes s) [] [] (main_bases p) M turns 0 exit l σ → Arrives (machine p (watched notes s) [] []) M w σ.turns (at [] [] exit (laid (main_bases p) l) [] script_code (beside_state p (watched notes s) [] [] σ)) (λ u τ. EndsWell (Gives u τ)) (λ why τ. EndsWell (Stops why τ)) (meant σ)) where
     abbrev named_work : ℕ
     named_work = tell_work (globals_then p notes s (main_bases p) turns differ) + make_work (kinds_of p.globals)

@@ -11,14 +11,14 @@ use Rattle.mid_program.specs.Sorted.{kinds_of}
 use Rattle.lower_model.specs.Cells.{Cell, Bits}
 use Rattle.lower_model.specs.Machine.{Frame}
 use Rattle.lower_model.specs.Places.{Bases}
-use Rattle.lower_model.proofs.Watch.{Watch}
+use Rattle.lower_model.proofs.Observer.{Observer}
 use Rattle.lower_model.proofs.Regions.{upd, upd_same, upd_other, cells, pairs_same}
 use Rattle.lower_model.proofs.Globals.{placed}
 use Rattle.lower_model.proofs.Locals.{Locals}
 use Rattle.lower_model.proofs.State.{kind_here, arrays_before, name_hand, name_word, cells_of}
 use Rattle.lower_model.proofs.Relation.{Fit}
 
-module _ (p : Program) (deepest : Watch) (ks : List Kind) (F : List Frame) (b : Bases) (M n : ℕ) where
+module _ (p : Program) (deepest : Observer) (ks : List Kind) (F : List Frame) (b : Bases) (M n : ℕ) where
   -- a global has another value
   pub fit_global : (i : ℕ) (v : Value) (t u w : ℕ) (l : Locals) (σ : State) → Fit p deepest ks F t u w l σ → Fit p deepest ks F t u w l (with_global i v σ)
   fit_global i v t u w l σ f = record { params = f.params; size = f.size; answer = f.answer; hands = f.hands; numbers = f.numbers; free = f.free; walks = f.walks; still = f.still; yards = f.yards; spare = f.spare; sound = record { room = f.sound.room; names = length-set σ.globals i v ∙ f.sound.names; calm = f.sound.calm } }

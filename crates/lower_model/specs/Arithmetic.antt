@@ -20,43 +20,43 @@ use Rattle.wasm_types.specs.declared.instr.ITestOp.TheVariants.{Eqz}
 use Rattle.wasm_types.specs.declared.instr.CvtOp.TheVariants.{I64ExtendI32U}
 use Rattle.mid_program.specs.declared.mid.Arithmetic.{Arithmetic}
 use Rattle.mid_program.specs.declared.mid.Arithmetic.TheVariants as inline
-use Rattle.mid_program.specs.Mid.{Form, Answered, Bare, Perhaps}
+use Rattle.mid_program.specs.Mid.{Form, PrimitiveAnswer, NumberOrText, OptionalNumber}
 use Rattle.lower_model.specs.Places.{Bases, handle_local, number_local}
-use Rattle.lower_model.specs.Small.{does, ask_row, either, text_beside, moved_out, fail_if, number_is, kept_code, to_value, zeroed}
+use Rattle.lower_model.specs.Small.{emit, ask_row, emit_if, text_beside, moved_out, fail_if, number_is, kept_code, to_value, zeroed}
 
 -- whether the number in a local is out of range
 abbrev pub out_of_range : ℕ → Instructions → Instructions
-out_of_range local after = does (LocalGet local) (does (I64Const largest) (does (Binary I64 Add) (does (I64Const (2 ^ 54)) (does (Compare I64 GtU) after))))
+out_of_range local after = emit (LocalGet local) (emit (I64Const largest) (emit (Binary I64 Add) (emit (I64Const (2 ^ 54)) (emit (Compare I64 GtU) after))))
 
 abbrev pub two_numbers : ℕ → ℕ → IBinOp → Instructions → Instructions
-two_numbers left right op after = does (LocalGet left) (does (LocalGet right) (does (Binary I64 op) after))
+two_numbers left right op after = emit (LocalGet left) (emit (LocalGet right) (emit (Binary I64 op) after))
 
 -- a sum or a difference
 abbrev pub ranged : IBinOp → ℕ → ℕ → ℕ → Instructions → Instructions
-ranged op left right exit after = two_numbers left right op (does (LocalSet left) (out_of_range left (fail_if Range exit after)))
+ranged op left right exit after = two_numbers left right op (emit (LocalSet left) (out_of_range left (fail_if Range exit after)))
 
 -- A product may pass 64 bits: it did not exactly where it divided by a factor that is not 0 gives the other factor.
 abbrev pub factors_differ : ℕ → ℕ → ℕ → Instructions → Instructions
 factors_differ product left right after =
-    does (LocalGet product)
-    (does (LocalGet left) (does (LocalGet left) (does (Test I64 Eqz) (does (Convert I64ExtendI32U) (does (Binary I64 Add) (does (Binary I64 DivS)
-    (does (LocalGet right) (does (Compare I64 Ne)
-    (does (LocalGet left) (does (I64Const 0) (does (Compare I64 Ne) (does (Binary I32 And) after))))))))))))
+    emit (LocalGet product)
+    (emit (LocalGet left) (emit (LocalGet left) (emit (Test I64 Eqz) (emit (Convert I64ExtendI32U) (emit (Binary I64 Add) (emit (Binary I64 DivS)
+    (emit (LocalGet right) (emit (Compare I64 Ne)
+    (emit (LocalGet left) (emit (I64Const 0) (emit (Compare I64 Ne) (emit (Binary I32 And) after))))))))))))
 
 abbrev pub times : ℕ → ℕ → ℕ → ℕ → Instructions → Instructions
-times left right product exit after = two_numbers left right Mul (does (LocalSet product)
+times left right product exit after = two_numbers left right Mul (emit (LocalSet product)
     (factors_differ product left right
-    (out_of_range product (does (Binary I32 Or) (fail_if Range exit (does (LocalGet product) (does (LocalSet left) after)))))))
+    (out_of_range product (emit (Binary I32 Or) (fail_if Range exit (emit (LocalGet product) (emit (LocalSet left) after)))))))
 
 abbrev pub unless_zero : ℕ → ℕ → Instructions → Instructions
-unless_zero right exit after = does (LocalGet right) (does (Test I64 Eqz) (fail_if DivisionByZero exit after))
+unless_zero right exit after = emit (LocalGet right) (emit (Test I64 Eqz) (fail_if DivisionByZero exit after))
 
 abbrev pub divided : IBinOp → ℕ → ℕ → Instructions → Instructions
-divided op left right after = two_numbers left right op (does (LocalSet left) after)
+divided op left right after = two_numbers left right op (emit (LocalSet left) after)
 
 -- a quotient is whole
 abbrev pub unless_broken : ℕ → ℕ → ℕ → Instructions → Instructions
-unless_broken left right exit after = two_numbers left right RemS (does (I64Const 0) (does (Compare I64 Ne) (fail_if Inexact exit after)))
+unless_broken left right exit after = two_numbers left right RemS (emit (I64Const 0) (emit (Compare I64 Ne) (fail_if Inexact exit after)))
 
 abbrev pub relation : CompareOp → IRelOp
 relation compare.Less = LtS
@@ -68,14 +68,14 @@ relation compare.GreaterOrEqual = GeS
 
 -- whether a form is a value that only the host compares, and whether a text may stand beside a number
 abbrev pub is_value : Form → Bool
-is_value (Answered (answer.Of sort.Number)) = false
-is_value (Answered answer.Truth) = false
-is_value Bare = false
-is_value Perhaps = false
+is_value (PrimitiveAnswer (answer.Of sort.Number)) = false
+is_value (PrimitiveAnswer answer.Truth) = false
+is_value NumberOrText = false
+is_value OptionalNumber = false
 is_value form = true
 
 abbrev pub may_be_text : Form → Bool
-may_be_text Bare = true
+may_be_text NumberOrText = true
 may_be_text form = false
 
 module _ (bases : Bases) where
@@ -95,39 +95,39 @@ module _ (bases : Bases) where
   -- a field's number is from 0 to that of the last one: a negative one is a large one without its sign
   abbrev pub field_checked : ℕ → ℕ → Instructions → Instructions
   field_checked temporary exit after =
-      does (LocalGet (number_local bases temporary)) (does (I64Const most_fields) (does (Compare I64 GtU) (fail_if FieldNumber exit after)))
+      emit (LocalGet (number_local bases temporary)) (emit (I64Const most_fields) (emit (Compare I64 GtU) (fail_if FieldNumber exit after)))
 
   -- Comparison: by the host where one is a value, or a text stands beside one; else of numbers, of which one that is not there yet is 0.
 
   abbrev pub values_compared : CompareOp → Form → Form → ℕ → ℕ → Instructions → Instructions
   values_compared op left right temporary exit after =
       to_value bases left temporary (to_value bases right (suc temporary)
-      (does (I32Const (comparison_number op)) (moved_out (handle_local bases temporary)
+      (emit (I32Const (comparison_number op)) (moved_out (handle_local bases temporary)
       (moved_out (handle_local bases (suc temporary)) (ask_row row.Compare (kept_code bases true temporary exit after))))))
 
   abbrev pub zeroed_if : Form → ℕ → Instructions → Instructions
-  zeroed_if Bare temporary after = zeroed bases temporary after
-  zeroed_if Perhaps temporary after = zeroed bases temporary after
+  zeroed_if NumberOrText temporary after = zeroed bases temporary after
+  zeroed_if OptionalNumber temporary after = zeroed bases temporary after
   zeroed_if form temporary after = after
 
   abbrev pub numbers_compared : CompareOp → Form → Form → ℕ → Instructions → Instructions
   numbers_compared op left right temporary after =
       zeroed_if left temporary (zeroed_if right (suc temporary)
-      (does (LocalGet (number_local bases temporary)) (does (LocalGet (number_local bases (suc temporary)))
-      (does (Compare I64 (relation op)) (does (Convert I64ExtendI32U) (does (LocalSet (number_local bases temporary)) after))))))
+      (emit (LocalGet (number_local bases temporary)) (emit (LocalGet (number_local bases (suc temporary)))
+      (emit (Compare I64 (relation op)) (emit (Convert I64ExtendI32U) (emit (LocalSet (number_local bases temporary)) after))))))
 
   -- whether a text stands beside one of the two
   abbrev pub texts_beside : Form → Form → ℕ → Instructions → Instructions
-  texts_beside Bare Bare temporary after =
-      number_is (number_local bases temporary) text_beside (number_is (number_local bases (suc temporary)) text_beside (does (Binary I32 Or) after))
-  texts_beside Bare right temporary after = number_is (number_local bases temporary) text_beside after
+  texts_beside NumberOrText NumberOrText temporary after =
+      number_is (number_local bases temporary) text_beside (number_is (number_local bases (suc temporary)) text_beside (emit (Binary I32 Or) after))
+  texts_beside NumberOrText right temporary after = number_is (number_local bases temporary) text_beside after
   texts_beside left right temporary after = number_is (number_local bases (suc temporary)) text_beside after
 
   abbrev pub bare_compared : CompareOp → Form → Form → ℕ → ℕ → Instructions → Instructions
   bare_compared op left right temporary exit after =
       if may_be_text left || may_be_text right
       then texts_beside left right temporary
-      (either (values_compared op left right temporary (suc exit) Done) (numbers_compared op left right temporary Done) after)
+      (emit_if (values_compared op left right temporary (suc exit) Done) (numbers_compared op left right temporary Done) after)
       else numbers_compared op left right temporary after
 
   abbrev pub compared : CompareOp → Form → Form → ℕ → ℕ → Instructions → Instructions

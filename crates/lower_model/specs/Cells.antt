@@ -4,7 +4,7 @@ use Rattle.std.specs.Prelude.{ℕ, zero, ◌+◌, ◌-◌, Bool, true, false, no
 use Rattle.awk_values.specs.declared.value.Value.{Value as AnyValue}
 use Rattle.wasm_store.specs.declared.word.Word.{Word}
 use Rattle.wasm_store.specs.declared.word.Word.TheVariants.{I32, I64}
-use Rattle.mid_program.specs.Mid.{Kind, Boxed, Unboxed, Many}
+use Rattle.mid_program.specs.Mid.{Kind, Boxed, Unboxed, ArrayKind}
 use Rattle.mid_program.specs.Sorted.{same_kind}
 use Rattle.lower_model.specs.Small.{minus_one, text_beside}
 
@@ -108,7 +108,7 @@ abbrev pub tidy_locals : List Kind → List Cell → Bool
 tidy_locals [] cells = no_temporary cells
 tidy_locals (Boxed ∷ kinds) (cell ∷ cells) = is_held cell && tidy_locals kinds cells
 tidy_locals (Unboxed ∷ kinds) (cell ∷ cells) = is_bare cell && tidy_locals kinds cells
-tidy_locals (Many ∷ kinds) (cell ∷ cells) = not (is_owned cell) && tidy_locals kinds cells
+tidy_locals (ArrayKind ∷ kinds) (cell ∷ cells) = not (is_owned cell) && tidy_locals kinds cells
 tidy_locals (kind ∷ kinds) [] = false
 
 -- Where a caller waits for the answer of a call: its parameters have what they are to have, temporaries before the answer's may have a value each,
@@ -136,14 +136,14 @@ locals_wait (suc answer) kinds [] = false
 locals_wait (suc answer) [] (cell ∷ cells) = not (is_owned cell) && operands_wait answer cells
 locals_wait (suc answer) (Boxed ∷ kinds) (cell ∷ cells) = is_held cell && locals_wait answer kinds cells
 locals_wait (suc answer) (Unboxed ∷ kinds) (cell ∷ cells) = not (is_owned cell) && locals_wait answer kinds cells
-locals_wait (suc answer) (Many ∷ kinds) (cell ∷ cells) = not (is_owned cell) && locals_wait answer kinds cells
+locals_wait (suc answer) (ArrayKind ∷ kinds) (cell ∷ cells) = not (is_owned cell) && locals_wait answer kinds cells
 
 -- A name has two globals, for a handle and for a number. A boxed name's handle is there; beside a number there may be one of a text.
 
 abbrev pub tidy_name : Kind → Cell → Bool
 tidy_name Boxed cell = is_held cell
 tidy_name Unboxed cell = not (is_array cell) && not (is_iterator cell)
-tidy_name Many cell = is_array cell
+tidy_name ArrayKind cell = is_array cell
 
 -- the number of an unboxed name says whether a text stands beside it
 abbrev pub is_marked : Cell → Bool
@@ -155,7 +155,7 @@ mark_fits Unboxed (Held value) number = is_marked number
 mark_fits Unboxed (Bits (I32 word)) number = nat_eq word minus_one && is_bare number
 mark_fits Unboxed cell number = false
 mark_fits Boxed cell number = true
-mark_fits Many cell number = true
+mark_fits ArrayKind cell number = true
 
 abbrev pub marks_fit : List Kind → List Cell → Bool
 marks_fit [] cells = true
@@ -192,7 +192,7 @@ may_come before kinds assigning place old new =
 abbrev pub ended_name : Kind → Cell → Bool
 ended_name Boxed cell = not (is_array cell) && not (is_iterator cell)
 ended_name Unboxed cell = not (is_array cell) && not (is_iterator cell)
-ended_name Many cell = not (is_held cell) && not (is_iterator cell)
+ended_name ArrayKind cell = not (is_held cell) && not (is_iterator cell)
 
 abbrev pub each_name : (Kind → Cell → Bool) → List Kind → List Cell → Bool
 each_name fits [] [] = true

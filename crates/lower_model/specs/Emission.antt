@@ -27,15 +27,15 @@ use Rattle.mid_program.specs.declared.mid.Operation.TheVariants.{Host, Inline, A
 use Rattle.mid_program.specs.MidMeaning.{three_values}
 use Rattle.sem_scripts.specs.Names.{ArrayName, Numbered, Given}
 use Rattle.sem_scripts.specs.Steps.{is_field_number}
-use Rattle.mid_program.specs.Mid.{Kind, Boxed, Unboxed, Many, Slot, Global, Parameter, Code, Do, Over, Compare, Call, Ask, AskLine, FileLine, Replace, Number, Text, Unset, Get, Set, Array, IsOpen, Choose, Seq, Let, Bound, Codes, End, At, Fixed, Fresh, Form, Answered, Bare, Perhaps, a_value, form_of, form_at, arguments, parameters_at}
+use Rattle.mid_program.specs.Mid.{Kind, Boxed, Unboxed, ArrayKind, Slot, Global, Parameter, Code, Do, Over, Compare, Call, Ask, AskLine, FileLine, Replace, Number, Text, Unset, Get, Set, Array, IsOpen, Choose, Seq, Let, Bound, Codes, End, At, Fixed, Fresh, Form, PrimitiveAnswer, NumberOrText, OptionalNumber, a_value, form_of, form_at, arguments, parameters_at}
 use Rattle.mid_program.specs.Sorted.{count_of}
 use Rattle.host_imports.specs.Imports.{import_count}
 use Rattle.lower_model.specs.Places.{Bases, place_of, array_local, array_name, range_global, handle_global, number_global, made_in, handle_local, number_local}
-use Rattle.lower_model.specs.Small.{does, ask, ask_row, when, either, minus_one, least, text_beside, moved_out, let_go, copied, number_is, kept, kept_code, kept_value, answer_kept, boxed_number, boxed_perhaps, to_value, converted, code_number, truth, unused, released, moved_from, bound_from}
+use Rattle.lower_model.specs.Small.{emit, ask, ask_row, when, emit_if, minus_one, least, text_beside, moved_out, let_go, copied, number_is, kept, kept_code, kept_value, answer_kept, boxed_number, boxed_perhaps, to_value, converted, code_number, truth, unused, released, moved_from, bound_from}
 use Rattle.lower_model.specs.Arithmetic.{calculated, field_checked, compared, is_value}
 use Rattle.lower_model.specs.Quick.{Holder, OfName, OfParameter, Source, Held, Constant, Addition, addition_names, addition_in, all_unsure, sum_op}
-use Rattle.host_imports.specs.declared.import.Listing.TheVariants as listing
-use Rattle.host_imports.specs.declared.import.Import.TheVariants.{Over as OverLast, Arg, Drop, FreeArray}
+use Rattle.host_imports.specs.declared.import.VariadicImport.TheVariants as listing
+use Rattle.host_imports.specs.declared.import.Import.TheVariants.{Variadic as OverLast, Arg, Drop, FreeArray}
 
 -- What the code of a function is emitted for: the texts in memory, how many ranges there are, the kinds of the names and of the functions'
 -- parameters, and where the function's own things stand.
@@ -104,13 +104,13 @@ module _ (layout : Layout) where
 
   -- ARGV and ENVIRON are the arrays 0 and 1
   abbrev pub array_pushed : ArrayName → Instructions → Instructions
-  array_pushed (Numbered zero) after = does (I32Const 0) after
-  array_pushed (Numbered (suc zero)) after = does (I32Const 1) after
-  array_pushed (Numbered (suc (suc number))) after = does (GlobalGet (handle_global layout.ranges (array_name layout.names number))) after
-  array_pushed (Given parameter) after = does (LocalGet parameter) after
+  array_pushed (Numbered zero) after = emit (I32Const 0) after
+  array_pushed (Numbered (suc zero)) after = emit (I32Const 1) after
+  array_pushed (Numbered (suc (suc number))) after = emit (GlobalGet (handle_global layout.ranges (array_name layout.names number))) after
+  array_pushed (Given parameter) after = emit (LocalGet parameter) after
 
   abbrev pub text_pushed : ℕ → Instructions → Instructions
-  text_pushed text after = does (I32Const (place_of layout.texts text)) (does (I32Const (length (get_or layout.texts text []))) after)
+  text_pushed text after = emit (I32Const (place_of layout.texts text)) (emit (I32Const (length (get_or layout.texts text []))) after)
 
   -- Names.
 
@@ -124,66 +124,66 @@ module _ (layout : Layout) where
   abbrev pub slot_read : Slot → ℕ → Instructions → Instructions
   slot_read (Global false name) temporary after = copied (GlobalGet (global_handle name)) (GlobalSet (global_handle name)) (handle_local bases temporary) after
   slot_read (Global true name) temporary after =
-      does (GlobalGet (global_number name)) (does (LocalTee (number_local bases temporary)) (does (I64Const text_beside) (does (Comparing I64 Eq)
+      emit (GlobalGet (global_number name)) (emit (LocalTee (number_local bases temporary)) (emit (I64Const text_beside) (emit (Comparing I64 Eq)
       (when (copied (GlobalGet (global_handle name)) (GlobalSet (global_handle name)) (handle_local bases temporary) Done) after))))
   slot_read (Parameter false place) temporary after = copied (LocalGet place) (LocalSet place) (handle_local bases temporary) after
-  slot_read (Parameter true place) temporary after = does (LocalGet place) (does (LocalSet (number_local bases temporary)) after)
+  slot_read (Parameter true place) temporary after = emit (LocalGet place) (emit (LocalSet (number_local bases temporary)) after)
 
   -- the value of a temporary by `put` into a place that is empty: a second handle, where the first stays the answer, or the only one
   abbrev pub handle_stored : (only : Bool) → ℕ → Simple → Instructions → Instructions
-  handle_stored true temporary put after = moved_out (handle_local bases temporary) (does put after)
+  handle_stored true temporary put after = moved_out (handle_local bases temporary) (emit put after)
   handle_stored false temporary put after =
-      does (LocalGet (handle_local bases temporary)) (does (LocalTee (handle_local bases temporary)) (ask_row row.Dup (does put after)))
+      emit (LocalGet (handle_local bases temporary)) (emit (LocalTee (handle_local bases temporary)) (ask_row row.Dup (emit put after)))
 
   abbrev pub value_stored : (only : Bool) → Form → ℕ → Simple → Instructions → Instructions
-  value_stored only (Answered (answer.Of sort.Value)) temporary put after = handle_stored only temporary put after
-  value_stored only (Answered (answer.Of sort.Number)) temporary put after = boxed_number bases temporary (does put after)
-  value_stored only (Answered answer.Truth) temporary put after = boxed_number bases temporary (does put after)
-  value_stored only Bare temporary put after =
-      number_is (number_local bases temporary) text_beside (either (handle_stored only temporary put Done) (boxed_perhaps bases temporary put Done) after)
-  value_stored only Perhaps temporary put after = boxed_perhaps bases temporary put after
-  value_stored only form temporary put after = ask_row row.Uninit (does put after)
+  value_stored only (PrimitiveAnswer (answer.Of sort.Value)) temporary put after = handle_stored only temporary put after
+  value_stored only (PrimitiveAnswer (answer.Of sort.Number)) temporary put after = boxed_number bases temporary (emit put after)
+  value_stored only (PrimitiveAnswer answer.Truth) temporary put after = boxed_number bases temporary (emit put after)
+  value_stored only NumberOrText temporary put after =
+      number_is (number_local bases temporary) text_beside (emit_if (handle_stored only temporary put Done) (boxed_perhaps bases temporary put Done) after)
+  value_stored only OptionalNumber temporary put after = boxed_perhaps bases temporary put after
+  value_stored only form temporary put after = ask_row row.Uninit (emit put after)
 
   -- the text beside an unboxed name, if there is one, is dropped
   abbrev pub text_dropped : ℕ → Instructions → Instructions
   text_dropped name after =
-      does (GlobalGet (global_number name)) (does (I64Const text_beside) (does (Comparing I64 Eq)
-      (when (does (GlobalGet (global_handle name)) (ask Drop (does (I32Const minus_one) (does (GlobalSet (global_handle name)) Done)))) after)))
+      emit (GlobalGet (global_number name)) (emit (I64Const text_beside) (emit (Comparing I64 Eq)
+      (when (emit (GlobalGet (global_handle name)) (ask Drop (emit (I32Const minus_one) (emit (GlobalSet (global_handle name)) Done)))) after)))
 
   abbrev pub slot_set : (only : Bool) → Slot → Form → ℕ → Instructions → Instructions
   slot_set only (Global false name) form temporary after =
-      does (GlobalGet (global_handle name)) (ask Drop (value_stored only form temporary (GlobalSet (global_handle name)) after))
+      emit (GlobalGet (global_handle name)) (ask Drop (value_stored only form temporary (GlobalSet (global_handle name)) after))
   slot_set only (Global true name) form temporary after =
-      text_dropped name (does (LocalGet (number_local bases temporary)) (does (GlobalSet (global_number name)) after))
-  slot_set only (Parameter false place) form temporary after = does (LocalGet place) (ask Drop (value_stored only form temporary (LocalSet place) after))
-  slot_set only (Parameter true place) form temporary after = does (LocalGet (number_local bases temporary)) (does (LocalSet place) after)
+      text_dropped name (emit (LocalGet (number_local bases temporary)) (emit (GlobalSet (global_number name)) after))
+  slot_set only (Parameter false place) form temporary after = emit (LocalGet place) (ask Drop (value_stored only form temporary (LocalSet place) after))
+  slot_set only (Parameter true place) form temporary after = emit (LocalGet (number_local bases temporary)) (emit (LocalSet place) after)
 
   -- Assignments of the command line: the name's number and the value go to a temporary, and the name that has this number takes the value.
 
   abbrev pub assigned : Kind → ℕ → ℕ → Instructions → Instructions
   assigned Boxed name temporary after =
-      does (GlobalGet (global_handle name)) (ask Drop (moved_out (handle_local bases temporary) (does (GlobalSet (global_handle name)) after)))
+      emit (GlobalGet (global_handle name)) (ask Drop (moved_out (handle_local bases temporary) (emit (GlobalSet (global_handle name)) after)))
   assigned Unboxed name temporary after =
-      text_dropped name (moved_out (handle_local bases temporary) (does (GlobalSet (global_handle name))
-      (does (I64Const text_beside) (does (GlobalSet (global_number name)) after))))
-  assigned Many name temporary after = after
+      text_dropped name (moved_out (handle_local bases temporary) (emit (GlobalSet (global_handle name))
+      (emit (I64Const text_beside) (emit (GlobalSet (global_number name)) after))))
+  assigned ArrayKind name temporary after = after
 
   abbrev pub assigned_by_number : List Kind → ℕ → ℕ → Instructions → Instructions
   assigned_by_number [] name temporary after = after
-  assigned_by_number (Many ∷ kinds) name temporary after = assigned_by_number kinds (suc name) temporary after
+  assigned_by_number (ArrayKind ∷ kinds) name temporary after = assigned_by_number kinds (suc name) temporary after
   assigned_by_number (kind ∷ kinds) name temporary after =
       number_is (number_local bases temporary) name (when (assigned kind name temporary Done) (assigned_by_number kinds (suc name) temporary after))
 
   abbrev pub pending_assigned : ℕ → Instructions → Instructions
   pending_assigned temporary after =
-      ask_row row.PendingName (does (Convert I64ExtendI32U) (does (LocalSet (number_local bases temporary))
-      (ask_row row.PendingValue (does (LocalSet (handle_local bases temporary)) (assigned_by_number layout.names zero temporary after)))))
+      ask_row row.PendingName (emit (Convert I64ExtendI32U) (emit (LocalSet (number_local bases temporary))
+      (ask_row row.PendingValue (emit (LocalSet (handle_local bases temporary)) (assigned_by_number layout.names zero temporary after)))))
 
   -- an import is asked until no assignment is pending
   abbrev pub asked : Primitive → ℕ → ℕ → Instructions → Instructions
   asked primitive temporary exit after =
       Then (Again None (ask_row primitive (kept_code bases true temporary (suc exit)
-      (number_is (number_local bases temporary) 2 (when (pending_assigned temporary (does (Br 1) Done)) Done))))) after
+      (number_is (number_local bases temporary) 2 (when (pending_assigned temporary (emit (Br 1) Done)) Done))))) after
 
   -- Operands.
 
@@ -195,13 +195,13 @@ module _ (layout : Layout) where
 
   abbrev pub one_pushed : Argument → Code → ℕ → Instructions → Instructions
   one_pushed (argument.Of sort.Value) code temporary after = moved_out (handle_local bases temporary) after
-  one_pushed (argument.Of sort.Number) code temporary after = does (LocalGet (number_local bases temporary)) after
+  one_pushed (argument.Of sort.Number) code temporary after = emit (LocalGet (number_local bases temporary)) after
   one_pushed (argument.Of sort.Array) code temporary after = array_pushed (array_meant code) after
   one_pushed wanted code temporary after = after
 
   abbrev pub all_pushed : List Argument → Codes → ℕ → Instructions → Instructions
   all_pushed (first ∷ rest) (At code operands) temporary after = one_pushed first code temporary (all_pushed rest operands (suc temporary) after)
-  all_pushed (first ∷ rest) (Fixed number operands) temporary after = does (I32Const number) (all_pushed rest operands temporary after)
+  all_pushed (first ∷ rest) (Fixed number operands) temporary after = emit (I32Const number) (all_pushed rest operands temporary after)
   all_pushed _ _ temporary after = after
 
   -- an operation, once its operands are converted
@@ -222,11 +222,11 @@ module _ (layout : Layout) where
   all_appended _ temporary after = after
 
   abbrev pub listed_asked : Listed → ℕ → ℕ → ℕ → Instructions → Instructions
-  listed_asked listed.Sprintf count temporary exit after = does (I32Const count) (ask (OverLast listing.Sprintf) (kept_value bases true temporary exit after))
-  listed_asked (listed.Print to) count temporary exit after = does (I32Const (values_counted to count))
-      (does (I32Const (destination_number to)) (ask (OverLast listing.Print) (kept bases true answer.Done temporary exit after)))
-  listed_asked (listed.Printf to) count temporary exit after = does (I32Const (values_counted to count))
-      (does (I32Const (destination_number to)) (ask (OverLast listing.Printf) (kept bases true answer.Done temporary exit after)))
+  listed_asked listed.Sprintf count temporary exit after = emit (I32Const count) (ask (OverLast listing.Sprintf) (kept_value bases true temporary exit after))
+  listed_asked (listed.Print to) count temporary exit after = emit (I32Const (values_counted to count))
+      (emit (I32Const (destination_number to)) (ask (OverLast listing.Print) (kept bases true answer.Done temporary exit after)))
+  listed_asked (listed.Printf to) count temporary exit after = emit (I32Const (values_counted to count))
+      (emit (I32Const (destination_number to)) (ask (OverLast listing.Printf) (kept bases true answer.Done temporary exit after)))
 
   -- What a call is given. An array that is made for it stays where it can be freed, and its number is lent.
 
@@ -239,14 +239,14 @@ module _ (layout : Layout) where
 
   abbrev pub one_given : Kind → Code → ℕ → Instructions → Instructions
   one_given Boxed code temporary after = moved_out (handle_local bases temporary) after
-  one_given Unboxed code temporary after = does (LocalGet (number_local bases temporary)) after
-  one_given Many code temporary after = array_pushed (array_meant code) after
+  one_given Unboxed code temporary after = emit (LocalGet (number_local bases temporary)) after
+  one_given ArrayKind code temporary after = array_pushed (array_meant code) after
 
   abbrev pub all_given_pushed : List Kind → Codes → ℕ → ℕ → Instructions → Instructions
   all_given_pushed (kind ∷ kinds) (At code operands) temporary arrays after =
       one_given kind code temporary (all_given_pushed kinds operands (suc temporary) arrays after)
   all_given_pushed (kind ∷ kinds) (Fresh operands) temporary arrays after =
-      does (LocalGet (array_local bases arrays)) (does (LocalTee (array_local bases arrays)) (all_given_pushed kinds operands temporary (suc arrays) after))
+      emit (LocalGet (array_local bases arrays)) (emit (LocalTee (array_local bases arrays)) (all_given_pushed kinds operands temporary (suc arrays) after))
   all_given_pushed _ _ temporary arrays after = after
 
   -- the arrays of a call are freed, the last one first
@@ -256,7 +256,7 @@ module _ (layout : Layout) where
 
   -- Where something was read or replaced, the text goes to the next temporary, and is stored from there.
   abbrev pub text_kept : Primitive → ℕ → Instructions → Instructions
-  text_kept primitive temporary store = ask_row primitive (does (LocalSet (handle_local bases (suc temporary))) store)
+  text_kept primitive temporary store = ask_row primitive (emit (LocalSet (handle_local bases (suc temporary))) store)
 
   -- Sums of two sources whose names have numbers near 0, which are in range: neither is kept, nor is anything tested after it.
 
@@ -266,22 +266,22 @@ module _ (layout : Layout) where
   name_read (OfParameter place) = LocalGet place
 
   abbrev pub source_pushed : Source → Instructions → Instructions
-  source_pushed (Held name) after = does (name_read name) after
-  source_pushed (Constant number) after = does (I64Const (cast_unsigned w64 number)) after
+  source_pushed (Held name) after = emit (name_read name) after
+  source_pushed (Constant number) after = emit (I64Const (cast_unsigned w64 number)) after
 
   abbrev pub added : Addition → ℕ → Instructions → Instructions
   added addition temporary after = source_pushed addition.left (source_pushed addition.right
-      (does (Binary I64 (sum_op addition.op)) (does (LocalSet (number_local bases temporary)) after)))
+      (emit (Binary I64 (sum_op addition.op)) (emit (LocalSet (number_local bases temporary)) after)))
 
   -- `anyway` is the code of all cases beside it, and `other` that of what is no such sum
   abbrev pub added_or : Option Addition → ℕ → (anyway after other : Instructions) → Instructions
   added_or (Some addition) temporary anyway after other =
-      all_unsure name_read (addition_names addition) (pos (2 ^ 52)) (2 ^ 53) (either anyway (added addition temporary Done) after)
+      all_unsure name_read (addition_names addition) (pos (2 ^ 52)) (2 ^ 53) (emit_if anyway (added addition temporary Done) after)
   added_or None temporary anyway after other = other
 
   -- such a field is read without a test for a fault
   abbrev pub field_read : ℤ → ℕ → Instructions → Instructions
-  field_read number temporary after = does (I64Const (cast_unsigned w64 number)) (ask_row row.Field (does (LocalSet (handle_local bases temporary)) after))
+  field_read number temporary after = emit (I64Const (cast_unsigned w64 number)) (ask_row row.Field (emit (LocalSet (handle_local bases temporary)) after))
 
   abbrev pub field_or : Option ℤ → ℕ → (after other : Instructions) → Instructions
   field_or (Some number) temporary after other = field_read number temporary after
@@ -289,14 +289,14 @@ module _ (layout : Layout) where
 
   -- as a value, on the stack
   abbrev pub immediate_pushed : Immediate → Instructions → Instructions
-  immediate_pushed (FieldOf number) after = does (I64Const (cast_unsigned w64 number)) (ask_row row.Field after)
+  immediate_pushed (FieldOf number) after = emit (I64Const (cast_unsigned w64 number)) (ask_row row.Field after)
   immediate_pushed (TextOf text) after = text_pushed text (ask_row row.Lit after)
-  immediate_pushed (NumberOf number) after = does (I64Const (cast_unsigned w64 number)) (ask_row row.Num after)
+  immediate_pushed (NumberOf number) after = emit (I64Const (cast_unsigned w64 number)) (ask_row row.Num after)
 
   -- what stands in a temporary, of this form, is compared with an immediate operand, by the host
   abbrev pub immediately_compared : CompareOp → Form → Immediate → ℕ → ℕ → Instructions → Instructions
   immediately_compared op form immediate temporary exit after =
-      to_value bases form temporary (does (I32Const (comparison_number op)) (moved_out (handle_local bases temporary)
+      to_value bases form temporary (emit (I32Const (comparison_number op)) (moved_out (handle_local bases temporary)
       (immediate_pushed immediate (ask_row row.Compare (kept_code bases true temporary exit after)))))
 
   abbrev pub immediate_or : CompareOp → Form → Option Immediate → ℕ → ℕ → (after other : Instructions) → Instructions
@@ -353,7 +353,7 @@ module _ (layout : Layout) where
     emitted only forms temporaries (Call function operands) temporary arrays exit after =
         let kinds = parameters_at layout.calls function in
         all_emitted forms temporaries operands temporary arrays exit (all_given forms kinds operands temporary (all_given_pushed kinds operands temporary arrays
-        (does (CallOf (function_number function)) (answer_kept bases temporary exit (all_freed arrays (made_in operands) after)))))
+        (emit (CallOf (function_number function)) (answer_kept bases temporary exit (all_freed arrays (made_in operands) after)))))
     emitted only forms temporaries Ask temporary arrays exit after = asked row.Getline temporary exit (code_number bases temporary after)
     emitted only forms temporaries (AskLine store) temporary arrays exit after =
         asked row.GetlineVar temporary exit (number_is (number_local bases temporary) 1
@@ -367,24 +367,24 @@ module _ (layout : Layout) where
     emitted only forms temporaries (Replace all operands store) temporary arrays exit after =
         all_emitted forms temporaries operands temporary arrays exit
         (all_converted forms three_values operands temporary exit (all_pushed three_values operands temporary
-        (does (I32Const (flag_number all)) (ask_row row.Sub (kept bases true (answer.Of sort.Number) temporary exit
-        (does (LocalGet (number_local bases temporary)) (does (Test I64 Eqz)
-        (either Done (text_kept row.SubResult temporary
+        (emit (I32Const (flag_number all)) (ask_row row.Sub (kept bases true (answer.Of sort.Number) temporary exit
+        (emit (LocalGet (number_local bases temporary)) (emit (Test I64 Eqz)
+        (emit_if Done (text_kept row.SubResult temporary
         (emitted true (a_value ∷ forms) (suc temporary ∷ temporaries) store (suc (suc temporary)) arrays (suc exit)
         (text_let_go forms store temporary Done))) after))))))))
     emitted only forms temporaries (Number number) temporary arrays exit after =
-        does (I64Const (cast_unsigned w64 number)) (does (LocalSet (number_local bases temporary)) after)
+        emit (I64Const (cast_unsigned w64 number)) (emit (LocalSet (number_local bases temporary)) after)
     emitted only forms temporaries (Text text) temporary arrays exit after =
-        text_pushed text (ask_row row.Lit (does (LocalSet (handle_local bases temporary)) after))
-    emitted only forms temporaries Unset temporary arrays exit after = does (I64Const least) (does (LocalSet (number_local bases temporary)) after)
+        text_pushed text (ask_row row.Lit (emit (LocalSet (handle_local bases temporary)) after))
+    emitted only forms temporaries Unset temporary arrays exit after = emit (I64Const least) (emit (LocalSet (number_local bases temporary)) after)
     emitted only forms temporaries (Get slot) temporary arrays exit after = slot_read slot temporary after
     emitted only forms temporaries (Set slot value) temporary arrays exit after =
         emitted false forms temporaries value temporary arrays exit (slot_set only slot (form_of forms value) temporary after)
     emitted only forms temporaries (Array array) temporary arrays exit after = after
     emitted only forms temporaries (IsOpen item) temporary arrays exit after =
-        does (GlobalGet (range_global item)) (does (Convert I64ExtendI32U) (does (LocalSet (number_local bases temporary)) after))
+        emit (GlobalGet (range_global item)) (emit (Convert I64ExtendI32U) (emit (LocalSet (number_local bases temporary)) after))
     emitted only forms temporaries (Choose wanted test so otherwise) temporary arrays exit after =
-        emitted false forms temporaries test temporary arrays exit (truth bases (form_of forms test) temporary (either
+        emitted false forms temporaries test temporary arrays exit (truth bases (form_of forms test) temporary (emit_if
         (emitted false forms temporaries so temporary arrays (suc exit) (converted bases (form_of forms so) wanted temporary (suc exit) Done))
         (emitted false forms temporaries otherwise temporary arrays (suc exit)
         (converted bases (form_of forms otherwise) wanted temporary (suc exit) Done)) after))
@@ -404,7 +404,7 @@ module _ (layout : Layout) where
         emitted false forms temporaries code temporary arrays exit (all_emitted forms temporaries operands (suc temporary) arrays exit after)
     all_emitted forms temporaries (Fixed number operands) temporary arrays exit after = all_emitted forms temporaries operands temporary arrays exit after
     all_emitted forms temporaries (Fresh operands) temporary arrays exit after =
-        ask_row row.NewArray (does (LocalSet (array_local bases arrays)) (all_emitted forms temporaries operands temporary (suc arrays) exit after))
+        ask_row row.NewArray (emit (LocalSet (array_local bases arrays)) (all_emitted forms temporaries operands temporary (suc arrays) exit after))
 
   -- for what it does alone
   abbrev pub dropped : List Form → List ℕ → Code → (temporary arrays exit : ℕ) → Instructions → Instructions

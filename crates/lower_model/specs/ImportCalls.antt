@@ -7,7 +7,7 @@ use Rattle.sem_primitives.specs.Carried.{carried_out}
 use Rattle.sem_primitives.specs.Constants.{InConstant, constant_at, flag_number}
 use Rattle.sem_primitives.specs.InTurn.{in_turn, values_taken, listed_in_turn}
 use Rattle.sem_primitives.specs.Numbers.{faulted_word, number_of_word, number_word}
-use Rattle.sem_primitives.specs.SharedState.{Shared, Does, gives, shared_after}
+use Rattle.sem_primitives.specs.SharedState.{Shared, HostResult, gives, shared_after}
 use Rattle.sem_primitives.specs.Sorts.{In, InAnswer, InArgument, OrFault, Row}
 use Rattle.sem_primitives.specs.Table.{can_fault, meaning, listed_answer, listed_meaning}
 use Rattle.sem_primitives.specs.declared.sorts.Sort.{Sort}
@@ -25,9 +25,9 @@ use Rattle.wasm_store.specs.declared.word.Word.TheVariants.{I32, I64}
 use Rattle.host_imports.specs.Codes.{input_code, assign_code, stream_code, end_word}
 use Rattle.lower_model.specs.Cells.{Cell, Bits, Held, IteratorOf, OwnedArray, LentArray, none_owned}
 use Rattle.host_imports.specs.Imports.{import_arguments, import_answer, lets_go}
-use Rattle.host_imports.specs.declared.import.Listing.TheVariants.{Sprintf, Print, Printf}
+use Rattle.host_imports.specs.declared.import.VariadicImport.TheVariants.{Sprintf, Print, Printf}
 use Rattle.host_imports.specs.declared.import.Import.{Import}
-use Rattle.host_imports.specs.declared.import.Import.TheVariants.{Of, Over, Arg, Drop, IterFree, FreeArray}
+use Rattle.host_imports.specs.declared.import.Import.TheVariants.{OfPrimitive, Variadic, Arg, Drop, IterFree, FreeArray}
 
 -- the host beside its tables: what it shares with the script, the argument list, and the fault that is kept
 pub record Host : Type 0 where
@@ -88,15 +88,15 @@ row_in memory (first ∷ wanted) cells =
 
 -- `dup` and `iter_next` take nothing: they only look. An array is freed by who owns it.
 abbrev pub taken : List ℕ → (import : Import) → List Cell → Option (Row (import_arguments import))
-taken memory (Of row.Dup) cells = None
-taken memory (Of row.IterNext) cells = None
+taken memory (OfPrimitive row.Dup) cells = None
+taken memory (OfPrimitive row.IterNext) cells = None
 taken memory FreeArray (OwnedArray array ∷ []) = Some (array, tt)
 taken memory FreeArray cells = None
 taken memory import cells = row_in memory (import_arguments import) cells
 
 abbrev pub looked_at : (import : Import) → Cell → Option (Row (import_arguments import))
-looked_at (Of row.Dup) (Held value) = Some (value, tt)
-looked_at (Of row.IterNext) (IteratorOf keys) = Some (keys, tt)
+looked_at (OfPrimitive row.Dup) (Held value) = Some (value, tt)
+looked_at (OfPrimitive row.IterNext) (IteratorOf keys) = Some (keys, tt)
 looked_at import cell = None
 
 -- Answers.
@@ -131,7 +131,7 @@ fault_cell _ = Some (Bits (I32 (2 ^ 32 - 1)))
 -- What an import does: to what is shared, and to the argument list.
 
 pub record Acts (A : Type 0) : Type 0 where
-  pub does : Does (Result A Fault)
+  pub does : HostResult (Result A Fault)
   pub arguments : List AnyValue
 
 abbrev pub or_fault : {A : Type 0} → (faults : Bool) → OrFault faults A → Result A Fault
@@ -139,7 +139,7 @@ or_fault true given = given
 or_fault false given = Ok given
 
 -- a primitive leaves the argument list as it is
-abbrev pub primitive_acts : {A : Type 0} → List AnyValue → (faults : Bool) → Does (OrFault faults A) → Acts A
+abbrev pub primitive_acts : {A : Type 0} → List AnyValue → (faults : Bool) → HostResult (OrFault faults A) → Acts A
 primitive_acts arguments faults done =
     record { does = record { added = done.added; inner = done.inner; answer = or_fault faults done.answer }; arguments = arguments }
 
@@ -159,11 +159,11 @@ only_answers host arguments = record { does = gives host.shared (Ok tt); argumen
 
 -- a call that is out of turn does nothing here: a module makes none
 abbrev pub acts : (import : Import) → Row (import_arguments import) → Host → Option (Acts (InAnswer (import_answer import)))
-acts (Of primitive) given host =
+acts (OfPrimitive primitive) given host =
     where_so (in_turn primitive given host.shared) (Some (primitive_acts host.arguments (can_fault primitive) (meaning primitive given host.shared)))
-acts (Over Sprintf) given host = listed_acts listed.Sprintf (values_taken listed.Sprintf given.0) host
-acts (Over Print) given host = listed_acts (listed.Print given.1.0) (values_taken (listed.Print given.1.0) given.0) host
-acts (Over Printf) given host = listed_acts (listed.Printf given.1.0) (values_taken (listed.Printf given.1.0) given.0) host
+acts (Variadic Sprintf) given host = listed_acts listed.Sprintf (values_taken listed.Sprintf given.0) host
+acts (Variadic Print) given host = listed_acts (listed.Print given.1.0) (values_taken (listed.Print given.1.0) given.0) host
+acts (Variadic Printf) given host = listed_acts (listed.Printf given.1.0) (values_taken (listed.Printf given.1.0) given.0) host
 acts Arg given host = Some (only_answers host (host.arguments ++ given.0 ∷ []))
 acts Drop given host = Some (only_answers host host.arguments)
 acts IterFree given host = Some (only_answers host host.arguments)
@@ -194,5 +194,5 @@ look import cell host = elim host.fault [ None ↦ acted import host (looked_at 
 
 -- how many turns a script spends on assignments that a call carries out by itself
 abbrev pub carried_by : Import → Shared → ℕ
-carried_by (Of primitive) shared = carried_out primitive shared
+carried_by (OfPrimitive primitive) shared = carried_out primitive shared
 carried_by _ shared = 0

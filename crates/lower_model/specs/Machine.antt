@@ -22,7 +22,7 @@ use Rattle.lower_model.specs.Cells.{Cell, Bits, Held, IteratorOf, OwnedArray, Le
 use Rattle.host_imports.specs.Imports.{import_at, import_arguments, import_count, import_number, params_of}
 use Rattle.lower_model.specs.ImportCalls.{Host, call, look, carried_by}
 use Rattle.host_imports.specs.declared.import.Import.{Import}
-use Rattle.host_imports.specs.declared.import.Import.TheVariants.{FreeArray, Of}
+use Rattle.host_imports.specs.declared.import.Import.TheVariants.{FreeArray, OfPrimitive}
 use Rattle.sem_primitives.specs.declared.table.Primitive.TheVariants as row
 
 pub record Label : Type 0 where
@@ -223,7 +223,7 @@ number_pending None = None
 number_pending (Some pending) = Some pending.0
 
 abbrev pub assigning_after : Import → Store → Option ℕ
-assigning_after (Of row.PendingName) store = number_pending store.host.shared.inner.pending
+assigning_after (OfPrimitive row.PendingName) store = number_pending store.host.shared.inner.pending
 assigning_after _ store = store.assigning
 
 abbrev pub ask : List ℕ → Option Import → List Kind → List Cell → List Label → List Cell → List Frame → Instructions → Store → Conf
@@ -245,7 +245,7 @@ zeros types = map (λ valtype. Bits (zero_of valtype)) types
 -- an iterator for each loop over keys that is walked, and no other: such a loop begins with the call for its next key
 abbrev pub is_walk : Option Instructions → Bool
 is_walk (Some (Then (Plain (LocalGet local)) (Then (Plain (LocalTee looked)) (Then (Plain (Call function)) rest)))) =
-    nat_eq function (import_number (Of row.IterNext))
+    nat_eq function (import_number (OfPrimitive row.IterNext))
 is_walk _ = false
 
 abbrev pub loops_walked : List Label → ℕ

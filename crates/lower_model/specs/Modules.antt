@@ -12,7 +12,7 @@ use Rattle.mid_program.specs.Sorted.{kinds_of}
 use Rattle.host_imports.specs.Imports.{imports, import_name, import_type, module_name}
 use Rattle.lower_model.specs.Machine.{Callee}
 use Rattle.lower_model.specs.Places.{memory_of, kind_type}
-use Rattle.lower_model.specs.Small.{does, minus_one, least}
+use Rattle.lower_model.specs.Small.{emit, minus_one, least}
 use Rattle.lower_model.specs.Functions.{texts_of, routine_callee, main_callee}
 use Rattle.host_imports.specs.declared.import.Import.{Import}
 
@@ -98,10 +98,10 @@ functions_from called number (function ∷ functions) =
 -- Globals: the three of the module, those of ranges, and those of names, which have nothing yet.
 
 abbrev pub word_global : ℕ → GlobalForm
-word_global number = record { ty = record { value = I32; mutable = true }; init = does (I32Const number) Done }
+word_global number = record { ty = record { value = I32; mutable = true }; init = emit (I32Const number) Done }
 
 abbrev pub long_global : ℕ → GlobalForm
-long_global number = record { ty = record { value = I64; mutable = true }; init = does (I64Const number) Done }
+long_global number = record { ty = record { value = I64; mutable = true }; init = emit (I64Const number) Done }
 
 abbrev pub name_globals : List Kind → List GlobalForm
 name_globals [] = []
@@ -137,5 +137,5 @@ module_of program =
       exports = exports_of (length used + length program.routines);
       start = None;
       elems = [];
-      data_segments = (record { memory = 0; offset = does (I32Const 0) Done; init = memory }) ∷ [];
+      data_segments = (record { memory = 0; offset = emit (I32Const 0) Done; init = memory }) ∷ [];
     }

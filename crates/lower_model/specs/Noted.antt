@@ -9,7 +9,7 @@ use Rattle.sem_scripts.specs.Meaning.{Calls}
 use Rattle.mid_program.specs.Mid.{Kind, Code, Step, Eval, Block, If, Loop, Each, Break, Continue, Next, Exit, ExitWith, Return, Mark, Steps, NoStep, Then, Program}
 use Rattle.mid_program.specs.MidMeaning.{stepped, holds, keyed, routine_at, global_name, routine_name}
 use Rattle.sem_scripts.specs.ScriptRun.{Ending, Parts, Setting, run_with}
-use Rattle.sem_scripts.specs.ScriptState.{State, Doing, ◌>>=◌, ◌>>◌, give, nothing, stop, change, OutOfTurns, does}
+use Rattle.sem_scripts.specs.ScriptState.{State, Execution, ◌>>=◌, ◌>>◌, give, nothing, stop, change, OutOfTurns, call}
 use Rattle.mid_program.specs.Sorted.{calls_of}
 use Rattle.sem_scripts.specs.Statements.{Flow, Normal, after, after_round, loop, over_keys, entered}
 use Rattle.sem_scripts.specs.Steps.{array_number}
@@ -18,14 +18,14 @@ use Rattle.lower_model.specs.Functions.{layout_of, main_bases, routine_bases}
 use Rattle.lower_model.specs.Machine.{Notes}
 use Rattle.lower_model.specs.Places.{Bases, answer_local}
 use Rattle.lower_model.specs.Quick.{is_nothing, pair_in, step_jumps}
-use Rattle.lower_model.specs.Small.{least, does as instruction}
+use Rattle.lower_model.specs.Small.{least, emit as instruction}
 use Rattle.lower_model.specs.Statements.{records_read, step_emitted, steps_emitted}
 
 abbrev pub noting : Notes → Instructions → State → State
 noting notes code state = record state { shared = record state.shared { output = notes code state.shared.output } }
 
 -- a step that begins with this code is begun
-abbrev pub noted : Notes → Instructions → Doing (Unit {0})
+abbrev pub noted : Notes → Instructions → Execution (Unit {0})
 noted notes code = change (noting notes code)
 
 -- The test of a loop whose first round goes without it.
@@ -34,11 +34,11 @@ test_place layout test exit = instruction Nop (tested layout [] [] test zero zer
 
 module _ (notes : Notes) (layout : Layout) (texts : List (List ℕ)) (parameters : List (List Kind)) (turns : ℕ) (calls : Calls) where
   -- a step of its own
-  abbrev pub plain_noted : Step → Instructions → Doing Flow
+  abbrev pub plain_noted : Step → Instructions → Execution Flow
   plain_noted step code = noted notes code >> stepped texts parameters turns calls step
 
   unfoldable mutual
-    pub step_noted : Step → (iterators exit break_to continue_to : ℕ) → Instructions → Doing Flow
+    pub step_noted : Step → (iterators exit break_to continue_to : ℕ) → Instructions → Execution Flow
     step_noted (Eval code) iterators exit break_to continue_to following =
         plain_noted (Eval code) (step_emitted layout (Eval code) iterators exit break_to continue_to following)
     step_noted (Block steps) iterators exit break_to continue_to following =
@@ -67,7 +67,7 @@ module _ (notes : Notes) (layout : Layout) (texts : List (List ℕ)) (parameters
         >> round >>= λ flow. after_round flow (between >> loop turns tests round between)
     step_noted (Each array store body) iterators exit break_to continue_to following =
         noted notes (step_emitted layout (Each array store body) iterators exit break_to continue_to following)
-        >> array_number array >>= λ owner. does row.Iter (owner, tt) >>= λ keys.
+        >> array_number array >>= λ owner. call row.Iter (owner, tt) >>= λ keys.
         over_keys turns keys (keyed texts parameters turns calls store) (step_noted body (suc iterators) (suc (suc (suc exit))) 2 zero Done)
     step_noted Break iterators exit break_to continue_to following = plain_noted Break (step_emitted layout Break iterators exit break_to continue_to following)
     step_noted Continue iterators exit break_to continue_to following =
@@ -81,7 +81,7 @@ module _ (notes : Notes) (layout : Layout) (texts : List (List ℕ)) (parameters
     step_noted (Mark item opens) iterators exit break_to continue_to following =
         plain_noted (Mark item opens) (step_emitted layout (Mark item opens) iterators exit break_to continue_to following)
 
-    pub steps_noted : Steps → (iterators exit break_to continue_to : ℕ) → Instructions → Doing Flow
+    pub steps_noted : Steps → (iterators exit break_to continue_to : ℕ) → Instructions → Execution Flow
     steps_noted NoStep iterators exit break_to continue_to following = give Normal
     steps_noted (Then step steps) iterators exit break_to continue_to following =
         step_noted step iterators exit break_to continue_to (steps_emitted layout steps iterators exit break_to continue_to following)
@@ -103,7 +103,7 @@ noted_called notes program (suc turns) function locals =
     (routine_rest (routine_bases routine)))
 
 -- steps of `main`, with the code after them
-abbrev pub noted_done : Notes → Program → Bases → ℕ → Steps → Instructions → Doing (Unit {0})
+abbrev pub noted_done : Notes → Program → Bases → ℕ → Steps → Instructions → Execution (Unit {0})
 noted_done notes program bases turns steps following =
     steps_noted notes (layout_of program bases) program.texts (calls_of program) turns (noted_called notes program turns) steps zero zero zero zero following
     >> nothing

@@ -6,7 +6,7 @@ use Rattle.wasm_types.specs.declared.types.ValType.TheVariants.{I32, I64}
 use Rattle.mid_program.specs.declared.mid.Arithmetic.{Arithmetic}
 use Rattle.mid_program.specs.declared.mid.Arithmetic.TheVariants.{Times}
 use Rattle.mid_program.specs.declared.mid.Operation.TheVariants.{Inline}
-use Rattle.mid_program.specs.Mid.{Kind, Boxed, Unboxed, Many, Code, Do, Over, Compare, Call, Ask, AskLine, FileLine, Replace, Number, Text, Unset, Get, Set, Array, IsOpen, Choose, Seq, Let, Bound, Codes, End, At, Fixed, Fresh, Step, Eval, Block, If, Loop, Each, Break, Continue, Next, Exit, ExitWith, Return, Mark, Steps, NoStep, Then}
+use Rattle.mid_program.specs.Mid.{Kind, Boxed, Unboxed, ArrayKind, Code, Do, Over, Compare, Call, Ask, AskLine, FileLine, Replace, Number, Text, Unset, Get, Set, Array, IsOpen, Choose, Seq, Let, Bound, Codes, End, At, Fixed, Fresh, Step, Eval, Block, If, Loop, Each, Break, Continue, Next, Exit, ExitWith, Return, Mark, Steps, NoStep, Then}
 
 -- Texts: one after the other.
 
@@ -44,8 +44,8 @@ number_global ranges name = suc (suc (suc (suc ranges)) + (name + name))
 -- the name of an array of the script, by its number
 abbrev pub array_name : List Kind → ℕ → ℕ
 array_name [] number = zero
-array_name (Many ∷ kinds) zero = zero
-array_name (Many ∷ kinds) (suc number) = suc (array_name kinds number)
+array_name (ArrayKind ∷ kinds) zero = zero
+array_name (ArrayKind ∷ kinds) (suc number) = suc (array_name kinds number)
 array_name (Boxed ∷ kinds) number = suc (array_name kinds number)
 array_name (Unboxed ∷ kinds) number = suc (array_name kinds number)
 
@@ -74,7 +74,7 @@ array_local bases array = suc bases.parameters + (bases.temporaries + bases.temp
 abbrev pub kind_type : Kind → ValType
 kind_type Boxed = I32
 kind_type Unboxed = I64
-kind_type Many = I32
+kind_type ArrayKind = I32
 
 abbrev pub temporary_types : ℕ → List ValType
 temporary_types zero = []

@@ -23,7 +23,7 @@ use Rattle.mid_program.specs.declared.mid.Operation.{Operation}
 use Rattle.mid_program.specs.declared.mid.Operation.TheVariants.{Host, Inline, AsNumber}
 use Rattle.mid_program.specs.Mid.{Slot, Global, Parameter, Code, Do, Compare, Number, Get, Set, Array, Seq, Let, Bound, Codes, End, At, Fixed, Step, Eval, Block, If, Loop, Each, Break, Continue, Next, Exit, ExitWith, Return, Mark, Steps, NoStep, Then}
 use Rattle.sem_scripts.specs.Names.{ArrayName}
-use Rattle.lower_model.specs.Small.{does}
+use Rattle.lower_model.specs.Small.{emit}
 
 -- What has its number in one word: an unboxed name, or an unboxed parameter.
 pub data Holder : Type 0 where
@@ -39,7 +39,7 @@ pub record Within : Type 0 where
 -- 1 where the word that is read is none of them
 abbrev pub unsure : Simple → ℤ → ℕ → Instructions → Instructions
 unsure get shift width after =
-    does get (does (I64Const (cast_unsigned w64 shift)) (does (Binary I64 Add) (does (I64Const width) (does (Comparing I64 GtU) after))))
+    emit get (emit (I64Const (cast_unsigned w64 shift)) (emit (Binary I64 Add) (emit (I64Const width) (emit (Comparing I64 GtU) after))))
 
 abbrev pub holder_of : Slot → Option Holder
 holder_of (Global true name) = Some (OfName name)
@@ -109,15 +109,15 @@ and_source (Constant number) names = names
 -- Whether one of several names is not within the bounds: their words, each with the shift, are joined, and what is joined is no less than each.
 
 abbrev pub shifted : Simple → ℤ → Instructions → Instructions
-shifted get shift after = does get (does (I64Const (cast_unsigned w64 shift)) (does (Binary I64 Add) after))
+shifted get shift after = emit get (emit (I64Const (cast_unsigned w64 shift)) (emit (Binary I64 Add) after))
 
 abbrev pub joined : (Holder → Simple) → List Holder → ℤ → Instructions → Instructions
 joined read [] shift after = after
-joined read (name ∷ names) shift after = shifted (read name) shift (does (Binary I64 Or) (joined read names shift after))
+joined read (name ∷ names) shift after = shifted (read name) shift (emit (Binary I64 Or) (joined read names shift after))
 
 abbrev pub all_unsure : (Holder → Simple) → List Holder → ℤ → ℕ → Instructions → Instructions
-all_unsure read [] shift width after = does (I32Const 0) after
-all_unsure read (name ∷ names) shift width after = shifted (read name) shift (joined read names shift (does (I64Const width) (does (Comparing I64 GtU) after)))
+all_unsure read [] shift width after = emit (I32Const 0) after
+all_unsure read (name ∷ names) shift width after = shifted (read name) shift (joined read names shift (emit (I64Const width) (emit (Comparing I64 GtU) after)))
 
 -- Sums and differences of sources that go to a name. Sources of at most 2^52 have a sum in range.
 pub record Sum : Type 0 where
@@ -413,7 +413,7 @@ most_multiplied (Some factor) = largest / unsigned_abs factor
 -- the number on the stack is multiplied
 abbrev pub multiplied : Option ℤ → Instructions → Instructions
 multiplied None after = after
-multiplied (Some factor) after = does (I64Const (cast_unsigned w64 factor)) (does (Binary I64 Mul) after)
+multiplied (Some factor) after = emit (I64Const (cast_unsigned w64 factor)) (emit (Binary I64 Mul) after)
 
 -- Comparisons of sources: where all names are in range the module compares.
 pub record Pair : Type 0 where

@@ -21,9 +21,9 @@ use Rattle.wasm_types.specs.declared.instr.IRelOp.TheVariants.{Eq, GtU, LeS, Ne}
 use Rattle.wasm_types.specs.declared.instr.ITestOp.TheVariants.{Eqz}
 use Rattle.wasm_types.specs.declared.instr.CvtOp.TheVariants.{I32WrapI64}
 use Rattle.sem_scripts.specs.Names.{ArrayName}
-use Rattle.mid_program.specs.Mid.{Kind, Boxed, Unboxed, Many, Parameter, Code, Get, Choose, Form, Answered, Bare, Perhaps, Step, Eval, Block as Steps_, If as Either, Loop, Each, Break, Continue, Next, Exit, ExitWith, Return, Mark, Steps, NoStep, Then as AndThen, Program, a_value, form_of}
+use Rattle.mid_program.specs.Mid.{Kind, Boxed, Unboxed, ArrayKind, Parameter, Code, Get, Choose, Form, PrimitiveAnswer, NumberOrText, OptionalNumber, Step, Eval, Block as Steps_, If as Either, Loop, Each, Break, Continue, Next, Exit, ExitWith, Return, Mark, Steps, NoStep, Then as AndThen, Program, a_value, form_of}
 use Rattle.lower_model.specs.Places.{Bases, way_global, status_global, text_global, range_global, handle_global, number_global, answer_local, iterator_local, array_local, handle_local, number_local}
-use Rattle.lower_model.specs.Small.{does, ask, ask_row, when, either, end_code, text_beside, copied, moved_out, emptied, let_go, fail_if, number_is, least, was_left, kept_code, kept_number, kept_done, to_value, number_of_value, to_number}
+use Rattle.lower_model.specs.Small.{emit, ask, ask_row, when, emit_if, end_code, text_beside, copied, moved_out, emptied, let_go, fail_if, number_is, least, was_left, kept_code, kept_number, kept_done, to_value, number_of_value, to_number}
 use Rattle.lower_model.specs.Quick.{Within, unsure, test_within, Holder, OfName, OfParameter, Source, Held, Constant, all_unsure, Sum, sum_names, sum_op, sum_in, Update, update_in, Tally, tally_in, Remainder, remainder_in, remainder_names, most_multiplied, multiplied, Counted, counted_in, Pair, pair_names, pair_in, contrary, step_jumps, is_nothing}
 use Rattle.lower_model.specs.Arithmetic.{relation}
 use Rattle.lower_model.specs.Emission.{Layout, array_pushed, text_pushed, global_number, name_read, source_pushed, pending_assigned, asked, text_dropped, field_at, emitted, dropped, tested}
@@ -46,7 +46,7 @@ abbrev pub way_exit : ℕ
 way_exit = 2
 
 abbrev pub left_by : ℕ → ℕ → Instructions → Instructions
-left_by way exit after = does (I32Const way) (does (GlobalSet way_global) (does (Br exit) after))
+left_by way exit after = emit (I32Const way) (emit (GlobalSet way_global) (emit (Br exit) after))
 
 abbrev pub has_functions : List (List Kind) → Bool
 has_functions [] = false
@@ -59,8 +59,8 @@ module _ (layout : Layout) where
   -- the next key goes to temporary 0, and is stored from there; past the last one the loop is left
   abbrev pub key_stored : ℕ → Code → ℕ → Instructions → Instructions
   key_stored iterators store exit after =
-      does (LocalGet (iterator_local bases iterators)) (does (LocalTee (iterator_local bases iterators)) (ask_row row.IterNext
-      (does (LocalTee (handle_local bases zero)) (does (I32Const end_code) (does (Comparing I32 Eq) (does (BrIf 1)
+      emit (LocalGet (iterator_local bases iterators)) (emit (LocalTee (iterator_local bases iterators)) (ask_row row.IterNext
+      (emit (LocalTee (handle_local bases zero)) (emit (I32Const end_code) (emit (Comparing I32 Eq) (emit (BrIf 1)
       (dropped layout (a_value ∷ []) (zero ∷ []) store 1 zero exit (let_go Drop (handle_local bases zero) after))))))))
 
   abbrev pub iterator_left : ℕ → Instructions → Instructions
@@ -79,7 +79,7 @@ module _ (layout : Layout) where
   holder_cleared (OfParameter place) after = after
 
   abbrev pub summed : Sum → Instructions → Instructions
-  summed sum after = source_pushed layout sum.left (source_pushed layout sum.right (does (Binary I64 (sum_op sum.op)) (does (name_put sum.target) after)))
+  summed sum after = source_pushed layout sum.left (source_pushed layout sum.right (emit (Binary I64 (sum_op sum.op)) (emit (name_put sum.target) after)))
 
   -- Sums in all cases: where a name has no number it is 0, or that of the text beside.
 
@@ -93,13 +93,13 @@ module _ (layout : Layout) where
   abbrev pub number_found : Holder → (temporary exit : ℕ) → Instructions → Instructions
   number_found (OfName name) temporary exit after =
       number_is (number_local bases temporary) text_beside
-      (either (number_there name temporary (suc (suc exit)) Done) (does (I64Const 0) (does (LocalSet (number_local bases temporary)) Done)) after)
-  number_found (OfParameter place) temporary exit after = does (I64Const 0) (does (LocalSet (number_local bases temporary)) after)
+      (emit_if (number_there name temporary (suc (suc exit)) Done) (emit (I64Const 0) (emit (LocalSet (number_local bases temporary)) Done)) after)
+  number_found (OfParameter place) temporary exit after = emit (I64Const 0) (emit (LocalSet (number_local bases temporary)) after)
 
   -- a name's number in a temporary
   abbrev pub name_numbered : Holder → (temporary exit : ℕ) → Instructions → Instructions
   name_numbered name temporary exit after =
-      does (name_read layout name) (does (LocalTee (number_local bases temporary)) (does (I64Const text_beside) (does (Comparing I64 LeS)
+      emit (name_read layout name) (emit (LocalTee (number_local bases temporary)) (emit (I64Const text_beside) (emit (Comparing I64 LeS)
       (when (number_found name temporary exit Done) after))))
 
   abbrev pub source_numbered : Source → (temporary exit : ℕ) → Instructions → Instructions
@@ -107,18 +107,18 @@ module _ (layout : Layout) where
   source_numbered source temporary exit after = after
 
   abbrev pub source_taken : Source → ℕ → Instructions → Instructions
-  source_taken (Constant number) temporary after = does (I64Const (cast_unsigned w64 number)) after
-  source_taken source temporary after = does (LocalGet (number_local bases temporary)) after
+  source_taken (Constant number) temporary after = emit (I64Const (cast_unsigned w64 number)) after
+  source_taken source temporary after = emit (LocalGet (number_local bases temporary)) after
 
   -- two numbers are on the stack: what an operator gives of them goes to a temporary, and is tested
   abbrev pub sum_kept : IBinOp → (temporary exit : ℕ) → Instructions → Instructions
-  sum_kept op temporary exit after = does (Binary I64 op) (does (LocalTee (number_local bases temporary))
-      (does (I64Const largest) (does (Binary I64 Add) (does (I64Const (2 ^ 54)) (does (Comparing I64 GtU) (fail_if Range exit after))))))
+  sum_kept op temporary exit after = emit (Binary I64 op) (emit (LocalTee (number_local bases temporary))
+      (emit (I64Const largest) (emit (Binary I64 Add) (emit (I64Const (2 ^ 54)) (emit (Comparing I64 GtU) (fail_if Range exit after))))))
 
   -- the same, and a name takes it
   abbrev pub sum_taken : IBinOp → Holder → (temporary exit : ℕ) → Instructions → Instructions
   sum_taken op name temporary exit after =
-      sum_kept op temporary exit (holder_cleared name (does (LocalGet (number_local bases temporary)) (does (name_put name) after)))
+      sum_kept op temporary exit (holder_cleared name (emit (LocalGet (number_local bases temporary)) (emit (name_put name) after)))
 
   abbrev pub summed_anyway : Sum → ℕ → Instructions → Instructions
   summed_anyway sum exit after =
@@ -128,15 +128,15 @@ module _ (layout : Layout) where
   -- The number of a field that a constant gives, on the stack, above another number. Where the field's text has none a fault is kept, and the least
   -- number of 64 bits stands for it: no sum with that is in range, so the test of the sum finds the fault too.
   abbrev pub field_numbered : ℤ → Instructions → Instructions
-  field_numbered number after = does (I64Const (cast_unsigned w64 number)) (ask_row row.Field (ask_row row.ToNum after))
+  field_numbered number after = emit (I64Const (cast_unsigned w64 number)) (ask_row row.Field (ask_row row.ToNum after))
 
   -- The number of a name and that of what is added, on the stack. What is added stands in temporary 0, the name's number in the next one; a field that
   -- a constant gives needs no temporary.
   abbrev pub both_asked : Option ℤ → Update → ℕ → Instructions → Instructions
-  both_asked (Some number) update exit after = name_numbered update.name zero exit (does (LocalGet (number_local bases zero)) (field_numbered number after))
+  both_asked (Some number) update exit after = name_numbered update.name zero exit (emit (LocalGet (number_local bases zero)) (field_numbered number after))
   both_asked None update exit after =
       emitted layout false [] [] update.added zero zero exit (name_numbered update.name 1 exit (to_number bases (form_of [] update.added) zero exit
-      (does (LocalGet (number_local bases 1)) (does (LocalGet (number_local bases zero)) after))))
+      (emit (LocalGet (number_local bases 1)) (emit (LocalGet (number_local bases zero)) after))))
 
   abbrev pub updated : Update → ℕ → Instructions → Instructions
   updated update exit after = both_asked (field_at update.added) update exit (sum_taken (sum_op update.op) update.target zero exit after)
@@ -146,36 +146,36 @@ module _ (layout : Layout) where
   -- the number of the element, whose key stays where it is
   abbrev pub element_numbered : ArrayName → ℕ → Instructions → Instructions
   element_numbered array exit after =
-      array_pushed layout array (does (LocalGet (handle_local bases zero)) (does (LocalTee (handle_local bases zero))
+      array_pushed layout array (emit (LocalGet (handle_local bases zero)) (emit (LocalTee (handle_local bases zero))
       (ask_row row.Dup (ask_row row.Elem (ask_row row.ToNum (kept_number bases true 2 exit after))))))
 
   -- the element takes that number, and the key is given away
   abbrev pub element_given : ArrayName → Instructions → Instructions
   element_given array after =
       array_pushed layout array
-      (moved_out (handle_local bases zero) (does (LocalGet (number_local bases 2)) (ask_row row.Num (ask_row row.SetElem (kept_done bases false zero after)))))
+      (moved_out (handle_local bases zero) (emit (LocalGet (number_local bases 2)) (ask_row row.Num (ask_row row.SetElem (kept_done bases false zero after)))))
 
   abbrev pub tallied : Tally → ℕ → Instructions → Instructions
   tallied tally exit after =
       let form = form_of [] tally.key in
       emitted layout false [] [] tally.key zero zero exit (emitted layout false (form ∷ []) (zero ∷ []) tally.added 1 zero exit
       (to_value bases form zero (element_numbered tally.read exit (to_number bases (form_of (form ∷ []) tally.added) 1 exit
-      (does (LocalGet (number_local bases 2))
-      (does (LocalGet (number_local bases 1)) (sum_kept (sum_op tally.op) 2 exit (element_given tally.written after))))))))
+      (emit (LocalGet (number_local bases 2))
+      (emit (LocalGet (number_local bases 1)) (sum_kept (sum_op tally.op) 2 exit (element_given tally.written after))))))))
 
   -- A name takes a remainder that is in range: by the module itself where no product leaves it.
 
   abbrev pub remainder_taken : Remainder → Instructions → Instructions
   remainder_taken remainder after =
-      does (name_read layout remainder.multiple.name) (multiplied remainder.multiple.factor
-      (does (I64Const (cast_unsigned w64 remainder.divisor)) (does (Binary I64 RemS) (does (name_put remainder.target) after))))
+      emit (name_read layout remainder.multiple.name) (multiplied remainder.multiple.factor
+      (emit (I64Const (cast_unsigned w64 remainder.divisor)) (emit (Binary I64 RemS) (emit (name_put remainder.target) after))))
 
   abbrev pub remainder_dropped : Option Remainder → Code → ℕ → Instructions → Instructions
   remainder_dropped None code exit after = dropped layout [] [] code zero zero exit after
   remainder_dropped (Some remainder) code exit after =
       let most = most_multiplied remainder.multiple.factor in
       all_unsure (name_read layout) (remainder_names remainder) (pos most) (most + most)
-      (either (dropped layout [] [] code zero zero (suc exit) Done) (remainder_taken remainder Done) after)
+      (emit_if (dropped layout [] [] code zero zero (suc exit) Done) (remainder_taken remainder Done) after)
 
   abbrev pub barely_dropped : Option Tally → Code → ℕ → Instructions → Instructions
   barely_dropped None code exit after = remainder_dropped (remainder_in code) code exit after
@@ -188,55 +188,55 @@ module _ (layout : Layout) where
   abbrev pub quickly_dropped : Option Sum → Code → ℕ → Instructions → Instructions
   quickly_dropped None code exit after = plainly_dropped (update_in code) code exit after
   quickly_dropped (Some sum) code exit after =
-      all_unsure (name_read layout) (sum_names sum) (pos (2 ^ 52)) (2 ^ 53) (either (summed_anyway sum (suc exit) Done) (summed sum Done) after)
+      all_unsure (name_read layout) (sum_names sum) (pos (2 ^ 52)) (2 ^ 53) (emit_if (summed_anyway sum (suc exit) Done) (summed sum Done) after)
 
   -- both ways of a comparison are quick
   abbrev pub pair_left : Pair → ℕ → Instructions → Instructions
-  pair_left pair out after = source_pushed layout pair.left (source_pushed layout pair.right (does (Comparing I64 (relation (contrary pair.op))) (does (BrIf out) after)))
+  pair_left pair out after = source_pushed layout pair.left (source_pushed layout pair.right (emit (Comparing I64 (relation (contrary pair.op))) (emit (BrIf out) after)))
 
   -- a name's number is compared with that of the fields, which is in range: no fault comes of asking for it
   abbrev pub counted_left : Counted → ℕ → Instructions → Instructions
   counted_left counted out after =
-      does (name_read layout counted.name) (does (I32Const (special_number Nf)) (ask_row row.GetSpecial (ask_row row.ToNum
-      (does (Comparing I64 (relation (contrary counted.op))) (does (BrIf out) after)))))
+      emit (name_read layout counted.name) (emit (I32Const (special_number Nf)) (ask_row row.GetSpecial (ask_row row.ToNum
+      (emit (Comparing I64 (relation (contrary counted.op))) (emit (BrIf out) after)))))
 
   abbrev pub left_unless_counted : Option Counted → Code → (exit out : ℕ) → Instructions → Instructions
-  left_unless_counted None test exit out after = tested layout [] [] test zero zero exit (does (Test I32 Eqz) (does (BrIf out) after))
+  left_unless_counted None test exit out after = tested layout [] [] test zero zero exit (emit (Test I32 Eqz) (emit (BrIf out) after))
   left_unless_counted (Some counted) test exit out after =
-      does (name_read layout counted.name) (does (I64Const text_beside) (does (Comparing I64 LeS)
-      (either (tested layout [] [] test zero zero (suc exit) (does (Test I32 Eqz) (does (BrIf (suc out)) Done))) (counted_left counted (suc out) Done) after)))
+      emit (name_read layout counted.name) (emit (I64Const text_beside) (emit (Comparing I64 LeS)
+      (emit_if (tested layout [] [] test zero zero (suc exit) (emit (Test I32 Eqz) (emit (BrIf (suc out)) Done))) (counted_left counted (suc out) Done) after)))
 
   abbrev pub left_unless_pair : Option Pair → Code → (exit out : ℕ) → Instructions → Instructions
   left_unless_pair None test exit out after = left_unless_counted (counted_in test) test exit out after
   left_unless_pair (Some pair) test exit out after =
       all_unsure (name_read layout) (pair_names pair) (pos largest) (2 ^ 54)
-      (either (tested layout [] [] test zero zero (suc exit) (does (Test I32 Eqz) (does (BrIf (suc out)) Done))) (pair_left pair (suc out) Done) after)
+      (emit_if (tested layout [] [] test zero zero (suc exit) (emit (Test I32 Eqz) (emit (BrIf (suc out)) Done))) (pair_left pair (suc out) Done) after)
 
   -- where a test fails `out` labels further out are left
   abbrev pub left_unless : Option Within → Code → (exit out : ℕ) → Instructions → Instructions
   left_unless None test exit out after = left_unless_pair (pair_in test) test exit out after
   left_unless (Some within) test exit out after =
       unsure (name_read layout within.name) within.shift within.width
-      (when (tested layout [] [] test zero zero (suc exit) (does (Test I32 Eqz) (does (BrIf (suc out)) Done))) after)
+      (when (tested layout [] [] test zero zero (suc exit) (emit (Test I32 Eqz) (emit (BrIf (suc out)) Done))) after)
 
   -- `return`: what temporary 0 has is the answer. A text waits in a global. Nothing but iterators is held then, so the exit is one label further out
   -- than that for faults.
 
   abbrev pub word_given : (exit : ℕ) → Instructions → Instructions
-  word_given exit after = does (LocalGet (number_local bases zero)) (does (LocalSet (answer_local bases)) (does (Br (suc exit)) after))
+  word_given exit after = emit (LocalGet (number_local bases zero)) (emit (LocalSet (answer_local bases)) (emit (Br (suc exit)) after))
 
   abbrev pub text_given : Instructions → Instructions
-  text_given after = moved_out (handle_local bases zero) (does (GlobalSet text_global) after)
+  text_given after = moved_out (handle_local bases zero) (emit (GlobalSet text_global) after)
 
   abbrev pub constant_given : (word out : ℕ) → Instructions → Instructions
-  constant_given word out after = does (I64Const word) (does (LocalSet (answer_local bases)) (does (Br out) after))
+  constant_given word out after = emit (I64Const word) (emit (LocalSet (answer_local bases)) (emit (Br out) after))
 
   abbrev pub answer_given : Form → (exit : ℕ) → Instructions → Instructions
-  answer_given (Answered (answer.Of sort.Value)) exit after = text_given (constant_given text_beside (suc exit) after)
-  answer_given (Answered (answer.Of sort.Number)) exit after = word_given exit after
-  answer_given (Answered answer.Truth) exit after = word_given exit after
-  answer_given Bare exit after = number_is (number_local bases zero) text_beside (when (text_given Done) (word_given exit after))
-  answer_given Perhaps exit after = word_given exit after
+  answer_given (PrimitiveAnswer (answer.Of sort.Value)) exit after = text_given (constant_given text_beside (suc exit) after)
+  answer_given (PrimitiveAnswer (answer.Of sort.Number)) exit after = word_given exit after
+  answer_given (PrimitiveAnswer answer.Truth) exit after = word_given exit after
+  answer_given NumberOrText exit after = number_is (number_local bases zero) text_beside (when (text_given Done) (word_given exit after))
+  answer_given OptionalNumber exit after = word_given exit after
   answer_given form exit after = constant_given least (suc exit) after
 
   -- What is chosen is returned where it is chosen: in a block that a quick test leaves, or in an `if`. The number of an unboxed parameter, or the mark that
@@ -245,47 +245,47 @@ module _ (layout : Layout) where
   returned (Choose sort.Value test so otherwise) exit after =
       if is_some (pair_in test)
       then block (left_unless_pair (pair_in test) test (suc exit) zero (returned so (suc exit) Done)) (returned otherwise exit after)
-      else tested layout [] [] test zero zero exit (either (returned so (suc exit) Done) (returned otherwise (suc exit) Done) after)
-  returned (Get (Parameter true place)) exit after = does (LocalGet place) (does (LocalSet (answer_local bases)) (does (Br (suc exit)) after))
+      else tested layout [] [] test zero zero exit (emit_if (returned so (suc exit) Done) (returned otherwise (suc exit) Done) after)
+  returned (Get (Parameter true place)) exit after = emit (LocalGet place) (emit (LocalSet (answer_local bases)) (emit (Br (suc exit)) after))
   returned code exit after = emitted layout false [] [] code zero zero exit (answer_given (form_of [] code) exit after)
 
   -- Steps: so many iterators are in use; so many labels are between the code and the function's exit, the place where `break` goes, and the one where
   -- `continue` goes.
   unfoldable mutual
     pub step_emitted : Step → (iterators exit break_to continue_to : ℕ) → Instructions → Instructions
-    step_emitted (Eval code) iterators exit break_to continue_to after = does Nop (quickly_dropped (sum_in code) code exit after)
-    step_emitted (Steps_ steps) iterators exit break_to continue_to after = does Nop (steps_emitted steps iterators exit break_to continue_to after)
+    step_emitted (Eval code) iterators exit break_to continue_to after = emit Nop (quickly_dropped (sum_in code) code exit after)
+    step_emitted (Steps_ steps) iterators exit break_to continue_to after = emit Nop (steps_emitted steps iterators exit break_to continue_to after)
     step_emitted (Either test so otherwise) iterators exit break_to continue_to after =
-        does Nop (if is_some (pair_in test)
+        emit Nop (if is_some (pair_in test)
         then block (block (left_unless_pair (pair_in test) test (suc (suc exit)) zero
-        (step_emitted so iterators (suc (suc exit)) (suc (suc break_to)) (suc (suc continue_to)) (does (Br 1) Done)))
+        (step_emitted so iterators (suc (suc exit)) (suc (suc break_to)) (suc (suc continue_to)) (emit (Br 1) Done)))
         (step_emitted otherwise iterators (suc exit) (suc break_to) (suc continue_to) Done)) after
-        else tested layout [] [] test zero zero exit (either (step_emitted so iterators (suc exit) (suc break_to) (suc continue_to) Done)
+        else tested layout [] [] test zero zero exit (emit_if (step_emitted so iterators (suc exit) (suc break_to) (suc continue_to) Done)
         (step_emitted otherwise iterators (suc exit) (suc break_to) (suc continue_to) Done) after))
     step_emitted (Loop true test body last) iterators exit break_to continue_to after =
-        let rest = if is_nothing last then does (Br zero) Done else step_emitted last iterators (suc (suc exit)) 1 zero (does (Br zero) Done) in
-        does Nop (block (again (left_unless (test_within test) test (suc (suc exit)) 1
+        let rest = if is_nothing last then emit (Br zero) Done else step_emitted last iterators (suc (suc exit)) 1 zero (emit (Br zero) Done) in
+        emit Nop (block (again (left_unless (test_within test) test (suc (suc exit)) 1
         (if step_jumps body then block (step_emitted body iterators (suc (suc (suc exit))) 2 zero Done) rest
         else step_emitted body iterators (suc (suc exit)) 1 zero rest)) Done) after)
     step_emitted (Loop false test body last) iterators exit break_to continue_to after =
-        does Nop (block (again (block (step_emitted body iterators (suc (suc (suc exit))) 2 zero Done)
+        emit Nop (block (again (block (step_emitted body iterators (suc (suc (suc exit))) 2 zero Done)
         (step_emitted last iterators (suc (suc exit)) 1 zero
-        (does Nop (tested layout [] [] test zero zero (suc (suc exit)) (does (BrIf zero) Done))))) Done) after)
+        (emit Nop (tested layout [] [] test zero zero (suc (suc exit)) (emit (BrIf zero) Done))))) Done) after)
     step_emitted (Each array store body) iterators exit break_to continue_to after =
-        does Nop (array_pushed layout array (ask_row row.Iter (does (LocalSet (iterator_local bases iterators))
+        emit Nop (array_pushed layout array (ask_row row.Iter (emit (LocalSet (iterator_local bases iterators))
         (block (again (key_stored iterators store (suc (suc exit))
-        (block (step_emitted body (suc iterators) (suc (suc (suc exit))) 2 zero Done) (does (Br zero) Done))) Done)
+        (block (step_emitted body (suc iterators) (suc (suc (suc exit))) 2 zero Done) (emit (Br zero) Done))) Done)
         (iterator_left iterators after)))))
-    step_emitted Break iterators exit break_to continue_to after = does Nop (does (Br break_to) after)
-    step_emitted Continue iterators exit break_to continue_to after = does Nop (does (Br continue_to) after)
-    step_emitted Next iterators exit break_to continue_to after = does Nop (left_by way_next exit after)
-    step_emitted Exit iterators exit break_to continue_to after = does Nop (left_by way_exit exit after)
+    step_emitted Break iterators exit break_to continue_to after = emit Nop (emit (Br break_to) after)
+    step_emitted Continue iterators exit break_to continue_to after = emit Nop (emit (Br continue_to) after)
+    step_emitted Next iterators exit break_to continue_to after = emit Nop (left_by way_next exit after)
+    step_emitted Exit iterators exit break_to continue_to after = emit Nop (left_by way_exit exit after)
     step_emitted (ExitWith code) iterators exit break_to continue_to after =
-        does Nop (emitted layout false [] [] code zero zero exit (to_number bases (form_of [] code) zero exit
-        (does (LocalGet (number_local bases zero)) (does (GlobalSet status_global) (left_by way_exit exit after)))))
-    step_emitted (Return code) iterators exit break_to continue_to after = does Nop (returned code exit after)
+        emit Nop (emitted layout false [] [] code zero zero exit (to_number bases (form_of [] code) zero exit
+        (emit (LocalGet (number_local bases zero)) (emit (GlobalSet status_global) (left_by way_exit exit after)))))
+    step_emitted (Return code) iterators exit break_to continue_to after = emit Nop (returned code exit after)
     step_emitted (Mark item opens) iterators exit break_to continue_to after =
-        does Nop (does (I32Const (flag_number opens)) (does (GlobalSet (range_global item)) after))
+        emit Nop (emit (I32Const (flag_number opens)) (emit (GlobalSet (range_global item)) after))
 
     pub steps_emitted : Steps → (iterators exit break_to continue_to : ℕ) → Instructions → Instructions
     steps_emitted NoStep iterators exit break_to continue_to after = after
@@ -308,7 +308,7 @@ module _ (layout : Layout) where
 
   abbrev pub all_emptied : Instructions → Instructions
   all_emptied after =
-      does (I64Const was_left) (does (LocalSet (answer_local bases))
+      emit (I64Const was_left) (emit (LocalSet (answer_local bases))
       (temporaries_emptied zero bases.temporaries (iterators_emptied zero bases.iterators (arrays_emptied zero bases.arrays after))))
 
   abbrev pub temporaries_swept : ℕ → ℕ → Instructions → Instructions
@@ -333,16 +333,16 @@ module _ (layout : Layout) where
   -- the values of parameters; numbers and arrays of the caller's are not the function's to drop
   abbrev pub parameters_dropped : ℕ → List Kind → Instructions → Instructions
   parameters_dropped place [] after = after
-  parameters_dropped place (Boxed ∷ kinds) after = does (LocalGet place) (ask Drop (parameters_dropped (suc place) kinds after))
+  parameters_dropped place (Boxed ∷ kinds) after = emit (LocalGet place) (ask Drop (parameters_dropped (suc place) kinds after))
   parameters_dropped place (Unboxed ∷ kinds) after = parameters_dropped (suc place) kinds after
-  parameters_dropped place (Many ∷ kinds) after = parameters_dropped (suc place) kinds after
+  parameters_dropped place (ArrayKind ∷ kinds) after = parameters_dropped (suc place) kinds after
 
   -- A function that ends without `return` answers nothing. The inner block is the exit of one that is left, the outer one that of `return`.
   abbrev pub routine_ended : Instructions
   routine_ended = constant_given least 1 Done
 
   abbrev pub routine_exit : List Kind → Instructions
-  routine_exit kinds = iterators_swept zero bases.iterators (parameters_dropped zero kinds (does (LocalGet (answer_local bases)) Done))
+  routine_exit kinds = iterators_swept zero bases.iterators (parameters_dropped zero kinds (emit (LocalGet (answer_local bases)) Done))
 
   abbrev pub routine_body : List Kind → Steps → Instructions
   routine_body kinds body =
@@ -352,14 +352,14 @@ module _ (layout : Layout) where
 
   -- A job with a text past the limit keeps a fault from the start: this is the first import that may fault, and does nothing else.
   abbrev pub started : Instructions → Instructions
-  started after = does (I64Const 1) (does (I64Const 1) (ask_row row.Pow (kept_number bases true zero zero after)))
+  started after = emit (I64Const 1) (emit (I64Const 1) (ask_row row.Pow (kept_number bases true zero zero after)))
 
   -- names stand in memory after the script's texts
   abbrev pub declared : NameKind → ℕ → Instructions → Instructions
-  declared kind text after = text_pushed layout text (does (I32Const (kind_number kind)) (ask_row row.Declare after))
+  declared kind text after = text_pushed layout text (emit (I32Const (kind_number kind)) (ask_row row.Declare after))
 
   abbrev pub declared_kind : Kind → NameKind
-  declared_kind Many = ArrayOrFunction
+  declared_kind ArrayKind = ArrayOrFunction
   declared_kind Boxed = Scalar
   declared_kind Unboxed = Scalar
 
@@ -374,9 +374,9 @@ module _ (layout : Layout) where
   -- what a name has before the script runs; an unboxed one has nothing
   abbrev pub names_made : ℕ → List Kind → Instructions → Instructions
   names_made name [] after = after
-  names_made name (Boxed ∷ kinds) after = ask_row row.Uninit (does (GlobalSet (handle_global layout.ranges name)) (names_made (suc name) kinds after))
+  names_made name (Boxed ∷ kinds) after = ask_row row.Uninit (emit (GlobalSet (handle_global layout.ranges name)) (names_made (suc name) kinds after))
   names_made name (Unboxed ∷ kinds) after = names_made (suc name) kinds after
-  names_made name (Many ∷ kinds) after = ask_row row.NewArray (does (GlobalSet (handle_global layout.ranges name)) (names_made (suc name) kinds after))
+  names_made name (ArrayKind ∷ kinds) after = ask_row row.NewArray (emit (GlobalSet (handle_global layout.ranges name)) (names_made (suc name) kinds after))
 
   -- what `next` or `exit` left held is let go: where no function may have been called it is no more than iterators
   abbrev pub left_swept : (calls : Bool) → Instructions → Instructions
@@ -385,39 +385,39 @@ module _ (layout : Layout) where
 
   -- what was left by `next` or by `exit` goes on once what it held is let go
   abbrev pub goes_on : Instructions → Instructions
-  goes_on after = does (I32Const way_none) (does (GlobalSet way_global) (left_swept (has_functions layout.calls) after))
+  goes_on after = emit (I32Const way_none) (emit (GlobalSet way_global) (left_swept (has_functions layout.calls) after))
 
   -- the items for a record; `exit` labels out is where all but `next` goes on to
   abbrev pub record_done : Steps → ℕ → Instructions → Instructions
   record_done items exit after =
       block
-      (block (steps_emitted items zero zero zero zero (does (Br 1) Done))
-      (does (GlobalGet way_global) (does (I32Const way_next) (does (Comparing I32 Ne) (does (BrIf (suc exit)) (goes_on Done))))))
+      (block (steps_emitted items zero zero zero zero (emit (Br 1) Done))
+      (emit (GlobalGet way_global) (emit (I32Const way_next) (emit (Comparing I32 Ne) (emit (BrIf (suc exit)) (goes_on Done))))))
       after
 
   abbrev pub records_read : Steps → ℕ → Instructions → Instructions
   records_read items exit after =
       again (ask_row row.NextMain (kept_code bases true zero (suc exit)
-      (number_is (number_local bases zero) 1 (when (record_done items (suc (suc exit)) (does (Br 1) Done))
-      (number_is (number_local bases zero) 2 (when (pending_assigned layout zero (does (Br 1) Done)) Done)))))) after
+      (number_is (number_local bases zero) 1 (when (record_done items (suc (suc exit)) (emit (Br 1) Done))
+      (number_is (number_local bases zero) 2 (when (pending_assigned layout zero (emit (Br 1) Done)) Done)))))) after
 
   -- a part, left by `exit` or at its end; so many labels out is the exit of `main`
   abbrev pub part_done : Instructions → ℕ → Instructions → Instructions
   part_done actions exit after =
       block
       (block actions
-      (does (GlobalGet way_global) (does (Test I32 Eqz) (does (BrIf (suc exit))
-      (does (GlobalGet way_global) (does (I32Const way_next) (does (Comparing I32 Eq)
-      (when (does (I32Const (fault_number NextOutside)) (ask_row row.Fail (does (Br (suc (suc exit))) Done)))
+      (emit (GlobalGet way_global) (emit (Test I32 Eqz) (emit (BrIf (suc exit))
+      (emit (GlobalGet way_global) (emit (I32Const way_next) (emit (Comparing I32 Eq)
+      (when (emit (I32Const (fault_number NextOutside)) (ask_row row.Fail (emit (Br (suc (suc exit))) Done)))
       (goes_on Done)))))))))
       after
 
   abbrev pub first_part : Program → Instructions
   first_part program =
-      steps_emitted program.begin zero zero zero zero (if program.reads then records_read program.items zero (does (Br 1) Done) else does (Br 1) Done)
+      steps_emitted program.begin zero zero zero zero (if program.reads then records_read program.items zero (emit (Br 1) Done) else emit (Br 1) Done)
 
   abbrev pub last_part : Program → Instructions
-  last_part program = steps_emitted program.end zero zero zero zero (does (Br 1) Done)
+  last_part program = steps_emitted program.end zero zero zero zero (emit (Br 1) Done)
 
   abbrev pub before_parts : Program → Instructions → Instructions
   before_parts program after =
@@ -428,4 +428,4 @@ module _ (layout : Layout) where
   abbrev pub main_body : Program → Instructions
   main_body program =
       all_emptied (block (before_parts program (part_done (first_part program) zero (ask_row row.BeginEnd (part_done (last_part program) zero Done))))
-      (swept (does (GlobalGet status_global) (does (Convert I32WrapI64) Done))))
+      (swept (emit (GlobalGet status_global) (emit (Convert I32WrapI64) Done))))

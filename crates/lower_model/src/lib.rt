@@ -2,4 +2,4 @@
 //! what programs do.
 #![tactic(auto)]
 
-pub mod laws;
+pub mod code_laws;

@@ -22,14 +22,14 @@ use Rattle.mid_program.specs.declared.mid.Operation.{Operation}
 use Rattle.mid_program.specs.declared.mid.Operation.TheVariants.{Host, Inline, AsNumber, FieldNumber}
 use Rattle.mid_program.specs.MidMeaning.{three_values}
 use Rattle.sem_scripts.specs.Names.{ArrayName, Numbered, Given}
-use Rattle.mid_program.specs.Mid.{Kind, Boxed, Unboxed, Many, Slot, Global, Parameter, Code, Do, Over, Compare, Call, Ask, AskLine, FileLine, Replace, Number, Text, Unset, Get, Set, Array, IsOpen, Choose, Seq, Let, Bound, Codes, End, At, Fixed, Fresh, Form, Answered, Bare, a_value, form_of, form_at, arguments, parameters_at}
+use Rattle.mid_program.specs.Mid.{Kind, Boxed, Unboxed, ArrayKind, Slot, Global, Parameter, Code, Do, Over, Compare, Call, Ask, AskLine, FileLine, Replace, Number, Text, Unset, Get, Set, Array, IsOpen, Choose, Seq, Let, Bound, Codes, End, At, Fixed, Fresh, Form, PrimitiveAnswer, NumberOrText, a_value, form_of, form_at, arguments, parameters_at}
 use Rattle.mid_program.specs.Sorted.{count_of}
 use Rattle.lower_model.specs.Arithmetic.{calculated, compared, field_checked, is_value, may_be_text, numbers_compared, texts_beside, values_compared, zeroed_if}
 use Rattle.wasm_types.specs.Instructions.{depths}
 use Rattle.lower_model.specs.Emission.{Layout, Immediate, FieldOf, TextOf, NumberOf, immediate_in, immediate_or, immediate_pushed, added_or, all_appended, all_boxed, all_converted, all_emitted, all_freed, all_given, all_given_pushed, all_pushed, array_meant, array_pushed, asked, assigned, assigned_by_number, dropped, emitted, bound_read, field_in, field_or, handle_stored, keeping_closed, left_over, listed_asked, name_read, one_given, one_pushed, pending_assigned, performed, sequence_closed, slot_read, slot_set, tested, text_kept, text_let_go, value_stored}
 use Rattle.lower_model.specs.Places.{Bases, made_in}
 use Rattle.lower_model.specs.Quick.{Addition, Holder, addition_in, addition_names, all_unsure, joined}
-use Rattle.lower_model.specs.Small.{answer_kept, bound_from, code_number, converted, does, either, kept, kept_code, kept_done, kept_number, kept_value, moved_from, released, to_number, to_value, truth, unused}
+use Rattle.lower_model.specs.Small.{answer_kept, bound_from, code_number, converted, emit, emit_if, kept, kept_code, kept_done, kept_number, kept_value, moved_from, released, to_number, to_value, truth, unused}
 
 -- blocks are so deep at least
 pub record Deep (k : Instructions) (m : ℕ) : Type 0 where
@@ -38,10 +38,10 @@ pub record Deep (k : Instructions) (m : ℕ) : Type 0 where
 pub none : Deep Done 0
 none = record { count = omega arith }
 
-pub past : {k : Instructions} {m : ℕ} (i : Simple) → Deep k m → Deep (does i k) m
+pub past : {k : Instructions} {m : ℕ} (i : Simple) → Deep k m → Deep (emit i k) m
 past i r = record { count = let h = r.count in omega (arith, h) }
 
-pub choice : {a c k : Instructions} {m : ℕ} → Deep a 0 → Deep c 0 → Deep k m → Deep (either a c k) m
+pub choice : {a c k : Instructions} {m : ℕ} → Deep a 0 → Deep c 0 → Deep k m → Deep (emit_if a c k) m
 choice a c r = record { count = let x = a.count in let y = c.count in let h = r.count in omega (arith, x, y, h) }
 
 whichever : {a c : Instructions} {m : ℕ} (z : Bool) → Deep a m → Deep c m → Deep (if z then a else c) m
@@ -79,14 +79,14 @@ module _ (b : Bases) {k : Instructions} {m : ℕ} where
   kept_deep f a t d r = r
 
   pub to_value_deep : (f : Form) (t : ℕ) → Deep k m → Deep (to_value b f t k) m
-  to_value_deep (Answered (answer.Of sort.Value)) t r = r
+  to_value_deep (PrimitiveAnswer (answer.Of sort.Value)) t r = r
   to_value_deep f t r = record { count = let h = r.count in omega (arith, h) }
 
   code_number_deep : (t : ℕ) → Deep k m → Deep (code_number b t k) m
   code_number_deep t r = record { count = let h = r.count in omega (arith, h) }
 
   pub to_number_deep : (f : Form) (t d : ℕ) → Deep k m → Deep (to_number b f t d k) m
-  to_number_deep (Answered (answer.Of sort.Value)) t d r = record { count = let h = r.count in omega (arith, h) }
+  to_number_deep (PrimitiveAnswer (answer.Of sort.Value)) t d r = record { count = let h = r.count in omega (arith, h) }
   to_number_deep f t d r = record { count = let h = r.count in omega (arith, h) }
 
   converted_deep : (f : Form) (s : Sort) (t d : ℕ) → Deep k m → Deep (converted b f s t d k) m
@@ -95,21 +95,21 @@ module _ (b : Bases) {k : Instructions} {m : ℕ} where
   converted_deep f s t d r = r
 
   pub truth_deep : (f : Form) (t : ℕ) → Deep k m → Deep (truth b f t k) m
-  truth_deep (Answered (answer.Of sort.Value)) t r = record { count = let h = r.count in omega (arith, h) }
+  truth_deep (PrimitiveAnswer (answer.Of sort.Value)) t r = record { count = let h = r.count in omega (arith, h) }
   truth_deep f t r = record { count = let h = r.count in omega (arith, h) }
 
   unused_deep : (f : Form) (t : ℕ) → Deep k m → Deep (unused b f t k) m
-  unused_deep (Answered (answer.Of sort.Value)) t r = record { count = let h = r.count in omega (arith, h) }
+  unused_deep (PrimitiveAnswer (answer.Of sort.Value)) t r = record { count = let h = r.count in omega (arith, h) }
   unused_deep f t r = record { count = let h = r.count in omega (arith, h) }
 
   released_deep : (f : Form) (t : ℕ) → Deep k m → Deep (released b f t k) m
-  released_deep (Answered (answer.Of sort.Value)) t r = record { count = let h = r.count in omega (arith, h) }
+  released_deep (PrimitiveAnswer (answer.Of sort.Value)) t r = record { count = let h = r.count in omega (arith, h) }
   released_deep f t r = record { count = let h = r.count in omega (arith, h) }
 
   bound_deep : (z : Bool) (f : Form) (s t : ℕ) → Deep k m → Deep (bound_from b z f s t k) m
-  bound_deep true (Answered (answer.Of sort.Value)) s t r = record { count = let h = r.count in omega (arith, h) }
+  bound_deep true (PrimitiveAnswer (answer.Of sort.Value)) s t r = record { count = let h = r.count in omega (arith, h) }
   bound_deep true f s t r = record { count = let h = r.count in omega (arith, h) }
-  bound_deep false (Answered (answer.Of sort.Value)) s t r = record { count = let h = r.count in omega (arith, h) }
+  bound_deep false (PrimitiveAnswer (answer.Of sort.Value)) s t r = record { count = let h = r.count in omega (arith, h) }
   bound_deep false f s t r = record { count = let h = r.count in omega (arith, h) }
 
   moved_deep : (f : Form) (s t : ℕ) → Deep k m → Deep (moved_from b f s t k) m
@@ -123,12 +123,12 @@ module _ (b : Bases) {k : Instructions} {m : ℕ} where
   field_deep t d r = record { count = let h = r.count in omega (arith, h) }
 
   zeroed_deep : (f : Form) (t : ℕ) → Deep k m → Deep (zeroed_if b f t k) m
-  zeroed_deep Bare t r = record { count = let h = r.count in omega (arith, h) }
+  zeroed_deep NumberOrText t r = record { count = let h = r.count in omega (arith, h) }
   zeroed_deep f t r = record { count = let h = r.count in omega (arith, h) }
 
   beside_deep : (f g : Form) (t : ℕ) → Deep k m → Deep (texts_beside b f g t k) m
-  beside_deep Bare Bare t r = record { count = let h = r.count in omega (arith, h) }
-  beside_deep Bare g t r = record { count = let h = r.count in omega (arith, h) }
+  beside_deep NumberOrText NumberOrText t r = record { count = let h = r.count in omega (arith, h) }
+  beside_deep NumberOrText g t r = record { count = let h = r.count in omega (arith, h) }
   beside_deep f g t r = record { count = let h = r.count in omega (arith, h) }
 
 module _ (b : Bases) {k : Instructions} {m : ℕ} where
@@ -169,8 +169,8 @@ module _ (y : Layout) where
 
   module _ {k : Instructions} {m : ℕ} where
     stored_deep : (o : Bool) (f : Form) (t : ℕ) (put : Simple) → Deep k m → Deep (value_stored y o f t put k) m
-    stored_deep o (Answered (answer.Of sort.Value)) t put r = handle_deep o t put r
-    stored_deep o Bare t put r = record { count = let x = (handle_deep {k = Done} o t put none).count in let h = r.count in omega (arith, x, h) }
+    stored_deep o (PrimitiveAnswer (answer.Of sort.Value)) t put r = handle_deep o t put r
+    stored_deep o NumberOrText t put r = record { count = let x = (handle_deep {k = Done} o t put none).count in let h = r.count in omega (arith, x, h) }
     stored_deep o f t put r = record { count = let h = r.count in omega (arith, h) }
 
   module _ {k : Instructions} {m : ℕ} where
@@ -183,11 +183,11 @@ module _ (y : Layout) where
     assigned_deep : (kind : Kind) (i t : ℕ) → Deep k m → Deep (assigned y kind i t k) m
     assigned_deep Boxed i t r = record { count = let h = r.count in omega (arith, h) }
     assigned_deep Unboxed i t r = record { count = let h = r.count in omega (arith, h) }
-    assigned_deep Many i t r = r
+    assigned_deep ArrayKind i t r = r
 
   by_number_deep : {k : Instructions} {m : ℕ} (ks : List Kind) (i t : ℕ) → Deep k m → Deep (assigned_by_number y ks i t k) m
   by_number_deep [] i t r = r
-  by_number_deep (Many ∷ ks) i t r = by_number_deep ks (suc i) t r
+  by_number_deep (ArrayKind ∷ ks) i t r = by_number_deep ks (suc i) t r
   by_number_deep (Boxed ∷ ks) i t r = past _ (past _ (past _ (choice (assigned_deep Boxed i t none) none (by_number_deep ks (suc i) t r))))
   by_number_deep (Unboxed ∷ ks) i t r = past _ (past _ (past _ (choice (assigned_deep Unboxed i t none) none (by_number_deep ks (suc i) t r))))
 
@@ -197,7 +197,7 @@ module _ (y : Layout) where
 
   module _ {k : Instructions} {m : ℕ} where
     pub asked_deep : (p : Primitive) (t d : ℕ) → Deep k m → Deep (asked y p t d k) m
-    asked_deep p t d r = record { count = let x = (pending_deep {k = does (Br 1) Done} t (past (Br 1) none)).count in let h = r.count in omega (arith, x, h) }
+    asked_deep p t d r = record { count = let x = (pending_deep {k = emit (Br 1) Done} t (past (Br 1) none)).count in let h = r.count in omega (arith, x, h) }
 
   pub converts_deep : {k : Instructions} {m : ℕ} (fs : List Form) (given : List Argument) (es : Codes) (t d : ℕ) → Deep k m → Deep (all_converted y fs given es t d k) m
   converts_deep fs (argument.Of s ∷ rest) (At e es) t d r = converted_deep b (form_of fs e) s t d (converts_deep fs rest es (suc t) d r)
@@ -247,7 +247,7 @@ module _ (y : Layout) where
     one_deep : (kind : Kind) (e : Code) (t : ℕ) → Deep k m → Deep (one_given y kind e t k) m
     one_deep Boxed e t r = record { count = let h = r.count in omega (arith, h) }
     one_deep Unboxed e t r = record { count = let h = r.count in omega (arith, h) }
-    one_deep Many e t r = array_deep (array_meant e) r
+    one_deep ArrayKind e t r = array_deep (array_meant e) r
 
   given_pushed_deep : {k : Instructions} {m : ℕ} (ks : List Kind) (es : Codes) (t w : ℕ) → Deep k m → Deep (all_given_pushed y ks es t w k) m
   given_pushed_deep (kind ∷ ks) (At e es) t w r = one_deep kind e t (given_pushed_deep ks es (suc t) w r)

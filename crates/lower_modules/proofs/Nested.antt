@@ -11,9 +11,9 @@ use Rattle.wasm_types.specs.Syntax.{Instructions, Done}
 use Rattle.wasm_types.specs.declared.instr.IBinOp.{IBinOp}
 use Rattle.wasm_types.specs.declared.instr.Simple.TheVariants.{Br, Call as CallOf}
 use Rattle.host_imports.specs.Imports.{import_number}
-use Rattle.host_imports.specs.declared.import.Import.TheVariants.{Of}
+use Rattle.host_imports.specs.declared.import.Import.TheVariants.{OfPrimitive}
 use Rattle.mid_program.specs.MidMeaning.{three_values}
-use Rattle.mid_program.specs.Mid.{Kind, Boxed, Unboxed, Many, Parameter, Code, Do, Over, Compare, Call, Ask, AskLine, FileLine, Replace, Number, Text, Unset, Get, Set, Array, IsOpen, Choose, Seq, Let, Bound, Codes, End, At, Fixed, Fresh, Step, Eval, Block as Steps_, If as Either, Loop, Each, Break, Continue, Next, Exit, ExitWith, Return, Mark, Steps, NoStep, Then as AndThen, Program, Routine, Form, Answered, Bare, Perhaps, a_value, form_of}
+use Rattle.mid_program.specs.Mid.{Kind, Boxed, Unboxed, ArrayKind, Parameter, Code, Do, Over, Compare, Call, Ask, AskLine, FileLine, Replace, Number, Text, Unset, Get, Set, Array, IsOpen, Choose, Seq, Let, Bound, Codes, End, At, Fixed, Fresh, Step, Eval, Block as Steps_, If as Either, Loop, Each, Break, Continue, Next, Exit, ExitWith, Return, Mark, Steps, NoStep, Then as AndThen, Program, Routine, Form, PrimitiveAnswer, NumberOrText, OptionalNumber, a_value, form_of}
 use Rattle.mid_program.specs.declared.mid.Operation.{Operation}
 use Rattle.mid_program.specs.declared.mid.Arithmetic.{Arithmetic}
 use Rattle.mid_program.specs.declared.mid.Operation.TheVariants.{Host, Inline, AsNumber}
@@ -23,7 +23,7 @@ use Rattle.lower_model.specs.Emission.{Layout, Immediate, added_or, all_emitted,
 use Rattle.lower_model.specs.Functions.{layout_of, main_bases, main_callee, routine_bases, routine_callee}
 use Rattle.lower_model.specs.Places.{Bases}
 use Rattle.lower_model.specs.Quick.{Addition, Within, addition_in, addition_names, addition_of, test_within, Holder, OfName, OfParameter, holder_of, set_after, set_alone, Source, source_in, Sum, sum_names, sum_op, sum_in, sum_of, two_sum, set_sum, kept_sum, update_sum, old_source, stored_name, new_sum, let_sum, Update, update_in, Tally, tally_in, Remainder, remainder_in, remainder_names, Counted, counted_in, Pair, pair_names, pair_in, step_jumps, is_nothing}
-use Rattle.lower_model.specs.Small.{does, either}
+use Rattle.lower_model.specs.Small.{emit, emit_if}
 use Rattle.lower_model.specs.Statements.{answer_given, returned, holder_cleared, name_numbered, sum_kept, sum_taken, both_asked, element_numbered, element_given, remainder_dropped, barely_dropped, plainly_dropped, quickly_dropped, left_unless_counted, left_unless_pair, left_unless, again, all_emptied, arrays_emptied, before_parts, block, iterator_left, iterators_emptied, key_stored, left_by, names_declared, names_made, part_done, record_done, records_read, routines_declared, step_emitted, steps_emitted, temporaries_emptied}
 use Rattle.lower_model.proofs.State.{holder_slot}
 use Rattle.lower_model.proofs.Tallies.{Shape, Updating, Following, Leading, tally_code, tally_is}
@@ -40,10 +40,10 @@ both a b = record { count = let x = a.count in let y = b.count in omega (arith, 
 at_least : {k : Instructions} {m n : ℕ} → Deep k m → n ≤ m → Deep k n
 at_least r e = record { count = let h = r.count in omega (arith, h, e) }
 
-inside_either : {a c k : Instructions} {m n : ℕ} → Deep a m → Deep c n → Deep (either a c k) (suc (max m n))
+inside_either : {a c k : Instructions} {m n : ℕ} → Deep a m → Deep c n → Deep (emit_if a c k) (suc (max m n))
 inside_either a c = record { count = let x = a.count in let y = c.count in omega (arith, x, y) }
 
-behind_either : {a c k : Instructions} {m : ℕ} → Deep k m → Deep (either a c k) m
+behind_either : {a c k : Instructions} {m : ℕ} → Deep k m → Deep (emit_if a c k) m
 behind_either r = record { count = let h = r.count in omega (arith, h) }
 
 inside_block : {a k : Instructions} {m : ℕ} → Deep a m → Deep (block a k) (suc m)
@@ -395,11 +395,11 @@ module _ (y : Layout) where
   body_labelled false r q z = q
 
   answer_deep : {k : Instructions} {m : ℕ} (f : Form) (d : ℕ) → Deep k m → Deep (answer_given y f d k) m
-  answer_deep (Answered (answer.Of sort.Value)) d r = record { count = let h = r.count in omega (arith, h) }
-  answer_deep (Answered (answer.Of sort.Number)) d r = record { count = let h = r.count in omega (arith, h) }
-  answer_deep (Answered answer.Truth) d r = record { count = let h = r.count in omega (arith, h) }
-  answer_deep Bare d r = record { count = let h = r.count in omega (arith, h) }
-  answer_deep Perhaps d r = record { count = let h = r.count in omega (arith, h) }
+  answer_deep (PrimitiveAnswer (answer.Of sort.Value)) d r = record { count = let h = r.count in omega (arith, h) }
+  answer_deep (PrimitiveAnswer (answer.Of sort.Number)) d r = record { count = let h = r.count in omega (arith, h) }
+  answer_deep (PrimitiveAnswer answer.Truth) d r = record { count = let h = r.count in omega (arith, h) }
+  answer_deep NumberOrText d r = record { count = let h = r.count in omega (arith, h) }
+  answer_deep OptionalNumber d r = record { count = let h = r.count in omega (arith, h) }
   answer_deep f d r = record { count = let h = r.count in omega (arith, h) }
 
   returned_deep : {k : Instructions} {m : ℕ} (e : Code) (d : ℕ) → Deep k m → Deep (returned y e d k) m
@@ -452,7 +452,7 @@ module _ (y : Layout) where
         past _ (choice_labelled k (pair_in e) e (suc (suc d)) (step_labelled _ a u (suc (suc d)) (suc (suc bk)) (suc (suc ct))) (step_labelled _ c u (suc d) (suc bk) (suc ct))
         (both (labelled _ false [] [] e zero zero d) (tested_deep y [] [] e zero zero d (inside_either (step_labelled _ a u (suc d) (suc bk) (suc ct)) (step_labelled _ c u (suc d) (suc bk) (suc ct))))))
     step_labelled k (Loop true e a c) u d bk ct =
-        let rest = rest_labelled (is_nothing c) c (does (Br zero) Done) refl (step_labelled (does (Br zero) Done) c u (suc (suc d)) 1 zero) in
+        let rest = rest_labelled (is_nothing c) c (emit (Br zero) Done) refl (step_labelled (emit (Br zero) Done) c u (suc (suc d)) 1 zero) in
         past _ (at_least (inside_loop (both (unless_labelled _ (test_within e) e (suc (suc d)) 1) (unless_deep (test_within e) e (suc (suc d)) 1
         (body_labelled (step_jumps a) (step_labelled Done a u (suc (suc (suc d))) 2 zero) (both (step_labelled _ a u (suc (suc d)) 1 zero) (step_deep a u (suc (suc d)) 1 zero rest)) rest)))) (omega arith))
     step_labelled k (Loop false e a c) u d bk ct =
@@ -512,7 +512,7 @@ module _ (y : Layout) where
   made_deep i [] r = r
   made_deep i (Boxed ∷ ks) r = past _ (past _ (made_deep (suc i) ks r))
   made_deep i (Unboxed ∷ ks) r = made_deep (suc i) ks r
-  made_deep i (Many ∷ ks) r = past _ (past _ (made_deep (suc i) ks r))
+  made_deep i (ArrayKind ∷ ks) r = past _ (past _ (made_deep (suc i) ks r))
 
   before_deep : {k : Instructions} {m : ℕ} (p : Program) → Deep k m → Deep (before_parts y p k) m
   before_deep p r =
@@ -527,12 +527,12 @@ module _ (y : Layout) where
 
   records_labelled : (k : Instructions) (items : Steps) (d : ℕ) → Deep (records_read y items d k) (steps_labels items)
   records_labelled k items d =
-      let done : Deep (record_done y items (suc (suc d)) (does (Br 1) Done)) (steps_labels items) = at_least (inside_block (inside_block (steps_labelled y _ items zero zero zero zero))) (omega arith) in
-      inside_again (past (CallOf (import_number (Of row.NextMain))) (kept_code_deep y.bases true zero (suc d) (past _ (past _ (past _
+      let done : Deep (record_done y items (suc (suc d)) (emit (Br 1) Done)) (steps_labels items) = at_least (inside_block (inside_block (steps_labelled y _ items zero zero zero zero))) (omega arith) in
+      inside_again (past (CallOf (import_number (OfPrimitive row.NextMain))) (kept_code_deep y.bases true zero (suc d) (past _ (past _ (past _
       (at_least {m = suc (max (steps_labels items) 0)} (inside_either {m = steps_labels items} {n = 0} done any) (omega arith)))))))
 
-  items_labelled_in : (items : Steps) (z : Bool) → z ≡ true → Deep (if z then records_read y items zero (does (Br 1) Done) else does (Br 1) Done) (steps_labels items)
-  items_labelled_in items true e = records_labelled (does (Br 1) Done) items zero
+  items_labelled_in : (items : Steps) (z : Bool) → z ≡ true → Deep (if z then records_read y items zero (emit (Br 1) Done) else emit (Br 1) Done) (steps_labels items)
+  items_labelled_in items true e = records_labelled (emit (Br 1) Done) items zero
   items_labelled_in items false e = cc
 
 -- BEGIN, END, and the items where records are read

@@ -8,13 +8,13 @@ use Rattle.host_imports.specs.Imports.{import_type}
 use Rattle.host_imports.specs.declared.import.Import.{Import}
 use Rattle.lower_model.specs.Machine.{Callee}
 use Rattle.lower_model.specs.Modules.{callee_type, exports_of, functions_from, globals_of, imported_from, memory_for}
-use Rattle.lower_model.specs.Small.{does}
+use Rattle.lower_model.specs.Small.{emit}
 use Rattle.lower_modules.specs.declared.module.CodeParts.{CodeParts}
 use Rattle.lower_modules.specs.declared.module.DataParts.{DataParts}
 
 -- bytes at address 0
 abbrev pub text_form : List ℕ → DataForm
-text_form bytes = record { memory = 0; offset = does (I32Const 0) Done; init = bytes }
+text_form bytes = record { memory = 0; offset = emit (I32Const 0) Done; init = bytes }
 
 -- of functions that call these imports, which are used
 pub record AreCodeParts (called : List Bool) (used : List Import) (functions : List Callee) (parts : CodeParts) : Type 0 where

@@ -3,7 +3,7 @@
 //! How many locals code needs.
 #![tactic(auto)]
 
-mod calls;
+mod called_imports;
 mod code;
 mod counts;
 mod function;

@@ -10,7 +10,7 @@ ghost use Rattle.lower_model.specs.Modules.{all_callees, called_from, callee_typ
 ghost use Rattle.lower_model.specs.Places.{memory_of};
 ghost use Rattle.wasm_types.specs.View.{signature_of, view_module};
 
-use crate::calls::{called_imports, chosen};
+use crate::called_imports::{called_imports, chosen};
 use crate::function::Function;
 use crate::lengths::least_among;
 use crate::sections::{

@@ -10,11 +10,11 @@ ghost use Rattle.lower_model.specs.Functions.{texts_of};
 ghost use Rattle.host_imports.specs.Imports.{import_name, imports, module_name};
 ghost use Rattle.lower_model.specs.Modules.{exports_of, functions_from, globals_of, imported_from, long_global, memory_for, name_globals, renumbered, word_global};
 ghost use Rattle.lower_model.specs.Places.{memory_of};
-ghost use Rattle.lower_model.specs.Small.{does, minus_one};
+ghost use Rattle.lower_model.specs.Small.{emit, minus_one};
 ghost use Rattle.wasm_types.specs.Syntax.{Done};
 ghost use Rattle.wasm_types.specs.View.{view_data, view_export, view_func, view_global, view_import, views};
 
-use crate::calls::renumbered;
+use crate::called_imports::renumbered;
 use crate::function::Function;
 use host_imports::Import;
 use latched::{LatchedVec, single};
@@ -97,7 +97,7 @@ pub(crate) fn function_forms(
 /// A global that begins with a constant.
 fn global(alloc: Global, value: ValType, constant: Simple) -> Result<wasm_types::Global, AllocError>
     ensures { IfOk result (λ made. view_global made
-        ≡ record { ty = record { value = value; mutable = true }; init = does constant Done }) }
+        ≡ record { ty = record { value = value; mutable = true }; init = emit constant Done }) }
 {
     Ok(wasm_types::Global {
         ty: GlobalType {

@@ -20,7 +20,7 @@ fn kind_type(kind: Kind) -> ValType
     ensures { result ≡ kind_type (view_kind kind) }
 {
     match kind {
-        Kind::Boxed | Kind::Many => ValType::I32,
+        Kind::Boxed | Kind::Array => ValType::I32,
         Kind::Unboxed => ValType::I64,
     }
 }

@@ -7,7 +7,7 @@ use Rattle.wasm_types.specs.Syntax.{If, Instructions, Done, Then}
 use Rattle.wasm_types.proofs.Views.{view_if}
 use Rattle.wasm_types.specs.View.{view, views}
 use Rattle.wasm_types.specs.declared.instr.Instr.{Instr, If as IfInstr}
-use Rattle.lower_model.specs.Small.{either}
+use Rattle.lower_model.specs.Small.{emit_if}
 use Rattle.lower_pieces.specs.Emits.{followed, Reads}
 use Rattle.lower_pieces.specs.declared.emitted.Emitted.{Emitted}
 
@@ -35,6 +35,6 @@ pub same : {out : Emitted} {rest before : Instructions} → rest ≡ before → 
 same e = λ whole h. reads_by e h
 
 -- the code of a choice
-pub chosen : (a b : Rc (Vec Instr Global) Global) (one other : Instructions) → views a.value.items ≡ one → views b.value.items ≡ other → (k : Instructions) → Then (view (IfInstr None a b)) k ≡ either one other k
+pub chosen : (a b : Rc (Vec Instr Global) Global) (one other : Instructions) → views a.value.items ≡ one → views b.value.items ≡ other → (k : Instructions) → Then (view (IfInstr None a b)) k ≡ emit_if one other k
 chosen a b one other first second k =
     ap (λ i. Then i k) (view_if None a b ∙ ap (λ (is : Instructions). If None is (views b.value.items)) first ∙ ap (If None one) second)

@@ -4,7 +4,7 @@ use Rattle.wasm_types.specs.Syntax.{Instructions, Then}
 use Rattle.wasm_types.specs.View.{view}
 use Rattle.wasm_types.specs.declared.instr.Instr.{Instr}
 use Rattle.wasm_types.specs.declared.instr.Simple.{Simple}
-use Rattle.lower_model.specs.Small.{does}
+use Rattle.lower_model.specs.Small.{emit}
 use Rattle.lower_pieces.specs.declared.emitted.Emitted.{Emitted}
 
 abbrev pub followed : List Instr → Instructions → Instructions
@@ -23,6 +23,6 @@ Emits before after code = (rest whole : Instructions) → Reads before (code res
 abbrev pub Holds : Emitted → (Instructions → Instructions) → Type 0
 Holds out code = (rest : Instructions) → Reads out rest (code rest)
 
-abbrev pub does_all : List Simple → Instructions → Instructions
-does_all [] after = after
-does_all (first ∷ others) after = does first (does_all others after)
+abbrev pub emit_all : List Simple → Instructions → Instructions
+emit_all [] after = after
+emit_all (first ∷ others) after = emit first (emit_all others after)

@@ -9,23 +9,23 @@ use Rattle.wasm_types.specs.declared.instr.Simple.TheVariants.{Convert, I32Const
 use Rattle.mid_program.specs.Mid.{Form}
 use Rattle.lower_model.specs.Arithmetic.{numbers_compared, texts_beside, values_compared}
 use Rattle.lower_model.specs.Places.{Bases, handle_local, number_local}
-use Rattle.lower_model.specs.Small.{ask_row, does, either, kept_code, moved_out, number_is, text_beside, zeroed}
+use Rattle.lower_model.specs.Small.{ask_row, emit, emit_if, kept_code, moved_out, number_is, text_beside, zeroed}
 
 -- what an unboxed name has becomes a number with its truth
-abbrev pub told : Bases → ℕ → Instructions → Instructions
-told bases temporary after =
+abbrev pub emit_truth : Bases → ℕ → Instructions → Instructions
+emit_truth bases temporary after =
     number_is (number_local bases temporary) text_beside
-    (either (moved_out (handle_local bases temporary) (ask_row Truth (does (Convert I64ExtendI32U) (does (LocalSet (number_local bases temporary)) Done))))
+    (emit_if (moved_out (handle_local bases temporary) (ask_row Truth (emit (Convert I64ExtendI32U) (emit (LocalSet (number_local bases temporary)) Done))))
     (zeroed bases temporary Done) after)
 
 -- the host is asked for a comparison of two values
 abbrev pub host_compared : Bases → CompareOp → ℕ → ℕ → Instructions → Instructions
 host_compared bases op temporary exit after =
-    does (I32Const (comparison_number op))
+    emit (I32Const (comparison_number op))
     (moved_out (handle_local bases temporary) (moved_out (handle_local bases (suc temporary)) (ask_row Compare (kept_code bases true temporary exit after))))
 
 -- both comparisons, and the test which of them is made
-abbrev pub parted : Bases → CompareOp → Form → Form → ℕ → ℕ → Instructions → Instructions
-parted bases op left right temporary exit after =
+abbrev pub emit_compare : Bases → CompareOp → Form → Form → ℕ → ℕ → Instructions → Instructions
+emit_compare bases op left right temporary exit after =
     texts_beside bases left right temporary
-    (either (values_compared bases op left right temporary (suc exit) Done) (numbers_compared bases op left right temporary Done) after)
+    (emit_if (values_compared bases op left right temporary (suc exit) Done) (numbers_compared bases op left right temporary Done) after)

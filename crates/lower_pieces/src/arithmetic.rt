@@ -1,13 +1,13 @@
 //! Arithmetic that the module carries out itself. Operands stand in a temporary and in the one behind it; the result goes to the first.
 ghost use Rattle.std.specs.Prelude.{suc, ◌≤◌};
 ghost use Rattle.lower_model.specs.Arithmetic.{calculated, factors_differ, field_checked, out_of_range, ranged, times, two_numbers, unless_broken, unless_zero};
-ghost use Rattle.lower_model.specs.Small.{does};
+ghost use Rattle.lower_model.specs.Small.{emit};
 ghost use Rattle.wasm_types.specs.declared.instr.Simple.TheVariants.{LocalSet};
 ghost use Rattle.lower_pieces.specs.Bounds.{most_labels, most_places};
 ghost use Rattle.lower_pieces.specs.Emits.{Emits};
 
 use crate::bases::Bases;
-use crate::emit::{does, does_all};
+use crate::emission::{emit, emit_all};
 use crate::emitted::Emitted;
 use crate::faults::fail_if;
 use awk_text::MAX_NUMBER;
@@ -28,13 +28,13 @@ fn out_of_range(out: &mut Emitted, local: u32)
         Simple::I64Const(1 << 54),
         Simple::Compare(ValType::I64, IRelOp::GtU),
     ];
-    does_all(out, &all);
+    emit_all(out, &all);
 }
 
 /// Adds an operation on the numbers of two locals, whose result goes to a third one.
 fn combined(out: &mut Emitted, op: IBinOp, left: u32, right: u32, to: u32)
     ensures { Emits out.old out.new
-        (λ after. two_numbers left right op (does (LocalSet to) after)) }
+        (λ after. two_numbers left right op (emit (LocalSet to) after)) }
 {
     let all = [
         Simple::LocalGet(left),
@@ -42,7 +42,7 @@ fn combined(out: &mut Emitted, op: IBinOp, left: u32, right: u32, to: u32)
         Simple::Binary(ValType::I64, op),
         Simple::LocalSet(to),
     ];
-    does_all(out, &all);
+    emit_all(out, &all);
 }
 
 /// Adds a sum or a difference.
@@ -74,7 +74,7 @@ fn factors_differ(out: &mut Emitted, product: u32, left: u32, right: u32)
         Simple::Compare(ValType::I64, IRelOp::Ne),
         Simple::Binary(ValType::I32, IBinOp::And),
     ];
-    does_all(out, &all);
+    emit_all(out, &all);
 }
 
 /// Adds a product, which stands in `product` until it is known to be in range.
@@ -85,9 +85,9 @@ fn times(alloc: Global, out: &mut Emitted, left: u32, right: u32, product: u32, 
     combined(out, IBinOp::Mul, left, right, product);
     factors_differ(out, product, left, right);
     out_of_range(out, product);
-    does(out, Simple::Binary(ValType::I32, IBinOp::Or));
+    emit(out, Simple::Binary(ValType::I32, IBinOp::Or));
     fail_if(alloc, out, Fault::Range, exit);
-    does_all(out, &[Simple::LocalGet(product), Simple::LocalSet(left)]);
+    emit_all(out, &[Simple::LocalGet(product), Simple::LocalSet(left)]);
 }
 
 /// Leaves where a divisor is 0.
@@ -99,7 +99,7 @@ fn unless_zero(alloc: Global, out: &mut Emitted, right: u32, exit: u32)
         Simple::LocalGet(right),
         Simple::Test(ValType::I64, ITestOp::Eqz),
     ];
-    does_all(out, &all);
+    emit_all(out, &all);
     fail_if(alloc, out, Fault::DivisionByZero, exit);
 }
 
@@ -115,7 +115,7 @@ fn unless_broken(alloc: Global, out: &mut Emitted, left: u32, right: u32, exit: 
         Simple::I64Const(0),
         Simple::Compare(ValType::I64, IRelOp::Ne),
     ];
-    does_all(out, &all);
+    emit_all(out, &all);
     fail_if(alloc, out, Fault::Inexact, exit);
 }
 
@@ -165,6 +165,6 @@ pub fn field_checked(alloc: Global, bases: &Bases, out: &mut Emitted, temporary:
         Simple::I64Const(MAX_FIELDS as u64),
         Simple::Compare(ValType::I64, IRelOp::GtU),
     ];
-    does_all(out, &all);
+    emit_all(out, &all);
     fail_if(alloc, out, Fault::FieldNumber, exit);
 }

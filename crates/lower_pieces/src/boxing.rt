@@ -5,7 +5,7 @@ ghost use Rattle.lower_pieces.specs.Bounds.{most_places};
 ghost use Rattle.lower_pieces.specs.Emits.{Emits};
 
 use crate::bases::Bases;
-use crate::emit::{does_all, either_all, row_call};
+use crate::emission::{emit_all, emit_if_all, row_call};
 use crate::emitted::Emitted;
 use crate::faults::number_is;
 use crate::keeping::LEAST;
@@ -19,7 +19,7 @@ pub fn boxed_number(bases: &Bases, out: &mut Emitted, temporary: u32)
     ensures { Emits out.old out.new (boxed_number bases.now temporary) }
 {
     let number = Simple::LocalGet(bases.number(temporary));
-    does_all(out, &[number, row_call(Primitive::Num)]);
+    emit_all(out, &[number, row_call(Primitive::Num)]);
 }
 
 /// Puts a number, or that there is none yet, as a value.
@@ -31,5 +31,5 @@ pub fn boxed_perhaps(alloc: Global, bases: &Bases, out: &mut Emitted, temporary:
     number_is(out, local, LEAST);
     let none = [row_call(Primitive::Uninit), put];
     let number = [Simple::LocalGet(local), row_call(Primitive::Num), put];
-    either_all(alloc, out, &none, &number);
+    emit_if_all(alloc, out, &none, &number);
 }

@@ -5,11 +5,11 @@ ghost use Rattle.lower_model.specs.Arithmetic.{bare_compared, compared, is_value
 ghost use Rattle.lower_pieces.specs.Bounds.{most_labels, most_places};
 ghost use Rattle.lower_pieces.specs.Emits.{Emits};
 ghost use Rattle.lower_pieces.specs.Forms.{view_form};
-ghost use Rattle.lower_pieces.specs.Fragments.{host_compared, parted};
+ghost use Rattle.lower_pieces.specs.Fragments.{host_compared, emit_compare};
 
 use crate::bases::Bases;
 use crate::converting::to_value;
-use crate::emit::{ask_row, does, does_all, either};
+use crate::emission::{ask_row, emit, emit_all, emit_if};
 use crate::emitted::Emitted;
 use crate::faults::number_is;
 use crate::form::Form;
@@ -54,10 +54,10 @@ pub fn is_value(form: Form) -> bool
     ensures { result ≡ is_value (view_form form) }
 {
     match form {
-        Form::Answered(Answer::Of(Sort::Number) | Answer::Truth) | Form::Bare | Form::Perhaps => {
-            false
-        }
-        Form::Answered(_) => true,
+        Form::PrimitiveAnswer(Answer::Of(Sort::Number) | Answer::Truth)
+        | Form::NumberOrText
+        | Form::OptionalNumber => { false }
+        Form::PrimitiveAnswer(_) => true,
     }
 }
 
@@ -66,8 +66,8 @@ fn may_be_text(form: Form) -> bool
     ensures { result ≡ may_be_text (view_form form) }
 {
     match form {
-        Form::Bare => true,
-        Form::Perhaps | Form::Answered(_) => false,
+        Form::NumberOrText => true,
+        Form::OptionalNumber | Form::PrimitiveAnswer(_) => false,
     }
 }
 
@@ -76,7 +76,7 @@ fn host_compared(bases: &Bases, out: &mut Emitted, op: CompareOp, temporary: u32
     requires { suc temporary ≤ most_places }
     ensures { Emits out.old out.new (host_compared bases.now op temporary exit) }
 {
-    does(out, Simple::I32Const(comparison_number(op)));
+    emit(out, Simple::I32Const(comparison_number(op)));
     moved_out(out, bases.handle(temporary));
     moved_out(out, bases.handle(temporary + 1));
     ask_row(out, Primitive::Compare);
@@ -109,8 +109,8 @@ fn zeroed_if(alloc: Global, bases: &Bases, out: &mut Emitted, form: Form, tempor
     ensures { Emits out.old out.new (zeroed_if bases.now (view_form form) temporary) }
 {
     match form {
-        Form::Bare | Form::Perhaps => zeroed(alloc, bases, out, temporary),
-        Form::Answered(_) => {}
+        Form::NumberOrText | Form::OptionalNumber => zeroed(alloc, bases, out, temporary),
+        Form::PrimitiveAnswer(_) => {}
     }
 }
 
@@ -137,7 +137,7 @@ fn numbers_compared(
         Simple::Convert(CvtOp::I64ExtendI32U),
         Simple::LocalSet(bases.number(temporary)),
     ];
-    does_all(out, &all);
+    emit_all(out, &all);
 }
 
 /// Adds the test whether a text stands beside one of the two.
@@ -149,18 +149,22 @@ fn texts_beside(bases: &Bases, out: &mut Emitted, left: Form, right: Form, tempo
     let first = bases.number(temporary);
     let second = bases.number(temporary + 1);
     match (left, right) {
-        (Form::Bare, Form::Bare) => {
+        (Form::NumberOrText, Form::NumberOrText) => {
             number_is(out, first, TEXT_BESIDE);
             number_is(out, second, TEXT_BESIDE);
-            does(out, Simple::Binary(ValType::I32, IBinOp::Or));
+            emit(out, Simple::Binary(ValType::I32, IBinOp::Or));
         }
-        (Form::Bare, Form::Perhaps | Form::Answered(_)) => number_is(out, first, TEXT_BESIDE),
-        (Form::Perhaps | Form::Answered(_), _) => number_is(out, second, TEXT_BESIDE),
+        (Form::NumberOrText, Form::OptionalNumber | Form::PrimitiveAnswer(_)) => number_is(
+            out,
+            first,
+            TEXT_BESIDE,
+        ),
+        (Form::OptionalNumber | Form::PrimitiveAnswer(_), _) => number_is(out, second, TEXT_BESIDE),
     }
 }
 
 /// Adds both comparisons, and the test which of them is made.
-fn parted(
+fn emit_compare(
     alloc: Global,
     bases: &Bases,
     out: &mut Emitted,
@@ -173,7 +177,7 @@ fn parted(
     requires places { suc temporary ≤ most_places }
     requires labels { exit ≤ most_labels }
     ensures { Emits out.old out.new
-        (parted bases.now op (view_form left) (view_form right) temporary exit) }
+        (emit_compare bases.now op (view_form left) (view_form right) temporary exit) }
 {
     texts_beside(bases, out, left, right, temporary);
     let mut values = Emitted::new(alloc);
@@ -189,7 +193,7 @@ fn parted(
     );
     let mut numbers = Emitted::new(alloc);
     numbers_compared(alloc, bases, &mut numbers, op, left, right, temporary);
-    either(alloc, out, values, numbers);
+    emit_if(alloc, out, values, numbers);
 }
 
 /// Adds a comparison of two numbers, beside which texts may stand.
@@ -209,7 +213,7 @@ fn bare_compared(
         (bare_compared bases.now op (view_form left) (view_form right) temporary exit) }
 {
     if may_be_text(left) || may_be_text(right) {
-        parted(alloc, bases, out, op, left, right, temporary, exit);
+        emit_compare(alloc, bases, out, op, left, right, temporary, exit);
     } else {
         numbers_compared(alloc, bases, out, op, left, right, temporary);
     }

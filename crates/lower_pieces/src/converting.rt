@@ -1,6 +1,6 @@
 //! What stands in a temporary, converted there.
 ghost use Rattle.std.specs.Prelude.{◌≤◌};
-ghost use Rattle.mid_program.specs.Mid.{Bare};
+ghost use Rattle.mid_program.specs.Mid.{NumberOrText};
 ghost use Rattle.wasm_types.specs.declared.instr.Simple.TheVariants.{LocalSet};
 ghost use Rattle.lower_model.specs.Small.{boxed_perhaps, to_value};
 ghost use Rattle.lower_pieces.specs.Bounds.{most_places};
@@ -9,7 +9,7 @@ ghost use Rattle.lower_pieces.specs.Forms.{view_form};
 
 use crate::bases::Bases;
 use crate::boxing::{boxed_number, boxed_perhaps};
-use crate::emit::{does, does_all, either, row_call};
+use crate::emission::{emit, emit_all, emit_if, row_call};
 use crate::emitted::Emitted;
 use crate::faults::number_is;
 use crate::form::Form;
@@ -21,13 +21,13 @@ use wasm_types::Simple;
 /// Boxes what an unboxed name has, unless a text stands beside it.
 fn bare_value(alloc: Global, bases: &Bases, out: &mut Emitted, temporary: u32)
     requires { temporary ≤ most_places }
-    ensures { Emits out.old out.new (to_value bases.now Bare temporary) }
+    ensures { Emits out.old out.new (to_value bases.now NumberOrText temporary) }
 {
     number_is(out, bases.number(temporary), TEXT_BESIDE);
     let put = Simple::LocalSet(bases.handle(temporary));
     let mut number = Emitted::new(alloc);
     boxed_perhaps(alloc, bases, &mut number, temporary, put);
-    either(alloc, out, Emitted::new(alloc), number);
+    emit_if(alloc, out, Emitted::new(alloc), number);
 }
 
 /// Makes a value of what stands in a temporary.
@@ -37,15 +37,21 @@ pub fn to_value(alloc: Global, bases: &Bases, out: &mut Emitted, form: Form, tem
 {
     let local = bases.handle(temporary);
     match form {
-        Form::Answered(Answer::Of(Sort::Value)) => {}
-        Form::Answered(Answer::Of(Sort::Number) | Answer::Truth) => {
+        Form::PrimitiveAnswer(Answer::Of(Sort::Value)) => {}
+        Form::PrimitiveAnswer(Answer::Of(Sort::Number) | Answer::Truth) => {
             boxed_number(bases, out, temporary);
-            does(out, Simple::LocalSet(local));
+            emit(out, Simple::LocalSet(local));
         }
-        Form::Bare => bare_value(alloc, bases, out, temporary),
-        Form::Perhaps => boxed_perhaps(alloc, bases, out, temporary, Simple::LocalSet(local)),
-        Form::Answered(_) => {
-            does_all(out, &[row_call(Primitive::Uninit), Simple::LocalSet(local)]);
+        Form::NumberOrText => bare_value(alloc, bases, out, temporary),
+        Form::OptionalNumber => boxed_perhaps(
+            alloc,
+            bases,
+            out,
+            temporary,
+            Simple::LocalSet(local),
+        ),
+        Form::PrimitiveAnswer(_) => {
+            emit_all(out, &[row_call(Primitive::Uninit), Simple::LocalSet(local)]);
         }
     }
 }

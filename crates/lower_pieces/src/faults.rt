@@ -4,7 +4,7 @@ ghost use Rattle.lower_model.specs.Small.{fail_if, number_is};
 ghost use Rattle.lower_pieces.specs.Bounds.{most_labels};
 ghost use Rattle.lower_pieces.specs.Emits.{Emits};
 
-use crate::emit::{does_all, row_call, when_all};
+use crate::emission::{emit_all, row_call, when_all};
 use crate::emitted::Emitted;
 use awk_values::Fault;
 use sem_primitives::Primitive;
@@ -33,5 +33,5 @@ pub fn number_is(out: &mut Emitted, local: u32, number: u64)
         Simple::I64Const(number),
         Simple::Compare(ValType::I64, IRelOp::Eq),
     ];
-    does_all(out, &all);
+    emit_all(out, &all);
 }

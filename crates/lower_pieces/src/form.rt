@@ -6,9 +6,9 @@ use sem_primitives::Answer;
 #[derive(Clone, Copy, Drop)]
 pub enum Form {
     /// What a primitive answers.
-    Answered(Answer),
+    PrimitiveAnswer(Answer),
     /// What an unboxed name has: a number or nothing, and perhaps a text beside it.
-    Bare,
+    NumberOrText,
     /// What an unboxed parameter is given: a number or nothing.
-    Perhaps,
+    OptionalNumber,
 }

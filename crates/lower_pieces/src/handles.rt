@@ -3,7 +3,7 @@ ghost use Rattle.wasm_types.specs.declared.instr.Simple.TheVariants.{LocalGet, L
 ghost use Rattle.lower_model.specs.Small.{ask, copied, copied_if_any, emptied, has_handle, let_go, moved, moved_out};
 ghost use Rattle.lower_pieces.specs.Emits.{Emits, Holds};
 
-use crate::emit::{code_of, does, does_all, import_call, row_call, when, when_all};
+use crate::emission::{code_of, emit, emit_all, import_call, row_call, when, when_all};
 use crate::emitted::Emitted;
 use host_imports::Import;
 use sem_primitives::Primitive;
@@ -22,7 +22,7 @@ pub fn moved_out(out: &mut Emitted, local: u32)
         Simple::I32Const(MINUS_ONE),
         Simple::LocalSet(local),
     ];
-    does_all(out, &all);
+    emit_all(out, &all);
 }
 
 /// Adds a handle's way from local to local.
@@ -30,14 +30,14 @@ pub fn moved(out: &mut Emitted, from: u32, to: u32)
     ensures { Emits out.old out.new (moved from to) }
 {
     moved_out(out, from);
-    does(out, Simple::LocalSet(to));
+    emit(out, Simple::LocalSet(to));
 }
 
 /// Empties a local.
 pub fn emptied(out: &mut Emitted, local: u32)
     ensures { Emits out.old out.new (emptied local) }
 {
-    does_all(out, &[Simple::I32Const(MINUS_ONE), Simple::LocalSet(local)]);
+    emit_all(out, &[Simple::I32Const(MINUS_ONE), Simple::LocalSet(local)]);
 }
 
 /// Adds the test whether a local has a handle.
@@ -50,7 +50,7 @@ fn has_handle(out: &mut Emitted, local: u32)
         Simple::I32Const(MINUS_ONE),
         Simple::Compare(ValType::I32, IRelOp::Ne),
     ];
-    does_all(out, &all);
+    emit_all(out, &all);
 }
 
 /// What lets go of what a local has.
@@ -85,7 +85,7 @@ pub fn copied(out: &mut Emitted, from: u32, to: u32)
 pub fn copied_by(out: &mut Emitted, get: Simple, set: Simple, to: u32)
     ensures { Emits out.old out.new (copied get set to) }
 {
-    does_all(
+    emit_all(
         out,
         &[get, Simple::LocalTee(to), row_call(Primitive::Dup), set],
     );
@@ -101,7 +101,7 @@ pub fn copied_if_any(alloc: Global, out: &mut Emitted, get: Simple, set: Simple,
         Simple::I32Const(MINUS_ONE),
         Simple::Compare(ValType::I32, IRelOp::Ne),
     ];
-    does_all(out, &all);
+    emit_all(out, &all);
     let copy = [
         Simple::LocalGet(to),
         Simple::LocalTee(to),

@@ -6,7 +6,7 @@ ghost use Rattle.lower_pieces.specs.Bounds.{most_labels, most_places};
 ghost use Rattle.lower_pieces.specs.Emits.{Emits, Holds};
 
 use crate::bases::Bases;
-use crate::emit::{does, does_all, either_all, when};
+use crate::emission::{emit, emit_all, emit_if_all, when};
 use crate::emitted::Emitted;
 use crate::faults::number_is;
 use crate::handles::MINUS_ONE;
@@ -40,13 +40,13 @@ pub fn kept_code(bases: &Bases, out: &mut Emitted, faults: bool, temporary: u32,
             Simple::Compare(ValType::I64, IRelOp::Eq),
             Simple::BrIf(exit),
         ];
-        does_all(out, &all);
+        emit_all(out, &all);
     } else {
         let all = [
             Simple::Convert(CvtOp::I64ExtendI32U),
             Simple::LocalSet(local),
         ];
-        does_all(out, &all);
+        emit_all(out, &all);
     }
 }
 
@@ -63,9 +63,9 @@ pub fn kept_value(bases: &Bases, out: &mut Emitted, faults: bool, temporary: u32
             Simple::Compare(ValType::I32, IRelOp::Eq),
             Simple::BrIf(exit),
         ];
-        does_all(out, &all);
+        emit_all(out, &all);
     } else {
-        does(out, Simple::LocalSet(local));
+        emit(out, Simple::LocalSet(local));
     }
 }
 
@@ -82,9 +82,9 @@ pub fn kept_number(bases: &Bases, out: &mut Emitted, faults: bool, temporary: u3
             Simple::Compare(ValType::I64, IRelOp::Eq),
             Simple::BrIf(exit),
         ];
-        does_all(out, &all);
+        emit_all(out, &all);
     } else {
-        does(out, Simple::LocalSet(local));
+        emit(out, Simple::LocalSet(local));
     }
 }
 
@@ -108,7 +108,7 @@ fn text_or_left(alloc: Global, bases: &Bases, temporary: u32, exit: u32) -> Emit
         Simple::Compare(ValType::I64, IRelOp::Eq),
         Simple::BrIf(exit + 2),
     ];
-    either_all(alloc, &mut code, &taken, &left_too);
+    emit_if_all(alloc, &mut code, &taken, &left_too);
     code
 }
 
@@ -123,7 +123,7 @@ pub fn answer_kept(alloc: Global, bases: &Bases, out: &mut Emitted, temporary: u
         Simple::I64Const(WAS_LEFT),
         Simple::Compare(ValType::I64, IRelOp::LeS),
     ];
-    does_all(out, &all);
+    emit_all(out, &all);
     when(alloc, out, text_or_left(alloc, bases, temporary, exit));
 }
 
@@ -138,9 +138,9 @@ fn kept_done(out: &mut Emitted, faults: bool, exit: u32)
             Simple::Compare(ValType::I32, IRelOp::Eq),
             Simple::BrIf(exit),
         ];
-        does_all(out, &all);
+        emit_all(out, &all);
     } else {
-        does(out, Simple::Drop);
+        emit(out, Simple::Drop);
     }
 }
 

@@ -1,13 +1,13 @@
 //! What is in a temporary: dropped, moved to another one, or copied there.
 ghost use Rattle.std.specs.Prelude.{◌≤◌};
-ghost use Rattle.mid_program.specs.Mid.{Bare};
+ghost use Rattle.mid_program.specs.Mid.{NumberOrText};
 ghost use Rattle.lower_model.specs.Small.{bound_from, copied_from, moved_from, number_copied, released, unused};
 ghost use Rattle.lower_pieces.specs.Bounds.{most_places};
 ghost use Rattle.lower_pieces.specs.Emits.{Emits};
 ghost use Rattle.lower_pieces.specs.Forms.{view_form};
 
 use crate::bases::Bases;
-use crate::emit::{ask, does_all};
+use crate::emission::{ask, emit_all};
 use crate::emitted::Emitted;
 use crate::form::Form;
 use crate::handles::{copied, copied_if_any, let_go, moved, moved_out};
@@ -23,12 +23,12 @@ pub fn unused(alloc: Global, bases: &Bases, out: &mut Emitted, form: Form, tempo
 {
     let local = bases.handle(temporary);
     match form {
-        Form::Answered(Answer::Of(Sort::Value)) => {
+        Form::PrimitiveAnswer(Answer::Of(Sort::Value)) => {
             moved_out(out, local);
             ask(out, Import::Drop);
         }
-        Form::Bare => let_go(alloc, out, Import::Drop, local),
-        Form::Perhaps | Form::Answered(_) => {}
+        Form::NumberOrText => let_go(alloc, out, Import::Drop, local),
+        Form::OptionalNumber | Form::PrimitiveAnswer(_) => {}
     }
 }
 
@@ -39,10 +39,10 @@ pub fn released(alloc: Global, bases: &Bases, out: &mut Emitted, form: Form, tem
 {
     let local = bases.handle(temporary);
     match form {
-        Form::Answered(Answer::Of(Sort::Value)) | Form::Bare => {
+        Form::PrimitiveAnswer(Answer::Of(Sort::Value)) | Form::NumberOrText => {
             let_go(alloc, out, Import::Drop, local);
         }
-        Form::Perhaps | Form::Answered(_) => {}
+        Form::OptionalNumber | Form::PrimitiveAnswer(_) => {}
     }
 }
 
@@ -56,7 +56,7 @@ fn number_copied(bases: &Bases, out: &mut Emitted, from: u32, to: u32)
         Simple::LocalGet(bases.number(from)),
         Simple::LocalSet(bases.number(to)),
     ];
-    does_all(out, &all);
+    emit_all(out, &all);
 }
 
 /// Moves what is in a temporary to another one.
@@ -66,12 +66,16 @@ pub fn moved_from(bases: &Bases, out: &mut Emitted, form: Form, from: u32, to: u
     ensures { Emits out.old out.new (moved_from bases.now (view_form form) from to) }
 {
     match form {
-        Form::Answered(Answer::Of(Sort::Value)) => moved(out, bases.handle(from), bases.handle(to)),
-        Form::Bare => {
+        Form::PrimitiveAnswer(Answer::Of(Sort::Value)) => moved(
+            out,
+            bases.handle(from),
+            bases.handle(to),
+        ),
+        Form::NumberOrText => {
             number_copied(bases, out, from, to);
             moved(out, bases.handle(from), bases.handle(to));
         }
-        Form::Perhaps | Form::Answered(_) => number_copied(bases, out, from, to),
+        Form::OptionalNumber | Form::PrimitiveAnswer(_) => number_copied(bases, out, from, to),
     }
 }
 
@@ -79,7 +83,7 @@ pub fn moved_from(bases: &Bases, out: &mut Emitted, form: Form, from: u32, to: u
 fn bare_copied(alloc: Global, bases: &Bases, out: &mut Emitted, from: u32, to: u32)
     requires first { from ≤ most_places }
     requires second { to ≤ most_places }
-    ensures { Emits out.old out.new (copied_from bases.now Bare from to) }
+    ensures { Emits out.old out.new (copied_from bases.now NumberOrText from to) }
 {
     number_copied(bases, out, from, to);
     let local = bases.handle(from);
@@ -94,13 +98,13 @@ fn copied_from(alloc: Global, bases: &Bases, out: &mut Emitted, form: Form, from
     ensures { Emits out.old out.new (copied_from bases.now (view_form form) from to) }
 {
     match form {
-        Form::Answered(Answer::Of(Sort::Value)) => copied(
+        Form::PrimitiveAnswer(Answer::Of(Sort::Value)) => copied(
             out,
             bases.handle(from),
             bases.handle(to),
         ),
-        Form::Bare => bare_copied(alloc, bases, out, from, to),
-        Form::Perhaps | Form::Answered(_) => number_copied(bases, out, from, to),
+        Form::NumberOrText => bare_copied(alloc, bases, out, from, to),
+        Form::OptionalNumber | Form::PrimitiveAnswer(_) => number_copied(bases, out, from, to),
     }
 }
 

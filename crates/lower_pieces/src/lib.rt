@@ -6,7 +6,7 @@ mod bases;
 mod boxing;
 mod comparing;
 mod converting;
-mod emit;
+mod emission;
 mod emitted;
 mod faults;
 mod form;
@@ -21,9 +21,9 @@ pub use bases::Bases;
 pub use boxing::{boxed_number, boxed_perhaps};
 pub use comparing::{compared, comparison_number, is_value, relation};
 pub use converting::to_value;
-pub use emit::{
-    again, ask, ask_row, block, code_of, does, does_all, either, either_all, import_call, row_call,
-    when, when_all,
+pub use emission::{
+    again, ask, ask_row, block, code_of, emit, emit_all, emit_if, emit_if_all, import_call,
+    row_call, when, when_all,
 };
 pub use emitted::Emitted;
 pub use faults::{fail_if, number_is};

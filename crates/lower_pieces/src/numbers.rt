@@ -1,6 +1,6 @@
 //! What stands in a temporary, converted there to a number.
 ghost use Rattle.std.specs.Prelude.{◌≤◌};
-ghost use Rattle.mid_program.specs.Mid.{Bare};
+ghost use Rattle.mid_program.specs.Mid.{NumberOrText};
 ghost use Rattle.lower_model.specs.Small.{code_number, converted, number_made, number_of_value, to_number, zeroed};
 ghost use Rattle.lower_pieces.specs.Bounds.{most_labels, most_places};
 ghost use Rattle.lower_pieces.specs.Emits.{Emits, Holds};
@@ -8,7 +8,7 @@ ghost use Rattle.lower_pieces.specs.Forms.{view_form};
 
 use crate::bases::Bases;
 use crate::converting::to_value;
-use crate::emit::{ask_row, does_all, either_all, row_call, when, when_all};
+use crate::emission::{ask_row, emit_all, emit_if_all, row_call, when, when_all};
 use crate::emitted::Emitted;
 use crate::faults::number_is;
 use crate::form::Form;
@@ -41,7 +41,7 @@ pub fn code_number(bases: &Bases, out: &mut Emitted, temporary: u32)
         Simple::Convert(CvtOp::I64ExtendI32S),
         Simple::LocalSet(local),
     ];
-    does_all(out, &all);
+    emit_all(out, &all);
 }
 
 /// Asks for a value's number.
@@ -74,7 +74,7 @@ fn number_made(alloc: Global, bases: &Bases, temporary: u32, exit: u32) -> Emitt
         Simple::BrIf(exit + 2),
     ];
     let none = [Simple::I64Const(0), Simple::LocalSet(number)];
-    either_all(alloc, &mut code, &some, &none);
+    emit_if_all(alloc, &mut code, &some, &none);
     code
 }
 
@@ -82,14 +82,14 @@ fn number_made(alloc: Global, bases: &Bases, temporary: u32, exit: u32) -> Emitt
 fn bare_number(alloc: Global, bases: &Bases, out: &mut Emitted, temporary: u32, exit: u32)
     requires places { temporary ≤ most_places }
     requires labels { exit ≤ most_labels }
-    ensures { Emits out.old out.new (to_number bases.now Bare temporary exit) }
+    ensures { Emits out.old out.new (to_number bases.now NumberOrText temporary exit) }
 {
     let all = [
         Simple::LocalGet(bases.number(temporary)),
         Simple::I64Const(TEXT_BESIDE),
         Simple::Compare(ValType::I64, IRelOp::LeS),
     ];
-    does_all(out, &all);
+    emit_all(out, &all);
     when(alloc, out, number_made(alloc, bases, temporary, exit));
 }
 
@@ -107,11 +107,13 @@ pub fn to_number(
     ensures { Emits out.old out.new (to_number bases.now (view_form form) temporary exit) }
 {
     match form {
-        Form::Answered(Answer::Of(Sort::Value)) => number_of_value(bases, out, temporary, exit),
-        Form::Answered(Answer::Input | Answer::Stream) => code_number(bases, out, temporary),
-        Form::Bare => bare_number(alloc, bases, out, temporary, exit),
-        Form::Perhaps => zeroed(alloc, bases, out, temporary),
-        Form::Answered(_) => {}
+        Form::PrimitiveAnswer(Answer::Of(Sort::Value)) => number_of_value(
+            bases, out, temporary, exit,
+        ),
+        Form::PrimitiveAnswer(Answer::Input | Answer::Stream) => code_number(bases, out, temporary),
+        Form::NumberOrText => bare_number(alloc, bases, out, temporary, exit),
+        Form::OptionalNumber => zeroed(alloc, bases, out, temporary),
+        Form::PrimitiveAnswer(_) => {}
     }
 }
 

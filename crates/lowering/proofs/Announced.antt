@@ -2,7 +2,7 @@
 use Rattle.std.proofs.Common.{◌≡◌, ℕ, zero, suc, ◌+◌, ◌-◌, ◌<◌, Bool, true, false, if◌then◌else◌, List, ◌∷◌, drop, drop-cons, get_or, length, map, refl, sym, ap, ◌∙◌, arith}
 use Rattle.wasm_types.specs.Syntax.{Instructions, Done}
 use Rattle.wasm_types.specs.declared.instr.Simple.TheVariants.{Br}
-use Rattle.mid_program.specs.Mid.{Kind, Boxed, Unboxed, Many, Program, Steps}
+use Rattle.mid_program.specs.Mid.{Kind, Boxed, Unboxed, ArrayKind, Program, Steps}
 use Rattle.mid_program.specs.declared.program.Kind.{Kind as ParameterKind}
 use Rattle.mid_program.specs.declared.program.Kind.TheVariants as one
 use Rattle.sem_primitives.specs.declared.constants.NameKind.{NameKind}
@@ -11,7 +11,7 @@ use Rattle.mid_program.specs.declared.program.Declared.{Declared as DeclaredName
 use Rattle.mid_program.specs.View.{view_declared, view_kind}
 use Rattle.mid_program.specs.Sorted.{kinds_of}
 use Rattle.lower_model.specs.Emission.{Layout}
-use Rattle.lower_model.specs.Small.{does}
+use Rattle.lower_model.specs.Small.{emit}
 use Rattle.lower_model.specs.Statements.{declared, declared_kind, first_part, names_declared, parameters_dropped, records_read, routines_declared, steps_emitted}
 use Rattle.lowering.specs.Parts.{first_code, parameter_dropped, records_if}
 
@@ -20,7 +20,7 @@ records_choice y true items k = refl
 records_choice y false items k = refl
 
 pub first_is : (y : Layout) (p : Program) → first_code y p Done ≡ first_part y p
-first_is y p = ap (steps_emitted y p.begin zero zero zero zero) (records_choice y p.reads p.items (does (Br 1) Done))
+first_is y p = ap (steps_emitted y p.begin zero zero zero zero) (records_choice y p.reads p.items (emit (Br 1) Done))
 
 -- a name before others
 pub names_step : (y : Layout) (ds : List DeclaredName) (i text : ℕ) (d : DeclaredName) (e : NameKind) (k : Instructions) → i < length ds → d ≡ get_or ds i d → e ≡ declared_kind y (view_kind d.kind) →
@@ -45,7 +45,7 @@ routines_step y text past k lt =
 parameter_first : (y : Layout) (kind : Kind) (x : ℕ) (ks : List Kind) (k : Instructions) → parameter_dropped kind x (parameters_dropped y (suc x) ks k) ≡ parameters_dropped y x (kind ∷ ks) k
 parameter_first y Boxed x ks k = refl
 parameter_first y Unboxed x ks k = refl
-parameter_first y Many x ks k = refl
+parameter_first y ArrayKind x ks k = refl
 
 pub parameters_step : (y : Layout) (ks : List ParameterKind) (i : ℕ) (k : Instructions) → i < length ks →
     parameter_dropped (view_kind (get_or ks i one.Boxed)) i (parameters_dropped y (i + 1) (map view_kind (drop (i + 1) ks)) k) ≡ parameters_dropped y i (map view_kind (drop i ks)) k

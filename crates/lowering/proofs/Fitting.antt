@@ -8,7 +8,7 @@ use Rattle.mid_program.specs.declared.mid.Operation.TheVariants.{Inline}
 use Rattle.mid_program.specs.MidMeaning.{three_values}
 use Rattle.mid_program.specs.Mid as plain
 use Rattle.sem_scripts.specs.Names.{ArrayName, Numbered, Given}
-use Rattle.mid_program.specs.Mid.{Kind, Boxed, Unboxed, Many, Slot, Global, Parameter, Code, Do, Over, Compare, Call, Ask, AskLine, FileLine, Replace, Number, Text, Unset, Get, Set, Array, IsOpen, Choose, Seq, Let, Bound, Codes, End, At, Fixed, Fresh, Step, Eval, Block, If, Loop, Each, Break, Continue, Next, Exit, ExitWith, Return, Mark, Steps, NoStep, Then, a_value, arguments, form_of, parameters_at}
+use Rattle.mid_program.specs.Mid.{Kind, Boxed, Unboxed, ArrayKind, Slot, Global, Parameter, Code, Do, Over, Compare, Call, Ask, AskLine, FileLine, Replace, Number, Text, Unset, Get, Set, Array, IsOpen, Choose, Seq, Let, Bound, Codes, End, At, Fixed, Fresh, Step, Eval, Block, If, Loop, Each, Break, Continue, Next, Exit, ExitWith, Return, Mark, Steps, NoStep, Then, a_value, arguments, form_of, parameters_at}
 use Rattle.mid_program.specs.Sorted.{Context, all_sorted, are_missing, all_values, are_enough, fit_call, fit_row, fits, is_array_place, is_chosen, is_done_here, is_dropped, is_kept, is_slot, is_tested, keeps_well, scalar_kind, sorted, step_sorted, steps_sorted, stores_well, takes, test_sorted}
 use Rattle.lower_model.proofs.Reading.{kind_below}
 use Rattle.lower_model.specs.Emission.{Layout}
@@ -81,10 +81,10 @@ call_is_given fs (Unboxed ∷ ks) End h = cc
 call_is_given fs (Unboxed ∷ ks) (At e es) h = call_is_given fs ks es (and_parts _ _ h).1
 call_is_given fs (Unboxed ∷ ks) (Fixed n es) h = cc
 call_is_given fs (Unboxed ∷ ks) (Fresh es) h = cc
-call_is_given fs (Many ∷ ks) End h = cc
-call_is_given fs (Many ∷ ks) (At e es) h = call_is_given fs ks es (and_parts _ _ h).1
-call_is_given fs (Many ∷ ks) (Fixed n es) h = cc
-call_is_given fs (Many ∷ ks) (Fresh es) h = call_is_given fs ks es h
+call_is_given fs (ArrayKind ∷ ks) End h = cc
+call_is_given fs (ArrayKind ∷ ks) (At e es) h = call_is_given fs ks es (and_parts _ _ h).1
+call_is_given fs (ArrayKind ∷ ks) (Fixed n es) h = cc
+call_is_given fs (ArrayKind ∷ ks) (Fresh es) h = call_is_given fs ks es h
 
 made_within : (es : Codes) → made_in es ≤ arrays_among es
 made_within End = omega arith
@@ -99,7 +99,7 @@ module _ {c : Context} {y : Layout} (n : Named c y) where
 
   pub array_fits : (a : ArrayName) → is_array_place c a ≡ true → ArrayFits a
   array_fits (Numbered i) h = tt
-  array_fits (Given i) h = let l = kind_below c.parameters i Many h in let m = n.parameters in omega (arith, l, m)
+  array_fits (Given i) h = let l = kind_below c.parameters i ArrayKind h in let m = n.parameters in omega (arith, l, m)
 
   mutual
     unfolding sorted all_sorted

@@ -7,7 +7,7 @@ use Rattle.mid_program.specs.View.{view_routine}
 use Rattle.mid_program.specs.declared.program.Routine.{Routine}
 use Rattle.lower_model.specs.Emission.{Layout}
 use Rattle.lower_model.specs.Places.{Bases, answer_local, array_local, handle_local, iterator_local}
-use Rattle.lower_model.specs.Small.{does, emptied, let_go, was_left}
+use Rattle.lower_model.specs.Small.{emit, emptied, let_go, was_left}
 use Rattle.lower_model.specs.Statements.{all_emptied, arrays_emptied, arrays_swept, has_functions, iterators_emptied, iterators_swept, left_swept, operands_swept, swept, temporaries_emptied, temporaries_swept}
 use Rattle.host_imports.specs.declared.import.Import.TheVariants.{Drop, FreeArray, IterFree}
 use Rattle.lowering.specs.Holding.{held_emptied, held_import, held_local, held_swept}
@@ -67,9 +67,9 @@ pub operands_sweep : (y : Layout) (k : Instructions) →
 operands_sweep y k = temporaries_sweep y zero y.bases.temporaries _ ∙ ap (temporaries_swept y zero y.bases.temporaries) (arrays_sweep y zero y.bases.arrays k)
 
 pub held_emptied_all : (y : Layout) (k : Instructions) →
-    does (I64Const was_left) (does (LocalSet (answer_local y.bases)) (held_emptied Temporaries y.bases zero y.bases.temporaries (held_emptied Iterators y.bases zero y.bases.iterators (held_emptied Arrays y.bases zero y.bases.arrays k)))) ≡ all_emptied y k
+    emit (I64Const was_left) (emit (LocalSet (answer_local y.bases)) (held_emptied Temporaries y.bases zero y.bases.temporaries (held_emptied Iterators y.bases zero y.bases.iterators (held_emptied Arrays y.bases zero y.bases.arrays k)))) ≡ all_emptied y k
 held_emptied_all y k =
-    ap (λ (x : Instructions). does (I64Const was_left) (does (LocalSet (answer_local y.bases)) x)) (temporaries_empty y zero y.bases.temporaries _
+    ap (λ (x : Instructions). emit (I64Const was_left) (emit (LocalSet (answer_local y.bases)) x)) (temporaries_empty y zero y.bases.temporaries _
     ∙ ap (temporaries_emptied y zero y.bases.temporaries) (iterators_empty y zero y.bases.iterators _ ∙ ap (iterators_emptied y zero y.bases.iterators) (arrays_empty y zero y.bases.arrays k)))
 
 -- what `next` and `exit` left: all, or no more than iterators where there are no functions

@@ -13,7 +13,7 @@ use Rattle.lower_model.specs.Boundaries.{step_places, steps_places}
 use Rattle.lower_model.specs.Emission.{Layout, emitted}
 use Rattle.lower_model.specs.Places.{range_global}
 use Rattle.lower_model.specs.Quick.{is_nothing, sum_in}
-use Rattle.lower_model.specs.Small.{does}
+use Rattle.lower_model.specs.Small.{emit}
 use Rattle.lower_model.specs.Statements.{left_by, quickly_dropped, returned, step_emitted, steps_emitted, way_exit, way_next}
 use Rattle.lower_quick.proofs.Views.{view_block}
 use Rattle.lowering.specs.declared.around.Around.{Around}
@@ -29,60 +29,60 @@ last_places true c = if is_nothing c then 0 else step_places c
 last_places false c = step_places c
 
 -- a loop of this body and this end
-pub loop_code : (y : Layout) (first : Bool) (e : plain.Code) (a c : plain.Step) (u d bk ct : ℕ) (k : Instructions) → does Nop (rounds (turn first y e a c u d Done) k) ≡ step_emitted y (plain.Loop first e a c) u d bk ct k
+pub loop_code : (y : Layout) (first : Bool) (e : plain.Code) (a c : plain.Step) (u d bk ct : ℕ) (k : Instructions) → emit Nop (rounds (turn first y e a c u d Done) k) ≡ step_emitted y (plain.Loop first e a c) u d bk ct k
 unfolding step_emitted
 loop_code y true e a c u d bk ct k = refl
 loop_code y false e a c u d bk ct k = refl
 
 -- the other statements
 
-pub eval_code : (y : Layout) (e : plain.Code) (u d bk ct : ℕ) (k : Instructions) → does Nop (quickly_dropped y (sum_in e) e d k) ≡ step_emitted y (plain.Eval e) u d bk ct k
+pub eval_code : (y : Layout) (e : plain.Code) (u d bk ct : ℕ) (k : Instructions) → emit Nop (quickly_dropped y (sum_in e) e d k) ≡ step_emitted y (plain.Eval e) u d bk ct k
 unfolding step_emitted
 eval_code y e u d bk ct k = refl
 
-pub choice_code : (y : Layout) (e : plain.Code) (a b : plain.Step) (at : Around) (k : Instructions) → does Nop (chosen y e a b at k) ≡ step_emitted y (plain.If e a b) at.iterators at.exit at.break_to at.continue_to k
+pub choice_code : (y : Layout) (e : plain.Code) (a b : plain.Step) (at : Around) (k : Instructions) → emit Nop (chosen y e a b at k) ≡ step_emitted y (plain.If e a b) at.iterators at.exit at.break_to at.continue_to k
 unfolding step_emitted
 choice_code y e a b at k = refl
 
-pub keys_code : (y : Layout) (i : ArrayName) (e : plain.Code) (a : plain.Step) (u d bk ct : ℕ) (k : Instructions) → does Nop (keys_walked y i e a u d k) ≡ step_emitted y (plain.Each i e a) u d bk ct k
+pub keys_code : (y : Layout) (i : ArrayName) (e : plain.Code) (a : plain.Step) (u d bk ct : ℕ) (k : Instructions) → emit Nop (keys_walked y i e a u d k) ≡ step_emitted y (plain.Each i e a) u d bk ct k
 unfolding step_emitted
 keys_code y i e a u d bk ct k = refl
 
-pub break_code : (y : Layout) (u d bk ct : ℕ) (k : Instructions) → does Nop (does (Br bk) k) ≡ step_emitted y plain.Break u d bk ct k
+pub break_code : (y : Layout) (u d bk ct : ℕ) (k : Instructions) → emit Nop (emit (Br bk) k) ≡ step_emitted y plain.Break u d bk ct k
 unfolding step_emitted
 break_code y u d bk ct k = refl
 
-pub continue_code : (y : Layout) (u d bk ct : ℕ) (k : Instructions) → does Nop (does (Br ct) k) ≡ step_emitted y plain.Continue u d bk ct k
+pub continue_code : (y : Layout) (u d bk ct : ℕ) (k : Instructions) → emit Nop (emit (Br ct) k) ≡ step_emitted y plain.Continue u d bk ct k
 unfolding step_emitted
 continue_code y u d bk ct k = refl
 
-pub next_code : (y : Layout) (u d bk ct : ℕ) (k : Instructions) → does Nop (left_by way_next d k) ≡ step_emitted y plain.Next u d bk ct k
+pub next_code : (y : Layout) (u d bk ct : ℕ) (k : Instructions) → emit Nop (left_by way_next d k) ≡ step_emitted y plain.Next u d bk ct k
 unfolding step_emitted
 next_code y u d bk ct k = refl
 
-pub exit_code : (y : Layout) (u d bk ct : ℕ) (k : Instructions) → does Nop (left_by way_exit d k) ≡ step_emitted y plain.Exit u d bk ct k
+pub exit_code : (y : Layout) (u d bk ct : ℕ) (k : Instructions) → emit Nop (left_by way_exit d k) ≡ step_emitted y plain.Exit u d bk ct k
 unfolding step_emitted
 exit_code y u d bk ct k = refl
 
 pub status_code : (y : Layout) (e : plain.Code) (u d bk ct : ℕ) (k : Instructions) →
-    does Nop (emitted y false [] [] e 0 0 d (status_left y.bases (plain.form_of [] e) d k)) ≡ step_emitted y (plain.ExitWith e) u d bk ct k
+    emit Nop (emitted y false [] [] e 0 0 d (status_left y.bases (plain.form_of [] e) d k)) ≡ step_emitted y (plain.ExitWith e) u d bk ct k
 unfolding step_emitted
 status_code y e u d bk ct k = refl
 
-pub return_code : (y : Layout) (e : plain.Code) (u d bk ct : ℕ) (k : Instructions) → does Nop (returned y e d k) ≡ step_emitted y (plain.Return e) u d bk ct k
+pub return_code : (y : Layout) (e : plain.Code) (u d bk ct : ℕ) (k : Instructions) → emit Nop (returned y e d k) ≡ step_emitted y (plain.Return e) u d bk ct k
 unfolding step_emitted
 return_code y e u d bk ct k = refl
 
 pub mark_code : (y : Layout) (i : ℕ) (b : Bool) (u d bk ct : ℕ) (k : Instructions) →
-    does Nop (does (I32Const (flag_number b)) (does (GlobalSet (range_global i)) k)) ≡ step_emitted y (plain.Mark i b) u d bk ct k
+    emit Nop (emit (I32Const (flag_number b)) (emit (GlobalSet (range_global i)) k)) ≡ step_emitted y (plain.Mark i b) u d bk ct k
 unfolding step_emitted
 mark_code y i b u d bk ct k = refl
 
 pub block_code : (y : Layout) (s : Step) (v : Vec Step Global) (ss : List Step) (u d bk ct : ℕ) (k : Instructions) → s ≡ Block v → ss ≡ v.items →
-    does Nop (steps_emitted y (view_steps ss) u d bk ct k) ≡ step_emitted y (view_step s) u d bk ct k
+    emit Nop (steps_emitted y (view_steps ss) u d bk ct k) ≡ step_emitted y (view_step s) u d bk ct k
 unfolding step_emitted
 block_code y s v ss u d bk ct k e f =
-    ap (λ (x : List Step). does Nop (steps_emitted y (view_steps x) u d bk ct k)) f
+    ap (λ (x : List Step). emit Nop (steps_emitted y (view_steps x) u d bk ct k)) f
     ∙ sym (ap (λ (x : plain.Step). step_emitted y x u d bk ct k) (ap view_step e ∙ view_block v))
 
 -- a loop is as many places as its body and its last part, and its own

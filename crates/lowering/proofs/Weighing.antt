@@ -11,7 +11,7 @@ use Rattle.wasm_types.specs.View.{views}
 use Rattle.wasm_types.specs.declared.instr.Instr.{Instr}
 use Rattle.wasm_types.specs.declared.instr.Simple.TheVariants.{Br, Convert, GlobalGet}
 use Rattle.wasm_types.specs.declared.instr.CvtOp.TheVariants.{I32WrapI64}
-use Rattle.mid_program.specs.Mid.{Kind, Boxed, Unboxed, Many, Program, Steps}
+use Rattle.mid_program.specs.Mid.{Kind, Boxed, Unboxed, ArrayKind, Program, Steps}
 use Rattle.mid_program.specs.ViewCode.{view_step, view_steps}
 use Rattle.mid_program.specs.declared.step.Step.{Step, Block}
 use Rattle.lower_model.specs.Emission.{Layout, asked}
@@ -20,7 +20,7 @@ use Rattle.lower_model.specs.Functions.{main_callee, routine_callee}
 use Rattle.lower_model.specs.Machine.{Callee}
 use Rattle.lower_model.specs.Modules.{all_callees, module_of}
 use Rattle.lower_model.specs.Places.{status_global}
-use Rattle.lower_model.specs.Small.{ask_row, does}
+use Rattle.lower_model.specs.Small.{ask_row, emit}
 use Rattle.lower_model.specs.Statements.{all_emptied, arrays_emptied, before_parts, first_part, iterators_emptied, last_part, main_body, names_declared, names_made, part_done, records_read, routines_declared, step_emitted, steps_emitted, swept, temporaries_emptied}
 use Rattle.sem_primitives.specs.declared.table.Primitive.TheVariants as row
 use Rattle.lower_pieces.specs.Emits.{followed}
@@ -138,7 +138,7 @@ module _ (y : Layout) where
   made_least i [] k = omega arith
   made_least i (Boxed ∷ ks) k = let r = made_least (suc i) ks k in omega (arith, r)
   made_least i (Unboxed ∷ ks) k = let r = made_least (suc i) ks k in omega (arith, r)
-  made_least i (Many ∷ ks) k = let r = made_least (suc i) ks k in omega (arith, r)
+  made_least i (ArrayKind ∷ ks) k = let r = made_least (suc i) ks k in omega (arith, r)
 
   before_least : (p : Program) (k : Instructions) → least_in k ≤ least_in (before_parts y p k)
   before_least p k =
@@ -156,17 +156,17 @@ module _ (y : Layout) where
 
   -- the items of a record
   items_alone : (items : Steps) (n : ℕ) (k : Instructions) → ((j : Instructions) → n ≤ least_in (steps_emitted y items 0 0 0 0 j)) → n ≤ least_in (records_read y items zero k)
-  items_alone items n k h = let a = h (does (Br 1) Done) in omega (arith, a)
+  items_alone items n k h = let a = h (emit (Br 1) Done) in omega (arith, a)
 
   abbrev first_by : (p : Program) → Bool → Instructions
-  first_by p z = steps_emitted y p.begin 0 0 0 0 (if z then records_read y p.items zero (does (Br 1) Done) else does (Br 1) Done)
+  first_by p z = steps_emitted y p.begin 0 0 0 0 (if z then records_read y p.items zero (emit (Br 1) Done) else emit (Br 1) Done)
 
   begin_first : (p : Program) (b : ℕ) → ((k : Instructions) → b ≤ least_in (steps_emitted y p.begin 0 0 0 0 k)) → b ≤ least_in (first_part y p)
   begin_first p b h = by p.reads
     where
       by : (z : Bool) → b ≤ least_in (first_by p z)
-      by true = h (records_read y p.items zero (does (Br 1) Done))
-      by false = h (does (Br 1) Done)
+      by true = h (records_read y p.items zero (emit (Br 1) Done))
+      by false = h (emit (Br 1) Done)
 
   items_first : (p : Program) (b i : ℕ) → p.reads ≡ true → TakesAtLeast b (steps_emitted y p.begin 0 0 0 0) → ((k : Instructions) → i ≤ least_in (steps_emitted y p.items 0 0 0 0 k)) →
       b + i ≤ least_in (first_part y p)
@@ -174,8 +174,8 @@ module _ (y : Layout) where
     where
       by : (z : Bool) → z ≡ true → b + i ≤ least_in (first_by p z)
       by true e =
-          let a = begin (records_read y p.items zero (does (Br 1) Done)) in
-          let r = items_alone p.items i (does (Br 1) Done) items in
+          let a = begin (records_read y p.items zero (emit (Br 1) Done)) in
+          let r = items_alone p.items i (emit (Br 1) Done) items in
           omega (arith, a, r)
       by false e = cc
 
@@ -189,9 +189,9 @@ module _ (y : Layout) where
       let whole : least_in (before_parts y p parts) ≤ least_in (main_body y p) = whole_least (before_parts y p parts) in
       omega (arith, first, ends, q, r, s, whole)
     where
-      whole_least : (inner : Instructions) → least_in inner ≤ least_in (all_emptied y (Then (tree.Block None inner) (swept y (does (GlobalGet status_global) (does (Convert I32WrapI64) Done)))))
+      whole_least : (inner : Instructions) → least_in inner ≤ least_in (all_emptied y (Then (tree.Block None inner) (swept y (emit (GlobalGet status_global) (emit (Convert I32WrapI64) Done)))))
       whole_least inner =
-          let rest = swept y (does (GlobalGet status_global) (does (Convert I32WrapI64) Done)) in
+          let rest = swept y (emit (GlobalGet status_global) (emit (Convert I32WrapI64) Done)) in
           let a = emptied_least (Then (tree.Block None inner) rest) in
           omega (arith, a)
 
@@ -200,15 +200,15 @@ module _ (y : Layout) where
   begin_within p b begin = let w = within p b 0 (begin_first p b begin.0) (omega arith) in omega (arith, w)
 
   pub end_within : (p : Program) (e : ℕ) → Weighs e (steps_emitted y p.end 0 0 0 0) → e ≤ least_in (main_body y p)
-  end_within p e end = let w = within p 0 e (omega arith) (end.0 (does (Br 1) Done)) in omega (arith, w)
+  end_within p e end = let w = within p 0 e (omega arith) (end.0 (emit (Br 1) Done)) in omega (arith, w)
 
   pub both_within : (p : Program) (b e r : ℕ) → Weighs b (steps_emitted y p.begin 0 0 0 0) → Weighs e (steps_emitted y p.end 0 0 0 0) → r ≤ b + e → r ≤ least_in (main_body y p)
-  both_within p b e r begin end le = let w = within p b e (begin_first p b begin.0) (end.0 (does (Br 1) Done)) in omega (arith, w, le)
+  both_within p b e r begin end le = let w = within p b e (begin_first p b begin.0) (end.0 (emit (Br 1) Done)) in omega (arith, w, le)
 
   pub all_within : (p : Program) (b e i r : ℕ) → Weighs b (steps_emitted y p.begin 0 0 0 0) → b ≤ most_bytes → Weighs e (steps_emitted y p.end 0 0 0 0) → p.reads ≡ true →
       Weighs i (steps_emitted y p.items 0 0 0 0) → r ≤ b + e + i → r ≤ least_in (main_body y p)
   all_within p b e i r begin few end reads items le =
-      let w = within p (b + i) e (items_first p b i reads (begin.1 few) items.0) (end.0 (does (Br 1) Done)) in
+      let w = within p (b + i) e (items_first p b i reads (begin.1 few) items.0) (end.0 (emit (Br 1) Done)) in
       omega (arith, w, le)
 
 pub passed : (m n t : ℕ) → m < n → n ≤ t → m < t

@@ -12,11 +12,11 @@ use Rattle.wasm_types.specs.declared.instr.IRelOp.TheVariants.{Eq, LeS, Ne}
 use Rattle.wasm_types.specs.declared.instr.ITestOp.TheVariants.{Eqz}
 use Rattle.wasm_types.specs.declared.instr.Simple.TheVariants.{Nop, Br, BrIf, LocalGet, LocalSet, LocalTee, GlobalGet, GlobalSet, I32Const, I64Const, Test, Compare as Comparing, Convert}
 use Rattle.sem_scripts.specs.Names.{ArrayName}
-use Rattle.mid_program.specs.Mid.{Kind, Boxed, Unboxed, Many, Code, Form, Step, Steps, Program, form_of}
+use Rattle.mid_program.specs.Mid.{Kind, Boxed, Unboxed, ArrayKind, Code, Form, Step, Steps, Program, form_of}
 use Rattle.lower_model.specs.Emission.{Layout, array_pushed, emitted, pending_assigned, tested, name_read}
 use Rattle.lower_model.specs.Quick.{Counted, Holder, Pair, Remainder, Sum, all_unsure, sum_names, sum_op, Tally, Within, is_nothing, pair_in, step_jumps, test_within}
 use Rattle.lower_model.specs.Places.{Bases, answer_local, handle_global, iterator_local, status_global, way_global, handle_local, number_local}
-use Rattle.lower_model.specs.Small.{ask, ask_row, does, either, end_code, fail_if, kept_code, least, number_is, text_beside, to_number, when}
+use Rattle.lower_model.specs.Small.{ask, ask_row, emit, emit_if, end_code, fail_if, kept_code, least, number_is, text_beside, to_number, when}
 use Rattle.lower_model.specs.Statements.{again, all_emptied, before_parts, block, constant_given, first_part, goes_on, iterator_left, iterators_swept, operands_swept, key_stored, last_part, left_by, left_unless, left_unless_counted, left_unless_pair, name_numbered, names_declared, parameters_dropped, part_done, record_done, records_read, returned, routines_declared, step_emitted, steps_emitted, sum_kept, element_given, remainder_dropped, summed, summed_anyway, swept, way_exit, way_next}
 use Rattle.host_imports.specs.declared.import.Import.TheVariants.{Drop}
 use Rattle.lowering.specs.declared.around.Around.{Around}
@@ -24,7 +24,7 @@ use Rattle.lowering.specs.declared.around.Around.{Around}
 -- the status of this form is set, and the function left by `exit`
 abbrev pub status_left : Bases → Form → ℕ → Instructions → Instructions
 status_left bases form exit after =
-    to_number bases form zero exit (does (LocalGet (number_local bases zero)) (does (GlobalSet status_global) (left_by way_exit exit after)))
+    to_number bases form zero exit (emit (LocalGet (number_local bases zero)) (emit (GlobalSet status_global) (left_by way_exit exit after)))
 
 -- what is done over and over, within a label for its end
 abbrev pub rounds : Instructions → Instructions → Instructions
@@ -32,7 +32,7 @@ rounds turn after = block (again turn Done) after
 
 -- a test in all cases: where it does not hold, code is left to a label
 abbrev pub test_left : Layout → Code → (exit out : ℕ) → Instructions → Instructions
-test_left layout test exit out after = tested layout [] [] test zero zero exit (does (Test I32 Eqz) (does (BrIf out) after))
+test_left layout test exit out after = tested layout [] [] test zero zero exit (emit (Test I32 Eqz) (emit (BrIf out) after))
 
 -- Quick ways.
 
@@ -47,7 +47,7 @@ within_tested layout within test exit out after = left_unless layout (Some withi
 -- a sum that a name takes: quickly where all numbers are near
 abbrev pub sum_done : Layout → Sum → ℕ → Instructions → Instructions
 sum_done layout sum exit after =
-    all_unsure (name_read layout) (sum_names sum) (pos (2 ^ 52)) (2 ^ 53) (either (summed_anyway layout sum (suc exit) Done) (summed layout sum Done) after)
+    all_unsure (name_read layout) (sum_names sum) (pos (2 ^ 52)) (2 ^ 53) (emit_if (summed_anyway layout sum (suc exit) Done) (summed layout sum Done) after)
 
 -- a remainder that a name takes: quickly where no product leaves the range
 abbrev pub remainder_done : Layout → Remainder → Code → ℕ → Instructions → Instructions
@@ -55,7 +55,7 @@ remainder_done layout remainder code exit after = remainder_dropped layout (Some
 
 -- whether a name has no number
 abbrev pub unnumbered : Layout → Holder → Instructions → Instructions
-unnumbered layout name after = does (name_read layout name) (does (I64Const text_beside) (does (Comparing I64 LeS) after))
+unnumbered layout name after = emit (name_read layout name) (emit (I64Const text_beside) (emit (Comparing I64 LeS) after))
 
 -- a comparison of a name with how many fields there are
 abbrev pub counted_tested : Layout → Counted → Code → (exit out : ℕ) → Instructions → Instructions
@@ -63,11 +63,11 @@ counted_tested layout counted test exit out after = left_unless_counted layout (
 
 -- 0 where there is no number yet
 abbrev pub zero_put : Bases → ℕ → Instructions → Instructions
-zero_put bases temporary after = does (I64Const 0) (does (LocalSet (number_local bases temporary)) after)
+zero_put bases temporary after = emit (I64Const 0) (emit (LocalSet (number_local bases temporary)) after)
 
 -- the number of temporary 0 is put on the stack, and that of the field that a constant gives, by its bits
 abbrev pub field_added : Bases → (bits : ℕ) → Instructions → Instructions
-field_added bases bits after = does (LocalGet (number_local bases zero)) (does (I64Const bits) (ask_row row.Field (ask_row row.ToNum after)))
+field_added bases bits after = emit (LocalGet (number_local bases zero)) (emit (I64Const bits) (ask_row row.Field (ask_row row.ToNum after)))
 
 -- the numbers of a name and of the field with this number, on the stack
 abbrev pub field_asked : Layout → Holder → ℤ → ℕ → Instructions → Instructions
@@ -81,19 +81,19 @@ tally_evaluated layout tally exit after =
 -- an element takes the sum
 abbrev pub sum_given : Layout → Tally → ℕ → Instructions → Instructions
 sum_given layout tally exit after =
-    does (LocalGet (number_local layout.bases 2))
-    (does (LocalGet (number_local layout.bases 1)) (sum_kept layout (sum_op tally.op) 2 exit (element_given layout tally.written after)))
+    emit (LocalGet (number_local layout.bases 2))
+    (emit (LocalGet (number_local layout.bases 1)) (sum_kept layout (sum_op tally.op) 2 exit (element_given layout tally.written after)))
 
 -- a turn begins again where the test holds
 abbrev pub tested_on : Layout → Code → ℕ → Instructions → Instructions
-tested_on layout test exit after = does Nop (tested layout [] [] test zero zero (suc (suc exit)) (does (BrIf zero) after))
+tested_on layout test exit after = emit Nop (tested layout [] [] test zero zero (suc (suc exit)) (emit (BrIf zero) after))
 
 -- a choice of two statements: by an `if`, or by a comparison of sources in two blocks
 
 abbrev pub plainly_chosen : Layout → Code → Step → Step → Around → Instructions → Instructions
 plainly_chosen layout test so otherwise at after =
     let exit = suc at.exit in
-    tested layout [] [] test zero zero at.exit (either
+    tested layout [] [] test zero zero at.exit (emit_if
     (step_emitted layout so at.iterators exit (suc at.break_to) (suc at.continue_to) Done)
     (step_emitted layout otherwise at.iterators exit (suc at.break_to) (suc at.continue_to) Done) after)
 
@@ -101,7 +101,7 @@ abbrev pub quick_way : Layout → Code → Step → Around → Instructions → 
 quick_way layout test so at after =
     let exit = suc (suc at.exit) in
     left_unless_pair layout (pair_in test) test exit zero
-    (step_emitted layout so at.iterators exit (suc (suc at.break_to)) (suc (suc at.continue_to)) (does (Br 1) after))
+    (step_emitted layout so at.iterators exit (suc (suc at.break_to)) (suc (suc at.continue_to)) (emit (Br 1) after))
 
 abbrev pub quick_ways : Layout → Code → Step → Step → Around → Instructions → Instructions
 quick_ways layout test so otherwise at after =
@@ -126,7 +126,7 @@ turn_body layout body iterators exit after =
 -- what comes after it, and the next turn
 abbrev pub turn_ended : Layout → Step → (iterators exit : ℕ) → Instructions → Instructions
 turn_ended layout last iterators exit after =
-    if is_nothing last then does (Br zero) after else step_emitted layout last iterators (suc (suc exit)) 1 zero (does (Br zero) after)
+    if is_nothing last then emit (Br zero) after else step_emitted layout last iterators (suc (suc exit)) 1 zero (emit (Br zero) after)
 
 -- a turn of a loop that begins with its test
 abbrev pub tested_turn : Layout → Code → Step → Step → (iterators exit : ℕ) → Instructions → Instructions
@@ -144,18 +144,18 @@ turn false layout test body last iterators exit after = first_turn layout test b
 
 -- an iterator over an array
 abbrev pub iterator_made : Layout → ArrayName → ℕ → Instructions → Instructions
-iterator_made layout array iterators after = array_pushed layout array (ask_row row.Iter (does (LocalSet (iterator_local layout.bases iterators)) after))
+iterator_made layout array iterators after = array_pushed layout array (ask_row row.Iter (emit (LocalSet (iterator_local layout.bases iterators)) after))
 
 -- the next key, and the end of the loop where there is none
 abbrev pub key_asked : Bases → ℕ → Instructions → Instructions
 key_asked bases iterators after =
-    does (LocalGet (iterator_local bases iterators)) (does (LocalTee (iterator_local bases iterators)) (ask_row row.IterNext
-    (does (LocalTee (handle_local bases zero)) (does (I32Const end_code) (does (Comparing I32 Eq) (does (BrIf 1) after))))))
+    emit (LocalGet (iterator_local bases iterators)) (emit (LocalTee (iterator_local bases iterators)) (ask_row row.IterNext
+    (emit (LocalTee (handle_local bases zero)) (emit (I32Const end_code) (emit (Comparing I32 Eq) (emit (BrIf 1) after))))))
 
 -- a turn of a loop over keys
 abbrev pub key_turn : Layout → Code → Step → (iterators exit : ℕ) → Instructions → Instructions
 key_turn layout store body iterators exit after =
-    key_stored layout iterators store (suc (suc exit)) (block (body_code layout body (suc iterators) exit) (does (Br zero) after))
+    key_stored layout iterators store (suc (suc exit)) (block (body_code layout body (suc iterators) exit) (emit (Br zero) after))
 
 -- a loop over the keys of an array
 abbrev pub keys_walked : Layout → ArrayName → Code → Step → (iterators exit : ℕ) → Instructions → Instructions
@@ -164,13 +164,13 @@ keys_walked layout array store body iterators exit after =
 
 -- the value of a parameter of this kind is dropped
 abbrev pub parameter_dropped : Kind → ℕ → Instructions → Instructions
-parameter_dropped Boxed place after = does (LocalGet place) (ask Drop after)
+parameter_dropped Boxed place after = emit (LocalGet place) (ask Drop after)
 parameter_dropped Unboxed place after = after
-parameter_dropped Many place after = after
+parameter_dropped ArrayKind place after = after
 
 -- the answer's word is what a local has
 abbrev pub local_given : Layout → ℕ → (exit : ℕ) → Instructions → Instructions
-local_given layout local exit after = does (LocalGet local) (does (LocalSet (answer_local layout.bases)) (does (Br (suc exit)) after))
+local_given layout local exit after = emit (LocalGet local) (emit (LocalSet (answer_local layout.bases)) (emit (Br (suc exit)) after))
 
 -- one of two is returned: in a block that a quick test leaves, or after it; or both in an `if`
 
@@ -182,12 +182,12 @@ quickly_returned layout test so otherwise exit after = block (quick_returned lay
 
 abbrev pub either_returned : Layout → Code → Code → Code → (exit : ℕ) → Instructions → Instructions
 either_returned layout test so otherwise exit after =
-    tested layout [] [] test zero zero exit (either (returned layout so (suc exit) Done) (returned layout otherwise (suc exit) Done) after)
+    tested layout [] [] test zero zero exit (emit_if (returned layout so (suc exit) Done) (returned layout otherwise (suc exit) Done) after)
 
 -- what a function has where it returns is let go, and its answer given
 abbrev pub answer_given : Layout → List Kind → Instructions → Instructions
 answer_given layout kinds after =
-    iterators_swept layout zero layout.bases.iterators (parameters_dropped layout zero kinds (does (LocalGet (answer_local layout.bases)) after))
+    iterators_swept layout zero layout.bases.iterators (parameters_dropped layout zero kinds (emit (LocalGet (answer_local layout.bases)) after))
 
 -- the statements of a function
 abbrev pub routine_steps : Layout → Steps → Instructions → Instructions
@@ -205,11 +205,11 @@ routine_code layout kinds body after = all_emptied layout (block (routine_way la
 
 -- an item's statements, left by `next`, go on where this way was taken
 abbrev pub next_taken : Layout → ℕ → Instructions → Instructions
-next_taken layout exit after = does (GlobalGet way_global) (does (I32Const way_next) (does (Comparing I32 Ne) (does (BrIf (suc exit)) (goes_on layout after))))
+next_taken layout exit after = emit (GlobalGet way_global) (emit (I32Const way_next) (emit (Comparing I32 Ne) (emit (BrIf (suc exit)) (goes_on layout after))))
 
 -- the items for a record
 abbrev pub items_code : Layout → Steps → Instructions → Instructions
-items_code layout items after = steps_emitted layout items zero zero zero zero (does (Br 1) after)
+items_code layout items after = steps_emitted layout items zero zero zero zero (emit (Br 1) after)
 
 abbrev pub record_code : Layout → Steps → ℕ → Instructions → Instructions
 record_code layout items exit after = block (items_code layout items Done) (next_taken layout exit after)
@@ -220,11 +220,11 @@ record_asked bases exit after = ask_row row.NextMain (kept_code bases true zero 
 
 -- the items are done for a record, and the next one is asked for
 abbrev pub record_way : Layout → Steps → ℕ → Instructions → Instructions
-record_way layout items exit after = record_done layout items exit (does (Br 1) after)
+record_way layout items exit after = record_done layout items exit (emit (Br 1) after)
 
 -- an assignment of the command line is made where it stands before the next record
 abbrev pub assignment_made : Layout → Instructions → Instructions
-assignment_made layout after = number_is (number_local layout.bases zero) 2 (when (pending_assigned layout zero (does (Br 1) Done)) after)
+assignment_made layout after = number_is (number_local layout.bases zero) 2 (when (pending_assigned layout zero (emit (Br 1) Done)) after)
 
 -- one record, or assignment
 abbrev pub record_turn : Layout → Steps → ℕ → Instructions → Instructions
@@ -233,8 +233,8 @@ record_turn layout items exit after = record_asked layout.bases exit (when (reco
 -- how a part of `main` was left
 abbrev pub part_left : Layout → ℕ → Instructions → Instructions
 part_left layout exit after =
-    does (GlobalGet way_global) (does (Test I32 Eqz) (does (BrIf (suc exit))
-    (does (GlobalGet way_global) (does (I32Const way_next) (does (Comparing I32 Eq) (fail_if NextOutside (suc exit) (goes_on layout after)))))))
+    emit (GlobalGet way_global) (emit (Test I32 Eqz) (emit (BrIf (suc exit))
+    (emit (GlobalGet way_global) (emit (I32Const way_next) (emit (Comparing I32 Eq) (fail_if NextOutside (suc exit) (goes_on layout after)))))))
 
 -- a part, once what it does is known
 abbrev pub part_code : Layout → Instructions → ℕ → Instructions → Instructions
@@ -246,7 +246,7 @@ records_if layout true items after = records_read layout items zero after
 records_if layout false items after = after
 
 abbrev pub first_code : Layout → Program → Instructions → Instructions
-first_code layout program after = steps_emitted layout program.begin zero zero zero zero (records_if layout program.reads program.items (does (Br 1) after))
+first_code layout program after = steps_emitted layout program.begin zero zero zero zero (records_if layout program.reads program.items (emit (Br 1) after))
 
 -- both parts, and what goes before them
 abbrev pub parts_code : Layout → Program → Instructions → Instructions
@@ -256,7 +256,7 @@ parts_code layout program after =
 
 -- what `main` has is let go, and the status given
 abbrev pub status_given : Layout → Instructions → Instructions
-status_given layout after = swept layout (does (GlobalGet status_global) (does (Convert I32WrapI64) after))
+status_given layout after = swept layout (emit (GlobalGet status_global) (emit (Convert I32WrapI64) after))
 
 abbrev pub main_code : Layout → Program → Instructions → Instructions
 main_code layout program after = all_emptied layout (block (parts_code layout program Done) (status_given layout after))
@@ -269,6 +269,6 @@ names_told layout program after =
 
 -- what a name of this kind has before the script runs
 abbrev pub name_made : Layout → Kind → ℕ → Instructions → Instructions
-name_made layout Boxed name after = ask_row row.Uninit (does (GlobalSet (handle_global layout.ranges name)) after)
+name_made layout Boxed name after = ask_row row.Uninit (emit (GlobalSet (handle_global layout.ranges name)) after)
 name_made layout Unboxed name after = after
-name_made layout Many name after = ask_row row.NewArray (does (GlobalSet (handle_global layout.ranges name)) after)
+name_made layout ArrayKind name after = ask_row row.NewArray (emit (GlobalSet (handle_global layout.ranges name)) after)

@@ -9,7 +9,7 @@ ghost use Rattle.lower_expressions.specs.View.{view_layout};
 ghost use Rattle.lowering.specs.Parts.{name_made, names_told};
 
 use lower_expressions::{FunctionLayout, asked, global_handle, text_pushed};
-use lower_pieces::{Emitted, does_all, kept_number, row_call};
+use lower_pieces::{Emitted, emit_all, kept_number, row_call};
 use mid_program::Kind;
 use sem_primitives::{NameKind, Primitive};
 use wasm_types::Simple;
@@ -19,7 +19,7 @@ fn started(layout: &FunctionLayout<'_>, out: &mut Emitted)
     ensures { Emits out.old out.new (started (view_layout layout.now)) }
 {
     let one = Simple::I64Const(1);
-    does_all(out, &[one, one, row_call(Primitive::Pow)]);
+    emit_all(out, &[one, one, row_call(Primitive::Pow)]);
     kept_number(layout.bases, out, true, 0, 0);
 }
 
@@ -40,7 +40,7 @@ fn declared(layout: &FunctionLayout<'_>, out: &mut Emitted, kind: NameKind, text
 {
     text_pushed(layout, out, text);
     let kind = Simple::I32Const(kind_number(kind));
-    does_all(out, &[kind, row_call(Primitive::Declare)]);
+    emit_all(out, &[kind, row_call(Primitive::Declare)]);
 }
 
 /// What the host is told of a name of this kind.
@@ -49,7 +49,7 @@ fn declared_kind(layout: &FunctionLayout<'_>, kind: Kind) -> NameKind
 {
     match kind {
         Kind::Boxed | Kind::Unboxed => NameKind::Scalar,
-        Kind::Many => NameKind::ArrayOrFunction,
+        Kind::Array => NameKind::ArrayOrFunction,
     }
 }
 
@@ -103,11 +103,11 @@ fn name_made(layout: &FunctionLayout<'_>, out: &mut Emitted, kind: Kind, name: u
     match kind {
         Kind::Boxed => {
             let set = Simple::GlobalSet(global_handle(layout, name));
-            does_all(out, &[row_call(Primitive::Uninit), set]);
+            emit_all(out, &[row_call(Primitive::Uninit), set]);
         }
-        Kind::Many => {
+        Kind::Array => {
             let set = Simple::GlobalSet(global_handle(layout, name));
-            does_all(out, &[row_call(Primitive::NewArray), set]);
+            emit_all(out, &[row_call(Primitive::NewArray), set]);
         }
         Kind::Unboxed => {}
     }

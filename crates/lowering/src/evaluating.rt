@@ -22,7 +22,7 @@ use crate::quick::{most_multiplied, names_unsure, remainder_code, sum_code};
 use crate::summing::{summed_anyway, updated};
 use crate::tallying::tallied;
 use lower_expressions::{At, FunctionLayout, Kept, expression, left_over};
-use lower_pieces::{Emitted, Form, does_all, either, to_number, truth};
+use lower_pieces::{Emitted, Form, emit_all, emit_if, to_number, truth};
 use lower_quick::{
     Remainder, Sum, remainder_in, remainder_names, sum_in, sum_names, tally_in, update_in,
 };
@@ -50,7 +50,7 @@ pub(crate) fn evaluated(
         Ok(form) => form,
         Err(_) => {
             out.refuse();
-            Form::Perhaps
+            Form::OptionalNumber
         }
     }
 }
@@ -134,7 +134,7 @@ fn remainder_done(
     let mut all_cases = Emitted::new(layout.alloc);
     done_alone(layout, &mut all_cases, code, exit + 1);
     let quick = remainder_code(layout, remainder);
-    either(layout.alloc, out, all_cases, quick);
+    emit_if(layout.alloc, out, all_cases, quick);
 }
 
 /// Adds a sum that a name takes: by the module itself where all numbers are near.
@@ -148,7 +148,7 @@ fn sum_done(layout: &FunctionLayout<'_>, out: &mut Emitted, sum: Sum, exit: u32)
     let mut all_cases = Emitted::new(layout.alloc);
     summed_anyway(layout, &mut all_cases, sum, exit + 1);
     let quick = sum_code(layout, sum);
-    either(layout.alloc, out, all_cases, quick);
+    emit_if(layout.alloc, out, all_cases, quick);
 }
 
 /// Adds code for what it does alone, where nothing is kept.
@@ -217,5 +217,5 @@ pub(crate) fn exit_with(layout: &FunctionLayout<'_>, out: &mut Emitted, code: &C
         Simple::GlobalSet(0),
         Simple::Br(exit),
     ];
-    does_all(out, &all);
+    emit_all(out, &all);
 }

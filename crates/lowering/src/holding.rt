@@ -8,7 +8,7 @@ ghost use Rattle.lowering.specs.Holding.{held_count, held_emptied, held_import, 
 
 use host_imports::Import;
 use lower_expressions::FunctionLayout;
-use lower_pieces::{Bases, Emitted, WAS_LEFT, does_all, emptied, let_go};
+use lower_pieces::{Bases, Emitted, WAS_LEFT, emit_all, emptied, let_go};
 use wasm_types::Simple;
 
 /// What a function holds beside its answer.
@@ -69,7 +69,7 @@ fn held_emptied(bases: &Bases, out: &mut Emitted, held: Held)
 pub(crate) fn all_emptied(layout: &FunctionLayout<'_>, out: &mut Emitted)
     ensures { Emits out.old out.new (all_emptied (view_layout layout.now)) }
 {
-    does_all(
+    emit_all(
         out,
         &[
             Simple::I64Const(WAS_LEFT),

@@ -3,12 +3,12 @@ ghost use Rattle.std.specs.Prelude.{◌≤◌};
 ghost use Rattle.sem_primitives.specs.Constants.{flag_number};
 ghost use Rattle.wasm_types.specs.declared.instr.Simple.TheVariants.{GlobalSet, I32Const};
 ghost use Rattle.lower_model.specs.Places.{range_global};
-ghost use Rattle.lower_model.specs.Small.{does};
+ghost use Rattle.lower_model.specs.Small.{emit};
 ghost use Rattle.lower_model.specs.Statements.{left_by};
 ghost use Rattle.lower_pieces.specs.Bounds.{most_places};
 ghost use Rattle.lower_pieces.specs.Emits.{Emits};
 
-use lower_pieces::{Emitted, does_all};
+use lower_pieces::{Emitted, emit_all};
 use wasm_types::Simple;
 
 /// How a function is left by a fault, or by `return`.
@@ -29,18 +29,18 @@ pub(crate) fn left_by(out: &mut Emitted, way: u32, exit: u32)
         Simple::GlobalSet(0),
         Simple::Br(exit),
     ];
-    does_all(out, &all);
+    emit_all(out, &all);
 }
 
 /// Opens the range of an item, or closes it.
 pub(crate) fn marked(out: &mut Emitted, item: usize, opens: bool)
     requires { item ≤ most_places }
-    ensures { Emits out.old out.new (λ after. does
-        (I32Const (flag_number opens)) (does (GlobalSet (range_global item)) after)) }
+    ensures { Emits out.old out.new (λ after. emit
+        (I32Const (flag_number opens)) (emit (GlobalSet (range_global item)) after)) }
 {
     let all = [
         Simple::I32Const(u32::from(opens)),
         Simple::GlobalSet(item as u32 + 3),
     ];
-    does_all(out, &all);
+    emit_all(out, &all);
 }

@@ -15,7 +15,7 @@ use crate::evaluating::{dropped, kept_first, tested};
 use host_imports::Import;
 use lower_expressions::{At, FunctionLayout, array_pushed};
 use lower_pieces::{
-    Bases, Emitted, Form, again, ask, block, does, does_all, emptied, let_go, moved_out, row_call,
+    Bases, Emitted, Form, again, ask, block, emit, emit_all, emptied, let_go, moved_out, row_call,
 };
 use mid_program::{ArrayName, Code};
 use sem_primitives::{Answer, Primitive, Sort};
@@ -42,9 +42,9 @@ pub(crate) fn tested_on(layout: &FunctionLayout<'_>, out: &mut Emitted, test: &C
     ensures { Emits out.old out.new
         (tested_on (view_layout layout.now) (view test.now) exit) }
 {
-    does(out, Simple::Nop);
+    emit(out, Simple::Nop);
     tested(layout, out, test, exit + 2);
-    does(out, Simple::BrIf(0));
+    emit(out, Simple::BrIf(0));
 }
 
 /// Makes an iterator over an array.
@@ -61,7 +61,7 @@ pub(crate) fn iterator_made(
 {
     array_pushed(layout, out, array);
     let set = Simple::LocalSet(layout.bases.iterator(iterator));
-    does_all(out, &[row_call(Primitive::Iter), set]);
+    emit_all(out, &[row_call(Primitive::Iter), set]);
 }
 
 /// Asks for the next key, and leaves the loop where there is none.
@@ -79,7 +79,7 @@ fn key_asked(bases: &Bases, out: &mut Emitted, iterator: u32)
         Simple::Compare(ValType::I32, IRelOp::Eq),
         Simple::BrIf(1),
     ];
-    does_all(out, &all);
+    emit_all(out, &all);
 }
 
 /// Stores the next key, which is kept in the first temporary meanwhile.
@@ -106,7 +106,7 @@ fn key_kept(layout: &FunctionLayout<'_>, out: &mut Emitted, store: &Code, exit: 
     ensures { Emits out.old out.new
         (dropped (view_layout layout.now) (a_value ∷ []) (zero ∷ []) (view store.now) 1 0 exit) }
 {
-    let value = Form::Answered(Answer::Of(Sort::Value));
+    let value = Form::PrimitiveAnswer(Answer::Of(Sort::Value));
     let mut kept = kept_first(layout.alloc, out, value);
     let at = At {
         temporary: 1,

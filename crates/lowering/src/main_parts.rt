@@ -19,7 +19,7 @@ use crate::records::{goes_on, items_added, records_read};
 use crate::steps::statements;
 use awk_values::Fault;
 use lower_expressions::FunctionLayout;
-use lower_pieces::{Emitted, ask_row, block, does, does_all, fail_if};
+use lower_pieces::{Emitted, ask_row, block, emit, emit_all, fail_if};
 use mid_program::Step;
 use sem_primitives::Primitive;
 use std::alloc::AllocError;
@@ -38,7 +38,7 @@ fn part_left(layout: &FunctionLayout<'_>, out: &mut Emitted, exit: u32)
         Simple::I32Const(WAY_NEXT),
         Simple::Compare(ValType::I32, IRelOp::Eq),
     ];
-    does_all(out, &all);
+    emit_all(out, &all);
     fail_if(layout.alloc, out, Fault::NextOutside, exit + 1);
     goes_on(layout, out);
 }
@@ -75,7 +75,7 @@ fn first_added(layout: &FunctionLayout<'_>, out: &mut Emitted)
     let program = layout.script.program;
     statements(layout, out, &program.begin, OUTERMOST);
     records_if(layout, out, program.reads, &program.items);
-    does(out, Simple::Br(1));
+    emit(out, Simple::Br(1));
 }
 
 /// Adds both parts, and what goes before them.
@@ -108,7 +108,7 @@ fn main_added(layout: &FunctionLayout<'_>, out: &mut Emitted)
     block(layout.alloc, out, inside);
     swept(layout, out);
     let all = [Simple::GlobalGet(1), Simple::Convert(CvtOp::I32WrapI64)];
-    does_all(out, &all);
+    emit_all(out, &all);
 }
 
 /// The code of `main`.

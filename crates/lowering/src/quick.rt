@@ -16,7 +16,7 @@ use awk_text::MAX_NUMBER;
 use lower_expressions::{
     FunctionLayout, all_unsure, global_number, name_read, source_read, sum_op,
 };
-use lower_pieces::{Emitted, TEXT_BESIDE, code_of, does_all, relation, row_call};
+use lower_pieces::{Emitted, TEXT_BESIDE, code_of, emit_all, relation, row_call};
 use lower_quick::{Counted, Holder, Pair, Remainder, Sum, Within, contrary};
 use sem_primitives::{Primitive, Special};
 use std::alloc::AllocError;
@@ -47,7 +47,7 @@ pub(crate) fn unsure(layout: &FunctionLayout<'_>, out: &mut Emitted, within: Wit
         Simple::I64Const(within.width),
         Simple::Compare(ValType::I64, IRelOp::GtU),
     ];
-    does_all(out, &all);
+    emit_all(out, &all);
 }
 
 /// Adds the test whether one of several names has no number, or one out of bounds; of names for which memory may have run out.
@@ -160,5 +160,5 @@ pub(crate) fn unnumbered(layout: &FunctionLayout<'_>, out: &mut Emitted, name: H
         Simple::I64Const(TEXT_BESIDE),
         Simple::Compare(ValType::I64, IRelOp::LeS),
     ];
-    does_all(out, &all);
+    emit_all(out, &all);
 }

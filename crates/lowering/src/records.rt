@@ -14,7 +14,7 @@ use crate::leaving::{WAY_NEXT, WAY_NONE};
 use crate::steps::statements;
 use lower_expressions::{FunctionLayout, pending_code};
 use lower_pieces::{
-    Bases, Emitted, again, ask_row, block, does, does_all, kept_code, number_is, when,
+    Bases, Emitted, again, ask_row, block, emit, emit_all, kept_code, number_is, when,
 };
 use mid_program::Step;
 use sem_primitives::Primitive;
@@ -24,7 +24,7 @@ use wasm_types::{IRelOp, Simple, ValType};
 pub(crate) fn goes_on(layout: &FunctionLayout<'_>, out: &mut Emitted)
     ensures { Emits out.old out.new (goes_on (view_layout layout.now)) }
 {
-    does_all(out, &[Simple::I32Const(WAY_NONE), Simple::GlobalSet(0)]);
+    emit_all(out, &[Simple::I32Const(WAY_NONE), Simple::GlobalSet(0)]);
     left_swept(layout, out);
 }
 
@@ -39,7 +39,7 @@ fn next_taken(layout: &FunctionLayout<'_>, out: &mut Emitted, exit: u32)
         Simple::Compare(ValType::I32, IRelOp::Ne),
         Simple::BrIf(exit + 1),
     ];
-    does_all(out, &all);
+    emit_all(out, &all);
     goes_on(layout, out);
 }
 
@@ -50,7 +50,7 @@ pub(crate) fn items_added(layout: &FunctionLayout<'_>, out: &mut Emitted, items:
         (items_code (view_layout layout.now) (view_steps items.now)) }
 {
     statements(layout, out, items, OUTERMOST);
-    does(out, Simple::Br(1));
+    emit(out, Simple::Br(1));
 }
 
 /// Adds the items for a record, and how they were left.
@@ -86,7 +86,7 @@ fn record_way(layout: &FunctionLayout<'_>, out: &mut Emitted, items: &[Step], ex
     let mut inside = Emitted::new(layout.alloc);
     record_added(layout, &mut inside, items, exit);
     block(layout.alloc, out, inside);
-    does(out, Simple::Br(1));
+    emit(out, Simple::Br(1));
 }
 
 /// Makes an assignment of the command line, where one stands before the next record.

@@ -3,7 +3,7 @@ ghost use Rattle.std.specs.Option.{option_map};
 ghost use Rattle.std.specs.Prelude.{[], ◌≡◌, ◌≤◌, false, suc};
 ghost use Rattle.sem_primitives.specs.declared.sorts.Sort.TheVariants.{Value};
 ghost use Rattle.mid_program.specs.Mid as plain;
-ghost use Rattle.mid_program.specs.Mid.{Bare, form_of};
+ghost use Rattle.mid_program.specs.Mid.{NumberOrText, form_of};
 ghost use Rattle.mid_program.specs.ViewCode.{view};
 ghost use Rattle.lower_model.specs.Emission.{emitted};
 ghost use Rattle.lower_model.specs.Statements.{answer_given, constant_given, returned, text_given, word_given};
@@ -19,7 +19,7 @@ use crate::evaluating::{answered, tested};
 use crate::testing::left_unless_pair;
 use lower_expressions::FunctionLayout;
 use lower_pieces::{
-    Emitted, Form, LEAST, TEXT_BESIDE, TEXT_GLOBAL, block, does, does_all, either, moved_out,
+    Emitted, Form, LEAST, TEXT_BESIDE, TEXT_GLOBAL, block, emit, emit_all, emit_if, moved_out,
     number_is, when,
 };
 use lower_quick::pair_in;
@@ -36,7 +36,7 @@ pub(crate) fn constant_given(layout: &FunctionLayout<'_>, out: &mut Emitted, wor
         Simple::LocalSet(layout.bases.answer()),
         Simple::Br(out_of),
     ];
-    does_all(out, &all);
+    emit_all(out, &all);
 }
 
 /// Gives the number of a local as the answer.
@@ -49,7 +49,7 @@ fn local_given(layout: &FunctionLayout<'_>, out: &mut Emitted, local: u32, exit:
         Simple::LocalSet(layout.bases.answer()),
         Simple::Br(exit + 1),
     ];
-    does_all(out, &all);
+    emit_all(out, &all);
 }
 
 /// Gives the number of the first temporary as the answer.
@@ -65,13 +65,13 @@ fn text_given(layout: &FunctionLayout<'_>, out: &mut Emitted)
     ensures { Emits out.old out.new (text_given (view_layout layout.now)) }
 {
     moved_out(out, layout.bases.handle(0));
-    does(out, Simple::GlobalSet(TEXT_GLOBAL));
+    emit(out, Simple::GlobalSet(TEXT_GLOBAL));
 }
 
 /// Gives what may be a number, nothing or a text.
 fn bare_given(layout: &FunctionLayout<'_>, out: &mut Emitted, exit: u32)
     requires { exit ≤ most_labels }
-    ensures { Emits out.old out.new (answer_given (view_layout layout.now) Bare exit) }
+    ensures { Emits out.old out.new (answer_given (view_layout layout.now) NumberOrText exit) }
 {
     number_is(out, layout.bases.number(0), TEXT_BESIDE);
     let mut text = Emitted::new(layout.alloc);
@@ -87,15 +87,15 @@ fn answer_given(layout: &FunctionLayout<'_>, out: &mut Emitted, form: Form, exit
         (answer_given (view_layout layout.now) (view_form form) exit) }
 {
     match form {
-        Form::Answered(Answer::Of(Sort::Value)) => {
+        Form::PrimitiveAnswer(Answer::Of(Sort::Value)) => {
             text_given(layout, out);
             constant_given(layout, out, TEXT_BESIDE, exit + 1);
         }
-        Form::Bare => bare_given(layout, out, exit),
-        Form::Perhaps | Form::Answered(Answer::Of(Sort::Number) | Answer::Truth) => {
+        Form::NumberOrText => bare_given(layout, out, exit),
+        Form::OptionalNumber | Form::PrimitiveAnswer(Answer::Of(Sort::Number) | Answer::Truth) => {
             word_given(layout, out, exit);
         }
-        Form::Answered(_) => constant_given(layout, out, LEAST, exit + 1),
+        Form::PrimitiveAnswer(_) => constant_given(layout, out, LEAST, exit + 1),
     }
 }
 
@@ -169,7 +169,7 @@ fn either_returned(
     returned(layout, &mut so, yes, exit + 1);
     let mut otherwise = Emitted::new(layout.alloc);
     returned(layout, &mut otherwise, no, exit + 1);
-    either(layout.alloc, out, so, otherwise);
+    emit_if(layout.alloc, out, so, otherwise);
 }
 
 /// Returns one of two.

@@ -16,7 +16,7 @@ use crate::returning::constant_given;
 use crate::steps::statements;
 use host_imports::Import;
 use lower_expressions::FunctionLayout;
-use lower_pieces::{Emitted, LEAST, ask, block, does};
+use lower_pieces::{Emitted, LEAST, ask, block, emit};
 use mid_program::{Kind, Step};
 use std::alloc::AllocError;
 use wasm_types::{Instr, Simple};
@@ -27,10 +27,10 @@ fn parameter_dropped(out: &mut Emitted, kind: Kind, local: u32)
 {
     match kind {
         Kind::Boxed => {
-            does(out, Simple::LocalGet(local));
+            emit(out, Simple::LocalGet(local));
             ask(out, Import::Drop);
         }
-        Kind::Unboxed | Kind::Many => {}
+        Kind::Unboxed | Kind::Array => {}
     }
 }
 
@@ -77,7 +77,7 @@ fn answer_given(layout: &FunctionLayout<'_>, out: &mut Emitted, kinds: &[Kind])
 {
     iterators_swept(layout, out);
     parameters_dropped(layout, out, kinds);
-    does(out, Simple::LocalGet(layout.bases.answer()));
+    emit(out, Simple::LocalGet(layout.bases.answer()));
 }
 
 /// Adds the code of a function.

@@ -20,7 +20,7 @@ use crate::loops::{iterator_left, iterator_made, key_stored, rounds, tested_on};
 use crate::returning::returned;
 use crate::testing::{left_unless, left_unless_pair};
 use lower_expressions::FunctionLayout;
-use lower_pieces::{Emitted, block, does, either};
+use lower_pieces::{Emitted, block, emit, emit_if};
 use lower_quick::{is_nothing, pair_in, step_jumps};
 use mid_program::{ArrayName, Code, Step};
 use wasm_types::Simple;
@@ -48,7 +48,7 @@ fn statement(layout: &FunctionLayout<'_>, out: &mut Emitted, step: &Step, at: Ar
     ensures { Emits out.old out.new (step_emitted (view_layout layout.now)
         (view_step step.now) at.iterators at.exit at.break_to at.continue_to) }
 {
-    does(out, Simple::Nop);
+    emit(out, Simple::Nop);
     match step {
         Step::Eval(code) => done(layout, out, code, at.exit),
         Step::Block(steps) => statements(layout, out, steps, at),
@@ -57,8 +57,8 @@ fn statement(layout: &FunctionLayout<'_>, out: &mut Emitted, step: &Step, at: Ar
             looped(layout, out, *tests_first, test, body, last, at);
         }
         Step::Each(array, store, body) => keys(layout, out, *array, store, body, at),
-        Step::Break => does(out, Simple::Br(at.break_to)),
-        Step::Continue => does(out, Simple::Br(at.continue_to)),
+        Step::Break => emit(out, Simple::Br(at.break_to)),
+        Step::Continue => emit(out, Simple::Br(at.continue_to)),
         Step::Next => left_by(out, WAY_NEXT, at.exit),
         Step::Exit => left_by(out, WAY_EXIT, at.exit),
         Step::ExitWith(code) => exit_with(layout, out, code, at.exit),
@@ -102,7 +102,7 @@ fn plain_choice(
     tested(layout, out, test, at.exit);
     let yes = inner(layout, yes, in_branch(at));
     let no = inner(layout, no, in_branch(at));
-    either(layout.alloc, out, yes, no);
+    emit_if(layout.alloc, out, yes, no);
 }
 
 /// Adds the test of a choice, and what is done where it holds; elsewhere the block around it is left.
@@ -118,7 +118,7 @@ fn quick_way(layout: &FunctionLayout<'_>, out: &mut Emitted, test: &Code, yes: &
 {
     left_unless_pair(layout, out, test, at.exit + 2, 0);
     statement(layout, out, yes, in_branch(in_branch(at)));
-    does(out, Simple::Br(1));
+    emit(out, Simple::Br(1));
 }
 
 /// Adds a choice of two statements by a comparison of sources.
@@ -200,10 +200,10 @@ fn turn_ended(layout: &FunctionLayout<'_>, out: &mut Emitted, last: &Step, at: A
         (turn_ended (view_layout layout.now) (view_step last.now) at.iterators at.exit) }
 {
     if is_nothing(last) {
-        does(out, Simple::Br(0));
+        emit(out, Simple::Br(0));
     } else {
         statement(layout, out, last, in_last(at));
-        does(out, Simple::Br(0));
+        emit(out, Simple::Br(0));
     }
 }
 
@@ -322,7 +322,7 @@ fn key_turn(layout: &FunctionLayout<'_>, out: &mut Emitted, store: &Code, body: 
     key_stored(layout, out, store, at.iterators, at.exit + 2);
     let inside = inner(layout, body, in_keys(at));
     block(layout.alloc, out, inside);
-    does(out, Simple::Br(0));
+    emit(out, Simple::Br(0));
 }
 
 /// Adds a loop over the keys of an array.

@@ -19,7 +19,7 @@ use awk_text::MAX_NUMBER;
 use awk_values::Fault;
 use lower_expressions::{FunctionLayout, field_at, global_handle, name_read, sum_op, text_dropped};
 use lower_pieces::{
-    Emitted, Form, TEXT_BESIDE, code_of, copied_by, does, does_all, either, fail_if, number_is,
+    Emitted, Form, TEXT_BESIDE, code_of, copied_by, emit, emit_all, emit_if, fail_if, number_is,
     row_call, to_number, when,
 };
 use lower_quick::{Holder, Source, Sum, Update};
@@ -43,7 +43,7 @@ fn number_there(
     let global = global_handle(layout, name);
     let (get, set) = (Simple::GlobalGet(global), Simple::GlobalSet(global));
     copied_by(out, get, set, layout.bases.handle(temporary));
-    let value = Form::Answered(Answer::Of(Sort::Value));
+    let value = Form::PrimitiveAnswer(Answer::Of(Sort::Value));
     to_number(layout.alloc, layout.bases, out, value, temporary, exit + 2);
 }
 
@@ -67,7 +67,7 @@ fn name_found(
     number_there(layout, &mut some, name, temporary, exit);
     let zero = [Simple::I64Const(0), Simple::LocalSet(local)];
     let none = code_of(layout.alloc, &zero);
-    either(layout.alloc, out, some, none);
+    emit_if(layout.alloc, out, some, none);
 }
 
 /// The same of a parameter too, beside which no text stands.
@@ -88,7 +88,7 @@ fn number_found(
         Holder::Name(name) => name_found(layout, out, name, temporary, exit),
         Holder::Parameter(_) => {
             let local = layout.bases.number(temporary);
-            does_all(out, &[Simple::I64Const(0), Simple::LocalSet(local)]);
+            emit_all(out, &[Simple::I64Const(0), Simple::LocalSet(local)]);
         }
     }
 }
@@ -113,7 +113,7 @@ fn name_numbered(
         Simple::I64Const(TEXT_BESIDE),
         Simple::Compare(ValType::I64, IRelOp::LeS),
     ];
-    does_all(out, &all);
+    emit_all(out, &all);
     let mut code = Emitted::new(layout.alloc);
     number_found(layout, &mut code, name, temporary, exit);
     when(layout.alloc, out, code);
@@ -146,8 +146,8 @@ fn source_taken(layout: &FunctionLayout<'_>, out: &mut Emitted, source: Source, 
         (source_taken (view_layout layout.now) (view_source source) temporary) }
 {
     match source {
-        Source::Held(_) => does(out, Simple::LocalGet(layout.bases.number(temporary))),
-        Source::Constant(number) => does(out, Simple::I64Const(number.cast_unsigned())),
+        Source::Held(_) => emit(out, Simple::LocalGet(layout.bases.number(temporary))),
+        Source::Constant(number) => emit(out, Simple::I64Const(number.cast_unsigned())),
     }
 }
 
@@ -171,7 +171,7 @@ pub(crate) fn sum_kept(
         Simple::I64Const(1 << 54),
         Simple::Compare(ValType::I64, IRelOp::GtU),
     ];
-    does_all(out, &all);
+    emit_all(out, &all);
     fail_if(layout.alloc, out, Fault::Range, exit);
 }
 
@@ -200,7 +200,7 @@ fn sum_taken(layout: &FunctionLayout<'_>, out: &mut Emitted, op: IBinOp, name: H
         Simple::LocalGet(layout.bases.number(0)),
         name_put(layout, name),
     ];
-    does_all(out, &all);
+    emit_all(out, &all);
 }
 
 /// Adds a sum of sources.
@@ -231,7 +231,7 @@ fn field_asked(layout: &FunctionLayout<'_>, out: &mut Emitted, name: Holder, num
         row_call(Primitive::Field),
         row_call(Primitive::ToNum),
     ];
-    does_all(out, &all);
+    emit_all(out, &all);
 }
 
 /// Evaluates what is added to a name, and asks for both numbers, that of the name first; both are put on the stack.
@@ -249,7 +249,7 @@ fn added_asked(layout: &FunctionLayout<'_>, out: &mut Emitted, update: Update<'_
         Simple::LocalGet(layout.bases.number(1)),
         Simple::LocalGet(layout.bases.number(0)),
     ];
-    does_all(out, &all);
+    emit_all(out, &all);
 }
 
 /// Puts the number of a name and that of what is added on the stack.

@@ -18,7 +18,7 @@ use crate::evaluating::{answered, evaluated, kept_first};
 use crate::summing::sum_kept;
 use lower_expressions::{At, FunctionLayout, array_pushed, sum_op};
 use lower_pieces::{
-    Emitted, Form, does_all, kept_number, moved_out, row_call, to_number, to_value,
+    Emitted, Form, emit_all, kept_number, moved_out, row_call, to_number, to_value,
 };
 use lower_quick::Tally;
 use mid_program::ArrayName;
@@ -65,7 +65,7 @@ fn element_numbered(layout: &FunctionLayout<'_>, out: &mut Emitted, array: Array
         row_call(Primitive::Elem),
         row_call(Primitive::ToNum),
     ];
-    does_all(out, &all);
+    emit_all(out, &all);
     kept_number(layout.bases, out, true, 2, exit);
 }
 
@@ -83,7 +83,7 @@ fn element_given(layout: &FunctionLayout<'_>, out: &mut Emitted, array: ArrayNam
         row_call(Primitive::SetElem),
         Simple::Drop,
     ];
-    does_all(out, &all);
+    emit_all(out, &all);
 }
 
 /// Adds the sum of the element's number and what is added, and gives it to an element.
@@ -97,7 +97,7 @@ fn sum_given(layout: &FunctionLayout<'_>, out: &mut Emitted, tally: Tally<'_>, e
         Simple::LocalGet(layout.bases.number(2)),
         Simple::LocalGet(layout.bases.number(1)),
     ];
-    does_all(out, &all);
+    emit_all(out, &all);
     sum_kept(layout, out, sum_op(tally.op), 2, exit);
     element_given(layout, out, tally.written);
 }

@@ -17,7 +17,7 @@ use crate::evaluating::tested;
 use crate::quick::{counted_code, names_unsure, pair_code, unnumbered, unsure};
 use awk_text::MAX_NUMBER;
 use lower_expressions::FunctionLayout;
-use lower_pieces::{Emitted, does_all, either, when};
+use lower_pieces::{Emitted, emit_all, emit_if, when};
 use lower_quick::{Counted, Pair, Within, counted_in, pair_in, pair_names, test_within};
 use mid_program::Code;
 use wasm_types::{ITestOp, Simple, ValType};
@@ -33,7 +33,7 @@ fn test_left(layout: &FunctionLayout<'_>, out: &mut Emitted, test: &Code, exit: 
         Simple::Test(ValType::I32, ITestOp::Eqz),
         Simple::BrIf(label),
     ];
-    does_all(out, &all);
+    emit_all(out, &all);
 }
 
 /// The same in a list of its own, from within one label more.
@@ -74,7 +74,7 @@ fn pair_tested(
     );
     let all_cases = test_code(layout, test, exit, label);
     let quick = pair_code(layout, pair, label);
-    either(layout.alloc, out, all_cases, quick);
+    emit_if(layout.alloc, out, all_cases, quick);
 }
 
 /// Adds a comparison of a name with how many fields there are: of two numbers where the name has one.
@@ -96,7 +96,7 @@ fn counted_tested(
     unnumbered(layout, out, counted.name);
     let all_cases = test_code(layout, test, exit, label);
     let quick = counted_code(layout, counted, label);
-    either(layout.alloc, out, all_cases, quick);
+    emit_if(layout.alloc, out, all_cases, quick);
 }
 
 /// Adds a test that may compare sources, or a name with how many fields there are, and leaves to a label where it does not hold.

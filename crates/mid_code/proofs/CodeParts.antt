@@ -26,8 +26,8 @@ use Rattle.sem_primitives.specs.declared.constants.Special.TheVariants.{Fs}
 use Rattle.sem_primitives.specs.declared.sorts.Sort.TheVariants as sort
 use Rattle.sem_primitives.specs.declared.table.Listed.TheVariants as listed
 use Rattle.sem_primitives.specs.declared.table.Primitive.TheVariants as row
-use Rattle.awk_tokens.specs.declared.words.Builtin.{Builtin}
-use Rattle.awk_tokens.specs.declared.words.Builtin.TheVariants as builtin
+use Rattle.awk_tokens.specs.declared.reserved_words.Builtin.{Builtin}
+use Rattle.awk_tokens.specs.declared.reserved_words.Builtin.TheVariants as builtin
 use Rattle.mid_program.specs.Mid.{Code, Codes, End, At, Fixed, Do, Over, Choose, Let, Array, AskLine, FileLine, Unset, Call as Called}
 use Rattle.sem_scripts.specs.Names.{Name, Scope, array_of, function_at, function_number}
 use Rattle.sem_scripts.specs.Steps.{ere_in, is_ere}

@@ -19,10 +19,10 @@ use Rattle.mid_program.specs.declared.mid.Operation.{Operation}
 use Rattle.mid_program.specs.declared.mid.Operation.TheVariants.{AsNumber}
 use Rattle.sem_scripts.specs.Names.{ArrayName, Numbered, Given, Scope, Variable, Reserved, variable_of, array_of}
 use Rattle.sem_scripts.specs.Names as names
-use Rattle.sem_scripts.specs.ScriptState.{Doing, ◌>>=◌, ◌>>◌, give, nothing, settled, does, asks}
+use Rattle.sem_scripts.specs.ScriptState.{Execution, ◌>>=◌, ◌>>◌, give, nothing, settled, call, asks}
 use Rattle.sem_scripts.specs.Steps.{Operator, numeric, zero_number, one_number, number_in, computed, step_operator, array_number, read_variable, store_variable, Place, Named, Element, FieldAt, read_place, store_place, stored, received, replaced_in}
 use Rattle.sem_scripts.specs.Meaning.{Calls, asked}
-use Rattle.mid_program.specs.Mid.{Kind, Global, Parameter, Code, Do, AskLine, FileLine, Array, Seq, Let, Bound, End, At, Form, Answered, Bare, Perhaps, a_value, a_number, form_at, form_of}
+use Rattle.mid_program.specs.Mid.{Kind, Global, Parameter, Code, Do, AskLine, FileLine, Array, Seq, Let, Bound, End, At, Form, PrimitiveAnswer, NumberOrText, OptionalNumber, a_value, a_number, form_at, form_of}
 use Rattle.mid_program.specs.MidMeaning.{Env, Holds, all_evaluated, boxed, evaluated, held, numbered, or_constant, row_of, store_slot, then_row, three_values, replacing, when_read, when_replaced}
 use Rattle.mid_program.specs.Translation.{host, one, two, one_code, copied, moved, step_of, store_variable_code, set_variable_code, read_at, store_at, stored_at, stepped_at, step_after_at, updated_at, kept_at, substituted_at, target_in}
 use Rattle.mid_code.proofs.Binding.{As, assoc, bind_as, flat, given, over, silent, under}
@@ -30,30 +30,30 @@ use Rattle.mid_code.proofs.Expressions.{special_again, inline_is, element_is, nu
 use Rattle.mid_code.proofs.Operands.{Is, Valued, number_row, one_operand, three_operands}
 
 some_value : (f : Form) → Valued f → Holds f
-some_value (Answered (answer.Of sort.Value)) v = value.Uninit
-some_value (Answered (answer.Of sort.Number)) v = zero_number
-some_value (Answered answer.Truth) v = false
-some_value Bare v = value.Uninit
-some_value Perhaps v = None
-some_value (Answered (answer.Of sort.Array)) v = absurd v
-some_value (Answered (answer.Of sort.Iterator)) v = absurd v
-some_value (Answered answer.Nothing) v = absurd v
-some_value (Answered answer.Done) v = absurd v
-some_value (Answered answer.Input) v = absurd v
-some_value (Answered answer.Assign) v = absurd v
-some_value (Answered answer.Stream) v = absurd v
-some_value (Answered answer.ValueOrEnd) v = absurd v
-some_value (Answered answer.Name) v = absurd v
+some_value (PrimitiveAnswer (answer.Of sort.Value)) v = value.Uninit
+some_value (PrimitiveAnswer (answer.Of sort.Number)) v = zero_number
+some_value (PrimitiveAnswer answer.Truth) v = false
+some_value NumberOrText v = value.Uninit
+some_value OptionalNumber v = None
+some_value (PrimitiveAnswer (answer.Of sort.Array)) v = absurd v
+some_value (PrimitiveAnswer (answer.Of sort.Iterator)) v = absurd v
+some_value (PrimitiveAnswer answer.Nothing) v = absurd v
+some_value (PrimitiveAnswer answer.Done) v = absurd v
+some_value (PrimitiveAnswer answer.Input) v = absurd v
+some_value (PrimitiveAnswer answer.Assign) v = absurd v
+some_value (PrimitiveAnswer answer.Stream) v = absurd v
+some_value (PrimitiveAnswer answer.ValueOrEnd) v = absurd v
+some_value (PrimitiveAnswer answer.Name) v = absurd v
 
 module _ (texts : List (List ℕ)) (parameters : List (List Kind)) (n : ℕ) (calls : Calls) (fs : List Form) (env : Env fs) where
-  abbrev Means : Code → Doing Value → Type 0
+  abbrev Means : Code → Execution Value → Type 0
   Means e m = Is texts parameters n calls fs env e m
 
-  abbrev Eval : (e : Code) → Doing (Holds (form_of fs e))
+  abbrev Eval : (e : Code) → Execution (Holds (form_of fs e))
   Eval e = evaluated texts parameters n calls fs env e
 
   -- the meaning may be said in another way
-  pub retold : (e : Code) (m m' : Doing Value) → Means e m → m ≡ m' → Means e m'
+  pub retold : (e : Code) (m m' : Execution Value) → Means e m → m ≡ m' → Means e m'
   retold e m m' p q = record { valued = p.valued; means = p.means ∙ q }
 
   pub bound_is : (b : Bool) (i : ℕ) → Valued (form_at fs i) → Means (Bound b i) (give (boxed (form_at fs i) (held fs env i)))
@@ -61,7 +61,7 @@ module _ (texts : List (List ℕ)) (parameters : List (List Kind)) (n : ℕ) (ca
   bound_is b i v = record { valued = v; means = refl }
 
   -- what is kept while the rest is evaluated
-  pub let_is : (a b : Code) (m : Doing Value) (l : Value → Doing Value) → Means a m → Valued (form_of (form_of fs a ∷ fs) b) →
+  pub let_is : (a b : Code) (m : Execution Value) (l : Value → Execution Value) → Means a m → Valued (form_of (form_of fs a ∷ fs) b) →
       ((x : Holds (form_of fs a)) → As (boxed (form_of (form_of fs a ∷ fs) b)) (evaluated texts parameters n calls (form_of fs a ∷ fs) (x, env) b) (l (boxed (form_of fs a) x))) → Means (Let a b) (m >>= l)
   unfolding evaluated
   let_is a b m l p v h = record {
@@ -71,13 +71,13 @@ module _ (texts : List (List ℕ)) (parameters : List (List Kind)) (n : ℕ) (ca
         ∙ bind_as (boxed (form_of fs a)) (Eval a) m (λ x. evaluated texts parameters n calls (form_of fs a ∷ fs) (x, env) b >>= λ z. give (boxed (form_of (form_of fs a ∷ fs) b) z)) l p.means h;
   }
 
-  pub let_in : (a b : Code) (m : Doing Value) (l : Value → Doing Value) → Means a m →
+  pub let_in : (a b : Code) (m : Execution Value) (l : Value → Execution Value) → Means a m →
       ((x : Holds (form_of fs a)) → Is texts parameters n calls (form_of fs a ∷ fs) (x, env) b (l (boxed (form_of fs a) x))) → Means (Let a b) (m >>= l)
   let_in a b m l p h = let_is a b m l p (h (some_value (form_of fs a) p.valued)).valued (λ x. (h x).means)
 
   -- what is stored is the answer
-  pub let_stored : (s e : Code) (m : Doing Value) (place : Place) → Means e m →
-      ((x : Holds (form_of fs e)) (K : Doing Value) → (evaluated texts parameters n calls (form_of fs e ∷ fs) (x, env) s >> K) ≡ (store_place place (boxed (form_of fs e) x) >> K)) →
+  pub let_stored : (s e : Code) (m : Execution Value) (place : Place) → Means e m →
+      ((x : Holds (form_of fs e)) (K : Execution Value) → (evaluated texts parameters n calls (form_of fs e ∷ fs) (x, env) s >> K) ≡ (store_place place (boxed (form_of fs e) x) >> K)) →
       Means (Let e (Seq s (moved 0))) (m >>= λ v. stored place v)
   unfolding evaluated
   let_stored s e m place p h =
@@ -86,13 +86,13 @@ module _ (texts : List (List ℕ)) (parameters : List (List Kind)) (n : ℕ) (ca
 
   -- Variables.
 
-  pub store_variable_is : {C : Type 0} (x : Variable) (b : Bool) (j : ℕ) (K : Doing C) → (Eval (store_variable_code x (Bound b j)) >> K) ≡ (store_variable x (boxed (form_at fs j) (held fs env j)) >> K)
+  pub store_variable_is : {C : Type 0} (x : Variable) (b : Bool) (j : ℕ) (K : Execution C) → (Eval (store_variable_code x (Bound b j)) >> K) ≡ (store_variable x (boxed (form_at fs j) (held fs env j)) >> K)
   unfolding evaluated all_evaluated
   store_variable_is (names.Global i) b j K = refl
   store_variable_is (names.Parameter i) b j K = refl
-  store_variable_is (Reserved s) b j K = λ k. does row.SetSpecial (or_constant constant.Special (special_again s k), (boxed (form_at fs j) (held fs env j), tt)) >> K
+  store_variable_is (Reserved s) b j K = λ k. call row.SetSpecial (or_constant constant.Special (special_again s k), (boxed (form_at fs j) (held fs env j), tt)) >> K
 
-  pub set_variable_is : (x : Variable) (e : Code) (m : Doing Value) → Means e m → Means (set_variable_code x e) (m >>= λ v. stored (Named x) v)
+  pub set_variable_is : (x : Variable) (e : Code) (m : Execution Value) → Means e m → Means (set_variable_code x e) (m >>= λ v. stored (Named x) v)
   unfolding evaluated all_evaluated
   set_variable_is (names.Global i) e m p = record {
     valued = p.valued;
@@ -108,10 +108,10 @@ module _ (texts : List (List ℕ)) (parameters : List (List Kind)) (n : ℕ) (ca
   }
   set_variable_is (Reserved s) e m p =
       let_stored (store_variable_code (Reserved s) (copied 0)) e m (Named (Reserved s)) p
-      (λ x K k. does row.SetSpecial (or_constant constant.Special (special_again s k), (boxed (form_of fs e) x, tt)) >> K)
+      (λ x K k. call row.SetSpecial (or_constant constant.Special (special_again s k), (boxed (form_of fs e) x, tt)) >> K)
 
-  pub element_stored : {C : Type 0} (a : ArrayName) (b c : Bool) (i j : ℕ) (K : Doing C) →
-      (Eval (host row.SetElem (At (Array a) (two (Bound b i) (Bound c j)))) >> K) ≡ ((array_number a >>= λ x. does row.SetElem (x, (boxed (form_at fs i) (held fs env i), (boxed (form_at fs j) (held fs env j), tt)))) >> K)
+  pub element_stored : {C : Type 0} (a : ArrayName) (b c : Bool) (i j : ℕ) (K : Execution C) →
+      (Eval (host row.SetElem (At (Array a) (two (Bound b i) (Bound c j)))) >> K) ≡ ((array_number a >>= λ x. call row.SetElem (x, (boxed (form_at fs i) (held fs env i), (boxed (form_at fs j) (held fs env j), tt)))) >> K)
   unfolding evaluated all_evaluated
   element_stored (Numbered x) b c i j K = refl
   element_stored (Given x) b c i j K = refl
@@ -130,10 +130,10 @@ module _ (scope : Scope) where
   next_placed t f x fs env i place p = p
 
 module _ (texts : List (List ℕ)) (parameters : List (List Kind)) (n : ℕ) (calls : Calls) (scope : Scope) where
-  abbrev In : (fs : List Form) → Env fs → Code → Doing Value → Type 0
+  abbrev In : (fs : List Form) → Env fs → Code → Execution Value → Type 0
   In fs env e m = Is texts parameters n calls fs env e m
 
-  abbrev Ev : (fs : List Form) → Env fs → (e : Code) → Doing (Holds (form_of fs e))
+  abbrev Ev : (fs : List Form) → Env fs → (e : Code) → Execution (Holds (form_of fs e))
   Ev fs env e = evaluated texts parameters n calls fs env e
 
   pub read_is : (t : Tree) (fs : List Form) (env : Env fs) (i : ℕ) (place : Place) → Placed scope t fs env i place → In fs env (read_at (target_in texts scope t) i) (read_place place)
@@ -144,10 +144,10 @@ module _ (texts : List (List ℕ)) (parameters : List (List Kind)) (n : ℕ) (ca
       (element_is texts parameters n calls fs env (array_of scope x) (copied i) (give (boxed (form_at fs i) (held fs env i))) (bound_is texts parameters n calls fs env false i p.0)) (ap read_place (sym p.1))
   read_is t fs env i place p = record {
     valued = tt;
-    means = (λ k. (settled (then_row (p.1 k) (λ m. Ok (m, tt))) >>= λ g. does row.Field g) >>= λ z. give z) ∙ given (does row.Field (p.0, tt)) ∙ ap read_place (sym p.2);
+    means = (λ k. (settled (then_row (p.1 k) (λ m. Ok (m, tt))) >>= λ g. call row.Field g) >>= λ z. give z) ∙ given (call row.Field (p.0, tt)) ∙ ap read_place (sym p.2);
   }
 
-  pub store_is : {C : Type 0} (t : Tree) (fs : List Form) (env : Env fs) (i : ℕ) (b : Bool) (j : ℕ) (place : Place) (K : Doing C) → Placed scope t fs env i place →
+  pub store_is : {C : Type 0} (t : Tree) (fs : List Form) (env : Env fs) (i : ℕ) (b : Bool) (j : ℕ) (place : Place) (K : Execution C) → Placed scope t fs env i place →
       (Ev fs env (store_at (target_in texts scope t) i (Bound b j)) >> K) ≡ (store_place place (boxed (form_at fs j) (held fs env j)) >> K)
   unfolding evaluated all_evaluated
   store_is (Var x) fs env i b j place K p =
@@ -155,9 +155,9 @@ module _ (texts : List (List ℕ)) (parameters : List (List Kind)) (n : ℕ) (ca
   store_is (Index x ts) fs env i b j place K p =
       element_stored texts parameters n calls fs env (array_of scope x) true b i j K ∙ (λ k. store_place (sym p.1 k) (boxed (form_at fs j) (held fs env j)) >> K)
   store_is t fs env i b j place K p =
-      (λ k. (settled (then_row (p.1 k) (λ m. Ok (m, (boxed (form_at fs j) (held fs env j), tt)))) >>= λ g. does row.SetField g) >> K) ∙ (λ k. store_place (sym p.2 k) (boxed (form_at fs j) (held fs env j)) >> K)
+      (λ k. (settled (then_row (p.1 k) (λ m. Ok (m, (boxed (form_at fs j) (held fs env j), tt)))) >>= λ g. call row.SetField g) >> K) ∙ (λ k. store_place (sym p.2 k) (boxed (form_at fs j) (held fs env j)) >> K)
 
-  pub stored_is : (t : Tree) (fs : List Form) (env : Env fs) (i : ℕ) (e : Code) (m : Doing Value) (place : Place) → Placed scope t fs env i place → In fs env e m → In fs env (stored_at (target_in texts scope t) i e) (m >>= λ v. stored place v)
+  pub stored_is : (t : Tree) (fs : List Form) (env : Env fs) (i : ℕ) (e : Code) (m : Execution Value) (place : Place) → Placed scope t fs env i place → In fs env e m → In fs env (stored_at (target_in texts scope t) i e) (m >>= λ v. stored place v)
   unfolding evaluated all_evaluated
   stored_is (Var x) fs env i e m place p q =
       retold texts parameters n calls fs env (set_variable_code (variable_of scope x) e) (m >>= λ v. stored (Named (variable_of scope x)) v) (m >>= λ v. stored place v) (set_variable_is texts parameters n calls fs env (variable_of scope x) e m q) (λ k. m >>= λ v. stored (sym p k) v)
@@ -166,8 +166,8 @@ module _ (texts : List (List ℕ)) (parameters : List (List Kind)) (n : ℕ) (ca
       (λ x K. store_is t (form_of fs e ∷ fs) (x, env) (suc i) false 0 place K (next_placed scope t (form_of fs e) x fs env i place p))
 
   -- An assignment with an operator: right side, old value, result.
-  pub updated_is : (o : Operation) (operator : Operator) (t : Tree) (fs : List Form) (env : Env fs) (right : Code) (m : Doing Value) (place : Place) → Placed scope t fs env 0 place → In fs env right m →
-      ((gs : List Form) (env1 : Env gs) (a b : Code) (l r : Doing Value) → In gs env1 a l → In gs env1 b r → In gs env1 (Do o (two a b)) (l >>= λ x. r >>= λ y. computed operator x y)) →
+  pub updated_is : (o : Operation) (operator : Operator) (t : Tree) (fs : List Form) (env : Env fs) (right : Code) (m : Execution Value) (place : Place) → Placed scope t fs env 0 place → In fs env right m →
+      ((gs : List Form) (env1 : Env gs) (a b : Code) (l r : Execution Value) → In gs env1 a l → In gs env1 b r → In gs env1 (Do o (two a b)) (l >>= λ x. r >>= λ y. computed operator x y)) →
       In fs env (updated_at o (target_in texts scope t) right) (m >>= λ x. read_place place >>= λ old. computed operator old x >>= λ result. stored place result)
   unfolding evaluated all_evaluated
   updated_is o operator t fs env right m place p q op =
@@ -182,7 +182,7 @@ module _ (texts : List (List ℕ)) (parameters : List (List Kind)) (n : ℕ) (ca
 
   -- A step: the old value, as a number, and one more or less.
 
-  step_is : (s : token.Step) (fs : List Form) (env : Env fs) (a : Code) (l : Doing Value) → In fs env a l → In fs env (Do (step_of s) (two a one_code)) (l >>= λ x. number_in x >>= λ m. step_operator s m one_number >>= λ r. give (numeric r))
+  step_is : (s : token.Step) (fs : List Form) (env : Env fs) (a : Code) (l : Execution Value) → In fs env a l → In fs env (Do (step_of s) (two a one_code)) (l >>= λ x. number_in x >>= λ m. step_operator s m one_number >>= λ r. give (numeric r))
   step_is token.Increment fs env a l p = inline_is texts parameters n calls fs env inline.Plus a one_code l (give (numeric one_number)) p (number_is texts parameters n calls fs env one_number)
   step_is token.Decrement fs env a l p = inline_is texts parameters n calls fs env inline.Minus a one_code l (give (numeric one_number)) p (number_is texts parameters n calls fs env one_number)
 
@@ -200,7 +200,7 @@ module _ (texts : List (List ℕ)) (parameters : List (List Kind)) (n : ℕ) (ca
       (λ m. assoc (step_operator s m one_number) (λ r. give (numeric r)) (λ v. stored place v))))
 
   -- the number before the step
-  old_number : (fs : List Form) (env : Env fs) (a : Code) (l : Doing Value) → In fs env a l → Ev fs env (Do AsNumber (one a)) ≡ (l >>= λ x. number_in x)
+  old_number : (fs : List Form) (env : Env fs) (a : Code) (l : Execution Value) → In fs env a l → Ev fs env (Do AsNumber (one a)) ≡ (l >>= λ x. number_in x)
   unfolding evaluated all_evaluated
   old_number fs env a l p =
       one_operand texts parameters n calls fs env a l p (λ vs. settled (row_of fs (argument.Of sort.Number ∷ []) (one a) vs) >>= λ g. give g.0) (λ x. number_in x)
@@ -245,8 +245,8 @@ module _ (texts : List (List ℕ)) (parameters : List (List Kind)) (n : ℕ) (ca
   store_text : (t : Tree) (fs : List Form) (env : Env fs) (place : Place) → Placed scope t fs env 0 place → (text : Value) → (Ev (a_value ∷ fs) (text, env) (store_at (target_in texts scope t) 1 (moved 0)) >> nothing) ≡ store_place place text
   store_text t fs env place p text = store_is t (a_value ∷ fs) (text, env) 1 true 0 place nothing (next_placed scope t a_value text fs env 0 place p) ∙ silent (store_place place text)
 
-  read_same : (place : Place) (S : Value → Doing (Unit {0})) → ((text : Value) → S text ≡ store_place place text) → (a : InputAnswer) → (when_read S a >>= λ z. give (numeric z)) ≡ received place a
-  read_same place S h input.Read = flat (does row.Line tt) S (λ text u. give one_number) (λ z. give (numeric z)) ∙ (λ k. does row.Line tt >>= λ text. h text k >> give (numeric one_number))
+  read_same : (place : Place) (S : Value → Execution (Unit {0})) → ((text : Value) → S text ≡ store_place place text) → (a : InputAnswer) → (when_read S a >>= λ z. give (numeric z)) ≡ received place a
+  read_same place S h input.Read = flat (call row.Line tt) S (λ text u. give one_number) (λ z. give (numeric z)) ∙ (λ k. call row.Line tt >>= λ text. h text k >> give (numeric one_number))
   read_same place S h input.End = refl
   read_same place S h input.Pending = refl
   read_same place S h input.Failed = refl
@@ -261,28 +261,28 @@ module _ (texts : List (List ℕ)) (parameters : List (List Kind)) (n : ℕ) (ca
         (read_same place (λ text. Ev (a_value ∷ fs) (text, env) (store_at (target_in texts scope t) 1 (moved 0)) >> nothing) (store_text t fs env place p));
   }
 
-  pub file_line_is : (t : Tree) (fs : List Form) (env : Env fs) (e : Code) (m : Doing Value) (place : Place) → Placed scope t fs env 0 place → In fs env e m →
-      In fs env (FileLine e (store_at (target_in texts scope t) 1 (moved 0))) (m >>= λ file. does row.GetlineVarFile (file, tt) >>= λ answer. received place answer)
+  pub file_line_is : (t : Tree) (fs : List Form) (env : Env fs) (e : Code) (m : Execution Value) (place : Place) → Placed scope t fs env 0 place → In fs env e m →
+      In fs env (FileLine e (store_at (target_in texts scope t) 1 (moved 0))) (m >>= λ file. call row.GetlineVarFile (file, tt) >>= λ answer. received place answer)
   unfolding evaluated all_evaluated
   file_line_is t fs env e m place p q = record {
     valued = tt;
     means =
-        flat (Ev fs env e) (λ file. does row.GetlineVarFile (boxed (form_of fs e) file, tt)) (λ file. when_read (λ text. Ev (a_value ∷ fs) (text, env) (store_at (target_in texts scope t) 1 (moved 0)) >> nothing)) (λ z. give (numeric z))
-        ∙ bind_as (boxed (form_of fs e)) (Ev fs env e) m (λ file. does row.GetlineVarFile (boxed (form_of fs e) file, tt) >>= λ a. when_read (λ text. Ev (a_value ∷ fs) (text, env) (store_at (target_in texts scope t) 1 (moved 0)) >> nothing) a >>= λ z. give (numeric z))
-        (λ file. does row.GetlineVarFile (file, tt) >>= λ answer. received place answer) q.means
-        (λ file. under (does row.GetlineVarFile (boxed (form_of fs e) file, tt)) (λ a. when_read (λ text. Ev (a_value ∷ fs) (text, env) (store_at (target_in texts scope t) 1 (moved 0)) >> nothing) a >>= λ z. give (numeric z)) (λ answer. received place answer)
+        flat (Ev fs env e) (λ file. call row.GetlineVarFile (boxed (form_of fs e) file, tt)) (λ file. when_read (λ text. Ev (a_value ∷ fs) (text, env) (store_at (target_in texts scope t) 1 (moved 0)) >> nothing)) (λ z. give (numeric z))
+        ∙ bind_as (boxed (form_of fs e)) (Ev fs env e) m (λ file. call row.GetlineVarFile (boxed (form_of fs e) file, tt) >>= λ a. when_read (λ text. Ev (a_value ∷ fs) (text, env) (store_at (target_in texts scope t) 1 (moved 0)) >> nothing) a >>= λ z. give (numeric z))
+        (λ file. call row.GetlineVarFile (file, tt) >>= λ answer. received place answer) q.means
+        (λ file. under (call row.GetlineVarFile (boxed (form_of fs e) file, tt)) (λ a. when_read (λ text. Ev (a_value ∷ fs) (text, env) (store_at (target_in texts scope t) 1 (moved 0)) >> nothing) a >>= λ z. give (numeric z)) (λ answer. received place answer)
         (read_same place (λ text. Ev (a_value ∷ fs) (text, env) (store_at (target_in texts scope t) 1 (moved 0)) >> nothing) (store_text t fs env place p)));
   }
 
-  replaced_same : (place : Place) (S : Value → Doing (Unit {0})) → ((text : Value) → S text ≡ store_place place text) → (count : AnyNumber) → (when_replaced S count >>= λ z. give (numeric z)) ≡ replaced_in place count
+  replaced_same : (place : Place) (S : Value → Execution (Unit {0})) → ((text : Value) → S text ≡ store_place place text) → (count : AnyNumber) → (when_replaced S count >>= λ z. give (numeric z)) ≡ replaced_in place count
   replaced_same place S h count =
-      assoc (if is_zero count.number then nothing else (does row.SubResult tt >>= S)) (λ u. give count) (λ z. give (numeric z))
-      ∙ (λ k. (if is_zero count.number then nothing else (does row.SubResult tt >>= λ text. h text k)) >> give (numeric count))
+      assoc (if is_zero count.number then nothing else (call row.SubResult tt >>= S)) (λ u. give count) (λ z. give (numeric z))
+      ∙ (λ k. (if is_zero count.number then nothing else (call row.SubResult tt >>= λ text. h text k)) >> give (numeric count))
 
   -- expression and replacement were kept before the place
   pub substituted_is : (all : Bool) (t : Tree) (fs : List Form) (env : Env fs) (place : Place) → Placed scope t fs env 0 place → Valued (form_at fs (suc (kept_at (target_in texts scope t)))) → Valued (form_at fs (kept_at (target_in texts scope t))) →
       In fs env (substituted_at all (target_in texts scope t))
-      (read_place place >>= λ old. does row.Sub (boxed (form_at fs (suc (kept_at (target_in texts scope t)))) (held fs env (suc (kept_at (target_in texts scope t)))), (boxed (form_at fs (kept_at (target_in texts scope t))) (held fs env (kept_at (target_in texts scope t))), (old, (all, tt)))) >>= λ count. replaced_in place count)
+      (read_place place >>= λ old. call row.Sub (boxed (form_at fs (suc (kept_at (target_in texts scope t)))) (held fs env (suc (kept_at (target_in texts scope t)))), (boxed (form_at fs (kept_at (target_in texts scope t))) (held fs env (kept_at (target_in texts scope t))), (old, (all, tt)))) >>= λ count. replaced_in place count)
   unfolding evaluated all_evaluated
   substituted_is all t fs env place p v w =
       let i = suc (kept_at (target_in texts scope t)) in
@@ -295,8 +295,8 @@ module _ (texts : List (List ℕ)) (parameters : List (List Kind)) (n : ℕ) (ca
             ∙ three_operands texts parameters n calls fs env (moved i) (moved j) (read_at (target_in texts scope t) 0) (give (boxed (form_at fs i) (held fs env i))) (give (boxed (form_at fs j) (held fs env j))) (read_place place)
             (bound_is texts parameters n calls fs env true i v) (bound_is texts parameters n calls fs env true j w) (read_is t fs env 0 place p)
             (λ vs. (settled (row_of fs three_values (At (moved i) (At (moved j) (At (read_at (target_in texts scope t) 0) End))) vs) >>= λ given. replacing all given >>= when_replaced S) >>= λ z. give (numeric z))
-            (λ x y z. does row.Sub (x, (y, (z, (all, tt)))) >>= λ count. replaced_in place count)
-            (λ x y z. assoc (does row.Sub (boxed (form_at fs i) x, (boxed (form_at fs j) y, (boxed (form_of fs (read_at (target_in texts scope t) 0)) z, (all, tt))))) (when_replaced S) (λ u. give (numeric u))
-            ∙ under (does row.Sub (boxed (form_at fs i) x, (boxed (form_at fs j) y, (boxed (form_of fs (read_at (target_in texts scope t) 0)) z, (all, tt))))) (λ count. when_replaced S count >>= λ u. give (numeric u)) (λ count. replaced_in place count)
+            (λ x y z. call row.Sub (x, (y, (z, (all, tt)))) >>= λ count. replaced_in place count)
+            (λ x y z. assoc (call row.Sub (boxed (form_at fs i) x, (boxed (form_at fs j) y, (boxed (form_of fs (read_at (target_in texts scope t) 0)) z, (all, tt))))) (when_replaced S) (λ u. give (numeric u))
+            ∙ under (call row.Sub (boxed (form_at fs i) x, (boxed (form_at fs j) y, (boxed (form_of fs (read_at (target_in texts scope t) 0)) z, (all, tt))))) (λ count. when_replaced S count >>= λ u. give (numeric u)) (λ count. replaced_in place count)
             (replaced_same place S (store_text t fs env place p)));
       }

@@ -3,17 +3,17 @@ use Rattle.std.proofs.Common.{Option, Some, None, subst}
 use Rattle.awk_values.specs.declared.fault.Fault.{Fault}
 use Rattle.sem_primitives.specs.Jobs.{fault_of_job}
 use Rattle.sem_scripts.specs.Names.{Resolved}
-use Rattle.sem_scripts.specs.ScriptState.{State, Faulted, OutOfTurns, TooDeep, Nexted, Exited, Returned, Outcome, Gives, Stops, Doing}
+use Rattle.sem_scripts.specs.ScriptState.{State, Faulted, OutOfTurns, TooDeep, Nexted, Exited, Returned, Outcome, Gives, Stops, Execution}
 use Rattle.sem_scripts.specs.ScriptRun.{Ending, all_parts, ending, resolved_run, start, unless}
 use Rattle.sem_scripts.specs.Names.{names_length}
 use Rattle.std.specs.Prelude.{map}
-use Rattle.sem_scripts.specs.Kept.{IsKept, IsNoExhaustion, MoreTurnsKeep, NeverTooDeep}
+use Rattle.sem_scripts.specs.MoreTurns.{IsKept, IsNoExhaustion, MoreTurnsKeep, NeverTooDeep}
 use Rattle.mid_program.specs.Mid.{Program}
 use Rattle.mid_program.specs.MidMeaning.{global_name, mid_parts, mid_run_in}
 use Rattle.mid_program.specs.Translation.{program_of}
 use Rattle.mid_code.proofs.Scripts.{code_ends_as}
-use Rattle.mid_code.proofs.Tame.{Fits, program_shallow}
-use Rattle.mid_code.proofs.Steady.{more_turns_keep}
+use Rattle.mid_code.proofs.OutputGrows.{Fits, program_shallow}
+use Rattle.mid_code.proofs.FuelMonotone.{more_turns_keep}
 
 pub code_keeps : (p : Program) → MoreTurnsKeep (mid_run_in p)
 code_keeps p setting few many l = more_turns_keep p setting few many l
@@ -32,7 +32,7 @@ no_exhaustion before (Stops Nexted state) f = tt
 no_exhaustion before (Stops Exited state) f = tt
 no_exhaustion before (Stops (Returned x) state) f = tt
 
-unless_fits : (fault : Option Fault) (m : Doing (Unit {0})) (state : State) → Fits state (m state) → IsNoExhaustion (ending (unless fault m state))
+unless_fits : (fault : Option Fault) (m : Execution (Unit {0})) (state : State) → Fits state (m state) → IsNoExhaustion (ending (unless fault m state))
 unless_fits (Some fault) m state f = tt
 unless_fits None m state f = no_exhaustion state (m state) f
 

@@ -3,7 +3,7 @@ use Rattle.std.proofs.Common.{◌≡◌, ℕ, zero, suc, ◌+◌, Bool, true, fa
 use Rattle.std.specs.Prelude.{if◌then◌else◌}
 use Rattle.awk_grammar.specs.Tree.{Tree}
 use Rattle.sem_scripts.specs.Names.{Scope}
-use Rattle.sem_scripts.specs.ScriptState.{Doing, ◌>>=◌, ◌>>◌, give, look}
+use Rattle.sem_scripts.specs.ScriptState.{Execution, ◌>>=◌, ◌>>◌, give, look}
 use Rattle.sem_scripts.specs.Meaning.{Calls}
 use Rattle.mid_program.specs.MidMeaning.{evaluated}
 use Rattle.mid_program.specs.Translation.{code_of}
@@ -29,7 +29,7 @@ use Rattle.mid_program.specs.MidMeaning.{EndsAs, global_name, routine_name, mid_
 use Rattle.mid_program.specs.Texts.{texts_of_script}
 use Rattle.mid_program.specs.Translation.{where_code, items_code, begin_code, end_code, routine_code, program_with, program_of}
 use Rattle.mid_code.proofs.Expressions.{chosen}
-use Rattle.mid_program.specs.Mid.{Kind, Boxed, Many, parameters_at}
+use Rattle.mid_program.specs.Mid.{Kind, Boxed, ArrayKind, parameters_at}
 use Rattle.mid_program.specs.Sorted.{calls_of, is_many}
 use Rattle.mid_program.specs.Texts.{stmt_texts, all_texts}
 use Rattle.sem_scripts.specs.Names.{Name}
@@ -38,11 +38,11 @@ use Rattle.mid_code.proofs.Trees.{Heads}
 use Rattle.mid_code.proofs.Statements.{alone, plainly, holds_same, steps_same}
 
 -- what a test decides to do, as a statement
-decided : (c : Doing Bool) (m : Doing (Unit {0})) → (c >>= λ b. if b then (m >> give Normal) else give Normal) ≡ ((c >>= λ b. if b then m else nothing) >> give Normal)
+decided : (c : Execution Bool) (m : Execution (Unit {0})) → (c >>= λ b. if b then (m >> give Normal) else give Normal) ≡ ((c >>= λ b. if b then m else nothing) >> give Normal)
 decided c m = sym (assoc c (λ b. if b then m else nothing) (λ u. give Normal) ∙ under c (λ b. (if b then m else nothing) >> give Normal) (λ b. if b then (m >> give Normal) else give Normal) (λ b. chosen b m nothing (λ u. give Normal) (m >> give Normal) (give Normal) refl refl))
 
 -- the other way round
-unless_so : (c : Doing Bool) (m : Doing (Unit {0})) → (c >>= λ b. if b then give Normal else (m >> give Normal)) ≡ ((c >>= λ b. if b then nothing else m) >> give Normal)
+unless_so : (c : Execution Bool) (m : Execution (Unit {0})) → (c >>= λ b. if b then give Normal else (m >> give Normal)) ≡ ((c >>= λ b. if b then nothing else m) >> give Normal)
 unless_so c m = sym (assoc c (λ b. if b then nothing else m) (λ u. give Normal) ∙ under c (λ b. (if b then nothing else m) >> give Normal) (λ b. if b then give Normal else (m >> give Normal)) (λ b. chosen b nothing m (λ u. give Normal) (give Normal) (m >> give Normal) refl refl))
 
 print_stands : (texts : List (List ℕ)) → AllStand texts (stmts_texts print_record)
@@ -50,7 +50,7 @@ unfolding stmt_texts stmts_texts texts_in all_texts
 print_stands texts = tt
 
 module _ (texts : List (List ℕ)) (parameters : List (List Kind)) (n : ℕ) (calls : Calls) (scope : Scope) (heads : Heads parameters scope) where
-  abbrev run : Step → Doing Flow
+  abbrev run : Step → Execution Flow
   run s = stepped texts parameters n calls s
 
   abbrev marking : ℕ → Bool → Tree → Step
@@ -68,14 +68,14 @@ module _ (texts : List (List ℕ)) (parameters : List (List Kind)) (n : ℕ) (ca
       (λ j. look (range_open i) >>= λ c. if c then give Normal else marked i true t f j)
       ∙ unless_so (look (range_open i)) (test_of scope n calls t >>= λ c. if c then change (with_range i true) else nothing)
 
-  closes : (i : ℕ) (u : Tree) (s : Step) (action : Doing Flow) → AllStand texts (texts_in u) → run s ≡ action →
+  closes : (i : ℕ) (u : Tree) (s : Step) (action : Execution Flow) → AllStand texts (texts_in u) → run s ≡ action →
       run (If (IsOpen i) (Block (Then (marking i false u) (Then s NoStep))) (Block NoStep)) ≡ (look (range_open i) >>= λ now. if now then (range_closes scope n calls i u >> action) else give Normal)
   unfolding stepped all_stepped evaluated
   closes i u s action f p =
       (λ j. look (range_open i) >>= λ now. if now then (marked i false u f j >>= λ flow. after flow (alone (run s) j)) else give Normal)
       ∙ (λ j. look (range_open i) >>= λ now. if now then (plainly (range_closes scope n calls i u) (p j) j) else give Normal)
 
-  met_same : (i : ℕ) (p : Pattern) (s : Step) (action : Doing Flow) → AllStand texts (pattern_texts p) → run s ≡ action → run (where_code texts scope i p s) ≡ where_met scope n calls i p action
+  met_same : (i : ℕ) (p : Pattern) (s : Step) (action : Execution Flow) → AllStand texts (pattern_texts p) → run s ≡ action → run (where_code texts scope i p s) ≡ where_met scope n calls i p action
   unfolding stepped all_stepped
   met_same i (item.One t) s action f p = λ j. holds_same texts parameters n calls scope heads t f j >>= λ b. if b then p j else give Normal
   met_same i (item.Between t u) s action f p =
@@ -142,7 +142,7 @@ called_same texts script fine (suc n) =
 
 -- the names are the same
 
-is_array_again : (b : Bool) → is_many (if b then Many else Boxed) ≡ b
+is_array_again : (b : Bool) → is_many (if b then ArrayKind else Boxed) ≡ b
 is_array_again true = refl
 is_array_again false = refl
 

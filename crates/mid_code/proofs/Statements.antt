@@ -15,7 +15,7 @@ use Rattle.awk_grammar.specs.Stmt as stmt
 use Rattle.awk_grammar.specs.Stmt.{Stmt, Stmts, NoStmt, And, Args, Target, Printing}
 use Rattle.sem_scripts.specs.Names.{Scope, Variable, Reserved, ArrayName, array_of, variable_of}
 use Rattle.sem_scripts.specs.Names as names
-use Rattle.sem_scripts.specs.ScriptState.{Outcome, Gives, Stops, Doing, go_on, ◌>>=◌, ◌>>◌, give, nothing, settled, stop, change, does, does_listed, Nexted, Exited, Returned}
+use Rattle.sem_scripts.specs.ScriptState.{Outcome, Gives, Stops, Execution, go_on, ◌>>=◌, ◌>>◌, give, nothing, settled, stop, change, call, call_listed, Nexted, Exited, Returned}
 use Rattle.sem_scripts.specs.Steps.{number_in, array_number, store_variable}
 use Rattle.sem_scripts.specs.Meaning.{Calls, value_of, values_of, key_of}
 use Rattle.sem_scripts.specs.Statements.{Flow, Normal, Broke, Continued, after, after_round, loop, over_keys, operands_of, with_last, with_target, destination_of, listed_of, put, with_status, test_of, maybe_test, plain_done, maybe_done, done_by, all_done}
@@ -36,14 +36,14 @@ alone_by (Gives Continued state) = refl
 alone_by (Stops why state) = refl
 
 -- a statement alone
-pub alone : (m : Doing Flow) → (m >>= λ flow. after flow (give Normal)) ≡ m
+pub alone : (m : Execution Flow) → (m >>= λ flow. after flow (give Normal)) ≡ m
 alone m = λ i state. alone_by (m state) i
 
 -- what gives nothing, and then goes on as a statement does
-pub plainly : (m : Doing (Unit {0})) (rest : Doing Flow) → ((m >> give Normal) >>= λ flow. after flow rest) ≡ (m >> rest)
+pub plainly : (m : Execution (Unit {0})) (rest : Execution Flow) → ((m >> give Normal) >>= λ flow. after flow rest) ≡ (m >> rest)
 plainly m rest = assoc m (λ u. give Normal) (λ flow. after flow rest)
 
-pub quietly : (m : Doing (Unit {0})) → ((m >> give Normal) >> nothing) ≡ m
+pub quietly : (m : Execution (Unit {0})) → ((m >> give Normal) >> nothing) ≡ m
 quietly m = assoc m (λ u. give Normal) (λ flow. nothing) ∙ given m
 
 -- the operands of a print statement, with its target
@@ -66,19 +66,19 @@ put_stand texts args (stmt.Written t) h = last_stand texts (operands_of args) t 
 put_stand texts args (stmt.Appended t) h = last_stand texts (operands_of args) t (operands_stand texts args (first_part texts (args_texts args) (texts_in t) h)) (second_part texts (args_texts args) (texts_in t) h)
 
 module _ (texts : List (List ℕ)) (parameters : List (List Kind)) (n : ℕ) (calls : Calls) (scope : Scope) (heads : Heads parameters scope) where
-  abbrev Eval : (e : Code) → Doing (Holds (form_of [] e))
+  abbrev Eval : (e : Code) → Execution (Holds (form_of [] e))
   Eval e = evaluated texts parameters n calls [] tt e
 
-  abbrev All : (es : Codes) → Doing (Values [] es)
+  abbrev All : (es : Codes) → Execution (Values [] es)
   All es = all_evaluated texts parameters n calls [] tt es
 
   abbrev code : Tree → Code
   code t = code_of texts scope t
 
-  abbrev meaning : Tree → Doing Value
+  abbrev meaning : Tree → Execution Value
   meaning t = value_of scope n calls t
 
-  abbrev run : Step → Doing Flow
+  abbrev run : Step → Execution Flow
   run s = stepped texts parameters n calls s
 
   pub holds_same : (t : Tree) → AllStand texts (texts_in t) → holds texts parameters n calls (code t) ≡ test_of scope n calls t
@@ -93,13 +93,13 @@ module _ (texts : List (List ℕ)) (parameters : List (List Kind)) (n : ℕ) (ca
   put_same : (p : Printing) (d : Destination) (ts : Trees) → AllStand texts (all_texts ts) → run (EvalStep (Over (listed_of p d) (codes_of texts scope ts))) ≡ ((values_of scope n calls ts >>= put (listed_of p d)) >> give Normal)
   unfolding evaluated all_evaluated stepped
   put_same stmt.Print d ts f =
-      over (All (codes_of texts scope ts) >>= λ vs. does_listed (listed.Print d) (listing [] (codes_of texts scope ts) vs)) (values_of scope n calls ts >>= put (listed.Print d)) (λ v. give Normal)
-      (bind_as (listing [] (codes_of texts scope ts)) (All (codes_of texts scope ts)) (values_of scope n calls ts) (λ vs. does_listed (listed.Print d) (listing [] (codes_of texts scope ts) vs)) (put (listed.Print d)) (values_same texts parameters n calls scope heads ts f [] tt) (λ vs. refl))
+      over (All (codes_of texts scope ts) >>= λ vs. call_listed (listed.Print d) (listing [] (codes_of texts scope ts) vs)) (values_of scope n calls ts >>= put (listed.Print d)) (λ v. give Normal)
+      (bind_as (listing [] (codes_of texts scope ts)) (All (codes_of texts scope ts)) (values_of scope n calls ts) (λ vs. call_listed (listed.Print d) (listing [] (codes_of texts scope ts) vs)) (put (listed.Print d)) (values_same texts parameters n calls scope heads ts f [] tt) (λ vs. refl))
   put_same stmt.Printf d ts f =
-      over (All (codes_of texts scope ts) >>= λ vs. does_listed (listed.Printf d) (listing [] (codes_of texts scope ts) vs)) (values_of scope n calls ts >>= put (listed.Printf d)) (λ v. give Normal)
-      (bind_as (listing [] (codes_of texts scope ts)) (All (codes_of texts scope ts)) (values_of scope n calls ts) (λ vs. does_listed (listed.Printf d) (listing [] (codes_of texts scope ts) vs)) (put (listed.Printf d)) (values_same texts parameters n calls scope heads ts f [] tt) (λ vs. refl))
+      over (All (codes_of texts scope ts) >>= λ vs. call_listed (listed.Printf d) (listing [] (codes_of texts scope ts) vs)) (values_of scope n calls ts >>= put (listed.Printf d)) (λ v. give Normal)
+      (bind_as (listing [] (codes_of texts scope ts)) (All (codes_of texts scope ts)) (values_of scope n calls ts) (λ vs. call_listed (listed.Printf d) (listing [] (codes_of texts scope ts) vs)) (put (listed.Printf d)) (values_same texts parameters n calls scope heads ts f [] tt) (λ vs. refl))
 
-  clear_same : (a : ArrayName) → run (EvalStep (host row.Clear (one (Array a)))) ≡ ((array_number a >>= λ i. does row.Clear (i, tt)) >> give Normal)
+  clear_same : (a : ArrayName) → run (EvalStep (host row.Clear (one (Array a)))) ≡ ((array_number a >>= λ i. call row.Clear (i, tt)) >> give Normal)
   unfolding evaluated all_evaluated stepped
   clear_same (names.Numbered i) = refl
   clear_same (names.Given i) = refl
@@ -110,9 +110,9 @@ module _ (texts : List (List ℕ)) (parameters : List (List Kind)) (n : ℕ) (ca
       bind_as (boxed (form_of [] (code t))) (Eval (code t)) (meaning t) (λ v. give Normal) (λ x. give Normal) p.means (λ v. refl) ∙ sym (assoc (meaning t) (λ x. nothing) (λ u. give Normal))
   plain_same (stmt.Put p args target) f = put_same p (destination_of target) (with_target (operands_of args) target) (put_stand texts args target f)
   plain_same (stmt.Delete a ts) f =
-      on_array texts parameters n calls [] tt (array_of scope a) (key_code texts scope ts) (key_of scope n calls ts) (same_key texts parameters n calls scope heads ts f [] tt) (λ vs. settled (row_of [] (arguments_of row.Delete) (two (array_code texts scope a) (key_code texts scope ts)) vs) >>= λ g. does row.Delete g) (λ z. give Normal)
-      (λ i key. does row.Delete (i, (key, tt)) >> give Normal) (λ i v. refl)
-      ∙ sym (flat (array_number (array_of scope a)) (λ i. key_of scope n calls ts) (λ i key. does row.Delete (i, (key, tt))) (λ u. give Normal))
+      on_array texts parameters n calls [] tt (array_of scope a) (key_code texts scope ts) (key_of scope n calls ts) (same_key texts parameters n calls scope heads ts f [] tt) (λ vs. settled (row_of [] (arguments_of row.Delete) (two (array_code texts scope a) (key_code texts scope ts)) vs) >>= λ g. call row.Delete g) (λ z. give Normal)
+      (λ i key. call row.Delete (i, (key, tt)) >> give Normal) (λ i v. refl)
+      ∙ sym (flat (array_number (array_of scope a)) (λ i. key_of scope n calls ts) (λ i key. call row.Delete (i, (key, tt))) (λ u. give Normal))
   plain_same (stmt.Clear a) f = clear_same (array_of scope a)
 
   maybe_same : (p : Option stmt.Plain) → AllStand texts (maybe_plain_texts p) → run (maybe_step texts scope p) ≡ (maybe_done scope n calls p >> give Normal)
@@ -127,7 +127,7 @@ module _ (texts : List (List ℕ)) (parameters : List (List Kind)) (n : ℕ) (ca
   unfolding evaluated all_evaluated
   keyed_same (names.Global i) = refl
   keyed_same (names.Parameter i) = refl
-  keyed_same (Reserved s) = λ j key. (given (does row.SetSpecial (or_constant constant.Special (special_at (special_number s)), (key, tt))) ∙ (λ i. does row.SetSpecial (or_constant constant.Special (special_again s i), (key, tt)))) j
+  keyed_same (Reserved s) = λ j key. (given (call row.SetSpecial (or_constant constant.Special (special_at (special_number s)), (key, tt))) ∙ (λ i. call row.SetSpecial (or_constant constant.Special (special_again s i), (key, tt)))) j
 
   exit_same : (t : Tree) → AllStand texts (texts_in t) → (Eval (code t) >>= λ v. settled (numbered (form_of [] (code t)) v) >>= λ m. change (with_status m) >>= λ u. stop Exited) ≡ (meaning t >>= λ x. number_in x >>= λ m. change (with_status m) >>= λ u. stop {A = Flow} Exited)
   exit_same t f = let p = same texts parameters n calls scope heads t f [] tt in
@@ -153,11 +153,11 @@ module _ (texts : List (List ℕ)) (parameters : List (List Kind)) (n : ℕ) (ca
         (λ j. maybe_same i (first_part texts (maybe_plain_texts i) (maybe_texts c ++ (maybe_plain_texts p ++ stmt_texts s)) f) j >>= λ flow. after flow (loop n (maybe_holds c (first_part texts (maybe_texts c) (maybe_plain_texts p ++ stmt_texts s) (second_part texts (maybe_plain_texts i) (maybe_texts c ++ (maybe_plain_texts p ++ stmt_texts s)) f)) j) (step_same s (second_part texts (maybe_plain_texts p) (stmt_texts s) (second_part texts (maybe_texts c) (maybe_plain_texts p ++ stmt_texts s) (second_part texts (maybe_plain_texts i) (maybe_texts c ++ (maybe_plain_texts p ++ stmt_texts s)) f))) j) (between_same p (first_part texts (maybe_plain_texts p) (stmt_texts s) (second_part texts (maybe_texts c) (maybe_plain_texts p ++ stmt_texts s) (second_part texts (maybe_plain_texts i) (maybe_texts c ++ (maybe_plain_texts p ++ stmt_texts s)) f))) j) >>= λ flow1. after flow1 (give Normal)))
         ∙ (λ j. (maybe_done scope n calls i >> give Normal) >>= λ flow. after flow (alone (loop n (maybe_test scope n calls c) (done_by scope n calls s) (maybe_done scope n calls p)) j))
         ∙ plainly (maybe_done scope n calls i) (loop n (maybe_test scope n calls c) (done_by scope n calls s) (maybe_done scope n calls p))
-    step_same (stmt.ForIn k a s) f = λ i. array_number (array_of scope a) >>= λ x. does row.Iter (x, tt) >>= λ keys. over_keys n keys (keyed_same (variable_of scope k) i) (step_same s f i)
+    step_same (stmt.ForIn k a s) f = λ i. array_number (array_of scope a) >>= λ x. call row.Iter (x, tt) >>= λ keys. over_keys n keys (keyed_same (variable_of scope k) i) (step_same s f i)
     step_same (stmt.Jumping stmt.Break) f = refl
     step_same (stmt.Jumping stmt.Continue) f = refl
     step_same (stmt.Jumping stmt.Next) f = refl
-    step_same (stmt.Jumping stmt.NextFile) f = plainly (does row.NextFile tt) (stop Nexted)
+    step_same (stmt.Jumping stmt.NextFile) f = plainly (call row.NextFile tt) (stop Nexted)
     step_same (stmt.Leave stmt.Exit None) f = refl
     step_same (stmt.Leave stmt.Exit (Some t)) f = exit_same t f
     step_same (stmt.Leave stmt.Return None) f = refl

@@ -7,7 +7,7 @@ use Rattle.std.specs.List.{list_any}
 use Rattle.std.specs.declared.alloc.Global.{Global}
 use Rattle.std.specs.declared.boxed.Box.{Box}
 use Rattle.indexmap.specs.IndexSet.{insert_key}
-use Rattle.awk_tokens.specs.declared.words.Builtin.{Builtin}
+use Rattle.awk_tokens.specs.declared.reserved_words.Builtin.{Builtin}
 use Rattle.awk_grammar.specs.View.{view as tree, views as trees}
 use Rattle.awk_grammar.specs.ViewStmt.{view_stmt, view_stmts}
 use Rattle.awk_grammar.specs.declared.tree.Expr.{Expr, Element, Call, Apply, InList}

@@ -1,7 +1,7 @@
 -- What a built-in function does with the code of one operand.
 use Rattle.sem_primitives.specs.declared.table.Primitive.TheVariants as row
-use Rattle.awk_tokens.specs.declared.words.Builtin.{Builtin}
-use Rattle.awk_tokens.specs.declared.words.Builtin.TheVariants as builtin
+use Rattle.awk_tokens.specs.declared.reserved_words.Builtin.{Builtin}
+use Rattle.awk_tokens.specs.declared.reserved_words.Builtin.TheVariants as builtin
 use Rattle.mid_program.specs.Mid.{Code, Do, Unset}
 use Rattle.mid_program.specs.Translation.{host, one}
 use Rattle.mid_program.specs.declared.mid.Operation.TheVariants.{AsNumber}

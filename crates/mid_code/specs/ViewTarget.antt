@@ -2,8 +2,8 @@
 use Rattle.std.specs.Prelude.{Bool, true, false, Option, Some, None}
 use Rattle.std.specs.declared.alloc.Global.{Global}
 use Rattle.std.specs.declared.boxed.Box.{Box}
-use Rattle.awk_tokens.specs.declared.words.Builtin.{Builtin}
-use Rattle.awk_tokens.specs.declared.words.Builtin.TheVariants.{Sub, Gsub}
+use Rattle.awk_tokens.specs.declared.reserved_words.Builtin.{Builtin}
+use Rattle.awk_tokens.specs.declared.reserved_words.Builtin.TheVariants.{Sub, Gsub}
 use Rattle.mid_program.specs.Mid as mid
 use Rattle.mid_program.specs.Translation as plain
 use Rattle.mid_program.specs.ViewCode.{view, view_array}

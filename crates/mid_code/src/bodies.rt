@@ -7,7 +7,7 @@ ghost use Rattle.sem_scripts.specs.Kinds.{bodies as bodies_of};
 ghost use Rattle.mid_code.specs.ViewBodies.{body_in};
 ghost use Rattle.mid_code.specs.ViewNames.{view_bodies};
 
-use crate::held::push;
+use crate::fallible::push;
 use awk_grammar::{Item, Script, Stmt};
 use std::alloc::{AllocError, Global};
 

@@ -8,7 +8,7 @@ ghost use Rattle.mid_program.specs.ViewCode.{view, view_slot, views};
 ghost use Rattle.mid_code.specs.Made.{Makes, MakesBoxed, MakesOperands};
 ghost use Rattle.mid_code.specs.ViewNames.{view_variable};
 
-use crate::held::{all_three, both, boxed, in_box, pair, single, triple};
+use crate::fallible::{all_three, both, boxed, in_box, pair, single, triple};
 use crate::names::Variable;
 use mid_program::{Code, Operand, Operation, Slot};
 use sem_primitives::{Listed, Primitive, Sort, Special};

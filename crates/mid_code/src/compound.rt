@@ -24,7 +24,7 @@ use crate::build::{
     applied, binary_on, kept_while, number, record, reserved, ternary, three, unary, unary_on,
     variable,
 };
-use crate::held::{all_three, both, boxed, in_box, push};
+use crate::fallible::{all_three, both, boxed, in_box, push};
 use crate::peek::ere_text;
 use crate::scope::Scope;
 use crate::target::{

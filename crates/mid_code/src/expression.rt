@@ -21,7 +21,7 @@ use crate::compound::{
     operand_of, part_of, passed, push_code, record_length, record_matches, split_into, step_place,
     step_place_after, string, substitute_place, substitute_record, truncated_quotient,
 };
-use crate::held::push_made;
+use crate::fallible::push_made;
 use crate::operators::{combined, conditional, constant, prefixed};
 use crate::peek::{bare_name, ere_in, is_ere, is_match, is_quotient};
 use crate::scope::Scope;

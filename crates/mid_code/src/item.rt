@@ -14,7 +14,7 @@ ghost use Rattle.mid_code.specs.ViewActions.{AddsItem};
 
 use crate::build::{over, record};
 use crate::expression::code;
-use crate::held::{push_made, single};
+use crate::fallible::{push_made, single};
 use crate::scope::Scope;
 use crate::statement::{block, branches, done_where, in_turn, nothing, steps};
 use awk_grammar::{Expr, Item, Pattern, Stmt};

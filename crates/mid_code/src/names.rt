@@ -6,7 +6,7 @@ ghost use Rattle.awk_resolve.specs.ViewKinds.{view_name_kinds};
 ghost use Rattle.sem_scripts.specs.Names.{arrays_before, function_number, kind_at, special_array, special_in, special_named, special_names};
 ghost use Rattle.mid_code.specs.ViewNames.{array_numbers, function_from, global_number, place_found, place_from, plain_special, script_of};
 
-use crate::held::{all_three, push};
+use crate::fallible::{all_three, push};
 use awk_resolve::{FunctionNames, NameKind, Resolved};
 use indexmap::IndexMap;
 use sem_primitives::Special;

@@ -10,7 +10,7 @@ ghost use Rattle.mid_program.specs.ViewCode.{view};
 ghost use Rattle.mid_code.specs.Made.{Makes};
 
 use crate::build::{binary, chosen, number, truth, unary, untruth};
-use crate::held::{all_three, both, in_box};
+use crate::fallible::{all_three, both, in_box};
 use awk_grammar::{BinaryOp, UnaryOp};
 use awk_text::number_of;
 use awk_values::CompareOp;

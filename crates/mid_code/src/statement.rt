@@ -18,7 +18,7 @@ ghost use Rattle.mid_code.specs.ViewScope.{scope_of, texts_of};
 use crate::build::{applied, over, record, store_variable};
 use crate::compound::{host_array, host_whole};
 use crate::expression::{code, key, push_operands};
-use crate::held::{all_three, both, in_box, pair, push, push_made, single};
+use crate::fallible::{all_three, both, in_box, pair, push, push_made, single};
 use crate::scope::Scope;
 use awk_grammar::{Expr, Jump, Leaving, PrintArgs, PrintTarget, PrintWord, SimpleStmt, Stmt};
 use mid_program::{Code, Operand, Operation, Step};

@@ -13,7 +13,7 @@ use crate::build::{
     binary, binary_on, kept_and_stored, kept_while, replaced, set_variable, store_variable,
     ternary, three, unary, unary_on, variable,
 };
-use crate::held::{both, in_box};
+use crate::fallible::{both, in_box};
 use crate::names::Variable;
 use crate::scope::Scope;
 use awk_grammar::{AssignOp, Expr, StepOp};

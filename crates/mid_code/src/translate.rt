@@ -12,7 +12,7 @@ ghost use Rattle.mid_code.specs.ViewScope.{scope_of, texts_of as texts_in};
 ghost use Rattle.mid_code.specs.ViewScript.{view_script_code};
 
 use crate::bodies::{bodies, body_at};
-use crate::held::{all_three, push, push_made};
+use crate::fallible::{all_three, push, push_made};
 use crate::item::{Actions, code_of_items, reads_records};
 use crate::names::Names;
 use crate::scope::Scope;
@@ -29,7 +29,7 @@ fn kind_of(name: &NameKind<'_>) -> Kind
     ensures { view_kind result ≡ kind_of (view_name name.now) }
 {
     if name.is_array {
-        Kind::Many
+        Kind::Array
     } else {
         Kind::Boxed
     }

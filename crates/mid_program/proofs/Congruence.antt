@@ -10,10 +10,10 @@ use Rattle.sem_primitives.specs.declared.sorts.Answer.TheVariants as answer
 use Rattle.sem_primitives.specs.declared.table.Primitive.TheVariants as row
 use Rattle.mid_program.specs.declared.mid.Operation.{Operation}
 use Rattle.sem_scripts.specs.Meaning.{Calls, asked}
-use Rattle.sem_scripts.specs.ScriptState.{State, Returned, Exited, Gives, Stops, Doing, ◌>>=◌, ◌>>◌, give, nothing, stop, change, settled, does, does_listed, asks, spend}
+use Rattle.sem_scripts.specs.ScriptState.{State, Returned, Exited, Gives, Stops, Execution, ◌>>=◌, ◌>>◌, give, nothing, stop, change, settled, call, call_listed, asks, spend}
 use Rattle.sem_scripts.specs.Statements.{Normal, after, after_round, loop, over_keys, with_status}
 use Rattle.sem_scripts.specs.Steps.{array_number, compared}
-use Rattle.mid_program.specs.Mid.{Kind, Slot, Code, Do, Over, Compare, Call, Ask, AskLine, FileLine, Replace, Number, Text, Unset, Get, Set, Array, IsOpen, Choose, Seq, Let, Bound, Codes, End, At, Fixed, Fresh, Step, Eval, Block, If, Loop, Each, Break, Continue, Next, Exit, ExitWith, Return, Mark, Steps, NoStep, Then, Form, Answered, a_value, answer_by, form_of, arguments, parameters_at}
+use Rattle.mid_program.specs.Mid.{Kind, Slot, Code, Do, Over, Compare, Call, Ask, AskLine, FileLine, Replace, Number, Text, Unset, Get, Set, Array, IsOpen, Choose, Seq, Let, Bound, Codes, End, At, Fixed, Fresh, Step, Eval, Block, If, Loop, Each, Break, Continue, Next, Exit, ExitWith, Return, Mark, Steps, NoStep, Then, Form, PrimitiveAnswer, a_value, answer_by, form_of, arguments, parameters_at}
 use Rattle.mid_program.specs.MidMeaning.{Holds, Env, Values, boxed, numbered, converted, truth_in, then_row, or_constant, row_of, listing, locals_of, fresh_of, store_slot, operated, when_read, when_replaced, three_values, replacing, evaluated, all_evaluated, holds, keyed, stepped, all_stepped}
 use Rattle.mid_program.specs.Rewriting.{code_in, codes_in, step_in, steps_in}
 use Rattle.mid_program.specs.Alike.{seen, Alike, LikeR, AlikeKinds}
@@ -73,17 +73,17 @@ module _ (texts : List (List ℕ)) (ps qs : List (List Kind)) (heads : (f : ℕ)
   abbrev exs : Codes → Codes
   exs es = codes_in slots operation es
 
-  abbrev E : (fs : List Form) → Env fs → (e : Code) → Doing (Holds (form_of fs e))
+  abbrev E : (fs : List Form) → Env fs → (e : Code) → Execution (Holds (form_of fs e))
   E fs env e = evaluated texts ps n calls fs env e
 
-  abbrev E' : (fs : List Form) → Env fs → (e : Code) → Doing (Holds (form_of fs e))
+  abbrev E' : (fs : List Form) → Env fs → (e : Code) → Execution (Holds (form_of fs e))
   E' fs env e = evaluated texts qs n calls fs env e
 
   abbrev Likes : (fs gs : List Form) → (e : Code) → Holds (form_of fs e) → Holds (form_of gs (ex e)) → Type 0
   Likes fs gs e v w = Alike (form_of fs e) (form_of gs (ex e)) v w
 
   -- one of two, by truths that are the same
-  branch_like : {A B : Type 0} (R : A → B → Type 0) (b d : Bool) (m l : Doing A) (m' l' : Doing B) (s : State) → b ≡ d → LikeR R (m s) (m' s) → LikeR R (l s) (l' s) → LikeR R ((if b then m else l) s) ((if d then m' else l') s)
+  branch_like : {A B : Type 0} (R : A → B → Type 0) (b d : Bool) (m l : Execution A) (m' l' : Execution B) (s : State) → b ≡ d → LikeR R (m s) (m' s) → LikeR R (l s) (l' s) → LikeR R ((if b then m else l) s) ((if d then m' else l') s)
   branch_like R true true m l m' l' s e h k = h
   branch_like R false false m l m' l' s e h k = k
   branch_like R true false m l m' l' s e h k = absurd cc
@@ -91,15 +91,15 @@ module _ (texts : List (List ℕ)) (ps qs : List (List Kind)) (heads : (f : ℕ)
 
   -- one of the two ways of a choice
   way_by : (fs gs : List Form) (env : Env fs) (env' : Env gs) (r : Sort) (e : Code) (s : State) → LikeR (Likes fs gs e) (E fs env e s) (E' gs env' (ex e) s) →
-      LikeR (Alike (Answered (answer.Of r)) (Answered (answer.Of r))) ((E fs env e >>= λ x. settled (converted (form_of fs e) r x)) s) ((E' gs env' (ex e) >>= λ x. settled (converted (form_of gs (ex e)) r x)) s)
+      LikeR (Alike (PrimitiveAnswer (answer.Of r)) (PrimitiveAnswer (answer.Of r))) ((E fs env e >>= λ x. settled (converted (form_of fs e) r x)) s) ((E' gs env' (ex e) >>= λ x. settled (converted (form_of gs (ex e)) r x)) s)
   way_by fs gs env env' r e s h =
-      like_bind (Likes fs gs e) (Alike (Answered (answer.Of r)) (Answered (answer.Of r))) _ _ (λ x. settled (converted (form_of fs e) r x)) (λ x. settled (converted (form_of gs (ex e)) r x)) h
-      (λ x y t k. like_of (Alike (Answered (answer.Of r)) (Answered (answer.Of r))) (λ a. refl) _ _ (λ i. settled (converted_like (form_of fs e) (form_of gs (ex e)) r x y k i) t))
+      like_bind (Likes fs gs e) (Alike (PrimitiveAnswer (answer.Of r)) (PrimitiveAnswer (answer.Of r))) _ _ (λ x. settled (converted (form_of fs e) r x)) (λ x. settled (converted (form_of gs (ex e)) r x)) h
+      (λ x y t k. like_of (Alike (PrimitiveAnswer (answer.Of r)) (PrimitiveAnswer (answer.Of r))) (λ a. refl) _ _ (λ i. settled (converted_like (form_of fs e) (form_of gs (ex e)) r x y k i) t))
 
   -- code that stores what is kept
   store_by : (fs gs : List Form) (env : Env fs) (env' : Env gs) (e : Code) →
       ((text : Value) (s : State) → LikeR (Likes (a_value ∷ fs) (a_value ∷ gs) e) (E (a_value ∷ fs) (text, env) e s) (E' (a_value ∷ gs) (text, env') (ex e) s)) →
-      ◌≡◌ {A = Value → Doing (Unit {0})} (λ text. E (a_value ∷ fs) (text, env) e >> nothing) (λ text. E' (a_value ∷ gs) (text, env') (ex e) >> nothing)
+      ◌≡◌ {A = Value → Execution (Unit {0})} (λ text. E (a_value ∷ fs) (text, env) e >> nothing) (λ text. E' (a_value ∷ gs) (text, env') (ex e) >> nothing)
   store_by fs gs env env' e h = λ i text s. same_bind (Likes (a_value ∷ fs) (a_value ∷ gs) e) _ _ (λ v. nothing) (λ v. nothing) (h text s) (λ v w t k. refl) i
 
   mutual
@@ -107,15 +107,15 @@ module _ (texts : List (List ℕ)) (ps qs : List (List Kind)) (heads : (f : ℕ)
 
     pub code_like : (fs gs : List Form) (env : Env fs) (env' : Env gs) → seen_env fs env ≡ seen_env gs env' → (e : Code) (s : State) → LikeR (Likes fs gs e) (E fs env e s) (E' gs env' (ex e) s)
     code_like fs gs env env' h (Do o es) s =
-        let A = Alike (Answered (answer_by o)) (Answered (answer_by o)) in
-        like_trans A (Alike (Answered (answer_by o)) (form_of gs (operation o (exs es)))) (Likes fs gs (Do o es)) (E fs env (Do o es) s) (E' gs env' (Do o (exs es)) s) (E' gs env' (operation o (exs es)) s)
+        let A = Alike (PrimitiveAnswer (answer_by o)) (PrimitiveAnswer (answer_by o)) in
+        like_trans A (Alike (PrimitiveAnswer (answer_by o)) (form_of gs (operation o (exs es)))) (Likes fs gs (Do o es)) (E fs env (Do o es) s) (E' gs env' (Do o (exs es)) s) (E' gs env' (operation o (exs es)) s)
         (like_bind (LikeVals slots operation fs gs es) A _ _ (λ vs. settled (row_of fs (arguments o) es vs) >>= λ given. operated o given) (λ ws. settled (row_of gs (arguments o) (exs es) ws) >>= λ given. operated o given)
         (codes_like fs gs env env' h es s)
         (λ vs ws t k. like_of A (λ a. refl) _ _ (λ i. (settled (row_like slots operation fs gs (arguments o) es vs ws k i) >>= λ given. operated o given) t)))
         (same_operations gs env' o (exs es) s) (λ a b c p q. p ∙ q)
     code_like fs gs env env' h (Over l es) s =
-        like_bind (LikeVals slots operation fs gs es) (Likes fs gs (Over l es)) _ _ (λ vs. does_listed l (listing fs es vs)) (λ ws. does_listed l (listing gs (exs es) ws)) (codes_like fs gs env env' h es s)
-        (λ vs ws t k. like_of (Likes fs gs (Over l es)) (λ a. refl) _ _ (λ i. does_listed l (listing_like slots operation fs gs es vs ws k i) t))
+        like_bind (LikeVals slots operation fs gs es) (Likes fs gs (Over l es)) _ _ (λ vs. call_listed l (listing fs es vs)) (λ ws. call_listed l (listing gs (exs es) ws)) (codes_like fs gs env env' h es s)
+        (λ vs ws t k. like_of (Likes fs gs (Over l es)) (λ a. refl) _ _ (λ i. call_listed l (listing_like slots operation fs gs es vs ws k i) t))
     code_like fs gs env env' h (Compare c a b) s =
         like_bind (Likes fs gs a) (Likes fs gs (Compare c a b)) _ _ (λ x. E fs env b >>= λ y. compared c (boxed (form_of fs a) x) (boxed (form_of fs b) y)) (λ x. E' gs env' (ex b) >>= λ y. compared c (boxed (form_of gs (ex a)) x) (boxed (form_of gs (ex b)) y))
         (code_like fs gs env env' h a s)
@@ -129,9 +129,9 @@ module _ (texts : List (List ℕ)) (ps qs : List (List Kind)) (heads : (f : ℕ)
     code_like fs gs env env' h Ask s = like_of (Likes fs gs Ask) (λ a. refl) _ _ refl
     code_like fs gs env env' h (AskLine e) s = like_of (Likes fs gs (AskLine e)) (λ a. refl) _ _ (λ i. (asked n (asks row.GetlineVar tt) >>= when_read (store_by fs gs env env' e (λ text u. code_like (a_value ∷ fs) (a_value ∷ gs) (text, env) (text, env') (λ j. seen a_value text ∷ h j) e u) i)) s)
     code_like fs gs env env' h (FileLine e d) s =
-        like_bind (Likes fs gs e) (Likes fs gs (FileLine e d)) _ _ (λ file. does row.GetlineVarFile (boxed (form_of fs e) file, tt) >>= when_read (λ text. E (a_value ∷ fs) (text, env) d >> nothing))
-        (λ file. does row.GetlineVarFile (boxed (form_of gs (ex e)) file, tt) >>= when_read (λ text. E' (a_value ∷ gs) (text, env') (ex d) >> nothing)) (code_like fs gs env env' h e s)
-        (λ x x' t k. like_of (Likes fs gs (FileLine e d)) (λ a. refl) _ _ (λ i. (does row.GetlineVarFile (boxed_like (form_of fs e) (form_of gs (ex e)) x x' k i, tt) >>= when_read (store_by fs gs env env' d (λ text u. code_like (a_value ∷ fs) (a_value ∷ gs) (text, env) (text, env') (λ j. seen a_value text ∷ h j) d u) i)) t))
+        like_bind (Likes fs gs e) (Likes fs gs (FileLine e d)) _ _ (λ file. call row.GetlineVarFile (boxed (form_of fs e) file, tt) >>= when_read (λ text. E (a_value ∷ fs) (text, env) d >> nothing))
+        (λ file. call row.GetlineVarFile (boxed (form_of gs (ex e)) file, tt) >>= when_read (λ text. E' (a_value ∷ gs) (text, env') (ex d) >> nothing)) (code_like fs gs env env' h e s)
+        (λ x x' t k. like_of (Likes fs gs (FileLine e d)) (λ a. refl) _ _ (λ i. (call row.GetlineVarFile (boxed_like (form_of fs e) (form_of gs (ex e)) x x' k i, tt) >>= when_read (store_by fs gs env env' d (λ text u. code_like (a_value ∷ fs) (a_value ∷ gs) (text, env) (text, env') (λ j. seen a_value text ∷ h j) d u) i)) t))
     code_like fs gs env env' h (Replace all es d) s =
         like_bind (LikeVals slots operation fs gs es) (Likes fs gs (Replace all es d)) _ _ (λ vs. settled (row_of fs three_values es vs) >>= λ given. replacing all given >>= when_replaced (λ text. E (a_value ∷ fs) (text, env) d >> nothing))
         (λ ws. settled (row_of gs three_values (exs es) ws) >>= λ given. replacing all given >>= when_replaced (λ text. E' (a_value ∷ gs) (text, env') (ex d) >> nothing)) (codes_like fs gs env env' h es s)
@@ -170,8 +170,8 @@ module _ (texts : List (List ℕ)) (ps qs : List (List Kind)) (heads : (f : ℕ)
         (λ v w t k. like_bind (LikeVals slots operation fs gs es) (LikeVals slots operation fs gs (At e es)) _ _ (λ vs. give (v, vs)) (λ ws. give (w, ws)) (codes_like fs gs env env' h es t) (λ vs ws u j. ((k, j), refl)))
     codes_like fs gs env env' h (Fixed m es) s = codes_like fs gs env env' h es s
     codes_like fs gs env env' h (Fresh es) s =
-        like_bind (λ (i j : ℕ). i ≡ j) (LikeVals slots operation fs gs (Fresh es)) (does row.NewArray tt s) (does row.NewArray tt s) (λ i. all_evaluated texts ps n calls fs env es >>= λ vs. give (i, vs)) (λ i. all_evaluated texts qs n calls gs env' (exs es) >>= λ ws. give (i, ws))
-        (like_of (λ (i j : ℕ). i ≡ j) (λ i. refl) (does row.NewArray tt s) (does row.NewArray tt s) refl)
+        like_bind (λ (i j : ℕ). i ≡ j) (LikeVals slots operation fs gs (Fresh es)) (call row.NewArray tt s) (call row.NewArray tt s) (λ i. all_evaluated texts ps n calls fs env es >>= λ vs. give (i, vs)) (λ i. all_evaluated texts qs n calls gs env' (exs es) >>= λ ws. give (i, ws))
+        (like_of (λ (i j : ℕ). i ≡ j) (λ i. refl) (call row.NewArray tt s) (call row.NewArray tt s) refl)
         (λ i j t k. like_bind (LikeVals slots operation fs gs es) (LikeVals slots operation fs gs (Fresh es)) _ _ (λ vs. give (i, vs)) (λ ws. give (j, ws)) (codes_like fs gs env env' h es t) (λ vs ws u l. ((k, l), refl)))
 
   -- Steps.
@@ -192,7 +192,7 @@ module _ (texts : List (List ℕ)) (ps qs : List (List Kind)) (heads : (f : ℕ)
     step_same (If e a b) = λ i. holds_same e i >>= λ truth. if truth then step_same a i else step_same b i
     step_same (Loop true e a b) = λ i. loop n (holds_same e i) (step_same a i) (step_same b i >> nothing)
     step_same (Loop false e a b) = λ i. step_same a i >>= λ flow. after_round flow ((step_same b i >> nothing) >> loop n (holds_same e i) (step_same a i) (step_same b i >> nothing))
-    step_same (Each a e s) = λ i. array_number a >>= λ x. does row.Iter (x, tt) >>= λ keys. over_keys n keys (keyed_same e i) (step_same s i)
+    step_same (Each a e s) = λ i. array_number a >>= λ x. call row.Iter (x, tt) >>= λ keys. over_keys n keys (keyed_same e i) (step_same s i)
     step_same Break = refl
     step_same Continue = refl
     step_same Next = refl

@@ -1,17 +1,17 @@
 -- Laws of outcomes that are alike.
 use Rattle.std.proofs.Common.{◌≡◌, refl, ap, subst, ◌∙◌}
-use Rattle.sem_scripts.specs.ScriptState.{State, Outcome, Gives, Stops, Doing, go_on}
+use Rattle.sem_scripts.specs.ScriptState.{State, Outcome, Gives, Stops, Execution, go_on}
 use Rattle.mid_program.specs.Alike.{LikeR}
 
 -- what is done after them
-pub like_bind : {A B C D : Type 0} (R : A → B → Type 0) (Q : C → D → Type 0) (m : Outcome A) (m' : Outcome B) (k : A → Doing C) (k' : B → Doing D) → LikeR R m m' →
+pub like_bind : {A B C D : Type 0} (R : A → B → Type 0) (Q : C → D → Type 0) (m : Outcome A) (m' : Outcome B) (k : A → Execution C) (k' : B → Execution D) → LikeR R m m' →
     ((a : A) (b : B) (s : State) → R a b → LikeR Q (k a s) (k' b s)) → LikeR Q (go_on m k) (go_on m' k')
 like_bind R Q (Gives a s) (Gives b t) k k' h go = subst (λ (u : State). LikeR Q (k a s) (k' b u)) h.1 (go a b s h.0)
 like_bind R Q (Stops y s) (Stops z t) k k' h go = h
 like_bind R Q (Gives a s) (Stops z t) k k' h go = absurd h
 like_bind R Q (Stops y s) (Gives b t) k k' h go = absurd h
 
-pub same_bind : {A B C : Type 0} (R : A → B → Type 0) (m : Outcome A) (m' : Outcome B) (k : A → Doing C) (k' : B → Doing C) → LikeR R m m' →
+pub same_bind : {A B C : Type 0} (R : A → B → Type 0) (m : Outcome A) (m' : Outcome B) (k : A → Execution C) (k' : B → Execution C) → LikeR R m m' →
     ((a : A) (b : B) (s : State) → R a b → k a s ≡ k' b s) → go_on m k ≡ go_on m' k'
 same_bind R (Gives a s) (Gives b t) k k' h go = go a b s h.0 ∙ ap (k' b) h.1
 same_bind R (Stops y s) (Stops z t) k k' h go = λ i. Stops (h.0 i) (h.1 i)

@@ -4,7 +4,7 @@ use Rattle.sem_primitives.specs.declared.sorts.Answer.TheVariants as answer
 use Rattle.sem_primitives.specs.declared.sorts.Sort.{Sort}
 use Rattle.sem_primitives.specs.declared.sorts.Sort.TheVariants as sort
 use Rattle.sem_scripts.specs.ScriptState.{Scalar, Array as ArrayOf}
-use Rattle.mid_program.specs.Mid.{Kind, Boxed, Unboxed, Many, Form, Answered, Bare, Perhaps, form_at}
+use Rattle.mid_program.specs.Mid.{Kind, Boxed, Unboxed, ArrayKind, Form, PrimitiveAnswer, NumberOrText, OptionalNumber, form_at}
 use Rattle.mid_program.specs.MidMeaning.{Holds, boxed, numbered, array_in, converted, truth_in, Env, held, local_of, fresh_of}
 use Rattle.mid_program.specs.Sorted.{is_many}
 use Rattle.mid_program.specs.Alike.{erased, as_boxed, Seen, seen, Alike, AlikeKinds}
@@ -12,44 +12,44 @@ use Rattle.mid_program.specs.Alike.{erased, as_boxed, Seen, seen, Alike, AlikeKi
 -- Conversions see no lanes.
 
 boxed_by : (f : Form) (x : Holds f) → boxed f x ≡ boxed (erased f) (as_boxed f x)
-boxed_by (Answered a) x = refl
-boxed_by Bare x = refl
-boxed_by Perhaps x = refl
+boxed_by (PrimitiveAnswer a) x = refl
+boxed_by NumberOrText x = refl
+boxed_by OptionalNumber x = refl
 
 pub boxed_like : (f g : Form) (x : Holds f) (y : Holds g) → Alike f g x y → boxed f x ≡ boxed g y
 boxed_like f g x y h = boxed_by f x ∙ ap (λ (z : Seen). boxed z.0 z.1) h ∙ sym (boxed_by g y)
 
 numbered_by : (f : Form) (x : Holds f) → numbered f x ≡ numbered (erased f) (as_boxed f x)
-numbered_by (Answered a) x = refl
-numbered_by Bare x = refl
-numbered_by Perhaps x = refl
+numbered_by (PrimitiveAnswer a) x = refl
+numbered_by NumberOrText x = refl
+numbered_by OptionalNumber x = refl
 
 pub numbered_like : (f g : Form) (x : Holds f) (y : Holds g) → Alike f g x y → numbered f x ≡ numbered g y
 numbered_like f g x y h = numbered_by f x ∙ ap (λ (z : Seen). numbered z.0 z.1) h ∙ sym (numbered_by g y)
 
 array_by : (f : Form) (x : Holds f) → array_in f x ≡ array_in (erased f) (as_boxed f x)
-array_by (Answered a) x = refl
-array_by Bare x = refl
-array_by Perhaps x = refl
+array_by (PrimitiveAnswer a) x = refl
+array_by NumberOrText x = refl
+array_by OptionalNumber x = refl
 
 pub array_like : (f g : Form) (x : Holds f) (y : Holds g) → Alike f g x y → array_in f x ≡ array_in g y
 array_like f g x y h = array_by f x ∙ ap (λ (z : Seen). array_in z.0 z.1) h ∙ sym (array_by g y)
 
 truth_by : (f : Form) (x : Holds f) → truth_in f x ≡ truth_in (erased f) (as_boxed f x)
-truth_by (Answered a) x = refl
-truth_by Bare x = refl
-truth_by Perhaps x = refl
+truth_by (PrimitiveAnswer a) x = refl
+truth_by NumberOrText x = refl
+truth_by OptionalNumber x = refl
 
 pub truth_like : (f g : Form) (x : Holds f) (y : Holds g) → Alike f g x y → truth_in f x ≡ truth_in g y
 truth_like f g x y h = truth_by f x ∙ ap (λ (z : Seen). truth_in z.0 z.1) h ∙ sym (truth_by g y)
 
 converted_by : (f : Form) (s : Sort) (x : Holds f) → converted f s x ≡ converted (erased f) s (as_boxed f x)
-converted_by (Answered a) s x = refl
-converted_by Perhaps s x = refl
-converted_by Bare sort.Value x = refl
-converted_by Bare sort.Number x = refl
-converted_by Bare sort.Array x = refl
-converted_by Bare sort.Iterator x = refl
+converted_by (PrimitiveAnswer a) s x = refl
+converted_by OptionalNumber s x = refl
+converted_by NumberOrText sort.Value x = refl
+converted_by NumberOrText sort.Number x = refl
+converted_by NumberOrText sort.Array x = refl
+converted_by NumberOrText sort.Iterator x = refl
 
 pub converted_like : (f g : Form) (s : Sort) (x : Holds f) (y : Holds g) → Alike f g x y → converted f s x ≡ converted g s y
 converted_like f g s x y h = converted_by f s x ∙ ap (λ (z : Seen). converted z.0 s z.1) h ∙ sym (converted_by g s y)
@@ -61,7 +61,7 @@ seen_env [] env = []
 seen_env (f ∷ fs) env = seen f env.0 ∷ seen_env fs env.1
 
 abbrev seen_at : List Seen → ℕ → Seen
-seen_at [] i = (Answered answer.Nothing, tt)
+seen_at [] i = (PrimitiveAnswer answer.Nothing, tt)
 seen_at (z ∷ zs) zero = z
 seen_at (z ∷ zs) (suc i) = seen_at zs i
 
@@ -84,19 +84,19 @@ local_like Boxed Boxed f g x y e h = ap Scalar (boxed_like f g x y h)
 local_like Boxed Unboxed f g x y e h = ap Scalar (boxed_like f g x y h)
 local_like Unboxed Boxed f g x y e h = ap Scalar (boxed_like f g x y h)
 local_like Unboxed Unboxed f g x y e h = ap Scalar (boxed_like f g x y h)
-local_like Many Many f g x y e h = ap ArrayOf (array_like f g x y h)
-local_like Boxed Many f g x y e h = absurd cc
-local_like Unboxed Many f g x y e h = absurd cc
-local_like Many Boxed f g x y e h = absurd cc
-local_like Many Unboxed f g x y e h = absurd cc
+local_like ArrayKind ArrayKind f g x y e h = ap ArrayOf (array_like f g x y h)
+local_like Boxed ArrayKind f g x y e h = absurd cc
+local_like Unboxed ArrayKind f g x y e h = absurd cc
+local_like ArrayKind Boxed f g x y e h = absurd cc
+local_like ArrayKind Unboxed f g x y e h = absurd cc
 
 pub fresh_like : (k j : Kind) (i : ℕ) → is_many k ≡ is_many j → fresh_of k i ≡ fresh_of j i
 fresh_like Boxed Boxed i e = refl
 fresh_like Boxed Unboxed i e = refl
 fresh_like Unboxed Boxed i e = refl
 fresh_like Unboxed Unboxed i e = refl
-fresh_like Many Many i e = refl
-fresh_like Boxed Many i e = absurd cc
-fresh_like Unboxed Many i e = absurd cc
-fresh_like Many Boxed i e = absurd cc
-fresh_like Many Unboxed i e = absurd cc
+fresh_like ArrayKind ArrayKind i e = refl
+fresh_like Boxed ArrayKind i e = absurd cc
+fresh_like Unboxed ArrayKind i e = absurd cc
+fresh_like ArrayKind Boxed i e = absurd cc
+fresh_like ArrayKind Unboxed i e = absurd cc

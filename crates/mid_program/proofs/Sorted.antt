@@ -9,7 +9,7 @@ use Rattle.sem_primitives.specs.declared.sorts.Argument.TheVariants as argument
 use Rattle.sem_primitives.specs.InTurn.{values_wanted}
 use Rattle.sem_scripts.specs.Names.{ArrayName}
 use Rattle.mid_program.specs.declared.mid.Operation.{Operation}
-use Rattle.mid_program.specs.Mid.{Kind, Boxed, Unboxed, Many, Slot, Global, Parameter, Code, Do, Over, Compare, Call, Ask, AskLine, FileLine, Replace, Number, Text, Unset, Get, Set, Array, IsOpen, Choose, Seq, Let, Bound, Codes, End, At, Fixed, Fresh, Step, Eval, Block, If, Loop, Each, Break, Continue, Next, Exit, ExitWith, Return, Mark, Steps, NoStep, Then, Form, Answered, Bare, Perhaps, a_value, read_form, slot_form, form_at, form_of, answer_by, arguments, parameters_at}
+use Rattle.mid_program.specs.Mid.{Kind, Boxed, Unboxed, ArrayKind, Slot, Global, Parameter, Code, Do, Over, Compare, Call, Ask, AskLine, FileLine, Replace, Number, Text, Unset, Get, Set, Array, IsOpen, Choose, Seq, Let, Bound, Codes, End, At, Fixed, Fresh, Step, Eval, Block, If, Loop, Each, Break, Continue, Next, Exit, ExitWith, Return, Mark, Steps, NoStep, Then, Form, PrimitiveAnswer, NumberOrText, OptionalNumber, a_value, read_form, slot_form, form_at, form_of, answer_by, arguments, parameters_at}
 use Rattle.mid_program.specs.Sorted.{Context, fits, is_number, is_tested, is_dropped, is_slot, takes, is_array_place, is_constant, fit_row, all_values, count_of, is_given, fit_call, Held, There, either_way, held_after, held_after_all, is_bound, is_well_used, keeps_well, stores_well, are_missing, sorted, all_sorted, step_sorted, steps_sorted}
 use Rattle.mid_program.specs.Alike.{erased}
 use Rattle.mid_program.specs.Rewriting.{code_in, codes_in, step_in, steps_in}
@@ -25,34 +25,34 @@ by_erased : {A : Type 0} (p : Form → A) → ((f : Form) → p f ≡ p (erased 
 by_erased p e f g h = e g ∙ ap p (sym h) ∙ sym (e f)
 
 fits_erased : (s : Sort) (f : Form) → fits f s ≡ fits (erased f) s
-fits_erased s (Answered a) = refl
-fits_erased sort.Value Bare = refl
-fits_erased sort.Number Bare = refl
-fits_erased sort.Array Bare = refl
-fits_erased sort.Iterator Bare = refl
-fits_erased s Perhaps = refl
+fits_erased s (PrimitiveAnswer a) = refl
+fits_erased sort.Value NumberOrText = refl
+fits_erased sort.Number NumberOrText = refl
+fits_erased sort.Array NumberOrText = refl
+fits_erased sort.Iterator NumberOrText = refl
+fits_erased s OptionalNumber = refl
 
 number_erased : (f : Form) → is_number f ≡ is_number (erased f)
-number_erased (Answered a) = refl
-number_erased Bare = refl
-number_erased Perhaps = refl
+number_erased (PrimitiveAnswer a) = refl
+number_erased NumberOrText = refl
+number_erased OptionalNumber = refl
 
 tested_erased : (f : Form) → is_tested f ≡ is_tested (erased f)
-tested_erased (Answered a) = refl
-tested_erased Bare = refl
-tested_erased Perhaps = refl
+tested_erased (PrimitiveAnswer a) = refl
+tested_erased NumberOrText = refl
+tested_erased OptionalNumber = refl
 
 dropped_erased : (f : Form) → is_dropped f ≡ is_dropped (erased f)
-dropped_erased (Answered a) = refl
-dropped_erased Bare = refl
-dropped_erased Perhaps = refl
+dropped_erased (PrimitiveAnswer a) = refl
+dropped_erased NumberOrText = refl
+dropped_erased OptionalNumber = refl
 
 given_erased : (k : Kind) (f : Form) → is_given f k ≡ is_given (erased f) k
-given_erased k (Answered a) = refl
-given_erased Boxed Bare = refl
-given_erased Unboxed Bare = refl
-given_erased Many Bare = refl
-given_erased k Perhaps = refl
+given_erased k (PrimitiveAnswer a) = refl
+given_erased Boxed NumberOrText = refl
+given_erased Unboxed NumberOrText = refl
+given_erased ArrayKind NumberOrText = refl
+given_erased k OptionalNumber = refl
 
 takes_erased : (x : Slot) (f : Form) → takes x f ≡ takes x (erased f)
 takes_erased (Global true i) f = number_erased f
@@ -84,7 +84,7 @@ every_parts P (x ∷ xs) ys h = let rest = every_parts P xs ys h.1 in ((h.0, res
 -- names keep their forms but for lanes; what stands for an operation answers the same, and moves the same of what is kept
 pub record Keeps (slots : Slot → Slot) (operation : Operation → Codes → Code) : Type 0 where
   pub slot_forms : (x : Slot) → erased (slot_form x) ≡ erased (slot_form (slots x))
-  pub forms : (fs : List Form) (o : Operation) (es : Codes) → form_of fs (operation o es) ≡ Answered (answer_by o)
+  pub forms : (fs : List Form) (o : Operation) (es : Codes) → form_of fs (operation o es) ≡ PrimitiveAnswer (answer_by o)
   pub moves : (i : ℕ) (h : Held) (o : Operation) (es : Codes) → held_after i (operation o es) h ≡ held_after_all i es h
 
 -- what may be named stays there, and may take what is stored, of which P is known; what stands for an operation is well sorted
@@ -212,10 +212,10 @@ module _ (slots : Slot → Slot) (operation : Operation → Codes → Code) (K :
     call_kept (x ∷ ks) (At e es) = λ i. by_form (λ f. is_given f x) (given_erased x) e i && call_kept ks es i
     call_kept (Boxed ∷ ks) (Fixed n es) = refl
     call_kept (Unboxed ∷ ks) (Fixed n es) = refl
-    call_kept (Many ∷ ks) (Fixed n es) = refl
+    call_kept (ArrayKind ∷ ks) (Fixed n es) = refl
     call_kept (Boxed ∷ ks) (Fresh es) = refl
     call_kept (Unboxed ∷ ks) (Fresh es) = refl
-    call_kept (Many ∷ ks) (Fresh es) = call_kept ks es
+    call_kept (ArrayKind ∷ ks) (Fresh es) = call_kept ks es
 
     store_kept : (e : Code) → stores_well hs (re e) ≡ stores_well fs e
     store_kept e = λ i. keeps_same e i && by_erased is_dropped dropped_erased (form_of (a_value ∷ fs) e) (form_of (a_value ∷ hs) (re e)) (form_kept (a_value ∷ fs) (a_value ∷ hs) (λ j. a_value ∷ k j) e) i

@@ -1,19 +1,19 @@
 -- Answers that are the same but for lanes: what an unboxed name has is a value.
 use Rattle.std.specs.Prelude.{◌≡◌, List, [], ◌∷◌}
 use Rattle.sem_scripts.specs.ScriptState.{Outcome, Gives, Stops}
-use Rattle.mid_program.specs.Mid.{Kind, Form, Answered, Bare, Perhaps, a_value}
+use Rattle.mid_program.specs.Mid.{Kind, Form, PrimitiveAnswer, NumberOrText, OptionalNumber, a_value}
 use Rattle.mid_program.specs.MidMeaning.{Holds}
 use Rattle.mid_program.specs.Sorted.{is_many}
 
 abbrev pub erased : Form → Form
-erased (Answered a) = Answered a
-erased Bare = a_value
-erased Perhaps = Perhaps
+erased (PrimitiveAnswer a) = PrimitiveAnswer a
+erased NumberOrText = a_value
+erased OptionalNumber = OptionalNumber
 
 abbrev pub as_boxed : (f : Form) → Holds f → Holds (erased f)
-as_boxed (Answered a) x = x
-as_boxed Bare x = x
-as_boxed Perhaps x = x
+as_boxed (PrimitiveAnswer a) x = x
+as_boxed NumberOrText x = x
+as_boxed OptionalNumber x = x
 
 abbrev pub Seen : Type 0
 Seen = (f : Form) × Holds f

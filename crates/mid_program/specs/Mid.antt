@@ -20,7 +20,7 @@ use Rattle.sem_scripts.specs.Names.{ArrayName}
 pub data Kind : Type 0 where
   Boxed : Kind
   Unboxed : Kind
-  Many : Kind
+  ArrayKind : Kind
 
 -- a scalar: a global by its number, or a parameter; and whether it is unboxed
 pub data Slot : Type 0 where
@@ -122,17 +122,17 @@ pub record Program : Type 0 where
 
 pub data Form : Type 0 where
   -- what a primitive answers
-  Answered : Answer → Form
+  PrimitiveAnswer : Answer → Form
   -- what an unboxed name has, and what a function answers: a number or nothing, and perhaps a text beside it
-  Bare : Form
+  NumberOrText : Form
   -- what an unboxed parameter is given: a number or nothing
-  Perhaps : Form
+  OptionalNumber : Form
 
 abbrev pub a_value : Form
-a_value = Answered (answer.Of sort.Value)
+a_value = PrimitiveAnswer (answer.Of sort.Value)
 
 abbrev pub a_number : Form
-a_number = Answered (answer.Of sort.Number)
+a_number = PrimitiveAnswer (answer.Of sort.Number)
 
 abbrev pub answer_by : Operation → Answer
 answer_by (Host p) = answer_of p
@@ -141,7 +141,7 @@ answer_by AsNumber = answer.Of sort.Number
 answer_by FieldNumber = answer.Of sort.Number
 
 abbrev pub read_form : Bool → Form
-read_form true = Bare
+read_form true = NumberOrText
 read_form false = a_value
 
 abbrev pub slot_form : Slot → Form
@@ -150,28 +150,28 @@ slot_form (Parameter u i) = read_form u
 
 -- what is kept under a number
 abbrev pub form_at : List Form → ℕ → Form
-form_at [] i = Answered answer.Nothing
+form_at [] i = PrimitiveAnswer answer.Nothing
 form_at (f ∷ fs) zero = f
 form_at (f ∷ fs) (suc i) = form_at fs i
 
 -- the form of code, where things of these forms are kept
 abbrev pub form_of : List Form → Code → Form
-form_of fs (Do o es) = Answered (answer_by o)
-form_of fs (Over l es) = Answered (listed_answer l)
-form_of fs (Compare c a b) = Answered answer.Truth
-form_of fs (Call f es) = Bare
+form_of fs (Do o es) = PrimitiveAnswer (answer_by o)
+form_of fs (Over l es) = PrimitiveAnswer (listed_answer l)
+form_of fs (Compare c a b) = PrimitiveAnswer answer.Truth
+form_of fs (Call f es) = NumberOrText
 form_of fs Ask = a_number
 form_of fs (AskLine s) = a_number
 form_of fs (FileLine e s) = a_number
 form_of fs (Replace all es s) = a_number
 form_of fs (Number z) = a_number
 form_of fs (Text i) = a_value
-form_of fs Unset = Perhaps
+form_of fs Unset = OptionalNumber
 form_of fs (Get x) = slot_form x
 form_of fs (Set x e) = form_of fs e
-form_of fs (Array a) = Answered (answer.Of sort.Array)
-form_of fs (IsOpen i) = Answered answer.Truth
-form_of fs (Choose s c a b) = Answered (answer.Of s)
+form_of fs (Array a) = PrimitiveAnswer (answer.Of sort.Array)
+form_of fs (IsOpen i) = PrimitiveAnswer answer.Truth
+form_of fs (Choose s c a b) = PrimitiveAnswer (answer.Of s)
 form_of fs (Seq a b) = form_of fs b
 form_of fs (Let a b) = form_of (form_of fs a ∷ fs) b
 form_of fs (Bound m i) = form_at fs i

@@ -31,14 +31,14 @@ use Rattle.mid_program.specs.declared.mid.Arithmetic.{Arithmetic}
 use Rattle.mid_program.specs.declared.mid.Arithmetic.TheVariants as inline
 use Rattle.mid_program.specs.declared.mid.Operation.{Operation}
 use Rattle.mid_program.specs.declared.mid.Operation.TheVariants.{Host, Inline, AsNumber, FieldNumber}
-use Rattle.sem_scripts.specs.ScriptState.{Local, Scalar, Array as ArrayOf, Nexted, Exited, Returned, OutOfTurns, Doing, ◌>>=◌, ◌>>◌, give, nothing, stop, look, change, settled, does, does_listed, asks, spend, global_value, local_value, with_global, with_local, with_range}
+use Rattle.sem_scripts.specs.ScriptState.{Local, Scalar, Array as ArrayOf, Nexted, Exited, Returned, OutOfTurns, Execution, ◌>>=◌, ◌>>◌, give, nothing, stop, look, change, settled, call, call_listed, asks, spend, global_value, local_value, with_global, with_local, with_range}
 use Rattle.sem_scripts.specs.Steps.{numeric, zero_number, one_number, truth_number, truth_value, input_number, stream_number, field_checked, array_number, compared}
 use Rattle.sem_scripts.specs.Meaning.{Calls, asked}
 use Rattle.sem_scripts.specs.Statements.{Flow, Normal, Broke, Continued, after, after_round, loop, over_keys, with_status, entered}
 use Rattle.sem_scripts.specs.Items.{range_open}
 use Rattle.sem_scripts.specs.ScriptRun.{Ending, Parts, Setting, setting_of, run_with, resolved_run}
 use Rattle.sem_scripts.specs.Names.{Name, Resolved}
-use Rattle.mid_program.specs.Mid.{Kind, Boxed, Unboxed, Many, Slot, Global, Parameter, Code, Do, Over, Compare, Call, Ask, AskLine, FileLine, Replace, Number, Text, Unset, Get, Set, Array, IsOpen, Choose, Seq, Let, Bound, Codes, End, At, Fixed, Fresh, Step, Eval, Block, If, Loop, Each, Break, Continue, Next, Exit, ExitWith, Return, Mark, Steps, NoStep, Then, Declared, Routine, Program, Form, Answered, Bare, Perhaps, a_value, answer_by, read_form, slot_form, form_at, form_of, arguments, parameters_at}
+use Rattle.mid_program.specs.Mid.{Kind, Boxed, Unboxed, ArrayKind, Slot, Global, Parameter, Code, Do, Over, Compare, Call, Ask, AskLine, FileLine, Replace, Number, Text, Unset, Get, Set, Array, IsOpen, Choose, Seq, Let, Bound, Codes, End, At, Fixed, Fresh, Step, Eval, Block, If, Loop, Each, Break, Continue, Next, Exit, ExitWith, Return, Mark, Steps, NoStep, Then, Declared, Routine, Program, Form, PrimitiveAnswer, NumberOrText, OptionalNumber, a_value, answer_by, read_form, slot_form, form_at, form_of, arguments, parameters_at}
 use Rattle.mid_program.specs.Sorted.{calls_of, is_many}
 
 abbrev pub arithmetic_of : Arithmetic → ℤ → ℤ → Checked
@@ -51,9 +51,9 @@ arithmetic_of inline.Truncated = truncated_quotient
 
 -- what is there, by its form: an unboxed name has lost nothing of its value
 abbrev pub Holds : Form → Type 0
-Holds (Answered a) = InAnswer a
-Holds Bare = Value
-Holds Perhaps = Option AnyNumber
+Holds (PrimitiveAnswer a) = InAnswer a
+Holds NumberOrText = Value
+Holds OptionalNumber = Option AnyNumber
 
 -- Where code is not well sorted there is a blank in the place of what is wanted.
 
@@ -103,9 +103,9 @@ boxed_answer answer.Truth x = truth_value x
 boxed_answer _ x = value.Uninit
 
 abbrev pub boxed : (have : Form) → Holds have → Value
-boxed (Answered a) x = boxed_answer a x
-boxed Bare x = x
-boxed Perhaps x = or_unset x
+boxed (PrimitiveAnswer a) x = boxed_answer a x
+boxed NumberOrText x = x
+boxed OptionalNumber x = or_unset x
 
 abbrev pub numbered_answer : (have : Answer) → InAnswer have → Result AnyNumber Fault
 numbered_answer (answer.Of sort.Value) x = number_of_row x
@@ -116,12 +116,12 @@ numbered_answer answer.Stream x = Ok (stream_number x)
 numbered_answer _ x = Ok zero_number
 
 abbrev pub numbered : (have : Form) → Holds have → Result AnyNumber Fault
-numbered (Answered a) x = numbered_answer a x
-numbered Bare x = number_of_row x
-numbered Perhaps x = Ok (or_zero x)
+numbered (PrimitiveAnswer a) x = numbered_answer a x
+numbered NumberOrText x = number_of_row x
+numbered OptionalNumber x = Ok (or_zero x)
 
 abbrev pub array_in : (have : Form) → Holds have → ℕ
-array_in (Answered (answer.Of sort.Array)) x = x
+array_in (PrimitiveAnswer (answer.Of sort.Array)) x = x
 array_in _ x = 0
 
 abbrev pub converted : (have : Form) (want : Sort) → Holds have → Result (In want) Fault
@@ -132,11 +132,11 @@ converted have sort.Iterator x = Ok 0
 
 -- the truth of an answer
 abbrev pub truth_in : (have : Form) → Holds have → Bool
-truth_in (Answered (answer.Of sort.Value)) x = truth_of_value x
-truth_in (Answered (answer.Of sort.Number)) x = not (is_zero x.number)
-truth_in (Answered answer.Truth) x = x
-truth_in Bare x = truth_of_value x
-truth_in Perhaps x = truth_of_value (or_unset x)
+truth_in (PrimitiveAnswer (answer.Of sort.Value)) x = truth_of_value x
+truth_in (PrimitiveAnswer (answer.Of sort.Number)) x = not (is_zero x.number)
+truth_in (PrimitiveAnswer answer.Truth) x = x
+truth_in NumberOrText x = truth_of_value x
+truth_in OptionalNumber x = truth_of_value (or_unset x)
 truth_in _ x = false
 
 -- What is kept.
@@ -179,12 +179,12 @@ listing fs (Fresh es) vs = listing fs es vs.1
 abbrev pub local_of : Kind → (have : Form) → Holds have → Local
 local_of Boxed have x = Scalar (boxed have x)
 local_of Unboxed have x = Scalar (boxed have x)
-local_of Many have x = ArrayOf (array_in have x)
+local_of ArrayKind have x = ArrayOf (array_in have x)
 
 abbrev pub fresh_of : Kind → ℕ → Local
 fresh_of Boxed i = Scalar value.Uninit
 fresh_of Unboxed i = Scalar value.Uninit
-fresh_of Many i = ArrayOf i
+fresh_of ArrayKind i = ArrayOf i
 
 abbrev pub locals_of : (fs : List Form) → List Kind → (es : Codes) → Values fs es → List Local
 locals_of fs [] es vs = []
@@ -199,46 +199,46 @@ abbrev pub read_as : (u : Bool) → Value → Holds (read_form u)
 read_as true v = v
 read_as false v = v
 
-abbrev pub read_slot : (x : Slot) → Doing (Holds (slot_form x))
+abbrev pub read_slot : (x : Slot) → Execution (Holds (slot_form x))
 read_slot (Global u i) = look (λ state. read_as u (global_value i state))
 read_slot (Parameter u i) = look (λ state. read_as u (local_value i state))
 
-abbrev pub store_slot : Slot → Value → Doing (Unit {0})
+abbrev pub store_slot : Slot → Value → Execution (Unit {0})
 store_slot (Global u i) v = change (with_global i v)
 store_slot (Parameter u i) v = change (with_local i v)
 
 -- what an operation does with a row of its arguments
-abbrev pub operated : (o : Operation) → Row (arguments o) → Doing (InAnswer (answer_by o))
-operated (Host p) given = does p given
+abbrev pub operated : (o : Operation) → Row (arguments o) → Execution (InAnswer (answer_by o))
+operated (Host p) given = call p given
 operated (Inline a) given = settled (outcome_of (arithmetic_of a given.0.number given.1.0.number))
 operated AsNumber given = give given.0
 operated FieldNumber given = settled (field_checked given.0)
 
 -- where a text was read it is stored; the answer is a number
-abbrev pub when_read : (Value → Doing (Unit {0})) → InputAnswer → Doing AnyNumber
-when_read store input.Read = does row.Line tt >>= λ text. store text >> give one_number
+abbrev pub when_read : (Value → Execution (Unit {0})) → InputAnswer → Execution AnyNumber
+when_read store input.Read = call row.Line tt >>= λ text. store text >> give one_number
 when_read store answer = give (input_number answer)
 
 -- the new text is stored where there is one
-abbrev pub when_replaced : (Value → Doing (Unit {0})) → AnyNumber → Doing AnyNumber
-when_replaced store count = (if is_zero count.number then nothing else (does row.SubResult tt >>= store)) >> give count
+abbrev pub when_replaced : (Value → Execution (Unit {0})) → AnyNumber → Execution AnyNumber
+when_replaced store count = (if is_zero count.number then nothing else (call row.SubResult tt >>= store)) >> give count
 
 abbrev pub three_values : List Argument
 three_values = argument.Of sort.Value ∷ argument.Of sort.Value ∷ argument.Of sort.Value ∷ []
 
-abbrev pub replacing : Bool → Row three_values → Doing AnyNumber
-replacing all given = does row.Sub (given.0, (given.1.0, (given.1.1.0, (all, tt))))
+abbrev pub replacing : Bool → Row three_values → Execution AnyNumber
+replacing all given = call row.Sub (given.0, (given.1.0, (given.1.1.0, (all, tt))))
 
 module _ (texts : List (List ℕ)) (parameters : List (List Kind)) (n : ℕ) (calls : Calls) where
   unfoldable mutual
-    pub evaluated : (fs : List Form) → Env fs → (e : Code) → Doing (Holds (form_of fs e))
+    pub evaluated : (fs : List Form) → Env fs → (e : Code) → Execution (Holds (form_of fs e))
     evaluated fs env (Do o es) = all_evaluated fs env es >>= λ vs. settled (row_of fs (arguments o) es vs) >>= λ given. operated o given
-    evaluated fs env (Over l es) = all_evaluated fs env es >>= λ vs. does_listed l (listing fs es vs)
+    evaluated fs env (Over l es) = all_evaluated fs env es >>= λ vs. call_listed l (listing fs es vs)
     evaluated fs env (Compare c a b) = evaluated fs env a >>= λ x. evaluated fs env b >>= λ y. compared c (boxed (form_of fs a) x) (boxed (form_of fs b) y)
     evaluated fs env (Call f es) = all_evaluated fs env es >>= λ vs. spend >> calls f (locals_of fs (parameters_at parameters f) es vs)
     evaluated fs env Ask = asked n (asks row.Getline tt) >>= λ answer. give (input_number answer)
     evaluated fs env (AskLine s) = asked n (asks row.GetlineVar tt) >>= when_read (λ text. evaluated (a_value ∷ fs) (text, env) s >> nothing)
-    evaluated fs env (FileLine e s) = evaluated fs env e >>= λ file. does row.GetlineVarFile (boxed (form_of fs e) file, tt)
+    evaluated fs env (FileLine e s) = evaluated fs env e >>= λ file. call row.GetlineVarFile (boxed (form_of fs e) file, tt)
         >>= when_read (λ text. evaluated (a_value ∷ fs) (text, env) s >> nothing)
     evaluated fs env (Replace all es s) = all_evaluated fs env es >>= λ vs. settled (row_of fs three_values es vs) >>= λ given. replacing all given
         >>= when_replaced (λ text. evaluated (a_value ∷ fs) (text, env) s >> nothing)
@@ -256,32 +256,32 @@ module _ (texts : List (List ℕ)) (parameters : List (List Kind)) (n : ℕ) (ca
     evaluated fs env (Let a b) = evaluated fs env a >>= λ x. evaluated (form_of fs a ∷ fs) (x, env) b
     evaluated fs env (Bound m i) = give (held fs env i)
 
-    pub all_evaluated : (fs : List Form) → Env fs → (es : Codes) → Doing (Values fs es)
+    pub all_evaluated : (fs : List Form) → Env fs → (es : Codes) → Execution (Values fs es)
     all_evaluated fs env End = give tt
     all_evaluated fs env (At e es) = evaluated fs env e >>= λ v. all_evaluated fs env es >>= λ vs. give (v, vs)
     all_evaluated fs env (Fixed m es) = all_evaluated fs env es
-    all_evaluated fs env (Fresh es) = does row.NewArray tt >>= λ i. all_evaluated fs env es >>= λ vs. give (i, vs)
+    all_evaluated fs env (Fresh es) = call row.NewArray tt >>= λ i. all_evaluated fs env es >>= λ vs. give (i, vs)
 
-  abbrev pub holds : Code → Doing Bool
+  abbrev pub holds : Code → Execution Bool
   holds e = evaluated [] tt e >>= λ v. give (truth_in (form_of [] e) v)
 
-  abbrev pub keyed : Code → Value → Doing (Unit {0})
+  abbrev pub keyed : Code → Value → Execution (Unit {0})
   keyed e key = evaluated (a_value ∷ []) (key, tt) e >> nothing
 
   -- a loop goes on from its test, or its first round goes without
-  abbrev pub looped : Bool → Doing Bool → Doing Flow → Doing (Unit {0}) → Doing Flow
+  abbrev pub looped : Bool → Execution Bool → Execution Flow → Execution (Unit {0}) → Execution Flow
   looped true test body between = loop n test body between
   looped false test body between = body >>= λ flow. after_round flow (between >> loop n test body between)
 
   unfoldable mutual
-    pub stepped : Step → Doing Flow
+    pub stepped : Step → Execution Flow
     stepped (Eval e) = evaluated [] tt e >> give Normal
     stepped (Block ss) = all_stepped ss
     stepped (If e a b) = holds e >>= λ truth. if truth then stepped a else stepped b
     stepped (Loop first e a b) = looped first (holds e) (stepped a) (stepped b >> nothing)
     stepped (Each a e s) = do
       i ← array_number a
-      keys ← does row.Iter (i, tt)
+      keys ← call row.Iter (i, tt)
       over_keys n keys (keyed e) (stepped s)
     stepped Break = give Broke
     stepped Continue = give Continued
@@ -295,7 +295,7 @@ module _ (texts : List (List ℕ)) (parameters : List (List Kind)) (n : ℕ) (ca
     stepped (Return e) = evaluated [] tt e >>= λ v. stop (Returned (boxed (form_of [] e) v))
     stepped (Mark i b) = change (with_range i b) >> give Normal
 
-    pub all_stepped : Steps → Doing Flow
+    pub all_stepped : Steps → Execution Flow
     all_stepped NoStep = give Normal
     all_stepped (Then s ss) = stepped s >>= λ flow. after flow (all_stepped ss)
 
@@ -314,7 +314,7 @@ unfoldable pub mid_called : Program → ℕ → Calls
 mid_called p zero f locals = stop OutOfTurns
 mid_called p (suc n) f locals = entered locals (all_stepped p.texts (calls_of p) n (mid_called p n) (routine_at p.routines f).body)
 
-abbrev pub mid_done : Program → ℕ → Steps → Doing (Unit {0})
+abbrev pub mid_done : Program → ℕ → Steps → Execution (Unit {0})
 mid_done p n ss = all_stepped p.texts (calls_of p) n (mid_called p n) ss >> nothing
 
 abbrev pub global_name : Declared → Name

@@ -4,7 +4,7 @@ use Rattle.awk_values.specs.declared.value.Value.{Value}
 use Rattle.mid_program.specs.declared.mid.Operation.{Operation}
 use Rattle.sem_scripts.specs.Meaning.{Calls}
 use Rattle.sem_scripts.specs.ScriptState.{State}
-use Rattle.mid_program.specs.Mid.{Kind, Slot, Code, Do, Codes, Program, Form, Answered, answer_by, slot_form, form_of, parameters_at}
+use Rattle.mid_program.specs.Mid.{Kind, Slot, Code, Do, Codes, Program, Form, PrimitiveAnswer, answer_by, slot_form, form_of, parameters_at}
 use Rattle.mid_program.specs.MidMeaning.{Env, read_slot, store_slot, evaluated, routine_at, global_name, routine_name}
 use Rattle.mid_program.specs.Sorted.{calls_of}
 use Rattle.mid_program.specs.Alike.{Alike, LikeR, AlikeKinds}
@@ -19,7 +19,7 @@ pub record SameSlots (slots : Slot → Slot) : Type 0 where
 abbrev pub SameOperations : List (List ℕ) → List (List Kind) → ℕ → Calls → (Operation → Codes → Code) → Type 0
 SameOperations texts qs n calls operation =
     (gs : List Form) (env : Env gs) (o : Operation) (es : Codes) (s : State) →
-    LikeR (Alike (Answered (answer_by o)) (form_of gs (operation o es))) (evaluated texts qs n calls gs env (Do o es) s)
+    LikeR (Alike (PrimitiveAnswer (answer_by o)) (form_of gs (operation o es))) (evaluated texts qs n calls gs env (Do o es) s)
     (evaluated texts qs n calls gs env (operation o es) s)
 
 pub record Rewritten (p q : Program) : Type 0 where

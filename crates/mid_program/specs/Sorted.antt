@@ -15,7 +15,7 @@ use Rattle.sem_primitives.specs.declared.table.Primitive.TheVariants.{IntOf, Con
 use Rattle.mid_program.specs.declared.mid.Operation.{Operation}
 use Rattle.mid_program.specs.declared.mid.Operation.TheVariants.{Host}
 use Rattle.sem_scripts.specs.Names.{ArrayName, Numbered, Given, same_name}
-use Rattle.mid_program.specs.Mid.{Kind, Boxed, Unboxed, Many, Slot, Global, Parameter, Code, Do, Over, Compare, Call, Ask, AskLine, FileLine, Replace, Number, Text, Unset, Get, Set, Array, IsOpen, Choose, Seq, Let, Bound, Codes, End, At, Fixed, Fresh, Step, Eval, Block, If, Loop, Each, Break, Continue, Next, Exit, ExitWith, Return, Mark, Steps, NoStep, Then, Declared, Routine, Program, Form, Answered, Bare, Perhaps, a_value, form_of, arguments, parameters_at}
+use Rattle.mid_program.specs.Mid.{Kind, Boxed, Unboxed, ArrayKind, Slot, Global, Parameter, Code, Do, Over, Compare, Call, Ask, AskLine, FileLine, Replace, Number, Text, Unset, Get, Set, Array, IsOpen, Choose, Seq, Let, Bound, Codes, End, At, Fixed, Fresh, Step, Eval, Block, If, Loop, Each, Break, Continue, Next, Exit, ExitWith, Return, Mark, Steps, NoStep, Then, Declared, Routine, Program, Form, PrimitiveAnswer, NumberOrText, OptionalNumber, a_value, form_of, arguments, parameters_at}
 
 -- The primitives that are operations. The others stand behind codes of their own (`Ask`, `AskLine`, `FileLine`, `Replace`, `Compare`, `Text`,
 -- `Unset`, `Each`, `Fresh`), behind conversions, or in the run of every script: so each read is followed by its line, and each array and iterator is
@@ -55,32 +55,32 @@ is_done_here o = true
 
 -- What fits: a value, or what one is made of; a number, or what one is made of; an array.
 abbrev pub fits : Form → Sort → Bool
-fits (Answered (answer.Of sort.Value)) sort.Value = true
-fits (Answered (answer.Of sort.Number)) sort.Value = true
-fits (Answered answer.Truth) sort.Value = true
-fits Bare sort.Value = true
-fits Perhaps sort.Value = true
-fits (Answered (answer.Of sort.Value)) sort.Number = true
-fits (Answered (answer.Of sort.Number)) sort.Number = true
-fits (Answered answer.Truth) sort.Number = true
-fits (Answered answer.Input) sort.Number = true
-fits (Answered answer.Stream) sort.Number = true
-fits Bare sort.Number = true
-fits (Answered (answer.Of sort.Array)) sort.Array = true
+fits (PrimitiveAnswer (answer.Of sort.Value)) sort.Value = true
+fits (PrimitiveAnswer (answer.Of sort.Number)) sort.Value = true
+fits (PrimitiveAnswer answer.Truth) sort.Value = true
+fits NumberOrText sort.Value = true
+fits OptionalNumber sort.Value = true
+fits (PrimitiveAnswer (answer.Of sort.Value)) sort.Number = true
+fits (PrimitiveAnswer (answer.Of sort.Number)) sort.Number = true
+fits (PrimitiveAnswer answer.Truth) sort.Number = true
+fits (PrimitiveAnswer answer.Input) sort.Number = true
+fits (PrimitiveAnswer answer.Stream) sort.Number = true
+fits NumberOrText sort.Number = true
+fits (PrimitiveAnswer (answer.Of sort.Array)) sort.Array = true
 fits _ _ = false
 
 -- into an unboxed name only numbers are stored, so that no conversion faults there
 abbrev pub is_number : Form → Bool
-is_number (Answered (answer.Of sort.Number)) = true
-is_number (Answered answer.Truth) = true
+is_number (PrimitiveAnswer (answer.Of sort.Number)) = true
+is_number (PrimitiveAnswer answer.Truth) = true
 is_number _ = false
 
 -- whether its truth can be asked
 abbrev pub is_tested : Form → Bool
-is_tested (Answered (answer.Of sort.Value)) = true
-is_tested (Answered (answer.Of sort.Number)) = true
-is_tested (Answered answer.Truth) = true
-is_tested Bare = true
+is_tested (PrimitiveAnswer (answer.Of sort.Value)) = true
+is_tested (PrimitiveAnswer (answer.Of sort.Number)) = true
+is_tested (PrimitiveAnswer answer.Truth) = true
+is_tested NumberOrText = true
 is_tested _ = false
 
 -- what is chosen between
@@ -95,8 +95,8 @@ is_kept f = is_tested f
 
 -- what may be dropped: arrays and iterators are none of it
 abbrev pub is_dropped : Form → Bool
-is_dropped (Answered (answer.Of sort.Array)) = false
-is_dropped (Answered (answer.Of sort.Iterator)) = false
+is_dropped (PrimitiveAnswer (answer.Of sort.Array)) = false
+is_dropped (PrimitiveAnswer (answer.Of sort.Iterator)) = false
 is_dropped _ = true
 
 -- What code may name.
@@ -111,7 +111,7 @@ pub record Context : Type 0 where
 abbrev pub same_kind : Kind → Kind → Bool
 same_kind Boxed Boxed = true
 same_kind Unboxed Unboxed = true
-same_kind Many Many = true
+same_kind ArrayKind ArrayKind = true
 same_kind _ _ = false
 
 abbrev pub has_kind : List Kind → ℕ → Kind → Bool
@@ -135,7 +135,7 @@ takes (Parameter false i) f = fits f sort.Value
 
 abbrev pub is_array_place : Context → ArrayName → Bool
 is_array_place c (Numbered i) = nat_lt i c.arrays
-is_array_place c (Given i) = has_kind c.parameters i Many
+is_array_place c (Given i) = has_kind c.parameters i ArrayKind
 
 abbrev pub is_constant : Constant → ℕ → Bool
 is_constant c n = is_some (constant_at c n)
@@ -165,14 +165,14 @@ are_enough l es = nat_le (values_wanted l) (count_of es)
 -- an argument for a parameter: to an unboxed one a number or nothing is given
 abbrev pub is_given : Form → Kind → Bool
 is_given f Boxed = fits f sort.Value
-is_given Perhaps Unboxed = true
+is_given OptionalNumber Unboxed = true
 is_given f Unboxed = is_number f
-is_given f Many = fits f sort.Array
+is_given f ArrayKind = fits f sort.Array
 
 abbrev pub fit_call : List Form → List Kind → Codes → Bool
 fit_call fs [] End = true
 fit_call fs (k ∷ ks) (At e es) = is_given (form_of fs e) k && fit_call fs ks es
-fit_call fs (Many ∷ ks) (Fresh es) = fit_call fs ks es
+fit_call fs (ArrayKind ∷ ks) (Fresh es) = fit_call fs ks es
 fit_call fs _ _ = false
 
 -- What becomes of something that is kept, from left to right: it is there, it was moved (on some way), or it was used after it was moved.
@@ -315,7 +315,7 @@ abbrev pub kinds_of : List Declared → List Kind
 kinds_of ds = map (λ (d : Declared). d.kind) ds
 
 abbrev pub is_many : Kind → Bool
-is_many Many = true
+is_many ArrayKind = true
 is_many k = false
 
 abbrev pub arrays_among : List Declared → ℕ

@@ -9,8 +9,8 @@ use Rattle.sem_primitives.specs.declared.constants.Special.TheVariants.{Fs}
 use Rattle.sem_primitives.specs.declared.table.Primitive.{Primitive}
 use Rattle.sem_primitives.specs.declared.table.Primitive.TheVariants as row
 use Rattle.sem_primitives.specs.declared.table.Listed.TheVariants as listed
-use Rattle.awk_tokens.specs.declared.words.Builtin.{Builtin}
-use Rattle.awk_tokens.specs.declared.words.Builtin.TheVariants as builtin
+use Rattle.awk_tokens.specs.declared.reserved_words.Builtin.{Builtin}
+use Rattle.awk_tokens.specs.declared.reserved_words.Builtin.TheVariants as builtin
 use Rattle.awk_grammar.specs.Token.{Sign, Plus, Minus, Prefix, Not, Signed, Increment, Decrement, Product, Times, Over as Divided, Modulo, Assigning, Set as Put, SetSum, SetProduct, SetPower, Assign, Or, And as Both, Match, Matching, Matches, Differs, Compare as Compared, Mul, Pow, Number as Numeral, Quoted, Ere}
 use Rattle.awk_grammar.specs.Token as token
 use Rattle.awk_grammar.specs.Tree as tree
@@ -29,7 +29,7 @@ use Rattle.sem_scripts.specs.Steps.{constant, or_nought, comparison_of, ere_text
 use Rattle.sem_scripts.specs.Statements.{operands_of, with_target, destination_of, listed_of, scope_in}
 use Rattle.sem_scripts.specs.Items.{top, print_record, pattern_ranges, range_count, reads_records}
 use Rattle.mid_program.specs.Texts.{text_place, texts_of_script}
-use Rattle.mid_program.specs.Mid.{Kind, Boxed, Many, Global, Parameter, Code, Do, Over, Compare, Call, Ask, AskLine, FileLine, Replace, Number, Text, Unset, Get, Set, Array, IsOpen, Choose, Seq, Let, Bound, Codes, End, At, Fixed, Fresh, Declared, Step, Eval, Block, If, Loop, Each, Break, Continue, Next, Exit, ExitWith, Return, Mark, Steps, NoStep, Then, Routine, Program}
+use Rattle.mid_program.specs.Mid.{Kind, Boxed, ArrayKind, Global, Parameter, Code, Do, Over, Compare, Call, Ask, AskLine, FileLine, Replace, Number, Text, Unset, Get, Set, Array, IsOpen, Choose, Seq, Let, Bound, Codes, End, At, Fixed, Fresh, Declared, Step, Eval, Block, If, Loop, Each, Break, Continue, Next, Exit, ExitWith, Return, Mark, Steps, NoStep, Then, Routine, Program}
 
 -- Small codes.
 
@@ -373,7 +373,7 @@ module _ (texts : List (List ℕ)) (scope : Scope) where
   end_code (_ ∷ items) = end_code items
 
 abbrev pub kind_of : Name → Kind
-kind_of p = if p.is_array then Many else Boxed
+kind_of p = if p.is_array then ArrayKind else Boxed
 
 abbrev pub declared_code : Name → Declared
 declared_code p = record { name = p.name; kind = kind_of p }

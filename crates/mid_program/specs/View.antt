@@ -3,7 +3,7 @@ use Rattle.std.specs.Prelude.{ℕ, List, map}
 use Rattle.std.specs.Global.{Vec}
 use Rattle.mid_program.specs.Mid as plain
 use Rattle.mid_program.specs.declared.program.Kind.{Kind}
-use Rattle.mid_program.specs.declared.program.Kind.TheVariants.{Boxed, Unboxed, Many}
+use Rattle.mid_program.specs.declared.program.Kind.TheVariants.{Boxed, Unboxed, Array}
 use Rattle.mid_program.specs.declared.program.Declared.{Declared}
 use Rattle.mid_program.specs.declared.program.Routine.{Routine}
 use Rattle.mid_program.specs.declared.program.Mid.{Mid}
@@ -12,7 +12,7 @@ pub use Rattle.mid_program.specs.ViewCode.{view, views, view_maybe, view_step, v
 abbrev pub view_kind : Kind → plain.Kind
 view_kind Boxed = plain.Boxed
 view_kind Unboxed = plain.Unboxed
-view_kind Many = plain.Many
+view_kind Array = plain.ArrayKind
 
 abbrev pub view_declared : Declared → plain.Declared
 view_declared d = record { name = d.name.items; kind = view_kind d.kind }

@@ -4,9 +4,9 @@
 #![tactic(auto)]
 
 mod code;
-pub mod laws;
 mod mid;
 mod program;
+pub mod rewriting_laws;
 mod step;
 
 pub use code::{ArrayName, Code, Operand, Slot};

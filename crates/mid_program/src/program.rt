@@ -11,7 +11,7 @@ pub enum Kind {
     /// A scalar that is a number unless the command line gave it a text.
     Unboxed,
     /// An array.
-    Many,
+    Array,
 }
 
 /// A global name.

@@ -1,18 +1,22 @@
 //! Instructions and their bodies.
 
-ghost use Rattle.std.specs.Prelude.{◌≡◌, ◌+◌, ◌-◌, ℕ, List, Some, None, Ok, MatchOption, IfOk, length};
-ghost use Rattle.wasm_types.specs.Syntax.{Block, Loop, If, Instructions};
+ghost use Rattle.std.specs.Prelude.{◌≡◌, ◌+◌, ◌-◌, ℕ, List, [], Some, None, Ok, MatchOption, IfOk, length};
+ghost use Rattle.wasm_types.specs.Syntax.{Block, BrTable, Loop, If, Instructions};
 ghost use Rattle.wasm_types.specs.View.{view, views};
 ghost use Rattle.module_decoder.specs.Readings.{Reads, opener_by};
-ghost use Rattle.module_decoder.specs.Reading.{ReadBody, step_by, step_at, made_body, by_end, same, nested_at, instr_by, body_at, expr_at};
+ghost use Rattle.module_decoder.specs.Reading.{ReadBody, step_by, step_at, made_body, by_end, same, nested_at, instr_by, body_at, expr_at, table_at};
 
 use crate::basics::{Span, bits32, bits64, block_type};
 use crate::entries::{Indices, entries};
 use crate::fault::DecodeFault;
-use crate::held::shared;
 use crate::reader::Reader;
+use latched::{boxed, shared};
 use std::alloc::{AllocError, Global};
+use std::rc::Rc;
 use wasm_types::{BlockType, Instr, Lead, MAX_NESTING, Simple, lead_of};
+
+/// Where an instruction has the instructions that it holds.
+pub(crate) type Body = Rc<Vec<Instr>>;
 
 /// What stands for an instruction that is not read.
 const NOTHING: Instr = Instr::Plain(Simple::Nop);
@@ -98,28 +102,60 @@ fn end(reader: &mut Reader, ending: Ending)
     }
 }
 
-fn block(alloc: Global, kind: BlockType, inner: Vec<Instr>) -> Result<Instr, AllocError>
-    ensures { IfOk result (λ instr. view instr ≡ Block kind (views inner.items)) }
+/// A body in the place that an instruction has for it. All that are empty share one.
+pub(crate) fn held(alloc: Global, none: &Body, body: Vec<Instr>) -> Result<Body, AllocError>
+    requires { none.now.value.items ≡ [] }
+    ensures { IfOk result (λ held. held.value.items ≡ body.items) }
 {
-    Ok(Instr::Block(kind, shared(alloc, inner)?))
+    if body.is_empty() {
+        Ok(none.clone()?)
+    } else {
+        shared(alloc, body)
+    }
 }
 
-fn repeated(alloc: Global, kind: BlockType, inner: Vec<Instr>) -> Result<Instr, AllocError>
+fn block(
+    alloc: Global,
+    none: &Body,
+    kind: BlockType,
+    inner: Vec<Instr>,
+) -> Result<Instr, AllocError>
+    requires { none.now.value.items ≡ [] }
+    ensures { IfOk result (λ instr. view instr ≡ Block kind (views inner.items)) }
+{
+    Ok(Instr::Block(kind, held(alloc, none, inner)?))
+}
+
+fn repeated(
+    alloc: Global,
+    none: &Body,
+    kind: BlockType,
+    inner: Vec<Instr>,
+) -> Result<Instr, AllocError>
+    requires { none.now.value.items ≡ [] }
     ensures { IfOk result (λ instr. view instr ≡ Loop kind (views inner.items)) }
 {
-    Ok(Instr::Loop(kind, shared(alloc, inner)?))
+    Ok(Instr::Loop(kind, held(alloc, none, inner)?))
 }
 
 fn choice(
     alloc: Global,
+    none: &Body,
     kind: BlockType,
     yes: Vec<Instr>,
     no: Vec<Instr>,
 ) -> Result<Instr, AllocError>
+    requires { none.now.value.items ≡ [] }
     ensures { IfOk result (λ instr. view instr ≡ If kind (views yes.items) (views no.items)) }
 {
-    let yes = shared(alloc, yes)?;
-    Ok(Instr::If(kind, yes, shared(alloc, no)?))
+    let yes = held(alloc, none, yes)?;
+    Ok(Instr::If(kind, yes, held(alloc, none, no)?))
+}
+
+fn branches(alloc: Global, labels: Vec<u32>, other: u32) -> Result<Instr, AllocError>
+    ensures { IfOk result (λ instr. view instr ≡ BrTable labels.items other) }
+{
+    Ok(Instr::BrTable(boxed(alloc, labels)?, other))
 }
 
 /// Instructions that nothing ends, since a fault does.
@@ -142,6 +178,17 @@ fn opener_of(lead: Lead) -> Option<Opener>
         Lead::If => Some(Opener::If),
         _ => None,
     }
+}
+
+/// A branch by a table of labels, from what follows its opcode.
+fn table(reader: &mut Reader) -> Instr
+    ensures { Reads reader.old reader.new (Ok (view result, reader.new.rest.now))
+        (table_at reader.old.span reader.old.rest.now) }
+{
+    let alloc = reader.alloc;
+    let labels = entries::<Indices>(reader);
+    let other = reader.index();
+    reader.made(branches(alloc, labels, other), NOTHING)
 }
 
 /// An instruction that holds no others, from what follows its opcode.
@@ -177,10 +224,7 @@ fn plain(reader: &mut Reader, lead: Lead) -> Instr
             reader.reserved();
             Instr::Plain(Simple::MemoryGrow)
         }
-        Lead::BrTable => {
-            let labels = entries::<Indices>(reader);
-            Instr::BrTable(labels, reader.index())
-        }
+        Lead::BrTable => table(reader),
         Lead::Float => {
             reader.fail(DecodeFault::Float(behind(reader.span, reader.rest)));
             NOTHING
@@ -194,49 +238,54 @@ fn plain(reader: &mut Reader, lead: Lead) -> Instr
 
 /// An instruction that holds others, from what follows its opcode.
 #[cycle(body)]
-fn nested(reader: &mut Reader, limit: u32, opener: Opener) -> Instr
+fn nested(reader: &mut Reader, none: &Body, limit: u32, opener: Opener) -> Instr
+    requires { none.now.value.items ≡ [] }
     ensures { Reads reader.old reader.new (Ok (view result, reader.new.rest.now))
         (nested_at reader.old.span (body_at reader.old.span limit) opener reader.old.rest.now) }
 {
     let alloc = reader.alloc;
     let kind = reader.take(block_type(reader.span, reader.rest), None);
-    let first = body_of(reader, limit);
+    let first = body_of(reader, none, limit);
     match opener {
         Opener::Block => {
             end(reader, first.ending);
-            reader.made(block(alloc, kind, first.instrs), NOTHING)
+            reader.made(block(alloc, none, kind, first.instrs), NOTHING)
         }
         Opener::Loop => {
             end(reader, first.ending);
-            reader.made(repeated(alloc, kind, first.instrs), NOTHING)
+            reader.made(repeated(alloc, none, kind, first.instrs), NOTHING)
         }
         Opener::If => match first.ending {
             Ending::End => {
-                reader.made(choice(alloc, kind, first.instrs, Vec::new(alloc)), NOTHING)
+                let empty = Vec::new(alloc);
+                reader.made(choice(alloc, none, kind, first.instrs, empty), NOTHING)
             }
             Ending::Else => {
-                let second = body_of(reader, limit);
+                let second = body_of(reader, none, limit);
                 end(reader, second.ending);
-                reader.made(choice(alloc, kind, first.instrs, second.instrs), NOTHING)
+                let both = choice(alloc, none, kind, first.instrs, second.instrs);
+                reader.made(both, NOTHING)
             }
         },
     }
 }
 
 #[cycle(body)]
-fn instr(reader: &mut Reader, limit: u32, lead: Lead) -> Instr
+fn instr(reader: &mut Reader, none: &Body, limit: u32, lead: Lead) -> Instr
+    requires { none.now.value.items ≡ [] }
     ensures { Reads reader.old reader.new (Ok (view result, reader.new.rest.now))
         (instr_by reader.old.span (body_at reader.old.span limit) lead reader.old.rest.now) }
 {
     match opener_of(lead) {
-        Some(opener) => nested(reader, limit, opener),
+        Some(opener) => nested(reader, none, limit, opener),
         None => plain(reader, lead),
     }
 }
 
 /// Instructions up to what ends them.
 #[cycle(body)]
-fn body_of(reader: &mut Reader, limit: u32) -> Sequence
+fn body_of(reader: &mut Reader, none: &Body, limit: u32) -> Sequence
+    requires { none.now.value.items ≡ [] }
     ensures { Reads reader.old reader.new
         (Ok (made_body (views result.instrs.items) result.ending reader.new.rest.now))
         (body_at reader.old.span limit reader.old.rest.now) }
@@ -264,7 +313,7 @@ fn body_of(reader: &mut Reader, limit: u32) -> Sequence
             }
             Some((Step::Opens(lead), after)) => {
                 reader.rest = after;
-                let next = instr(reader, limit - 1, lead);
+                let next = instr(reader, none, limit - 1, lead);
                 reader.push(&mut instrs, next);
             }
         }
@@ -278,7 +327,12 @@ pub(crate) fn expr(reader: &mut Reader) -> Vec<Instr>
     ensures { Reads reader.old reader.new (Ok (views result.items, reader.new.rest.now))
         (expr_at reader.old.span reader.old.rest.now) }
 {
-    let body = body_of(reader, MAX_NESTING + 1);
+    let alloc = reader.alloc;
+    let Ok(none) = shared(alloc, Vec::new(alloc)) else {
+        reader.fail(DecodeFault::NoMemory);
+        return Vec::new(alloc);
+    };
+    let body = body_of(reader, &none, MAX_NESTING + 1);
     end(reader, body.ending);
     body.instrs
 }

@@ -3,11 +3,10 @@
 
 mod basics;
 mod body;
+pub mod decoding_laws;
 mod entries;
 mod entry_kinds;
 mod fault;
-mod held;
-pub mod laws;
 mod reader;
 mod sections;
 

@@ -109,6 +109,11 @@ impl<'a> Reader<'a> {
             (Ok (items.new.items, self.new.rest.now))
             (Ok (items.old.items ++ item ∷ [], self.old.rest.now)) }
     {
+        // Most lists have one item, and each is kept: without this the first item would get room for four.
+        if items.is_empty() && items.reserve_exact(1).is_err() {
+            self.fail(DecodeFault::NoMemory);
+            return;
+        }
         if items.push(item).is_err() {
             self.fail(DecodeFault::NoMemory);
         }

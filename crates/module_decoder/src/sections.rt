@@ -14,13 +14,14 @@ ghost use Rattle.module_decoder.specs.Readings.{Reads};
 ghost use Rattle.module_decoder.specs.Reading.{made_frame, section_by, part_at, Frame, frame_at, section_at, sections_at, custom_at, known_by, finished_by, after_header, module_at};
 
 use crate::basics::{Span, unfinished};
+use crate::body::{Body, held};
 use crate::entries::{Indices, fill};
 use crate::entry_kinds::{
     Code, Codes, DataSegments, Elems, Exports, FuncTypes, Globals, Imports, Memories, Tables,
 };
 use crate::fault::DecodeFault;
-use crate::held::{push, shared};
 use crate::reader::Reader;
+use latched::{push, shared};
 use std::alloc::{AllocError, Global};
 use wasm_types::{
     Data, Elem, Export, Func, FuncType, Import, Limits, MAX_MODULE_BYTES, Module, SectionId,
@@ -270,12 +271,13 @@ fn first_index(indices: &[u32]) -> Option<(u32, &[u32])>
 }
 
 /// A function from the index of its type and its code.
-fn func_of(alloc: Global, ty: u32, code: Code) -> Result<Func, AllocError>
+fn func_of(alloc: Global, none: &Body, ty: u32, code: Code) -> Result<Func, AllocError>
+    requires { none.now.value.items ≡ [] }
     ensures ty { IfOk result (λ func. func.ty ≡ ty) }
     ensures locals { IfOk result (λ func. func.locals ≡ code.locals) }
-    ensures body { IfOk result (λ func. func.body.value ≡ code.body) }
+    ensures body { IfOk result (λ func. func.body.value.items ≡ code.body.items) }
 {
-    let body = shared(alloc, code.body)?;
+    let body = held(alloc, none, code.body)?;
     Ok(Func {
         ty,
         locals: code.locals,
@@ -288,13 +290,14 @@ fn joined(alloc: Global, type_indices: Vec<u32>, codes: Vec<Code>) -> Result<Vec
     ensures { IfOk result
         (λ v. map view_func v.items ≡ joined type_indices.items (map view_code codes.items)) }
 {
+    let none = shared(alloc, Vec::new(alloc))?;
     let mut funcs = Vec::new(alloc);
     let mut rest = type_indices.as_slice();
     for code in codes {
         match first_index(rest) {
             None => return Ok(funcs),
             Some((ty, after)) => {
-                push(&mut funcs, func_of(alloc, ty, code)?)?;
+                push(&mut funcs, func_of(alloc, &none, ty, code)?)?;
                 rest = after;
             }
         }

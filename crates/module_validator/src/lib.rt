@@ -3,9 +3,9 @@
 
 mod causes;
 mod checker;
-pub mod laws;
 mod level;
 mod stack;
 mod valid;
+pub mod validation_laws;
 
 pub use valid::{InvalidFault, ValidModule, validate};

@@ -4,13 +4,16 @@ ghost use Rattle.std.specs.Prelude.{◌≡◌};
 ghost use Rattle.module_writer.specs.declared.fault.WriteFault.TheVariants.{NoMemory};
 
 use std::alloc::{AllocError, AllocFailed};
+use thiserror::Error;
 
 /// Why a module is not written.
-#[derive(Debug, Drop, PartialEq, Eq)]
+#[derive(Debug, Drop, PartialEq, Eq, Error)]
 pub enum WriteFault {
     /// The module is past a limit: 16 MiB, 4,000 nested blocks, 50,000 locals, 256 pages, 65,536 table elements.
+    #[error("the module exceeds a limit")]
     TooLarge,
     /// There was no memory.
+    #[error("out of memory")]
     NoMemory,
 }
 

@@ -14,8 +14,8 @@ use Rattle.run_report.specs.declared.end.RunEnd.{RunEnd}
 use Rattle.run_report.specs.declared.end.RunEnd.TheVariants.{Ended, Exhausted, Faulted, NoMemory, OutOfSteps, Refused, Trapped}
 use Rattle.awk_tokens.specs.declared.token.TokenFault.{TokenFault}
 use Rattle.awk_tokens.specs.declared.token.TokenFault.TheVariants as cutting
-use Rattle.awk_tokens.specs.declared.words.LeftOut.{LeftOut}
-use Rattle.awk_tokens.specs.declared.words.LeftOut.TheVariants.{Atan2, Cos, Exp, Func, Log, Rand, Sin, Sqrt, Srand, System}
+use Rattle.awk_tokens.specs.declared.reserved_words.LeftOut.{LeftOut}
+use Rattle.awk_tokens.specs.declared.reserved_words.LeftOut.TheVariants.{Atan2, Cos, Exp, Func, Log, Rand, Sin, Sqrt, Srand, System}
 use Rattle.awk_values.specs.Faults.{fault_name}
 use Rattle.ere_syntax.specs.declared.fault.EreFault.{EreFault}
 use Rattle.ere_syntax.specs.declared.fault.EreFault.TheVariants as expressions

@@ -8,8 +8,8 @@ use Rattle.awk_parse.specs.declared.fault.ParseFault.TheVariants.{ConstantRange,
 use Rattle.awk_resolve.specs.declared.fault.ResolveFault.TheVariants.{KindClash, UnknownFunction}
 use Rattle.awk_tokens.specs.Words.{entry, left_out_words}
 use Rattle.awk_tokens.specs.declared.token.TokenFault.TheVariants.{BadByte, OpenString}
-use Rattle.awk_tokens.specs.declared.words.LeftOut.{LeftOut}
-use Rattle.awk_tokens.specs.declared.words.LeftOut.TheVariants.{Atan2, Cos, Exp, Func, Log, Rand, Sin, Sqrt, Srand, System}
+use Rattle.awk_tokens.specs.declared.reserved_words.LeftOut.{LeftOut}
+use Rattle.awk_tokens.specs.declared.reserved_words.LeftOut.TheVariants.{Atan2, Cos, Exp, Func, Log, Rand, Sin, Sqrt, Srand, System}
 use Rattle.ere_syntax.specs.declared.fault.EreFault.TheVariants.{BadEre, EreTooLarge}
 use Rattle.run_report.specs.declared.end.RunEnd.TheVariants.{Ended, Exhausted, Faulted, NoMemory, OutOfSteps, Refused, Trapped}
 use Rattle.awk_values.specs.declared.fault.Fault.TheVariants.{Range}

@@ -14,10 +14,10 @@ pub enum CompileFault {
     #[error("TooLarge")]
     TooLarge,
     /// The bytes are not cut into tokens.
-    #[error("{0:?}")]
+    #[error("{0}")]
     Token(TokenFault),
     /// The tokens are those of no script, or of one in which something is left out or misplaced.
-    #[error("{0:?}")]
+    #[error("{0}")]
     Parse(ParseFault),
     /// The first constant regular expression that is refused, by its line, which counts from 1.
     #[error("line {0}: {1}")]

@@ -18,8 +18,8 @@ use Rattle.host_step.specs.HostState.{HostState, Names}
 use Rattle.host_step.specs.HostStep.{Acts, Comes, Goes, Refuses, Settles, StepBy, StepOf, Traps, acts, carried, come, comes, is_freed, only_answers, primitive_acts, refuses, where_fit}
 use Rattle.host_imports.specs.Imports.{import_answer, import_arguments, spends}
 use Rattle.host_imports.specs.declared.import.Import.{Import}
-use Rattle.host_imports.specs.declared.import.Import.TheVariants.{Arg, Drop, FreeArray, IterFree, Of, Over}
-use Rattle.host_imports.specs.declared.import.Listing.TheVariants.{Print, Printf, Sprintf}
+use Rattle.host_imports.specs.declared.import.Import.TheVariants.{Arg, Drop, FreeArray, IterFree, OfPrimitive, Variadic}
+use Rattle.host_imports.specs.declared.import.VariadicImport.TheVariants.{Print, Printf, Sprintf}
 use Rattle.run_tasks.specs.Powers.{writes}
 
 settles_none : {A : Type 0} (state : Shared) (r : Result (Inner × A) Fault) → (settles state r).added ≡ []
@@ -88,10 +88,10 @@ fit_quiet true d h = h
 fit_quiet false d h = tt
 
 acts_quiet : (i : Import) (r : Row (import_arguments i)) (s : HostState) → writes i ≡ false → ActsQuietly (acts i r s)
-acts_quiet (Of p) r s w = fit_quiet (in_turn p r s.shared) (primitive_acts s.arguments (table.can_fault p) (meaning p r s.shared)) (primitive_none p r s.shared)
-acts_quiet (Over Sprintf) r s w = fit_quiet _ _ refl
-acts_quiet (Over Print) r s w = cc
-acts_quiet (Over Printf) r s w = cc
+acts_quiet (OfPrimitive p) r s w = fit_quiet (in_turn p r s.shared) (primitive_acts s.arguments (table.can_fault p) (meaning p r s.shared)) (primitive_none p r s.shared)
+acts_quiet (Variadic Sprintf) r s w = fit_quiet _ _ refl
+acts_quiet (Variadic Print) r s w = cc
+acts_quiet (Variadic Printf) r s w = cc
 acts_quiet Arg r s w = refl
 acts_quiet Drop r s w = refl
 acts_quiet IterFree r s w = refl

@@ -4,8 +4,8 @@ use Rattle.std.specs.List.{list_any}
 use Rattle.sem_primitives.specs.declared.table.Primitive.TheVariants as row
 use Rattle.host_step.specs.Worlds.{reads_main}
 use Rattle.host_imports.specs.declared.import.Import.{Import}
-use Rattle.host_imports.specs.declared.import.Import.TheVariants.{Of, Over}
-use Rattle.host_imports.specs.declared.import.Listing.TheVariants.{Print, Printf}
+use Rattle.host_imports.specs.declared.import.Import.TheVariants.{OfPrimitive, Variadic}
+use Rattle.host_imports.specs.declared.import.VariadicImport.TheVariants.{Print, Printf}
 use Rattle.run_tasks.specs.declared.powers.Reads.{Reads}
 use Rattle.run_tasks.specs.declared.powers.Reads.TheVariants as reading
 use Rattle.run_tasks.specs.declared.powers.Writes.{Writes}
@@ -13,19 +13,19 @@ use Rattle.run_tasks.specs.declared.powers.Writes.TheVariants as writing
 
 -- a file is read whose name the module gives
 abbrev pub reads_named : Import → Bool
-reads_named (Of row.GetlineFile) = true
-reads_named (Of row.GetlineVarFile) = true
+reads_named (OfPrimitive row.GetlineFile) = true
+reads_named (OfPrimitive row.GetlineVarFile) = true
 reads_named _ = false
 
 -- An element of an array gets a value, which may be an operand in ARGV. `elem` makes elements too; without a value they are no operands.
 abbrev pub sets_elements : Import → Bool
-sets_elements (Of row.SetElem) = true
-sets_elements (Of row.Split) = true
+sets_elements (OfPrimitive row.SetElem) = true
+sets_elements (OfPrimitive row.Split) = true
 sets_elements _ = false
 
 abbrev pub writes : Import → Bool
-writes (Over Print) = true
-writes (Over Printf) = true
+writes (Variadic Print) = true
+writes (Variadic Printf) = true
 writes _ = false
 
 -- the main input is that of the operands alone, where none but the command line names them

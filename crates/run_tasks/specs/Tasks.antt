@@ -8,8 +8,8 @@ use Rattle.run_report.specs.declared.end.RunEnd.{RunEnd}
 use Rattle.run_report.specs.declared.end.RunEnd.TheVariants.{Refused}
 use Rattle.run_report.specs.declared.end.RunEnd.TheVariants as end
 use Rattle.run_report.specs.EndTexts.{end_text, exit_code, file_text}
-use Rattle.run_tasks.specs.declared.undone.Undone.{Undone}
-use Rattle.run_tasks.specs.declared.undone.Undone.TheVariants.{Arguments, File, NoMemory, RandomNumbers, ScriptFile, TextApart, Unexplained}
+use Rattle.run_tasks.specs.declared.task_error.TaskError.{TaskError}
+use Rattle.run_tasks.specs.declared.task_error.TaskError.TheVariants.{Arguments, File, NoMemory, RandomNumbers, ScriptFile, TextApart, Unexplained}
 
 -- what is told of a module whose imports are not listed: what is told of it where it is run
 abbrev pub IsUnreadable : List ℕ → RunEnd → Type 0
@@ -20,7 +20,7 @@ IsUnreadable bytes end.NoMemory = Unit {0}
 IsUnreadable bytes _ = ⊥
 
 -- one line, whatever the cause
-abbrev pub undone_text : Undone → List ℕ
+abbrev pub undone_text : TaskError → List ℕ
 undone_text (File fault) = file_text fault
 undone_text Arguments = codes "awkwasm: an argument is not UTF-8\n"
 undone_text RandomNumbers = codes "awkwasm: the system gives no random numbers\n"
@@ -29,7 +29,7 @@ undone_text TextApart = codes "awkwasm: attach a text that begins with a hyphen 
 undone_text Unexplained = codes "awkwasm: no such name; awkwasm explain lists the names\n"
 undone_text NoMemory = end_text end.NoMemory
 
-abbrev pub undone_code : Undone → ℕ
+abbrev pub undone_code : TaskError → ℕ
 undone_code (File fault) = 8
 undone_code Arguments = 8
 undone_code RandomNumbers = 8
@@ -38,6 +38,6 @@ undone_code TextApart = 8
 undone_code Unexplained = 8
 undone_code NoMemory = 5
 
-abbrev pub task_code : Result RunEnd Undone → ℕ
+abbrev pub task_code : Result RunEnd TaskError → ℕ
 task_code (Ok e) = exit_code e
 task_code (Err undone) = undone_code undone

@@ -6,14 +6,14 @@
 mod checks;
 mod counting;
 mod fences;
+pub mod import_laws;
 mod imports;
 mod job;
-pub mod laws;
 mod lined;
 mod module_sight;
 mod powers;
 mod sandbox;
-mod undone;
+mod task_error;
 mod where_text;
 
 pub use awk_run::ModuleWhereabouts;
@@ -26,5 +26,5 @@ pub use lined::compiled_with_lines;
 pub use module_sight::module_seen;
 pub use powers::{Reads, Writes, reads_of, writes_of};
 pub use sandbox::{Surroundings, compiled, module_end, script_end, script_seen};
-pub use undone::{Undone, undone_status, undone_text};
+pub use task_error::{TaskError, undone_status, undone_text};
 pub use where_text::module_where_text;

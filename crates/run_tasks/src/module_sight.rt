@@ -34,7 +34,7 @@ fn module_seen_behind<'a, W: World>(
     FencedWorld<W, FileFence<'a>>,
 )
     requires { form_of world.fence ≡ fence_of_task task.now }
-    ensures { Answers (W.tells × ⊥) bytes.now
+    ensures { Answers (W.is_modelled × ⊥) bytes.now
         (job_of_task task.now (map pair_of environment.items)) task.now.steps
         (behind (lets_read (fence_of_task task.now)) (W.state world.entry.inner)) result.0
         (behind (lets_read (form_of result.2.fence)) (W.state result.2.inner)) }

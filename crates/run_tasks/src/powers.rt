@@ -4,7 +4,7 @@ ghost use Rattle.std.specs.List.{list_any};
 ghost use Rattle.host_step.specs.Worlds.{reads_main};
 ghost use Rattle.run_tasks.specs.Powers.{reads_named, reads_of, sets_elements, writes, writes_of};
 
-use host_imports::{Import, Listing};
+use host_imports::{Import, VariadicImport};
 use sem_primitives::Primitive;
 
 /// What a module may read.
@@ -33,7 +33,7 @@ fn reads_main(import: Import) -> bool
 {
     matches!(
         import,
-        Import::Of(Primitive::NextMain | Primitive::Getline | Primitive::GetlineVar)
+        Import::OfPrimitive(Primitive::NextMain | Primitive::Getline | Primitive::GetlineVar)
     )
 }
 
@@ -43,7 +43,7 @@ fn reads_named(import: Import) -> bool
 {
     matches!(
         import,
-        Import::Of(Primitive::GetlineFile | Primitive::GetlineVarFile)
+        Import::OfPrimitive(Primitive::GetlineFile | Primitive::GetlineVarFile)
     )
 }
 
@@ -51,14 +51,20 @@ fn reads_named(import: Import) -> bool
 fn sets_elements(import: Import) -> bool
     ensures { result ≡ sets_elements import }
 {
-    matches!(import, Import::Of(Primitive::SetElem | Primitive::Split))
+    matches!(
+        import,
+        Import::OfPrimitive(Primitive::SetElem | Primitive::Split)
+    )
 }
 
 /// Whether a call writes.
 fn can_write(import: Import) -> bool
     ensures { result ≡ writes import }
 {
-    matches!(import, Import::Over(Listing::Print | Listing::Printf))
+    matches!(
+        import,
+        Import::Variadic(VariadicImport::Print | VariadicImport::Printf)
+    )
 }
 
 fn any_reads_main(imports: &[Import]) -> bool

@@ -48,7 +48,7 @@ fn script_behind<'a, W: World>(
     world: FencedWorld<W, FileFence<'a>>,
 ) -> (RunEnd, FencedWorld<W, FileFence<'a>>)
     requires { form_of world.fence ≡ fence_of_task task.now }
-    ensures { ScriptAnswers (W.tells × ⊥) task.now.subject.now
+    ensures { ScriptAnswers (W.is_modelled × ⊥) task.now.subject.now
         (job_of_task task.now (map pair_of environment.items)) task.now.steps
         (behind (lets_read (fence_of_task task.now)) (W.state world.entry.inner)) result.0
         (behind (lets_read (form_of result.1.fence)) (W.state result.1.inner)) }
@@ -69,7 +69,7 @@ fn script_seen_behind<'a, W: World>(
     world: FencedWorld<W, FileFence<'a>>,
 ) -> (RunEnd, Option<Whereabouts>, FencedWorld<W, FileFence<'a>>)
     requires { form_of world.fence ≡ fence_of_task task.now }
-    ensures { ScriptAnswers (W.tells × ⊥) task.now.subject.now
+    ensures { ScriptAnswers (W.is_modelled × ⊥) task.now.subject.now
         (job_of_task task.now (map pair_of environment.items)) task.now.steps
         (behind (lets_read (fence_of_task task.now)) (W.state world.entry.inner)) result.0
         (behind (lets_read (form_of result.2.fence)) (W.state result.2.inner)) }
@@ -91,7 +91,7 @@ fn module_behind<'a, W: World>(
     world: FencedWorld<W, FileFence<'a>>,
 ) -> (RunEnd, FencedWorld<W, FileFence<'a>>)
     requires { form_of world.fence ≡ fence_of_task task.now }
-    ensures { Answers (W.tells × ⊥) bytes.now
+    ensures { Answers (W.is_modelled × ⊥) bytes.now
         (job_of_task task.now (map pair_of environment.items)) task.now.steps
         (behind (lets_read (fence_of_task task.now)) (W.state world.entry.inner)) result.0
         (behind (lets_read (form_of result.1.fence)) (W.state result.1.inner)) }

@@ -8,7 +8,7 @@ use Rattle.awk_tokens.specs.declared.token.Token.{Token}
 use Rattle.awk_tokens.specs.declared.token.TokenFault.TheVariants.{BadByte, OpenString}
 use Rattle.awk_tokens.specs.declared.token.TokenKind.{TokenKind}
 use Rattle.awk_tokens.specs.declared.token.TokenKind.TheVariants.{Keyword as Word, Name, Punctuator as Sign}
-use Rattle.awk_tokens.specs.declared.words.Keyword.TheVariants.{For, Print}
+use Rattle.awk_tokens.specs.declared.reserved_words.Keyword.TheVariants.{For, Print}
 use Rattle.script_check.specs.declared.uses.Deed.{Deed}
 use Rattle.script_check.specs.declared.uses.Deed.TheVariants.{Assigns, Defines, Sets, SetsArray, Takes}
 use Rattle.script_check.specs.Stopped.{innermost, syntax, syntax_at}

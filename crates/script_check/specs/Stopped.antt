@@ -1,7 +1,7 @@
 -- What is missing where reading stopped, where that is sure.
 use Rattle.std.specs.Prelude.{ℕ, zero, suc, ◌+◌, ◌-◌, ◌==◌, Bool, true, false, not, ◌&&◌, ◌||◌, if◌then◌else◌, List, [], length, Option, Some, None, codes, slice_get}
-use Rattle.awk_tokens.specs.declared.words.Keyword.{Keyword}
-use Rattle.awk_tokens.specs.declared.words.Keyword.TheVariants.{Begin, End, Function, For}
+use Rattle.awk_tokens.specs.declared.reserved_words.Keyword.{Keyword}
+use Rattle.awk_tokens.specs.declared.reserved_words.Keyword.TheVariants.{Begin, End, Function, For}
 use Rattle.awk_tokens.specs.declared.token.Punctuator.{Punctuator}
 use Rattle.awk_tokens.specs.declared.token.Punctuator.TheVariants.{OpenBrace, CloseBrace, OpenParen, CloseParen, OpenBracket, CloseBracket, Semicolon, Comma, Plus, Minus, Star, Slash, Percent, Caret, Bang, Greater, Less, Question, Colon, Tilde, Dollar, Assign, PlusAssign, MinusAssign, StarAssign, SlashAssign, PercentAssign, CaretAssign, Equal, LessEqual, GreaterEqual, NotEqual, NotTilde, And, Or, Append}
 use Rattle.awk_tokens.specs.declared.token.TokenKind.{TokenKind}

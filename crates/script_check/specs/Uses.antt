@@ -2,8 +2,8 @@
 use Rattle.std.specs.Prelude.{ℕ, ◌+◌, ◌==◌, Bool, true, false, not, ◌&&◌, List, [], ◌∷◌, ◌++◌, Option, Some, None, Result, Ok, Err, ℤ, pos, int_rem, int_lt, unsigned_abs, if◌then◌else◌}
 use Rattle.awk_text.specs.Number.{number_of_text}
 use Rattle.awk_text.specs.declared.number.NumberFault.{NumberFault}
-use Rattle.awk_tokens.specs.declared.words.Builtin.{Builtin}
-use Rattle.awk_tokens.specs.declared.words.Builtin.TheVariants.{Split, Sub, Gsub}
+use Rattle.awk_tokens.specs.declared.reserved_words.Builtin.{Builtin}
+use Rattle.awk_tokens.specs.declared.reserved_words.Builtin.TheVariants.{Split, Sub, Gsub}
 use Rattle.awk_grammar.specs.Token.{Product, Over, Assigning, Set, Symbol, Assign, Mul, Number, Literal}
 use Rattle.awk_grammar.specs.Tree.{Op, Join, Add, Other, Tree, Leaf, Length, Var, Index, Field, Group, Call, Apply, Unary, Pre, Post, Bin, Has, HasList, Cond, Get, GetInto, GetFrom, GetIntoFrom, Trees, NoTree, Then, count}
 use Rattle.awk_grammar.specs.Stmt.{Args, NoArgs, Listed, Enclosed, Target, NoTarget, Written, Appended, Plain, Eval, Put, Delete, Clear, Stmt, Block, Empty, Simple, If, IfElse, While, Do, For, ForIn, Jumping, Leave, Stmts, NoStmt, And}

@@ -3,7 +3,7 @@ use Rattle.std.proofs.Common.{◌≡◌, ℕ, zero, suc, ◌+◌, ◌<◌, Bool,
 use Rattle.std.specs.Prelude.{if◌then◌else◌, map, is_some, codes, Option, Some, None}
 use Rattle.sem_primitives.specs.declared.constants.Special.{Special}
 use Rattle.sem_scripts.specs.Names.{Name, Function, Resolved, Scope, Variable, Global, Parameter, Reserved, same_name, next_place, place_in, function_in, or_past, names_length, functions_length, function_at, special_named, special_array, is_special_array, variable_by, variable_of, global_or_special, own_or_special, arrays_before, array_by, kind_at, variable_is_array}
-use Rattle.mid_program.specs.Mid.{Kind, Boxed, Many, Routine, parameters_at}
+use Rattle.mid_program.specs.Mid.{Kind, Boxed, ArrayKind, Routine, parameters_at}
 use Rattle.mid_program.specs.Sorted.{Context, same_kind, has_kind, is_array_place, kinds_of, is_many, arrays_among, context_of}
 use Rattle.mid_program.specs.Translation.{kind_of, declared_code, routine_code, program_with}
 use Rattle.script_code.specs.Fits.{scalar_at, is_scalar_variable}
@@ -20,11 +20,11 @@ kinds_again : (ns : List Name) → kinds_of (map declared_code ns) ≡ map kind_
 kinds_again [] = refl
 kinds_again (n ∷ ns) = ap (λ ks. kind_of n ∷ ks) (kinds_again ns)
 
-is_boxed : (b : Bool) → not b ≡ true → same_kind (if b then Many else Boxed) Boxed ≡ true
+is_boxed : (b : Bool) → not b ≡ true → same_kind (if b then ArrayKind else Boxed) Boxed ≡ true
 is_boxed true e = absurd (true≢false (sym e))
 is_boxed false e = refl
 
-is_an_array : (b : Bool) → b ≡ true → same_kind (if b then Many else Boxed) Many ≡ true
+is_an_array : (b : Bool) → b ≡ true → same_kind (if b then ArrayKind else Boxed) ArrayKind ≡ true
 is_an_array true e = refl
 is_an_array false e = absurd (true≢false (sym e))
 
@@ -33,7 +33,7 @@ scalar_kind [] i e = absurd (true≢false (sym e))
 scalar_kind (n ∷ ns) zero e = is_boxed n.is_array e
 scalar_kind (n ∷ ns) (suc i) e = scalar_kind ns i e
 
-array_kind : (ns : List Name) (i : ℕ) → kind_at ns i ≡ true → has_kind (map kind_of ns) i Many ≡ true
+array_kind : (ns : List Name) (i : ℕ) → kind_at ns i ≡ true → has_kind (map kind_of ns) i ArrayKind ≡ true
 array_kind [] i e = absurd (true≢false (sym e))
 array_kind (n ∷ ns) zero e = is_an_array n.is_array e
 array_kind (n ∷ ns) (suc i) e = array_kind ns i e
@@ -44,11 +44,11 @@ past_next : (n : ℕ) (o : Option ℕ) → or_past (suc n) (next_place o) ≡ su
 past_next n (Some i) = refl
 past_next n None = refl
 
-here_among : (b : Bool) (n : ℕ) → b ≡ true → 0 < (if is_many (if b then Many else Boxed) then suc n else n)
+here_among : (b : Bool) (n : ℕ) → b ≡ true → 0 < (if is_many (if b then ArrayKind else Boxed) then suc n else n)
 here_among true n e = omega arith
 here_among false n e = absurd (true≢false (sym e))
 
-more_among : (b : Bool) (m n : ℕ) → m < n → (if b then suc m else m) < (if is_many (if b then Many else Boxed) then suc n else n)
+more_among : (b : Bool) (m n : ℕ) → m < n → (if b then suc m else m) < (if is_many (if b then ArrayKind else Boxed) then suc n else n)
 more_among true m n l = omega (arith, l)
 more_among false m n l = l
 

@@ -20,7 +20,7 @@ use Rattle.mid_program.specs.declared.mid.Operation.{Operation}
 use Rattle.mid_program.specs.declared.mid.Operation.TheVariants.{Host, AsNumber}
 use Rattle.sem_scripts.specs.Names as names
 use Rattle.sem_scripts.specs.Names.{ArrayName, Variable, Reserved}
-use Rattle.mid_program.specs.Mid.{Code, Do, Compare, Ask, Number, Text, Array, Choose, At, End, Fixed, Boxed, Form, Answered, Bare, form_of, arguments, answer_by}
+use Rattle.mid_program.specs.Mid.{Code, Do, Compare, Ask, Number, Text, Array, Choose, At, End, Fixed, Boxed, Form, PrimitiveAnswer, NumberOrText, form_of, arguments, answer_by}
 use Rattle.mid_program.specs.Sorted.{Context, Held, There, Moved, Misused, either_way, fits, is_tested, is_dropped, is_chosen, is_operation, is_done_here, is_constant, is_array_place, is_bound, has_kind, held_after, sorted, all_sorted}
 use Rattle.mid_program.specs.Translation.{host, one, two, zero_code, one_code, truth_code, untruth_code, record_code, special_code, variable_code, matching_code, ere_code}
 use Rattle.mid_program.specs.Texts.{text_place}
@@ -28,24 +28,24 @@ use Rattle.mid_program.specs.Texts.{text_place}
 -- Forms: what may be tested is a value, or what one is made of.
 
 pub tested_value : (f : Form) → is_tested f ≡ true → fits f sort.Value ≡ true
-tested_value (Answered (answer.Of sort.Value)) e = refl
-tested_value (Answered (answer.Of sort.Number)) e = refl
-tested_value (Answered answer.Truth) e = refl
-tested_value Bare e = refl
+tested_value (PrimitiveAnswer (answer.Of sort.Value)) e = refl
+tested_value (PrimitiveAnswer (answer.Of sort.Number)) e = refl
+tested_value (PrimitiveAnswer answer.Truth) e = refl
+tested_value NumberOrText e = refl
 tested_value f e = absurd (true≢false (sym e))
 
 pub tested_number : (f : Form) → is_tested f ≡ true → fits f sort.Number ≡ true
-tested_number (Answered (answer.Of sort.Value)) e = refl
-tested_number (Answered (answer.Of sort.Number)) e = refl
-tested_number (Answered answer.Truth) e = refl
-tested_number Bare e = refl
+tested_number (PrimitiveAnswer (answer.Of sort.Value)) e = refl
+tested_number (PrimitiveAnswer (answer.Of sort.Number)) e = refl
+tested_number (PrimitiveAnswer answer.Truth) e = refl
+tested_number NumberOrText e = refl
 tested_number f e = absurd (true≢false (sym e))
 
 pub tested_dropped : (f : Form) → is_tested f ≡ true → is_dropped f ≡ true
-tested_dropped (Answered (answer.Of sort.Value)) e = refl
-tested_dropped (Answered (answer.Of sort.Number)) e = refl
-tested_dropped (Answered answer.Truth) e = refl
-tested_dropped Bare e = refl
+tested_dropped (PrimitiveAnswer (answer.Of sort.Value)) e = refl
+tested_dropped (PrimitiveAnswer (answer.Of sort.Number)) e = refl
+tested_dropped (PrimitiveAnswer answer.Truth) e = refl
+tested_dropped NumberOrText e = refl
 tested_dropped f e = absurd (true≢false (sym e))
 
 -- what is taken as one of these sorts may be whatever may be tested
@@ -104,7 +104,7 @@ module _ (c : Context) where
 
     -- operations on what may be tested
 
-    pub one_operand : (o : Operation) (s : Sort) (a : Code) → is_done_here o ≡ true → arguments o ≡ argument.Of s ∷ [] → is_tested (Answered (answer_by o)) ≡ true → TakesTested s →
+    pub one_operand : (o : Operation) (s : Sort) (a : Code) → is_done_here o ≡ true → arguments o ≡ argument.Of s ∷ [] → is_tested (PrimitiveAnswer (answer_by o)) ≡ true → TakesTested s →
         Good fs a → Good fs (Do o (one a))
     unfolding sorted all_sorted
     one_operand o s a d r t p g = record {
@@ -113,7 +113,7 @@ module _ (c : Context) where
       apart = g.apart;
     }
 
-    pub two_operands : (o : Operation) (s u : Sort) (a b : Code) → is_done_here o ≡ true → arguments o ≡ argument.Of s ∷ argument.Of u ∷ [] → is_tested (Answered (answer_by o)) ≡ true → TakesTested s → TakesTested u →
+    pub two_operands : (o : Operation) (s u : Sort) (a b : Code) → is_done_here o ≡ true → arguments o ≡ argument.Of s ∷ argument.Of u ∷ [] → is_tested (PrimitiveAnswer (answer_by o)) ≡ true → TakesTested s → TakesTested u →
         Good fs a → Good fs b → Good fs (Do o (two a b))
     unfolding sorted all_sorted
     two_operands o s u a b d r t p q g h = record {
@@ -122,7 +122,7 @@ module _ (c : Context) where
       apart = λ i held. ap (held_after i b) (g.apart i held) ∙ h.apart i held;
     }
 
-    pub three_operands : (o : Operation) (s u v : Sort) (a b d : Code) → is_done_here o ≡ true → arguments o ≡ argument.Of s ∷ argument.Of u ∷ argument.Of v ∷ [] → is_tested (Answered (answer_by o)) ≡ true →
+    pub three_operands : (o : Operation) (s u v : Sort) (a b d : Code) → is_done_here o ≡ true → arguments o ≡ argument.Of s ∷ argument.Of u ∷ argument.Of v ∷ [] → is_tested (PrimitiveAnswer (answer_by o)) ≡ true →
         TakesTested s → TakesTested u → TakesTested v → Good fs a → Good fs b → Good fs d → Good fs (Do o (At a (two b d)))
     unfolding sorted all_sorted
     three_operands o s u v a b d here r t p q w g h k = record {
@@ -132,7 +132,7 @@ module _ (c : Context) where
     }
 
     -- how a read went, or whether a stream was closed, as a number
-    pub answer_number_good : (p : Primitive) (a : Code) → is_operation p ≡ true → arguments_of p ≡ argument.Of sort.Value ∷ [] → fits (Answered (answer_of p)) sort.Number ≡ true → Good fs a → Good fs (Do AsNumber (one (host p (one a))))
+    pub answer_number_good : (p : Primitive) (a : Code) → is_operation p ≡ true → arguments_of p ≡ argument.Of sort.Value ∷ [] → fits (PrimitiveAnswer (answer_of p)) sort.Number ≡ true → Good fs a → Good fs (Do AsNumber (one (host p (one a))))
     unfolding sorted all_sorted
     answer_number_good p a d r t g = record { tested = refl; fine = rw (t, d, r, as_value a g, g.fine) refl; apart = g.apart }
 
@@ -206,7 +206,7 @@ module _ (c : Context) where
 
     -- choices
 
-    pub choose_good : (s : Sort) (e a b : Code) → is_chosen s ≡ true → is_tested (Answered (answer.Of s)) ≡ true → TakesTested s → Good fs e → Good fs a → Good fs b → Good fs (Choose s e a b)
+    pub choose_good : (s : Sort) (e a b : Code) → is_chosen s ≡ true → is_tested (PrimitiveAnswer (answer.Of s)) ≡ true → TakesTested s → Good fs e → Good fs a → Good fs b → Good fs (Choose s e a b)
     unfolding sorted
     choose_good s e a b k t p g h l = record {
       tested = t;

@@ -4,7 +4,7 @@ use Rattle.std.specs.Prelude.{if◌then◌else◌, nat_lt, nat_le, map}
 use Rattle.sem_primitives.specs.InTurn.{values_wanted}
 use Rattle.sem_primitives.specs.declared.table.Listed.{Listed}
 use Rattle.sem_scripts.specs.Names.{Name, ArrayName, Variable}
-use Rattle.mid_program.specs.Mid.{Kind, Boxed, Many, Code, Over, Call, Unset, Array, Codes, End, At, Fresh, Form, parameters_at}
+use Rattle.mid_program.specs.Mid.{Kind, Boxed, ArrayKind, Code, Over, Call, Unset, Array, Codes, End, At, Fresh, Form, parameters_at}
 use Rattle.mid_program.specs.Sorted.{Context, Held, is_array_place, fit_call, all_values, count_of, held_after_all, are_missing, sorted, all_sorted}
 use Rattle.mid_program.specs.Translation.{variable_code, fresh_codes, kind_of}
 use Rattle.script_code.proofs.Good.{Good, is_known, as_value, variable_good}
@@ -47,7 +47,7 @@ module _ (c : Context) (fs : List Form) where
       by true h = h
       by false h = h
 
-  fresh_handed : (b : Bool) (ks : List Kind) (es : Codes) → are_missing es ≡ true → Handed ks es → Handed ((if b then Many else Boxed) ∷ ks) (if b then Fresh es else At Unset es)
+  fresh_handed : (b : Bool) (ks : List Kind) (es : Codes) → are_missing es ≡ true → Handed ks es → Handed ((if b then ArrayKind else Boxed) ∷ ks) (if b then Fresh es else At Unset es)
   unfolding sorted all_sorted
   fresh_handed true ks es m h = record { fit = h.fit; fine = rw m h.fine; apart = h.apart }
   fresh_handed false ks es m h = record { fit = h.fit; fine = h.fine; apart = h.apart }
@@ -58,7 +58,7 @@ module _ (c : Context) (fs : List Form) where
 
   -- a name for a parameter: b for an array, d an array's name, s a scalar's
   pub name_handed : (b d s : Bool) (a : ArrayName) (v : Variable) (ks : List Kind) (es : Codes) → (d || (not b && s)) ≡ true → (d ≡ true → is_array_place c a ≡ true) → (s ≡ true → is_known c v ≡ true) → Handed ks es →
-      Handed ((if b then Many else Boxed) ∷ ks) (At (if b then Array a else (if d then Unset else variable_code v)) es)
+      Handed ((if b then ArrayKind else Boxed) ∷ ks) (At (if b then Array a else (if d then Unset else variable_code v)) es)
   unfolding sorted all_sorted
   name_handed true true s a v ks es e p q h = record { fit = h.fit; fine = rw (p refl) h.fine; apart = h.apart }
   name_handed false true s a v ks es e p q h = record { fit = h.fit; fine = h.fine; apart = h.apart }
@@ -68,7 +68,7 @@ module _ (c : Context) (fs : List Form) where
   name_handed false false false a v ks es e p q h = absurd (true≢false (sym e))
   name_handed true false s a v ks es e p q h = absurd (true≢false (sym e))
 
-  pub value_handed : (b : Bool) (e : Code) (ks : List Kind) (es : Codes) → b ≡ false → Good c fs e → Handed ks es → Handed ((if b then Many else Boxed) ∷ ks) (At e es)
+  pub value_handed : (b : Bool) (e : Code) (ks : List Kind) (es : Codes) → b ≡ false → Good c fs e → Handed ks es → Handed ((if b then ArrayKind else Boxed) ∷ ks) (At e es)
   unfolding all_sorted
   value_handed true e ks es n g h = absurd (true≢false n)
   value_handed false e ks es n g h = record { fit = rw (as_value c fs e g) h.fit; fine = rw (g.fine) h.fine; apart = λ i s. rw (g.apart i s) (h.apart i s) }

@@ -15,7 +15,7 @@ use Rattle.mid_program.specs.declared.mid.Operation.TheVariants.{Host}
 use Rattle.sem_scripts.specs.Names.{Resolved, Scope, variable_of, array_of}
 use Rattle.sem_scripts.specs.Statements.{operands_of, with_last, with_target, destination_of, listed_of}
 use Rattle.mid_program.specs.Texts.{texts_in, all_texts, args_texts, target_texts, plain_texts, maybe_texts, maybe_plain_texts, stmt_texts, stmts_texts}
-use Rattle.mid_program.specs.Mid.{Form, Answered, form_of}
+use Rattle.mid_program.specs.Mid.{Form, PrimitiveAnswer, form_of}
 use Rattle.mid_program.specs.Sorted.{Context, is_dropped, sorted, all_sorted, test_sorted, step_sorted, steps_sorted}
 use Rattle.mid_program.specs.Translation.{code_of, codes_of, key_code, test_code, plain_step, maybe_step, step_code, steps_code}
 use Rattle.script_code.specs.Fits.{scope_at, is_met, is_placed, are_placed, AreMet}
@@ -47,7 +47,7 @@ some_count p (Listed NoTree) w = absurd w.1
 some_count p (Listed (Then t ts)) w = omega arith
 some_count p (Enclosed t ts) w = omega arith
 
-put_dropped : (p : Printing) (d : Destination) → is_dropped (Answered (listed_answer (listed_of p d))) ≡ true
+put_dropped : (p : Printing) (d : Destination) → is_dropped (PrimitiveAnswer (listed_answer (listed_of p d))) ≡ true
 put_dropped Print d = refl
 put_dropped Printf d = refl
 

@@ -8,8 +8,8 @@ use Rattle.sem_primitives.specs.declared.constants.Special.TheVariants.{Fs}
 use Rattle.sem_primitives.specs.declared.sorts.Sort.TheVariants as sort
 use Rattle.sem_primitives.specs.declared.table.Primitive.TheVariants as row
 use Rattle.sem_primitives.specs.declared.table.Listed.TheVariants as listed
-use Rattle.awk_tokens.specs.declared.words.Builtin.{Builtin}
-use Rattle.awk_tokens.specs.declared.words.Builtin.TheVariants as builtin
+use Rattle.awk_tokens.specs.declared.reserved_words.Builtin.{Builtin}
+use Rattle.awk_tokens.specs.declared.reserved_words.Builtin.TheVariants as builtin
 use Rattle.awk_grammar.specs.Token.{Plus, Minus, Not, Signed, Over as Divided, Set as Put, SetSum, SetProduct, SetPower, Assign, Or, And as Both, Match, Compare as Compared, Mul, Pow, Number as Numeral, Quoted, Ere}
 use Rattle.awk_grammar.specs.Tree as tree
 use Rattle.awk_grammar.specs.Tree.{Tree, Leaf, Length, Var, Index, Field, Group, Apply, Unary, Pre, Post, Bin, Join, Add, Other, Has, HasList, Cond, GetInto, GetFrom, GetIntoFrom, Trees, NoTree, IsSome, count}

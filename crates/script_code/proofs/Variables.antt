@@ -4,7 +4,7 @@ use Rattle.mid_program.specs.declared.mid.Operation.{Operation}
 use Rattle.mid_program.specs.declared.mid.Operation.TheVariants.{AsNumber}
 use Rattle.sem_scripts.specs.Names as names
 use Rattle.sem_scripts.specs.Names.{Variable, Reserved}
-use Rattle.mid_program.specs.Mid.{Code, Do, AskLine, FileLine, Replace, Seq, Let, At, End, Form, Answered, a_value, a_number, form_of, answer_by}
+use Rattle.mid_program.specs.Mid.{Code, Do, AskLine, FileLine, Replace, Seq, Let, At, End, Form, PrimitiveAnswer, a_value, a_number, form_of, answer_by}
 use Rattle.mid_program.specs.Sorted.{Context, Held, There, Moved, is_tested, is_dropped, held_after, stores_well, sorted, all_sorted}
 use Rattle.mid_program.specs.Translation.{one, two, one_code, copied, moved, variable_code, store_variable_code, set_variable_code}
 use Rattle.script_code.proofs.Good.{Good, is_known, as_value, as_number, tested_value, tested_number, tested_dropped, either_same, last_bound, second_bound, special_is, variable_good}
@@ -59,7 +59,7 @@ module _ (c : Context) where
     pub step_after_good : (o : Operation) → OnNumbers o → Good c fs (Let (Do AsNumber (one (variable_code v))) (Let (Do o (two (copied 0) one_code)) (Seq (store_variable_code v (moved 0)) (moved 1))))
     unfolding sorted all_sorted
     step_after_good o n =
-        let F = Answered (answer_by o) in
+        let F = PrimitiveAnswer (answer_by o) in
         let g = variable_good c fs v k in
         record {
           tested = refl;

@@ -6,7 +6,7 @@ use Rattle.sem_primitives.specs.declared.table.Primitive.TheVariants as row
 use Rattle.mid_program.specs.declared.mid.Operation.{Operation}
 use Rattle.mid_program.specs.declared.mid.Operation.TheVariants.{AsNumber}
 use Rattle.sem_scripts.specs.Names.{ArrayName}
-use Rattle.mid_program.specs.Mid.{Code, Do, AskLine, FileLine, Replace, Array, Seq, Let, At, End, Form, Answered, a_value, a_number, form_of, form_at, arguments, answer_by}
+use Rattle.mid_program.specs.Mid.{Code, Do, AskLine, FileLine, Replace, Array, Seq, Let, At, End, Form, PrimitiveAnswer, a_value, a_number, form_of, form_at, arguments, answer_by}
 use Rattle.mid_program.specs.Sorted.{Context, Held, There, Moved, is_tested, is_dropped, is_done_here, is_array_place, is_bound, held_after, keeps_well, sorted, all_sorted}
 use Rattle.mid_program.specs.Translation.{host, one, two, one_code, copied, moved}
 use Rattle.script_code.proofs.Good.{Good, as_value, tested_value, tested_number, either_same, last_bound, second_bound, third_bound}
@@ -15,7 +15,7 @@ use Rattle.script_code.proofs.Good.{Good, as_value, tested_value, tested_number,
 pub record OnNumbers (o : Operation) : Type 0 where
   pub here : is_done_here o ≡ true
   pub takes : arguments o ≡ argument.Of sort.Number ∷ argument.Of sort.Number ∷ []
-  pub gives : is_tested (Answered (answer_by o)) ≡ true
+  pub gives : is_tested (PrimitiveAnswer (answer_by o)) ≡ true
 
 module _ (c : Context) where
   -- code that uses what was kept last, and uses it well
@@ -106,7 +106,7 @@ module _ (c : Context) where
     pub step_after_inner : (o : Operation) → OnNumbers o → Inner (f ∷ fs) (Let (Do AsNumber (one (w.read 0))) (Let (Do o (two (copied 0) one_code)) (Seq (w.store 2 (moved 0)) (moved 1))))
     unfolding sorted all_sorted
     step_after_inner o n =
-        let F = Answered (answer_by o) in
+        let F = PrimitiveAnswer (answer_by o) in
         let gs = F ∷ a_number ∷ f ∷ fs in
         record {
           tested = refl;
@@ -132,7 +132,7 @@ module _ (c : Context) where
     unfolding sorted all_sorted
     updated_inner o right n g =
         let R = form_of (f ∷ fs) right in
-        let F = Answered (answer_by o) in
+        let F = PrimitiveAnswer (answer_by o) in
         let gs = F ∷ R ∷ f ∷ fs in
         record {
           tested = n.gives;

@@ -7,7 +7,7 @@ ghost use Rattle.awk_tokens.specs.Views.{spelled};
 ghost use Rattle.awk_grammar.specs.ViewStmt.{view_script};
 ghost use Rattle.mid_program.specs.View.{view_mid};
 
-use crate::laws::parsed_scripts_are_placed;
+use crate::translation_laws::parsed_scripts_are_placed;
 use crate::tree::tree_of;
 use awk_grammar::Script;
 use awk_resolve::resolve;
@@ -17,7 +17,7 @@ use mid_code::to_mid;
 use mid_program::Mid;
 use run_report::CompileFault;
 use std::alloc::Global;
-use value_kinds::laws::found_lanes_leave_sorted;
+use value_kinds::lane_laws::found_lanes_leave_sorted;
 use value_kinds::{apply, infer};
 
 /// How many bytes a script has at most.

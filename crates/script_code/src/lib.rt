@@ -5,7 +5,7 @@
 
 mod code;
 mod expressions;
-pub mod laws;
+pub mod translation_laws;
 mod tree;
 
 pub use code::{MAX_SCRIPT_BYTES, code_of};

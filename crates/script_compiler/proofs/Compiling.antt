@@ -1,7 +1,7 @@
 -- From the parts of a compilation to what is said of the whole.
 use Rattle.std.proofs.Common.{◌≡◌, ◌⊎◌, inl, inr, ℕ, ◌≤◌, ◌^◌, List, length, Some, Result, Ok, Err, IfErr, refl, subst, sym}
 use Rattle.std.proofs.lemmas.List.Elements.{recursion_from_All}
-use Rattle.sem_primitives.specs.Jobs.{JobForm, Surroundings}
+use Rattle.sem_primitives.specs.Jobs.{JobForm, Environment}
 use Rattle.world_core.specs.WorldState.{Source}
 use Rattle.sem_scripts.specs.Kinds.{resolved}
 use Rattle.mid_program.specs.Mid.{Program}
@@ -36,7 +36,7 @@ use Rattle.script_code.specs.Coded.{HasTokens, IsCodeOf, unboxed}
 use Rattle.script_code.specs.Refusals.{IsNotCoded}
 use Rattle.run_report.specs.declared.compile_fault.CompileFault.{CompileFault}
 use Rattle.run_report.specs.declared.compile_fault.CompileFault.TheVariants.{TooLarge, Token, Parse, Ere, Resolve, NoMemory}
-use Rattle.script_compiler.specs.Compiled.{HasPlaces, IsCompiled, IsQuiet, IsQuietByWords, KeepsNothing}
+use Rattle.script_compiler.specs.Compiled.{HasPlaces, IsCompiled, IsHostCallFree, IsQuietByWords, KeepsNothing}
 use Rattle.script_compiler.specs.Counts.{HasNoBytes, IsPastCounts}
 use Rattle.script_compiler.specs.Refusals.{IsNotCompiled, IsPastLimits}
 use Rattle.script_compiler.proofs.Operands.{few_operands}
@@ -53,10 +53,14 @@ texts_small p v m h = (spelled_small p v m h).texts
 
 pub compiled : (bytes v : List ℕ) (p : Program) (t : HasTokens bytes (λ tokens. IsCodeOf tokens p)) → IsModule v (module_of p) → Agreement (mid_run_in p) (module_of p) → ModuleOk (module_of p) →
     (main : ℕ) → main_of (module_of p) ≡ Some main → SegmentsFit (module_of p) →
-    ((job : JobForm) (input : Source) (outside : Surroundings) → HasRuns (module_of p) job input outside) → HasPlaces p → KeepsNothing p (module_of p) →
-    IsQuiet p (module_of p) → IsQuietByWords p (module_of p) → ((script : Resolved) → IsSorted (final_program script) → Passes (probed_script script) (module_of (final_program script))) → ((script : Resolved) → UnboxesNumbers script (unboxed (program_of script))) → IsCompiled bytes v
+    ((job : JobForm) (input : Source) (outside : Environment) → HasRuns (module_of p) job input outside) → HasPlaces p → KeepsNothing p (module_of p) →
+    ((script : Resolved) → IsSorted (final_program script) → ModuleOk (module_of (final_program script)) → IsHostCallFree script (module_of (final_program script))) →
+    ((script : Resolved) → IsSorted (final_program script) → ModuleOk (module_of (final_program script)) → IsQuietByWords script (module_of (final_program script))) → ((script : Resolved) → IsSorted (final_program script) → Passes (probed_script script) (module_of (final_program script))) → ((script : Resolved) → UnboxesNumbers script (unboxed (program_of script))) → IsCompiled bytes v
 compiled bytes v p t m agreement typed main main_is segments runs places keeps quiet quiet_by_words passes unboxes =
     let c = t.said in
+    let script = resolved c.script in
+    let sorted = subst IsSorted c.code c.sorted in
+    let module_ok = subst (λ (code : Program). ModuleOk (module_of code)) c.code typed in
     record {
       short = t.short;
       tokens = t.tokens;
@@ -75,9 +79,9 @@ compiled bytes v p t m agreement typed main main_is segments runs places keeps q
       places = places;
       keeps = keeps;
       few_operands = few_operands (resolved c.script) p c.code;
-      quiet = quiet;
-      quiet_by_words = quiet_by_words;
-      passes = subst (λ (code : Program). Passes (probed_script (resolved c.script)) (module_of code)) (sym c.code) (passes (resolved c.script) (subst IsSorted c.code c.sorted));
+      quiet = subst (λ (code : Program). IsHostCallFree script (module_of code)) (sym c.code) (quiet script sorted module_ok);
+      quiet_by_words = subst (λ (code : Program). IsQuietByWords script (module_of code)) (sym c.code) (quiet_by_words script sorted module_ok);
+      passes = subst (λ (code : Program). Passes (probed_script (resolved c.script)) (module_of code)) (sym c.code) (passes script sorted);
       unboxed_names = subst (λ (code : Program). UnboxesNumbers (resolved c.script) code) (sym c.code) (unboxes (resolved c.script));
     }
 

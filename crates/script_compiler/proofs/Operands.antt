@@ -11,7 +11,7 @@ use Rattle.mid_program.specs.Rewriting.{code_in, codes_in, step_in, steps_in}
 use Rattle.folding.specs.Folding.{fold, folded_routine, reduced, reduced_to, same, value_of}
 use Rattle.value_kinds.specs.Applied.{apply, routines_with, slot_in}
 use Rattle.value_kinds.specs.Lanes.{Lanes, infer}
-use Rattle.agreement.specs.Places.Kept.{AtStatement}
+use Rattle.agreement.specs.Places.NoLeaks.{AtStatement}
 use Rattle.agreement.specs.Places.Nodes.{items_nodes, nodes_of, stmts_nodes}
 use Rattle.agreement.specs.Places.Pending.{FewAlive}
 use Rattle.agreement.proofs.PlacesLemmas.Callers.{few_alive}

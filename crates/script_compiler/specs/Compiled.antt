@@ -1,11 +1,11 @@
 -- What a script is compiled to, whichever it is.
 use Rattle.std.specs.Prelude.{◌≡◌, ◌⊎◌, ◌≤◌, ℕ, List, Ok, Some, false, length, map, true}
-use Rattle.sem_primitives.specs.Jobs.{JobForm, Surroundings}
+use Rattle.sem_primitives.specs.Jobs.{JobForm, Environment}
 use Rattle.awk_tokens.specs.Cutting.{IsTokens, Spelled}
 use Rattle.awk_grammar.specs.Item.{Item}
 use Rattle.world_core.specs.WorldState.{Source}
 use Rattle.sem_scripts.specs.Kinds.{resolved}
-use Rattle.mid_program.specs.Mid.{Program, Routine, Then}
+use Rattle.mid_program.specs.Mid.{Program, Routine}
 use Rattle.sem_scripts.specs.Names.{Resolved}
 use Rattle.sem_scripts.specs.ScriptRun.{resolved_run}
 use Rattle.mid_program.specs.Translation.{program_of}
@@ -24,15 +24,16 @@ use Rattle.lower_model.specs.Functions.{main_callee, routine_callee}
 use Rattle.lower_model.specs.Modules.{module_of}
 use Rattle.agreement.specs.Modules.Agreement.{Agreement}
 use Rattle.agreement.specs.Passed.Passed.{Passes}
+use Rattle.agreement.specs.Spots.Places.{final_program}
 use Rattle.agreement.specs.Spots.Probed.{probed_script}
 use Rattle.agreement.specs.Places.Assigned.{IsAssigned}
 use Rattle.agreement.specs.Places.Existence.{HasRuns}
-use Rattle.agreement.specs.Places.Kept.{AtReturn, AtStatement, Reached, begins_statement}
+use Rattle.agreement.specs.Places.NoLeaks.{AtReturn, AtStatement, Reached, begins_statement}
 use Rattle.agreement.specs.Places.Nodes.{nodes_of}
 use Rattle.agreement.specs.Places.Pending.{FewAlive}
 use Rattle.agreement.specs.Places.Statements.{main_places}
-use Rattle.agreement.specs.Quiet.Laned.{AtNumeric, IsNext}
-use Rattle.agreement.specs.Quiet.Quiet.{Quietly}
+use Rattle.agreement.specs.Quiet.Quiet.{HostCallFree}
+use Rattle.agreement.specs.Quiet.Spots.{AtAssignment, AtFollowing}
 use Rattle.agreement.specs.Quiet.Sums.{AtFault}
 use Rattle.agreement.specs.Words.Naming.{program_names}
 use Rattle.agreement.specs.Words.Words.{AssignsName}
@@ -50,27 +51,27 @@ pub record Links (m : ModuleForm) : Type 0 where
 -- A module keeps nothing: where a statement begins, and where `main` has returned, names, parameters, loops over keys and callers that wait hold what
 -- is alive in the host. The code is the script's: it says which names and functions there are, and of what kinds.
 pub record KeepsNothing (code : Program) (m : ModuleForm) : Type 0 where
-  pub statement : (job : JobForm) (input : Source) (outside : Surroundings) (a : MachineForm) (c : Conf) (s : HostState)
+  pub statement : (job : JobForm) (input : Source) (outside : Environment) (a : MachineForm) (c : Conf) (s : HostState)
       → Reached m job input outside a c s → begins_statement c.frame.code ≡ true → AtStatement code c s
-  pub returned : (job : JobForm) (input : Source) (outside : Surroundings) (a : MachineForm) (c : Conf) (s : HostState)
+  pub returned : (job : JobForm) (input : Source) (outside : Environment) (a : MachineForm) (c : Conf) (s : HostState)
       → Reached m job input outside a c s → (n : ℕ) → turn a.program c ≡ Ends (ends.Returned (Some (I32 n))) → AtReturn code c s
 
--- A module is quiet on numbers. Where a run stands at a statement `name = Expr` of the script, with number constants, names, groups, `+`, `-` and `*`
--- in Expr, and each name is unboxed and none of those to which the command line has assigned in this run, it calls no import up to the next statement
--- of the block, or to the fault.
-abbrev pub IsQuiet : Program → ModuleForm → Type 0
-IsQuiet code m = (job : JobForm) (input : Source) (outside : Surroundings) (a : MachineForm) (c : Conf) (s : HostState)
-    → (reached : Reached m job input outside a c s) → (here : AtStatement code c s) → (on : AtNumeric code c s here (IsAssigned reached))
-    → Quietly a.program c (λ there. IsNext code c on.bases (Then on.next on.further) on.iterators on.out on.breaking on.continuing on.after there
-    ⊎ AtFault code c there)
+-- A module is quiet on numbers. Where a run stands at a statement `name = Expr` of the script, after which another one comes in its list, with number
+-- constants, names, groups, `+`, `-` and `*` in Expr, and each name is unboxed and none of those to which the command line has assigned in this run, it
+-- calls no import up to the place of the next statement, or to the fault.
+abbrev pub IsHostCallFree : Resolved → ModuleForm → Type 0
+IsHostCallFree script m = (job : JobForm) (input : Source) (outside : Environment) (a : MachineForm) (c : Conf) (s : HostState)
+    → (reached : Reached m job input outside a c s) → (here : AtStatement (final_program script) c s)
+    → (on : AtAssignment script c s here (IsAssigned reached))
+    → HostCallFree a.program c (λ there. AtFollowing script on.home on.around on.next on.further c there ⊎ AtFault (final_program script) c there)
 
--- The same, said of the script and the job alone. Where the script's code does not name ARGV, a statement on numbers whose names are all unboxed is
--- so quiet in each job of which no word, a `-v` or an operand, assigns to one of these names.
-abbrev pub IsQuietByWords : Program → ModuleForm → Type 0
-IsQuietByWords code m = program_names code ≡ false → (job : JobForm) (input : Source) (outside : Surroundings) (a : MachineForm) (c : Conf) (s : HostState)
-    → (reached : Reached m job input outside a c s) → (here : AtStatement code c s) → (on : AtNumeric code c s here (λ i. AssignsName code job i))
-    → Quietly a.program c (λ there. IsNext code c on.bases (Then on.next on.further) on.iterators on.out on.breaking on.continuing on.after there
-    ⊎ AtFault code c there)
+-- The same, said of the script and the job alone. Where the script's code does not name ARGV, such a statement whose names are all unboxed is so quiet
+-- in each job of which no word, a `-v` or an operand, assigns to one of these names.
+abbrev pub IsQuietByWords : Resolved → ModuleForm → Type 0
+IsQuietByWords script m = program_names (final_program script) ≡ false → (job : JobForm) (input : Source) (outside : Environment) (a : MachineForm)
+    (c : Conf) (s : HostState) → (reached : Reached m job input outside a c s) → (here : AtStatement (final_program script) c s)
+    → (on : AtAssignment script c s here (λ i. AssignsName (final_program script) job i))
+    → HostCallFree a.program c (λ there. AtFollowing script on.home on.around on.next on.further c there ⊎ AtFault (final_program script) c there)
 
 -- Where a statement begins each caller that waits has at most as many operands pending as its function has expressions in the script, each part of
 -- one counted too; `main` as many as stand in no function. So at most so many values are alive.
@@ -97,7 +98,7 @@ pub record IsCompiled (bytes : List ℕ) (compiled : List ℕ) : Type 0 where
   pub spelled : IsModule compiled whole
   pub typed : ModuleOk whole
   pub links : Links whole
-  pub runs : (job : JobForm) (input : Source) (outside : Surroundings) → HasRuns whole job input outside
+  pub runs : (job : JobForm) (input : Source) (outside : Environment) → HasRuns whole job input outside
   pub agreement : Agreement (resolved_run (resolved script)) whole
   pub code : Program
   pub code_is : code ≡ unboxed (program_of (resolved script))
@@ -105,7 +106,7 @@ pub record IsCompiled (bytes : List ℕ) (compiled : List ℕ) : Type 0 where
   pub places : HasPlaces code
   pub keeps : KeepsNothing code whole
   pub few_operands : HasFewOperands (resolved script) code
-  pub quiet : IsQuiet code whole
-  pub quiet_by_words : IsQuietByWords code whole
+  pub quiet : IsHostCallFree (resolved script) whole
+  pub quiet_by_words : IsQuietByWords (resolved script) whole
   pub passes : Passes (probed_script (resolved script)) whole
   pub unboxed_names : UnboxesNumbers (resolved script) code

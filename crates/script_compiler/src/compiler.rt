@@ -9,13 +9,13 @@ ghost use Rattle.script_compiler.specs.Compiled.{IsCompiled};
 ghost use Rattle.script_compiler.specs.Counts.{HasNoBytes, IsPastCounts};
 ghost use Rattle.script_compiler.specs.Refusals.{IsNotCompiled};
 
+use agreement::job_words::scripts_are_quiet_by_the_job;
 use agreement::modules::modules_agree;
 use agreement::places::{few_parameters, modules_run, nothing_kept, statements_have_places};
-use agreement::quiet::statements_are_quiet;
+use agreement::quiet::statements_of_scripts_are_quiet;
 use agreement::sizes::code_has_bytes;
 use agreement::spots::statements_are_passed;
 use agreement::typed::{links, typed};
-use agreement::words::quiet_by_the_job;
 use lower_layout::{LowerFault, layout};
 use lowering::lower;
 use mid_program::Mid;
@@ -75,8 +75,8 @@ pub fn compile(alloc: Global, script: &[u8]) -> Result<Vec<u8>, CompileFault>
     few_parameters();
     statements_have_places();
     nothing_kept();
-    statements_are_quiet();
-    quiet_by_the_job();
+    statements_of_scripts_are_quiet();
+    scripts_are_quiet_by_the_job();
     statements_are_passed();
     names_of_numbers_are_unboxed();
     code_has_bytes();

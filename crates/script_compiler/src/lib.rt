@@ -4,7 +4,7 @@
 #![tactic(auto)]
 
 mod compiler;
-pub mod laws;
+pub mod module_laws;
 pub mod script_laws;
 
 pub use compiler::compile;

@@ -18,8 +18,8 @@ ghost use Rattle.wasm_types.specs.Typing.{ModuleOk};
 ghost use Rattle.agreement.specs.Modules.Agreement.{Agreement};
 
 use agreement::modules::modules_agree;
-use mid_code::laws::same_meaning;
-use script_code::laws::parsed_scripts_are_placed;
+use mid_code::meaning_laws::same_meaning;
+use script_code::translation_laws::parsed_scripts_are_placed;
 
 /// Every script that has a tree, and whose names are not refused, agrees with the module of its code, over every host of the table: in every job and
 /// whatever the outside is, what one does the other does, faults and too many nested calls included; the module never traps, and its work for each

@@ -4,9 +4,9 @@
 #![tactic(auto)]
 
 mod compiling;
-pub mod laws;
 mod module_table;
 mod reading;
+pub mod script_laws;
 mod sections;
 mod table;
 pub mod table_laws;

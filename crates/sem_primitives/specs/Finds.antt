@@ -32,13 +32,13 @@ abbrev pub seen : Inner → Outside → Outside
 seen inner outside = λ target. found_or inner.finds (outside target)
 
 -- after it
-abbrev pub looked : Inner → Inner
-looked inner = record inner { finds = finds_after inner.finds }
+abbrev pub observed : Inner → Inner
+observed inner = record inner { finds = finds_after inner.finds }
 
 -- the same where nothing faults
 abbrev pub finds_by : {A : Type 0} → Result A Fault → Option (List Entry) → Option (List Entry)
 finds_by (Ok x) finds = finds_after finds
 finds_by (Err fault) finds = finds
 
-abbrev pub looked_by : {A : Type 0} → Result A Fault → Inner → Inner
-looked_by r inner = record inner { finds = finds_by r inner.finds }
+abbrev pub observed_by : {A : Type 0} → Result A Fault → Inner → Inner
+observed_by r inner = record inner { finds = finds_by r inner.finds }

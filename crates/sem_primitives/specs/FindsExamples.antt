@@ -7,7 +7,7 @@ use Rattle.awk_values.specs.declared.value.Value.TheVariants as value
 use Rattle.world_core.specs.WorldState.{Entry, Named, absent, Open, puts}
 use Rattle.sem_primitives.specs.Finds.{shut}
 use Rattle.sem_primitives.specs.SharedState.{Shared}
-use Rattle.sem_primitives.specs.Jobs.{Found, shared_in}
+use Rattle.sem_primitives.specs.Jobs.{Opened, shared_in}
 use Rattle.sem_primitives.specs.Table.{listed_meaning}
 use Rattle.sem_primitives.specs.ExampleStates.{job_of, nothing, after_call, after_list, answered}
 use Rattle.sem_primitives.specs.declared.table.Primitive.TheVariants.{Close, GetlineFile, NextMain}
@@ -17,7 +17,7 @@ use Rattle.sem_primitives.specs.declared.constants.Destination.TheVariants as de
 
 -- these are found, one after the other
 abbrev finding : List (List ℕ) → List Entry → Shared
-finding operands finds = shared_in (job_of operands) nothing (Found finds)
+finding operands finds = shared_in (job_of operands) nothing (Opened finds)
 
 abbrev holding : List ℕ → Entry
 holding bytes = record absent { bytes = Some bytes }

@@ -10,7 +10,7 @@ use Rattle.world_core.specs.declared.world.Ending.TheVariants.{End}
 use Rattle.world_core.specs.WorldState.{Outside, Entry, Named, Source, bytes_of}
 use Rattle.sem_primitives.specs.Limits.{most_operands}
 use Rattle.sem_primitives.specs.SharedState.{Inner, MainReader, Standard, File, Operands, NoFile, SomeFile, NoneLeft, ◌>>=◌, special_of, with_special}
-use Rattle.sem_primitives.specs.Finds.{first_found, looked, seen}
+use Rattle.sem_primitives.specs.Finds.{first_found, observed, seen}
 use Rattle.sem_primitives.specs.Texts.{same_text}
 use Rattle.sem_primitives.specs.Records.{Got, Record, AtEnd, Broken, record_separator, first_record}
 use Rattle.sem_primitives.specs.FieldMeaning.{special_text, with_record}
@@ -73,7 +73,7 @@ with_left (File source) left inner = record inner { main = record inner.main { r
 
 -- after it was read
 abbrev pub leaves : MainReader → Source → Inner → Inner
-leaves reader left inner = looked (with_left reader left inner)
+leaves reader left inner = observed (with_left reader left inner)
 
 abbrev pub stops_reading : Inner → Inner
 stops_reading inner = record inner { main = record inner.main { reading = None } }
@@ -88,7 +88,7 @@ with_operands operands inner = record inner { main = record inner.main { operand
 
 -- an operand named a file, and what it names was looked for
 abbrev pub file_named : Inner → Inner
-file_named inner = looked (with_operands SomeFile inner)
+file_named inner = observed (with_operands SomeFile inner)
 
 -- what the reader at hand gives; at its end the next operand is reached
 abbrev pub got_main : (Inner → Result (Inner × Main) Fault) → MainReader → Inner → Got × Source → Result (Inner × Main) Fault
@@ -252,7 +252,7 @@ got_file keep inner Broken = Ok (inner, input.Failed)
 abbrev pub read_file : (List ℕ → Inner → Result (Inner × InputAnswer) Fault) → List ℕ → Source → Inner → Result (Inner × InputAnswer) Fault
 read_file keep name source inner =
     next_record inner source >>= λ got.
-    got_file keep (looked (record inner { readers = with_reader name got.1 inner.readers })) got.0
+    got_file keep (observed (record inner { readers = with_reader name got.1 inner.readers })) got.0
 
 -- what does not open is no stream
 abbrev pub opened_file : (List ℕ → Inner → Result (Inner × InputAnswer) Fault) → List ℕ → Option Source → Inner → Result (Inner × InputAnswer) Fault
@@ -262,7 +262,7 @@ opened_file keep name (Some source) inner = read_file keep name source inner
 abbrev pub open_or_read : (List ℕ → Inner → Result (Inner × InputAnswer) Fault) → List ℕ → Outside → Option Source → Inner → Result (Inner × InputAnswer) Fault
 open_or_read keep name outside (Some source) inner = read_file keep name source inner
 open_or_read keep name outside None inner =
-    elim (has_room inner) [ true ↦ opened_file keep name (source_of (seen inner outside (Named name))) (looked inner) | false ↦ Err TooManyStreams ]
+    elim (has_room inner) [ true ↦ opened_file keep name (source_of (seen inner outside (Named name))) (observed inner) | false ↦ Err TooManyStreams ]
 
 abbrev pub getline_file_by : (List ℕ → Inner → Result (Inner × InputAnswer) Fault) → Value → Outside → Inner → Result (Inner × InputAnswer) Fault
 getline_file_by keep name outside inner = open_or_read keep (text_of_value name) outside (reader_named (text_of_value name) inner.readers) inner

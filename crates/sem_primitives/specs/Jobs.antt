@@ -41,21 +41,21 @@ environment_in ps (pair ∷ rest) = environment_in (stored pair.0 (StrNum pair.1
 
 -- What is outside as a script begins to run: names of which nobody else changes what they hold; or names that others change too, of which is said
 -- what is found there, each time that something is opened, read or written.
-pub data Surroundings : Type 0 where
-  Kept : Outside → Surroundings
-  Found : List Entry → Surroundings
+pub data Environment : Type 0 where
+  Closed : Outside → Environment
+  Opened : List Entry → Environment
 
-abbrev pub kept_by : Surroundings → Outside
-kept_by (Kept outside) = outside
-kept_by (Found finds) = λ target. absent
+abbrev pub kept_by : Environment → Outside
+kept_by (Closed outside) = outside
+kept_by (Opened finds) = λ target. absent
 
-abbrev pub found_by : Surroundings → Option (List Entry)
-found_by (Kept outside) = None
-found_by (Found finds) = Some finds
+abbrev pub found_by : Environment → Option (List Entry)
+found_by (Closed outside) = None
+found_by (Opened finds) = Some finds
 
 -- what script and host share before the script runs: ARGV is array 0, ENVIRON array 1
-abbrev pub shared_in : JobForm → Source → Surroundings → Shared
-shared_in job input surroundings = record {
+abbrev pub shared_in : JobForm → Source → Environment → Shared
+shared_in job input environment = record {
   inner = record {
     arrays = arguments_from 0 (codes "awk" ∷ job.operands) ∷ (environment_in [] job.environment ∷ []);
     iterators = [];
@@ -71,12 +71,12 @@ shared_in job input surroundings = record {
     pending = None;
     line = None;
     substituted = None;
-    finds = found_by surroundings;
+    finds = found_by environment;
   };
-  outside = kept_by surroundings;
+  outside = kept_by environment;
   output = [];
 }
 
 -- where nobody else changes what names hold
 abbrev pub shared_at_start : JobForm → Source → Outside → Shared
-shared_at_start job input outside = shared_in job input (Kept outside)
+shared_at_start job input outside = shared_in job input (Closed outside)

@@ -7,8 +7,8 @@ use Rattle.awk_values.specs.declared.value.Value.{Value}
 use Rattle.awk_values.specs.declared.value.Value.TheVariants.{Text}
 use Rattle.world_core.specs.WorldState.{Target, Standard, Named, Action, Open, after, free, puts}
 use Rattle.sem_primitives.specs.Limits.{most_streams}
-use Rattle.sem_primitives.specs.SharedState.{Inner, Shared, Does, ◌>>=◌}
-use Rattle.sem_primitives.specs.Finds.{looked_by, seen}
+use Rattle.sem_primitives.specs.SharedState.{Inner, Shared, HostResult, ◌>>=◌}
+use Rattle.sem_primitives.specs.Finds.{observed_by, seen}
 use Rattle.sem_primitives.specs.Texts.{same_text}
 use Rattle.sem_primitives.specs.FieldMeaning.{joined, special_text}
 use Rattle.sem_primitives.specs.Formats.{formatted}
@@ -33,10 +33,10 @@ abbrev pub write_answer : Option ℕ → List ℕ → Result (Unit {0}) Fault
 write_answer room text = cond (all_fits room text) (Ok tt) (Err WriteFailed)
 
 -- a text is written to an open target: what fits goes out, and it is a fault that not all does
-abbrev pub written : Target → List ℕ → Shared → Does (Result (Unit {0}) Fault)
+abbrev pub written : Target → List ℕ → Shared → HostResult (Result (Unit {0}) Fault)
 written target text state = record {
   added = puts target (what_fits (free (seen state.inner state.outside target)) text);
-  inner = looked_by (write_answer (free (seen state.inner state.outside target)) text) state.inner;
+  inner = observed_by (write_answer (free (seen state.inner state.outside target)) text) state.inner;
   answer = write_answer (free (seen state.inner state.outside target)) text;
 }
 
@@ -52,7 +52,7 @@ streams inner = length inner.readers + length inner.writers
 abbrev pub has_room : Inner → Bool
 has_room inner = nat_le (streams inner + 1) most_streams
 
-abbrev pub refused : Fault → Shared → Does (Result (Unit {0}) Fault)
+abbrev pub refused : Fault → Shared → HostResult (Result (Unit {0}) Fault)
 refused fault state = record { added = []; inner = state.inner; answer = Err fault }
 
 -- a name was opened, and is written to
@@ -60,24 +60,24 @@ abbrev pub kept_open : List ℕ → Inner → Result (Unit {0}) Fault → Inner
 kept_open name inner (Ok x) = record inner { writers = inner.writers ++ (name ∷ []) }
 kept_open name inner (Err fault) = inner
 
-abbrev pub then_written : Action → List ℕ → Does (Result (Unit {0}) Fault) → Does (Result (Unit {0}) Fault)
+abbrev pub then_written : Action → List ℕ → HostResult (Result (Unit {0}) Fault) → HostResult (Result (Unit {0}) Fault)
 then_written opening name does = record { added = opening ∷ does.added; inner = kept_open name does.inner does.answer; answer = does.answer }
 
-abbrev pub opened : List ℕ → Bool → List ℕ → Shared → Does (Result (Unit {0}) Fault)
+abbrev pub opened : List ℕ → Bool → List ℕ → Shared → HostResult (Result (Unit {0}) Fault)
 opened name append text state =
     then_written (Open name append) name (written (Named name) text (record state { outside = after (Open name append ∷ []) state.outside }))
 
-abbrev pub opened_if : Bool → Bool → List ℕ → Bool → List ℕ → Shared → Does (Result (Unit {0}) Fault)
+abbrev pub opened_if : Bool → Bool → List ℕ → Bool → List ℕ → Shared → HostResult (Result (Unit {0}) Fault)
 opened_if false opens name append text state = refused TooManyStreams state
 opened_if true false name append text state = refused OpenOutput state
 opened_if true true name append text state = opened name append text state
 
 -- a stream that is open stays so, whatever it was opened for
-abbrev pub written_by : Bool → List ℕ → Bool → List ℕ → Shared → Does (Result (Unit {0}) Fault)
+abbrev pub written_by : Bool → List ℕ → Bool → List ℕ → Shared → HostResult (Result (Unit {0}) Fault)
 written_by true name append text state = written (Named name) text state
 written_by false name append text state = opened_if (has_room state.inner) (seen state.inner state.outside (Named name)).opens name append text state
 
-abbrev pub put_text : Destination → List ℕ → List ℕ → Shared → Does (Result (Unit {0}) Fault)
+abbrev pub put_text : Destination → List ℕ → List ℕ → Shared → HostResult (Result (Unit {0}) Fault)
 put_text destination.Standard name text state = written Standard text state
 put_text destination.Emptied name text state = written_by (is_writing name state.inner.writers) name false text state
 put_text destination.Appended name text state = written_by (is_writing name state.inner.writers) name true text state
@@ -104,7 +104,7 @@ operands_of destination.Standard values = values
 operands_of destination.Emptied values = but_last values
 operands_of destination.Appended values = but_last values
 
-abbrev pub print_row : Destination → List Value → Shared → Does (Result (Unit {0}) Fault)
+abbrev pub print_row : Destination → List Value → Shared → HostResult (Result (Unit {0}) Fault)
 print_row to values state = put_text to (file_name to values) (printed state.inner (operands_of to values)) state
 
 -- the first value is the format
@@ -116,11 +116,11 @@ abbrev pub sprintf_row : List Value → Result Value Fault
 sprintf_row values = formatted_values values >>= λ text. Ok (Text text)
 
 -- a format's fault comes before the file is opened
-abbrev pub printf_by : Result (List ℕ) Fault → Destination → List ℕ → Shared → Does (Result (Unit {0}) Fault)
+abbrev pub printf_by : Result (List ℕ) Fault → Destination → List ℕ → Shared → HostResult (Result (Unit {0}) Fault)
 printf_by (Ok text) to name state = put_text to name text state
 printf_by (Err fault) to name state = refused fault state
 
-abbrev pub printf_row : Destination → List Value → Shared → Does (Result (Unit {0}) Fault)
+abbrev pub printf_row : Destination → List Value → Shared → HostResult (Result (Unit {0}) Fault)
 printf_row to values state = printf_by (formatted_values (operands_of to values)) to (file_name to values) state
 
 -- What is printed goes out at once, so a flush changes nothing: all is out where the name is written to. The empty name says all names.

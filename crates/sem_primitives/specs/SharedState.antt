@@ -87,25 +87,25 @@ pub record Shared : Type 0 where
   pub output : List Action
 
 -- what a primitive does: output is only ever added
-pub record Does (A : Type 0) : Type 0 where
+pub record HostResult (A : Type 0) : Type 0 where
   pub added : List Action
   pub inner : Inner
   pub answer : A
 
 -- it answers, and changes nothing
-abbrev pub gives : {A : Type 0} → Shared → A → Does A
+abbrev pub gives : {A : Type 0} → Shared → A → HostResult A
 gives state a = record { added = []; inner = state.inner; answer = a }
 
 -- it answers with a state, and puts nothing out
-abbrev pub changes : {A : Type 0} → Inner × A → Does A
+abbrev pub changes : {A : Type 0} → Inner × A → HostResult A
 changes x = record { added = []; inner = x.0; answer = x.1 }
 
 -- the same, or it faults and changes nothing
-abbrev pub settles : {A : Type 0} → Shared → Result (Inner × A) Fault → Does (Result A Fault)
+abbrev pub settles : {A : Type 0} → Shared → Result (Inner × A) Fault → HostResult (Result A Fault)
 settles state (Ok x) = record { added = []; inner = x.0; answer = Ok x.1 }
 settles state (Err fault) = record { added = []; inner = state.inner; answer = Err fault }
 
-abbrev pub shared_after : {A : Type 0} → Shared → Does A → Shared
+abbrev pub shared_after : {A : Type 0} → Shared → HostResult A → Shared
 shared_after state does = record { inner = does.inner; outside = after does.added state.outside; output = state.output ++ does.added }
 
 -- one after another, up to the first fault

@@ -5,7 +5,7 @@ use Rattle.awk_values.specs.declared.fault.Fault.{Fault}
 use Rattle.awk_values.specs.declared.value.Value.{Value}
 use Rattle.awk_values.specs.declared.value.Value.TheVariants as value
 use Rattle.sem_primitives.specs.Sorts.{Row, InAnswer, OrFault}
-use Rattle.sem_primitives.specs.SharedState.{Shared, Does, gives, changes, settles, special_of}
+use Rattle.sem_primitives.specs.SharedState.{Shared, HostResult, gives, changes, settles, special_of}
 use Rattle.sem_primitives.specs.ValueMeaning.{number_of_row, truncated_row, comparison_row, concat_row, power_row}
 use Rattle.sem_primitives.specs.FieldMeaning.{set_special_row, field_row, set_field_row}
 use Rattle.sem_primitives.specs.ArrayMeaning.{new_array_row, element_row, set_element_row, has_row, delete_row, join_row, iterate_row, next_key_row, clear_row}
@@ -92,7 +92,7 @@ abbrev pub can_fault : Primitive → Bool
 can_fault p = (signature_of p).can_fault
 
 -- what a primitive does with a row of its arguments
-abbrev pub meaning : (p : Primitive) → Row (arguments_of p) → Shared → Does (OrFault (can_fault p) (InAnswer (answer_of p)))
+abbrev pub meaning : (p : Primitive) → Row (arguments_of p) → Shared → HostResult (OrFault (can_fault p) (InAnswer (answer_of p)))
 meaning Num (n, _) state = gives state (value.Num n.number)
 meaning Lit (text, _) state = gives state (value.Text text)
 meaning Uninit _ state = gives state value.Uninit
@@ -149,7 +149,7 @@ listed_answer Sprintf = answer.Of sort.Value
 listed_answer (Print to) = answer.Done
 listed_answer (Printf to) = answer.Done
 
-abbrev pub listed_meaning : (l : Listed) → List Value → Shared → Does (Result (InAnswer (listed_answer l)) Fault)
+abbrev pub listed_meaning : (l : Listed) → List Value → Shared → HostResult (Result (InAnswer (listed_answer l)) Fault)
 listed_meaning Sprintf values state = gives state (sprintf_row values)
 listed_meaning (Print to) values state = print_row to values state
 listed_meaning (Printf to) values state = printf_row to values state

@@ -6,4 +6,4 @@ pub mod Meaning
 pub mod Statements
 pub mod Items
 pub mod ScriptRun
-pub mod Kept
+pub mod MoreTurns

@@ -5,7 +5,7 @@ use Rattle.awk_values.specs.declared.fault.Fault.{Fault}
 use Rattle.awk_values.specs.declared.fault.Fault.TheVariants.{NextOutside}
 use Rattle.awk_values.specs.declared.value.Value.TheVariants.{Uninit}
 use Rattle.world_core.specs.WorldState.{Outside, Source, Action}
-use Rattle.sem_primitives.specs.Jobs.{JobForm, Kept, Surroundings, fault_of_job, shared_in}
+use Rattle.sem_primitives.specs.Jobs.{JobForm, Closed, Environment, fault_of_job, shared_in}
 use Rattle.sem_primitives.specs.declared.answers.InputAnswer.{InputAnswer}
 use Rattle.sem_primitives.specs.declared.answers.InputAnswer.TheVariants as input
 use Rattle.sem_primitives.specs.declared.answers.AssignAnswer.{AssignAnswer}
@@ -16,7 +16,7 @@ use Rattle.sem_primitives.specs.declared.table.Primitive.TheVariants as row
 use Rattle.awk_grammar.specs.Item.{Item}
 use Rattle.sem_scripts.specs.Names.{Name, Function, Resolved, names_length}
 use Rattle.sem_scripts.specs.Kinds.{resolved}
-use Rattle.sem_scripts.specs.ScriptState.{State, Faulted, OutOfTurns, TooDeep, Nexted, Exited, Returned, Outcome, Gives, Stops, Doing, ◌>>=◌, ◌>>◌, nothing, stop, does, asks, spend}
+use Rattle.sem_scripts.specs.ScriptState.{State, Faulted, OutOfTurns, TooDeep, Nexted, Exited, Returned, Outcome, Gives, Stops, Execution, ◌>>=◌, ◌>>◌, nothing, stop, call, asks, spend}
 use Rattle.sem_scripts.specs.Steps.{zero_number}
 use Rattle.sem_scripts.specs.Meaning.{assign_pending}
 use Rattle.sem_scripts.specs.Statements.{called}
@@ -29,24 +29,24 @@ abbrev pub kind_of : Bool → NameKind
 kind_of true = kind.ArrayOrFunction
 kind_of false = kind.Scalar
 
-abbrev pub announced : List Name → Doing (Unit {0})
+abbrev pub announced : List Name → Execution (Unit {0})
 announced [] = nothing
-announced (n ∷ ns) = does row.Declare (n.name, (kind_of n.is_array, tt)) >> announced ns
+announced (n ∷ ns) = call row.Declare (n.name, (kind_of n.is_array, tt)) >> announced ns
 
 abbrev pub as_name : Function → Name
 as_name f = record { name = f.name; is_array = true }
 
 -- an array for each name of one
-abbrev pub arrays_made : List Name → Doing (Unit {0})
+abbrev pub arrays_made : List Name → Execution (Unit {0})
 arrays_made [] = nothing
-arrays_made (n ∷ ns) = (if n.is_array then (does row.NewArray tt >> nothing) else nothing) >> arrays_made ns
+arrays_made (n ∷ ns) = (if n.is_array then (call row.NewArray tt >> nothing) else nothing) >> arrays_made ns
 
 -- the assignments before BEGIN, of which each costs a turn. At most n of them are left to the script
-abbrev pub on_assignment : Doing (Unit {0}) → AssignAnswer → Doing (Unit {0})
+abbrev pub on_assignment : Execution (Unit {0}) → AssignAnswer → Execution (Unit {0})
 on_assignment go assign.Pending = spend >> go
 on_assignment go assign.NoneLeft = nothing
 
-unfoldable pub first_assigned : ℕ → Doing (Unit {0})
+unfoldable pub first_assigned : ℕ → Execution (Unit {0})
 first_assigned zero = asks row.StartAssign tt >>= on_assignment (stop OutOfTurns)
 first_assigned (suc n) = asks row.StartAssign tt >>= on_assignment (assign_pending >> first_assigned n)
 
@@ -60,17 +60,17 @@ next_over (Stops Exited state) = Stops Exited state
 next_over (Stops (Returned x) state) = Stops (Returned x) state
 next_over (Gives u state) = Gives tt state
 
-abbrev pub for_record : Doing (Unit {0}) → Doing (Unit {0})
+abbrev pub for_record : Execution (Unit {0}) → Execution (Unit {0})
 for_record items = λ state. next_over (items state)
 
 -- the records of the main input, and the assignments between them: each costs a turn. At most n of them
-abbrev pub on_input : (read : Doing (Unit {0})) → (pending : Doing (Unit {0})) → InputAnswer → Doing (Unit {0})
+abbrev pub on_input : (read : Execution (Unit {0})) → (pending : Execution (Unit {0})) → InputAnswer → Execution (Unit {0})
 on_input read pending input.Read = spend >> read
 on_input read pending input.Pending = spend >> pending
 on_input read pending input.End = nothing
 on_input read pending input.Failed = nothing
 
-unfoldable pub records_done : ℕ → Doing (Unit {0}) → Doing (Unit {0})
+unfoldable pub records_done : ℕ → Execution (Unit {0}) → Execution (Unit {0})
 records_done zero items = asks row.NextMain tt >>= on_input (stop OutOfTurns) (stop OutOfTurns)
 records_done (suc n) items = asks row.NextMain tt >>= on_input (for_record items >> records_done n items) (assign_pending >> records_done n items)
 
@@ -84,27 +84,27 @@ part_over (Stops TooDeep state) = Stops TooDeep state
 part_over (Stops (Returned x) state) = Gives tt state
 part_over (Gives u state) = Gives tt state
 
-abbrev pub part : Doing (Unit {0}) → Doing (Unit {0})
+abbrev pub part : Execution (Unit {0}) → Execution (Unit {0})
 part actions = λ state. part_over (actions state)
 
 -- What a script is to a run: its names, and what BEGIN, a record and END do.
 pub record Parts : Type 0 where
   pub globals : List Name
   pub functions : List Name
-  pub begin : Doing (Unit {0})
+  pub begin : Execution (Unit {0})
   pub reads : Bool
-  pub items : Doing (Unit {0})
-  pub end : Doing (Unit {0})
+  pub items : Execution (Unit {0})
+  pub end : Execution (Unit {0})
 
 -- assignments, BEGIN, records and END, with at most n turns
-abbrev pub all_parts : ℕ → Parts → Doing (Unit {0})
+abbrev pub all_parts : ℕ → Parts → Execution (Unit {0})
 all_parts n parts = do
   a ← announced parts.globals
   b ← announced parts.functions
   c ← arrays_made parts.globals
   d ← first_assigned n
   e ← part (parts.begin >> if parts.reads then records_done n parts.items else nothing)
-  f ← does row.BeginEnd tt
+  f ← call row.BeginEnd tt
   part parts.end
 
 abbrev pub parts_of : ℕ → Resolved → Parts
@@ -135,7 +135,7 @@ ending (Stops (Returned x) state) = Ended (unsigned_abs (int_rem_euclid state.st
 ending (Gives u state) = Ended (unsigned_abs (int_rem_euclid state.status.number (pos 256))) state.shared.output
 
 -- a fault that the job brings comes before all else
-abbrev pub unless : Option Fault → Doing (Unit {0}) → Doing (Unit {0})
+abbrev pub unless : Option Fault → Execution (Unit {0}) → Execution (Unit {0})
 unless (Some fault) doing = stop (Faulted fault)
 unless None doing = doing
 
@@ -143,7 +143,7 @@ unless None doing = doing
 pub record Setting : Type 0 where
   pub job : JobForm
   pub input : Source
-  pub outside : Surroundings
+  pub outside : Environment
   pub deepest : ℕ
 
 abbrev pub start : Setting → (globals : ℕ) → ℕ → State
@@ -152,7 +152,7 @@ start setting globals turns = record {
   globals = replicate globals Uninit;
   ranges = λ i. false;
   status = zero_number;
-  own = record { locals = []; room = setting.deepest };
+  own = record { locals = []; calls_left = setting.deepest };
   shared = shared_in setting.job setting.input setting.outside;
 }
 
@@ -166,13 +166,13 @@ resolved_run script setting turns = run_with setting turns (parts_of turns scrip
 abbrev pub most_calls : ℕ
 most_calls = 9999
 
-abbrev pub setting_in : JobForm → Source → Surroundings → Setting
-setting_in job input surroundings =
-    record { job = job; input = input; outside = surroundings; deepest = most_calls }
+abbrev pub setting_in : JobForm → Source → Environment → Setting
+setting_in job input environment =
+    record { job = job; input = input; outside = environment; deepest = most_calls }
 
 -- where nobody else changes what names hold
 abbrev pub setting_of : JobForm → Source → Outside → Setting
-setting_of job input outside = setting_in job input (Kept outside)
+setting_of job input outside = setting_in job input (Closed outside)
 
 abbrev pub run_of : List Item → JobForm → Source → Outside → ℕ → Ending
 run_of script job input outside turns = resolved_run (resolved script) (setting_of job input outside) turns

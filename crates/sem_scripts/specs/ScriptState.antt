@@ -4,7 +4,7 @@ use Rattle.awk_values.specs.declared.fault.Fault.{Fault}
 use Rattle.awk_values.specs.declared.value.Value.{Value}
 use Rattle.awk_values.specs.declared.value.Value.TheVariants.{Uninit}
 use Rattle.sem_primitives.specs.Numbers.{Number}
-use Rattle.sem_primitives.specs.SharedState.{Shared, Does, shared_after}
+use Rattle.sem_primitives.specs.SharedState.{Shared, HostResult, shared_after}
 use Rattle.sem_primitives.specs.Carried.{carried_out}
 use Rattle.sem_primitives.specs.Sorts.{Row, InAnswer, OrFault}
 use Rattle.sem_primitives.specs.Table.{arguments_of, answer_of, can_fault, meaning, listed_answer, listed_meaning}
@@ -17,11 +17,11 @@ pub data Local : Type 0 where
   Array : ℕ → Local
 
 -- what is a call's own
-pub record Own : Type 0 where
+pub record CallFrame : Type 0 where
   -- by the numbers of the parameters
   pub locals : List Local
   -- how many more calls of the script's functions may be nested
-  pub room : ℕ
+  pub calls_left : ℕ
 
 pub record State : Type 0 where
   -- turns left: a turn is a loop's test, a key of a loop over an array, a call, a record, or an assignment of the command line
@@ -31,7 +31,7 @@ pub record State : Type 0 where
   -- which ranges are open, by their numbers
   pub ranges : ℕ → Bool
   pub status : Number
-  pub own : Own
+  pub own : CallFrame
   -- what the host has too
   pub shared : Shared
 
@@ -49,39 +49,39 @@ pub data Outcome (A : Type 0) : Type 0 where
   Gives : A → State → Outcome A
   Stops : Stop → State → Outcome A
 
-abbrev pub Doing : Type 0 → Type 0
-Doing A = State → Outcome A
+abbrev pub Execution : Type 0 → Type 0
+Execution A = State → Outcome A
 
-abbrev pub go_on : {A B : Type 0} → Outcome A → (A → Doing B) → Outcome B
+abbrev pub go_on : {A B : Type 0} → Outcome A → (A → Execution B) → Outcome B
 go_on (Gives a state) f = f a state
 go_on (Stops why state) f = Stops why state
 
 infixr 1 ◌>>=◌
-abbrev pub ◌>>=◌ : {A B : Type 0} → Doing A → (A → Doing B) → Doing B
+abbrev pub ◌>>=◌ : {A B : Type 0} → Execution A → (A → Execution B) → Execution B
 ◌>>=◌ m f = λ state. go_on (m state) f
 
 infixr 1 ◌>>◌
-abbrev pub ◌>>◌ : {A B : Type 0} → Doing A → Doing B → Doing B
+abbrev pub ◌>>◌ : {A B : Type 0} → Execution A → Execution B → Execution B
 ◌>>◌ m k = λ state. go_on (m state) (λ a. k)
 
-abbrev pub give : {A : Type 0} → A → Doing A
+abbrev pub give : {A : Type 0} → A → Execution A
 give a = λ state. Gives a state
 
-abbrev pub nothing : Doing (Unit {0})
+abbrev pub nothing : Execution (Unit {0})
 nothing = λ state. Gives tt state
 
-abbrev pub stop : {A : Type 0} → Stop → Doing A
+abbrev pub stop : {A : Type 0} → Stop → Execution A
 stop why = λ state. Stops why state
 
 -- something that the state tells
-abbrev pub look : {A : Type 0} → (State → A) → Doing A
+abbrev pub look : {A : Type 0} → (State → A) → Execution A
 look f = λ state. Gives (f state) state
 
-abbrev pub change : (State → State) → Doing (Unit {0})
+abbrev pub change : (State → State) → Execution (Unit {0})
 change f = λ state. Gives tt (f state)
 
 -- an answer, or a fault
-abbrev pub settled : {A : Type 0} → Result A Fault → Doing A
+abbrev pub settled : {A : Type 0} → Result A Fault → Execution A
 settled (Ok a) = give a
 settled (Err fault) = stop (Faulted fault)
 
@@ -90,32 +90,32 @@ or_fault true a = a
 or_fault false a = Ok a
 
 -- what the host does for a script
-abbrev pub perform : {A : Type 0} → (b : Bool) → (Shared → Does (OrFault b A)) → Doing A
+abbrev pub perform : {A : Type 0} → (b : Bool) → (Shared → HostResult (OrFault b A)) → Execution A
 perform b f = λ state. settled (or_fault b (f state.shared).answer) (record state { shared = shared_after state.shared (f state.shared) })
 
 -- a row of the table
-abbrev pub does : (p : Primitive) → Row (arguments_of p) → Doing (InAnswer (answer_of p))
-does p row = perform (can_fault p) (meaning p row)
+abbrev pub call : (p : Primitive) → Row (arguments_of p) → Execution (InAnswer (answer_of p))
+call p row = perform (can_fault p) (meaning p row)
 
-abbrev pub does_listed : (l : Listed) → List Value → Doing (InAnswer (listed_answer l))
-does_listed l values = perform true (listed_meaning l values)
+abbrev pub call_listed : (l : Listed) → List Value → Execution (InAnswer (listed_answer l))
+call_listed l values = perform true (listed_meaning l values)
 
 abbrev pub spent : ℕ → State → Outcome (Unit {0})
 spent zero state = Stops OutOfTurns state
 spent (suc n) state = Gives tt (record state { turns = n })
 
 -- takes a turn
-abbrev pub spend : Doing (Unit {0})
+abbrev pub spend : Execution (Unit {0})
 spend = λ state. spent state.turns state
 
 -- takes so many
-unfoldable pub spend_all : ℕ → Doing (Unit {0})
+unfoldable pub spend_all : ℕ → Execution (Unit {0})
 spend_all zero = nothing
 spend_all (suc n) = spend >> spend_all n
 
 -- a call in which the host may carry out assignments of the command line: each of them costs a turn
-abbrev pub asks : (p : Primitive) → Row (arguments_of p) → Doing (InAnswer (answer_of p))
-asks p row = look (λ state. carried_out p state.shared) >>= λ n. spend_all n >> does p row
+abbrev pub asks : (p : Primitive) → Row (arguments_of p) → Execution (InAnswer (answer_of p))
+asks p row = look (λ state. carried_out p state.shared) >>= λ n. spend_all n >> call p row
 
 -- Names, by their numbers.
 

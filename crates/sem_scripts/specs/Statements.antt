@@ -13,7 +13,7 @@ use Rattle.awk_grammar.specs.Token.{Number}
 use Rattle.awk_grammar.specs.Tree.{Tree, Leaf, Field, Trees, NoTree, Then}
 use Rattle.awk_grammar.specs.Stmt.{Printing, Print, Printf, Args, NoArgs, Listed as Operands, Enclosed, Target, NoTarget, Written, Appended, Plain, Eval, Put, Delete, Clear, Break, Continue, Next, NextFile, Exit, Return, Stmt, Block, Empty, Simple, If, IfElse, While, Do, For, ForIn, Jumping, Leave, Stmts, NoStmt, And}
 use Rattle.sem_scripts.specs.Names.{Function, Resolved, Scope, function_at, variable_of, array_of}
-use Rattle.sem_scripts.specs.ScriptState.{Local, State, Own, Faulted, OutOfTurns, TooDeep, Nexted, Exited, Returned, Outcome, Gives, Stops, Doing, ◌>>=◌, ◌>>◌, give, nothing, stop, change, does, does_listed, spend}
+use Rattle.sem_scripts.specs.ScriptState.{Local, State, CallFrame, Faulted, OutOfTurns, TooDeep, Nexted, Exited, Returned, Outcome, Gives, Stops, Execution, ◌>>=◌, ◌>>◌, give, nothing, stop, change, call, call_listed, spend}
 use Rattle.sem_scripts.specs.Steps.{number_in, array_number, store_variable}
 use Rattle.sem_scripts.specs.Meaning.{Calls, value_of, values_of, key_of}
 
@@ -24,19 +24,19 @@ pub data Flow : Type 0 where
   Continued : Flow
 
 -- the statement, and what follows it
-abbrev pub after : Flow → Doing Flow → Doing Flow
+abbrev pub after : Flow → Execution Flow → Execution Flow
 after Normal rest = rest
 after Broke rest = give Broke
 after Continued rest = give Continued
 
 -- a round of a loop, and what follows it
-abbrev pub after_round : Flow → Doing Flow → Doing Flow
+abbrev pub after_round : Flow → Execution Flow → Execution Flow
 after_round Normal rest = rest
 after_round Broke rest = give Normal
 after_round Continued rest = rest
 
 -- at most n rounds, each with its test, which costs a turn, its body and its step
-unfoldable pub loop : ℕ → Doing Bool → Doing Flow → Doing (Unit {0}) → Doing Flow
+unfoldable pub loop : ℕ → Execution Bool → Execution Flow → Execution (Unit {0}) → Execution Flow
 loop zero test body step = stop OutOfTurns
 loop (suc n) test body step = do
   u ← spend
@@ -44,13 +44,13 @@ loop (suc n) test body step = do
   if holds then (body >>= λ flow. after_round flow (step >> loop n test body step)) else give Normal
 
 -- at most n keys of an array, of which each costs a turn
-abbrev pub at_key : (Value → Doing Flow) → Option Value → Doing Flow
+abbrev pub at_key : (Value → Execution Flow) → Option Value → Execution Flow
 at_key go None = give Normal
 at_key go (Some key) = spend >> go key
 
-unfoldable pub over_keys : ℕ → ℕ → (Value → Doing (Unit {0})) → Doing Flow → Doing Flow
-over_keys zero keys store body = does row.IterNext (keys, tt) >>= at_key (λ key. stop OutOfTurns)
-over_keys (suc n) keys store body = does row.IterNext (keys, tt)
+unfoldable pub over_keys : ℕ → ℕ → (Value → Execution (Unit {0})) → Execution Flow → Execution Flow
+over_keys zero keys store body = call row.IterNext (keys, tt) >>= at_key (λ key. stop OutOfTurns)
+over_keys (suc n) keys store body = call row.IterNext (keys, tt)
     >>= at_key (λ key. store key >> body >>= λ flow. after_round flow (over_keys n keys store body))
 
 -- the values of a print statement, with its target as the last one. Without operands it is `print $0`
@@ -81,40 +81,40 @@ abbrev pub listed_of : Printing → Destination → Listed
 listed_of Print d = listed.Print d
 listed_of Printf d = listed.Printf d
 
-abbrev pub put : Listed → List Value → Doing (Unit {0})
-put (listed.Print d) vs = does_listed (listed.Print d) vs
-put (listed.Printf d) vs = does_listed (listed.Printf d) vs
+abbrev pub put : Listed → List Value → Execution (Unit {0})
+put (listed.Print d) vs = call_listed (listed.Print d) vs
+put (listed.Printf d) vs = call_listed (listed.Printf d) vs
 put listed.Sprintf vs = nothing
 
 abbrev pub with_status : AnyNumber → State → State
 with_status m state = record state { status = m }
 
 module _ (scope : Scope) (n : ℕ) (calls : Calls) where
-  abbrev pub test_of : Tree → Doing Bool
+  abbrev pub test_of : Tree → Execution Bool
   test_of t = value_of scope n calls t >>= λ x. give (truth_of_value x)
 
   -- a test that is left out holds
-  abbrev pub maybe_test : Option Tree → Doing Bool
+  abbrev pub maybe_test : Option Tree → Execution Bool
   maybe_test None = give true
   maybe_test (Some t) = test_of t
 
-  unfoldable pub plain_done : Plain → Doing (Unit {0})
+  unfoldable pub plain_done : Plain → Execution (Unit {0})
   plain_done (Eval t) = value_of scope n calls t >> nothing
   plain_done (Put p args target) = values_of scope n calls (with_target (operands_of args) target) >>= put (listed_of p (destination_of target))
   plain_done (Delete a ts) = do
     i ← array_number (array_of scope a)
     key ← key_of scope n calls ts
-    does row.Delete (i, (key, tt))
+    call row.Delete (i, (key, tt))
   plain_done (Clear a) = do
     i ← array_number (array_of scope a)
-    does row.Clear (i, tt)
+    call row.Clear (i, tt)
 
-  abbrev pub maybe_done : Option Plain → Doing (Unit {0})
+  abbrev pub maybe_done : Option Plain → Execution (Unit {0})
   maybe_done None = nothing
   maybe_done (Some p) = plain_done p
 
   unfoldable mutual
-    pub done_by : Stmt → Doing Flow
+    pub done_by : Stmt → Execution Flow
     done_by (Block ss) = all_done ss
     done_by Empty = give Normal
     done_by (Simple p) = plain_done p >> give Normal
@@ -125,13 +125,13 @@ module _ (scope : Scope) (n : ℕ) (calls : Calls) where
     done_by (For i c p s) = maybe_done i >> loop n (maybe_test c) (done_by s) (maybe_done p)
     done_by (ForIn k a s) = do
       i ← array_number (array_of scope a)
-      keys ← does row.Iter (i, tt)
+      keys ← call row.Iter (i, tt)
       over_keys n keys (store_variable (variable_of scope k)) (done_by s)
     done_by (Jumping Break) = give Broke
     done_by (Jumping Continue) = give Continued
     done_by (Jumping Next) = stop Nexted
     -- the rest of what is being read is given up, and then the record is left
-    done_by (Jumping NextFile) = does row.NextFile tt >> stop Nexted
+    done_by (Jumping NextFile) = call row.NextFile tt >> stop Nexted
     done_by (Leave Exit None) = stop Exited
     done_by (Leave Exit (Some t)) = do
       x ← value_of scope n calls t
@@ -141,14 +141,14 @@ module _ (scope : Scope) (n : ℕ) (calls : Calls) where
     done_by (Leave Return None) = stop (Returned value.Uninit)
     done_by (Leave Return (Some t)) = value_of scope n calls t >>= λ x. stop (Returned x)
 
-    pub all_done : Stmts → Doing Flow
+    pub all_done : Stmts → Execution Flow
     all_done NoStmt = give Normal
     all_done (And s ss) = done_by s >>= λ flow. after flow (all_done ss)
 
 -- Calls.
 
 -- what a call gives; the caller's own is as it was, however the call ends
-abbrev pub returned : Own → Outcome Flow → Outcome Value
+abbrev pub returned : CallFrame → Outcome Flow → Outcome Value
 returned own (Gives flow state) = Gives value.Uninit (record state { own = own })
 returned own (Stops (Returned x) state) = Gives x (record state { own = own })
 returned own (Stops (Faulted fault) state) = Stops (Faulted fault) (record state { own = own })
@@ -158,12 +158,12 @@ returned own (Stops Nexted state) = Stops Nexted (record state { own = own })
 returned own (Stops Exited state) = Stops Exited (record state { own = own })
 
 -- a call where so many more may be nested
-abbrev pub entered_with : ℕ → List Local → Doing Flow → Doing Value
+abbrev pub entered_with : ℕ → List Local → Execution Flow → Execution Value
 entered_with zero locals body = stop TooDeep
-entered_with (suc room) locals body = λ state. returned state.own (body (record state { own = record { locals = locals; room = room } }))
+entered_with (suc room) locals body = λ state. returned state.own (body (record state { own = record { locals = locals; calls_left = room } }))
 
-abbrev pub entered : List Local → Doing Flow → Doing Value
-entered locals body = λ state. entered_with state.own.room locals body state
+abbrev pub entered : List Local → Execution Flow → Execution Value
+entered locals body = λ state. entered_with state.own.calls_left locals body state
 
 abbrev pub scope_in : Resolved → Function → Scope
 scope_in script f = record { script = script; parameters = f.parameters }

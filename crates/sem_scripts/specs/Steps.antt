@@ -22,7 +22,7 @@ use Rattle.sem_primitives.specs.declared.table.Primitive.TheVariants.{Pow, GetSp
 use Rattle.awk_grammar.specs.Token.{Sign, Plus, Minus, Step, Increment, Decrement, Comparison, Less, LessEqual, Equal, NotEqual, Greater, GreaterEqual, Product, Times, Over, Modulo, Literal, Ere}
 use Rattle.awk_grammar.specs.Tree.{Tree, Leaf, Group}
 use Rattle.sem_scripts.specs.Names.{Name, Variable, Global, Parameter, Reserved, ArrayName, Numbered, Given}
-use Rattle.sem_scripts.specs.ScriptState.{Local, Scalar, Array, Doing, ◌>>=◌, ◌>>◌, give, nothing, look, change, settled, does, global_value, local_value, local_array, with_global, with_local}
+use Rattle.sem_scripts.specs.ScriptState.{Local, Scalar, Array, Execution, ◌>>=◌, ◌>>◌, give, nothing, look, change, settled, call, global_value, local_value, local_array, with_global, with_local}
 
 -- Numbers and truth.
 
@@ -55,13 +55,13 @@ truth_number false = zero_number
 abbrev pub truth_value : Bool → Value
 truth_value b = numeric (truth_number b)
 
-abbrev pub number_in : Value → Doing Number
+abbrev pub number_in : Value → Execution Number
 number_in v = settled (number_of_row v)
 
 -- Operators on numbers.
 
 abbrev pub Operator : Type 0
-Operator = Number → Number → Doing Number
+Operator = Number → Number → Execution Number
 
 abbrev pub arithmetic : (ℤ → ℤ → Checked) → Operator
 arithmetic f m n = settled (outcome_of (f m.number n.number))
@@ -76,14 +76,14 @@ product_operator Over = arithmetic quotient
 product_operator Modulo = arithmetic remainder
 
 abbrev pub power_operator : Operator
-power_operator m n = does Pow (m, (n, tt))
+power_operator m n = call Pow (m, (n, tt))
 
 abbrev pub step_operator : Step → Operator
 step_operator Increment = arithmetic sum
 step_operator Decrement = arithmetic difference
 
 -- both are converted, the left one first
-abbrev pub computed : Operator → Value → Value → Doing Value
+abbrev pub computed : Operator → Value → Value → Execution Value
 computed operator x y = do
   m ← number_in x
   n ← number_in y
@@ -99,24 +99,24 @@ comparison_of Greater = compare.Greater
 comparison_of GreaterEqual = compare.GreaterOrEqual
 
 -- no primitive: values are compared as they are
-abbrev pub compared : CompareOp → Value → Value → Doing Bool
+abbrev pub compared : CompareOp → Value → Value → Execution Bool
 compared c x y = settled (comparison x y c)
 
 -- Variables, elements and fields.
 
-abbrev pub array_number : ArrayName → Doing ℕ
+abbrev pub array_number : ArrayName → Execution ℕ
 array_number (Numbered i) = give i
 array_number (Given i) = look (local_array i)
 
-abbrev pub read_variable : Variable → Doing Value
+abbrev pub read_variable : Variable → Execution Value
 read_variable (Global i) = look (global_value i)
 read_variable (Parameter i) = look (local_value i)
-read_variable (Reserved special) = does GetSpecial (special, tt)
+read_variable (Reserved special) = call GetSpecial (special, tt)
 
-abbrev pub store_variable : Variable → Value → Doing (Unit {0})
+abbrev pub store_variable : Variable → Value → Execution (Unit {0})
 store_variable (Global i) v = change (with_global i v)
 store_variable (Parameter i) v = change (with_local i v)
-store_variable (Reserved special) v = does SetSpecial (special, (v, tt))
+store_variable (Reserved special) v = call SetSpecial (special, (v, tt))
 
 -- a field's number is from 0 to that of the last one
 abbrev pub is_field_number : ℤ → Bool
@@ -132,17 +132,17 @@ pub data Place : Type 0 where
   Element : ArrayName → (key : Value) → Place
   FieldAt : Number → Place
 
-abbrev pub read_place : Place → Doing Value
+abbrev pub read_place : Place → Execution Value
 read_place (Named x) = read_variable x
-read_place (Element a key) = array_number a >>= λ i. does Elem (i, (key, tt))
-read_place (FieldAt n) = does Field (n, tt)
+read_place (Element a key) = array_number a >>= λ i. call Elem (i, (key, tt))
+read_place (FieldAt n) = call Field (n, tt)
 
-abbrev pub store_place : Place → Value → Doing (Unit {0})
+abbrev pub store_place : Place → Value → Execution (Unit {0})
 store_place (Named x) v = store_variable x v
-store_place (Element a key) v = array_number a >>= λ i. does SetElem (i, (key, (v, tt)))
-store_place (FieldAt n) v = does SetField (n, (v, tt))
+store_place (Element a key) v = array_number a >>= λ i. call SetElem (i, (key, (v, tt)))
+store_place (FieldAt n) v = call SetField (n, (v, tt))
 
-abbrev pub stored : Place → Value → Doing Value
+abbrev pub stored : Place → Value → Execution Value
 stored place v = store_place place v >> give v
 
 -- Constant expressions that are matched: an ERE token as an operand, parentheses aside.
@@ -160,7 +160,7 @@ ere_in (Leaf c) = ere_token c
 ere_in (Group t) = ere_in t
 ere_in _ = []
 
-abbrev pub ere_or : List (List ℕ) → Doing Value → Doing Value
+abbrev pub ere_or : List (List ℕ) → Execution Value → Execution Value
 ere_or [] other = other
 ere_or (text ∷ rest) other = give (value.Text text)
 
@@ -181,26 +181,26 @@ stream_number stream.Done = zero_number
 stream_number stream.NotOpen = minus_one
 
 -- the text that was read goes into a variable
-abbrev pub received : Place → InputAnswer → Doing Value
+abbrev pub received : Place → InputAnswer → Execution Value
 received place input.Read = do
-  text ← does Line tt
+  text ← call Line tt
   u ← store_place place text
   give (numeric one_number)
 received place answer = give (numeric (input_number answer))
 
 -- with what was replaced, if anything was
-abbrev pub replaced_in : Place → Number → Doing Value
-replaced_in place count = (if is_zero count.number then nothing else (does SubResult tt >>= store_place place)) >> give (numeric count)
+abbrev pub replaced_in : Place → Number → Execution Value
+replaced_in place count = (if is_zero count.number then nothing else (call SubResult tt >>= store_place place)) >> give (numeric count)
 
 -- a parameter for which no argument is given
-abbrev pub fresh : Name → Doing Local
-fresh p = if p.is_array then (does NewArray tt >>= λ i. give (Array i)) else give (Scalar value.Uninit)
+abbrev pub fresh : Name → Execution Local
+fresh p = if p.is_array then (call NewArray tt >>= λ i. give (Array i)) else give (Scalar value.Uninit)
 
 -- a value that is given for a parameter
 abbrev pub given_value : Name → Value → Local
 given_value p x = if p.is_array then Array 0 else Scalar x
 
-abbrev pub fresh_all : List Name → Doing (List Local)
+abbrev pub fresh_all : List Name → Execution (List Local)
 fresh_all [] = give []
 fresh_all (p ∷ ps) = do
   l ← fresh p
@@ -208,7 +208,7 @@ fresh_all (p ∷ ps) = do
   give (l ∷ ls)
 
 -- An assignment with an operator: the place, the right side, and then the old value.
-abbrev pub updated : Operator → Doing Place → Doing Value → Doing Value
+abbrev pub updated : Operator → Execution Place → Execution Value → Execution Value
 updated operator where_to right = do
   place ← where_to
   x ← right
@@ -217,11 +217,11 @@ updated operator where_to right = do
   stored place result
 
 -- expression, replacement, place; then the old value
-abbrev pub substituted : Bool → Doing Value → Doing Value → Doing Place → Doing Value
+abbrev pub substituted : Bool → Execution Value → Execution Value → Execution Place → Execution Value
 substituted all ere replacement where_to = do
   e ← ere
   r ← replacement
   place ← where_to
   old ← read_place place
-  count ← does Sub (e, (r, (old, (all, tt))))
+  count ← call Sub (e, (r, (old, (all, tt))))
   replaced_in place count

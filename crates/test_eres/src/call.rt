@@ -1,5 +1,5 @@
 //! What a line asks for.
-use crate::words::{letter, word};
+use crate::line_words::{letter, word};
 
 /// The call that a line names.
 #[derive(Clone, Copy)]

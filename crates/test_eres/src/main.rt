@@ -14,10 +14,10 @@
 #![tactic(auto)]
 
 mod call;
+mod line_words;
 mod matches;
 mod texts;
 mod trees;
-mod words;
 
 use call::{Call, call_of};
 use ere_syntax::EreFault;

@@ -1,6 +1,6 @@
 //! The expression of a line, and the text that it is matched against.
 use crate::call::Call;
-use crate::words::{built, bytes, letter, number};
+use crate::line_words::{built, bytes, letter, number};
 use std::alloc::{AllocError, Global};
 
 /// What a text of words repeats.

@@ -3,7 +3,7 @@ use Rattle.std.specs.Prelude.{◌≡◌, ℕ, zero, suc, ◌-◌, nat_le, ◌&&�
 use Rattle.world_core.specs.WorldState.{Action}
 use Rattle.mid_program.specs.Mid.{Program}
 use Rattle.mid_program.specs.MidMeaning.{mid_run_in}
-use Rattle.sem_scripts.specs.Kept.{output_of}
+use Rattle.sem_scripts.specs.MoreTurns.{output_of}
 use Rattle.sem_scripts.specs.ScriptRun.{Setting, Ending, Ended, FaultedBy, GoesOn, Exhausted}
 use Rattle.lower_model.specs.Machine.{Code, Conf, step, ending_at, carried_at}
 use Rattle.lower_model.specs.Runs.{code_of, begun, value_run}

@@ -12,7 +12,7 @@ use Rattle.sem_scripts.specs.ScriptRun.{Setting, Ended, FaultedBy, setting_of}
 use Rattle.mid_program.specs.declared.mid.Arithmetic.TheVariants.{Modulo, Plus, Times}
 use Rattle.mid_program.specs.declared.mid.Operation.TheVariants.{AsNumber, Host, Inline}
 use Rattle.sem_scripts.specs.Names.{Numbered}
-use Rattle.mid_program.specs.Mid.{Kind, Boxed, Unboxed, Many, Global, Code, Do, Over, Compare, Number, Text, Array, Get, Set, Seq, Let, Bound, End, At, Fixed, Declared, Step, Eval, Block, If, Loop, Steps, NoStep, Then, Program}
+use Rattle.mid_program.specs.Mid.{Kind, Boxed, Unboxed, ArrayKind, Global, Code, Do, Over, Compare, Number, Text, Array, Get, Set, Seq, Let, Bound, End, At, Fixed, Declared, Step, Eval, Block, If, Loop, Steps, NoStep, Then, Program}
 use Rattle.mid_program.specs.Sorted.{sorted, all_sorted, step_sorted, steps_sorted, is_sorted}
 use Rattle.lower_model.specs.Emission.{emitted, all_emitted}
 use Rattle.lower_model.specs.Statements.{step_emitted, steps_emitted}
@@ -161,7 +161,7 @@ counter =
 abbrev tallying : ℕ → Program
 tallying k = record {
   texts = codes "x" ∷ [];
-  globals = unboxed_name (codes "n") ∷ ((record { name = codes "c"; kind = Many }) ∷ []);
+  globals = unboxed_name (codes "n") ∷ ((record { name = codes "c"; kind = ArrayKind }) ∷ []);
   routines = [];
   ranges = 1;
   begin = Then (Loop true (Compare Less (n_of true) (Number (pos k))) (Block (Then (n_plus_one true) (Then (Eval counter) NoStep))) (Block NoStep)) NoStep;

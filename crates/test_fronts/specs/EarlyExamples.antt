@@ -9,7 +9,7 @@ use Rattle.ere_syntax.specs.Scan.{table, sign_of}
 use Rattle.world_core.specs.WorldState.{Standard, Named, Outside, Source, absent, replaced}
 use Rattle.world_core.specs.declared.world.Ending.{Ending}
 use Rattle.world_core.specs.declared.world.Ending.TheVariants.{End}
-use Rattle.sem_primitives.specs.Jobs.{JobForm, Kept}
+use Rattle.sem_primitives.specs.Jobs.{JobForm, Closed}
 use Rattle.awk_grammar.specs.Kinds.{special_arrays, special_scalars}
 use Rattle.sem_scripts.specs.Kinds.{resolved}
 use Rattle.sem_scripts.specs.ScriptRun.{setting_of}
@@ -51,7 +51,7 @@ unfolding special_arrays special_scalars emitted all_emitted step_emitted steps_
 next_in_function = (refl, (refl, refl))
 
 -- function r(n) { return n ? r(n-1) : 7 } BEGIN { print r(3) }
-pub calls_nested : AgreesEarly (program_of (resolved scripts.calls_nested)) (record { job = no_job; input = no_input; outside = Kept empty; deepest = 4 })
+pub calls_nested : AgreesEarly (program_of (resolved scripts.calls_nested)) (record { job = no_job; input = no_input; outside = Closed empty; deepest = 4 })
 unfolding special_arrays special_scalars emitted all_emitted step_emitted steps_emitted texts_in all_texts stmt_texts stmts_texts code_of codes_of key_code kept_code argument_codes truncated_code applied_code step_code steps_code numeral_at sign_at fraction_at exponent_at numerator denominator digits unescaped escaped octal keywords builtins left_out_words table sign_of spend_all asked loop over_keys first_assigned records_done evaluated all_evaluated stepped all_stepped mid_called
 calls_nested = (refl, (refl, refl))
 

@@ -10,7 +10,7 @@ use Rattle.awk_values.specs.declared.fault.Fault.TheVariants.{Range, Fraction, D
 use Rattle.world_core.specs.WorldState.{Standard, Named, Outside, Source, absent, replaced, Open, puts}
 use Rattle.world_core.specs.declared.world.Ending.{Ending}
 use Rattle.world_core.specs.declared.world.Ending.TheVariants.{End, Fails}
-use Rattle.sem_primitives.specs.Jobs.{JobForm, Kept}
+use Rattle.sem_primitives.specs.Jobs.{JobForm, Closed}
 use Rattle.sem_scripts.specs.ScriptState.{spend_all}
 use Rattle.awk_grammar.specs.Kinds.{special_arrays, special_scalars}
 use Rattle.sem_scripts.specs.Kinds.{resolved}
@@ -152,13 +152,13 @@ unfolding special_arrays special_scalars spend_all asked value_of values_of key_
 fraction_read = refl
 
 -- function r(n) { return n ? r(n-1) : 7 } BEGIN { print r(3) }
-pub calls_nested : resolved_run (resolved scripts.calls_nested) (record { job = no_job; input = no_input; outside = Kept empty; deepest = 4 }) 20
+pub calls_nested : resolved_run (resolved scripts.calls_nested) (record { job = no_job; input = no_input; outside = Closed empty; deepest = 4 }) 20
     ≡ Ended 0 (puts Standard (codes "7\n"))
 unfolding special_arrays special_scalars spend_all asked value_of values_of key_of place_of passed truncated_of applied loop over_keys plain_done done_by all_done called items_done begun ended first_assigned records_done numeral_at sign_at fraction_at exponent_at numerator denominator digits unescaped escaped octal keywords builtins left_out_words table sign_of
 calls_nested = refl
 
 -- function r(n) { return n ? r(n-1) : 7 } BEGIN { print "x"; print r(4) }
-pub calls_too_deep : resolved_run (resolved scripts.calls_too_deep) (record { job = no_job; input = no_input; outside = Kept empty; deepest = 4 }) 20
+pub calls_too_deep : resolved_run (resolved scripts.calls_too_deep) (record { job = no_job; input = no_input; outside = Closed empty; deepest = 4 }) 20
     ≡ Exhausted (puts Standard (codes "x\n"))
 unfolding special_arrays special_scalars spend_all asked value_of values_of key_of place_of passed truncated_of applied loop over_keys plain_done done_by all_done called items_done begun ended first_assigned records_done numeral_at sign_at fraction_at exponent_at numerator denominator digits unescaped escaped octal keywords builtins left_out_words table sign_of
 calls_too_deep = refl

@@ -10,7 +10,7 @@ use Rattle.awk_values.specs.declared.fault.Fault.TheVariants.{Range, Fraction, D
 use Rattle.world_core.specs.WorldState.{Standard, Named, Outside, Source, absent, replaced, Open, puts}
 use Rattle.world_core.specs.declared.world.Ending.{Ending}
 use Rattle.world_core.specs.declared.world.Ending.TheVariants.{End, Fails}
-use Rattle.sem_primitives.specs.Jobs.{JobForm, Kept}
+use Rattle.sem_primitives.specs.Jobs.{JobForm, Closed}
 use Rattle.sem_scripts.specs.ScriptState.{spend_all}
 use Rattle.awk_grammar.specs.Kinds.{special_arrays, special_scalars}
 use Rattle.sem_scripts.specs.Kinds.{resolved}
@@ -166,13 +166,13 @@ fraction_read = refl
 
 -- function r(n) { return n ? r(n-1) : 7 } BEGIN { print r(3) }
 pub calls_nested : mid_run_in (program_of (resolved scripts.calls_nested))
-    (record { job = no_job; input = no_input; outside = Kept empty; deepest = 4 }) 20 ≡ Ended 0 (puts Standard (codes "7\n"))
+    (record { job = no_job; input = no_input; outside = Closed empty; deepest = 4 }) 20 ≡ Ended 0 (puts Standard (codes "7\n"))
 unfolding special_arrays special_scalars spend_all asked loop over_keys first_assigned records_done evaluated all_evaluated stepped all_stepped mid_called texts_in all_texts stmt_texts stmts_texts code_of codes_of key_code kept_code argument_codes truncated_code applied_code step_code steps_code numeral_at sign_at fraction_at exponent_at numerator denominator digits unescaped escaped octal keywords builtins left_out_words table sign_of
 calls_nested = refl
 
 -- function r(n) { return n ? r(n-1) : 7 } BEGIN { print "x"; print r(4) }
 pub calls_too_deep : mid_run_in (program_of (resolved scripts.calls_too_deep))
-    (record { job = no_job; input = no_input; outside = Kept empty; deepest = 4 }) 20 ≡ Exhausted (puts Standard (codes "x\n"))
+    (record { job = no_job; input = no_input; outside = Closed empty; deepest = 4 }) 20 ≡ Exhausted (puts Standard (codes "x\n"))
 unfolding special_arrays special_scalars spend_all asked loop over_keys first_assigned records_done evaluated all_evaluated stepped all_stepped mid_called texts_in all_texts stmt_texts stmts_texts code_of codes_of key_code kept_code argument_codes truncated_code applied_code step_code steps_code numeral_at sign_at fraction_at exponent_at numerator denominator digits unescaped escaped octal keywords builtins left_out_words table sign_of
 calls_too_deep = refl
 

@@ -13,7 +13,7 @@ use Rattle.mid_program.specs.declared.mid.Arithmetic.TheVariants.{Plus}
 use Rattle.mid_program.specs.declared.mid.Operation.TheVariants.{Host, Inline}
 use Rattle.sem_scripts.specs.Names.{Numbered, Given}
 use Rattle.mid_program.specs.Sorted.{sorted, all_sorted, step_sorted, steps_sorted, is_sorted}
-use Rattle.mid_program.specs.Mid.{Kind, Boxed, Many, Global, Code, Do, Over, Call, Number, Text, Get, Set, Array, Let, Bound, End, At, Fresh, Step, Eval, Each, Break, Continue, Steps, NoStep, Then, Declared, Routine, Program}
+use Rattle.mid_program.specs.Mid.{Kind, Boxed, ArrayKind, Global, Code, Do, Over, Call, Number, Text, Get, Set, Array, Let, Bound, End, At, Fresh, Step, Eval, Each, Break, Continue, Steps, NoStep, Then, Declared, Routine, Program}
 use Rattle.lower_model.specs.Emission.{emitted, all_emitted}
 use Rattle.lower_model.specs.Statements.{step_emitted, steps_emitted}
 use Rattle.lower_model.specs.Runs.{value_run}
@@ -29,7 +29,7 @@ abbrev program : List Routine → Steps → Program
 program rs ss = record {
   texts = codes "x" ∷ (codes "y" ∷ []);
   globals = name Boxed (codes "k")
-      ∷ (name Many (codes "a") ∷ []);
+      ∷ (name ArrayKind (codes "a") ∷ []);
   routines = rs;
   ranges = 0;
   begin = ss;
@@ -72,7 +72,7 @@ abbrev made : Program
 made =
     program ((record {
       name = codes "f";
-      parameters = Many
+      parameters = ArrayKind
           ∷ [];
       body = Then (Eval (Do (Host Elem) (At (Array (Given 0)) (At (Text 0) End))))
           (Then (Each (Given 0) (Set (Global false 0) (Bound true 0)) (printed k)) NoStep);
@@ -89,7 +89,7 @@ abbrev faulted : Program
 faulted =
     record (program ((record {
       name = codes "f";
-      parameters = Many
+      parameters = ArrayKind
           ∷ [];
       body = Then (each (Eval (Over (Print to.Standard)
           (At (Text 0) (At (Do (Inline Plus) (At (Text 2) (At (Number (pos 1)) End))) End))))) NoStep;

@@ -1,7 +1,7 @@
 -- Bytes that spell no script, and why.
 use Rattle.std.specs.Prelude.{codes, refl}
 use Rattle.awk_tokens.specs.declared.token.TokenFault.TheVariants.{BadByte, OpenString, OpenEre}
-use Rattle.awk_tokens.specs.declared.words.LeftOut.TheVariants.{System}
+use Rattle.awk_tokens.specs.declared.reserved_words.LeftOut.TheVariants.{System}
 use Rattle.awk_parse.specs.declared.fault.Feature.TheVariants.{Word, Pipe}
 use Rattle.awk_parse.specs.declared.fault.ParseFault.TheVariants.{LeftOut, NotWhole, ConstantRange}
 use Rattle.awk_grammar.specs.Kinds.{UnknownFunction, ArgCount, DuplicateName, KindClash}

@@ -21,7 +21,7 @@ use Rattle.awk_parse.specs.Parsing.{misplaced}
 use Rattle.awk_grammar.specs.Kinds.{Refusal, refusal, special_arrays, special_scalars}
 use Rattle.ere_syntax.specs.Scan.{table, sign_of}
 use Rattle.world_core.specs.WorldState.{Outside, Source}
-use Rattle.sem_primitives.specs.Jobs.{JobForm, Kept}
+use Rattle.sem_primitives.specs.Jobs.{JobForm, Closed}
 use Rattle.sem_scripts.specs.ScriptState.{spend_all}
 use Rattle.sem_scripts.specs.Kinds.{resolved}
 use Rattle.sem_scripts.specs.Meaning.{asked, value_of, values_of, key_of, place_of, passed, truncated_of, applied}
@@ -89,7 +89,7 @@ RunsAs script bytes job input outside turns ending = (script_of bytes ≡ Ok scr
 -- the same, where so many calls may be nested
 abbrev pub RunsWithin : ℕ → List Item → List ℕ → JobForm → Source → Outside → ℕ → Ending → Type 0
 RunsWithin deepest script bytes job input outside turns ending =
-    (script_of bytes ≡ Ok script) × (run_in bytes (record { job = job; input = input; outside = Kept outside; deepest = deepest }) turns ≡ Ok ending)
+    (script_of bytes ≡ Ok script) × (run_in bytes (record { job = job; input = input; outside = Closed outside; deepest = deepest }) turns ≡ Ok ending)
 
 -- the bytes spell no script, for this cause
 abbrev pub IsRefused : List ℕ → Refused → Type 0

@@ -10,7 +10,7 @@ use Rattle.awk_values.specs.declared.fault.Fault.TheVariants.{Fraction, OpenInpu
 use Rattle.world_core.specs.WorldState.{Standard, Named, Outside, Source, absent, replaced, puts}
 use Rattle.world_core.specs.declared.world.Ending.{Ending}
 use Rattle.world_core.specs.declared.world.Ending.TheVariants.{End}
-use Rattle.sem_primitives.specs.Jobs.{JobForm, Kept}
+use Rattle.sem_primitives.specs.Jobs.{JobForm, Closed}
 use Rattle.awk_grammar.specs.Kinds.{special_arrays, special_scalars}
 use Rattle.sem_scripts.specs.Kinds.{resolved}
 use Rattle.sem_scripts.specs.ScriptRun.{Ended, FaultedBy, Exhausted, setting_of}
@@ -74,7 +74,7 @@ all_replaced = (refl, refl)
 -- function r(n) { return n ? r(n-1) : 7 } BEGIN { print r(3) }
 pub calls_nested : is_sorted (unboxed ([]) ((true ∷ []) ∷ []) (program_of (resolved scripts.calls_nested))) ≡ true
     × value_run (unboxed ([]) ((true ∷ [])
-    ∷ []) (program_of (resolved scripts.calls_nested))) (record { job = no_job; input = no_input; outside = Kept empty; deepest = 4 }) 2500
+    ∷ []) (program_of (resolved scripts.calls_nested))) (record { job = no_job; input = no_input; outside = Closed empty; deepest = 4 }) 2500
     ≡ Some (Ended 0 (puts Standard (codes "7\n")))
 unfolding special_arrays special_scalars emitted all_emitted step_emitted steps_emitted texts_in all_texts stmt_texts stmts_texts code_of codes_of key_code kept_code argument_codes truncated_code applied_code step_code steps_code numeral_at sign_at fraction_at exponent_at numerator denominator digits unescaped escaped octal keywords builtins left_out_words table sign_of sorted all_sorted step_sorted steps_sorted
 calls_nested = (refl, refl)
@@ -82,7 +82,7 @@ calls_nested = (refl, refl)
 -- function r(n) { return n ? r(n-1) : 7 } BEGIN { print "x"; print r(4) }
 pub calls_too_deep : is_sorted (unboxed ([]) ((true ∷ []) ∷ []) (program_of (resolved scripts.calls_too_deep))) ≡ true
     × value_run (unboxed ([]) ((true ∷ [])
-    ∷ []) (program_of (resolved scripts.calls_too_deep))) (record { job = no_job; input = no_input; outside = Kept empty; deepest = 4 }) 2500
+    ∷ []) (program_of (resolved scripts.calls_too_deep))) (record { job = no_job; input = no_input; outside = Closed empty; deepest = 4 }) 2500
     ≡ Some (Exhausted (puts Standard (codes "x\n")))
 unfolding special_arrays special_scalars emitted all_emitted step_emitted steps_emitted texts_in all_texts stmt_texts stmts_texts code_of codes_of key_code kept_code argument_codes truncated_code applied_code step_code steps_code numeral_at sign_at fraction_at exponent_at numerator denominator digits unescaped escaped octal keywords builtins left_out_words table sign_of sorted all_sorted step_sorted steps_sorted
 calls_too_deep = (refl, refl)

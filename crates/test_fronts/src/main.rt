@@ -10,8 +10,8 @@
 
 mod found;
 mod kinds;
-pub mod laws;
 mod names;
+pub mod row_laws;
 mod show;
 mod token_lists;
 mod trees;

@@ -53,7 +53,7 @@ fn names_of(alloc: Global, script: &[u8], resolved: &Resolved) -> Result<String,
 /// Whether a kind is that of a name.
 fn is_kind_of(kind: &Kind, name: &NameKind) -> bool {
     match kind {
-        Kind::Many => name.is_array,
+        Kind::Array => name.is_array,
         Kind::Boxed | Kind::Unboxed => !name.is_array,
     }
 }

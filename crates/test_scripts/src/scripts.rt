@@ -28,7 +28,7 @@ pub fn run_once<W: World>(
     world: W,
 ) -> Result<(RunEnd, W), (CompileFault, W)>
     ensures ran { IfOk result (λ r. (bytes : List ℕ) × IsCompiled script.now bytes
-        × Answers W.tells bytes (job_of job.now) 100000000 (W.state world) r.0 (W.state r.1)) }
+        × Answers W.is_modelled bytes (job_of job.now) 100000000 (W.state world) r.0 (W.state r.1)) }
     ensures refused { IfErr result (λ e. IsNotCompiled script.now e.0 × (e.1 ≡ world)) }
 {
     match compile(alloc, script) {
@@ -44,7 +44,7 @@ pub fn run_alone<W: World>(
     state: RandomState,
     world: W,
 ) -> (RunEnd, W)
-    ensures { ScriptAnswers W.tells script.now empty_job 100000000 (W.state world) result.0
+    ensures { ScriptAnswers W.is_modelled script.now empty_job 100000000 (W.state world) result.0
         (W.state result.1) }
 {
     let job = Job::empty(alloc);

@@ -1,7 +1,7 @@
 //! A world whose reads give few bytes.
 use world_core::{World, WorldFault};
 
-/// A world that does as its inner one does, and reads so many bytes at a time at most. It does not tell its state.
+/// A world that does as its inner one does, and reads so many bytes at a time at most. It is not modelled.
 #[derive(Drop)]
 pub(crate) struct SlowWorld<W: World> {
     inner: W,
@@ -21,7 +21,7 @@ impl<W: World> SlowWorld<W> {
 }
 
 impl<W: World> World for SlowWorld<W> {
-    ghost tells = { ⊥ };
+    ghost is_modelled = { ⊥ };
 
     ghost state = { λ w. W.state w.inner };
 

@@ -2,7 +2,7 @@
 use Rattle.std.proofs.Common.{◌≡◌, ℕ, zero, suc, Bool, true, false, List, [], ◌∷◌, map, refl, ap}
 use Rattle.awk_values.specs.declared.value.Value.{Value}
 use Rattle.sem_scripts.specs.Meaning.{Calls}
-use Rattle.mid_program.specs.Mid.{Kind, Boxed, Unboxed, Many, Slot, Global, Parameter, Do, Declared, Routine, Program, read_form, slot_form, parameters_at}
+use Rattle.mid_program.specs.Mid.{Kind, Boxed, Unboxed, ArrayKind, Slot, Global, Parameter, Do, Declared, Routine, Program, read_form, slot_form, parameters_at}
 use Rattle.mid_program.specs.MidMeaning.{read_as, read_slot, store_slot, routine_at, global_name, routine_name}
 use Rattle.sem_scripts.specs.Names.{Name}
 use Rattle.sem_scripts.specs.ScriptState.{State, global_value, local_value}
@@ -34,7 +34,7 @@ same_places gs ps = record { reads = reads_alike gs ps; stores = λ x v. stores_
     stores_alike (Parameter u i) v = refl
 
 pub same_many : (u : Bool) (k : Kind) → is_many k ≡ is_many (kind_with u k)
-same_many u Many = refl
+same_many u ArrayKind = refl
 same_many true Boxed = refl
 same_many false Boxed = refl
 same_many true Unboxed = refl

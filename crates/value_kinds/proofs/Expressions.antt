@@ -3,14 +3,14 @@ use Rattle.std.proofs.Common.{◌≡◌, ℕ, suc, Bool, true, false, List, [], 
 use Rattle.std.specs.Prelude.{if◌then◌else◌}
 use Rattle.std.specs.List.{AllByRecursion as Each}
 use Rattle.sem_primitives.specs.declared.table.Primitive.TheVariants as row
-use Rattle.awk_tokens.specs.declared.words.Builtin.{Builtin}
-use Rattle.awk_tokens.specs.declared.words.Builtin.TheVariants as builtin
+use Rattle.awk_tokens.specs.declared.reserved_words.Builtin.{Builtin}
+use Rattle.awk_tokens.specs.declared.reserved_words.Builtin.TheVariants as builtin
 use Rattle.awk_grammar.specs.Token.{And, Assign, Compare, Differs, Ere, Match, Matches, Minus, Mul, Not, Number as Numeral, Or, Over as Divided, Plus, Pow, Quoted, Set as Put, SetPower, SetProduct, SetSum, Signed}
 use Rattle.awk_grammar.specs.Token as token
 use Rattle.awk_grammar.specs.Tree.{Add, Apply, Bin, Call, Cond, Field, Get, GetFrom, GetInto, GetIntoFrom, Group, Has, HasList, Index, Join, Leaf, Length, NoTree, Other, Post, Pre, Then, Tree, Trees, Unary, Var}
 use Rattle.mid_program.specs.declared.mid.Operation.{Operation}
 use Rattle.mid_program.specs.declared.mid.Operation.TheVariants.{Host}
-use Rattle.mid_program.specs.Mid.{Answered, AskLine, Code, Codes, Do, FileLine, Form, Let, Perhaps, a_number, a_value, answer_by, form_of}
+use Rattle.mid_program.specs.Mid.{PrimitiveAnswer, AskLine, Code, Codes, Do, FileLine, Form, Let, OptionalNumber, a_number, a_value, answer_by, form_of}
 use Rattle.mid_program.specs.Mid as mid
 use Rattle.sem_scripts.specs.Names.{Name, Reserved, Scope, Variable, array_of, function_at, function_number, is_array, variable_of}
 use Rattle.sem_scripts.specs.Names as names
@@ -24,9 +24,9 @@ use Rattle.value_kinds.specs.Stores.{Global, Parameter, Result, Scalar, Store, S
 use Rattle.value_kinds.proofs.Forms.{clash, number_code, product_number, sign_number}
 
 plain_number : (f : Form) → sorted.is_number f ≡ true → is_plain f ≡ true
-plain_number Perhaps h = refl
-plain_number mid.Bare h = h
-plain_number (Answered a) h = h
+plain_number OptionalNumber h = refl
+plain_number mid.NumberOrText h = h
+plain_number (PrimitiveAnswer a) h = h
 
 module _ (x : Scalar) where
   -- what the script stores into the scalar is a number
@@ -114,7 +114,7 @@ module _ (x : Scalar) where
         let gs = a_number ∷ (a_number ∷ fs) in
         both (old ++ []) _ (alone old (read_fit t 0 fs)) (alone (code.stores gs (store_at t 2 (moved 0))) (store_fit t 2 (moved 0) gs tt k))
 
-    updated_fit : (o : Operation) (t : Target) (e : Code) (fs : List Form) → Fit (code.stores fs e) → Takes t (Answered (answer_by o)) → Fit (code.stores fs (updated_at o t e))
+    updated_fit : (o : Operation) (t : Target) (e : Code) (fs : List Form) → Fit (code.stores fs e) → Takes t (PrimitiveAnswer (answer_by o)) → Fit (code.stores fs (updated_at o t e))
     updated_fit o t e fs h k =
         let gs = form_of fs e ∷ fs in
         both (code.stores fs e) _ h (stored_fit t 1 (Do o (two (read_at t 1) (moved 0))) gs (two_fit gs (read_at t 1) (moved 0) (read_fit t 1 gs) tt) k)
@@ -175,9 +175,9 @@ module _ (x : Scalar) where
       takes t w f h k = tt
 
       -- the right side of an assignment by an operator
-      updated : (o : Operation) (a b : Tree) → AllFit (into g scope a Result) → sorted.is_number (Answered (answer_by o)) ≡ true → ((fs : List Form) → Fit (code.stores fs (C b))) →
+      updated : (o : Operation) (a b : Tree) → AllFit (into g scope a Result) → sorted.is_number (PrimitiveAnswer (answer_by o)) ≡ true → ((fs : List Form) → Fit (code.stores fs (C b))) →
           (fs : List Form) → Fit (code.stores fs (updated_at o (T a) (C b)))
-      updated o a b h n k fs = updated_fit o (T a) (C b) fs (k fs) (takes a Result (Answered (answer_by o)) h (λ e. n))
+      updated o a b h n k fs = updated_fit o (T a) (C b) fs (k fs) (takes a Result (PrimitiveAnswer (answer_by o)) h (λ e. n))
 
       -- a text that is read or made is stored
       received : (t : Tree) → AllFit (into g scope t Text) → (fs : List Form) → Fit (code.stores (a_value ∷ fs) (received_at (T t)))

@@ -1,6 +1,6 @@
 -- The lanes that are found unbox each scalar into which numbers alone are stored.
 use Rattle.std.proofs.Common.{◌≡◌, ℕ, zero, suc, Bool, true, false, List, [], ◌∷◌, map, refl, ap, ◌∙◌}
-use Rattle.mid_program.specs.Mid.{Kind, Boxed, Unboxed, Many, Global, Parameter, Routine, Program, parameters_at}
+use Rattle.mid_program.specs.Mid.{Kind, Boxed, Unboxed, ArrayKind, Global, Parameter, Routine, Program, parameters_at}
 use Rattle.mid_program.specs.Sorted.{is_number, kinds_of, calls_of}
 use Rattle.value_kinds.specs.Applied.{is_unboxed}
 use Rattle.value_kinds.specs.Found.{GlobalNumber, ParameterNumber, InRoutines, is_scalar, FindsNumbers}
@@ -14,10 +14,10 @@ clash e = cc
 
 opened_at : (ks : List Kind) (i : ℕ) → is_scalar ks i ≡ true → is_unboxed (map opened ks) i ≡ true
 opened_at [] i h = absurd (clash h)
-opened_at (Many ∷ ks) zero h = absurd (clash h)
+opened_at (ArrayKind ∷ ks) zero h = absurd (clash h)
 opened_at (Boxed ∷ ks) zero h = refl
 opened_at (Unboxed ∷ ks) zero h = refl
-opened_at (Many ∷ ks) (suc i) h = opened_at ks i h
+opened_at (ArrayKind ∷ ks) (suc i) h = opened_at ks i h
 opened_at (Boxed ∷ ks) (suc i) h = opened_at ks i h
 opened_at (Unboxed ∷ ks) (suc i) h = opened_at ks i h
 

@@ -4,7 +4,7 @@ use Rattle.sem_primitives.specs.Numbers.{Number as AnyNumber}
 use Rattle.sem_primitives.specs.declared.table.Primitive.TheVariants.{Pow}
 use Rattle.mid_program.specs.declared.mid.Operation.{Operation}
 use Rattle.mid_program.specs.declared.mid.Operation.TheVariants.{AsNumber, FieldNumber, Host, Inline}
-use Rattle.mid_program.specs.Mid.{Answered, Array, Ask, AskLine, At, Block, Bound, Break, Call, Choose, Code, Codes, Compare, Continue, Do, Each, End, Eval, Exit, ExitWith, FileLine, Fixed, Form, Fresh, Get, If, IsOpen, Let, Loop, Mark, Next, NoStep, Number, Over, Replace, Return, Seq, Set, Step, Steps, Text, Then, Unset, a_number, a_value, answer_by, form_of}
+use Rattle.mid_program.specs.Mid.{PrimitiveAnswer, Array, Ask, AskLine, At, Block, Bound, Break, Call, Choose, Code, Codes, Compare, Continue, Do, Each, End, Eval, Exit, ExitWith, FileLine, Fixed, Form, Fresh, Get, If, IsOpen, Let, Loop, Mark, Next, NoStep, Number, Over, Replace, Return, Seq, Set, Step, Steps, Text, Then, Unset, a_number, a_value, answer_by, form_of}
 use Rattle.mid_program.specs.Rewriting.{code_in, codes_in, step_in, steps_in}
 use Rattle.mid_program.specs.Stores.{Given, Into, Store, step_stores, steps_stores, stores, stores_given, stores_in}
 use Rattle.folding.specs.Folding.{constant, of_one, of_two, reduced, reduced_to, same, value_of}
@@ -16,7 +16,7 @@ constant_stores fs (Number z) n h = refl
 constant_stores fs _ n h = absurd cc
 
 record Computed (o : Operation) (es : Codes) : Type 0 where
-  answers : Answered (answer_by o) ≡ a_number
+  answers : PrimitiveAnswer (answer_by o) ≡ a_number
   stores_nothing : (fs : List Form) → stores_in fs es ≡ []
 
 one_computed : (o : Operation) (a : Code) (x : Option AnyNumber) (r : AnyNumber) → constant a ≡ x → of_one o x ≡ Some r → Computed o (At a End)
@@ -34,7 +34,7 @@ computed o (At a End) r h = one_computed o a (constant a) r refl h
 computed o (At a (At b End)) r h = two_computed o a b (constant a) (constant b) r refl refl h
 computed o _ r h = absurd cc
 
-form_by : (fs : List Form) (o : Operation) (es : Codes) (v : Option AnyNumber) → value_of o es ≡ v → form_of fs (reduced_to v o es) ≡ Answered (answer_by o)
+form_by : (fs : List Form) (o : Operation) (es : Codes) (v : Option AnyNumber) → value_of o es ≡ v → form_of fs (reduced_to v o es) ≡ PrimitiveAnswer (answer_by o)
 form_by fs o es (Some r) h = sym (computed o es r h).answers
 form_by fs o es None h = refl
 

@@ -2,13 +2,13 @@
 use Rattle.std.proofs.Common.{◌≡◌, ℕ, Bool, true, false, List, ◌∷◌, Option, Some, None, refl, ap, ◌∙◌}
 use Rattle.std.proofs.lemmas.Bool.{and_parts}
 use Rattle.sem_primitives.specs.declared.table.Primitive.TheVariants as row
-use Rattle.awk_tokens.specs.declared.words.Builtin.{Builtin}
-use Rattle.awk_tokens.specs.declared.words.Builtin.TheVariants as builtin
+use Rattle.awk_tokens.specs.declared.reserved_words.Builtin.{Builtin}
+use Rattle.awk_tokens.specs.declared.reserved_words.Builtin.TheVariants as builtin
 use Rattle.awk_grammar.specs.Token.{And, Assign, Compare, Differs, Ere, Match, Matches, Minus, Modulo, Mul, Not, Number as Numeral, Or, Over, Plus, Pow, Quoted, Set, SetPower, SetProduct, SetSum, Sign, Signed, Product, Times}
 use Rattle.awk_grammar.specs.Tree.{Add, Apply, Bin, Call, Cond, Field, Get, GetFrom, GetInto, GetIntoFrom, Group, Has, HasList, Index, Join, Leaf, Length, NoTree, Other, Post, Pre, Then, Tree, Trees, Unary, Var, second_is_var, suits, within}
 use Rattle.mid_program.specs.declared.mid.Operation.{Operation}
 use Rattle.mid_program.specs.declared.mid.Operation.TheVariants.{Host}
-use Rattle.mid_program.specs.Mid.{Answered, AskLine, Code, Do, FileLine, Form, Let, a_number, answer_by, form_of}
+use Rattle.mid_program.specs.Mid.{PrimitiveAnswer, AskLine, Code, Do, FileLine, Form, Let, a_number, answer_by, form_of}
 use Rattle.sem_scripts.specs.Names.{Reserved, Scope}
 use Rattle.sem_scripts.specs.Names as names
 use Rattle.mid_program.specs.Sorted.{is_number}
@@ -37,16 +37,16 @@ stored_form fs FieldTarget i e = refl
 stored_number : (t : Target) (i : ℕ) (e : Code) → IsNumber e → IsNumber (stored_at t i e)
 stored_number t i e h fs = ap is_number (stored_form fs t i e) ∙ h fs
 
-pub sign_number : (s : Sign) → Answered (answer_by (sign_of s)) ≡ a_number
+pub sign_number : (s : Sign) → PrimitiveAnswer (answer_by (sign_of s)) ≡ a_number
 sign_number Plus = refl
 sign_number Minus = refl
 
-pub product_number : (p : Product) → Answered (answer_by (product_of p)) ≡ a_number
+pub product_number : (p : Product) → PrimitiveAnswer (answer_by (product_of p)) ≡ a_number
 product_number Times = refl
 product_number Over = refl
 product_number Modulo = refl
 
-updated_number : (o : Operation) (t : Target) (e : Code) → Answered (answer_by o) ≡ a_number → IsNumber (updated_at o t e)
+updated_number : (o : Operation) (t : Target) (e : Code) → PrimitiveAnswer (answer_by o) ≡ a_number → IsNumber (updated_at o t e)
 updated_number o t e h fs = ap is_number (stored_form (form_of fs e ∷ fs) t 1 (Do o (two (read_at t 1) (moved 0))) ∙ h)
 
 module _ (texts : List (List ℕ)) (scope : Scope) where

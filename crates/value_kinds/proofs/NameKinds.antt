@@ -3,7 +3,7 @@ use Rattle.std.proofs.Common.{◌≡◌, ℕ, zero, suc, Bool, true, List, [], �
 use Rattle.std.specs.Prelude.{slice_get}
 use Rattle.std.proofs.lemmas.Option.{none-some}
 use Rattle.folding.specs.Folding.{folded_routine}
-use Rattle.mid_program.specs.Mid.{Boxed, Declared, Kind, Many, Routine, Unboxed, parameters_at}
+use Rattle.mid_program.specs.Mid.{Boxed, Declared, Kind, ArrayKind, Routine, Unboxed, parameters_at}
 use Rattle.sem_scripts.specs.Names.{Function, Name, Resolved, function_at}
 use Rattle.mid_program.specs.Sorted.{has_kind, kinds_of, scalar_kind}
 use Rattle.mid_program.specs.Translation.{declared_code, kind_of, routine_code}
@@ -26,7 +26,7 @@ scalars (n ∷ ns) zero x h = ap (λ (m : Name). is_scalar (kind_of m ∷ map ki
 scalars (n ∷ ns) (suc i) x h = after (kind_of n) (scalars ns i x h)
   where
     after : (k : Kind) → is_scalar (map kind_of ns) i ≡ true → is_scalar (k ∷ map kind_of ns) (suc i) ≡ true
-    after Many e = e
+    after ArrayKind e = e
     after Boxed e = e
     after Unboxed e = e
 
@@ -46,12 +46,12 @@ function_scalars texts script (r ∷ rs) (suc f) i x h = function_scalars texts 
 -- with lanes
 
 kind_unboxed : (u : Bool) (k : Kind) (ks js : List Kind) → u ≡ true → is_scalar (k ∷ ks) zero ≡ true → has_kind (kind_with u k ∷ js) zero Unboxed ≡ true
-kind_unboxed u Many ks js e s = clash s
+kind_unboxed u ArrayKind ks js e s = clash s
 kind_unboxed u Boxed ks js e s = ap (λ (b : Bool). has_kind (scalar_kind b ∷ js) zero Unboxed) e
 kind_unboxed u Unboxed ks js e s = ap (λ (b : Bool). has_kind (scalar_kind b ∷ js) zero Unboxed) e
 
 later : (k : Kind) (ks : List Kind) (i : ℕ) → is_scalar (k ∷ ks) (suc i) ≡ true → is_scalar ks i ≡ true
-later Many ks i h = h
+later ArrayKind ks i h = h
 later Boxed ks i h = h
 later Unboxed ks i h = h
 

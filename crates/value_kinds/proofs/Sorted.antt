@@ -5,7 +5,7 @@ use Rattle.sem_primitives.specs.declared.sorts.Sort.TheVariants as sort
 use Rattle.sem_primitives.specs.declared.sorts.Answer.TheVariants as answer
 use Rattle.sem_scripts.specs.Names.{ArrayName}
 use Rattle.sem_scripts.specs.Names as names
-use Rattle.mid_program.specs.Mid.{Kind, Boxed, Unboxed, Many, Slot, Global, Parameter, Do, Codes, End, At, Fixed, Fresh, Steps, Form, Answered, Bare, Perhaps, slot_form, form_of, parameters_at}
+use Rattle.mid_program.specs.Mid.{Kind, Boxed, Unboxed, ArrayKind, Slot, Global, Parameter, Do, Codes, End, At, Fixed, Fresh, Steps, Form, PrimitiveAnswer, NumberOrText, OptionalNumber, slot_form, form_of, parameters_at}
 use Rattle.mid_program.specs.Sorted.{Context, fits, is_number, same_kind, has_kind, scalar_kind, is_slot, takes, is_array_place, is_given, fit_call, steps_sorted}
 use Rattle.mid_program.specs.Alike.{erased}
 use Rattle.mid_program.specs.Rewriting.{steps_in}
@@ -16,15 +16,15 @@ use Rattle.value_kinds.proofs.Finds.{clash}
 use Rattle.mid_program.proofs.Sorted.{Keeps, Stays, every_parts, read_erased, steps_rewritten}
 
 number_fits : (f : Form) → is_number f ≡ true → fits f sort.Value ≡ true
-number_fits (Answered (answer.Of sort.Number)) h = refl
-number_fits (Answered answer.Truth) h = refl
+number_fits (PrimitiveAnswer (answer.Of sort.Number)) h = refl
+number_fits (PrimitiveAnswer answer.Truth) h = refl
 number_fits _ h = absurd (clash h)
 
 -- kinds of names
 
 kind_scalar : (u b : Bool) (k : Kind) → same_kind k (scalar_kind u) ≡ true → same_kind (kind_with b k) (scalar_kind b) ≡ true
-kind_scalar true b Many h = absurd (clash h)
-kind_scalar false b Many h = absurd (clash h)
+kind_scalar true b ArrayKind h = absurd (clash h)
+kind_scalar false b ArrayKind h = absurd (clash h)
 kind_scalar u true Boxed h = refl
 kind_scalar u false Boxed h = refl
 kind_scalar u true Unboxed h = refl
@@ -35,12 +35,12 @@ scalar_kept v u [] i h = absurd (clash h)
 scalar_kept v u (k ∷ ks) zero h = kind_scalar u (v zero) k h
 scalar_kept v u (k ∷ ks) (suc i) h = scalar_kept (λ j. v (suc j)) u ks i h
 
-kind_many : (b : Bool) (k : Kind) → same_kind k Many ≡ true → same_kind (kind_with b k) Many ≡ true
-kind_many b Many h = refl
+kind_many : (b : Bool) (k : Kind) → same_kind k ArrayKind ≡ true → same_kind (kind_with b k) ArrayKind ≡ true
+kind_many b ArrayKind h = refl
 kind_many b Boxed h = absurd (clash h)
 kind_many b Unboxed h = absurd (clash h)
 
-many_kept : (v : ℕ → Bool) (ks : List Kind) (i : ℕ) → has_kind ks i Many ≡ true → has_kind (kinds_with v ks) i Many ≡ true
+many_kept : (v : ℕ → Bool) (ks : List Kind) (i : ℕ) → has_kind ks i ArrayKind ≡ true → has_kind (kinds_with v ks) i ArrayKind ≡ true
 many_kept v [] i h = absurd (clash h)
 many_kept v (k ∷ ks) zero h = kind_many (v zero) k h
 many_kept v (k ∷ ks) (suc i) h = many_kept (λ j. v (suc j)) ks i h
@@ -69,17 +69,17 @@ abbrev pub context_with : (gs own : List Kind) (pss : ℕ → List Kind) → Con
 context_with gs own pss c = record c { globals = kinds_with (is_unboxed gs) c.globals; calls = calls_with pss c.calls; parameters = kinds_with (is_unboxed own) c.parameters }
 
 plain_given : (f : Form) → is_plain f ≡ true → is_given f Unboxed ≡ true
-plain_given (Answered a) h = h
-plain_given Bare h = h
-plain_given Perhaps h = refl
+plain_given (PrimitiveAnswer a) h = h
+plain_given NumberOrText h = h
+plain_given OptionalNumber h = refl
 
 unboxed_fits : (f : Form) → is_given f Unboxed ≡ true → fits f sort.Value ≡ true
-unboxed_fits (Answered a) h = number_fits (Answered a) h
-unboxed_fits Bare h = refl
-unboxed_fits Perhaps h = refl
+unboxed_fits (PrimitiveAnswer a) h = number_fits (PrimitiveAnswer a) h
+unboxed_fits NumberOrText h = refl
+unboxed_fits OptionalNumber h = refl
 
 given_kept : (k : Kind) (b : Bool) (f : Form) → is_given f k ≡ true → (b ≡ true → is_plain f ≡ true) → is_given f (kind_with b k) ≡ true
-given_kept Many b f h n = h
+given_kept ArrayKind b f h n = h
 given_kept Boxed true f h n = plain_given f (n refl)
 given_kept Boxed false f h n = h
 given_kept Unboxed true f h n = plain_given f (n refl)
@@ -116,10 +116,10 @@ module _ (gs own : List Kind) (pss : ℕ → List Kind) where
       no_constant : (y : Kind) → fit_call fs (y ∷ ks) (Fixed n es) ≡ true → ⊥
       no_constant Boxed z = clash z
       no_constant Unboxed z = clash z
-      no_constant Many z = clash z
+      no_constant ArrayKind z = clash z
   call_fits f i v q fs (Boxed ∷ ks) (Fresh es) h o = absurd (clash h)
   call_fits f i v q fs (Unboxed ∷ ks) (Fresh es) h o = absurd (clash h)
-  call_fits f i v q fs (Many ∷ ks) (Fresh es) h o = call_fits f (suc i) (λ j. v (suc j)) (λ j. q (suc j) ∙ ap (is_unboxed (pss f)) (omega arith)) fs ks es h o
+  call_fits f i v q fs (ArrayKind ∷ ks) (Fresh es) h o = call_fits f (suc i) (λ j. v (suc j)) (λ j. q (suc j) ∙ ap (is_unboxed (pss f)) (omega arith)) fs ks es h o
 
   keeps : Keeps (slot_in gs own) Do
   keeps = record { slot_forms = λ x. forms x; forms = λ fs o es. refl; moves = λ i h o es. refl }

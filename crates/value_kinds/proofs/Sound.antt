@@ -2,7 +2,7 @@
 use Rattle.std.proofs.Common.{◌≡◌, ℕ, zero, suc, ◌+◌, Bool, true, false, ◌&&◌, List, [], ◌∷◌, ◌++◌, map, refl, sym, ap, ◌∙◌, subst, arith, if◌then◌else◌}
 use Rattle.std.proofs.lemmas.Bool.{and_parts, and_from}
 use Rattle.std.proofs.lemmas.Float.{T_from_true}
-use Rattle.mid_program.specs.Mid.{Kind, Boxed, Unboxed, Many, Global, Parameter, Steps, Declared, Routine, Program, parameters_at}
+use Rattle.mid_program.specs.Mid.{Kind, Boxed, Unboxed, ArrayKind, Global, Parameter, Steps, Declared, Routine, Program, parameters_at}
 use Rattle.mid_program.specs.Sorted.{Context, is_number, kinds_of, arrays_among, context_of, steps_sorted, routines_sorted, announced_names, all_differ, parts_sorted, is_sorted, IsSorted}
 use Rattle.mid_program.proofs.Sorted.{from_T}
 use Rattle.value_kinds.specs.Applied.{is_unboxed, kind_with, kinds_with, globals_with, steps_with, routines_with, apply}
@@ -16,7 +16,7 @@ use Rattle.value_kinds.proofs.Sorted.{Fine, calls_with, context_with, steps_kept
 -- what is boxed stays boxed
 
 closed_boxed : (k : Kind) (ks : List Kind) → is_unboxed (closed k ∷ ks) zero ≡ true → ⊥
-closed_boxed Many ks h = clash h
+closed_boxed ArrayKind ks h = clash h
 closed_boxed Boxed ks h = clash h
 closed_boxed Unboxed ks h = clash h
 

@@ -1,6 +1,6 @@
 -- A program with lanes at its names.
 use Rattle.std.specs.Prelude.{ℕ, zero, suc, Bool, List, [], ◌∷◌}
-use Rattle.mid_program.specs.Mid.{Kind, Boxed, Unboxed, Many, Slot, Global, Parameter, Do, Steps, Declared, Routine, Program, parameters_at}
+use Rattle.mid_program.specs.Mid.{Kind, Boxed, Unboxed, ArrayKind, Slot, Global, Parameter, Do, Steps, Declared, Routine, Program, parameters_at}
 use Rattle.mid_program.specs.Sorted.{has_kind, scalar_kind}
 use Rattle.mid_program.specs.Rewriting.{steps_in}
 use Rattle.value_kinds.specs.Lanes.{Lanes}
@@ -15,7 +15,7 @@ slot_in gs ps (Parameter u i) = Parameter (is_unboxed ps i) i
 
 -- an array stays one
 abbrev pub kind_with : Bool → Kind → Kind
-kind_with u Many = Many
+kind_with u ArrayKind = ArrayKind
 kind_with u Boxed = scalar_kind u
 kind_with u Unboxed = scalar_kind u
 

@@ -18,7 +18,7 @@ use Rattle.awk_grammar.specs.Item.{Item}
 use Rattle.sem_scripts.specs.ScriptState.{spend_all}
 use Rattle.sem_scripts.specs.Kinds.{resolved}
 use Rattle.sem_scripts.specs.Meaning.{asked}
-use Rattle.mid_program.specs.Mid.{Boxed, Unboxed, Many, Program}
+use Rattle.mid_program.specs.Mid.{Boxed, Unboxed, ArrayKind, Program}
 use Rattle.mid_program.specs.Scripts as scripts
 use Rattle.sem_scripts.specs.Statements.{loop, over_keys}
 use Rattle.sem_scripts.specs.ScriptRun.{first_assigned, records_done, Ended, FaultedBy, setting_of}
@@ -103,7 +103,7 @@ parameter_is_unboxed = (refl, refl)
 
 -- function f(a, n, own) { .. n = 9; .. } BEGIN { n = 12; print f(t, n), t["k"], n }: the global n is given for the parameter n, which is a copy of
 -- what a name has, so that one is boxed
-pub copies_are_boxed : lanes_of scripts.arrays_by_reference ≡ record { globals = Unboxed ∷ Many ∷ []; parameters = (Many ∷ Boxed ∷ Many ∷ []) ∷ [] }
+pub copies_are_boxed : lanes_of scripts.arrays_by_reference ≡ record { globals = Unboxed ∷ ArrayKind ∷ []; parameters = (ArrayKind ∷ Boxed ∷ ArrayKind ∷ []) ∷ [] }
     × is_sorted (with_lanes scripts.arrays_by_reference) ≡ true
 unfolding special_arrays special_scalars sorted all_sorted step_sorted steps_sorted texts_in all_texts stmt_texts stmts_texts code_of codes_of key_code kept_code argument_codes truncated_code applied_code step_code steps_code numeral_at sign_at fraction_at exponent_at numerator denominator digits unescaped escaped octal keywords builtins left_out_words
 copies_are_boxed = (refl, refl)

@@ -1,6 +1,6 @@
 -- Scalars into which numbers alone are stored, as arguments too, are unboxed.
 use Rattle.std.specs.Prelude.{◌≡◌, ℕ, zero, suc, Bool, true, false, List, [], ◌∷◌}
-use Rattle.mid_program.specs.Mid.{Kind, Boxed, Unboxed, Many, Global, Parameter, Routine, Program, parameters_at}
+use Rattle.mid_program.specs.Mid.{Kind, Boxed, Unboxed, ArrayKind, Global, Parameter, Routine, Program, parameters_at}
 use Rattle.mid_program.specs.Sorted.{is_number, kinds_of, calls_of}
 use Rattle.value_kinds.specs.Applied.{is_unboxed}
 use Rattle.value_kinds.specs.Lanes.{is_plain, function_count, infer}
@@ -30,7 +30,7 @@ Throughout P p =
 
 abbrev pub is_scalar : List Kind → ℕ → Bool
 is_scalar [] i = false
-is_scalar (Many ∷ ks) zero = false
+is_scalar (ArrayKind ∷ ks) zero = false
 is_scalar (Boxed ∷ ks) zero = true
 is_scalar (Unboxed ∷ ks) zero = true
 is_scalar (k ∷ ks) (suc i) = is_scalar ks i

@@ -1,7 +1,7 @@
 -- Which names are unboxed: a scalar into which the script stores numbers alone, as arguments too. What the command line assigns to a global stays a
 -- text until then.
 use Rattle.std.specs.Prelude.{ℕ, zero, suc, Bool, true, false, List, [], ◌∷◌, map}
-use Rattle.mid_program.specs.Mid.{Kind, Boxed, Unboxed, Many, Global, Parameter, Routine, Program, Form, Perhaps}
+use Rattle.mid_program.specs.Mid.{Kind, Boxed, Unboxed, ArrayKind, Global, Parameter, Routine, Program, Form, OptionalNumber}
 use Rattle.mid_program.specs.Sorted.{is_number, kinds_of, calls_of}
 use Rattle.mid_program.specs.Stores.{Store, Into, Given, steps_stores}
 
@@ -13,13 +13,13 @@ pub record Lanes : Type 0 where
 
 -- at first each scalar is unboxed
 abbrev pub opened : Kind → Kind
-opened Many = Many
+opened ArrayKind = ArrayKind
 opened Boxed = Unboxed
 opened Unboxed = Unboxed
 
 -- a scalar is boxed
 abbrev pub closed : Kind → Kind
-closed Many = Many
+closed ArrayKind = ArrayKind
 closed Boxed = Boxed
 closed Unboxed = Boxed
 
@@ -35,7 +35,7 @@ close_in (ks ∷ kss) (suc f) i = ks ∷ close_in kss f i
 
 -- a number, or nothing, which a missing argument is
 abbrev pub is_plain : Form → Bool
-is_plain Perhaps = true
+is_plain OptionalNumber = true
 is_plain f = is_number f
 
 abbrev pub unless : Bool → Lanes → Lanes → Lanes

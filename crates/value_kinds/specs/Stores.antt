@@ -1,7 +1,7 @@
 -- What a script stores into its scalars: each place where it does, and what is stored there (POSIX.1-2017 awk, "Expressions in awk", "User-Defined Functions").
 use Rattle.std.specs.Prelude.{ℕ, suc, Bool, true, false, ◌&&◌, List, [], ◌∷◌, ◌++◌, Option, Some, None}
-use Rattle.awk_tokens.specs.declared.words.Builtin.{Builtin}
-use Rattle.awk_tokens.specs.declared.words.Builtin.TheVariants as builtin
+use Rattle.awk_tokens.specs.declared.reserved_words.Builtin.{Builtin}
+use Rattle.awk_tokens.specs.declared.reserved_words.Builtin.TheVariants as builtin
 use Rattle.awk_grammar.specs.Token.{Assign, Assigning, Ere, Number, Quoted, Set}
 use Rattle.awk_grammar.specs.Tree.{Bin, Call, Cond, Field, Get, GetFrom, GetInto, GetIntoFrom, Group, Has, HasList, Index, Join, Leaf, Length, NoTree, Other, Post, Pre, Then, Tree, Trees, Unary, Var, suits}
 use Rattle.awk_grammar.specs.Tree as tree

@@ -26,9 +26,9 @@ abbrev pub slots : Names → plain.Slot → plain.Slot
 slots n = slot_in (map view_kind n.globals.now) (map view_kind n.parameters.now)
 
 abbrev pub view_form : Form → plain.Form
-view_form (form.Answered a) = plain.Answered a
-view_form form.Bare = plain.Bare
-view_form form.Perhaps = plain.Perhaps
+view_form (form.PrimitiveAnswer a) = plain.PrimitiveAnswer a
+view_form form.NumberOrText = plain.NumberOrText
+view_form form.OptionalNumber = plain.OptionalNumber
 
 abbrev pub view_kept : Kept → List plain.Form
 view_kept Nothing = []

@@ -1,7 +1,7 @@
 //! What is there once code is evaluated.
 
 ghost use Rattle.std.specs.Prelude.{◌≡◌};
-ghost use Rattle.mid_program.specs.Mid.{Answered, answer_by, slot_form};
+ghost use Rattle.mid_program.specs.Mid.{PrimitiveAnswer, answer_by, slot_form};
 ghost use Rattle.mid_program.specs.Sorted.{is_number};
 ghost use Rattle.mid_program.specs.ViewCode.{view_slot};
 ghost use Rattle.value_kinds.specs.Lanes.{is_plain};
@@ -14,16 +14,16 @@ use sem_primitives::{Answer, Sort};
 #[derive(Clone, Copy)]
 pub(crate) enum Form {
     /// What a primitive answers.
-    Answered(Answer),
+    PrimitiveAnswer(Answer),
     /// What an unboxed name has.
-    Bare,
+    NumberOrText,
     /// What an unboxed parameter is given where there is no argument.
-    Perhaps,
+    OptionalNumber,
 }
 
 /// Whether an answer is a number.
 fn is_number(answer: Answer) -> bool
-    ensures { result ≡ is_number (Answered answer) }
+    ensures { result ≡ is_number (PrimitiveAnswer answer) }
 {
     match answer {
         Answer::Of(Sort::Number) | Answer::Truth => true,
@@ -56,8 +56,8 @@ impl Form {
         ensures { result ≡ is_number (view_form self) }
     {
         match self {
-            Form::Answered(answer) => is_number(answer),
-            Form::Bare | Form::Perhaps => false,
+            Form::PrimitiveAnswer(answer) => is_number(answer),
+            Form::NumberOrText | Form::OptionalNumber => false,
         }
     }
 
@@ -66,9 +66,9 @@ impl Form {
         ensures { result ≡ is_plain (view_form self) }
     {
         match self {
-            Form::Answered(answer) => is_number(answer),
-            Form::Perhaps => true,
-            Form::Bare => false,
+            Form::PrimitiveAnswer(answer) => is_number(answer),
+            Form::OptionalNumber => true,
+            Form::NumberOrText => false,
         }
     }
 
@@ -77,8 +77,8 @@ impl Form {
         ensures { view_form result ≡ slot_form (view_slot slot) }
     {
         match slot {
-            Slot::Global(true, _) | Slot::Parameter(true, _) => Form::Bare,
-            Slot::Global(false, _) | Slot::Parameter(false, _) => Form::Answered(Answer::Of(
+            Slot::Global(true, _) | Slot::Parameter(true, _) => Form::NumberOrText,
+            Slot::Global(false, _) | Slot::Parameter(false, _) => Form::PrimitiveAnswer(Answer::Of(
                 Sort::Value,
             )),
         }

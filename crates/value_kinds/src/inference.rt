@@ -17,7 +17,7 @@ fn opened(kind: Kind) -> Kind
     ensures { view_kind result ≡ opened (view_kind kind) }
 {
     match kind {
-        Kind::Many => Kind::Many,
+        Kind::Array => Kind::Array,
         Kind::Boxed | Kind::Unboxed => Kind::Unboxed,
     }
 }

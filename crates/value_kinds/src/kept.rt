@@ -20,7 +20,7 @@ pub(crate) fn form_at<'a>(kept: &'a Kept<'a>, place: usize) -> Form
     ensures { view_form result ≡ form_at (view_kept kept.now) place }
 {
     match kept {
-        Kept::Nothing => Form::Answered(Answer::Nothing),
+        Kept::Nothing => Form::PrimitiveAnswer(Answer::Nothing),
         Kept::Last(form, before) => {
             if place == 0 {
                 *form

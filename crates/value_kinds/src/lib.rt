@@ -7,7 +7,7 @@ mod code;
 mod form;
 mod inference;
 mod kept;
-pub mod laws;
+pub mod lane_laws;
 mod marks;
 mod names;
 pub mod number_names;

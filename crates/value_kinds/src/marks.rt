@@ -14,10 +14,10 @@ use mid_program::{Code, Operand};
 use sem_primitives::{Answer, Primitive, Sort};
 
 /// What a text that was read is, for the code that stores it.
-const TEXT: Form = Form::Answered(Answer::Of(Sort::Value));
+const TEXT: Form = Form::PrimitiveAnswer(Answer::Of(Sort::Value));
 
 /// What a number is.
-const NUMBER: Form = Form::Answered(Answer::Of(Sort::Number));
+const NUMBER: Form = Form::PrimitiveAnswer(Answer::Of(Sort::Number));
 
 /// Marks what code stores while this is kept, and answers the code's form.
 #[cycle(marks)]
@@ -29,20 +29,20 @@ pub(crate) fn mark_code<'a>(walk: &mut Walk, kept: &'a Kept<'a>, code: &Code) ->
     match code {
         Code::Do(operation, operands) => {
             mark_operands(walk, kept, operands);
-            Form::Answered(answer_by(*operation))
+            Form::PrimitiveAnswer(answer_by(*operation))
         }
         Code::Over(listed, operands) => {
             mark_operands(walk, kept, operands);
-            Form::Answered(listed.answer())
+            Form::PrimitiveAnswer(listed.answer())
         }
         Code::Compare(_, left, right) => {
             mark_code(walk, kept, left);
             mark_code(walk, kept, right);
-            Form::Answered(Answer::Truth)
+            Form::PrimitiveAnswer(Answer::Truth)
         }
         Code::Call(function, operands) => {
             mark_arguments(walk, kept, *function, operands);
-            Form::Bare
+            Form::NumberOrText
         }
         Code::AskLine(store) => {
             mark_code(walk, &Kept::Last(TEXT, kept), store);
@@ -67,7 +67,7 @@ pub(crate) fn mark_code<'a>(walk: &mut Walk, kept: &'a Kept<'a>, code: &Code) ->
             mark_code(walk, kept, test);
             mark_code(walk, kept, yes);
             mark_code(walk, kept, no);
-            Form::Answered(Answer::Of(*sort))
+            Form::PrimitiveAnswer(Answer::Of(*sort))
         }
         Code::Seq(first, second) => {
             mark_code(walk, kept, first);
@@ -81,15 +81,15 @@ pub(crate) fn mark_code<'a>(walk: &mut Walk, kept: &'a Kept<'a>, code: &Code) ->
             mark_code(walk, kept, first);
             mark_codes(walk, kept, others);
             mark_code(walk, kept, last);
-            Form::Answered(Primitive::Join.answer())
+            Form::PrimitiveAnswer(Primitive::Join.answer())
         }
         Code::Get(slot) => Form::of_slot(*slot),
         Code::Bound(_, place) => form_at(kept, *place),
         Code::Ask | Code::Number(_) => NUMBER,
         Code::Text(_) => TEXT,
-        Code::Unset => Form::Perhaps,
-        Code::Array(_) => Form::Answered(Answer::Of(Sort::Array)),
-        Code::IsOpen(_) => Form::Answered(Answer::Truth),
+        Code::Unset => Form::OptionalNumber,
+        Code::Array(_) => Form::PrimitiveAnswer(Answer::Of(Sort::Array)),
+        Code::IsOpen(_) => Form::PrimitiveAnswer(Answer::Truth),
     }
 }
 

@@ -31,7 +31,7 @@ fn is_lane(kind: Kind) -> bool
 {
     match kind {
         Kind::Unboxed => true,
-        Kind::Boxed | Kind::Many => false,
+        Kind::Boxed | Kind::Array => false,
     }
 }
 
@@ -51,7 +51,7 @@ pub(crate) fn kind_with(unboxed: bool, kind: Kind) -> Kind
     ensures { view_kind result ≡ kind_with unboxed (view_kind kind) }
 {
     match kind {
-        Kind::Many => Kind::Many,
+        Kind::Array => Kind::Array,
         Kind::Boxed | Kind::Unboxed => { if unboxed { Kind::Unboxed } else { Kind::Boxed } }
     }
 }

@@ -6,7 +6,7 @@ ghost use Rattle.value_kinds.specs.Applied.{apply};
 ghost use Rattle.value_kinds.specs.Lanes.{infer};
 ghost use Rattle.value_kinds.specs.Unboxed.{UnboxesNumbers};
 
-use crate::laws::numbers_are_unboxed;
+use crate::lane_laws::numbers_are_unboxed;
 
 /// Each scalar into which a script stores numbers alone, as arguments too, is unboxed in its code, once constants are computed and the names of numbers are
 /// found.

@@ -26,7 +26,7 @@ fn mark_store(walk: &mut Walk, code: &Code)
     ensures { view_walk walk.new
         ≡ after (view_walk walk.old) (stores (a_value ∷ []) (view code.now)) }
 {
-    let value = Form::Answered(Answer::Of(Sort::Value));
+    let value = Form::PrimitiveAnswer(Answer::Of(Sort::Value));
     mark_code(walk, &Kept::Last(value, &Kept::Nothing), code);
 }
 

@@ -25,7 +25,7 @@ fn closed(kind: Kind) -> Kind
     ensures { view_kind result ≡ closed (view_kind kind) }
 {
     match kind {
-        Kind::Many => Kind::Many,
+        Kind::Array => Kind::Array,
         Kind::Boxed | Kind::Unboxed => Kind::Boxed,
     }
 }

@@ -23,3 +23,5 @@ pub mod Refusals
 pub mod Stretching
 pub mod Turning
 pub mod Placed
+pub mod Searching
+pub mod WorkingCode

@@ -8,3 +8,6 @@ pub mod Codes
 pub mod Stretches
 pub mod ViewConf
 pub mod Places
+pub mod StatementAt
+pub mod StatementRows
+pub mod Amid

@@ -1,7 +1,7 @@
 //! Linking: from a module and a host to the beginning of a run (Core 1.0, section 4.5.4).
 ghost use Rattle.std.specs.List.{All};
 ghost use Rattle.std.specs.Prelude.{ℕ, ◌≡◌, ◌↔◌, ◌*◌, ◌≤◌, ◌^◌, IfErr, IfOk, IsTrue, None, OnErr, Some, length, map, MatchResult};
-ghost use Rattle.wasm_loader.specs.Laid.{code_at};
+ghost use Rattle.wasm_loader.specs.Flat.{flat};
 ghost use Rattle.wasm_model.specs.Frames.{constant_in, constant_of};
 ghost use Rattle.wasm_model.specs.Links.{first_some, first_none, main_at, main_of, number_for, numbers_for, place_of, value_of, least, ElemFits, DataFits, SegmentsFit, filled, poured, limits_or_none, entry_code, beginning, Numbers, Refuses};
 ghost use Rattle.wasm_model.specs.Machines.{agree};
@@ -12,9 +12,9 @@ ghost use Rattle.wasm_types.specs.Typing.{callee_in, typed_in};
 ghost use Rattle.wasm_types.specs.View.{signature_of, view, view_data, view_elem, view_export, view_import, view_module, views};
 
 use crate::frames::Frames;
-use crate::held::push;
 use crate::program::{callee, typed};
 use crate::state::State;
+use latched::push;
 use std::alloc::{AllocError, Global};
 use wasm_loader::Code;
 use wasm_model::{HostCalls, LinkFault};
@@ -268,7 +268,7 @@ fn limits_of(memories: &[Limits]) -> Limits
 
 /// The code of a function, which has so many locals.
 fn code_of(alloc: Global, whole: &Module, func: &Func) -> Result<Code, AllocError>
-    ensures body { IfOk result (λ c. code_at c 0 ≡ views func.now.body.value.items) }
+    ensures body { IfOk result (λ c. c.forms ≡ flat 0 (views func.now.body.value.items)) }
     ensures begins { IfOk result Begins }
 {
     let Some(ty) = typed(whole, func.ty) else {
@@ -299,7 +299,7 @@ pub(crate) fn codes_of(alloc: Global, whole: &Module, main: u32) -> Result<Vec<C
 
 /// The code of the first frame.
 fn first_code(alloc: Global, whole: &Module, main: u32) -> Result<Code, AllocError>
-    ensures body { IfOk result (λ c. code_at c 0 ≡ entry_code whole.now.start main) }
+    ensures body { IfOk result (λ c. c.forms ≡ flat 0 (entry_code whole.now.start main)) }
     ensures begins { IfOk result Begins }
     ensures locals { IfOk result (λ c. c.locals ≡ 0) }
     ensures gives { IfOk result (λ c. c.gives ≡ Some ValType.I32) }

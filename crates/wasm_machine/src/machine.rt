@@ -1,6 +1,7 @@
 //! Machines.
-ghost use Rattle.std.specs.Prelude.{◌≡◌, ◌≢◌, ◌≤◌, ◌-◌, length, true, IfErr, IfOk, IfSome, MatchOption, None, Some, slice_get};
-ghost use Rattle.wasm_machine.specs.Places.{StandsAt, frame_at};
+ghost use Rattle.std.specs.Prelude.{◌≡◌, ◌≢◌, ◌≤◌, ◌-◌, length, false, true, IfErr, IfOk, IfSome, MatchOption, None, Some, slice_get};
+ghost use Rattle.wasm_machine.specs.Places.{HasStatement, StandsAt, frame_at};
+ghost use Rattle.wasm_machine.specs.StateStretches.{CalledLast};
 ghost use Rattle.wasm_model.specs.Links.{IsNew, Refuses};
 ghost use Rattle.wasm_model.specs.Reductions.{Reduced};
 ghost use Rattle.wasm_model.specs.Runs.{Did, lasting, told_run};
@@ -11,7 +12,7 @@ use crate::link::{codes_of, first_state, link};
 use crate::places::{Place, place_of};
 use crate::program::Program;
 use crate::run::{run, run_to_pause};
-use crate::sites::no_lines;
+use crate::sites::{fused_of, no_lines};
 use crate::state::State;
 use module_validator::ValidModule;
 use std::alloc::Global;
@@ -97,11 +98,13 @@ impl Machine {
         let Ok(state) = first_state(alloc, valid.get(), &codes) else {
             return Err(LinkFault::NoMemory);
         };
+        let fused = fused_of(&codes);
         let whole = valid.into_module();
         let program = Program {
             whole,
             numbers,
             codes,
+            fused,
         };
         let Ok(lines) = no_lines(alloc, &program) else {
             return Err(LinkFault::NoMemory);
@@ -154,6 +157,10 @@ impl Machine {
             result.0 self.new.conf (H.state host.new) }
         ensures within { result.1 ≤ steps }
         ensures paused { self.old.ended ≡ None → result.1 ≢ 0 → H.halts (H.state host.new) ≡ true }
+        ensures first { self.old.ended ≡ None → result.0 ≡ MachineEnd.OutOfSteps
+            → H.halts (H.state host.old) ≡ false → H.halts (H.state host.new) ≡ true
+            → CalledLast H.meaning self.old.program H.halts steps result.1 self.old.conf
+            (H.state host.old) self.new.conf (H.state host.new) }
         ensures ended { self.old.ended ≡ None → self.new.ended ≡ lasting result.0 }
     {
         if let Some(end) = self.ended {
@@ -176,8 +183,10 @@ impl Machine {
 
     /// Where a frame stands. The one at work has the number 0; those that wait come after it, the innermost first.
     pub fn place(&self, number: usize) -> Option<Place>
-        ensures { MatchOption result (frame_at self.now.conf number ≡ None)
+        ensures stands { MatchOption result (frame_at self.now.conf number ≡ None)
             (λ place. StandsAt self.now.program.whole place (frame_at self.now.conf number)) }
+        ensures within { self.now.ended ≡ None
+            → IfSome result (λ place. place.function ≤ length self.now.program.whole.funcs) }
     {
         match self.state.frames.numbered(number) {
             Some(frame) => Some(place_of(frame)),
@@ -221,7 +230,9 @@ impl Machine {
 
     /// The number of the `nop` with which the statement begins that is at work at a place, among those of its function's code: the last one before the place in
     /// whose block it stands. In a loop in which this import of the host is called, by its number there, what comes before the loop does not count.
-    pub fn statement(&self, place: Place, import: u32) -> Option<usize> {
+    pub fn statement(&self, place: Place, import: u32) -> Option<usize>
+        ensures { HasStatement self.now.program import place result }
+    {
         self.program.statement(place, import)
     }
 }

@@ -5,7 +5,7 @@ mod access;
 mod ends;
 mod fault;
 mod host;
-pub mod laws;
+pub mod reduction_laws;
 
 pub use access::Access;
 pub use ends::{End, MachineEnd, RunEnd};

@@ -15,7 +15,7 @@ use Rattle.wasm_types.specs.Syntax.{Instruction, Plain, BrTable, Block, Loop, If
 abbrev mutual
   pub view : Instr → Instruction
   view (v.Plain p) = Plain p
-  view (v.BrTable ns n) = BrTable ns.items n
+  view (v.BrTable ns n) = BrTable ns.value.items n
   view (v.Block' k shape p all) = Block k (view_row all)
   view (v.Loop' k shape p all) = Loop k (view_row all)
   view (v.If' k s1 p a s2 q b) = If k (view_row a) (view_row b)

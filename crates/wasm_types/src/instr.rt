@@ -134,12 +134,15 @@ pub enum Simple {
     Convert(CvtOp),
 }
 
-/// An instruction. Bodies are shared, so that who runs them can hold on to where it is without copying.
+/// An instruction. Bodies are shared, so that who runs them can hold on to where it is without copying. The labels of a table are in a box, so that an
+/// instruction is small: a module of 16 MiB may have as many.
 #[derive(Drop)]
 pub enum Instr {
     Plain(Simple),
-    BrTable(Vec<u32>, u32),
+    BrTable(Box<Vec<u32>>, u32),
     Block(BlockType, Rc<Vec<Instr>>),
     Loop(BlockType, Rc<Vec<Instr>>),
     If(BlockType, Rc<Vec<Instr>>, Rc<Vec<Instr>>),
 }
+
+const _: () = prove!(size_of::<Instr>() <= 24);

@@ -2,10 +2,10 @@
 #![tactic(auto)]
 
 mod instr;
-pub mod laws;
 mod leb128;
 mod locals;
 mod module;
+pub mod opcode_laws;
 mod opcodes;
 mod profile;
 mod types;

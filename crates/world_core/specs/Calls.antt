@@ -1,4 +1,4 @@
--- What the calls of a world do: to its streams, to its count of failures, and, where the world tells its state, to that.
+-- What the calls of a world do: to its streams, to its count of failures, and, where the world is modelled, to that.
 use Rattle.std.specs.Prelude.{◌≡◌, ◌≢◌, ℕ, ◌+◌, ◌%◌, ◌^◌, ◌<◌, ◌≤◌, ◌==◌, List, [], ◌∷◌, length, take, drop, Bool, true, false, cond, Some, None, Result, Ok, Err, IfSome}
 use Rattle.world_core.specs.declared.world.Ending.TheVariants.{End, Fails}
 use Rattle.world_core.specs.declared.world.WorldFault.{WorldFault}

@@ -5,7 +5,7 @@ ghost use Rattle.world_core.specs.Faulty.{calls_left, failed_here, inside};
 
 use crate::{World, WorldFault};
 
-/// A world that does as its inner one does, but for one call: that call fails and leaves the inner world as it was. It does not tell its state.
+/// A world that does as its inner one does, but for one call: that call fails and leaves the inner world as it was. It is not modelled.
 #[derive(Drop)]
 pub struct FaultyWorld<W: World> {
     inner: W,
@@ -57,7 +57,7 @@ impl<W: World> FaultyWorld<W> {
 impl<W: World> World for FaultyWorld<W> {
     ghost use Rattle.world_core.specs.Faulty.{Fails, calls_left, failed_here, failures_of, inside};
 
-    ghost tells = { ⊥ };
+    ghost is_modelled = { ⊥ };
 
     ghost state = { λ w. W.state (inside w) };
 
@@ -75,7 +75,7 @@ impl<W: World> World for FaultyWorld<W> {
         ensures fails { calls_left self.old ≡ 1 → Fails self.old result self.new }
         ensures counted_inside { calls_left self.old ≢ 1
             → W.count (inside self.new) ≡ next_count result (W.count (inside self.old)) }
-        ensures handed_on { calls_left self.old ≢ 1 → W.tells
+        ensures handed_on { calls_left self.old ≢ 1 → W.is_modelled
             → OpensToRead name.now (W.state (inside self.old)) result (W.state (inside self.new)) }
         ensures same { calls_left self.old ≢ 1 → failed_here self.new ≡ failed_here self.old }
     {
@@ -95,7 +95,7 @@ impl<W: World> World for FaultyWorld<W> {
         ensures fails { calls_left self.old ≡ 1 → Fails self.old result self.new }
         ensures counted_inside { calls_left self.old ≢ 1
             → W.count (inside self.new) ≡ next_count result (W.count (inside self.old)) }
-        ensures handed_on { calls_left self.old ≢ 1 → W.tells
+        ensures handed_on { calls_left self.old ≢ 1 → W.is_modelled
             → OpensToWrite name.now append (W.state (inside self.old)) result
             (W.state (inside self.new)) }
         ensures same { calls_left self.old ≢ 1 → failed_here self.new ≡ failed_here self.old }
@@ -116,7 +116,7 @@ impl<W: World> World for FaultyWorld<W> {
         ensures fails { calls_left self.old ≡ 1 → Fails self.old result self.new }
         ensures counted_inside { calls_left self.old ≢ 1
             → W.count (inside self.new) ≡ next_count result (W.count (inside self.old)) }
-        ensures handed_on { calls_left self.old ≢ 1 → W.tells
+        ensures handed_on { calls_left self.old ≢ 1 → W.is_modelled
             → Reads id (W.state (inside self.old)) buffer.old result buffer.new
             (W.state (inside self.new)) }
         ensures same { calls_left self.old ≢ 1 → failed_here self.new ≡ failed_here self.old }
@@ -138,7 +138,7 @@ impl<W: World> World for FaultyWorld<W> {
         ensures fails { calls_left self.old ≡ 1 → Fails self.old result self.new }
         ensures counted_inside { calls_left self.old ≢ 1
             → W.count (inside self.new) ≡ next_count result (W.count (inside self.old)) }
-        ensures handed_on { calls_left self.old ≢ 1 → W.tells
+        ensures handed_on { calls_left self.old ≢ 1 → W.is_modelled
             → Writes id text.now (W.state (inside self.old)) result (W.state (inside self.new)) }
         ensures same { calls_left self.old ≢ 1 → failed_here self.new ≡ failed_here self.old }
     {
@@ -153,7 +153,7 @@ impl<W: World> World for FaultyWorld<W> {
         requires own { 1 < id }
         ensures kinds { W.kinds (inside self.new) ≡ set_kind id Closed (W.kinds (inside self.old)) }
         ensures count { failures_of W.count self.new ≡ failures_of W.count self.old }
-        ensures handed_on { W.tells
+        ensures handed_on { W.is_modelled
             → Closes id (W.state (inside self.old)) (W.state (inside self.new)) }
         ensures calls { calls_left self.new ≡ calls_left self.old }
         ensures same { failed_here self.new ≡ failed_here self.old }

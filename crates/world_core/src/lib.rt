@@ -3,11 +3,11 @@
 
 mod faulty;
 mod file;
-pub mod laws;
 mod memory;
 mod names;
 mod octets;
 mod opening;
+pub mod output_laws;
 mod streams;
 mod world;
 

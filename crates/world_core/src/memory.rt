@@ -1,4 +1,4 @@
-//! A world in memory, which tells its state.
+//! A world in memory, which is modelled.
 ghost use Rattle.std.specs.Prelude.{refl, ◌≡◌, [], OnErr, OnOk, option_copied};
 ghost use Rattle.world_core.specs.WorldState.{Standard, Named, bytes_of};
 ghost use Rattle.world_core.specs.Calls.{next_count};
@@ -93,7 +93,7 @@ impl MemWorld {
 }
 
 impl World for MemWorld {
-    ghost tells = { Unit {0} };
+    ghost is_modelled = { Unit {0} };
 
     ghost state = { state_of };
 

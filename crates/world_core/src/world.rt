@@ -40,8 +40,8 @@ impl From<AllocError> for WorldFault {
 /// The files and streams outside a script, by the calls of POSIX.1-2017 (`open`, `read`, `write`, `close`) that a script's input and output need.
 /// Streams have numbers: 0 is the standard input and 1 the standard output, which are always open.
 pub trait World {
-    /// The premise of the clauses `told`: it is false of a world that does not tell its state, as one of real files.
-    ghost tells: { Type 0 };
+    /// The premise of the clauses `told`: it is false of a world that is not modelled, as one of real files.
+    ghost is_modelled: { Type 0 };
 
     /// What the names hold, and where the open streams are.
     ghost state: { Self → State };
@@ -61,7 +61,7 @@ pub trait World {
         ensures opened { IfOk result (λ id. Opens Reading id (kinds self.old) (kinds self.new)) }
         ensures not_opened { OnErr result (kinds self.new ≡ kinds self.old) }
         ensures count { count self.new ≡ next_count result (count self.old) }
-        ensures told { tells → OpensToRead name.now (state self.old) result (state self.new) };
+        ensures told { is_modelled → OpensToRead name.now (state self.old) result (state self.new) };
 
     /// Opens a name for writing, at its end (`append`) or emptied, and gives the stream's number. An absent name is created.
     ///
@@ -72,7 +72,7 @@ pub trait World {
         ensures opened { IfOk result (λ id. Opens Writing id (kinds self.old) (kinds self.new)) }
         ensures not_opened { OnErr result (kinds self.new ≡ kinds self.old) }
         ensures count { count self.new ≡ next_count result (count self.old) }
-        ensures told { tells
+        ensures told { is_modelled
             → OpensToWrite name.now append (state self.old) result (state self.new) };
 
     /// Reads into a buffer, and gives how many bytes: at least one into a buffer that is not empty, or 0 at the end.
@@ -85,7 +85,7 @@ pub trait World {
         ensures within { IfOk result (λ n. n ≤ length buffer.old) }
         ensures kinds { kinds self.new ≡ kinds self.old }
         ensures count { count self.new ≡ next_count result (count self.old) }
-        ensures told { tells
+        ensures told { is_modelled
             → Reads id (state self.old) buffer.old result buffer.new (state self.new) };
 
     /// Appends the first bytes of a text, and gives how many: at least one of a text that is not empty.
@@ -99,7 +99,7 @@ pub trait World {
         ensures some { IfOk result (λ n. 0 < length text.now → 0 < n) }
         ensures kinds { kinds self.new ≡ kinds self.old }
         ensures count { count self.new ≡ next_count result (count self.old) }
-        ensures told { tells → Writes id text.now (state self.old) result (state self.new) };
+        ensures told { is_modelled → Writes id text.now (state self.old) result (state self.new) };
 
     /// Closes a stream that is open and not a standard one. It takes no memory.
     fn close(&mut self, id: u32)
@@ -107,7 +107,7 @@ pub trait World {
         requires own { 1 < id }
         ensures kinds { kinds self.new ≡ set_kind id Closed (kinds self.old) }
         ensures count { count self.new ≡ count self.old }
-        ensures told { tells → Closes id (state self.old) (state self.new) };
+        ensures told { is_modelled → Closes id (state self.old) (state self.new) };
 
     /// How many calls have failed, modulo 2^64. It takes no memory.
     fn failures(&self) -> u64

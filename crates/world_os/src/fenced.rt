@@ -54,7 +54,7 @@ impl<W: World, F: Fence> World for FencedWorld<W, F> {
     ghost use Rattle.std.specs.Prelude.{◌+◌, ◌%◌, ◌^◌};
     ghost use Rattle.world_os.specs.Behind.{behind};
 
-    ghost tells = { W.tells × F.alike };
+    ghost is_modelled = { W.is_modelled × F.alike };
 
     ghost state = { λ w. behind (F.reads w.fence) (W.state w.inner) };
 
@@ -68,12 +68,12 @@ impl<W: World, F: Fence> World for FencedWorld<W, F> {
         ensures not_opened { OnErr result (W.kinds self.new.inner ≡ W.kinds self.old.inner) }
         ensures count { (W.count self.new.inner + self.new.kept_out) % 2 ^ 64
             ≡ next_count result ((W.count self.old.inner + self.old.kept_out) % 2 ^ 64) }
-        ensures told { W.tells × F.alike
+        ensures told { W.is_modelled × F.alike
             → OpensToRead name.now (behind (F.reads self.old.fence) (W.state self.old.inner)) result
             (behind (F.reads self.new.fence) (W.state self.new.inner)) }
         ensures kept_out { F.reads self.old.fence name.now ≡ false
             → (result ≡ Err WorldFault.Failed) × (self.new.inner ≡ self.old.inner) }
-        ensures let_through { F.reads self.old.fence name.now ≡ true → W.tells
+        ensures let_through { F.reads self.old.fence name.now ≡ true → W.is_modelled
             → OpensToRead name.now (W.state self.old.inner) result (W.state self.new.inner) }
         ensures fence { self.new.fence ≡ self.old.fence }
     {
@@ -89,12 +89,12 @@ impl<W: World, F: Fence> World for FencedWorld<W, F> {
         ensures not_opened { OnErr result (W.kinds self.new.inner ≡ W.kinds self.old.inner) }
         ensures count { (W.count self.new.inner + self.new.kept_out) % 2 ^ 64
             ≡ next_count result ((W.count self.old.inner + self.old.kept_out) % 2 ^ 64) }
-        ensures told { W.tells × F.alike → OpensToWrite name.now append
+        ensures told { W.is_modelled × F.alike → OpensToWrite name.now append
             (behind (F.reads self.old.fence) (W.state self.old.inner)) result
             (behind (F.reads self.new.fence) (W.state self.new.inner)) }
         ensures kept_out { F.writes self.old.fence name.now ≡ false
             → (result ≡ Err WorldFault.Failed) × (self.new.inner ≡ self.old.inner) }
-        ensures let_through { F.writes self.old.fence name.now ≡ true → W.tells → OpensToWrite
+        ensures let_through { F.writes self.old.fence name.now ≡ true → W.is_modelled → OpensToWrite
             name.now append (W.state self.old.inner) result (W.state self.new.inner) }
         ensures fence { self.new.fence ≡ self.old.fence }
     {
@@ -110,10 +110,10 @@ impl<W: World, F: Fence> World for FencedWorld<W, F> {
         ensures kinds { W.kinds self.new.inner ≡ W.kinds self.old.inner }
         ensures count { (W.count self.new.inner + self.new.kept_out) % 2 ^ 64
             ≡ next_count result ((W.count self.old.inner + self.old.kept_out) % 2 ^ 64) }
-        ensures told { W.tells × F.alike
+        ensures told { W.is_modelled × F.alike
             → Reads id (behind (F.reads self.old.fence) (W.state self.old.inner)) buffer.old result
             buffer.new (behind (F.reads self.new.fence) (W.state self.new.inner)) }
-        ensures inner { W.tells → Reads id (W.state self.old.inner) buffer.old result buffer.new
+        ensures inner { W.is_modelled → Reads id (W.state self.old.inner) buffer.old result buffer.new
             (W.state self.new.inner) }
         ensures fence { self.new.fence ≡ self.old.fence }
     {
@@ -127,10 +127,10 @@ impl<W: World, F: Fence> World for FencedWorld<W, F> {
         ensures kinds { W.kinds self.new.inner ≡ W.kinds self.old.inner }
         ensures count { (W.count self.new.inner + self.new.kept_out) % 2 ^ 64
             ≡ next_count result ((W.count self.old.inner + self.old.kept_out) % 2 ^ 64) }
-        ensures told { W.tells × F.alike
+        ensures told { W.is_modelled × F.alike
             → Writes id text.now (behind (F.reads self.old.fence) (W.state self.old.inner)) result
             (behind (F.reads self.new.fence) (W.state self.new.inner)) }
-        ensures inner { W.tells
+        ensures inner { W.is_modelled
             → Writes id text.now (W.state self.old.inner) result (W.state self.new.inner) }
         ensures fence { self.new.fence ≡ self.old.fence }
     {
@@ -143,9 +143,9 @@ impl<W: World, F: Fence> World for FencedWorld<W, F> {
         ensures kinds { W.kinds self.new.inner ≡ set_kind id Closed (W.kinds self.old.inner) }
         ensures count { (W.count self.new.inner + self.new.kept_out) % 2 ^ 64
             ≡ (W.count self.old.inner + self.old.kept_out) % 2 ^ 64 }
-        ensures told { W.tells × F.alike → Closes id (behind (F.reads self.old.fence)
+        ensures told { W.is_modelled × F.alike → Closes id (behind (F.reads self.old.fence)
             (W.state self.old.inner)) (behind (F.reads self.new.fence) (W.state self.new.inner)) }
-        ensures inner { W.tells → Closes id (W.state self.old.inner) (W.state self.new.inner) }
+        ensures inner { W.is_modelled → Closes id (W.state self.old.inner) (W.state self.new.inner) }
         ensures fence { self.new.fence ≡ self.old.fence }
     {
         self.inner.close(id)

@@ -7,7 +7,7 @@ use crate::meter::Meter;
 use world_core::{World, WorldFault};
 
 /// A world that does as its inner one does, until as many bytes as a limit allows are read, or written, over all its streams. A write past the limit takes
-/// what fits and then fails. A read past the limit fails, but at the end it tells the end. It does not tell its state.
+/// what fits and then fails. A read past the limit fails, but at the end it tells the end. It is not modelled.
 #[derive(Drop)]
 pub struct LimitedWorld<W: World> {
     inner: W,
@@ -53,7 +53,7 @@ impl<W: World> LimitedWorld<W> {
         ensures kinds { W.kinds self.new.inner ≡ W.kinds self.old.inner }
         ensures count { (W.count self.new.inner + self.new.refused) % 2 ^ 64
             ≡ next_count result ((W.count self.old.inner + self.old.refused) % 2 ^ 64) }
-        ensures told { W.tells → AtLimit id (W.state self.old.inner) self.old.input_is_over result }
+        ensures told { W.is_modelled → AtLimit id (W.state self.old.inner) self.old.input_is_over result }
         ensures over { self.old.input_is_over ≡ true
             → (result ≡ Err WorldFault.Failed) × (self.new.inner ≡ self.old.inner) }
         ensures stays { self.old.input_is_over ≡ true → self.new.input_is_over ≡ true }
@@ -77,7 +77,7 @@ impl<W: World> LimitedWorld<W> {
 impl<W: World> World for LimitedWorld<W> {
     ghost use Rattle.std.specs.Prelude.{◌+◌, ◌%◌, ◌^◌};
 
-    ghost tells = { ⊥ };
+    ghost is_modelled = { ⊥ };
 
     ghost state = { λ w. W.state w.inner };
 
@@ -91,7 +91,7 @@ impl<W: World> World for LimitedWorld<W> {
         ensures not_opened { OnErr result (W.kinds self.new.inner ≡ W.kinds self.old.inner) }
         ensures count { (W.count self.new.inner + self.new.refused) % 2 ^ 64
             ≡ next_count result ((W.count self.old.inner + self.old.refused) % 2 ^ 64) }
-        ensures inner { W.tells
+        ensures inner { W.is_modelled
             → OpensToRead name.now (W.state self.old.inner) result (W.state self.new.inner) }
         ensures output { self.new.output ≡ self.old.output }
         ensures input { self.new.input ≡ self.old.input }
@@ -106,7 +106,7 @@ impl<W: World> World for LimitedWorld<W> {
         ensures not_opened { OnErr result (W.kinds self.new.inner ≡ W.kinds self.old.inner) }
         ensures count { (W.count self.new.inner + self.new.refused) % 2 ^ 64
             ≡ next_count result ((W.count self.old.inner + self.old.refused) % 2 ^ 64) }
-        ensures inner { W.tells → OpensToWrite name.now append (W.state self.old.inner) result
+        ensures inner { W.is_modelled → OpensToWrite name.now append (W.state self.old.inner) result
             (W.state self.new.inner) }
         ensures output { self.new.output ≡ self.old.output }
         ensures input { self.new.input ≡ self.old.input }
@@ -124,10 +124,10 @@ impl<W: World> World for LimitedWorld<W> {
         ensures read { self.new.input.passed ≡ self.old.input.passed + moved result }
         ensures limit { self.new.input.passed ≤ self.new.input.most }
         ensures most { self.new.input.most ≡ self.old.input.most }
-        ensures inner { MayPass self.old.input (length buffer.old) → W.tells
+        ensures inner { MayPass self.old.input (length buffer.old) → W.is_modelled
             → Reads id (W.state self.old.inner) (take (left self.old.input) buffer.old) result
             (take (left self.old.input) buffer.new) (W.state self.new.inner) }
-        ensures at_limit { left self.old.input ≡ 0 → 0 < length buffer.old → W.tells
+        ensures at_limit { left self.old.input ≡ 0 → 0 < length buffer.old → W.is_modelled
             → AtLimit id (W.state self.old.inner) self.old.input_is_over result }
         ensures over { self.old.input_is_over ≡ true → left self.old.input ≡ 0
             → 0 < length buffer.old
@@ -154,7 +154,7 @@ impl<W: World> World for LimitedWorld<W> {
         ensures written { self.new.output.passed ≡ self.old.output.passed + moved result }
         ensures limit { self.new.output.passed ≤ self.new.output.most }
         ensures most { self.new.output.most ≡ self.old.output.most }
-        ensures inner { MayPass self.old.output (length text.now) → W.tells
+        ensures inner { MayPass self.old.output (length text.now) → W.is_modelled
             → Writes id (take (left self.old.output) text.now) (W.state self.old.inner) result
             (W.state self.new.inner) }
         ensures full { left self.old.output ≡ 0 → 0 < length text.now
@@ -177,7 +177,7 @@ impl<W: World> World for LimitedWorld<W> {
         ensures kinds { W.kinds self.new.inner ≡ set_kind id Closed (W.kinds self.old.inner) }
         ensures count { (W.count self.new.inner + self.new.refused) % 2 ^ 64
             ≡ (W.count self.old.inner + self.old.refused) % 2 ^ 64 }
-        ensures inner { W.tells → Closes id (W.state self.old.inner) (W.state self.new.inner) }
+        ensures inner { W.is_modelled → Closes id (W.state self.old.inner) (W.state self.new.inner) }
         ensures output { self.new.output ≡ self.old.output }
         ensures input { self.new.input ≡ self.old.input }
         ensures over { self.new.input_is_over ≡ self.old.input_is_over }

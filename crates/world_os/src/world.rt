@@ -204,7 +204,7 @@ impl<'a, R: Files, I: Read + Drop, O: Write + Drop, E: Write + Drop> World
     ghost use Rattle.std.specs.Prelude.{refl};
     ghost use Rattle.world_os.specs.OsStreams.{os_kinds, no_state};
 
-    ghost tells = { ⊥ };
+    ghost is_modelled = { ⊥ };
 
     ghost state = { λ _. no_state };
 

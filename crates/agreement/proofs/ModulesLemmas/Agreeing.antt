@@ -4,7 +4,7 @@ use Rattle.std.proofs.Common.{◌≡◌, ℕ, zero, suc, ◌+◌, ◌-◌, ◌*�
 use Rattle.std.proofs.lemmas.Bool.{cases_lt}
 use Rattle.world_core.specs.WorldState.{Action}
 use Rattle.wasm_types.specs.Syntax.{Instructions}
-use Rattle.sem_scripts.specs.Kept.{Grows, output_of}
+use Rattle.sem_scripts.specs.MoreTurns.{Grows, output_of}
 use Rattle.mid_program.specs.Mid.{Program}
 use Rattle.mid_program.specs.MidMeaning.{mid_run_in}
 use Rattle.sem_scripts.specs.ScriptRun.{Setting, Ending, Ended, FaultedBy, GoesOn, Exhausted}

@@ -1,7 +1,7 @@
 -- Agreement speaks of what a script does alone.
 use Rattle.std.proofs.Common.{◌≡◌, ℕ, sym, ◌∙◌, subst}
 use Rattle.wasm_types.specs.Syntax.{ModuleForm}
-use Rattle.sem_scripts.specs.Kept.{Grows, output_of}
+use Rattle.sem_scripts.specs.MoreTurns.{Grows, output_of}
 use Rattle.sem_scripts.specs.ScriptRun.{Setting, Ending, setting_in}
 use Rattle.agreement.specs.Modules.Agreement.{Agreement, output_in}
 

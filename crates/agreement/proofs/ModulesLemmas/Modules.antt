@@ -3,7 +3,7 @@ use Rattle.std.proofs.Common.{◌≡◌, ◌≢◌, ℕ, zero, suc, ◌+◌, ◌
 use Rattle.std.proofs.lemmas.Bool.{ltb-true}
 use Rattle.std.specs.Int.{cast_signed, int_rem_euclid}
 use Rattle.awk_values.specs.declared.fault.Fault.{Fault}
-use Rattle.sem_primitives.specs.Jobs.{JobForm, Surroundings}
+use Rattle.sem_primitives.specs.Jobs.{JobForm, Environment}
 use Rattle.world_core.specs.WorldState.{Action, Source}
 use Rattle.wasm_store.specs.declared.trap.TrapKind.{TrapKind}
 use Rattle.wasm_store.specs.declared.word.Word.{Word}
@@ -19,7 +19,7 @@ use Rattle.wasm_model.specs.declared.ends.MachineEnd.{MachineEnd}
 use Rattle.wasm_model.specs.declared.ends.MachineEnd.TheVariants as machine
 use Rattle.host_step.specs.HostState.{HostState}
 use Rattle.host_step.specs.Starts.{state_in}
-use Rattle.sem_scripts.specs.Kept.{Grows, output_of}
+use Rattle.sem_scripts.specs.MoreTurns.{Grows, output_of}
 use Rattle.mid_program.specs.Mid.{Program}
 use Rattle.mid_program.specs.MidMeaning.{mid_run_in}
 use Rattle.sem_scripts.specs.ScriptRun.{Setting, Ending, Ended, FaultedBy, GoesOn, Exhausted, setting_in}
@@ -136,7 +136,7 @@ told_in d (Some t) = t
 not_refused : (r : RunEnd) (told : MachineEnd) → told_run r ≡ Some told → told ≢ machine.NoMemory → r ≢ NoMemory
 not_refused r told h ne n = ne (sym (ap (told_in told) (sym (ap told_run n) ∙ h)))
 
-module _ (p : Program) (agree : ValueAgreement p) (job : JobForm) (input : Source) (outside : Surroundings) where
+module _ (p : Program) (agree : ValueAgreement p) (job : JobForm) (input : Source) (outside : Environment) where
   abbrev s : Setting
   s = setting_in job input outside
 

@@ -1,6 +1,6 @@
 -- A run of a module passes its places as its program executes statements.
 use Rattle.std.proofs.Common.{◌≡◌, ℕ, zero, suc, ◌+◌, ◌≤◌, ◌^◌, ◌%◌, Bool, true, false, cond, nat_lt, List, [], ◌++◌, Some, None, Option, inl, inr, refl, sym, ap, ap₂, subst, ◌∙◌, append-nil, arith}
-use Rattle.sem_primitives.specs.Jobs.{JobForm, Surroundings}
+use Rattle.sem_primitives.specs.Jobs.{JobForm, Environment}
 use Rattle.world_core.specs.WorldState.{Action, Source}
 use Rattle.awk_values.specs.declared.fault.Fault.{Fault}
 use Rattle.wasm_types.specs.Syntax.{Plain, Instructions, Done, Then}
@@ -15,7 +15,7 @@ use Rattle.wasm_model.specs.declared.ends.End.{End}
 use Rattle.host_step.specs.HostState.{HostState}
 use Rattle.host_step.specs.Starts.{state_in}
 use Rattle.host_step.specs.Worlds.{with_output}
-use Rattle.sem_scripts.specs.Kept.{Grows, output_of}
+use Rattle.sem_scripts.specs.MoreTurns.{Grows, output_of}
 use Rattle.mid_program.specs.Mid.{Program}
 use Rattle.mid_program.specs.MidMeaning.{mid_run_in}
 use Rattle.sem_scripts.specs.ScriptRun.{Ending, Setting, Ended, FaultedBy, Exhausted, setting_in}
@@ -79,7 +79,7 @@ no_end t c e a b = let q = sym a ∙ b in cc
 go_after : (u : Code) (k : ℕ) (c : Conf) → go u (suc k) c ≡ step u (go u k c)
 go_after u k c = ap (λ z. go u z c) (let j : suc k ≡ k + 1 = omega arith in j) ∙ go_add u k 1 c
 
-module _ (p : Program) (probe : Probe) (values : AgreesWith (notes_of p probe) p (probed_run p probe)) (job : JobForm) (input : Source) (outside : Surroundings) where
+module _ (p : Program) (probe : Probe) (values : AgreesWith (notes_of p probe) p (probed_run p probe)) (job : JobForm) (input : Source) (outside : Environment) where
   abbrev s : Setting
   s = setting_in job input outside
 

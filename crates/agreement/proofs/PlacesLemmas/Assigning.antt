@@ -8,7 +8,7 @@ use Rattle.mid_program.specs.Mid.{Kind}
 use Rattle.lower_model.specs.Cells.{Cell, Bits, Held, IteratorOf, OwnedArray, LentArray, Gone, cell_at, is_bare_handle, is_gone, is_handle_of, is_word, left_in_global, may_come}
 use Rattle.lower_model.specs.Machine.{Code, Conf, Store, assigning_after, assigning_then, number_pending, step}
 use Rattle.host_imports.specs.declared.import.Import.{Import}
-use Rattle.host_imports.specs.declared.import.Import.TheVariants.{Of}
+use Rattle.host_imports.specs.declared.import.Import.TheVariants.{OfPrimitive}
 use Rattle.agreement.proofs.ModulesLemmas.Stores.{InStore, Leads, step_in}
 
 -- a global that was set has its new cell, where there is such a global
@@ -74,7 +74,7 @@ module _ (u : Code) (T : ℕ → Type 0) where
       name_with (Some j) = Some (j, x.1)
 
   after_told : (i : Import) (G : Store) → Asks G → (j : ℕ) → assigning_after i G ≡ Some j → T j
-  after_told (Of row.PendingName) G a j e = number_told G.host.shared.inner.pending a.pending j e
+  after_told (OfPrimitive row.PendingName) G a j e = number_told G.host.shared.inner.pending a.pending j e
   after_told _ G a j e = a.told.assigning j e
 
   read_told : (x : ℕ) (G : Store) → Asks G → (i : ℕ) → is_bare_handle u.names (i + i) ≡ true → is_word (cell_at (set G.globals x (left_in_global (cell_at G.globals x))) (u.before + (i + i))) ≡ false → T i

@@ -9,7 +9,7 @@ use Rattle.lower_model.specs.Functions.{main_callee, routine_callee}
 use Rattle.lower_model.specs.Machine.{Callee, answers_to}
 use Rattle.lower_model.specs.Modules.{all_callees, called_imports}
 use Rattle.agreement.proofs.RefinedLemmas.ImportAnswers.{some_of}
-use Rattle.agreement.specs.Places.Kept.{AtStatement, CallerWaits, CallersWait, values_waiting}
+use Rattle.agreement.specs.Places.NoLeaks.{AtStatement, CallerWaits, CallersWait, values_waiting}
 use Rattle.agreement.specs.Places.Pending.{AllFewPending, FewAlive, FewPending, values_within}
 use Rattle.agreement.proofs.PlacesLemmas.Pending.{PartsFew, RoutinesFew, call_within, calls_fit, limit_of}
 use Rattle.agreement.proofs.PlacesLemmas.Stepping.{main_few, routine_few}

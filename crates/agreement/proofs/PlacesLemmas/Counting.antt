@@ -6,11 +6,11 @@ use Rattle.sem_primitives.specs.declared.sorts.Sort.TheVariants as sort
 use Rattle.wasm_store.specs.declared.word.Word.{Word}
 use Rattle.wasm_store.specs.declared.word.Word.TheVariants.{I32, I64}
 use Rattle.wasm_model.specs.Machines.{CallerForm}
-use Rattle.mid_program.specs.Mid.{Kind, Boxed, Unboxed, Many}
+use Rattle.mid_program.specs.Mid.{Kind, Boxed, Unboxed, ArrayKind}
 use Rattle.lower_model.specs.Cells.{Cell, Bits, Held, IteratorOf, OwnedArray, LentArray, Gone, arrays_owned, count_cells, each_name, ended_name, globals_by, is_array, is_bare, is_iterator, is_owned, iterators_in, no_temporary, none_owned, tidy_locals, tidy_name}
 use Rattle.lower_model.specs.Machine.{Frame, ending_name}
 use Rattle.agreement.specs.Refined.Owners.{owners, owns_sort, waiting}
-use Rattle.agreement.specs.Places.Kept.{GlobalsHold, LocalsHold, NameHolds, NameMayHold, NamesHold, OnlyIterators, arrays, boxed, count, holders, holders_waiting, holds, one, scalars}
+use Rattle.agreement.specs.Places.NoLeaks.{GlobalsHold, LocalsHold, NameHolds, NameMayHold, NamesHold, OnlyIterators, arrays, boxed, count, holders, holders_waiting, holds, one, scalars}
 
 -- what a place holds, by its cell
 abbrev pub held_in : Cell → Option Sort
@@ -107,12 +107,12 @@ tidy_holds Unboxed (IteratorOf t) e = cc
 tidy_holds Unboxed (Bits w) e = inl refl
 tidy_holds Unboxed (LentArray a) e = inl refl
 tidy_holds Unboxed Gone e = inl refl
-tidy_holds Many (Held v) e = cc
-tidy_holds Many (OwnedArray a) e = refl
-tidy_holds Many (IteratorOf t) e = cc
-tidy_holds Many (Bits w) e = cc
-tidy_holds Many (LentArray a) e = cc
-tidy_holds Many Gone e = cc
+tidy_holds ArrayKind (Held v) e = cc
+tidy_holds ArrayKind (OwnedArray a) e = refl
+tidy_holds ArrayKind (IteratorOf t) e = cc
+tidy_holds ArrayKind (Bits w) e = cc
+tidy_holds ArrayKind (LentArray a) e = cc
+tidy_holds ArrayKind Gone e = cc
 
 ended_holds : (k : Kind) (c : Cell) → ended_name k c ≡ true → NameMayHold k (held_in c)
 ended_holds Boxed (Held v) e = inr refl
@@ -127,12 +127,12 @@ ended_holds Unboxed (IteratorOf t) e = cc
 ended_holds Unboxed (Bits w) e = inl refl
 ended_holds Unboxed (LentArray a) e = inl refl
 ended_holds Unboxed Gone e = inl refl
-ended_holds Many (Held v) e = cc
-ended_holds Many (OwnedArray a) e = inr refl
-ended_holds Many (IteratorOf t) e = cc
-ended_holds Many (Bits w) e = inl refl
-ended_holds Many (LentArray a) e = inl refl
-ended_holds Many Gone e = inl refl
+ended_holds ArrayKind (Held v) e = cc
+ended_holds ArrayKind (OwnedArray a) e = inr refl
+ended_holds ArrayKind (IteratorOf t) e = cc
+ended_holds ArrayKind (Bits w) e = inl refl
+ended_holds ArrayKind (LentArray a) e = inl refl
+ended_holds ArrayKind Gone e = inl refl
 
 pub tidy_globals : (before : ℕ) (ks : List Kind) (cs : List Cell) → none_owned (take before cs) && each_name tidy_name ks (drop before cs) ≡ true → GlobalsHold NameHolds before ks (held cs)
 tidy_globals before ks cs e = let h = and_parts (none_owned (take before cs)) (each_name tidy_name ks (drop before cs)) e in globals_hold tidy_name NameHolds tidy_holds before ks cs h.0 h.1
@@ -144,7 +144,7 @@ ended_globals before ks cs e = let h = and_parts (none_owned (take before cs)) (
 may_hold : (k : Kind) (o : Option Sort) → NameHolds k o → NameMayHold k o
 may_hold Boxed o h = inr h
 may_hold Unboxed o h = h
-may_hold Many o h = inr h
+may_hold ArrayKind o h = inr h
 
 names_may : (ks : List Kind) (os : List (Option Sort)) → NamesHold NameHolds ks os → NamesHold NameMayHold ks os
 names_may [] [] h = tt
@@ -195,10 +195,10 @@ tidy_held (Boxed ∷ ks) (Bits w ∷ cs) e = cc
 tidy_held (Boxed ∷ ks) (LentArray a ∷ cs) e = cc
 tidy_held (Boxed ∷ ks) (Gone ∷ cs) e = cc
 tidy_held (Unboxed ∷ ks) (c ∷ cs) e = let h = and_parts (is_bare c) (tidy_locals ks cs) e in (bare_holds c h.0, tidy_held ks cs h.1)
-tidy_held (Many ∷ ks) (c ∷ cs) e = let h = and_parts (not (is_owned c)) (tidy_locals ks cs) e in (nothing_held tidy_name NameHolds tidy_holds c h.0, tidy_held ks cs h.1)
+tidy_held (ArrayKind ∷ ks) (c ∷ cs) e = let h = and_parts (not (is_owned c)) (tidy_locals ks cs) e in (nothing_held tidy_name NameHolds tidy_holds c h.0, tidy_held ks cs h.1)
 tidy_held (Boxed ∷ ks) [] e = cc
 tidy_held (Unboxed ∷ ks) [] e = cc
-tidy_held (Many ∷ ks) [] e = cc
+tidy_held (ArrayKind ∷ ks) [] e = cc
 
 -- Counts.
 
@@ -212,7 +212,7 @@ none_counted sort.Iterator = refl
 abbrev of_kind : Sort → Kind → ℕ
 of_kind t Boxed = one t (Some sort.Value)
 of_kind t Unboxed = one t (Some sort.Value)
-of_kind t Many = one t (Some sort.Array)
+of_kind t ArrayKind = one t (Some sort.Array)
 
 abbrev of_kinds : Sort → List Kind → ℕ
 of_kinds t [] = 0
@@ -225,7 +225,7 @@ either_counted t s o (inr e) = let x = ap (one t) e in omega (arith, x)
 name_counted : (t : Sort) (k : Kind) (o : Option Sort) → NameMayHold k o → one t o ≤ of_kind t k
 name_counted t Boxed o h = either_counted t sort.Value o h
 name_counted t Unboxed o h = either_counted t sort.Value o h
-name_counted t Many o h = either_counted t sort.Array o h
+name_counted t ArrayKind o h = either_counted t sort.Array o h
 
 names_counted : (t : Sort) (ks : List Kind) (os : List (Option Sort)) → NamesHold NameMayHold ks os → count t os ≤ of_kinds t ks
 names_counted t [] [] h = omega arith
@@ -248,19 +248,19 @@ values_of : (ks : List Kind) → of_kinds sort.Value ks ≡ scalars ks
 values_of [] = refl
 values_of (Boxed ∷ ks) = let r = values_of ks in omega (arith, r)
 values_of (Unboxed ∷ ks) = let r = values_of ks in omega (arith, r)
-values_of (Many ∷ ks) = let r = values_of ks in omega (arith, r)
+values_of (ArrayKind ∷ ks) = let r = values_of ks in omega (arith, r)
 
 arrays_of : (ks : List Kind) → of_kinds sort.Array ks ≡ arrays ks
 arrays_of [] = refl
 arrays_of (Boxed ∷ ks) = let r = arrays_of ks in omega (arith, r)
 arrays_of (Unboxed ∷ ks) = let r = arrays_of ks in omega (arith, r)
-arrays_of (Many ∷ ks) = let r = arrays_of ks in omega (arith, r)
+arrays_of (ArrayKind ∷ ks) = let r = arrays_of ks in omega (arith, r)
 
 iterators_of : (ks : List Kind) → of_kinds sort.Iterator ks ≡ 0
 iterators_of [] = refl
 iterators_of (Boxed ∷ ks) = let r = iterators_of ks in omega (arith, r)
 iterators_of (Unboxed ∷ ks) = let r = iterators_of ks in omega (arith, r)
-iterators_of (Many ∷ ks) = let r = iterators_of ks in omega (arith, r)
+iterators_of (ArrayKind ∷ ks) = let r = iterators_of ks in omega (arith, r)
 
 module _ (before : ℕ) (ks : List Kind) (os : List (Option Sort)) (h : GlobalsHold NameMayHold before ks os) where
   pub global_values : count sort.Value os ≤ scalars ks
@@ -280,7 +280,7 @@ arrays_held (k ∷ ks) [] h = absurd h
 arrays_held (k ∷ ks) (o ∷ []) h = absurd h
 arrays_held (Boxed ∷ ks) (o ∷ (n ∷ os)) h = let x = ap (one sort.Array) h.0 in let y = ap (one sort.Array) h.1 in let r = arrays_held ks os h.2 in omega (arith, x, y, r)
 arrays_held (Unboxed ∷ ks) (o ∷ (n ∷ os)) h = let x = either_counted sort.Array sort.Value o h.0 in let y = ap (one sort.Array) h.1 in let r = arrays_held ks os h.2 in omega (arith, x, y, r)
-arrays_held (Many ∷ ks) (o ∷ (n ∷ os)) h = let x = ap (one sort.Array) h.0 in let y = ap (one sort.Array) h.1 in let r = arrays_held ks os h.2 in omega (arith, x, y, r)
+arrays_held (ArrayKind ∷ ks) (o ∷ (n ∷ os)) h = let x = ap (one sort.Array) h.0 in let y = ap (one sort.Array) h.1 in let r = arrays_held ks os h.2 in omega (arith, x, y, r)
 
 pub global_arrays_are : (before : ℕ) (ks : List Kind) (os : List (Option Sort)) → GlobalsHold NameHolds before ks os → count sort.Array os ≡ arrays ks
 global_arrays_are zero ks os h = arrays_held ks os h
@@ -292,7 +292,7 @@ abbrev of_locals : Sort → List Kind → ℕ
 of_locals t [] = 0
 of_locals t (Boxed ∷ ks) = one t (Some sort.Value) + of_locals t ks
 of_locals t (Unboxed ∷ ks) = of_locals t ks
-of_locals t (Many ∷ ks) = of_locals t ks
+of_locals t (ArrayKind ∷ ks) = of_locals t ks
 
 only_counted : (t : Sort) → one t (Some sort.Iterator) ≡ 0 → (os : List (Option Sort)) → OnlyIterators os → count t os ≡ 0
 only_counted t e [] h = refl
@@ -302,22 +302,22 @@ locals_counted : (t : Sort) → one t (Some sort.Iterator) ≡ 0 → (ks : List 
 locals_counted t e [] os h = only_counted t e os h
 locals_counted t e (Boxed ∷ ks) (o ∷ os) h = let x = ap (one t) h.0 in let r = locals_counted t e ks os h.1 in omega (arith, x, r)
 locals_counted t e (Unboxed ∷ ks) (o ∷ os) h = let x = ap (one t) h.0 in let y = none_counted t in let r = locals_counted t e ks os h.1 in omega (arith, x, y, r)
-locals_counted t e (Many ∷ ks) (o ∷ os) h = let x = ap (one t) h.0 in let y = none_counted t in let r = locals_counted t e ks os h.1 in omega (arith, x, y, r)
+locals_counted t e (ArrayKind ∷ ks) (o ∷ os) h = let x = ap (one t) h.0 in let y = none_counted t in let r = locals_counted t e ks os h.1 in omega (arith, x, y, r)
 locals_counted t e (Boxed ∷ ks) [] h = absurd h
 locals_counted t e (Unboxed ∷ ks) [] h = absurd h
-locals_counted t e (Many ∷ ks) [] h = absurd h
+locals_counted t e (ArrayKind ∷ ks) [] h = absurd h
 
 boxed_of : (ks : List Kind) → of_locals sort.Value ks ≡ boxed ks
 boxed_of [] = refl
 boxed_of (Boxed ∷ ks) = let r = boxed_of ks in omega (arith, r)
 boxed_of (Unboxed ∷ ks) = boxed_of ks
-boxed_of (Many ∷ ks) = boxed_of ks
+boxed_of (ArrayKind ∷ ks) = boxed_of ks
 
 none_of : (ks : List Kind) → of_locals sort.Array ks ≡ 0
 none_of [] = refl
 none_of (Boxed ∷ ks) = let r = none_of ks in omega (arith, r)
 none_of (Unboxed ∷ ks) = none_of ks
-none_of (Many ∷ ks) = none_of ks
+none_of (ArrayKind ∷ ks) = none_of ks
 
 pub local_values : (ks : List Kind) (os : List (Option Sort)) → LocalsHold ks os → count sort.Value os ≡ boxed ks
 local_values ks os h = locals_counted sort.Value refl ks os h ∙ boxed_of ks

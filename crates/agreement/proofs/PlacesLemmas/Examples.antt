@@ -4,7 +4,7 @@ use Rattle.std.specs.Fmt.{digits}
 use Rattle.std.specs.Prelude.{codes}
 use Rattle.awk_values.specs.declared.value.Value.{Value}
 use Rattle.awk_values.specs.declared.value.Value.TheVariants.{StrNum}
-use Rattle.sem_primitives.specs.Jobs.{JobForm, Surroundings}
+use Rattle.sem_primitives.specs.Jobs.{JobForm, Environment}
 use Rattle.sem_primitives.specs.declared.constants.NameKind.TheVariants.{Scalar}
 use Rattle.sem_primitives.specs.declared.sorts.Sort.{Sort}
 use Rattle.sem_primitives.specs.declared.sorts.Sort.TheVariants as sort
@@ -22,7 +22,7 @@ use Rattle.mid_program.specs.Mid.{Boxed, Unboxed, Code as MidCode, Do, Call, Get
 use Rattle.lower_model.specs.Small.{minus_one, text_beside}
 use Rattle.agreement.specs.Modules.TableMeaning.{table_meaning}
 use Rattle.agreement.specs.Places.Assigned.{IsPending, IsWord, Somewhere}
-use Rattle.agreement.specs.Places.Kept.{BareParameters, IsMarked, LocalsWait, count}
+use Rattle.agreement.specs.Places.NoLeaks.{BareParameters, IsMarked, LocalsWait, count}
 use Rattle.agreement.proofs.PlacesLemmas.Pending.{Few}
 
 -- a boxed and an unboxed parameter, the answer's local, one operand that is pending, and an iterator
@@ -58,7 +58,7 @@ number_in (Some x) = x.0
 abbrev here : Instructions → Conf
 here code = record { frame = record { values = []; labels = []; locals = []; code = code }; result = None; callers = []; memory = record { bytes = []; most = 0 }; table = []; globals = [] }
 
-module _ (job : JobForm) (input : Source) (outside : Surroundings) (m : ProgramForm) where
+module _ (job : JobForm) (input : Source) (outside : Environment) (m : ProgramForm) where
   abbrev start : HostState
   start = state_in job input outside
 
@@ -91,7 +91,7 @@ words = record { operands = codes "A=1" ∷ []; assigns = (codes "B", codes "2")
 abbrev no_words : JobForm
 no_words = record { operands = []; assigns = []; environment = [] }
 
-module _ (input : Source) (outside : Surroundings) where
+module _ (input : Source) (outside : Environment) where
   abbrev announced : JobForm → HostState
   announced job =
       let start = state_in job input outside in

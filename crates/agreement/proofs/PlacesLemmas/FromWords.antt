@@ -1,7 +1,7 @@
 -- So on a run: an assignment that is pending comes from a word of the command line.
 use Rattle.std.proofs.Common.{◌≡◌, ◌⊎◌, inl, inr, ℕ, zero, suc, Bool, List, [], ◌∷◌, Some, None, refl, sym, ap, ◌∙◌, subst, slice_get}
 use Rattle.sem_primitives.specs.Assignments.{declared}
-use Rattle.sem_primitives.specs.Jobs.{JobForm, Surroundings}
+use Rattle.sem_primitives.specs.Jobs.{JobForm, Environment}
 use Rattle.sem_primitives.specs.declared.constants.NameKind.TheVariants.{Scalar}
 use Rattle.awk_values.specs.declared.value.Value.{Value}
 use Rattle.world_core.specs.WorldState.{Action, Source}
@@ -29,7 +29,7 @@ use Rattle.agreement.proofs.RefinedLemmas.Running.{taken_as}
 use Rattle.agreement.specs.Modules.ValueAgreement.{ValueAgreement}
 use Rattle.agreement.proofs.ModulesLemmas.Stores.{InStore, Leads, step_in, store_there}
 use Rattle.agreement.specs.Places.Assigned.{HasWord, IsAssigned, IsPending, IsWord, Somewhere}
-use Rattle.agreement.specs.Places.Kept.{Reached}
+use Rattle.agreement.specs.Places.NoLeaks.{Reached}
 use Rattle.agreement.proofs.PlacesLemmas.Words.{After, call_after, look_after}
 
 abbrev IsName : List ℕ → ℕ → Inner → Type 0
@@ -111,7 +111,7 @@ module _ (u : Code) (job : JobForm) (W : ℕ → Type 0) where
         (step_in u Here Worded leads P (here_in P c s a h (λ j w. f j (inl w)))) (λ k. alive (suc k)) (λ j w. f j (inr w)) i q
 
 -- FROM A WORD: each assignment of a run
-pub from_words : (p : Program) → ValueAgreement p → (job : JobForm) (input : Source) (outside : Surroundings) (m : MachineForm) (c : real.Conf) (s : HostState) (reached : Reached (module_of p) job input outside m c s) →
+pub from_words : (p : Program) → ValueAgreement p → (job : JobForm) (input : Source) (outside : Environment) (m : MachineForm) (c : real.Conf) (s : HostState) (reached : Reached (module_of p) job input outside m c s) →
     (i : ℕ) → IsAssigned reached i → HasWord reached i
 from_words p agree job input outside m c s reached i = by reached.steps reached.taken (λ j q. q)
   where

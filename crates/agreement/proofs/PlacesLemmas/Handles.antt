@@ -1,7 +1,7 @@
 -- So on a run: a name to which the command line has not assigned has no handle where a statement begins.
 use Rattle.std.proofs.Common.{◌≡◌, inl, inr, ℕ, zero, suc, ◌+◌, Bool, true, false, ◌&&◌, nat_eq, List, [], ◌∷◌, ◌++◌, drop, slice_get, Some, None, refl, sym, ap, ◌∙◌, arith, subst}
 use Rattle.std.proofs.lemmas.Bool.{and_parts, eqb-true}
-use Rattle.sem_primitives.specs.Jobs.{JobForm, Surroundings}
+use Rattle.sem_primitives.specs.Jobs.{JobForm, Environment}
 use Rattle.world_core.specs.WorldState.{Action, Source}
 use Rattle.wasm_store.specs.declared.word.Word.{Word}
 use Rattle.wasm_store.specs.declared.word.Word.TheVariants.{I32, I64}
@@ -11,7 +11,7 @@ use Rattle.wasm_model.specs.Machines as real
 use Rattle.wasm_model.specs.Runs.{MachineForm, Steps}
 use Rattle.host_step.specs.HostState.{HostState, Names}
 use Rattle.host_step.specs.Starts.{state_in}
-use Rattle.mid_program.specs.Mid.{Kind, Boxed, Unboxed, Many, Program}
+use Rattle.mid_program.specs.Mid.{Kind, Boxed, Unboxed, ArrayKind, Program}
 use Rattle.sem_scripts.specs.ScriptRun.{Setting, setting_in}
 use Rattle.mid_program.specs.Sorted.{has_kind, kinds_of}
 use Rattle.lower_model.specs.Cells.{Cell, Bits, Held, IteratorOf, OwnedArray, LentArray, Gone, cell_at, globals_by, is_bare, is_bare_handle, is_word, iterators_in, mark_fits, marks_fit, tidy_locals, tidy_name}
@@ -32,7 +32,7 @@ use Rattle.agreement.proofs.RefinedLemmas.Running.{steps_as, taken_as}
 use Rattle.agreement.specs.Modules.ValueAgreement.{ValueAgreement}
 use Rattle.agreement.proofs.ModulesLemmas.Stores.{InStore, store_there}
 use Rattle.agreement.specs.Places.Assigned.{IsAssigned, IsPending, Somewhere}
-use Rattle.agreement.specs.Places.Kept.{Reached, begins_statement}
+use Rattle.agreement.specs.Places.NoLeaks.{Reached, begins_statement}
 use Rattle.agreement.proofs.PlacesLemmas.Assigning.{Asks, Told, step_told}
 use Rattle.agreement.proofs.PlacesLemmas.Keeping.{alive, begins_same, no_look, settled_nop, tidy_there}
 
@@ -101,7 +101,7 @@ module _ (made : ℕ) (N : Names) where
   names_without (x ∷ ks) (c ∷ (n ∷ cs)) (w ∷ (z ∷ ws)) a e (suc i) (suc (suc j)) q k b =
       names_without ks cs ws a.1.1 (and_parts (mark_fits x c n) (marks_fit ks cs) e).1 i j (omega (arith, q)) k b
   names_without (Boxed ∷ ks) (c ∷ (n ∷ cs)) (w ∷ (z ∷ ws)) a e zero zero q k b = cc
-  names_without (Many ∷ ks) (c ∷ (n ∷ cs)) (w ∷ (z ∷ ws)) a e zero zero q k b = cc
+  names_without (ArrayKind ∷ ks) (c ∷ (n ∷ cs)) (w ∷ (z ∷ ws)) a e zero zero q k b = cc
   names_without (Unboxed ∷ ks) (c ∷ (n ∷ cs)) (w ∷ (z ∷ ws)) a e zero zero q k b =
       ap Some (no_handle c n w (and_parts (mark_fits Unboxed c n) (marks_fit ks cs) e).0 b (a.0, tt))
 
@@ -162,7 +162,7 @@ module _ (p : Program) (T : ℕ → Type 0) where
   there Stuck c s a told alive-is e i k not = absurd (alive-is refl)
 
 -- NO HANDLE: wherever a run comes to a statement
-pub unassigned : (p : Program) → ValueAgreement p → (job : JobForm) (input : Source) (outside : Surroundings) (m : MachineForm) (c : real.Conf) (s : HostState) (reached : Reached (module_of p) job input outside m c s) →
+pub unassigned : (p : Program) → ValueAgreement p → (job : JobForm) (input : Source) (outside : Environment) (m : MachineForm) (c : real.Conf) (s : HostState) (reached : Reached (module_of p) job input outside m c s) →
     begins_statement c.frame.code ≡ true → (i : ℕ) → has_kind (kinds_of p.globals) i Unboxed ≡ true → (IsAssigned reached i → ⊥) → slice_get c.globals (handle_global p.ranges i) ≡ Some (I32 minus_one)
 unassigned p agree job input outside m c s reached e i k not = by reached.steps reached.taken (λ j q. q)
   where

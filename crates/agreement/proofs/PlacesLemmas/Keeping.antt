@@ -2,7 +2,7 @@
 use Rattle.std.proofs.Common.{◌≡◌, inl, inr, ℕ, zero, suc, ◌+◌, ◌^◌, ◌≤◌, Bool, true, false, ◌&&◌, nat_eq, List, [], ◌∷◌, drop, length, Some, refl, sym, ap, ◌∙◌, subst, arith}
 use Rattle.std.specs.List.{All}
 use Rattle.std.proofs.lemmas.Bool.{and_parts, eqb-true}
-use Rattle.sem_primitives.specs.Jobs.{JobForm, Surroundings}
+use Rattle.sem_primitives.specs.Jobs.{JobForm, Environment}
 use Rattle.sem_primitives.specs.declared.sorts.Sort.{Sort}
 use Rattle.sem_primitives.specs.declared.sorts.Sort.TheVariants as sort
 use Rattle.world_core.specs.WorldState.{Source}
@@ -36,7 +36,7 @@ use Rattle.agreement.proofs.RefinedLemmas.Room.{total}
 use Rattle.agreement.proofs.RefinedLemmas.Running.{steps_as}
 use Rattle.agreement.proofs.RefinedLemmas.Stepping.{step_as}
 use Rattle.agreement.specs.Modules.ValueAgreement.{ValueAgreement}
-use Rattle.agreement.specs.Places.Kept.{AtReturn, AtStatement, BareParameters, CallersWait, LocalsHold, Reached, begins_statement, boxed}
+use Rattle.agreement.specs.Places.NoLeaks.{AtReturn, AtStatement, BareParameters, CallersWait, LocalsHold, Reached, begins_statement, boxed}
 use Rattle.agreement.proofs.PlacesLemmas.Begun.{OfFunction, fits_on, some_within}
 use Rattle.agreement.proofs.PlacesLemmas.Counting.{ending_globals, exact_globals, global_arrays, global_arrays_are, global_iterators, global_values, globals_may, held, held_waiting, holders_same, local_arrays, local_iterators, local_values, tidy_globals, tidy_held, waiting_same}
 use Rattle.agreement.proofs.PlacesLemmas.Fitting.{Fits}
@@ -252,7 +252,7 @@ module _ (p : Program) where
 
   -- Whole runs.
 
-  module _ (agree : ValueAgreement p) (job : JobForm) (input : Source) (outside : Surroundings) (m : MachineForm) (c : real.Conf) (s : HostState) (reached : Reached (module_of p) job input outside m c s) where
+  module _ (agree : ValueAgreement p) (job : JobForm) (input : Source) (outside : Environment) (m : MachineForm) (c : real.Conf) (s : HostState) (reached : Reached (module_of p) job input outside m c s) where
     abbrev set : Setting
     set = setting_in job input outside
 

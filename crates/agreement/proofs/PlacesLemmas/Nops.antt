@@ -24,7 +24,7 @@ use Rattle.mid_program.specs.declared.mid.Operation.{Operation}
 use Rattle.mid_program.specs.declared.mid.Operation.TheVariants.{Host, Inline, AsNumber, FieldNumber}
 use Rattle.mid_program.specs.MidMeaning.{three_values}
 use Rattle.sem_scripts.specs.Names.{ArrayName, Numbered, Given}
-use Rattle.mid_program.specs.Mid.{Kind, Boxed, Unboxed, Many, Slot, Global, Parameter, Code, Do, Over, Compare, Call, Ask, AskLine, FileLine, Replace, Number, Text, Unset, Get, Set, Array, IsOpen, Choose, Seq, Let, Bound, Codes, End, At, Fixed, Fresh, Form, Answered, Bare, Perhaps, a_value, form_of, form_at, arguments, parameters_at}
+use Rattle.mid_program.specs.Mid.{Kind, Boxed, Unboxed, ArrayKind, Slot, Global, Parameter, Code, Do, Over, Compare, Call, Ask, AskLine, FileLine, Replace, Number, Text, Unset, Get, Set, Array, IsOpen, Choose, Seq, Let, Bound, Codes, End, At, Fixed, Fresh, Form, PrimitiveAnswer, NumberOrText, OptionalNumber, a_value, form_of, form_at, arguments, parameters_at}
 use Rattle.mid_program.specs.Sorted.{count_of}
 use Rattle.lower_model.specs.Arithmetic.{calculated, compared, field_checked, is_value, may_be_text, numbers_compared, texts_beside, values_compared, zeroed_if}
 use Rattle.lower_model.specs.Boundaries.{is_nop}
@@ -33,10 +33,10 @@ use Rattle.host_imports.specs.Imports.{import_count, import_number, imports}
 use Rattle.lower_model.specs.Machine.{answers_to}
 use Rattle.lower_model.specs.Places.{Bases, made_in, handle_local, number_local}
 use Rattle.lower_model.specs.Quick.{Holder, OfName, OfParameter, Source, Held, Constant, joined, all_unsure, Addition, addition_names, addition_in}
-use Rattle.lower_model.specs.Small.{answer_kept, ask_row, bound_from, boxed_perhaps, code_number, converted, does, either, kept, kept_code, kept_done, kept_number, kept_value, moved_from, number_is, released, to_number, to_value, truth, unused, when}
+use Rattle.lower_model.specs.Small.{answer_kept, ask_row, bound_from, boxed_perhaps, code_number, converted, emit, emit_if, kept, kept_code, kept_done, kept_number, kept_value, moved_from, number_is, released, to_number, to_value, truth, unused, when}
 use Rattle.lower_model.specs.Statements.{again}
 use Rattle.host_imports.specs.declared.import.Import.{Import}
-use Rattle.host_imports.specs.declared.import.Import.TheVariants.{Of}
+use Rattle.host_imports.specs.declared.import.Import.TheVariants.{OfPrimitive}
 use Rattle.lower_model.proofs.Calls.{import_found}
 use Rattle.agreement.specs.Places.Statements.{starts_in}
 use Rattle.agreement.proofs.PlacesLemmas.Pending.{AllFew, Few, Limit, calls_fit, last_local, simple_fits}
@@ -63,17 +63,17 @@ no_call : (l : Limit) (i : Simple) (k : Instructions) → is_plain i ≡ true �
 no_call l (CallOf n) k e = ap (λ b. cond b true (nat_le (answers_to k) (last_local l))) e
 no_call l i k e = refl
 
-passes : (i : Simple) (k : Instructions) → is_plain i ≡ true → starts_in (does i k) ≡ starts_in k
-passes i k e = ap (λ n. cond (nat_eq n 0) [] (does i k ∷ []) ++ starts_in k) (is_no_place i e)
+passes : (i : Simple) (k : Instructions) → is_plain i ≡ true → starts_in (emit i k) ≡ starts_in k
+passes i k e = ap (λ n. cond (nat_eq n 0) [] (emit i k ∷ []) ++ starts_in k) (is_no_place i e)
 
-pub plain : {l : Limit} {k : Instructions} {m : List Instructions} (i : Simple) → is_plain i ≡ true → Nops l k m → Nops l (does i k) m
+pub plain : {l : Limit} {k : Instructions} {m : List Instructions} (i : Simple) → is_plain i ≡ true → Nops l k m → Nops l (emit i k) m
 plain {l = l} {k = k} i e r = record { are = passes i k e ∙ r.are; calls = λ z. and_from (simple_fits l i k) (calls_fit l k) (no_call l i k e) (r.calls z) }
 
 -- imports come before functions
 import_low : (i : Import) → is_plain (CallOf (import_number i)) ≡ true
 import_low i = lt-ltb (import_number i) import_count (slice_get_within imports (import_number i) i (import_found i))
 
-pub choice : {l : Limit} {a c k : Instructions} {m : List Instructions} → Nops l a [] → Nops l c [] → Nops l k m → Nops l (either a c k) m
+pub choice : {l : Limit} {a c k : Instructions} {m : List Instructions} → Nops l a [] → Nops l c [] → Nops l k m → Nops l (emit_if a c k) m
 choice {l = l} {a = a} {c = c} {k = k} a0 c0 r = record {
   are = ap₂ (λ x y. (x ++ y) ++ starts_in k) a0.are c0.are ∙ r.are;
   calls = λ z. and_from (calls_fit l a && calls_fit l c) (calls_fit l k) (and_from (calls_fit l a) (calls_fit l c) (a0.calls z) (c0.calls z)) (r.calls z);
@@ -114,14 +114,14 @@ module _ {l : Limit} (b : Bases) {k : Instructions} {m : List Instructions} wher
   kept_nops f a t d r = r
 
   pub to_value_nops : (f : Form) (t : ℕ) → Nops l k m → Nops l (to_value b f t k) m
-  to_value_nops (Answered (answer.Of sort.Value)) t r = r
+  to_value_nops (PrimitiveAnswer (answer.Of sort.Value)) t r = r
   to_value_nops f t r = record { are = r.are; calls = r.calls }
 
   code_number_nops : (t : ℕ) → Nops l k m → Nops l (code_number b t k) m
   code_number_nops t r = record { are = r.are; calls = r.calls }
 
   pub to_number_nops : (f : Form) (t d : ℕ) → Nops l k m → Nops l (to_number b f t d k) m
-  to_number_nops (Answered (answer.Of sort.Value)) t d r = record { are = r.are; calls = r.calls }
+  to_number_nops (PrimitiveAnswer (answer.Of sort.Value)) t d r = record { are = r.are; calls = r.calls }
   to_number_nops f t d r = record { are = r.are; calls = r.calls }
 
   converted_nops : (f : Form) (s : Sort) (t d : ℕ) → Nops l k m → Nops l (converted b f s t d k) m
@@ -130,21 +130,21 @@ module _ {l : Limit} (b : Bases) {k : Instructions} {m : List Instructions} wher
   converted_nops f s t d r = r
 
   truth_nops : (f : Form) (t : ℕ) → Nops l k m → Nops l (truth b f t k) m
-  truth_nops (Answered (answer.Of sort.Value)) t r = record { are = r.are; calls = r.calls }
+  truth_nops (PrimitiveAnswer (answer.Of sort.Value)) t r = record { are = r.are; calls = r.calls }
   truth_nops f t r = record { are = r.are; calls = r.calls }
 
   unused_nops : (f : Form) (t : ℕ) → Nops l k m → Nops l (unused b f t k) m
-  unused_nops (Answered (answer.Of sort.Value)) t r = record { are = r.are; calls = r.calls }
+  unused_nops (PrimitiveAnswer (answer.Of sort.Value)) t r = record { are = r.are; calls = r.calls }
   unused_nops f t r = record { are = r.are; calls = r.calls }
 
   released_nops : (f : Form) (t : ℕ) → Nops l k m → Nops l (released b f t k) m
-  released_nops (Answered (answer.Of sort.Value)) t r = record { are = r.are; calls = r.calls }
+  released_nops (PrimitiveAnswer (answer.Of sort.Value)) t r = record { are = r.are; calls = r.calls }
   released_nops f t r = record { are = r.are; calls = r.calls }
 
   bound_nops : (z : Bool) (f : Form) (s t : ℕ) → Nops l k m → Nops l (bound_from b z f s t k) m
-  bound_nops true (Answered (answer.Of sort.Value)) s t r = record { are = r.are; calls = r.calls }
+  bound_nops true (PrimitiveAnswer (answer.Of sort.Value)) s t r = record { are = r.are; calls = r.calls }
   bound_nops true f s t r = record { are = r.are; calls = r.calls }
-  bound_nops false (Answered (answer.Of sort.Value)) s t r = record { are = r.are; calls = r.calls }
+  bound_nops false (PrimitiveAnswer (answer.Of sort.Value)) s t r = record { are = r.are; calls = r.calls }
   bound_nops false f s t r = record { are = r.are; calls = r.calls }
 
   moved_nops : (f : Form) (s t : ℕ) → Nops l k m → Nops l (moved_from b f s t k) m
@@ -158,12 +158,12 @@ module _ {l : Limit} (b : Bases) {k : Instructions} {m : List Instructions} wher
   field_nops t d r = record { are = r.are; calls = r.calls }
 
   zeroed_nops : (f : Form) (t : ℕ) → Nops l k m → Nops l (zeroed_if b f t k) m
-  zeroed_nops Bare t r = record { are = r.are; calls = r.calls }
+  zeroed_nops NumberOrText t r = record { are = r.are; calls = r.calls }
   zeroed_nops f t r = record { are = r.are; calls = r.calls }
 
   beside_nops : (f g : Form) (t : ℕ) → Nops l k m → Nops l (texts_beside b f g t k) m
-  beside_nops Bare Bare t r = record { are = r.are; calls = r.calls }
-  beside_nops Bare g t r = record { are = r.are; calls = r.calls }
+  beside_nops NumberOrText NumberOrText t r = record { are = r.are; calls = r.calls }
+  beside_nops NumberOrText g t r = record { are = r.are; calls = r.calls }
   beside_nops f g t r = record { are = r.are; calls = r.calls }
 
 module _ {l : Limit} (b : Bases) {k : Instructions} {m : List Instructions} where
@@ -212,9 +212,9 @@ module _ (y : Layout) (asks : Bool) (most : ℕ) where
 
   module _ {k : Instructions} {m : List Instructions} where
     stored_nops : (o : Bool) (f : Form) (t : ℕ) (put : Simple) → is_plain put ≡ true → Nops l k m → Nops l (value_stored y o f t put k) m
-    stored_nops o (Answered (answer.Of sort.Value)) t put e r = handle_nops o t put e r
-    stored_nops o Bare t put e r = plain _ refl (plain _ refl (plain _ refl (choice (handle_nops o t put e none) (perhaps_nops t put e none) r)))
-    stored_nops o Perhaps t put e r = perhaps_nops t put e r
+    stored_nops o (PrimitiveAnswer (answer.Of sort.Value)) t put e r = handle_nops o t put e r
+    stored_nops o NumberOrText t put e r = plain _ refl (plain _ refl (plain _ refl (choice (handle_nops o t put e none) (perhaps_nops t put e none) r)))
+    stored_nops o OptionalNumber t put e r = perhaps_nops t put e r
     stored_nops o f t put e r = let x = plain put e r in record { are = x.are; calls = x.calls }
 
   module _ {k : Instructions} {m : List Instructions} where
@@ -227,11 +227,11 @@ module _ (y : Layout) (asks : Bool) (most : ℕ) where
     assigned_nops : (kind : Kind) (i t : ℕ) → Nops l k m → Nops l (assigned y kind i t k) m
     assigned_nops Boxed i t r = record { are = r.are; calls = r.calls }
     assigned_nops Unboxed i t r = record { are = r.are; calls = r.calls }
-    assigned_nops Many i t r = r
+    assigned_nops ArrayKind i t r = r
 
   by_number_nops : {k : Instructions} {m : List Instructions} (ks : List Kind) (i t : ℕ) → Nops l k m → Nops l (assigned_by_number y ks i t k) m
   by_number_nops [] i t r = r
-  by_number_nops (Many ∷ ks) i t r = by_number_nops ks (suc i) t r
+  by_number_nops (ArrayKind ∷ ks) i t r = by_number_nops ks (suc i) t r
   by_number_nops (Boxed ∷ ks) i t r = plain _ refl (plain _ refl (plain _ refl (choice (assigned_nops Boxed i t none) none (by_number_nops ks (suc i) t r))))
   by_number_nops (Unboxed ∷ ks) i t r = plain _ refl (plain _ refl (plain _ refl (choice (assigned_nops Unboxed i t none) none (by_number_nops ks (suc i) t r))))
 
@@ -243,8 +243,8 @@ module _ (y : Layout) (asks : Bool) (most : ℕ) where
     pub asked_nops : (p : Primitive) (t d : ℕ) → Nops l k m → Nops l (asked y p t d k) m
     asked_nops p t d r = rounds asking r
       where
-        asking : Nops l (ask_row p (kept_code b true t (suc d) (number_is (number_local b t) 2 (when (pending_assigned y t (does (Br 1) Done)) Done)))) []
-        asking = plain _ (import_low (Of p)) (kept_code_nops b true t (suc d) (plain _ refl (plain _ refl (plain _ refl (choice (pending_nops t (plain (Br 1) refl none)) none none)))))
+        asking : Nops l (ask_row p (kept_code b true t (suc d) (number_is (number_local b t) 2 (when (pending_assigned y t (emit (Br 1) Done)) Done)))) []
+        asking = plain _ (import_low (OfPrimitive p)) (kept_code_nops b true t (suc d) (plain _ refl (plain _ refl (plain _ refl (choice (pending_nops t (plain (Br 1) refl none)) none none)))))
 
   converts_nops : {k : Instructions} {m : List Instructions} (fs : List Form) (given : List Argument) (es : Codes) (t d : ℕ) → Nops l k m → Nops l (all_converted y fs given es t d k) m
   converts_nops fs (argument.Of s ∷ rest) (At e es) t d r = converted_nops b (form_of fs e) s t d (converts_nops fs rest es (suc t) d r)
@@ -265,7 +265,7 @@ module _ (y : Layout) (asks : Bool) (most : ℕ) where
 
   module _ {k : Instructions} {m : List Instructions} where
     performed_nops : (o : Operation) (es : Codes) (t d : ℕ) → Nops l k m → Nops l (performed y o es t d k) m
-    performed_nops (Host p) es t d r = pushes_nops (arguments_of p) es t (plain _ (import_low (Of p)) (kept_nops b (can_fault p) (answer_of p) t d r))
+    performed_nops (Host p) es t d r = pushes_nops (arguments_of p) es t (plain _ (import_low (OfPrimitive p)) (kept_nops b (can_fault p) (answer_of p) t d r))
     performed_nops (Inline a) es t d r = calculated_nops b a t d r
     performed_nops AsNumber es t d r = r
     performed_nops FieldNumber es t d r = field_nops b t d r
@@ -294,7 +294,7 @@ module _ (y : Layout) (asks : Bool) (most : ℕ) where
     one_nops : (kind : Kind) (e : Code) (t : ℕ) → Nops l k m → Nops l (one_given y kind e t k) m
     one_nops Boxed e t r = record { are = r.are; calls = r.calls }
     one_nops Unboxed e t r = record { are = r.are; calls = r.calls }
-    one_nops Many e t r = array_nops (array_meant e) r
+    one_nops ArrayKind e t r = array_nops (array_meant e) r
 
   given_pushed_nops : {k : Instructions} {m : List Instructions} (ks : List Kind) (es : Codes) (t w : ℕ) → Nops l k m → Nops l (all_given_pushed y ks es t w k) m
   given_pushed_nops (kind ∷ ks) (At e es) t w r = one_nops kind e t (given_pushed_nops ks es (suc t) w r)
@@ -344,10 +344,10 @@ module _ (y : Layout) (asks : Bool) (most : ℕ) where
     text_nops fs s t r = left_nops s (form_of (a_value ∷ fs) s) (suc (suc t)) (record { are = r.are; calls = r.calls })
 
   line_nops : {k : Instructions} (p : Primitive) (t : ℕ) → Nops l k [] → Nops l (text_kept y p t k) []
-  line_nops p t r = plain _ (import_low (Of p)) (plain _ refl r)
+  line_nops p t r = plain _ (import_low (OfPrimitive p)) (plain _ refl r)
 
   -- a function is called, and its value goes to a temporary within the limit
-  function_nops : {k : Instructions} {m : List Instructions} (f t d : ℕ) → (asks ≡ true → t ≤ most) → Nops l k m → Nops l (does (CallOf (function_number f)) (answer_kept b t d k)) m
+  function_nops : {k : Instructions} {m : List Instructions} (f t d : ℕ) → (asks ≡ true → t ≤ most) → Nops l k m → Nops l (emit (CallOf (function_number f)) (answer_kept b t d k)) m
   function_nops {k = k} f t d lo r = record {
     are = r.are;
     calls = λ z. and_from (simple_fits l (CallOf (function_number f)) (answer_kept b t d k)) (calls_fit l k)
@@ -358,7 +358,7 @@ module _ (y : Layout) (asks : Bool) (most : ℕ) where
   -- What is read without a handle, and sums of such.
 
   -- a holder's number is read
-  pub holder_nops : {k : Instructions} {m : List Instructions} (h : Holder) → Nops l k m → Nops l (does (name_read y h) k) m
+  pub holder_nops : {k : Instructions} {m : List Instructions} (h : Holder) → Nops l k m → Nops l (emit (name_read y h) k) m
   holder_nops (OfName i) r = plain _ refl r
   holder_nops (OfParameter i) r = plain _ refl r
 

@@ -2,7 +2,7 @@
 use Rattle.std.proofs.Common.{◌≡◌, ◌≢◌, ℕ, zero, suc, List, Option, Some, None, refl, sym, ap, ◌∙◌, subst, arith}
 use Rattle.std.specs.Int.{cast_signed, w32}
 use Rattle.awk_values.specs.declared.fault.Fault.{Fault}
-use Rattle.sem_primitives.specs.Jobs.{JobForm, Surroundings}
+use Rattle.sem_primitives.specs.Jobs.{JobForm, Environment}
 use Rattle.world_core.specs.WorldState.{Action, Source}
 use Rattle.wasm_types.specs.Typing.{ModuleOk}
 use Rattle.wasm_store.specs.declared.word.Word.TheVariants.{I32, I64}
@@ -92,7 +92,7 @@ module _ (p : Program) (sorted : IsSorted p) (small : IsSmall p) where
   program_ok : ProgramOk (program p)
   program_ok = record { typed = typed; numbered = numbered host_finds (program p) (numbers_are p) }
 
-  module _ (agree : ValueAgreement p) (job : JobForm) (input : Source) (outside : Surroundings) where
+  module _ (agree : ValueAgreement p) (job : JobForm) (input : Source) (outside : Environment) where
     abbrev start : HostState
     start = state_in job input outside
 
@@ -127,5 +127,5 @@ module _ (p : Program) (sorted : IsSorted p) (small : IsSmall p) where
             )
 
 -- THE MODULE RUNS
-pub has_runs : (p : Program) → IsSorted p → IsSmall p → ValueAgreement p → (job : JobForm) (input : Source) (outside : Surroundings) → HasRuns (module_of p) job input outside
+pub has_runs : (p : Program) → IsSorted p → IsSmall p → ValueAgreement p → (job : JobForm) (input : Source) (outside : Environment) → HasRuns (module_of p) job input outside
 has_runs p sorted small agree job input outside steps = there p sorted small agree job input outside steps

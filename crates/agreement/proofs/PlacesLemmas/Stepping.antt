@@ -9,7 +9,7 @@ use Rattle.wasm_types.specs.Syntax.{Instruction, Plain, BrTable, Block, Loop as 
 use Rattle.wasm_types.specs.declared.instr.IBinOp.{IBinOp}
 use Rattle.wasm_types.specs.declared.instr.Simple.{Simple}
 use Rattle.wasm_types.specs.declared.instr.Simple.TheVariants.{Br, BrIf, Nop}
-use Rattle.mid_program.specs.Mid.{Kind, Boxed, Unboxed, Many, Parameter, Code, Get, Step, Eval, Block as Steps_, If as Either, Loop, Each, Break, Continue, Next, Exit, ExitWith, Return, Mark, Steps, NoStep, Then as AndThen, Program, Routine, Choose, Form, Answered, Bare, Perhaps, a_value, form_of}
+use Rattle.mid_program.specs.Mid.{Kind, Boxed, Unboxed, ArrayKind, Parameter, Code, Get, Step, Eval, Block as Steps_, If as Either, Loop, Each, Break, Continue, Next, Exit, ExitWith, Return, Mark, Steps, NoStep, Then as AndThen, Program, Routine, Choose, Form, PrimitiveAnswer, NumberOrText, OptionalNumber, a_value, form_of}
 use Rattle.sem_scripts.specs.Names.{ArrayName}
 use Rattle.lower_model.specs.Boundaries.{is_nop, nops_in, nops_of, step_places, steps_places}
 use Rattle.lower_model.specs.Emission.{Layout, field_at, tested}
@@ -17,7 +17,7 @@ use Rattle.lower_model.specs.Functions.{layout_of, main_bases, main_callee, rout
 use Rattle.lower_model.specs.Noted.{routine_rest}
 use Rattle.lower_model.specs.Places.{Bases}
 use Rattle.lower_model.specs.Quick.{Within, test_within, Source, Holder, OfName, OfParameter, Held, Constant, Sum, sum_names, sum_op, sum_in, Update, update_in, Tally, tally_in, Remainder, remainder_in, remainder_names, multiplied, Counted, counted_in, Pair, pair_names, pair_in, step_jumps, is_nothing}
-use Rattle.lower_model.specs.Small.{does, either}
+use Rattle.lower_model.specs.Small.{emit, emit_if}
 use Rattle.lower_model.specs.Statements.{name_numbered, source_numbered, source_taken, sum_kept, sum_taken, summed_anyway, both_asked, element_numbered, element_given, remainder_taken, remainder_dropped, barely_dropped, plainly_dropped, quickly_dropped, left_unless_counted, left_unless_pair, left_unless, all_emptied, arrays_emptied, arrays_swept, before_parts, block, first_part, goes_on, has_functions, iterator_left, iterators_emptied, iterators_swept, key_stored, left_by, left_swept, main_body, names_declared, names_made, parameters_dropped, part_done, record_done, records_read, routine_body, routines_declared, started, step_emitted, steps_emitted, swept, temporaries_emptied, temporaries_swept, answer_given, returned, name_put, counted_left}
 use Rattle.lower_model.proofs.Tallies.{Shape, Updating, Following, Leading, tally_code, IsAdded, tally_is}
 use Rattle.lower_model.proofs.Updating.{added_is}
@@ -25,13 +25,13 @@ use Rattle.agreement.specs.Places.Statements.{main_places, main_starts, routine_
 use Rattle.agreement.proofs.PlacesLemmas.Nops.{Nops, holder_nops, all_nops, source_nops, array_nops, asked_nops, choice, dropped_nops, emitted_nops, kept_code_nops, kept_number_nops, none, pending_nops, plain, rounds, tested_nops, to_number_nops, to_value_nops, whichever}
 use Rattle.agreement.proofs.PlacesLemmas.Pending.{Few, Limit, PartsFew, StepFew, StepsFew, calls_fit, limit_of}
 
-begun : {l : Limit} {k : Instructions} {m : List Instructions} → Nops l k m → Nops l (does Nop k) (does Nop k ∷ m)
-begun {k = k} r = record { are = ap (λ x. does Nop k ∷ x) r.are; calls = r.calls }
+begun : {l : Limit} {k : Instructions} {m : List Instructions} → Nops l k m → Nops l (emit Nop k) (emit Nop k ∷ m)
+begun {k = k} r = record { are = ap (λ x. emit Nop k ∷ x) r.are; calls = r.calls }
 
 within : {l : Limit} {a k : Instructions} {p m : List Instructions} → Nops l a p → Nops l k m → Nops l (block a k) (p ++ m)
 within a r = let x = rounds a r in record { are = x.are; calls = x.calls }
 
-branches : {l : Limit} {a c k : Instructions} {p q m : List Instructions} → Nops l a p → Nops l c q → Nops l k m → Nops l (either a c k) ((p ++ q) ++ m)
+branches : {l : Limit} {a c k : Instructions} {p q m : List Instructions} → Nops l a p → Nops l c q → Nops l k m → Nops l (emit_if a c k) ((p ++ q) ++ m)
 branches a c r = let x = rounds (rounds a c) r in record { are = ap₂ (λ x y. x ++ y) (ap₂ (λ x y. x ++ y) a.are c.are) r.are; calls = x.calls }
 
 as_listed : {l : Limit} {k : Instructions} {m j : List Instructions} → Nops l k m → m ≡ j → Nops l k j
@@ -89,7 +89,7 @@ module _ (y : Layout) (asks : Bool) (most : ℕ) where
   -- Quick ways.
 
   -- a holder's number is written
-  put_nops : {k : Instructions} {m : List Instructions} (h : Holder) → Nops l k m → Nops l (does (name_put y h) k) m
+  put_nops : {k : Instructions} {m : List Instructions} (h : Holder) → Nops l k m → Nops l (emit (name_put y h) k) m
   put_nops (OfName i) r = plain _ refl r
   put_nops (OfParameter i) r = plain _ refl r
 
@@ -184,11 +184,11 @@ module _ (y : Layout) (asks : Bool) (most : ℕ) where
   -- `return`
 
   answer_nops : {k : Instructions} {m : List Instructions} (f : Form) (d : ℕ) → Nops l k m → Nops l (answer_given y f d k) m
-  answer_nops (Answered (answer.Of sort.Value)) d r = record { are = r.are; calls = r.calls }
-  answer_nops (Answered (answer.Of sort.Number)) d r = record { are = r.are; calls = r.calls }
-  answer_nops (Answered answer.Truth) d r = record { are = r.are; calls = r.calls }
-  answer_nops Bare d r = record { are = r.are; calls = r.calls }
-  answer_nops Perhaps d r = record { are = r.are; calls = r.calls }
+  answer_nops (PrimitiveAnswer (answer.Of sort.Value)) d r = record { are = r.are; calls = r.calls }
+  answer_nops (PrimitiveAnswer (answer.Of sort.Number)) d r = record { are = r.are; calls = r.calls }
+  answer_nops (PrimitiveAnswer answer.Truth) d r = record { are = r.are; calls = r.calls }
+  answer_nops NumberOrText d r = record { are = r.are; calls = r.calls }
+  answer_nops OptionalNumber d r = record { are = r.are; calls = r.calls }
   answer_nops f d r = record { are = r.are; calls = r.calls }
 
   returned_nops : {k : Instructions} {m : List Instructions} (e : Code) (d : ℕ) → (asks ≡ true → Few most zero e) → Nops l k m → Nops l (returned y e d k) m
@@ -276,7 +276,7 @@ module _ (y : Layout) (asks : Bool) (most : ℕ) where
   parameters_nops x [] r = r
   parameters_nops x (Boxed ∷ ks) r = plain _ refl (plain _ refl (parameters_nops (suc x) ks r))
   parameters_nops x (Unboxed ∷ ks) r = parameters_nops (suc x) ks r
-  parameters_nops x (Many ∷ ks) r = parameters_nops (suc x) ks r
+  parameters_nops x (ArrayKind ∷ ks) r = parameters_nops (suc x) ks r
 
   routine_nops : (ks : List Kind) (body : Steps) → (asks ≡ true → StepsFew most body) → Nops l (routine_body y ks body) (steps_starts y body zero zero zero zero (routine_rest b))
   routine_nops ks body lo =
@@ -297,7 +297,7 @@ module _ (y : Layout) (asks : Bool) (most : ℕ) where
   made_nops i [] r = r
   made_nops i (Boxed ∷ ks) r = plain _ refl (plain _ refl (made_nops (suc i) ks r))
   made_nops i (Unboxed ∷ ks) r = made_nops (suc i) ks r
-  made_nops i (Many ∷ ks) r = plain _ refl (plain _ refl (made_nops (suc i) ks r))
+  made_nops i (ArrayKind ∷ ks) r = plain _ refl (plain _ refl (made_nops (suc i) ks r))
 
   module _ {k : Instructions} {m : List Instructions} where
     started_nops : Nops l k m → Nops l (started y k) m
@@ -307,7 +307,7 @@ module _ (y : Layout) (asks : Bool) (most : ℕ) where
     goes_nops r = plain _ refl (plain _ refl (left_swept_nops (has_functions y.calls) r))
 
   module _ {k : Instructions} {m : List Instructions} where
-    record_nops : (items : Steps) (d : ℕ) → (asks ≡ true → StepsFew most items) → Nops l k m → Nops l (record_done y items d k) (steps_starts y items zero zero zero zero (does (Br 1) Done) ++ m)
+    record_nops : (items : Steps) (d : ℕ) → (asks ≡ true → StepsFew most items) → Nops l k m → Nops l (record_done y items d k) (steps_starts y items zero zero zero zero (emit (Br 1) Done) ++ m)
     record_nops items d lo r =
         within (alone (within (alone (steps_nops items zero zero zero zero lo (plain _ refl none))) (plain _ refl (plain _ refl (plain _ refl (plain _ refl (goes_nops none))))))) r
 
@@ -317,7 +317,7 @@ module _ (y : Layout) (asks : Bool) (most : ℕ) where
         (choice (plain _ refl (plain _ refl (plain _ refl none))) none (goes_nops none)))))))))) r
 
   module _ {k : Instructions} {m : List Instructions} where
-    records_nops : (items : Steps) (d : ℕ) → (asks ≡ true → StepsFew most items) → Nops l k m → Nops l (records_read y items d k) (steps_starts y items zero zero zero zero (does (Br 1) Done) ++ m)
+    records_nops : (items : Steps) (d : ℕ) → (asks ≡ true → StepsFew most items) → Nops l k m → Nops l (records_read y items d k) (steps_starts y items zero zero zero zero (emit (Br 1) Done) ++ m)
     records_nops items d lo r =
         rounds (plain _ refl (kept_code_nops b true zero (suc d) (plain _ refl (plain _ refl (plain _ refl
         (alone (alone (branches (alone (record_nops items (suc (suc d)) lo (plain _ refl none))) none (plain _ refl (plain _ refl (plain _ refl
@@ -329,7 +329,7 @@ module _ (y : Layout) (asks : Bool) (most : ℕ) where
         (made_nops zero y.names (asked_nops y asks most row.StartAssign zero zero r))))
 
   abbrev out : Instructions
-  out = does (Br 1) Done
+  out = emit (Br 1) Done
 
   first_nops : (p : Program) → (asks ≡ true → PartsFew most p) →
       Nops l (first_part y p) (steps_starts y p.begin zero zero zero zero (if p.reads then records_read y p.items zero out else out) ++ (if p.reads then steps_starts y p.items zero zero zero zero out else []))
@@ -395,16 +395,16 @@ module _ (y : Layout) where
     step_counted (Steps_ ss) u d bk ct k = let r = steps_counted ss u d bk ct k in omega (arith, r)
     step_counted (Either e a c) u d bk ct k =
         ap suc (both_counted _ _
-        (one_counted (is_some (pair_in e)) _ _ (step_counted a u (suc (suc d)) (suc (suc bk)) (suc (suc ct)) (does (Br 1) Done)) (step_counted a u (suc d) (suc bk) (suc ct) Done))
+        (one_counted (is_some (pair_in e)) _ _ (step_counted a u (suc (suc d)) (suc (suc bk)) (suc (suc ct)) (emit (Br 1) Done)) (step_counted a u (suc d) (suc bk) (suc ct) Done))
         (step_counted c u (suc d) (suc bk) (suc ct) Done))
     step_counted (Loop true e a c) u d bk ct k =
-        let after = does (Br zero) Done in
+        let after = emit (Br zero) Done in
         let rest = if is_nothing c then after else step_emitted y c u (suc (suc d)) 1 zero after in
         ap suc (both_counted _ _
         (one_counted (step_jumps a) _ _ (step_counted a u (suc (suc (suc d))) 2 zero Done) (step_counted a u (suc (suc d)) 1 zero rest))
         (none_counted (is_nothing c) _ (step_counted c u (suc (suc d)) 1 zero after)))
     step_counted (Loop false e a c) u d bk ct k =
-        let test = does Nop (tested y [] [] e zero zero (suc (suc d)) (does (BrIf zero) Done)) in
+        let test = emit Nop (tested y [] [] e zero zero (suc (suc d)) (emit (BrIf zero) Done)) in
         let x = length-append (step_starts y a u (suc (suc (suc d))) 2 zero Done) (step_starts y c u (suc (suc d)) 1 zero test ++ (test ∷ [])) in
         let z = length-append (step_starts y c u (suc (suc d)) 1 zero test) (test ∷ []) in
         let l = step_counted a u (suc (suc (suc d))) 2 zero Done in
@@ -442,7 +442,7 @@ main_has_places p =
     y = layout_of p (main_bases p)
 
     after : Instructions
-    after = does (Br 1) Done
+    after = emit (Br 1) Done
 
     by : (z : Bool) → length ((steps_starts y p.begin zero zero zero zero (if p.reads then records_read y p.items zero after else after) ++ (if z then steps_starts y p.items zero zero zero zero after else [])) ++ steps_starts y p.end zero zero zero zero after)
         ≡ (steps_places p.begin + (if z then steps_places p.items else 0)) + steps_places p.end

@@ -14,7 +14,7 @@ use Rattle.agreement.specs.Refined.Owners.{OwnedOnce, owner, owners, owns_sort, 
 use Rattle.agreement.specs.Refined.Refined.{FramesAs}
 use Rattle.agreement.specs.Refined.Words.{ArraysFit, WordAs, WordsAs}
 use Rattle.agreement.proofs.RefinedLemmas.Room.{counted_once, one_most, owns_one, total, total_less, total_none, total_sum}
-use Rattle.agreement.specs.Places.Kept.{count, count_waiting, holds, one}
+use Rattle.agreement.specs.Places.NoLeaks.{count, count_waiting, holds, one}
 use Rattle.agreement.proofs.PlacesLemmas.Counting.{held, held_in, held_waiting, none_counted, same_sort}
 
 pub total_same : (f g : ℕ → ℕ) (a n : ℕ) → ((q : ℕ) → f q ≡ g q) → total f a n ≡ total g a n

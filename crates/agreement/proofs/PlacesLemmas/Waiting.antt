@@ -12,17 +12,17 @@ use Rattle.wasm_types.specs.declared.instr.Simple.TheVariants as simple
 use Rattle.wasm_model.specs.Frames.{LabelForm}
 use Rattle.wasm_model.specs.Machines.{CallerForm}
 use Rattle.host_step.specs.HostState.{Names}
-use Rattle.mid_program.specs.Mid.{Kind, Boxed, Unboxed, Many, Program}
+use Rattle.mid_program.specs.Mid.{Kind, Boxed, Unboxed, ArrayKind, Program}
 use Rattle.lower_model.specs.Cells.{Cell, Bits, Held, IteratorOf, OwnedArray, LentArray, Gone, arrays_owned, is_held, is_operand, is_owned, iterators_in, locals_wait, no_value, operands_wait}
 use Rattle.lower_model.specs.Emission.{function_number}
 use Rattle.host_imports.specs.Imports.{import_count, import_number, imports}
 use Rattle.lower_model.specs.Machine.{Code, Frame, Label, answers_to, freed_next, is_walk, loops_walked}
 use Rattle.lower_model.specs.Modules.{all_callees, called_imports, calls_in, imports_of, new_number, renumbered, renumbered_simple}
-use Rattle.host_imports.specs.declared.import.Import.TheVariants.{Drop, Of}
+use Rattle.host_imports.specs.declared.import.Import.TheVariants.{Drop, OfPrimitive}
 use Rattle.agreement.proofs.TypedLemmas.Chosen.{functions_behind}
 use Rattle.agreement.specs.Refined.Refined.{AgainAs, FrameAs, FramesAs, LabelsAs}
 use Rattle.agreement.proofs.RefinedLemmas.Links.{number_there, stays}
-use Rattle.agreement.specs.Places.Kept.{CallerWaits, CallersWait, LocalsWait, NoValues, OperandsHold, boxed, count, count_waiting, is_keys, is_next, numbers_of, one, values_waiting, walks, walks_waiting}
+use Rattle.agreement.specs.Places.NoLeaks.{CallerWaits, CallersWait, LocalsWait, NoValues, OperandsHold, boxed, count, count_waiting, is_keys, is_next, numbers_of, one, values_waiting, walks, walks_waiting}
 use Rattle.agreement.proofs.PlacesLemmas.Begun.{OfFunction}
 use Rattle.agreement.proofs.PlacesLemmas.Counting.{held, held_in, held_waiting, local_iterators, owned_arrays}
 use Rattle.std.specs.List.{Contains}
@@ -88,7 +88,7 @@ locals_hold (suc x) [] (a ∷ cs) e =
     (r.0, omega (arith, q), (nothing a s.0, r.2))
 locals_hold (suc x) (Boxed ∷ ks) (c ∷ cs) e = let s = and_parts (is_held c) (locals_wait x ks cs) e in let r = locals_hold x ks cs s.1 in let q = r.1 in (r.0, omega (arith, q), (value_held c s.0, r.2))
 locals_hold (suc x) (Unboxed ∷ ks) (c ∷ cs) e = let s = and_parts (not (is_owned c)) (locals_wait x ks cs) e in let r = locals_hold x ks cs s.1 in let q = r.1 in (r.0, omega (arith, q), (nothing c s.0, r.2))
-locals_hold (suc x) (Many ∷ ks) (c ∷ cs) e = let s = and_parts (not (is_owned c)) (locals_wait x ks cs) e in let r = locals_hold x ks cs s.1 in let q = r.1 in (r.0, omega (arith, q), (nothing c s.0, r.2))
+locals_hold (suc x) (ArrayKind ∷ ks) (c ∷ cs) e = let s = and_parts (not (is_owned c)) (locals_wait x ks cs) e in let r = locals_hold x ks cs s.1 in let q = r.1 in (r.0, omega (arith, q), (nothing c s.0, r.2))
 
 -- Counts of values.
 
@@ -122,7 +122,7 @@ values_few m ks [] h = absurd h
 values_few m [] (a ∷ os) h = let r = operands_few m os h.1 in let x = is_none a h.0 in omega (arith, r, x)
 values_few m (Boxed ∷ ks) (o ∷ os) h = let r = values_few m ks os h.1 in let x = is_one o in omega (arith, r, x)
 values_few m (Unboxed ∷ ks) (o ∷ os) h = let r = values_few m ks os h.1 in let x = is_none o h.0 in omega (arith, r, x)
-values_few m (Many ∷ ks) (o ∷ os) h = let r = values_few m ks os h.1 in let x = is_none o h.0 in omega (arith, r, x)
+values_few m (ArrayKind ∷ ks) (o ∷ os) h = let r = values_few m ks os h.1 in let x = is_none o h.0 in omega (arith, r, x)
 
 -- Code.
 
@@ -145,7 +145,7 @@ module _ (p : Program) where
   bs = called_imports p
 
   abbrev next : ℕ
-  next = import_number (Of row.IterNext)
+  next = import_number (OfPrimitive row.IterNext)
 
   -- an import keeps its number in the table, and a function has none there
   next_same : (n : ℕ) → stays p n ≡ true → is_next (slice_get (numbers_of p) (new_number bs n)) ≡ nat_eq n next

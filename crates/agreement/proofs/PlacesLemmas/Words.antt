@@ -20,8 +20,8 @@ use Rattle.lower_model.specs.Cells.{Cell, none_owned}
 use Rattle.lower_model.specs.ImportCalls.{Acts, Host, acted, acts, after_fault, call, fault_cell, last_of, listed_acts, look, looked_at, primitive_acts, replied, taken, where_so, with_some}
 use Rattle.host_imports.specs.Imports.{import_answer, import_arguments, lets_go}
 use Rattle.host_imports.specs.declared.import.Import.{Import}
-use Rattle.host_imports.specs.declared.import.Import.TheVariants.{Arg, Drop, FreeArray, IterFree, Of, Over}
-use Rattle.host_imports.specs.declared.import.Listing.TheVariants.{Print, Printf, Sprintf}
+use Rattle.host_imports.specs.declared.import.Import.TheVariants.{Arg, Drop, FreeArray, IterFree, OfPrimitive, Variadic}
+use Rattle.host_imports.specs.declared.import.VariadicImport.TheVariants.{Print, Printf, Sprintf}
 use Rattle.lower_model.proofs.HostLaws.{Keeps, listed_keeps, row_keeps}
 use Rattle.lower_model.proofs.InputLaws.{AfterInput, AfterStart, GoodInput, GoodStart, IsAmong, IsNamed, IsNamedAmong, IsPending, getline_line_row_good, getline_row_good, next_main_row_good, start_good}
 
@@ -99,10 +99,10 @@ module _ (h : Host) where
       where_after (nat_le n (length h.arguments) && listed_in_turn l (last_of n h.arguments)) _ (after_kept h.shared.inner (listed_meaning l (last_of n h.arguments) h.shared).inner (listed_keeps l (last_of n h.arguments) h.shared))
 
   acts_after : (i : Import) (r : Row (import_arguments i)) → ActsAfter (acts i r h)
-  acts_after (Of p) r = where_after (in_turn p r h.shared) (primitive_acts h.arguments (can_fault p) (meaning p r h.shared)) (row_after p r h.shared)
-  acts_after (Over Sprintf) r = listed_after listed.Sprintf (values_taken listed.Sprintf r.0)
-  acts_after (Over Print) r = listed_after (listed.Print r.1.0) (values_taken (listed.Print r.1.0) r.0)
-  acts_after (Over Printf) r = listed_after (listed.Printf r.1.0) (values_taken (listed.Printf r.1.0) r.0)
+  acts_after (OfPrimitive p) r = where_after (in_turn p r h.shared) (primitive_acts h.arguments (can_fault p) (meaning p r h.shared)) (row_after p r h.shared)
+  acts_after (Variadic Sprintf) r = listed_after listed.Sprintf (values_taken listed.Sprintf r.0)
+  acts_after (Variadic Print) r = listed_after (listed.Print r.1.0) (values_taken (listed.Print r.1.0) r.0)
+  acts_after (Variadic Printf) r = listed_after (listed.Printf r.1.0) (values_taken (listed.Printf r.1.0) r.0)
   acts_after Arg r = after_same h.shared.inner
   acts_after Drop r = after_same h.shared.inner
   acts_after IterFree r = after_same h.shared.inner

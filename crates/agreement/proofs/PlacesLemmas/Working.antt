@@ -24,7 +24,7 @@ use Rattle.lower_model.specs.Functions.{main_callee, routine_callee}
 use Rattle.lower_model.specs.Modules.{all_callees}
 use Rattle.lower_model.specs.Runs.{begun, code_of, first_globals, host_at_start}
 use Rattle.agreement.proofs.PlacesLemmas.Begun.{contained}
-use Rattle.agreement.specs.Places.Kept.{begins_statement}
+use Rattle.agreement.specs.Places.NoLeaks.{begins_statement}
 use Rattle.agreement.specs.Places.Places.{IsPart, all, further, in_block, in_loop, where_true, where_false}
 use Rattle.agreement.specs.Places.Statements.{starts_in, starts_of}
 

@@ -17,8 +17,8 @@ use Rattle.wasm_model.specs.Frames as form
 use Rattle.wasm_model.specs.Machines.{Conf, Ends, Goes, ProgramForm, Turn, turn, turn_by, with_frame, with_value}
 use Rattle.wasm_model.specs.declared.ends.End.TheVariants as ends
 use Rattle.lower_model.specs.Modules.{renumbered}
-use Rattle.lower_model.specs.Small.{does}
-use Rattle.agreement.specs.Quiet.Quiet.{Quietly, quiet, where_it_goes}
+use Rattle.lower_model.specs.Small.{emit}
+use Rattle.agreement.specs.Quiet.Quiet.{HostCallFree, host_call_free, where_it_goes}
 
 -- a turn that is neither stuck nor a trap
 abbrev pub IsSound : Turn → Type 0
@@ -28,7 +28,7 @@ IsSound t = Unit {0}
 
 -- so is each turn of the run from here, while it calls no import
 pub record IsLiving (m : ProgramForm) (c : Conf) : Type 0 where
-  pub it : (n : ℕ) (there : Conf) → quiet m n c ≡ Some there → IsSound (turn m there)
+  pub it : (n : ℕ) (there : Conf) → host_call_free m n c ≡ Some there → IsSound (turn m there)
 
 -- such a place, with nothing on the operands
 abbrev pub Clear : (Conf → Type 0) → Conf → Type 0
@@ -36,13 +36,13 @@ Clear P c = (c.frame.values ≡ []) × P c
 
 module _ (m : ProgramForm) (P : Conf → Type 0) where
   abbrev Comes : Conf → Type 0
-  Comes c = Quietly m c (Clear P)
+  Comes c = HostCallFree m c (Clear P)
 
   -- a step on
   goes : (c d : Conf) → turn m c ≡ Goes d → IsLiving m c → (IsLiving m d → Comes d) → Comes c
   goes c d e a k =
-      let q = k (record { it = λ n there h. a.it (suc n) there (ap (λ (t : Turn). where_it_goes t (quiet m n)) e ∙ h) }) in
-      record { steps = suc q.steps; place = q.place; goes = ap (λ (t : Turn). where_it_goes t (quiet m q.steps)) e ∙ q.goes; holds = q.holds }
+      let q = k (record { it = λ n there h. a.it (suc n) there (ap (λ (t : Turn). where_it_goes t (host_call_free m n)) e ∙ h) }) in
+      record { steps = suc q.steps; place = q.place; goes = ap (λ (t : Turn). where_it_goes t (host_call_free m q.steps)) e ∙ q.goes; holds = q.holds }
 
   not_stuck : (c : Conf) → turn m c ≡ Ends ends.Stuck → IsLiving m c → ⊥
   not_stuck c e a = subst IsSound e (a.it zero c refl)
@@ -91,21 +91,21 @@ module _ (m : ProgramForm) (P : Conf → Type 0) where
       (IsLiving m (with_frame c f) → Comes (with_frame c f)) → Comes c
   settled c f w vs h e a k = by (k (record { it = living })).steps (k (record { it = living })) refl
     where
-      living : (n : ℕ) (there : Conf) → quiet m n (with_frame c f) ≡ Some there → IsSound (turn m there)
+      living : (n : ℕ) (there : Conf) → host_call_free m n (with_frame c f) ≡ Some there → IsSound (turn m there)
       living zero there q = let s : with_frame c f ≡ there = cc in subst (λ z. IsSound (turn m z)) s (subst IsSound e (a.it zero c refl))
-      living (suc n) there q = a.it (suc n) there (ap (λ (t : Turn). where_it_goes t (quiet m n)) e ∙ q)
+      living (suc n) there q = a.it (suc n) there (ap (λ (t : Turn). where_it_goes t (host_call_free m n)) e ∙ q)
 
       by : (n : ℕ) (q : Comes (with_frame c f)) → q.steps ≡ n → Comes c
       by zero q z =
-          let s : with_frame c f ≡ q.place = let x = subst (λ j. quiet m j (with_frame c f) ≡ Some q.place) z q.goes in cc in
+          let s : with_frame c f ≡ q.place = let x = subst (λ j. host_call_free m j (with_frame c f) ≡ Some q.place) z q.goes in cc in
           let v = subst (λ (x : Conf). x.frame.values ≡ []) (sym s) q.holds.0 in
           let y : w ∷ vs ≡ [] = sym h ∙ v in cc
       by (suc n) q z =
           record {
             steps = suc n;
             place = q.place;
-            goes = ap (λ (t : Turn). where_it_goes t (quiet m n)) e
-                ∙ subst (λ j. quiet m j (with_frame c f) ≡ Some q.place) z q.goes;
+            goes = ap (λ (t : Turn). where_it_goes t (host_call_free m n)) e
+                ∙ subst (λ j. host_call_free m j (with_frame c f) ≡ Some q.place) z q.goes;
             holds = q.holds;
           }
 
@@ -117,7 +117,7 @@ at bs base K gs L vs code = record base { frame = record { values = vs; labels =
 -- from here the run comes there, if it lives
 pub record Flows (m : ProgramForm) (P : Conf → Type 0) (bs : List Bool) (base : Conf) (K : List LabelForm) (gs L vs : List Word)
     (code : Instructions) : Type 0 where
-  pub it : IsLiving m (at bs base K gs L vs code) → Quietly m (at bs base K gs L vs code) (Clear P)
+  pub it : IsLiving m (at bs base K gs L vs code) → HostCallFree m (at bs base K gs L vs code) (Clear P)
 
 abbrev pub block : List Bool → List Word → Instructions → LabelForm
 block bs vs k = record { under = vs; again = None; gives = None; rest = renumbered bs k }
@@ -131,81 +131,81 @@ module _ {m : ProgramForm} {P : Conf → Type 0} {bs : List Bool} {base : Conf} 
     pub arrived : Clear P (at bs base K gs L vs k) → Flows m P bs base K gs L vs k
     arrived h = record { it = λ a. record { steps = zero; place = at bs base K gs L vs k; goes = refl; holds = h } }
 
-    pub nop : Flows m P bs base K gs L vs k → Flows m P bs base K gs L vs (does Nop k)
-    nop h = record { it = λ a. goes m P (at bs base K gs L vs (does Nop k)) (at bs base K gs L vs k) refl a h.it }
+    pub nop : Flows m P bs base K gs L vs k → Flows m P bs base K gs L vs (emit Nop k)
+    nop h = record { it = λ a. goes m P (at bs base K gs L vs (emit Nop k)) (at bs base K gs L vs k) refl a h.it }
 
-    pub const32 : {n : ℕ} → Flows m P bs base K gs L (I32 n ∷ vs) k → Flows m P bs base K gs L vs (does (I32Const n) k)
+    pub const32 : {n : ℕ} → Flows m P bs base K gs L (I32 n ∷ vs) k → Flows m P bs base K gs L vs (emit (I32Const n) k)
     const32 {n = n} h =
-        let c = at bs base K gs L vs (does (I32Const n) k) in
+        let c = at bs base K gs L vs (emit (I32Const n) k) in
         let d = at bs base K gs L (I32 n ∷ vs) k in
         record { it = λ a. settled m P c d.frame (I32 n) vs refl (sym (frame_apart m P c d.frame (local_step d.frame))) a h.it }
 
-    pub const64 : {n : ℕ} → Flows m P bs base K gs L (I64 n ∷ vs) k → Flows m P bs base K gs L vs (does (I64Const n) k)
+    pub const64 : {n : ℕ} → Flows m P bs base K gs L (I64 n ∷ vs) k → Flows m P bs base K gs L vs (emit (I64Const n) k)
     const64 {n = n} h =
-        let c = at bs base K gs L vs (does (I64Const n) k) in
+        let c = at bs base K gs L vs (emit (I64Const n) k) in
         let d = at bs base K gs L (I64 n ∷ vs) k in
         record { it = λ a. settled m P c d.frame (I64 n) vs refl (sym (frame_apart m P c d.frame (local_step d.frame))) a h.it }
 
-    pub get : {x : ℕ} → ((w : Word) → slice_get L x ≡ Some w → Flows m P bs base K gs L (w ∷ vs) k) → Flows m P bs base K gs L vs (does (LocalGet x) k)
+    pub get : {x : ℕ} → ((w : Word) → slice_get L x ≡ Some w → Flows m P bs base K gs L (w ∷ vs) k) → Flows m P bs base K gs L vs (emit (LocalGet x) k)
     get {x = x} h = record {
-      it = λ a. one_pushed m P (at bs base K gs L vs (does (LocalGet x) k)) (at bs base K gs L vs k).frame vs (slice_get L x) refl a
+      it = λ a. one_pushed m P (at bs base K gs L vs (emit (LocalGet x) k)) (at bs base K gs L vs k).frame vs (slice_get L x) refl a
           (λ w e. (h w e).it);
     }
 
     pub set : {x : ℕ} {w : Word} → (nat_lt x (length L) ≡ true → Flows m P bs base K gs (slice_set L x w) vs k) →
-        Flows m P bs base K gs L (w ∷ vs) (does (LocalSet x) k)
+        Flows m P bs base K gs L (w ∷ vs) (emit (LocalSet x) k)
     set {x = x} {w = w} h =
         record {
-          it = λ a. frame_if m P (at bs base K gs L (w ∷ vs) (does (LocalSet x) k)) (at bs base K gs (slice_set L x w) vs k).frame
+          it = λ a. frame_if m P (at bs base K gs L (w ∷ vs) (emit (LocalSet x) k)) (at bs base K gs (slice_set L x w) vs k).frame
               (nat_lt x (length L)) refl a (λ e. (h e).it);
         }
 
     pub tee : {x : ℕ} {w : Word} → (nat_lt x (length L) ≡ true → Flows m P bs base K gs (slice_set L x w) (w ∷ vs) k) →
-        Flows m P bs base K gs L (w ∷ vs) (does (LocalTee x) k)
+        Flows m P bs base K gs L (w ∷ vs) (emit (LocalTee x) k)
     tee {x = x} {w = w} h =
         record {
-          it = λ a. frame_if m P (at bs base K gs L (w ∷ vs) (does (LocalTee x) k)) (at bs base K gs (slice_set L x w) (w ∷ vs) k).frame
+          it = λ a. frame_if m P (at bs base K gs L (w ∷ vs) (emit (LocalTee x) k)) (at bs base K gs (slice_set L x w) (w ∷ vs) k).frame
               (nat_lt x (length L)) refl a (λ e. (h e).it);
         }
 
-    pub get_global : {x : ℕ} → ((w : Word) → slice_get gs x ≡ Some w → Flows m P bs base K gs L (w ∷ vs) k) → Flows m P bs base K gs L vs (does (GlobalGet x) k)
+    pub get_global : {x : ℕ} → ((w : Word) → slice_get gs x ≡ Some w → Flows m P bs base K gs L (w ∷ vs) k) → Flows m P bs base K gs L vs (emit (GlobalGet x) k)
     get_global {x = x} h = record {
-      it = λ a. value_pushed m P (at bs base K gs L vs (does (GlobalGet x) k)) (at bs base K gs L vs k).frame vs
+      it = λ a. value_pushed m P (at bs base K gs L vs (emit (GlobalGet x) k)) (at bs base K gs L vs k).frame vs
           (slice_get gs x) refl a (λ w e. (h w e).it);
     }
 
-    pub set_global : {x : ℕ} {w : Word} → Flows m P bs base K (slice_set gs x w) L vs k → Flows m P bs base K gs L (w ∷ vs) (does (GlobalSet x) k)
+    pub set_global : {x : ℕ} {w : Word} → Flows m P bs base K (slice_set gs x w) L vs k → Flows m P bs base K gs L (w ∷ vs) (emit (GlobalSet x) k)
     set_global {x = x} {w = w} h = record {
-      it = λ a. goes_if m P (at bs base K gs L (w ∷ vs) (does (GlobalSet x) k)) (at bs base K (slice_set gs x w) L vs k)
+      it = λ a. goes_if m P (at bs base K gs L (w ∷ vs) (emit (GlobalSet x) k)) (at bs base K (slice_set gs x w) L vs k)
           (nat_lt x (length gs)) refl a (λ e. h.it);
     }
 
     pub test : {t : ValType} {op : ITestOp} {v : Word} → ((w : Word) → Flows m P bs base K gs L (w ∷ vs) k) →
-        Flows m P bs base K gs L (v ∷ vs) (does (Test t op) k)
+        Flows m P bs base K gs L (v ∷ vs) (emit (Test t op) k)
     test {t = t} {op = op} {v = v} h = record {
-      it = λ a. one_pushed m P (at bs base K gs L (v ∷ vs) (does (Test t op) k))
+      it = λ a. one_pushed m P (at bs base K gs L (v ∷ vs) (emit (Test t op) k))
           (at bs base K gs L (v ∷ vs) k).frame vs (test_of t op v) refl a (λ w e. (h w).it);
     }
 
-    pub convert : {op : CvtOp} {v : Word} → ((w : Word) → Flows m P bs base K gs L (w ∷ vs) k) → Flows m P bs base K gs L (v ∷ vs) (does (Convert op) k)
+    pub convert : {op : CvtOp} {v : Word} → ((w : Word) → Flows m P bs base K gs L (w ∷ vs) k) → Flows m P bs base K gs L (v ∷ vs) (emit (Convert op) k)
     convert {op = op} {v = v} h = record {
-      it = λ a. one_pushed m P (at bs base K gs L (v ∷ vs) (does (Convert op) k)) (at bs base K gs L (v ∷ vs) k).frame vs
+      it = λ a. one_pushed m P (at bs base K gs L (v ∷ vs) (emit (Convert op) k)) (at bs base K gs L (v ∷ vs) k).frame vs
           (converted op v) refl a (λ w e. (h w).it);
     }
 
     pub compare : {t : ValType} {op : IRelOp} {v u : Word} → ((w : Word) → compare_of t op v u ≡ Some w → Flows m P bs base K gs L (w ∷ vs) k) →
-        Flows m P bs base K gs L (u ∷ (v ∷ vs)) (does (Compare t op) k)
+        Flows m P bs base K gs L (u ∷ (v ∷ vs)) (emit (Compare t op) k)
     compare {t = t} {op = op} {v = v} {u = u} h =
         record {
-          it = λ a. one_pushed m P (at bs base K gs L (u ∷ (v ∷ vs)) (does (Compare t op) k)) (at bs base K gs L (u ∷ (v ∷ vs)) k).frame vs
+          it = λ a. one_pushed m P (at bs base K gs L (u ∷ (v ∷ vs)) (emit (Compare t op) k)) (at bs base K gs L (u ∷ (v ∷ vs)) k).frame vs
               (compare_of t op v u) refl a (λ w e. (h w e).it);
         }
 
     pub binary : {t : ValType} {op : IBinOp} {v u : Word} → ((w : Word) → Flows m P bs base K gs L (w ∷ vs) k) →
-        Flows m P bs base K gs L (u ∷ (v ∷ vs)) (does (Binary t op) k)
+        Flows m P bs base K gs L (u ∷ (v ∷ vs)) (emit (Binary t op) k)
     binary {t = t} {op = op} {v = v} {u = u} h =
         record {
-          it = λ a. result_pushed m P (at bs base K gs L (u ∷ (v ∷ vs)) (does (Binary t op) k)) (at bs base K gs L (u ∷ (v ∷ vs)) k).frame vs
+          it = λ a. result_pushed m P (at bs base K gs L (u ∷ (v ∷ vs)) (emit (Binary t op) k)) (at bs base K gs L (u ∷ (v ∷ vs)) k).frame vs
               (binary_of t op v u) refl a (λ w. (h w).it);
         }
 

@@ -10,7 +10,7 @@ use Rattle.lower_model.specs.Places.{Bases, handle_global, number_global}
 use Rattle.lower_model.specs.Small.{minus_one}
 use Rattle.lower_model.specs.Statements.{step_emitted, steps_emitted}
 use Rattle.lower_model.proofs.Reading.{kind_below}
-use Rattle.sem_primitives.specs.Jobs.{JobForm, Surroundings}
+use Rattle.sem_primitives.specs.Jobs.{JobForm, Environment}
 use Rattle.world_core.specs.WorldState.{Source}
 use Rattle.wasm_model.specs.Runs.{MachineForm}
 use Rattle.wasm_types.specs.Typing.{ModuleOk}
@@ -20,11 +20,11 @@ use Rattle.lower_model.proofs.CodeFollows.{code_follows}
 use Rattle.agreement.proofs.ModulesLemmas.Agreeing as Agreeing
 use Rattle.agreement.proofs.ModulesLemmas.Modules.{agreement}
 use Rattle.agreement.specs.Places.Assigned.{IsAssigned}
-use Rattle.agreement.specs.Places.Kept.{AtStatement, Reached, begins_statement}
+use Rattle.agreement.specs.Places.NoLeaks.{AtStatement, Reached, begins_statement}
 use Rattle.agreement.proofs.PlacesLemmas.Handles.{unassigned}
 use Rattle.agreement.proofs.PlacesLemmas.Marks.{bare_at, unmarked_at}
 use Rattle.agreement.specs.Quiet.Laned.{AtLaned, AtNumeric, IsLaned, IsNext}
-use Rattle.agreement.specs.Quiet.Quiet.{Quietly}
+use Rattle.agreement.specs.Quiet.Quiet.{HostCallFree}
 use Rattle.agreement.specs.Quiet.Sums.{AtFault, AtNext, AtSum, HasNoText, IsSum, code_in, constant, itself, joined, name}
 use Rattle.agreement.proofs.QuietLemmas.Whole.{quietly}
 use Rattle.agreement.proofs.QuietLemmas.Written.{assigned}
@@ -106,9 +106,9 @@ unfolding step_emitted steps_emitted
 begins p c s here Assigned a = ap begins_statement a.code
 
 -- QUIET: such a statement calls no import
-pub laned_quiet : (p : Program) → IsSorted p → ModuleOk (module_of p) → (job : JobForm) (input : Source) (outside : Surroundings) (m : MachineForm) (c : Conf) (s : HostState) →
+pub laned_quiet : (p : Program) → IsSorted p → ModuleOk (module_of p) → (job : JobForm) (input : Source) (outside : Environment) (m : MachineForm) (c : Conf) (s : HostState) →
     (reached : Reached (module_of p) job input outside m c s) → (here : AtStatement p c s) (a : AtLaned p c s here (IsAssigned reached)) →
-    Quietly m.program c (λ there. IsNext p c a.bases (Then a.next a.further) a.iterators a.out a.breaking a.continuing a.after there ⊎ AtFault p c there)
+    HostCallFree m.program c (λ there. IsNext p c a.bases (Then a.next a.further) a.iterators a.out a.breaking a.continuing a.after there ⊎ AtFault p c there)
 laned_quiet p sorted typed job input outside m c s reached here a =
     let values = Agreeing.agreement p (code_follows p sorted) in
     let none = unassigned p values job input outside m c s reached (begins p c s here (IsAssigned reached) a) in

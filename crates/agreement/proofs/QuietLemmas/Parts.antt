@@ -17,7 +17,7 @@ use Rattle.wasm_store.specs.Words.{compare_of, flag}
 use Rattle.wasm_model.specs.Frames.{LabelForm}
 use Rattle.wasm_model.specs.Machines.{Conf, ProgramForm}
 use Rattle.lower_model.specs.Arithmetic.{factors_differ, out_of_range, ranged, times, two_numbers}
-use Rattle.lower_model.specs.Small.{ask_row, does, fail_if, number_is, text_beside, when}
+use Rattle.lower_model.specs.Small.{ask_row, emit, fail_if, number_is, text_beside, when}
 use Rattle.agreement.proofs.QuietLemmas.Flowing.{Flows, arrived, at, binary, branch, compare, const64, convert, ended, get, set, test}
 
 -- a number is what it is compared with, where the answer is not 0
@@ -38,11 +38,11 @@ module _ (m : ProgramForm) (P : Conf → Type 0) (bs : List Bool) (base : Conf) 
 
   -- a fault ends it too
   abbrev pub Faults : Type 0
-  Faults = (K : List LabelForm) (gs L : List Word) (k : Instructions) → P (at bs base K gs L [] (does (I32Const (fault_number Range)) (ask_row row.Fail k)))
+  Faults = (K : List LabelForm) (gs L : List Word) (k : Instructions) → P (at bs base K gs L [] (emit (I32Const (fault_number Range)) (ask_row row.Fail k)))
 
   module _ {K : List LabelForm} {gs : List Word} {k : Instructions} where
     pub failing : {L : List Word} {w : Word} (fault : Faults) (d : ℕ) → To K gs L [] k → To K gs L (w ∷ []) (fail_if Range d k)
-    failing fault d h = branch (λ n e z. arrived (refl, fault _ _ _ (does (Br (suc d)) Done))) (λ n e z. ended h)
+    failing fault d h = branch (λ n e z. arrived (refl, fault _ _ _ (emit (Br (suc d)) Done))) (λ n e z. ended h)
 
     range_tested : {L vs : List Word} (x : ℕ) → ((w : Word) → To K gs L (w ∷ vs) k) → To K gs L vs (out_of_range x k)
     range_tested x h = get (λ w e. const64 (binary (λ v. const64 (compare (λ u q. h u)))))
@@ -72,5 +72,5 @@ module _ (m : ProgramForm) (P : Conf → Type 0) (bs : List Bool) (base : Conf) 
 
     -- a word that is no mark is tested for it: what is done with a text beside it is not done
     pub no_mark_flows : {L : List Word} {w : Word} (a : Instructions) → w ≢ I64 text_beside → To K gs L [] k →
-        To K gs L (w ∷ []) (does (I64Const text_beside) (does (Compare ty.I64 Eq) (when a k)))
+        To K gs L (w ∷ []) (emit (I64Const text_beside) (emit (Compare ty.I64 Eq) (when a k)))
     no_mark_flows {w = w} a none h = const64 (compare (λ v q. branch (λ n e z. absurd (none (equal_word w v text_beside n q e z))) (λ n e z. ended h)))

@@ -6,12 +6,12 @@ use Rattle.wasm_model.specs.Frames.{LabelForm}
 use Rattle.wasm_model.specs.Machines.{Conf, ProgramForm}
 use Rattle.lower_model.specs.Emission.{Layout, name_read, source_pushed}
 use Rattle.lower_model.specs.Quick.{Constant, Holder, OfName, OfParameter, Held, Source, all_unsure, joined}
-use Rattle.lower_model.specs.Small.{does}
+use Rattle.lower_model.specs.Small.{emit}
 use Rattle.agreement.proofs.QuietLemmas.Flowing.{Flows, binary, compare, const32, const64, get, get_global}
 
 module _ {m : ProgramForm} {P : Conf → Type 0} {bs : List Bool} {base : Conf} (y : Layout) where
   -- a holder's number is read
-  read_flows : {K : List LabelForm} {gs L vs : List Word} {k : Instructions} (x : Holder) → ((v : Word) → Flows m P bs base K gs L (v ∷ vs) k) → Flows m P bs base K gs L vs (does (name_read y x) k)
+  read_flows : {K : List LabelForm} {gs L vs : List Word} {k : Instructions} (x : Holder) → ((v : Word) → Flows m P bs base K gs L (v ∷ vs) k) → Flows m P bs base K gs L vs (emit (name_read y x) k)
   read_flows (OfName i) h = get_global (λ v e. h v)
   read_flows (OfParameter i) h = get (λ v e. h v)
 

@@ -11,7 +11,7 @@ use Rattle.mid_program.specs.Mid.{Code, Eval, Global, Parameter, Set, Slot, Step
 use Rattle.lower_model.specs.Emission.{Layout, dropped, emitted, all_emitted}
 use Rattle.lower_model.specs.Places.{number_local}
 use Rattle.lower_model.specs.Quick.{Constant, Holder, OfName, OfParameter, Held, Remainder, Source, Sum, remainder_in, set_sum, source_in, sum_in, sum_names, sum_of, sum_op}
-use Rattle.lower_model.specs.Small.{text_beside, does}
+use Rattle.lower_model.specs.Small.{text_beside, emit}
 use Rattle.lower_model.proofs.State.{holder_slot}
 use Rattle.lower_model.specs.Statements.{name_numbered, quickly_dropped, remainder_dropped, source_numbered, source_taken, step_emitted, steps_emitted, sum_taken, summed, summed_anyway, name_put}
 use Rattle.lower_model.proofs.QuickNames.{near_sum, some_is}
@@ -25,7 +25,7 @@ module _ (m : ProgramForm) (P : Conf → Type 0) (bs : List Bool) (base : Conf) 
   -- Quick ways.
 
   -- a holder's number is written
-  put_flows : {K : List LabelForm} {gs L : List Word} {v : Word} {k : Instructions} (x : Holder) → ((hs M : List Word) → Flows m P bs base K hs M [] k) → Flows m P bs base K gs L (v ∷ []) (does (name_put y x) k)
+  put_flows : {K : List LabelForm} {gs L : List Word} {v : Word} {k : Instructions} (x : Holder) → ((hs M : List Word) → Flows m P bs base K hs M [] k) → Flows m P bs base K gs L (v ∷ []) (emit (name_put y x) k)
   put_flows (OfName i) h = set_global (h _ _)
   put_flows (OfParameter i) h = set (λ f. h _ _)
 

@@ -13,7 +13,7 @@ use Rattle.wasm_model.specs.Frames.{LabelForm}
 use Rattle.wasm_model.specs.Machines.{Conf, ProgramForm}
 use Rattle.mid_program.specs.declared.mid.Arithmetic.{Arithmetic}
 use Rattle.mid_program.specs.declared.mid.Arithmetic.TheVariants as inline
-use Rattle.mid_program.specs.Mid.{Answered, Bare, Code, Form, Global, Parameter, Slot, form_of}
+use Rattle.mid_program.specs.Mid.{PrimitiveAnswer, NumberOrText, Code, Form, Global, Parameter, Slot, form_of}
 use Rattle.lower_model.specs.Arithmetic.{calculated}
 use Rattle.lower_model.specs.Emission.{Layout, emitted, all_emitted, added, added_or, slot_read, slot_set}
 use Rattle.lower_model.specs.Places.{Bases, handle_local, number_global, number_local}
@@ -69,13 +69,13 @@ module _ (b : Bases) where
 
   -- A temporary has a number of this form, and a name's number is not the one that says that a text stands beside it.
   abbrev pub Ready : Form → ℕ → List Word → Type 0
-  Ready (Answered (answer.Of sort.Number)) t L = Unit {0}
-  Ready Bare t L = slice_get L (number_local b t) ≢ Some (I64 text_beside)
+  Ready (PrimitiveAnswer (answer.Of sort.Number)) t L = Unit {0}
+  Ready NumberOrText t L = slice_get L (number_local b t) ≢ Some (I64 text_beside)
   Ready _ t L = ⊥
 
   ready_same : (f : Form) (t : ℕ) (L M : List Word) → slice_get M (number_local b t) ≡ slice_get L (number_local b t) → Ready f t L → Ready f t M
-  ready_same (Answered (answer.Of sort.Number)) t L M e h = tt
-  ready_same Bare t L M e h = λ q. h (sym e ∙ q)
+  ready_same (PrimitiveAnswer (answer.Of sort.Number)) t L M e h = tt
+  ready_same NumberOrText t L M e h = λ q. h (sym e ∙ q)
   ready_same _ t L M e h = absurd h
 
 module _ (m : ProgramForm) (P : Conf → Type 0) (bs : List Bool) (base : Conf) (fault : Faults m P bs base) (y : Layout) where
@@ -87,8 +87,8 @@ module _ (m : ProgramForm) (P : Conf → Type 0) (bs : List Bool) (base : Conf) 
 
   to_number_flows : {K : List LabelForm} {gs : List Word} {k : Instructions} (f : Form) (t d : ℕ) (L : List Word) → Ready b f t L →
       ((M : List Word) → Others (number_local b t) L M → To K gs M k) → To K gs L (to_number b f t d k)
-  to_number_flows (Answered (answer.Of sort.Number)) t d L r next = next L (others_same (number_local b t) L)
-  to_number_flows Bare t d L r next =
+  to_number_flows (PrimitiveAnswer (answer.Of sort.Number)) t d L r next = next L (others_same (number_local b t) L)
+  to_number_flows NumberOrText t d L r next =
       get (λ w v. const64 (compare (λ w1 v1. branch
       (λ j1 i1 z1. number_is_flows m P bs base (number_local b t) text_beside (λ w v e q. branch
       (λ j i z. absurd (r (e ∙ ap Some (equal_word w v text_beside j q i z))))
@@ -115,7 +115,7 @@ module _ (m : ProgramForm) (P : Conf → Type 0) (bs : List Bool) (base : Conf) 
   put_ready L x w e h q = h (sym (set_there L x w (ltb-true x (length L) e)) ∙ q)
 
   read_flows : {K : List LabelForm} {k : Instructions} (x : Slot) (t : ℕ) (L : List Word) → HasNoText y.ranges b base x → Below b zero base.frame.locals L →
-      ((M : List Word) → Below b t L M → Ready b Bare t M → To K base.globals M k) → To K base.globals L (slot_read y x t k)
+      ((M : List Word) → Below b t L M → Ready b NumberOrText t M → To K base.globals M k) → To K base.globals L (slot_read y x t k)
   read_flows (Global true i) t L h bl next =
       get_global (λ w e. tee (λ f. no_mark_flows m P bs base _ (λ z. h.1 (e ∙ ap Some z))
       (next (slice_set L (number_local b t) w) (below_set b t (number_local b t) L w (omega arith)) (put_ready L (number_local b t) w f (λ z. h.1 (e ∙ z))))))

@@ -1,6 +1,6 @@
 -- A NUMBER STATEMENT IS QUIET, wherever a run of the module stands at one: the module is typed and never traps, so the run lives.
 use Rattle.std.proofs.Common.{◌≡◌, ◌⊎◌, inl, inr, ℕ, zero, suc, ◌+◌, true, List, [], ◌++◌, append-nil, map, Some, refl, sym, ap, ap₂, ◌∙◌, subst, arith}
-use Rattle.sem_primitives.specs.Jobs.{JobForm, Surroundings}
+use Rattle.sem_primitives.specs.Jobs.{JobForm, Environment}
 use Rattle.world_core.specs.WorldState.{Action, Source}
 use Rattle.wasm_types.specs.Syntax.{Instructions}
 use Rattle.wasm_types.specs.Typing.{ModuleOk}
@@ -27,9 +27,9 @@ use Rattle.lower_model.specs.Statements.{step_emitted, steps_emitted}
 use Rattle.agreement.specs.Modules.TableMeaning.{table_meaning}
 use Rattle.agreement.specs.Modules.Agreement.{Agreement}
 use Rattle.agreement.specs.Modules.ValueAgreement.{ValueAgreement}
-use Rattle.agreement.specs.Places.Kept.{Reached, begins_statement}
+use Rattle.agreement.specs.Places.NoLeaks.{Reached, begins_statement}
 use Rattle.agreement.proofs.PlacesLemmas.Keeping.{statement}
-use Rattle.agreement.specs.Quiet.Quiet.{Quietly, quiet, where_it_goes}
+use Rattle.agreement.specs.Quiet.Quiet.{HostCallFree, host_call_free, where_it_goes}
 use Rattle.agreement.specs.Quiet.Sums.{AtFault, AtNext, AtSum}
 use Rattle.agreement.proofs.QuietLemmas.Flowing.{at, Clear, Flows, IsLiving, IsSound}
 use Rattle.agreement.proofs.QuietLemmas.Parts.{Faults}
@@ -37,17 +37,17 @@ use Rattle.agreement.proofs.QuietLemmas.Statements.{statement_flows}
 
 -- n quiet steps are n steps of a run, whatever the host is
 module _ (m : ProgramForm) (s : HostState) where
-  steps_of : (n : ℕ) (c d : Conf) → quiet m n c ≡ Some d → Steps table_meaning m n c s [] d s
+  steps_of : (n : ℕ) (c d : Conf) → host_call_free m n c ≡ Some d → Steps table_meaning m n c s [] d s
   steps_of zero c d e = let q : d ≡ c = cc in (q, refl, refl)
   steps_of (suc n) c d e = by (turn m c) refl e (λ c1 h. steps_of n c1 d h)
     where
-      by : (t : Turn) → turn m c ≡ t → where_it_goes t (quiet m n) ≡ Some d → ((c1 : Conf) → quiet m n c1 ≡ Some d → Steps table_meaning m n c1 s [] d s) →
+      by : (t : Turn) → turn m c ≡ t → where_it_goes t (host_call_free m n) ≡ Some d → ((c1 : Conf) → host_call_free m n c1 ≡ Some d → Steps table_meaning m n c1 s [] d s) →
           Steps table_meaning m (suc n) c s [] d s
       by (Goes c1) q h later = (c1, s, [], [], subst (λ t. TakenAs table_meaning t s c.memory [] c1 s) (sym q) (refl, refl, refl), later c1 h, refl)
       by (Ends x) q h later = cc
       by (Asks i args c1) q h later = cc
 
-module _ (p : Program) (agree : Agreement (mid_run_in p) (module_of p)) (typed : ModuleOk (module_of p)) (job : JobForm) (input : Source) (outside : Surroundings)
+module _ (p : Program) (agree : Agreement (mid_run_in p) (module_of p)) (typed : ModuleOk (module_of p)) (job : JobForm) (input : Source) (outside : Environment)
     (m : MachineForm) (is_new : IsNew host_finds (module_of p) m) where
   abbrev start : HostState
   start = state_in job input outside
@@ -139,7 +139,7 @@ module _ (p : Program) (agree : Agreement (mid_run_in p) (module_of p)) (typed :
     same : at (called_imports p) c c.frame.labels c.globals c.frame.locals [] here ≡ c
     same = ap₂ (λ vs k. record c { frame = record c.frame { values = vs; code = k } }) (sym clear) (sym a.code)
 
-    pub quietly : Quietly m.program c There
+    pub quietly : HostCallFree m.program c There
     quietly =
-        let q = subst (λ z. IsLiving m.program z → Quietly m.program z (Clear There)) same flows.it (living reached.steps reached.output c s reached.taken) in
+        let q = subst (λ z. IsLiving m.program z → HostCallFree m.program z (Clear There)) same flows.it (living reached.steps reached.output c s reached.taken) in
         record { steps = q.steps; place = q.place; goes = q.goes; holds = q.holds.1 }

@@ -17,7 +17,7 @@ use Rattle.sem_primitives.specs.FieldMeaning.{at_least, done, field_number, join
 use Rattle.sem_primitives.specs.FieldMeaning.{with_fields, with_record}
 use Rattle.sem_primitives.specs.Fields.{Separator, fields_of, pieces_of}
 use Rattle.sem_primitives.specs.FirstMatch.{expression_of, first_match}
-use Rattle.sem_primitives.specs.Finds.{looked, looked_by, seen}
+use Rattle.sem_primitives.specs.Finds.{observed, observed_by, seen}
 use Rattle.sem_primitives.specs.InputMeaning.{Main, Taken, Over, Pending, NotOpened, Failed, as_line, as_record, begins_reading, counted_by, counted_record}
 use Rattle.sem_primitives.specs.InputMeaning.{file_named, file_or_assignment, follows}
 use Rattle.sem_primitives.specs.InputMeaning.{getline_by, getline_file_row, getline_line_file_row, getline_line_row, getline_of, getline_row, go_on, got_file, got_main}
@@ -306,8 +306,8 @@ module _ (P : List Pairs → Type 0) where
 
     read_file_good : (name : List ℕ) (source : Source) (i : Inner) → Has i → GoodRow (read_file keep name source i)
     read_file_good name source i e =
-        bound (λ x. x.0) (next_record i source) (λ got. got_file keep (looked (record i { readers = with_reader name got.1 i.readers })) got.0)
-        (λ got. got_file_good (looked (record i { readers = with_reader name got.1 i.readers })) got.0 e)
+        bound (λ x. x.0) (next_record i source) (λ got. got_file keep (observed (record i { readers = with_reader name got.1 i.readers })) got.0)
+        (λ got. got_file_good (observed (record i { readers = with_reader name got.1 i.readers })) got.0 e)
 
     opened_file_good : (name : List ℕ) (s : Option Source) (i : Inner) → Has i → GoodRow (opened_file keep name s i)
     opened_file_good name None i e = e
@@ -317,8 +317,8 @@ module _ (P : List Pairs → Type 0) where
     open_good name o (Some s) i e = read_file_good name s i e
     open_good name o None i e = by (has_room i)
       where
-        by : (r : Bool) → GoodRow (elim r [ true ↦ opened_file keep name (source_of (seen i o (Named name))) (looked i) | false ↦ Err TooManyStreams ])
-        by true = opened_file_good name (source_of (seen i o (Named name))) (looked i) e
+        by : (r : Bool) → GoodRow (elim r [ true ↦ opened_file keep name (source_of (seen i o (Named name))) (observed i) | false ↦ Err TooManyStreams ])
+        by true = opened_file_good name (source_of (seen i o (Named name))) (observed i) e
         by false = tt
 
   getline_good : (o : Outside) (i : Inner) → Has i → GoodRow (getline_row o i)
@@ -343,7 +343,7 @@ module _ (P : List Pairs → Type 0) where
       Has (opened_if room opens name append text s).inner
   opened_kept false opens name append text s e = e
   opened_kept true false name append text s e = e
-  opened_kept true true name append text s e = open_kept name (looked_by {A = Unit {0}} _ s.inner) _ e
+  opened_kept true true name append text s e = open_kept name (observed_by {A = Unit {0}} _ s.inner) _ e
 
   written_kept : (is : Bool) (name : List ℕ) (append : Bool) (text : List ℕ) (s : Shared) → Has s.inner → Has (written_by is name append text s).inner
   written_kept true name append text s e = e

@@ -3,7 +3,7 @@ use Rattle.std.proofs.Common.{◌≡◌, ℕ, ◌+◌, ◌&&◌, ◌++◌, Bool,
 use Rattle.std.proofs.lemmas.List.{length-append, length-set}
 use Rattle.awk_values.specs.declared.fault.Fault.{Fault}
 use Rattle.sem_primitives.specs.InTurn.{in_turn, listed_in_turn, values_taken}
-use Rattle.sem_primitives.specs.SharedState.{Does, Inner, Pairs, Shared}
+use Rattle.sem_primitives.specs.SharedState.{HostResult, Inner, Pairs, Shared}
 use Rattle.sem_primitives.specs.Sorts.{InAnswer, Row}
 use Rattle.sem_primitives.specs.Table.{answer_of, arguments_of, can_fault, listed_answer, meaning}
 use Rattle.sem_primitives.specs.declared.sorts.Answer.{Answer}
@@ -14,8 +14,8 @@ use Rattle.sem_primitives.specs.declared.table.Listed.TheVariants as listed
 use Rattle.sem_primitives.specs.declared.table.Primitive.{Primitive}
 use Rattle.sem_primitives.specs.declared.table.Primitive.TheVariants as row
 use Rattle.lower_model.specs.ImportCalls.{Acts, Host, last_of, listed_acts, primitive_acts, where_so}
-use Rattle.host_imports.specs.declared.import.Listing.TheVariants.{Sprintf, Print, Printf}
-use Rattle.host_imports.specs.declared.import.Import.TheVariants.{Of, Over, Arg, Drop, IterFree, FreeArray}
+use Rattle.host_imports.specs.declared.import.VariadicImport.TheVariants.{Sprintf, Print, Printf}
+use Rattle.host_imports.specs.declared.import.Import.TheVariants.{OfPrimitive, Variadic, Arg, Drop, IterFree, FreeArray}
 use Rattle.agreement.specs.Refined.Growing.{ArraysGrow, GrowsBy, NewIn}
 use Rattle.agreement.specs.Refined.Words.{arrays_made}
 use Rattle.agreement.proofs.RefinedLemmas.ArrayRows.{SparedIf, array_changed, listed_kept, row_kept}
@@ -44,7 +44,7 @@ none_new made made1 (answer.Of sort.Array) x e = cc
 none_new made made1 _ x e = tt
 
 -- there are as many, and none is new
-as_many : (made : ℕ) (a : Answer) (d : Does (Result (InAnswer a) Fault)) → makes_array a ≡ false → Has made d.inner → GrowsBy made a d
+as_many : (made : ℕ) (a : Answer) (d : HostResult (Result (InAnswer a) Fault)) → makes_array a ≡ false → Has made d.inner → GrowsBy made a d
 as_many made a d e h = record { longer = omega (arith, h); fresh = none_new made (length d.inner.arrays) a d.answer e }
 
 primitive_grows : (p : Primitive) (r : Row (arguments_of p)) (h : Host) (b : Bool) → makes_array (answer_of p) ≡ b →
@@ -72,12 +72,12 @@ only_answered h x d e k = subst (λ (y : Acts (Unit {0})). GrowsBy (arrays_made 
     (as_many (arrays_made h) answer.Nothing x.does refl k)
 
 pub arrays_grow : ArraysGrow
-arrays_grow (Of p) r h d e =
+arrays_grow (OfPrimitive p) r h d e =
     subst (λ (x : Acts (InAnswer (answer_of p))). GrowsBy (arrays_made h) (answer_of p) x.does) (in_turn_does (in_turn p r h.shared) _ d e)
     (primitive_grows p r h (makes_array (answer_of p)) refl)
-arrays_grow (Over Sprintf) r h d e = listed_grows listed.Sprintf (values_taken listed.Sprintf r.0) h d e refl
-arrays_grow (Over Print) r h d e = listed_grows (listed.Print r.1.0) (values_taken (listed.Print r.1.0) r.0) h d e refl
-arrays_grow (Over Printf) r h d e = listed_grows (listed.Printf r.1.0) (values_taken (listed.Printf r.1.0) r.0) h d e refl
+arrays_grow (Variadic Sprintf) r h d e = listed_grows listed.Sprintf (values_taken listed.Sprintf r.0) h d e refl
+arrays_grow (Variadic Print) r h d e = listed_grows (listed.Print r.1.0) (values_taken (listed.Print r.1.0) r.0) h d e refl
+arrays_grow (Variadic Printf) r h d e = listed_grows (listed.Printf r.1.0) (values_taken (listed.Printf r.1.0) r.0) h d e refl
 arrays_grow Arg r h d e = only_answered h _ d e refl
 arrays_grow Drop r h d e = only_answered h _ d e refl
 arrays_grow IterFree r h d e = only_answered h _ d e refl

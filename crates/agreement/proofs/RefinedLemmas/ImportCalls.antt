@@ -3,7 +3,7 @@ use Rattle.std.proofs.Common.{◌≡◌, ◌⊎◌, inl, inr, ℕ, ◌+◌, ◌�
 use Rattle.awk_values.specs.declared.fault.Fault.{Fault}
 use Rattle.awk_values.specs.declared.value.Value.{Value as AnyValue}
 use Rattle.sem_primitives.specs.InTurn.{in_turn, values_taken, listed_in_turn}
-use Rattle.sem_primitives.specs.SharedState.{Does}
+use Rattle.sem_primitives.specs.SharedState.{HostResult}
 use Rattle.sem_primitives.specs.Sorts.{InAnswer, OrFault, Row}
 use Rattle.sem_primitives.specs.Table.{arguments_of, answer_of, can_fault, meaning}
 use Rattle.sem_primitives.specs.declared.sorts.Sort.{Sort}
@@ -27,9 +27,9 @@ use Rattle.host_step.specs.HostStep as host
 use Rattle.lower_model.specs.Cells.{Cell, none_owned}
 use Rattle.lower_model.specs.ImportCalls.{Acts, Host, acted, acts, after_fault, call, fault_cell, listed_acts, primitive_acts, replied, row_in, taken, where_so, with_some}
 use Rattle.host_imports.specs.Imports.{import_answer, import_arguments, lets_go, spends}
-use Rattle.host_imports.specs.declared.import.Listing.TheVariants.{Sprintf, Print, Printf}
+use Rattle.host_imports.specs.declared.import.VariadicImport.TheVariants.{Sprintf, Print, Printf}
 use Rattle.host_imports.specs.declared.import.Import.{Import}
-use Rattle.host_imports.specs.declared.import.Import.TheVariants.{Of, Over, Arg, Drop, IterFree, FreeArray}
+use Rattle.host_imports.specs.declared.import.Import.TheVariants.{OfPrimitive, Variadic, Arg, Drop, IterFree, FreeArray}
 use Rattle.agreement.specs.Refined.Growing.{ArraysGrow, GrowsBy, NewIn}
 use Rattle.agreement.specs.Refined.Words.{ArraysFit, WordsAs, arrays_made, state_with}
 use Rattle.agreement.specs.Refined.Owners.{owners, wanted}
@@ -38,7 +38,7 @@ use Rattle.agreement.proofs.RefinedLemmas.Decoding.{AllLive, AllSpentRight, RowA
 use Rattle.agreement.proofs.RefinedLemmas.ImportAnswers.{Told, encode_as, refusal_as}
 
 -- what a row takes it spends: `dup` and `iter_next` take nothing
-taking : (p : Primitive) → ((mem : List ℕ) (cs : List Cell) → taken mem (Of p) cs ≡ None) ⊎ (AllSpentRight (spends (Of p)) (arguments_of p) × ((mem : List ℕ) (cs : List Cell) → taken mem (Of p) cs ≡ row_in mem (arguments_of p) cs))
+taking : (p : Primitive) → ((mem : List ℕ) (cs : List Cell) → taken mem (OfPrimitive p) cs ≡ None) ⊎ (AllSpentRight (spends (OfPrimitive p)) (arguments_of p) × ((mem : List ℕ) (cs : List Cell) → taken mem (OfPrimitive p) cs ≡ row_in mem (arguments_of p) cs))
 taking row.Num = inr ((refl, tt), λ mem cs. refl)
 taking row.Lit = inr ((tt, tt), λ mem cs. refl)
 taking row.Uninit = inr (tt, λ mem cs. refl)
@@ -99,7 +99,7 @@ ActsAs None r = Unit {0}
 ActsAs (Some d) (Ok e) = e ≡ host_acts d
 ActsAs (Some d) (Err k) = ⊥
 
-pub primitive_same : {A : Type 0} → (arguments : List AnyValue) (faults : Bool) (d : Does (OrFault faults A)) → host.primitive_acts arguments faults d ≡ host_acts (primitive_acts arguments faults d)
+pub primitive_same : {A : Type 0} → (arguments : List AnyValue) (faults : Bool) (d : HostResult (OrFault faults A)) → host.primitive_acts arguments faults d ≡ host_acts (primitive_acts arguments faults d)
 primitive_same arguments true d = refl
 primitive_same arguments false d = refl
 
@@ -191,20 +191,20 @@ module _ (mem behind : List ℕ) (grow : ArraysGrow) (N : Names) (h : Host) (oth
       (λ r e. same r) grows v s1 out s
 
   acted_by : (i : Import) (v : HostAnswer) (s1 : HostState) (out : List Action) → StepBy (import_answer i) (state_with N h) (come (carried i ws bytes (state_with N h))) v s1 out → Outcome N h others (acted i h (taken mem i cs)) v s1
-  acted_by (Of p) v s1 out s = by (taking p)
+  acted_by (OfPrimitive p) v s1 out s = by (taking p)
     where
-      by : ((m : List ℕ) (c : List Cell) → taken m (Of p) c ≡ None) ⊎ (AllSpentRight (spends (Of p)) (arguments_of p) × ((m : List ℕ) (c : List Cell) → taken m (Of p) c ≡ row_in m (arguments_of p) c)) → Outcome N h others (acted (Of p) h (taken mem (Of p) cs)) v s1
-      by (inl e) = subst (λ o. Outcome N h others (acted (Of p) h o) v s1) (sym (e mem cs)) tt
+      by : ((m : List ℕ) (c : List Cell) → taken m (OfPrimitive p) c ≡ None) ⊎ (AllSpentRight (spends (OfPrimitive p)) (arguments_of p) × ((m : List ℕ) (c : List Cell) → taken m (OfPrimitive p) c ≡ row_in m (arguments_of p) c)) → Outcome N h others (acted (OfPrimitive p) h (taken mem (OfPrimitive p) cs)) v s1
+      by (inl e) = subst (λ o. Outcome N h others (acted (OfPrimitive p) h o) v s1) (sym (e mem cs)) tt
       by (inr e) =
-          subst (λ o. Outcome N h others (acted (Of p) h o) v s1) (sym (e.1 mem cs))
-          (plain (arguments_of p) (answer_of p) (spends (Of p)) e.0 (λ r. acts (Of p) r h) (λ r. host.acts (Of p) r (state_with N h))
-          (λ r. fit_same (in_turn p r h.shared) _ _ (primitive_same h.arguments (can_fault p) (meaning p r h.shared))) (λ r d q. grow (Of p) r h d q) v s1 out s)
-  acted_by (Over Sprintf) v s1 out s = plain (import_arguments (Over Sprintf)) (import_answer (Over Sprintf)) (spends (Over Sprintf)) (tt, tt) (λ r. acts (Over Sprintf) r h) (λ r. host.acts (Over Sprintf) r (state_with N h))
-      (λ r. listed_same listed.Sprintf (values_taken listed.Sprintf r.0) N h) (λ r d q. grow (Over Sprintf) r h d q) v s1 out s
-  acted_by (Over Print) v s1 out s = plain (import_arguments (Over Print)) (import_answer (Over Print)) (spends (Over Print)) (tt, (tt, tt)) (λ r. acts (Over Print) r h) (λ r. host.acts (Over Print) r (state_with N h))
-      (λ r. listed_same (listed.Print r.1.0) (values_taken (listed.Print r.1.0) r.0) N h) (λ r d q. grow (Over Print) r h d q) v s1 out s
-  acted_by (Over Printf) v s1 out s = plain (import_arguments (Over Printf)) (import_answer (Over Printf)) (spends (Over Printf)) (tt, (tt, tt)) (λ r. acts (Over Printf) r h) (λ r. host.acts (Over Printf) r (state_with N h))
-      (λ r. listed_same (listed.Printf r.1.0) (values_taken (listed.Printf r.1.0) r.0) N h) (λ r d q. grow (Over Printf) r h d q) v s1 out s
+          subst (λ o. Outcome N h others (acted (OfPrimitive p) h o) v s1) (sym (e.1 mem cs))
+          (plain (arguments_of p) (answer_of p) (spends (OfPrimitive p)) e.0 (λ r. acts (OfPrimitive p) r h) (λ r. host.acts (OfPrimitive p) r (state_with N h))
+          (λ r. fit_same (in_turn p r h.shared) _ _ (primitive_same h.arguments (can_fault p) (meaning p r h.shared))) (λ r d q. grow (OfPrimitive p) r h d q) v s1 out s)
+  acted_by (Variadic Sprintf) v s1 out s = plain (import_arguments (Variadic Sprintf)) (import_answer (Variadic Sprintf)) (spends (Variadic Sprintf)) (tt, tt) (λ r. acts (Variadic Sprintf) r h) (λ r. host.acts (Variadic Sprintf) r (state_with N h))
+      (λ r. listed_same listed.Sprintf (values_taken listed.Sprintf r.0) N h) (λ r d q. grow (Variadic Sprintf) r h d q) v s1 out s
+  acted_by (Variadic Print) v s1 out s = plain (import_arguments (Variadic Print)) (import_answer (Variadic Print)) (spends (Variadic Print)) (tt, (tt, tt)) (λ r. acts (Variadic Print) r h) (λ r. host.acts (Variadic Print) r (state_with N h))
+      (λ r. listed_same (listed.Print r.1.0) (values_taken (listed.Print r.1.0) r.0) N h) (λ r d q. grow (Variadic Print) r h d q) v s1 out s
+  acted_by (Variadic Printf) v s1 out s = plain (import_arguments (Variadic Printf)) (import_answer (Variadic Printf)) (spends (Variadic Printf)) (tt, (tt, tt)) (λ r. acts (Variadic Printf) r h) (λ r. host.acts (Variadic Printf) r (state_with N h))
+      (λ r. listed_same (listed.Printf r.1.0) (values_taken (listed.Printf r.1.0) r.0) N h) (λ r d q. grow (Variadic Printf) r h d q) v s1 out s
   acted_by Arg v s1 out s = plain (import_arguments Arg) (import_answer Arg) (spends Arg) (refl, tt) (λ r. acts Arg r h) (λ r. host.acts Arg r (state_with N h)) (λ r. refl) (λ r d q. grow Arg r h d q) v s1 out s
   acted_by Drop v s1 out s = plain (import_arguments Drop) (import_answer Drop) (spends Drop) (refl, tt) (λ r. acts Drop r h) (λ r. host.acts Drop r (state_with N h)) (λ r. refl) (λ r d q. grow Drop r h d q) v s1 out s
   acted_by IterFree v s1 out s = plain (import_arguments IterFree) (import_answer IterFree) (spends IterFree) (refl, tt) (λ r. acts IterFree r h) (λ r. host.acts IterFree r (state_with N h)) (λ r. refl) (λ r d q. grow IterFree r h d q) v s1 out s

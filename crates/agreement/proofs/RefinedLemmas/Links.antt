@@ -20,8 +20,8 @@ use Rattle.lower_model.specs.Modules.{all_callees, any_calls, called_imports, ca
 use Rattle.lower_model.specs.Modules.{new_number, renumbered}
 use Rattle.lower_model.specs.Runs.{code_of}
 use Rattle.host_imports.specs.declared.import.Import.{Import}
-use Rattle.host_imports.specs.declared.import.Import.TheVariants.{Of, Over}
-use Rattle.host_imports.specs.declared.import.Listing.TheVariants.{Sprintf}
+use Rattle.host_imports.specs.declared.import.Import.TheVariants.{OfPrimitive, Variadic}
+use Rattle.host_imports.specs.declared.import.VariadicImport.TheVariants.{Sprintf}
 use Rattle.agreement.specs.Typed.Finds.{table_finds}
 use Rattle.agreement.proofs.TypedLemmas.Chosen.{functions_behind, renumbered_there}
 use Rattle.agreement.proofs.TypedLemmas.Links.{imports_there}
@@ -152,10 +152,10 @@ module _ (p : Program) where
 -- A HOST OF THE TABLE finds all imports: a machine that is linked with it has this program.
 
 found_same : (i : Import) → host_finds module_name (import_name i) ≡ table_finds module_name (import_name i)
-found_same (Of row.Num) = refl
-found_same (Of q) = refl
-found_same (Over Sprintf) = refl
-found_same (Over l) = refl
+found_same (OfPrimitive row.Num) = refl
+found_same (OfPrimitive q) = refl
+found_same (Variadic Sprintf) = refl
+found_same (Variadic l) = refl
 found_same i = refl
 
 numbers_same : (m : ModuleForm) (a : ℕ) (is : List Import) → map (number_for host_finds m) (imported_from a is) ≡ map (number_for table_finds m)

@@ -22,7 +22,7 @@ use Rattle.lower_model.specs.Cells.{Cell, Bits, Held, IteratorOf, OwnedArray, Le
 use Rattle.lower_model.specs.ImportCalls.{Host, acted, acts, looked_at}
 use Rattle.lower_model.specs.ImportCalls as value
 use Rattle.host_imports.specs.declared.import.Import.{Import}
-use Rattle.host_imports.specs.declared.import.Import.TheVariants.{Of, Over, Arg, Drop, IterFree, FreeArray}
+use Rattle.host_imports.specs.declared.import.Import.TheVariants.{OfPrimitive, Variadic, Arg, Drop, IterFree, FreeArray}
 use Rattle.agreement.specs.Refined.Growing.{ArraysGrow}
 use Rattle.agreement.specs.Refined.Words.{ArraysFit, WordAs, arrays_made, state_with}
 use Rattle.agreement.specs.Refined.Owners.{wanted}
@@ -30,7 +30,7 @@ use Rattle.agreement.proofs.RefinedLemmas.Carrying.{carried_same}
 use Rattle.agreement.proofs.RefinedLemmas.Decoding.{small_signed}
 use Rattle.agreement.proofs.RefinedLemmas.ImportCalls.{Outcome, RowOk, Spent, acted_as, fit_same, primitive_same}
 
-pub looking : (p : Primitive) → ((p ≡ row.Dup) ⊎ (p ≡ row.IterNext)) ⊎ ((c : Cell) → looked_at (Of p) c ≡ None)
+pub looking : (p : Primitive) → ((p ≡ row.Dup) ⊎ (p ≡ row.IterNext)) ⊎ ((c : Cell) → looked_at (OfPrimitive p) c ≡ None)
 looking row.Num = inr (λ c. refl)
 looking row.Lit = inr (λ c. refl)
 looking row.Uninit = inr (λ c. refl)
@@ -86,10 +86,10 @@ module _ (bytes : List ℕ) (grow : ArraysGrow) (N : Names) (h : Host) (others :
   unspent = record { carried = carried_same (arrays_made h) N others; once = once; arrays = fit }
 
   abbrev decoded : {A : Type 0} → Option A → Result ((A × Unit {0}) × Names) TrapKind
-  decoded o = and_then (said BadHandle o []) (λ x. and_then (decode (spends (Of row.Dup)) bytes N [] x.1) (λ rest. Ok ((x.0, rest.0), rest.1)))
+  decoded o = and_then (said BadHandle o []) (λ x. and_then (decode (spends (OfPrimitive row.Dup)) bytes N [] x.1) (λ rest. Ok ((x.0, rest.0), rest.1)))
 
-  dup_as : (c : Cell) (w : Word) → WordAs (arrays_made h) N c w → (v : HostAnswer) (s1 : HostState) (out : List Action) → StepBy (answer_of row.Dup) (state_with N h) (come (carried (Of row.Dup) (w ∷ []) bytes (state_with N h))) v s1 out →
-      Outcome N h others (acted (Of row.Dup) h (looked_at (Of row.Dup) c)) v s1
+  dup_as : (c : Cell) (w : Word) → WordAs (arrays_made h) N c w → (v : HostAnswer) (s1 : HostState) (out : List Action) → StepBy (answer_of row.Dup) (state_with N h) (come (carried (OfPrimitive row.Dup) (w ∷ []) bytes (state_with N h))) v s1 out →
+      Outcome N h others (acted (OfPrimitive row.Dup) h (looked_at (OfPrimitive row.Dup) c)) v s1
   dup_as (Bits x) w a v s1 out s = tt
   dup_as (IteratorOf x) w a v s1 out s = tt
   dup_as (OwnedArray x) w a v s1 out s = tt
@@ -97,17 +97,17 @@ module _ (bytes : List ℕ) (grow : ArraysGrow) (N : Names) (h : Host) (others :
   dup_as Gone w a v s1 out s = tt
   dup_as (Held x) (I64 n) a v s1 out s = absurd a
   dup_as (Held x) (I32 n) a v s1 out s =
-      acted_as N h others (arguments_of row.Dup) (answer_of row.Dup) (Some (x, tt)) (decode (spends (Of row.Dup)) bytes N (arguments_of row.Dup) (I32 n ∷ []))
-      (λ r. acts (Of row.Dup) r h) (λ r. host.acts (Of row.Dup) r (state_with N h)) ok
-      (λ r e. fit_same (in_turn row.Dup r h.shared) _ _ (primitive_same h.arguments (can_fault row.Dup) (meaning row.Dup r h.shared))) (λ r d q. grow (Of row.Dup) r h d q) v s1 out s
+      acted_as N h others (arguments_of row.Dup) (answer_of row.Dup) (Some (x, tt)) (decode (spends (OfPrimitive row.Dup)) bytes N (arguments_of row.Dup) (I32 n ∷ []))
+      (λ r. acts (OfPrimitive row.Dup) r h) (λ r. host.acts (OfPrimitive row.Dup) r (state_with N h)) ok
+      (λ r e. fit_same (in_turn row.Dup r h.shared) _ _ (primitive_same h.arguments (can_fault row.Dup) (meaning row.Dup r h.shared))) (λ r d q. grow (OfPrimitive row.Dup) r h d q) v s1 out s
     where
-      ok : RowOk (arrays_made h) N others (Some (x, tt)) (decode (spends (Of row.Dup)) bytes N (arguments_of row.Dup) (I32 n ∷ []))
+      ok : RowOk (arrays_made h) N others (Some (x, tt)) (decode (spends (OfPrimitive row.Dup)) bytes N (arguments_of row.Dup) (I32 n ∷ []))
       ok =
           subst (λ k. RowOk (arrays_made h) N others (Some (x, tt)) (decoded (look N.values k))) (sym (small_signed n a.0))
           (subst (λ o. RowOk (arrays_made h) N others (Some (x, tt)) (decoded o)) (sym a.1) (refl, unspent))
 
-  next_as : (c : Cell) (w : Word) → WordAs (arrays_made h) N c w → (v : HostAnswer) (s1 : HostState) (out : List Action) → StepBy (answer_of row.IterNext) (state_with N h) (come (carried (Of row.IterNext) (w ∷ []) bytes (state_with N h))) v s1 out →
-      Outcome N h others (acted (Of row.IterNext) h (looked_at (Of row.IterNext) c)) v s1
+  next_as : (c : Cell) (w : Word) → WordAs (arrays_made h) N c w → (v : HostAnswer) (s1 : HostState) (out : List Action) → StepBy (answer_of row.IterNext) (state_with N h) (come (carried (OfPrimitive row.IterNext) (w ∷ []) bytes (state_with N h))) v s1 out →
+      Outcome N h others (acted (OfPrimitive row.IterNext) h (looked_at (OfPrimitive row.IterNext) c)) v s1
   next_as (Bits x) w a v s1 out s = tt
   next_as (Held x) w a v s1 out s = tt
   next_as (OwnedArray x) w a v s1 out s = tt
@@ -115,28 +115,28 @@ module _ (bytes : List ℕ) (grow : ArraysGrow) (N : Names) (h : Host) (others :
   next_as Gone w a v s1 out s = tt
   next_as (IteratorOf x) (I64 n) a v s1 out s = absurd a
   next_as (IteratorOf x) (I32 n) a v s1 out s =
-      acted_as N h others (arguments_of row.IterNext) (answer_of row.IterNext) (Some (x, tt)) (decode (spends (Of row.IterNext)) bytes N (arguments_of row.IterNext) (I32 n ∷ []))
-      (λ r. acts (Of row.IterNext) r h) (λ r. host.acts (Of row.IterNext) r (state_with N h)) ok
-      (λ r e. fit_same (in_turn row.IterNext r h.shared) _ _ (primitive_same h.arguments (can_fault row.IterNext) (meaning row.IterNext r h.shared))) (λ r d q. grow (Of row.IterNext) r h d q) v s1 out s
+      acted_as N h others (arguments_of row.IterNext) (answer_of row.IterNext) (Some (x, tt)) (decode (spends (OfPrimitive row.IterNext)) bytes N (arguments_of row.IterNext) (I32 n ∷ []))
+      (λ r. acts (OfPrimitive row.IterNext) r h) (λ r. host.acts (OfPrimitive row.IterNext) r (state_with N h)) ok
+      (λ r e. fit_same (in_turn row.IterNext r h.shared) _ _ (primitive_same h.arguments (can_fault row.IterNext) (meaning row.IterNext r h.shared))) (λ r d q. grow (OfPrimitive row.IterNext) r h d q) v s1 out s
     where
-      ok : RowOk (arrays_made h) N others (Some (x, tt)) (decode (spends (Of row.IterNext)) bytes N (arguments_of row.IterNext) (I32 n ∷ []))
+      ok : RowOk (arrays_made h) N others (Some (x, tt)) (decode (spends (OfPrimitive row.IterNext)) bytes N (arguments_of row.IterNext) (I32 n ∷ []))
       ok =
           subst (λ k. RowOk (arrays_made h) N others (Some (x, tt)) (decoded (look N.iterators k))) (sym (small_signed n a.0))
           (subst (λ o. RowOk (arrays_made h) N others (Some (x, tt)) (decoded o)) (sym a.1) (refl, unspent))
 
   acted_looking : (i : Import) (c : Cell) (w : Word) → WordAs (arrays_made h) N c w → (v : HostAnswer) (s1 : HostState) (out : List Action) → StepBy (import_answer i) (state_with N h) (come (carried i (w ∷ []) bytes (state_with N h))) v s1 out →
       Outcome N h others (acted i h (looked_at i c)) v s1
-  acted_looking (Of p) c w a v s1 out s = by (looking p)
+  acted_looking (OfPrimitive p) c w a v s1 out s = by (looking p)
     where
-      by : ((p ≡ row.Dup) ⊎ (p ≡ row.IterNext)) ⊎ ((d : Cell) → looked_at (Of p) d ≡ None) → Outcome N h others (acted (Of p) h (looked_at (Of p) c)) v s1
+      by : ((p ≡ row.Dup) ⊎ (p ≡ row.IterNext)) ⊎ ((d : Cell) → looked_at (OfPrimitive p) d ≡ None) → Outcome N h others (acted (OfPrimitive p) h (looked_at (OfPrimitive p) c)) v s1
       by (inl (inl e)) =
-          subst (λ r. Outcome N h others (acted (Of r) h (looked_at (Of r) c)) v s1) (sym e)
-          (dup_as c w a v s1 out (subst (λ r. StepBy (import_answer (Of r)) (state_with N h) (come (carried (Of r) (w ∷ []) bytes (state_with N h))) v s1 out) e s))
+          subst (λ r. Outcome N h others (acted (OfPrimitive r) h (looked_at (OfPrimitive r) c)) v s1) (sym e)
+          (dup_as c w a v s1 out (subst (λ r. StepBy (import_answer (OfPrimitive r)) (state_with N h) (come (carried (OfPrimitive r) (w ∷ []) bytes (state_with N h))) v s1 out) e s))
       by (inl (inr e)) =
-          subst (λ r. Outcome N h others (acted (Of r) h (looked_at (Of r) c)) v s1) (sym e)
-          (next_as c w a v s1 out (subst (λ r. StepBy (import_answer (Of r)) (state_with N h) (come (carried (Of r) (w ∷ []) bytes (state_with N h))) v s1 out) e s))
-      by (inr e) = subst (λ o. Outcome N h others (acted (Of p) h o) v s1) (sym (e c)) tt
-  acted_looking (Over l) c w a v s1 out s = tt
+          subst (λ r. Outcome N h others (acted (OfPrimitive r) h (looked_at (OfPrimitive r) c)) v s1) (sym e)
+          (next_as c w a v s1 out (subst (λ r. StepBy (import_answer (OfPrimitive r)) (state_with N h) (come (carried (OfPrimitive r) (w ∷ []) bytes (state_with N h))) v s1 out) e s))
+      by (inr e) = subst (λ o. Outcome N h others (acted (OfPrimitive p) h o) v s1) (sym (e c)) tt
+  acted_looking (Variadic l) c w a v s1 out s = tt
   acted_looking Arg c w a v s1 out s = tt
   acted_looking Drop c w a v s1 out s = tt
   acted_looking IterFree c w a v s1 out s = tt

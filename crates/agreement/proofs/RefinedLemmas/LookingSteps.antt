@@ -18,7 +18,7 @@ use Rattle.lower_model.specs.ImportCalls.{Host, acted, look, looked_at}
 use Rattle.host_imports.specs.Imports.{import_at, import_type}
 use Rattle.lower_model.specs.Machine.{Code, Frame, Label, Store, ask_looking, with_answer}
 use Rattle.host_imports.specs.declared.import.Import.{Import}
-use Rattle.host_imports.specs.declared.import.Import.TheVariants.{Of}
+use Rattle.host_imports.specs.declared.import.Import.TheVariants.{OfPrimitive}
 use Rattle.agreement.specs.Refined.Growing.{ArraysGrow}
 use Rattle.agreement.specs.Refined.Refined.{CodeAs, NextAs, RestAs}
 use Rattle.agreement.specs.Refined.Words.{WordAs, WordsAs, arrays_made, state_with}
@@ -37,12 +37,12 @@ nothing_looked i d h e (Some k) = refl
 
 -- an import that looks takes one word; no other has an answer to a look
 look_width : (i : Import) → (length (import_type i).params ≡ 1) ⊎ ((d : Cell) (h : Host) → look i d h ≡ None)
-look_width (Of p) = by (looking p)
+look_width (OfPrimitive p) = by (looking p)
   where
-    by : ((p ≡ row.Dup) ⊎ (p ≡ row.IterNext)) ⊎ ((d : Cell) → looked_at (Of p) d ≡ None) → (length (import_type (Of p)).params ≡ 1) ⊎ ((d : Cell) (h : Host) → look (Of p) d h ≡ None)
-    by (inl (inl e)) = inl (ap (λ r. length (import_type (Of r)).params) e)
-    by (inl (inr e)) = inl (ap (λ r. length (import_type (Of r)).params) e)
-    by (inr e) = inr (λ d h. nothing_looked (Of p) d h (e d) h.fault)
+    by : ((p ≡ row.Dup) ⊎ (p ≡ row.IterNext)) ⊎ ((d : Cell) → looked_at (OfPrimitive p) d ≡ None) → (length (import_type (OfPrimitive p)).params ≡ 1) ⊎ ((d : Cell) (h : Host) → look (OfPrimitive p) d h ≡ None)
+    by (inl (inl e)) = inl (ap (λ r. length (import_type (OfPrimitive r)).params) e)
+    by (inl (inr e)) = inl (ap (λ r. length (import_type (OfPrimitive r)).params) e)
+    by (inr e) = inr (λ d h. nothing_looked (OfPrimitive p) d h (e d) h.fault)
 look_width i = inr (λ d h. nothing_looked i d h refl h.fault)
 
 module _ {used : ℕ → Bool} {bs : List Bool} {u : Code} {K : List Label} {L : List Cell} {F : List Frame} {k : Instructions} {G : Store} {c : real.Conf} {s : HostState} (grow : ArraysGrow) (ks : List Kind) (rest : RestAs used bs u K L F G c s) (code-is : CodeAs used bs k c.frame.code)

@@ -2,13 +2,13 @@
 use Rattle.std.proofs.Common.{◌≡◌, ℕ, List, ◌++◌, Option, Some, None, refl, sym, ◌∙◌, subst, append_assoc, arith}
 use Rattle.awk_values.specs.declared.fault.Fault.{Fault}
 use Rattle.sem_primitives.specs.InputMeaning.{nothing_left}
-use Rattle.sem_primitives.specs.Jobs.{Found, JobForm, Kept, Surroundings}
+use Rattle.sem_primitives.specs.Jobs.{Opened, JobForm, Closed, Environment}
 use Rattle.world_core.specs.WorldState.{Action, Outside, Source}
 use Rattle.wasm_types.specs.Syntax.{ModuleForm}
 use Rattle.wasm_model.specs.declared.ends.MachineEnd.{MachineEnd}
 use Rattle.wasm_model.specs.declared.ends.MachineEnd.TheVariants as machine
 use Rattle.host_values.specs.Forms.{HostForm}
-use Rattle.sem_scripts.specs.Kept.{Grows, output_of}
+use Rattle.sem_scripts.specs.MoreTurns.{Grows, output_of}
 use Rattle.sem_scripts.specs.ScriptRun.{Ending, Exhausted, GoesOn, Setting, setting_in}
 use Rattle.agreement.specs.Modules.Agreement.{Agreement, Like, MayEnd, ModuleEnding, Trapped, ended_with, ending_told}
 use Rattle.agreement.specs.Modules.Over.{IsOver}
@@ -18,7 +18,7 @@ use Rattle.agreement.specs.Runs.ToldRuns.{DoesSo, DoesSoThere, FoundRun, GoesOnT
 grows_less : (a b xs : List Action) → Grows (a ++ b) xs → Grows a xs
 grows_less a b xs g = (b ++ g.0, g.1 ∙ append_assoc a b g.0)
 
-module _ (script : Setting → ℕ → Ending) (m : ModuleForm) (agree : Agreement script m) (job : JobForm) (input : Source) (outside : Surroundings) (steps : ℕ) where
+module _ (script : Setting → ℕ → Ending) (m : ModuleForm) (agree : Agreement script m) (job : JobForm) (input : Source) (outside : Environment) (steps : ℕ) where
   abbrev Does : Option Fault → MachineEnd → List Action → Type 0
   Does kept e output = (turns : ℕ) × Says (told_by kept e) output (script (setting_in job input outside) turns)
 
@@ -40,18 +40,18 @@ module _ (script : Setting → ℕ → Ending) (m : ModuleForm) (agree : Agreeme
       let g = agree.output_module job input outside t.0 t.2 t.5 in
       (g.0, grows_less output t.3 _ (subst (λ (o : List Action). Grows o (output_of (script (setting_in job input outside) g.0))) t.4 g.1))
 
--- over a world that tells what it holds
+-- over a modelled world
 pub does_so : (script : Setting → ℕ → Ending) (m : ModuleForm) → Agreement script m → (job : JobForm) (input : Source) (outside : Outside) (steps : ℕ)
     (e : MachineEnd) (f : HostForm) → ToldRun m job input outside steps e f → DoesSo script job input outside (told_by f.fault e) f.shared.outside
 does_so script m agree job input outside steps e f r =
-    let d = does script m agree job input (Kept outside) steps f.fault e r.output r.tells in
+    let d = does script m agree job input (Closed outside) steps f.fault e r.output r.tells in
     record { turns = d.0; output = r.output; says = d.1; applied = r.applied }
 
--- over any world, in surroundings that others change too
+-- over any world, in an environment that others change too
 pub does_so_there : (script : Setting → ℕ → Ending) (m : ModuleForm) → Agreement script m → (job : JobForm) (steps : ℕ) (e : MachineEnd) (f : HostForm)
     (r : FoundRun m job steps e f) → DoesSoThere script job r.finds (told_by f.fault e)
 does_so_there script m agree job steps e f r =
-    let d = does script m agree job nothing_left (Found r.finds) steps f.fault e r.output r.tells in
+    let d = does script m agree job nothing_left (Opened r.finds) steps f.fault e r.output r.tells in
     record { turns = d.0; output = r.output; says = d.1 }
 
 same_ending : (output : List Action) (e : Ending) → Like (GoesOn output) ≡ Like e → e ≡ GoesOn output
@@ -61,7 +61,7 @@ same_ending output e q = cc
 pub goes_on_there : (script : Setting → ℕ → Ending) (m : ModuleForm) (agree : Agreement script m) (job : JobForm) (steps : ℕ) (e : MachineEnd)
     → e ≡ machine.OutOfSteps → (f : HostForm) (r : FoundRun m job steps e f) → GoesOnThere script job r.finds agree.bound steps
 goes_on_there script m agree job steps e q f r turns enough over =
-    let s : Surroundings = Found r.finds in
+    let s : Environment = Opened r.finds in
     let out : ModuleEnding = Like (GoesOn r.output) in
     let ends : Ending = script (setting_in job nothing_left s) turns in
     let t : TellsEnding m job nothing_left s steps f.fault machine.OutOfSteps r.output =

@@ -1,9 +1,9 @@
--- A run over any world is a run over a host of the table in surroundings that others change too: in which each opening, read and write finds the next
+-- A run over any world is a run over a host of the table in an environment that others change too: in which each opening, read and write finds the next
 -- of a list. The list is read off the run, from its end to its beginning.
 use Rattle.std.proofs.Common.{◌≡◌, ◌≢◌, ℕ, zero, suc, Bool, true, false, List, [], ◌++◌, Option, Some, None, refl, sym, ap, ◌∙◌, subst, append-nil, append_assoc}
 use Rattle.awk_values.specs.declared.fault.Fault.{Fault}
 use Rattle.sem_primitives.specs.InputMeaning.{nothing_left}
-use Rattle.sem_primitives.specs.Jobs.{Found, JobForm}
+use Rattle.sem_primitives.specs.Jobs.{Opened, JobForm}
 use Rattle.wasm_store.specs.Memories.{MemoryForm}
 use Rattle.wasm_store.specs.declared.word.Word.{Word}
 use Rattle.wasm_model.specs.Hosts.{Meaning}
@@ -237,7 +237,7 @@ state_finding finds s = record s {
 }
 
 begins_finding : (finds : List Entry) (job : JobForm) (input : Source) (outside : Outside) (f : HostForm) → Shown f (state_at_start job input outside)
-    → Shown (form_finding finds nowhere [] f) (state_in job nothing_left (Found finds))
+    → Shown (form_finding finds nowhere [] f) (state_in job nothing_left (Opened finds))
 begins_finding finds job input outside f h = record {
   form = form_finding finds nowhere [] h.form;
   same = finding_by finds f.fault h.form f h.same;
@@ -253,8 +253,8 @@ begins_finding finds job input outside f h = record {
 -- what is found in a run, from the beginning of a job
 pub from_start : (f f1 : HostForm) (Runs : HostState → List Action → HostState → Type 0) (job : JobForm) (input : Source) (outside : Outside)
     → Shown f (state_at_start job input outside) → Finds f f1 Runs → (finds : List Entry) × (output : List Action) × (state : HostState)
-    × (state.fault ≡ f1.fault) × Runs (state_in job nothing_left (Found finds)) output state
+    × (state.fault ≡ f1.fault) × Runs (state_in job nothing_left (Opened finds)) output state
 from_start f f1 Runs job input outside begins x =
     let finds = x.found ++ [] in
-    let y = x.leads finds [] (all_found f.fault x.found) nowhere [] (state_in job nothing_left (Found finds)) (begins_finding finds job input outside f begins) in
+    let y = x.leads finds [] (all_found f.fault x.found) nowhere [] (state_in job nothing_left (Opened finds)) (begins_finding finds job input outside f begins) in
     (finds, x.output, y.state, shown_fault (form_finding y.rest (outside_after x.output nowhere) x.output f1) y.state y.shown, y.runs)

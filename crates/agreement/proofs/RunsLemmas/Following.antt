@@ -17,7 +17,7 @@ use Rattle.host_values.specs.Forms.{HostForm}
 use Rattle.host_values.specs.FormMeaning.{FormCalled, FormMeans, Told, form_meaning}
 use Rattle.host_values.specs.Shown.{Shown, form_with_output}
 use Rattle.agreement.specs.Modules.TableMeaning.{table_meaning}
-use Rattle.host_step.specs.Worlds.{anyhow_meaning}
+use Rattle.host_step.specs.Worlds.{in_any_world_meaning}
 
 -- so much came before
 abbrev pub ShownAfter : List Action → HostForm → HostState → Type 0
@@ -38,12 +38,12 @@ table_follows tells t f f1 n words mem a mem1 output so_far s ne m h =
     (x.state, x.shown, (m.0, x.step))
 
 -- a call as every world has it: of what was put out nothing is said
-pub anyhow_follows : (tells : Type 0) (f f1 : HostForm) (n : ℕ) (words : List Word) (mem : MemoryForm) (a : HostAnswer) (mem1 : MemoryForm)
+pub in_any_world_follows : (tells : Type 0) (f f1 : HostForm) (n : ℕ) (words : List Word) (mem : MemoryForm) (a : HostAnswer) (mem1 : MemoryForm)
     (output so_far : List Action) (s : HostState) → a ≢ told.NoMemory → form_meaning tells (Told f) n words mem a (Told f1) mem1 output → Shown f s
-    → (s1 : HostState) × Shown f1 s1 × anyhow_meaning s n words mem a s1 mem1 output
-anyhow_follows tells f f1 n words mem a mem1 output so_far s ne m h =
-    let x = (means_called tells (import_at n) f words mem.bytes a f1 output ne m.1).anyhow s h in
-    (x.state, x.shown, (m.0, x.anyhow))
+    → (s1 : HostState) × Shown f1 s1 × in_any_world_meaning s n words mem a s1 mem1 output
+in_any_world_follows tells f f1 n words mem a mem1 output so_far s ne m h =
+    let x = (means_called tells (import_at n) f words mem.bytes a f1 output ne m.1).in_any_world s h in
+    (x.state, x.shown, (m.0, x.in_any_world))
 
 -- A host of the table wants no memory.
 

@@ -3,7 +3,7 @@ use Rattle.std.proofs.Common.{◌≡◌, ◌≢◌, ℕ, ℤ, List, [], ◌++◌
 use Rattle.std.specs.Int.{w32, cast_signed}
 use Rattle.awk_values.specs.declared.fault.Fault.{Fault}
 use Rattle.sem_primitives.specs.InputMeaning.{nothing_left}
-use Rattle.sem_primitives.specs.Jobs.{Found, JobForm, Kept, Surroundings}
+use Rattle.sem_primitives.specs.Jobs.{Opened, JobForm, Closed, Environment}
 use Rattle.world_core.specs.WorldState.{Action, Outside, Source}
 use Rattle.wasm_types.specs.Syntax.{ModuleForm}
 use Rattle.wasm_types.specs.Typing.{ModuleOk}
@@ -32,14 +32,14 @@ use Rattle.host_values.specs.FormMeaning.{Told, form_meaning}
 use Rattle.host_values.specs.Shown.{Shown, form_with_output}
 use Rattle.host_values.proofs.Showing.{shown_fault, shown_outside, shown_output}
 use Rattle.agreement.specs.Modules.TableMeaning.{table_meaning}
-use Rattle.host_step.specs.Worlds.{anyhow_meaning}
+use Rattle.host_step.specs.Worlds.{in_any_world_meaning}
 use Rattle.agreement.specs.Modules.Agreement.{Like, MayEnd, ModuleEnding, Trapped, ended_with, ending_told, output_in}
 use Rattle.sem_scripts.specs.ScriptRun.{Exhausted, GoesOn}
-use Rattle.sem_scripts.specs.Kept.{output_of}
-use Rattle.agreement.specs.Runs.ToldRuns.{AnyhowRun, FoundRun, Tells, TellsEnding, ToldRun}
+use Rattle.sem_scripts.specs.MoreTurns.{output_of}
+use Rattle.agreement.specs.Runs.ToldRuns.{InAnyWorldRun, FoundRun, Tells, TellsEnding, ToldRun}
 use Rattle.agreement.proofs.RunsLemmas.Carried.{run_carried}
 use Rattle.agreement.proofs.RunsLemmas.Finding.{finds_more, finds_run, from_start}
-use Rattle.agreement.proofs.RunsLemmas.Following.{ShownAfter, anyhow_follows, table_follows}
+use Rattle.agreement.proofs.RunsLemmas.Following.{ShownAfter, in_any_world_follows, table_follows}
 use Rattle.agreement.proofs.RunsLemmas.Outsides.{run_makes}
 use Rattle.agreement.proofs.RunsLemmas.Wanting.{wanted}
 
@@ -51,7 +51,7 @@ ended_output : (kept : Option Fault) (n : ℤ) (out : List Action) → output_of
 ended_output (Some fault) n out = refl
 ended_output None n out = refl
 
-module _ (m : ModuleForm) (typed : ModuleOk m) (a : MachineForm) (new : IsNew host_finds m a) (job : JobForm) (input : Source) (outside : Surroundings) where
+module _ (m : ModuleForm) (typed : ModuleOk m) (a : MachineForm) (new : IsNew host_finds m a) (job : JobForm) (input : Source) (outside : Environment) where
   abbrev start : HostState
   start = state_in job input outside
 
@@ -110,7 +110,7 @@ not_wanting (Ended (ends.Trapped kind)) e q ne is = let z : Some (machine.Trappe
 not_wanting (Ended ends.Exhausted) e q ne is = let z : Some machine.Exhausted ≡ Some machine.NoMemory = q ∙ ap Some is in cc
 not_wanting (Ended ends.Stuck) e q ne is = cc
 
--- over a world that tells what it holds
+-- over a modelled world
 module _ (m : ModuleForm) (typed : ModuleOk m) (a : MachineForm) (new : IsNew host_finds m a) (job : JobForm) (input : Source) (outside : Outside)
     (tells : Type 0) (t : tells) (f : HostForm) (begins : Shown f (state_at_start job input outside)) where
   abbrev first : HostState
@@ -125,7 +125,7 @@ module _ (m : ModuleForm) (typed : ModuleOk m) (a : MachineForm) (new : IsNew ho
   wanted_run k out c1 f1 r =
       let x = wanted tells t a.program k a.conf f [] first begins_so out c1 f1 r in
       let h = x.0 in
-      let y = has_ending m typed a new job input (Kept outside) h.0 (out ++ h.2) h.3 h.4 h.5 h.6 (safe m typed a new job input (Kept outside) h.0 (out ++ h.2) h.3 h.4 h.5 h.7) h.7 in
+      let y = has_ending m typed a new job input (Closed outside) h.0 (out ++ h.2) h.3 h.4 h.5 h.6 (safe m typed a new job input (Closed outside) h.0 (out ++ h.2) h.3 h.4 h.5 h.7) h.7 in
       record { output = out; tells = (h.0, h.1, y.0, h.2, y.1, y.2); applied = x.1 }
 
   told_run_by : (k : ℕ) (out : List Action) (r : RunEnd) (c1 : Conf) (f1 : HostForm) → r ≢ NoMemory → Ran (form_meaning tells) a.program k a.conf (Told f) out r c1 (Told f1)
@@ -134,7 +134,7 @@ module _ (m : ModuleForm) (typed : ModuleOk m) (a : MachineForm) (new : IsNew ho
       let x = run_carried tells table_meaning ShownAfter (table_follows tells t) a.program k a.conf f out c1 f1 [] first begins_so r ne ran in
       record {
         output = out;
-        tells = tells_ending m typed a new job input (Kept outside) k out r c1 x.state f1.fault (shown_fault (form_with_output out f1) x.state x.shows) x.ran e told other;
+        tells = tells_ending m typed a new job input (Closed outside) k out r c1 x.state f1.fault (shown_fault (form_with_output out f1) x.state x.shows) x.ran e told other;
         applied = sym (shown_outside (form_with_output out f1) x.state x.shows) ∙ run_makes a.program k a.conf first out r c1 x.state x.ran;
       }
 
@@ -154,7 +154,7 @@ module _ (m : ModuleForm) (typed : ModuleOk m) (a : MachineForm) (new : IsNew ho
       by OutOfSteps q ran = told_run_by k d.0 OutOfSteps c1 f1 (λ z. cc) ran e q (not_wanting OutOfSteps e q (λ z. cc))
       by (Ended x) q ran = told_run_by k d.0 (Ended x) c1 f1 (λ z. cc) ran e q (not_wanting (Ended x) e q (λ z. cc))
 
--- A run over any world, as one in surroundings that others change too.
+-- A run over any world, as one in an environment that others change too.
 module _ (m : ModuleForm) (typed : ModuleOk m) (a : MachineForm) (new : IsNew host_finds m a) (job : JobForm) (input : Source) (outside : Outside)
     (tells : Type 0) (f : HostForm) (begins : Shown f (state_at_start job input outside)) where
   wanted_there : (k : ℕ) (out : List Action) (c1 : Conf) (f1 : HostForm) → Ran (form_meaning tells) a.program k a.conf (Told f) out NoMemory c1 (Told f1)
@@ -163,15 +163,15 @@ module _ (m : ModuleForm) (typed : ModuleOk m) (a : MachineForm) (new : IsNew ho
       let w = finds_more tells a.program k a.conf f out c1 f1 r in
       let x = from_start f w.0 (λ s o s1. HasMore table_meaning a.program k a.conf s o) job input outside begins w.1 in
       let h = x.4 in
-      let y = has_ending m typed a new job nothing_left (Found x.0) h.0 (x.1 ++ h.2) h.3 h.4 h.5 h.6
-      (safe m typed a new job nothing_left (Found x.0) h.0 (x.1 ++ h.2) h.3 h.4 h.5 h.7) h.7 in
+      let y = has_ending m typed a new job nothing_left (Opened x.0) h.0 (x.1 ++ h.2) h.3 h.4 h.5 h.6
+      (safe m typed a new job nothing_left (Opened x.0) h.0 (x.1 ++ h.2) h.3 h.4 h.5 h.7) h.7 in
       record { finds = x.0; output = x.1; tells = (h.0, h.1, y.0, h.2, y.1, y.2) }
 
   found_there : (k : ℕ) (out : List Action) (r : RunEnd) (c1 : Conf) (f1 : HostForm) → r ≢ NoMemory → Ran (form_meaning tells) a.program k a.conf (Told f) out r c1 (Told f1)
       → (e : MachineEnd) → told_run r ≡ Some e → e ≢ machine.NoMemory → FoundRun m job k e f1
   found_there k out r c1 f1 ne ran e told other =
       let x = from_start f f1 (λ s o s1. Ran table_meaning a.program k a.conf s o r c1 s1) job input outside begins (finds_run tells a.program k a.conf f out c1 f1 r ne ran) in
-      record { finds = x.0; output = x.1; tells = tells_ending m typed a new job nothing_left (Found x.0) k x.1 r c1 x.2 f1.fault x.3 x.4 e told other }
+      record { finds = x.0; output = x.1; tells = tells_ending m typed a new job nothing_left (Opened x.0) k x.1 r c1 x.2 f1.fault x.3 x.4 e told other }
 
   -- WHAT A MACHINE DID, over any world
   pub did_find : (k : ℕ) (e : MachineEnd) (c1 : Conf) (f1 : HostForm) → Did (form_meaning tells) a.program k a.conf (Told f) e c1 (Told f1) → FoundRun m job k e f1
@@ -189,8 +189,8 @@ module _ (m : ModuleForm) (typed : ModuleOk m) (a : MachineForm) (new : IsNew ho
       by (Ended x) q ran = found_there k d.0 (Ended x) c1 f1 (λ z. cc) ran e q (not_wanting (Ended x) e q (λ z. cc))
 
 -- A run over any world.
-pub anyhow_run : (tells : Type 0) (m : ProgramForm) (n : ℕ) (c : Conf) (f : HostForm) (output : List Action) (r : RunEnd) (c1 : Conf) (f1 : HostForm) (s : HostState)
-    → Shown f s → r ≢ NoMemory → Ran (form_meaning tells) m n c (Told f) output r c1 (Told f1) → AnyhowRun m n c s output r c1 f1
-anyhow_run tells m n c f output r c1 f1 s h ne ran =
-    let x = run_carried tells anyhow_meaning (λ so_far. Shown) (anyhow_follows tells) m n c f output c1 f1 [] s h r ne ran in
+pub in_any_world_run : (tells : Type 0) (m : ProgramForm) (n : ℕ) (c : Conf) (f : HostForm) (output : List Action) (r : RunEnd) (c1 : Conf) (f1 : HostForm) (s : HostState)
+    → Shown f s → r ≢ NoMemory → Ran (form_meaning tells) m n c (Told f) output r c1 (Told f1) → InAnyWorldRun m n c s output r c1 f1
+in_any_world_run tells m n c f output r c1 f1 s h ne ran =
+    let x = run_carried tells in_any_world_meaning (λ so_far. Shown) (in_any_world_follows tells) m n c f output c1 f1 [] s h r ne ran in
     record { state' = x.state; shown = x.shows; ran = x.ran }

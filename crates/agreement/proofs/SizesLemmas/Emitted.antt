@@ -27,7 +27,7 @@ use Rattle.mid_program.specs.declared.mid.Operation.{Operation}
 use Rattle.mid_program.specs.declared.mid.Operation.TheVariants.{Host, Inline, AsNumber, FieldNumber}
 use Rattle.mid_program.specs.MidMeaning.{three_values}
 use Rattle.sem_scripts.specs.Names.{ArrayName, Numbered, Given}
-use Rattle.mid_program.specs.Mid.{Kind, Boxed, Unboxed, Many, Slot, Global, Parameter, Code, Do, Over, Compare, Call, Ask, AskLine, FileLine, Replace, Number, Text, Unset, Get, Set, Array, IsOpen, Choose, Seq, Let, Bound, Codes, End, At, Fixed, Fresh, Form, Answered, Bare, Perhaps, a_value, form_of, form_at, arguments, parameters_at}
+use Rattle.mid_program.specs.Mid.{Kind, Boxed, Unboxed, ArrayKind, Slot, Global, Parameter, Code, Do, Over, Compare, Call, Ask, AskLine, FileLine, Replace, Number, Text, Unset, Get, Set, Array, IsOpen, Choose, Seq, Let, Bound, Codes, End, At, Fixed, Fresh, Form, PrimitiveAnswer, NumberOrText, OptionalNumber, a_value, form_of, form_at, arguments, parameters_at}
 use Rattle.mid_program.specs.Sorted.{count_of}
 use Rattle.sem_scripts.specs.Steps.{is_field_number}
 use Rattle.lower_model.specs.Quick.{addition_in}
@@ -144,14 +144,14 @@ module _ (b : Bases) {k : Instructions} where
   kept_fits f a t d r = r
 
   pub to_value_fits : (f : Form) (t : ℕ) → Fits k → Fits (to_value b f t k)
-  to_value_fits (Answered (answer.Of sort.Value)) t r = r
+  to_value_fits (PrimitiveAnswer (answer.Of sort.Value)) t r = r
   to_value_fits f t r = record { has = r.has }
 
   code_number_fits : (t : ℕ) → Fits k → Fits (code_number b t k)
   code_number_fits t r = record { has = r.has }
 
   pub to_number_fits : (f : Form) (t d : ℕ) → Fits k → Fits (to_number b f t d k)
-  to_number_fits (Answered (answer.Of sort.Value)) t d r = record { has = r.has }
+  to_number_fits (PrimitiveAnswer (answer.Of sort.Value)) t d r = record { has = r.has }
   to_number_fits f t d r = record { has = r.has }
 
   converted_fits : (f : Form) (s : Sort) (t d : ℕ) → Fits k → Fits (converted b f s t d k)
@@ -160,21 +160,21 @@ module _ (b : Bases) {k : Instructions} where
   converted_fits f s t d r = r
 
   pub truth_fits : (f : Form) (t : ℕ) → Fits k → Fits (truth b f t k)
-  truth_fits (Answered (answer.Of sort.Value)) t r = record { has = r.has }
+  truth_fits (PrimitiveAnswer (answer.Of sort.Value)) t r = record { has = r.has }
   truth_fits f t r = record { has = r.has }
 
   unused_fits : (f : Form) (t : ℕ) → Fits k → Fits (unused b f t k)
-  unused_fits (Answered (answer.Of sort.Value)) t r = record { has = r.has }
+  unused_fits (PrimitiveAnswer (answer.Of sort.Value)) t r = record { has = r.has }
   unused_fits f t r = record { has = r.has }
 
   released_fits : (f : Form) (t : ℕ) → Fits k → Fits (released b f t k)
-  released_fits (Answered (answer.Of sort.Value)) t r = record { has = r.has }
+  released_fits (PrimitiveAnswer (answer.Of sort.Value)) t r = record { has = r.has }
   released_fits f t r = record { has = r.has }
 
   bound_fits : (z : Bool) (f : Form) (s t : ℕ) → Fits k → Fits (bound_from b z f s t k)
-  bound_fits true (Answered (answer.Of sort.Value)) s t r = record { has = r.has }
+  bound_fits true (PrimitiveAnswer (answer.Of sort.Value)) s t r = record { has = r.has }
   bound_fits true f s t r = record { has = r.has }
-  bound_fits false (Answered (answer.Of sort.Value)) s t r = record { has = r.has }
+  bound_fits false (PrimitiveAnswer (answer.Of sort.Value)) s t r = record { has = r.has }
   bound_fits false f s t r = record { has = r.has }
 
   moved_fits : (f : Form) (s t : ℕ) → Fits k → Fits (moved_from b f s t k)
@@ -188,12 +188,12 @@ module _ (b : Bases) {k : Instructions} where
   field_fits t d r = record { has = r.has }
 
   zeroed_fits : (f : Form) (t : ℕ) → Fits k → Fits (zeroed_if b f t k)
-  zeroed_fits Bare t r = record { has = r.has }
+  zeroed_fits NumberOrText t r = record { has = r.has }
   zeroed_fits f t r = record { has = r.has }
 
   beside_fits : (f g : Form) (t : ℕ) → Fits k → Fits (texts_beside b f g t k)
-  beside_fits Bare Bare t r = record { has = r.has }
-  beside_fits Bare g t r = record { has = r.has }
+  beside_fits NumberOrText NumberOrText t r = record { has = r.has }
+  beside_fits NumberOrText g t r = record { has = r.has }
   beside_fits f g t r = record { has = r.has }
 
 module _ (b : Bases) {k : Instructions} where
@@ -249,11 +249,11 @@ module _ (y : Layout) (names : length y.names ≤ 2 ^ 24) (memory : length (memo
 
   module _ {k : Instructions} where
     stored_fits : (o : Bool) (f : Form) (t : ℕ) (put : Simple) → fits_simple put ≡ true → Fits k → Fits (value_stored y o f t put k)
-    stored_fits o (Answered (answer.Of sort.Value)) t put e r = handle_fits o t put e r
-    stored_fits o (Answered (answer.Of sort.Number)) t put e r = plain _ refl (plain _ refl (plain put e r))
-    stored_fits o (Answered answer.Truth) t put e r = plain _ refl (plain _ refl (plain put e r))
-    stored_fits o Bare t put e r = plain _ refl (plain _ refl (plain _ refl (choice (handle_fits o t put e none) (perhaps_fits t put e none) r)))
-    stored_fits o Perhaps t put e r = perhaps_fits t put e r
+    stored_fits o (PrimitiveAnswer (answer.Of sort.Value)) t put e r = handle_fits o t put e r
+    stored_fits o (PrimitiveAnswer (answer.Of sort.Number)) t put e r = plain _ refl (plain _ refl (plain put e r))
+    stored_fits o (PrimitiveAnswer answer.Truth) t put e r = plain _ refl (plain _ refl (plain put e r))
+    stored_fits o NumberOrText t put e r = plain _ refl (plain _ refl (plain _ refl (choice (handle_fits o t put e none) (perhaps_fits t put e none) r)))
+    stored_fits o OptionalNumber t put e r = perhaps_fits t put e r
     stored_fits o f t put e r = plain _ refl (plain put e r)
 
   module _ {k : Instructions} where
@@ -266,11 +266,11 @@ module _ (y : Layout) (names : length y.names ≤ 2 ^ 24) (memory : length (memo
     assigned_fits : (kind : Kind) (i t : ℕ) → Fits k → Fits (assigned y kind i t k)
     assigned_fits Boxed i t r = record { has = r.has }
     assigned_fits Unboxed i t r = record { has = r.has }
-    assigned_fits Many i t r = r
+    assigned_fits ArrayKind i t r = r
 
   by_number_fits : {k : Instructions} (ks : List Kind) (i t : ℕ) → i + length ks ≤ 2 ^ 24 → Fits k → Fits (assigned_by_number y ks i t k)
   by_number_fits [] i t few r = r
-  by_number_fits (Many ∷ ks) i t few r = by_number_fits ks (suc i) t (omega (arith, few)) r
+  by_number_fits (ArrayKind ∷ ks) i t few r = by_number_fits ks (suc i) t (omega (arith, few)) r
   by_number_fits (Boxed ∷ ks) i t few r =
       plain _ refl (plain (I64Const i) (long_fits i (omega (arith, few))) (plain _ refl
       (choice (assigned_fits Boxed i t none) none (by_number_fits ks (suc i) t (omega (arith, few)) r))))
@@ -343,7 +343,7 @@ module _ (y : Layout) (names : length y.names ≤ 2 ^ 24) (memory : length (memo
     one_fits : (kind : Kind) (e : Code) (t : ℕ) → Fits k → Fits (one_given y kind e t k)
     one_fits Boxed e t r = record { has = r.has }
     one_fits Unboxed e t r = record { has = r.has }
-    one_fits Many e t r = array_fits (array_meant e) r
+    one_fits ArrayKind e t r = array_fits (array_meant e) r
 
   given_pushed_fits : {k : Instructions} (ks : List Kind) (es : Codes) (t w : ℕ) → Fits k → Fits (all_given_pushed y ks es t w k)
   given_pushed_fits (kind ∷ ks) (At e es) t w r = one_fits kind e t (given_pushed_fits ks es (suc t) w r)

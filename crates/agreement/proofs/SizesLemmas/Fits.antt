@@ -8,7 +8,7 @@ use Rattle.wasm_types.specs.declared.instr.Simple.{Simple}
 use Rattle.wasm_types.specs.declared.instr.Simple.TheVariants.{Call, Load, Store, I32Const, I64Const}
 use Rattle.lower_model.specs.Modules.{renumbered, renumbered_one}
 use Rattle.lower_model.specs.Places.{memory_of, place_of}
-use Rattle.lower_model.specs.Small.{does, either}
+use Rattle.lower_model.specs.Small.{emit, emit_if}
 use Rattle.lower_model.specs.Statements.{again, block}
 use Rattle.module_writer.specs.Limits.{HasWords, HaveWords, WordFits}
 
@@ -37,10 +37,10 @@ pub record Fits (k : Instructions) : Type 0 where
 pub none : Fits Done
 none = record { has = refl }
 
-pub plain : {k : Instructions} (i : Simple) → fits_simple i ≡ true → Fits k → Fits (does i k)
+pub plain : {k : Instructions} (i : Simple) → fits_simple i ≡ true → Fits k → Fits (emit i k)
 plain {k = k} i e r = record { has = subst (λ (b : Bool). cond b (fits_all k) false ≡ true) (sym e) r.has }
 
-pub choice : {a c k : Instructions} → Fits a → Fits c → Fits k → Fits (either a c k)
+pub choice : {a c k : Instructions} → Fits a → Fits c → Fits k → Fits (emit_if a c k)
 choice {a = a} {c = c} {k = k} f g r = record {
   has = subst (λ (b : Bool). cond (cond b (fits_all c) false) (fits_all k) false ≡ true) (sym f.has)
       (subst (λ (b : Bool). cond b (fits_all k) false ≡ true) (sym g.has) r.has);

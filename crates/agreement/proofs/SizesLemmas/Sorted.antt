@@ -15,7 +15,7 @@ use Rattle.sem_primitives.specs.declared.table.Primitive.TheVariants as row
 use Rattle.mid_program.specs.declared.mid.Operation.{Operation}
 use Rattle.mid_program.specs.declared.mid.Operation.TheVariants.{Host, Inline, AsNumber, FieldNumber}
 use Rattle.mid_program.specs.MidMeaning.{three_values}
-use Rattle.mid_program.specs.Mid.{Kind, Boxed, Unboxed, Many, Code, Do, Over, Compare, Call, Ask, AskLine, FileLine, Replace, Number, Text, Unset, Get, Set, Array, IsOpen, Choose, Seq, Let, Bound, Codes, End, At, Fixed, Fresh, Step, Eval, Block, If, Loop, Each, Break, Continue, Next, Exit, ExitWith, Return, Mark, Steps, NoStep, Then, Form, a_value, arguments, form_of, parameters_at}
+use Rattle.mid_program.specs.Mid.{Kind, Boxed, Unboxed, ArrayKind, Code, Do, Over, Compare, Call, Ask, AskLine, FileLine, Replace, Number, Text, Unset, Get, Set, Array, IsOpen, Choose, Seq, Let, Bound, Codes, End, At, Fixed, Fresh, Step, Eval, Block, If, Loop, Each, Break, Continue, Next, Exit, ExitWith, Return, Mark, Steps, NoStep, Then, Form, a_value, arguments, form_of, parameters_at}
 use Rattle.mid_program.specs.Sorted.{Context, all_sorted, all_values, are_enough, are_missing, count_of, fit_call, fit_row, fits, is_array_place, is_chosen, is_constant, is_done_here, is_dropped, is_given, is_kept, is_slot, is_tested, keeps_well, sorted, step_sorted, steps_sorted, stores_well, takes, test_sorted}
 use Rattle.lower_model.specs.Places.{room, rooms, step_room, steps_room}
 use Rattle.agreement.proofs.SizesLemmas.Small.{AllSmall, Small, SmallStep, SmallSteps}
@@ -156,15 +156,15 @@ call_fixed fs [] (At e es) h = absurd cc
 call_fixed fs [] (Fixed n es) h = absurd cc
 call_fixed fs [] (Fresh es) h = absurd cc
 call_fixed fs (k ∷ ks) (At e es) h = call_fixed fs ks es (and_parts (is_given (form_of fs e) k) (fit_call fs ks es) h).1
-call_fixed fs (Many ∷ ks) (Fresh es) h = call_fixed fs ks es h
+call_fixed fs (ArrayKind ∷ ks) (Fresh es) h = call_fixed fs ks es h
 call_fixed fs (Boxed ∷ ks) (Fresh es) h = absurd cc
 call_fixed fs (Unboxed ∷ ks) (Fresh es) h = absurd cc
 call_fixed fs (Boxed ∷ ks) (Fixed n es) h = absurd cc
 call_fixed fs (Unboxed ∷ ks) (Fixed n es) h = absurd cc
-call_fixed fs (Many ∷ ks) (Fixed n es) h = absurd cc
+call_fixed fs (ArrayKind ∷ ks) (Fixed n es) h = absurd cc
 call_fixed fs (Boxed ∷ ks) End h = absurd cc
 call_fixed fs (Unboxed ∷ ks) End h = absurd cc
-call_fixed fs (Many ∷ ks) End h = absurd cc
+call_fixed fs (ArrayKind ∷ ks) End h = absurd cc
 
 -- ---- room
 

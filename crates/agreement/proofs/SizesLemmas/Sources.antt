@@ -10,7 +10,7 @@ use Rattle.mid_program.specs.declared.mid.Operation.TheVariants.{Inline}
 use Rattle.mid_program.specs.Mid.{Code, Codes, End, At}
 use Rattle.lower_model.specs.Emission.{Layout, name_read, source_pushed, added, added_or}
 use Rattle.lower_model.specs.Quick.{Holder, OfName, OfParameter, Source, Held, Constant, source_in, is_near, is_sum, joined, all_unsure, Addition, addition_names, addition_of, addition_in}
-use Rattle.lower_model.specs.Small.{does}
+use Rattle.lower_model.specs.Small.{emit}
 use Rattle.lower_model.proofs.QuickNames.{source_code, source_is}
 use Rattle.agreement.proofs.SizesLemmas.Fits.{Fits, choice, long_fits, none, plain}
 use Rattle.agreement.proofs.SizesLemmas.Small.{AllSmall, Small}
@@ -61,7 +61,7 @@ addition_small o es s = tt
 
 module _ (y : Layout) where
   -- a holder's number is read
-  pub read_fits : {k : Instructions} (h : Holder) → Fits k → Fits (does (name_read y h) k)
+  pub read_fits : {k : Instructions} (h : Holder) → Fits k → Fits (emit (name_read y h) k)
   read_fits (OfName i) r = plain _ refl r
   read_fits (OfParameter i) r = plain _ refl r
 

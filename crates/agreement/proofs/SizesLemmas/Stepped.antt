@@ -15,14 +15,14 @@ use Rattle.wasm_types.specs.declared.instr.IBinOp.{IBinOp}
 use Rattle.wasm_types.specs.declared.instr.Simple.TheVariants.{Br, I32Const, I64Const}
 use Rattle.mid_program.specs.declared.mid.Arithmetic.{Arithmetic}
 use Rattle.mid_program.specs.declared.mid.Operation.TheVariants.{Inline}
-use Rattle.mid_program.specs.Mid.{Kind, Boxed, Unboxed, Many, Parameter, Code, Get, Do, Compare, Number, Set, Let, Bound, Codes, End, At, Choose, Step, Eval, Block as Steps_, If as Either, Loop, Each, Break, Continue, Next, Exit, ExitWith, Return, Mark, Steps, NoStep, Then as AndThen, Program, Form, Answered, Bare, Perhaps, a_value, form_of}
+use Rattle.mid_program.specs.Mid.{Kind, Boxed, Unboxed, ArrayKind, Parameter, Code, Get, Do, Compare, Number, Set, Let, Bound, Codes, End, At, Choose, Step, Eval, Block as Steps_, If as Either, Loop, Each, Break, Continue, Next, Exit, ExitWith, Return, Mark, Steps, NoStep, Then as AndThen, Program, Form, PrimitiveAnswer, NumberOrText, OptionalNumber, a_value, form_of}
 use Rattle.sem_scripts.specs.Names.{ArrayName}
 use Rattle.lower_model.specs.Emission.{Layout, field_at}
 use Rattle.lower_model.specs.Places.{Bases, memory_of}
 use Rattle.lower_model.specs.Quick.{Within, test_within, both_within, compared_within, constant_in, first_ones, name_in, Holder, OfName, OfParameter, holder_of, set_after, set_alone, Source, Held, Constant, source_in, Sum, sum_names, sum_op, sum_in, Update, update_in, Tally, tally_in, Remainder, remainder_in, remainder_names, most_multiplied, multiplied, Counted, counted_in, sum_of, two_sum, set_sum, kept_sum, update_sum, old_source, stored_name, new_sum, let_sum, is_near, Pair, pair_names, pair_in, pair_of, step_jumps, is_nothing}
 use Rattle.lower_model.specs.Statements.{answer_given, returned, name_put, summed, name_numbered, source_numbered, source_taken, sum_kept, sum_taken, summed_anyway, both_asked, element_numbered, element_given, remainder_taken, remainder_dropped, barely_dropped, plainly_dropped, quickly_dropped, left_unless_counted, pair_left, left_unless_pair, left_unless, all_emptied, arrays_emptied, arrays_swept, before_parts, declared, goes_on, iterator_left, iterators_emptied, iterators_swept, key_stored, left_by, main_body, names_declared, names_made, parameters_dropped, part_done, record_done, records_read, routine_body, routines_declared, step_emitted, steps_emitted, swept, temporaries_emptied, temporaries_swept, has_functions, left_swept}
 use Rattle.std.proofs.lemmas.Bool.{leb-true}
-use Rattle.lower_model.specs.Small.{does}
+use Rattle.lower_model.specs.Small.{emit}
 use Rattle.lower_model.proofs.Quick.{constant_is, shift_pos}
 use Rattle.lower_model.proofs.QuickNames.{near_sum, some_is}
 use Rattle.lower_model.proofs.Tallies.{Shape, Updating, Following, Leading, tally_code, tally_is}
@@ -131,7 +131,7 @@ module _ (y : Layout) (names : length y.names ≤ 2 ^ 24) (memory : length (memo
   b = y.bases
 
   -- a holder's number is written
-  put_fits : {k : Instructions} (h : Holder) → Fits k → Fits (does (name_put y h) k)
+  put_fits : {k : Instructions} (h : Holder) → Fits k → Fits (emit (name_put y h) k)
   put_fits (OfName i) r = plain _ refl r
   put_fits (OfParameter i) r = plain _ refl r
 
@@ -256,11 +256,11 @@ module _ (y : Layout) (names : length y.names ≤ 2 ^ 24) (memory : length (memo
     left_fits way d e r = plain (I32Const way) e (plain _ refl (plain _ refl r))
 
   answer_fits : {k : Instructions} (f : Form) (d : ℕ) → Fits k → Fits (answer_given y f d k)
-  answer_fits (Answered (answer.Of sort.Value)) d r = record { has = r.has }
-  answer_fits (Answered (answer.Of sort.Number)) d r = record { has = r.has }
-  answer_fits (Answered answer.Truth) d r = record { has = r.has }
-  answer_fits Bare d r = record { has = r.has }
-  answer_fits Perhaps d r = record { has = r.has }
+  answer_fits (PrimitiveAnswer (answer.Of sort.Value)) d r = record { has = r.has }
+  answer_fits (PrimitiveAnswer (answer.Of sort.Number)) d r = record { has = r.has }
+  answer_fits (PrimitiveAnswer answer.Truth) d r = record { has = r.has }
+  answer_fits NumberOrText d r = record { has = r.has }
+  answer_fits OptionalNumber d r = record { has = r.has }
   answer_fits f d r = record { has = r.has }
 
   returned_fits : {k : Instructions} (e : Code) (d : ℕ) → Small e → Fits k → Fits (returned y e d k)
@@ -351,7 +351,7 @@ module _ (y : Layout) (names : length y.names ≤ 2 ^ 24) (memory : length (memo
   parameters_fit x [] r = r
   parameters_fit x (Boxed ∷ ks) r = plain _ refl (plain _ refl (parameters_fit (suc x) ks r))
   parameters_fit x (Unboxed ∷ ks) r = parameters_fit (suc x) ks r
-  parameters_fit x (Many ∷ ks) r = parameters_fit (suc x) ks r
+  parameters_fit x (ArrayKind ∷ ks) r = parameters_fit (suc x) ks r
 
   -- A FUNCTION
   pub routine_fits : (ks : List Kind) (body : Steps) → SmallSteps body → Fits (routine_body y ks body)
@@ -381,7 +381,7 @@ module _ (y : Layout) (names : length y.names ≤ 2 ^ 24) (memory : length (memo
   made_fit i [] r = r
   made_fit i (Boxed ∷ ks) r = plain _ refl (plain _ refl (made_fit (suc i) ks r))
   made_fit i (Unboxed ∷ ks) r = made_fit (suc i) ks r
-  made_fit i (Many ∷ ks) r = plain _ refl (plain _ refl (made_fit (suc i) ks r))
+  made_fit i (ArrayKind ∷ ks) r = plain _ refl (plain _ refl (made_fit (suc i) ks r))
 
   before_fits : {k : Instructions} (p : Program) → Fits k → Fits (before_parts y p k)
   before_fits p r =

@@ -18,8 +18,8 @@ use Rattle.lower_model.specs.Machine.{Callee}
 use Rattle.lower_model.specs.Modules.{all_callees, called_imports, functions_from, imported_from, imports_of, module_of, name_globals, renumbered, word_global}
 use Rattle.lower_model.specs.Places.{Bases, handle_types, local_types, memory_of, temporary_types}
 use Rattle.host_imports.specs.declared.import.Import.{Import}
-use Rattle.host_imports.specs.declared.import.Import.TheVariants.{Of, Over, Arg, Drop, IterFree, FreeArray}
-use Rattle.host_imports.specs.declared.import.Listing.TheVariants.{Sprintf, Print, Printf}
+use Rattle.host_imports.specs.declared.import.Import.TheVariants.{OfPrimitive, Variadic, Arg, Drop, IterFree, FreeArray}
+use Rattle.host_imports.specs.declared.import.VariadicImport.TheVariants.{Sprintf, Print, Printf}
 use Rattle.module_writer.specs.Limits.{HaveWords, HoldsWords, PassesALimit}
 use Rattle.module_writer.specs.Limits as limit
 use Rattle.module_writer.specs.Size.{data_size, global_size, module_size}
@@ -43,7 +43,7 @@ each_ascii (c ∷ cs) e (suc i) = each_ascii cs (both_true (ltb c 128) (all_asci
 text : (cs : List ℕ) → all_ascii cs ≡ true → IsUtf8 cs
 text cs e = IsUtf8-from_ascii cs (each_ascii cs e)
 
-primitive_text : (p : Primitive) → all_ascii (import_name (Of p)) ≡ true
+primitive_text : (p : Primitive) → all_ascii (import_name (OfPrimitive p)) ≡ true
 primitive_text row.Num = refl
 primitive_text row.Lit = refl
 primitive_text row.Uninit = refl
@@ -95,10 +95,10 @@ primitive_text row.Clear = refl
 primitive_text row.Flush = refl
 
 import_text : (i : Import) → all_ascii (import_name i) ≡ true
-import_text (Of p) = primitive_text p
-import_text (Over Sprintf) = refl
-import_text (Over Print) = refl
-import_text (Over Printf) = refl
+import_text (OfPrimitive p) = primitive_text p
+import_text (Variadic Sprintf) = refl
+import_text (Variadic Print) = refl
+import_text (Variadic Printf) = refl
 import_text Arg = refl
 import_text Drop = refl
 import_text IterFree = refl

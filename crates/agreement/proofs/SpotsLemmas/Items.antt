@@ -12,7 +12,7 @@ use Rattle.sem_scripts.specs.Meaning.{Calls}
 use Rattle.mid_program.specs.Mid.{Kind, Slot, Code, Mark, Step, Block, NoStep, Then}
 use Rattle.mid_program.specs.MidMeaning.{evaluated, stepped}
 use Rattle.sem_scripts.specs.Names.{Scope}
-use Rattle.sem_scripts.specs.ScriptState.{Doing, ◌>>=◌, ◌>>◌, give, look, change, with_range}
+use Rattle.sem_scripts.specs.ScriptState.{Execution, ◌>>=◌, ◌>>◌, give, look, change, with_range}
 use Rattle.sem_scripts.specs.Statements.{Flow, Normal, after}
 use Rattle.mid_program.specs.Texts.{texts_in, pattern_texts, stmt_texts, stmts_texts}
 use Rattle.mid_program.specs.Translation.{steps_code, step_code, where_code}
@@ -29,18 +29,18 @@ use Rattle.agreement.specs.Spots.Spots.{Frame, Home, Part, PatternPart, Asked, U
 use Rattle.agreement.proofs.SpotsLemmas.Final.{DoesSo}
 use Rattle.agreement.proofs.SpotsLemmas.Statements.{noted_at, met_so, step_so}
 
-either_goes_on : (b : Bool) (m k : Doing (Unit {0})) → ((if b then m else k) >> give Normal) ≡ (if b then (m >> give Normal) else (k >> give Normal))
+either_goes_on : (b : Bool) (m k : Execution (Unit {0})) → ((if b then m else k) >> give Normal) ≡ (if b then (m >> give Normal) else (k >> give Normal))
 either_goes_on true m k = refl
 either_goes_on false m k = refl
 
 -- what a test decides to do, as a statement
-decided : (c : Doing Bool) (m k : Doing (Unit {0})) → (c >>= λ b. if b then (m >> give Normal) else (k >> give Normal)) ≡ ((c >>= λ b. if b then m else k) >> give Normal)
+decided : (c : Execution Bool) (m k : Execution (Unit {0})) → (c >>= λ b. if b then (m >> give Normal) else (k >> give Normal)) ≡ ((c >>= λ b. if b then m else k) >> give Normal)
 decided c m k =
     sym (assoc c (λ b. if b then m else k) (λ u. give Normal)
     ∙ under c (λ b. (if b then m else k) >> give Normal) (λ b. if b then (m >> give Normal) else (k >> give Normal)) (λ b. either_goes_on b m k))
 
 module _ (notes : Notes) (y : Layout) (slots : Slot → Slot) (texts : List (List ℕ)) (parameters : List (List Kind)) (n : ℕ) (calls : Calls) (scope : Scope) (so : DoesSo slots texts parameters n calls scope) where
-  abbrev noting : Step → Position → Doing Flow
+  abbrev noting : Step → Position → Execution Flow
   noting s r = noted_at notes y texts parameters n calls s r
 
   abbrev at : Step → Position → Instructions
@@ -69,7 +69,7 @@ module _ (notes : Notes) (y : Layout) (slots : Slot → Slot) (texts : List (Lis
     abbrev pub AskedAt : Option Pattern → Type 0
     AskedAt p = (part : PatternPart) → marks home (OfPattern part) ≡ notes (pattern_place y slots texts scope i p action part q)
 
-    abbrev done : Doing Flow
+    abbrev done : Execution Flow
     done = action_marked marks scope n calls home ss
 
     -- an action that stands there
@@ -90,7 +90,7 @@ module _ (notes : Notes) (y : Layout) (slots : Slot → Slot) (texts : List (Lis
       abbrev asks : PatternPart → List Action → List Action
       asks part = marks home (OfPattern part)
 
-      abbrev first_test : Doing (Unit {0})
+      abbrev first_test : Execution (Unit {0})
       first_test = mark (asks FirstTest) >> tested scope n calls t >>= λ c. if c then (mark (asks Opens) >> change (with_range i true)) else mark (asks StaysClosed)
 
       opens_so : AllStand texts (texts_in t) → noting (opening_step y slots texts scope i t) after_opening ≡ (opens_marked marks scope n calls home i t >> give Normal)
@@ -110,7 +110,7 @@ module _ (notes : Notes) (y : Layout) (slots : Slot → Slot) (texts : List (Lis
           ∙ (λ j. mark (asks Inside) >> look (range_open i) >>= λ now. if now then (mark (asks Entered) >> ((closes_marked marks scope n calls home i u >> give Normal) >>= λ flow. after flow (alone done j))) else (mark (asks Unmet) >> give Normal))
           ∙ (λ j. mark (asks Inside) >> look (range_open i) >>= λ now. if now then (mark (asks Entered) >> plainly (closes_marked marks scope n calls home i u) done j) else (mark (asks Unmet) >> give Normal))
 
-      abbrev inside : Doing Flow
+      abbrev inside : Execution Flow
       inside = mark (asks Inside) >> look (range_open i) >>= λ now. if now then (mark (asks Entered) >> closes_marked marks scope n calls home i u >> done) else (mark (asks Unmet) >> give Normal)
 
       range_so : AllStand texts (texts_in t) → AllStand texts (texts_in u) → noting action (aside q) ≡ done →

@@ -12,7 +12,7 @@ use Rattle.mid_program.specs.Mid.{Kind, Routine, Slot, Steps, parameters_at}
 use Rattle.mid_program.specs.MidMeaning.{global_name, routine_at, routine_name}
 use Rattle.sem_scripts.specs.Names.{Function, Resolved, Scope, function_at}
 use Rattle.sem_scripts.specs.ScriptRun.{Setting, as_name, run_with}
-use Rattle.sem_scripts.specs.ScriptState.{Doing, ◌>>=◌, ◌>>◌, nothing}
+use Rattle.sem_scripts.specs.ScriptState.{Execution, ◌>>=◌, ◌>>◌, nothing}
 use Rattle.mid_program.specs.Sorted.{calls_of}
 use Rattle.sem_scripts.specs.Statements.{Flow, after, entered, scope_in}
 use Rattle.mid_program.specs.Texts.{texts_in, all_texts, pattern_texts, stmt_texts, stmts_texts, item_texts, items_texts, functions_texts, texts_of_script}
@@ -39,7 +39,7 @@ unfolding stmt_texts stmts_texts texts_in all_texts
 print_stands texts = tt
 
 -- the code of a function, by its number
-routine_is : (texts : List (List ℕ)) (script : Resolved) (gs : List Kind) (ps : ℕ → List Kind) (fs : List Function) (f : ℕ) →
+pub routine_is : (texts : List (List ℕ)) (script : Resolved) (gs : List Kind) (ps : ℕ → List Kind) (fs : List Function) (f : ℕ) →
     routine_at (routines_with gs ps (map folded_routine (map (routine_code texts script) fs))) f ≡ routine_with gs (ps f) (folded_routine (routine_code texts script (function_at fs f)))
 unfolding steps_code
 routine_is texts script gs ps [] f = refl
@@ -79,7 +79,7 @@ module _ (notes : Notes) (script : Resolved) where
   abbrev scope_of : ℕ → Scope
   scope_of f = scope_in script (function_at script.functions f)
 
-  abbrev noted_body : ℕ → ℕ → Calls → Steps → Doing Flow
+  abbrev noted_body : ℕ → ℕ → Calls → Steps → Execution Flow
   noted_body n f calls ss = steps_noted notes (layout_at script (OfFunction f)) texts kinds n calls ss zero zero zero zero (routine_rest (bases_at script (OfFunction f)))
 
   body_is : (f : ℕ) → (routine_at (final_program script).routines f).body ≡ final_steps (slot_in (lanes_of script).globals (parameters f)) (steps_code texts (scope_of f) (body_of f))
@@ -109,7 +109,7 @@ module _ (notes : Notes) (script : Resolved) where
     abbrev so : DoesSo slots texts kinds n calls (top script)
     so = does_so_in [] n calls (top script) (heads_of_program texts script)
 
-    abbrev all_noted : Steps → Instructions → Doing Flow
+    abbrev all_noted : Steps → Instructions → Execution Flow
     all_noted ss k = steps_noted notes y texts kinds n calls (final_steps slots ss) zero zero zero zero k
 
     items_so : (i : ℕ) (is : List Item) → AllStand texts (items_texts is) → all_noted (items_code texts (top script) i is) out_of_part ≡ items_marked marks (top script) n calls i is

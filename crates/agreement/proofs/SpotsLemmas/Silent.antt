@@ -10,7 +10,7 @@ use Rattle.sem_scripts.specs.Items.{print_record, pattern_ranges, reads_records,
 use Rattle.sem_scripts.specs.Meaning.{Calls}
 use Rattle.sem_scripts.specs.Names.{Resolved, Scope, array_of, function_at, variable_of}
 use Rattle.sem_scripts.specs.ScriptRun.{Setting, as_name, parts_of, resolved_run, run_with}
-use Rattle.sem_scripts.specs.ScriptState.{Doing, ◌>>=◌, ◌>>◌, give, nothing, does}
+use Rattle.sem_scripts.specs.ScriptState.{Execution, ◌>>=◌, ◌>>◌, give, nothing, call}
 use Rattle.sem_scripts.specs.Statements.{Flow, Normal, after, after_round, loop, over_keys, test_of, maybe_test, maybe_done, done_by, all_done, called, entered, scope_in}
 use Rattle.sem_scripts.specs.Steps.{array_number, store_variable}
 use Rattle.agreement.specs.Spots.Marked.{no_marks, between_marked, done_marked, all_marked, marked_called, where_marked, items_marked, begun_marked, ended_marked, marked_parts, marked_run}
@@ -38,7 +38,7 @@ module _ (home : Home) (scope : Scope) (n : ℕ) (calls : Calls) where
     silent_statement (stmt.For i c p s) w =
         λ j. maybe_done scope n calls i >> loop n (maybe_test scope n calls c) (silent_statement s (Within (stmt.For i c p s) ∷ w) j) (silent_between (stmt.For i c p s) p w j)
     silent_statement (stmt.ForIn k a s) w =
-        λ j. array_number (array_of scope a) >>= λ i. does row.Iter (i, tt) >>= λ keys. over_keys n keys (store_variable (variable_of scope k)) (silent_statement s (Within (stmt.ForIn k a s) ∷ w) j)
+        λ j. array_number (array_of scope a) >>= λ i. call row.Iter (i, tt) >>= λ keys. over_keys n keys (store_variable (variable_of scope k)) (silent_statement s (Within (stmt.ForIn k a s) ∷ w) j)
     silent_statement (stmt.Jumping stmt.Break) w = refl
     silent_statement (stmt.Jumping stmt.Continue) w = refl
     silent_statement (stmt.Jumping stmt.Next) w = refl
@@ -61,7 +61,7 @@ module _ (scope : Scope) (n : ℕ) (calls : Calls) where
   unfolding done_by
   silent_action home ss = silent_statement home scope n calls (stmt.Block ss) []
 
-  silent_where : (home : Home) (i : ℕ) (p : Pattern) (action : Doing Flow) → where_marked no_marks scope n calls home i p action ≡ where_met scope n calls i p action
+  silent_where : (home : Home) (i : ℕ) (p : Pattern) (action : Execution Flow) → where_marked no_marks scope n calls home i p action ≡ where_met scope n calls i p action
   silent_where home i (item.One t) action = refl
   silent_where home i (item.Between t u) action = refl
 

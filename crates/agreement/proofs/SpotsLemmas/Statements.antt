@@ -12,7 +12,7 @@ use Rattle.sem_scripts.specs.Meaning.{Calls}
 use Rattle.mid_program.specs.Mid.{Kind, Slot, Code, End, Step, Eval, Block, Steps, NoStep}
 use Rattle.mid_program.specs.MidMeaning.{all_evaluated, evaluated, stepped}
 use Rattle.sem_scripts.specs.Names.{Scope, array_of, variable_of}
-use Rattle.sem_scripts.specs.ScriptState.{Doing, ◌>>=◌, ◌>>◌, give, nothing, stop, Nexted, does}
+use Rattle.sem_scripts.specs.ScriptState.{Execution, ◌>>=◌, ◌>>◌, give, nothing, stop, Nexted, call}
 use Rattle.sem_scripts.specs.Statements.{Flow, Normal, after, after_round, loop, over_keys, maybe_test, plain_done, maybe_done, done_by}
 use Rattle.sem_scripts.specs.Steps.{array_number}
 use Rattle.mid_program.specs.Texts.{texts_in, maybe_texts, maybe_plain_texts, plain_texts, stmt_texts, stmts_texts}
@@ -23,20 +23,20 @@ use Rattle.lower_model.specs.Emission.{Layout}
 use Rattle.lower_model.specs.Machine.{Notes}
 use Rattle.lower_model.specs.Noted.{noted, step_noted, steps_noted}
 use Rattle.lower_model.specs.Quick.{is_nothing, pair_in, step_jumps}
-use Rattle.lower_model.specs.Small.{does as instruction}
+use Rattle.lower_model.specs.Small.{emit as instruction}
 use Rattle.lower_model.specs.Statements.{steps_emitted}
 use Rattle.agreement.specs.Spots.Marked.{mark, between_marked, done_marked, all_marked}
 use Rattle.agreement.specs.Spots.Places.{Position, aside, met, at_end, in_block, final, final_steps, test_in, step_of, step_at, back, round, loop_of, position, part_place}
-use Rattle.agreement.specs.Spots.Spots.{Frame, Before, Within, AfterElse, Part, Whole, First, Looping, Between, Testing, Unless, GivesUp, Leaves, Spot, Of}
+use Rattle.agreement.specs.Spots.Spots.{Frame, Before, Within, AfterElse, Part, Whole, First, Looping, Between, Testing, Unless, GivesUp, Leaves, StatementPath, Of}
 use Rattle.agreement.proofs.SpotsLemmas.Final.{DoesSo, maybe_tests}
 
 -- at one of two positions
-chosen_at : {A : Type 0} (F : Position → A) (b : Bool) (p q : Position) → (if b then F p else F q) ≡ F (if b then p else q)
+pub chosen_at : {A : Type 0} (F : Position → A) (b : Bool) (p q : Position) → (if b then F p else F q) ≡ F (if b then p else q)
 chosen_at F true p q = refl
 chosen_at F false p q = refl
 
 module _ (y : Layout) (slots : Slot → Slot) (texts : List (List ℕ)) (scope : Scope) where
-  something : (p : stmt.Plain) → is_nothing (final slots (plain_step texts scope p)) ≡ false
+  pub something : (p : stmt.Plain) → is_nothing (final slots (plain_step texts scope p)) ≡ false
   something (stmt.Eval t) = refl
   something (stmt.Put p args t) = refl
   something (stmt.Delete a ts) = refl
@@ -44,17 +44,17 @@ module _ (y : Layout) (slots : Slot → Slot) (texts : List (List ℕ)) (scope :
 
 -- what gives up the rest of the main input
 given_up : (slots : Slot → Slot) (texts : List (List ℕ)) (parameters : List (List Kind)) (n : ℕ) (calls : Calls) →
-    stepped texts parameters n calls (final slots (Eval (host row.NextFile End))) ≡ (does row.NextFile tt >> give Normal)
+    stepped texts parameters n calls (final slots (Eval (host row.NextFile End))) ≡ (call row.NextFile tt >> give Normal)
 unfolding evaluated all_evaluated stepped
 given_up slots texts parameters n calls = refl
 
 module _ (notes : Notes) (y : Layout) (texts : List (List ℕ)) (parameters : List (List Kind)) (n : ℕ) (calls : Calls) where
   -- a step with notes, at a position
-  abbrev pub noted_at : Step → Position → Doing Flow
+  abbrev pub noted_at : Step → Position → Execution Flow
   noted_at s p = step_noted notes y texts parameters n calls s p.iterators p.out p.breaking p.continuing p.after
 
   -- where a test holds
-  abbrev pub noted_if : Step → Code → Position → Doing Flow
+  abbrev pub noted_if : Step → Code → Position → Execution Flow
   noted_if s e p =
       if is_some (pair_in e)
       then step_noted notes y texts parameters n calls s p.iterators (suc (suc p.out)) (suc (suc p.breaking)) (suc (suc p.continuing)) (instruction (Br 1) Done)
@@ -65,14 +65,14 @@ module _ (notes : Notes) (y : Layout) (texts : List (List ℕ)) (parameters : Li
       chosen_at (noted_at s) (is_some (pair_in e)) (record { iterators = p.iterators; out = suc (suc p.out); breaking = suc (suc p.breaking); continuing = suc (suc p.continuing); after = instruction (Br 1) Done }) (aside p)
 
 module _ (notes : Notes) (y : Layout) (slots : Slot → Slot) (texts : List (List ℕ)) (parameters : List (List Kind)) (n : ℕ) (calls : Calls) (scope : Scope) (so : DoesSo slots texts parameters n calls scope)
-    (start : Position) (marks : Spot → List Action → List Action) (placed : (s : Stmt) (part : Part) (w : List Frame) → marks (Of s part w) ≡ notes (part_place y slots texts scope s part (position y slots texts scope start w))) where
+    (start : Position) (marks : StatementPath → List Action → List Action) (placed : (s : Stmt) (part : Part) (w : List Frame) → marks (Of s part w) ≡ notes (part_place y slots texts scope s part (position y slots texts scope start w))) where
   abbrev at : List Frame → Position
   at w = position y slots texts scope start w
 
-  abbrev noting : Step → Position → Doing Flow
+  abbrev noting : Step → Position → Execution Flow
   noting s p = noted_at notes y texts parameters n calls s p
 
-  abbrev all_noted_at : Steps → Position → Doing Flow
+  abbrev all_noted_at : Steps → Position → Execution Flow
   all_noted_at ss p = steps_noted notes y texts parameters n calls ss p.iterators p.out p.breaking p.continuing p.after
 
   -- A spot is passed where its place is noted.
@@ -149,16 +149,16 @@ module _ (notes : Notes) (y : Layout) (slots : Slot → Slot) (texts : List (Lis
         ∙ (λ j. mark (marks (Of whole Whole w)) >> ((passes whole First w j >> (maybe_done scope n calls i >> give Normal)) >>= λ flow. after flow (alone (mark (marks (Of whole Looping w)) >> rounds) j)))
         ∙ (λ j. mark (marks (Of whole Whole w)) >> plainly before (mark (marks (Of whole Looping w)) >> rounds) j)
     step_so (stmt.ForIn k a s) f w =
-        λ j. passes (stmt.ForIn k a s) Whole w j >> array_number (array_of scope a) >>= λ x. does row.Iter (x, tt) >>= λ keys. over_keys n keys (so.keys (variable_of scope k) j) (step_so s f (Within (stmt.ForIn k a s) ∷ w) j)
+        λ j. passes (stmt.ForIn k a s) Whole w j >> array_number (array_of scope a) >>= λ x. call row.Iter (x, tt) >>= λ keys. over_keys n keys (so.keys (variable_of scope k) j) (step_so s f (Within (stmt.ForIn k a s) ∷ w) j)
     step_so (stmt.Jumping stmt.Break) f w = λ j. passes (stmt.Jumping stmt.Break) Whole w j >> so.statements (stmt.Jumping stmt.Break) f j
     step_so (stmt.Jumping stmt.Continue) f w = λ j. passes (stmt.Jumping stmt.Continue) Whole w j >> so.statements (stmt.Jumping stmt.Continue) f j
     step_so (stmt.Jumping stmt.Next) f w = λ j. passes (stmt.Jumping stmt.Next) Whole w j >> so.statements (stmt.Jumping stmt.Next) f j
     step_so (stmt.Jumping stmt.NextFile) f w =
         let s = stmt.Jumping stmt.NextFile in
-        let gives = mark (marks (Of s GivesUp w)) >> does row.NextFile tt in
+        let gives = mark (marks (Of s GivesUp w)) >> call row.NextFile tt in
         let leaves = mark (marks (Of s Leaves w)) >> stop Nexted in
         (λ j. passes s Whole w j >> ((passes s GivesUp w j >> given_up slots texts parameters n calls j) >>= λ flow. after flow ((passes s Leaves w j >> so.statements (stmt.Jumping stmt.Next) f j) >>= λ flow1. after flow1 (give Normal))))
-        ∙ (λ j. mark (marks (Of s Whole w)) >> ((mark (marks (Of s GivesUp w)) >> (does row.NextFile tt >> give Normal)) >>= λ flow. after flow (alone leaves j)))
+        ∙ (λ j. mark (marks (Of s Whole w)) >> ((mark (marks (Of s GivesUp w)) >> (call row.NextFile tt >> give Normal)) >>= λ flow. after flow (alone leaves j)))
         ∙ (λ j. mark (marks (Of s Whole w)) >> plainly gives leaves j)
     step_so (stmt.Leave stmt.Exit None) f w = λ j. passes (stmt.Leave stmt.Exit None) Whole w j >> so.statements (stmt.Leave stmt.Exit None) f j
     step_so (stmt.Leave stmt.Exit (Some t)) f w = λ j. passes (stmt.Leave stmt.Exit (Some t)) Whole w j >> so.statements (stmt.Leave stmt.Exit (Some t)) f j

@@ -7,7 +7,7 @@ use Rattle.awk_values.specs.declared.fault.Fault.{Fault}
 use Rattle.awk_values.specs.declared.fault.Fault.TheVariants.{WriteFailed}
 use Rattle.world_core.specs.WorldState.{Entry, Open, Outside, Target, Standard, Named, after, bytes_of, free, opened as entry_opened, puts, same_target}
 use Rattle.sem_primitives.specs.SharedState.{Inner, Shared, shared_after}
-use Rattle.sem_primitives.specs.Finds.{finds_by, looked_by, seen}
+use Rattle.sem_primitives.specs.Finds.{finds_by, observed_by, seen}
 use Rattle.sem_primitives.specs.Texts.{same_text}
 use Rattle.sem_primitives.specs.OutputMeaning.{has_room, is_writing, kept_open, opened, opened_if, put_text, what_fits, write_answer, written, written_by}
 use Rattle.sem_primitives.specs.declared.constants.Destination.{Destination}
@@ -59,7 +59,7 @@ finds_none (Ok x) None e = refl
 finds_none (Err fault) f e = refl
 finds_none (Ok x) (Some finds) e = absurd (cc e)
 
-finds_stay : {A : Type 0} (r : Result A Fault) (inner : Inner) → inner.finds ≡ None → looked_by r inner ≡ inner
+finds_stay : {A : Type 0} (r : Result A Fault) (inner : Inner) → inner.finds ≡ None → observed_by r inner ≡ inner
 finds_stay r inner e = ap (λ f. record inner { finds = f }) (finds_none r inner.finds e)
 
 abbrev Written : Type 0

@@ -8,12 +8,12 @@ use Rattle.sem_primitives.specs.declared.table.Primitive.TheVariants as row
 use Rattle.wasm_types.specs.Syntax.{Instructions}
 use Rattle.wasm_types.specs.Typing.{Context, CodeOk, done}
 use Rattle.wasm_types.specs.declared.types.ValType.TheVariants.{I32, I64}
-use Rattle.mid_program.specs.Mid.{Kind, Boxed, Unboxed, Many, Program, Steps}
+use Rattle.mid_program.specs.Mid.{Kind, Boxed, Unboxed, ArrayKind, Program, Steps}
 use Rattle.mid_program.specs.Sorted.{calls_of, context_of, kinds_of, has_kind, parts_sorted, steps_sorted}
 use Rattle.lower_model.specs.Functions.{layout_of}
 use Rattle.lower_model.specs.Places.{Bases, kind_type, steps_room, steps_iterators, steps_arrays}
 use Rattle.lower_model.specs.Statements.{steps_emitted, temporaries_emptied, iterators_emptied, arrays_emptied, all_emptied, temporaries_swept, iterators_swept, arrays_swept, swept, left_swept, has_functions, parameters_dropped, routine_body, started, declared, declared_kind, names_declared, routines_declared, names_made, goes_on, record_done, records_read, part_done, before_parts, main_body}
-use Rattle.host_imports.specs.declared.import.Import.TheVariants.{Of, Drop, IterFree, FreeArray}
+use Rattle.host_imports.specs.declared.import.Import.TheVariants.{OfPrimitive, Drop, IterFree, FreeArray}
 use Rattle.agreement.proofs.TypedLemmas.Singles.{Stack, Labels, Exit, inner, nearest, called, get, put, read, write, word, long, compare, test, convert, leave, leave_if, blocked, looped, branched}
 use Rattle.agreement.proofs.TypedLemmas.Standing.{Stands}
 use Rattle.agreement.proofs.TypedLemmas.Pieces.{one_of, emptied_ok, let_go_ok, number_is_ok, kept_code_ok, kept_number_ok}
@@ -79,7 +79,7 @@ module _ {p : Program} {ks : List Kind} {b : Bases} {C : Context} (at : Stands p
         get (f 0 x Boxed (omega arith) refl) (called [] (at.imported Drop)
         (parameters_dropped_ok (suc x) js (λ i y kind e. f (suc i) y kind (omega (arith, e))) r))
     parameters_dropped_ok x (Unboxed ∷ js) f r = parameters_dropped_ok (suc x) js (λ i y kind e. f (suc i) y kind (omega (arith, e))) r
-    parameters_dropped_ok x (Many ∷ js) f r = parameters_dropped_ok (suc x) js (λ i y kind e. f (suc i) y kind (omega (arith, e))) r
+    parameters_dropped_ok x (ArrayKind ∷ js) f r = parameters_dropped_ok (suc x) js (λ i y kind e. f (suc i) y kind (omega (arith, e))) r
 
   module _ {L : Labels} {k : Instructions} {rs : Stack} where
     all_emptied_ok : CodeOk C L k [] rs → CodeOk C L (all_emptied (layout_of p b) k) [] rs
@@ -116,10 +116,10 @@ module _ {p : Program} {ks : List Kind} {b : Bases} {C : Context} (at : Stands p
 
     module _ {L : Labels} {k : Instructions} {rs : Stack} where
       started_ok : Exit L 0 → CodeOk C L k [] rs → CodeOk C L (started (layout_of p b) k) [] rs
-      started_ok x r = long (long (called [] (at.imported (Of row.Pow)) (kept_number_ok at true some x r)))
+      started_ok x r = long (long (called [] (at.imported (OfPrimitive row.Pow)) (kept_number_ok at true some x r)))
 
       declared_ok : (kind : NameKind) (i : ℕ) → CodeOk C L k [] rs → CodeOk C L (declared (layout_of p b) kind i k) [] rs
-      declared_ok kind i r = word (word (word (called [] (at.imported (Of row.Declare)) r)))
+      declared_ok kind i r = word (word (word (called [] (at.imported (OfPrimitive row.Declare)) r)))
 
       goes_on_ok : CodeOk C L k [] rs → CodeOk C L (goes_on (layout_of p b) k) [] rs
       goes_on_ok r = word (write at.way (left_swept_ok (has_functions (calls_of p)) r))
@@ -137,11 +137,11 @@ module _ {p : Program} {ks : List Kind} {b : Bases} {C : Context} (at : Stands p
           CodeOk C L (names_made (layout_of p b) i kinds k) [] rs
       names_made_ok i [] h r = r
       names_made_ok i (Boxed ∷ kinds) h r =
-          called [] (at.imported (Of row.Uninit))
+          called [] (at.imported (OfPrimitive row.Uninit))
           (write (at.name_handle i (omega (arith, h))) (names_made_ok (suc i) kinds (omega (arith, h)) r))
       names_made_ok i (Unboxed ∷ kinds) h r = names_made_ok (suc i) kinds (omega (arith, h)) r
-      names_made_ok i (Many ∷ kinds) h r =
-          called [] (at.imported (Of row.NewArray))
+      names_made_ok i (ArrayKind ∷ kinds) h r =
+          called [] (at.imported (OfPrimitive row.NewArray))
           (write (at.name_handle i (omega (arith, h))) (names_made_ok (suc i) kinds (omega (arith, h)) r))
 
     module _ {L : Labels} {k : Instructions} {rs : Stack} where
@@ -158,7 +158,7 @@ module _ {p : Program} {ks : List Kind} {b : Bases} {C : Context} (at : Stands p
           CodeOk C L k [] rs → CodeOk C L (records_read (layout_of p b) items d k) [] rs
       records_read_ok items s h x r =
           looped
-          (called [] (at.imported (Of row.NextMain)) (kept_code_ok at true some (inner x)
+          (called [] (at.imported (OfPrimitive row.NextMain)) (kept_code_ok at true some (inner x)
           (number_is_ok at (at.number 0 some) (branched
           (record_done_ok items s h (inner (inner x)) (leave (inner nearest) done)) done
           (number_is_ok at (at.number 0 some) (branched (pending_assigned_ok at two (leave (inner nearest) done)) done done))))))
@@ -171,7 +171,7 @@ module _ {p : Program} {ks : List Kind} {b : Bases} {C : Context} (at : Stands p
           blocked
           (blocked a
           (read at.way (test (leave_if (inner x)
-          (read at.way (word (compare (branched (word (called [] (at.imported (Of row.Fail)) (leave (inner (inner x)) done))) done
+          (read at.way (word (compare (branched (word (called [] (at.imported (OfPrimitive row.Fail)) (leave (inner (inner x)) done))) done
           (goes_on_ok done)))))))))
           r
 
@@ -180,7 +180,7 @@ module _ {p : Program} {ks : List Kind} {b : Bases} {C : Context} (at : Stands p
           started_ok x
           (names_declared_ok (length p.texts) (kinds_of p.globals)
           (routines_declared_ok (length p.texts + length p.globals) (length p.routines)
-          (names_made_ok 0 (kinds_of p.globals) (omega arith) (asked_ok at row.StartAssign (at.imported (Of row.StartAssign)) two x r))))
+          (names_made_ok 0 (kinds_of p.globals) (omega arith) (asked_ok at row.StartAssign (at.imported (OfPrimitive row.StartAssign)) two x r))))
 
     pub main_body_ok : parts_sorted p (context_of p ks) ≡ true → Enough p.begin b → Enough p.items b → Enough p.end b →
         CodeOk C (Some I32 ∷ []) (main_body (layout_of p b) p) [] (I32 ∷ [])
@@ -189,7 +189,7 @@ module _ {p : Program} {ks : List Kind} {b : Bases} {C : Context} (at : Stands p
         (before_parts_ok nearest
         (part_done_ok (main_part_ok p.begin s1.0 h (one_of at p.reads (records_read_ok p.items s2.0 i nearest (leave (inner nearest) done))
         (leave (inner nearest) done))) nearest
-        (called [] (at.imported (Of row.BeginEnd)) (part_done_ok (main_part_ok p.end s2.1 e (leave (inner nearest) done)) nearest done))))
+        (called [] (at.imported (OfPrimitive row.BeginEnd)) (part_done_ok (main_part_ok p.end s2.1 e (leave (inner nearest) done)) nearest done))))
         (swept_ok (read at.status (convert done))))
       where
         first : Bool

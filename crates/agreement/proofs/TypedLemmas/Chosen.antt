@@ -11,8 +11,8 @@ use Rattle.host_imports.specs.Imports.{imports, import_number, import_at}
 use Rattle.lower_model.specs.Machine.{Callee}
 use Rattle.lower_model.specs.Modules.{all_callees, any_calls, called_from, called_imports, imports_of, chosen, new_number}
 use Rattle.host_imports.specs.declared.import.Import.{Import}
-use Rattle.host_imports.specs.declared.import.Import.TheVariants.{Of, Over}
-use Rattle.host_imports.specs.declared.import.Listing.TheVariants.{Sprintf}
+use Rattle.host_imports.specs.declared.import.Import.TheVariants.{OfPrimitive, Variadic}
+use Rattle.host_imports.specs.declared.import.VariadicImport.TheVariants.{Sprintf}
 
 -- what is chosen, and all that comes after, has its new number
 chosen_there : {A : Type 0} → (bs : List Bool) (xs ys : List A) (n : ℕ) → length bs ≡ length xs → get_or bs n true ≡ true →
@@ -73,10 +73,10 @@ all_called a (i ∷ is) fs h =
     (all_called (suc a) is fs s.1)
 
 import_there : (i : Import) → import_at (import_number i) ≡ Some i
-import_there (Of row.Num) = refl
-import_there (Of q) = refl
-import_there (Over Sprintf) = refl
-import_there (Over l) = refl
+import_there (OfPrimitive row.Num) = refl
+import_there (OfPrimitive q) = refl
+import_there (Variadic Sprintf) = refl
+import_there (Variadic l) = refl
 import_there i = refl
 
 module _ (p : Program) where

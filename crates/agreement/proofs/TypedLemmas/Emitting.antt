@@ -18,7 +18,7 @@ use Rattle.lower_model.specs.Arithmetic.{is_value}
 use Rattle.lower_model.specs.Emission.{Immediate, FieldOf, TextOf, NumberOf, immediate_in, immediate_pushed, immediate_or, emitted, all_emitted, performed, field_in, field_or, left_over, sequence_closed, keeping_closed, bound_read, text_let_go}
 use Rattle.lower_model.specs.Functions.{layout_of}
 use Rattle.lower_model.specs.Places.{Bases, room, rooms, arrays_in, arrays_among, made_in}
-use Rattle.host_imports.specs.declared.import.Import.TheVariants.{Of, Drop}
+use Rattle.host_imports.specs.declared.import.Import.TheVariants.{OfPrimitive, Drop}
 use Rattle.lower_model.proofs.HostCalls.{operation_plain}
 use Rattle.agreement.proofs.TypedLemmas.Singles.{Stack, Labels, Exit, inner, called, get, put, read, word, long, test, convert, branched}
 use Rattle.agreement.proofs.TypedLemmas.Standing.{Stands}
@@ -49,7 +49,7 @@ module _ {p : Program} {ks : List Kind} {b : Bases} {C : Context} (at : Stands p
         t + room (Do o es) ≤ b.temporaries → Exit L d → CodeOk C L k ps rs → CodeOk C L (performed (layout_of p b) o es t d k) ps rs
     performed_ok (Host q) fs es t i f s h x r =
         all_pushed_ok at fs (arguments_of q) es t ps f s (operands_room (Host q) es t b.temporaries h)
-        (called ps (at.imported (Of q)) (kept_ok at (can_fault q) (answer_of q) ps (operation_plain q i) (omega (arith, h)) x r))
+        (called ps (at.imported (OfPrimitive q)) (kept_ok at (can_fault q) (answer_of q) ps (operation_plain q i) (omega (arith, h)) x r))
     performed_ok (Inline a) fs es t i f s h x r = calculated_ok at x a t (omega (arith, h)) r
     performed_ok AsNumber fs es t i f s h x r = r
     performed_ok FieldNumber fs es t i f s h x r = field_checked_ok at x (omega (arith, h)) r
@@ -62,13 +62,13 @@ module _ {p : Program} {ks : List Kind} {b : Bases} {C : Context} (at : Stands p
     left_over_ok e f lt r = unused_ok at f lt r
 
     field_or_ok : {other : Instructions} {t : ℕ} (o : Option ℤ) → t < b.temporaries → CodeOk C L k ps rs → CodeOk C L other ps rs → CodeOk C L (field_or (layout_of p b) o t k other) ps rs
-    field_or_ok {t = t} (Some z) lt r q = long (called ps (at.imported (Of row.Field)) (put (at.handle t lt) r))
+    field_or_ok {t = t} (Some z) lt r q = long (called ps (at.imported (OfPrimitive row.Field)) (put (at.handle t lt) r))
     field_or_ok None lt r q = q
 
     immediate_pushed_ok : (i : Immediate) → CodeOk C L k (I32 ∷ ps) rs → CodeOk C L (immediate_pushed (layout_of p b) i k) ps rs
-    immediate_pushed_ok (FieldOf z) r = long (called ps (at.imported (Of row.Field)) r)
-    immediate_pushed_ok (TextOf i) r = word (word (called ps (at.imported (Of row.Lit)) r))
-    immediate_pushed_ok (NumberOf z) r = long (called ps (at.imported (Of row.Num)) r)
+    immediate_pushed_ok (FieldOf z) r = long (called ps (at.imported (OfPrimitive row.Field)) r)
+    immediate_pushed_ok (TextOf i) r = word (word (called ps (at.imported (OfPrimitive row.Lit)) r))
+    immediate_pushed_ok (NumberOf z) r = long (called ps (at.imported (OfPrimitive row.Num)) r)
 
     bound_read_ok : {s t : ℕ} (v m : Bool) (f : Form) → s < b.temporaries → t < b.temporaries → CodeOk C L k ps rs → CodeOk C L (bound_read (layout_of p b) v m f s t k) ps rs
     bound_read_ok true m f ls lt r = r
@@ -78,7 +78,7 @@ module _ {p : Program} {ks : List Kind} {b : Bases} {C : Context} (at : Stands p
     immediate_or_ok : {other : Instructions} {d t : ℕ} (c : CompareOp) (f : Form) (o : Option Immediate) → t < b.temporaries → Exit L d → CodeOk C L k ps rs → CodeOk C L other ps rs →
         CodeOk C L (immediate_or (layout_of p b) c f o t d k other) ps rs
     immediate_or_ok {t = t} c f (Some i) lt x r q =
-        to_value_ok at f lt (word (moved_out_ok at (at.handle t lt) (immediate_pushed_ok i (called ps (at.imported (Of row.Compare)) (kept_code_ok at true lt x r)))))
+        to_value_ok at f lt (word (moved_out_ok at (at.handle t lt) (immediate_pushed_ok i (called ps (at.imported (OfPrimitive row.Compare)) (kept_code_ok at true lt x r)))))
     immediate_or_ok c f None lt x r q = q
 
     sequence_closed_ok : (v : Bool) (e : Code) (f : Form) {t : ℕ} → t < b.temporaries → CodeOk C L k ps rs → CodeOk C L (sequence_closed (layout_of p b) v e f t k) ps rs
@@ -140,14 +140,14 @@ module _ {p : Program} {ks : List Kind} {b : Bases} {C : Context} (at : Stands p
         (called ps (at.routine f (ltb-true f (length (calls_of p)) s1.0))
         (answer_kept_ok at (omega (arith, h)) x (all_freed_ok at w (made_in es) gs r)))))
     code_ok v fs ts Ask t w d q s h g x r =
-        asked_ok at row.Getline (at.imported (Of row.Getline)) (omega (arith, h)) x
+        asked_ok at row.Getline (at.imported (OfPrimitive row.Getline)) (omega (arith, h)) x
         (code_number_ok at (omega (arith, h)) r)
     code_ok v fs ts (AskLine e) t w d q s h g x r =
         let s1 = and_parts (stores_well fs e) (sorted (context_of p ks) (a_value ∷ fs) e) s in
         let he = room_there e in
-        asked_ok at row.GetlineVar (at.imported (Of row.GetlineVar)) (omega (arith, h)) x
+        asked_ok at row.GetlineVar (at.imported (OfPrimitive row.GetlineVar)) (omega (arith, h)) x
         (number_is_ok at (at.number t (omega (arith, h))) (branched
-        (called [] (at.imported (Of row.Line)) (put (at.handle (suc t) (omega (arith, h)))
+        (called [] (at.imported (OfPrimitive row.Line)) (put (at.handle (suc t) (omega (arith, h)))
         (code_ok true (a_value ∷ fs) (suc t ∷ ts) e (suc (suc t)) w (suc d) (one_more_below (suc t) b.temporaries ts (omega (arith, h)) q) s1.1
         (omega (arith, h)) (omega (arith, g)) (inner x)
         (text_let_go_ok fs e (omega (arith, h, he)) done))))
@@ -160,9 +160,9 @@ module _ {p : Program} {ks : List Kind} {b : Bases} {C : Context} (at : Stands p
         let he = room_there e in
         code_ok false fs ts f t w d q s1.0 (omega (arith, h)) (omega (arith, g)) x
         (to_value_ok at (form_of fs f) (omega (arith, h)) (moved_out_ok at (at.handle t (omega (arith, h)))
-        (called ps (at.imported (Of row.GetlineVarFile)) (kept_code_ok at true (omega (arith, h)) x
+        (called ps (at.imported (OfPrimitive row.GetlineVarFile)) (kept_code_ok at true (omega (arith, h)) x
         (number_is_ok at (at.number t (omega (arith, h))) (branched
-        (called [] (at.imported (Of row.Line)) (put (at.handle (suc t) (omega (arith, h)))
+        (called [] (at.imported (OfPrimitive row.Line)) (put (at.handle (suc t) (omega (arith, h)))
         (code_ok true (a_value ∷ fs) (suc t ∷ ts) e (suc (suc t)) w (suc d) (one_more_below (suc t) b.temporaries ts (omega (arith, h)) q) s2.1
         (omega (arith, h)) (omega (arith, g)) (inner x)
         (text_let_go_ok fs e (omega (arith, h, he)) done))))
@@ -178,15 +178,15 @@ module _ {p : Program} {ks : List Kind} {b : Bases} {C : Context} (at : Stands p
         codes_ok fs ts es t w d q s2.0 hs (omega (arith, g)) x
         (all_converted_ok at fs three_values es t hs x
         (all_pushed_ok at fs three_values es t ps s1.0 s2.0 hs
-        (word (called ps (at.imported (Of row.Sub)) (kept_number_ok at true (omega (arith, h)) x
+        (word (called ps (at.imported (OfPrimitive row.Sub)) (kept_number_ok at true (omega (arith, h)) x
         (get (at.number t (omega (arith, h))) (test (branched done
-        (called [] (at.imported (Of row.SubResult)) (put (at.handle (suc t) (omega (arith, h)))
+        (called [] (at.imported (OfPrimitive row.SubResult)) (put (at.handle (suc t) (omega (arith, h)))
         (code_ok true (a_value ∷ fs) (suc t ∷ ts) e (suc (suc t)) w (suc d) (one_more_below (suc t) b.temporaries ts (omega (arith, h)) q) s3.1
         (omega (arith, h)) (omega (arith, g)) (inner x)
         (text_let_go_ok fs e (omega (arith, h, he)) done))))
         r))))))))
     code_ok v fs ts (Number z) t w d q s h g x r = long (put (at.number t (omega (arith, h))) r)
-    code_ok {ps = ps} v fs ts (Text i) t w d q s h g x r = word (word (called ps (at.imported (Of row.Lit)) (put (at.handle t (omega (arith, h))) r)))
+    code_ok {ps = ps} v fs ts (Text i) t w d q s h g x r = word (word (called ps (at.imported (OfPrimitive row.Lit)) (put (at.handle t (omega (arith, h))) r)))
     code_ok v fs ts Unset t w d q s h g x r = long (put (at.number t (omega (arith, h))) r)
     code_ok v fs ts (Get z) t w d q s h g x r = slot_read_ok at z s (omega (arith, h)) r
     code_ok v fs ts (Set z e) t w d q s h g x r =
@@ -246,4 +246,4 @@ module _ {p : Program} {ks : List Kind} {b : Bases} {C : Context} (at : Stands p
         (codes_ok fs ts es (suc t) w d q s1.1 (omega (arith, h)) (omega (arith, g)) x r)
     codes_ok fs ts (Fixed m es) t w d q s h g x r = codes_ok fs ts es t w d q s h g x r
     codes_ok {ps = ps} fs ts (Fresh es) t w d q s h g x r =
-        called ps (at.imported (Of row.NewArray)) (put (at.array w (omega (arith, g))) (codes_ok fs ts es t (suc w) d q (and_parts (are_missing es) (all_sorted (context_of p ks) fs es) s).1 h (omega (arith, g)) x r))
+        called ps (at.imported (OfPrimitive row.NewArray)) (put (at.array w (omega (arith, g))) (codes_ok fs ts es t (suc w) d q (and_parts (are_missing es) (all_sorted (context_of p ks) fs es) s).1 h (omega (arith, g)) x r))

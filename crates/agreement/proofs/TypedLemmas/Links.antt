@@ -15,17 +15,17 @@ use Rattle.host_imports.specs.Imports.{import_number, import_name, import_type, 
 use Rattle.lower_model.specs.Modules.{all_callees, imports_of, callee_type, imported_from, pages_for, module_of}
 use Rattle.lower_model.specs.Places.{memory_of}
 use Rattle.host_imports.specs.declared.import.Import.{Import}
-use Rattle.host_imports.specs.declared.import.Import.TheVariants.{Of, Over}
-use Rattle.host_imports.specs.declared.import.Listing.TheVariants.{Sprintf}
+use Rattle.host_imports.specs.declared.import.Import.TheVariants.{OfPrimitive, Variadic}
+use Rattle.host_imports.specs.declared.import.VariadicImport.TheVariants.{Sprintf}
 use Rattle.agreement.specs.Typed.Finds.{table_finds}
 use Rattle.agreement.proofs.TypedLemmas.Places.{there_behind}
 use Rattle.agreement.proofs.TypedLemmas.Numbers.{callee_typed}
 
 found : (i : Import) → table_finds module_name (import_name i) ≡ Some (import_number i, import_type i)
-found (Of row.Num) = refl
-found (Of q) = refl
-found (Over Sprintf) = refl
-found (Over l) = refl
+found (OfPrimitive row.Num) = refl
+found (OfPrimitive q) = refl
+found (Variadic Sprintf) = refl
+found (Variadic l) = refl
 found i = refl
 
 same_self : (s : Signature) → same_signature s s ≡ true

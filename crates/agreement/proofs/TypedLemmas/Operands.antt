@@ -14,14 +14,14 @@ use Rattle.wasm_types.specs.Syntax.{Instructions}
 use Rattle.wasm_types.specs.Typing.{Context, CodeOk}
 use Rattle.wasm_types.specs.declared.types.ValType.TheVariants.{I32}
 use Rattle.mid_program.specs.declared.mid.Operation.TheVariants.{Inline}
-use Rattle.mid_program.specs.Mid.{Kind, Boxed, Unboxed, Many, Program, Code, Do, Over, Compare, Call, Ask, AskLine, FileLine, Replace, Number, Text, Unset, Get, Set, Array, IsOpen, Choose, Seq, Let, Bound, Codes, End, At, Fixed, Fresh, Form, Answered, Bare, form_of}
+use Rattle.mid_program.specs.Mid.{Kind, Boxed, Unboxed, ArrayKind, Program, Code, Do, Over, Compare, Call, Ask, AskLine, FileLine, Replace, Number, Text, Unset, Get, Set, Array, IsOpen, Choose, Seq, Let, Bound, Codes, End, At, Fixed, Fresh, Form, PrimitiveAnswer, NumberOrText, form_of}
 use Rattle.mid_program.specs.Sorted.{context_of, is_array_place, fits, fit_row, is_given, fit_call, is_constant, is_kept, keeps_well, are_missing, sorted, all_sorted, arrays_among as count_arrays}
 use Rattle.lower_model.specs.Emission.{array_meant, all_converted, one_pushed, all_pushed, all_boxed, all_appended, listed_asked, all_given, one_given, all_given_pushed, all_freed}
 use Rattle.lower_model.specs.Functions.{layout_of}
 use Rattle.host_imports.specs.Imports.{params_of, words_of}
 use Rattle.lower_model.specs.Places.{Bases, room, rooms, kind_type, arrays_among, made_in}
-use Rattle.host_imports.specs.declared.import.Listing.TheVariants as listing
-use Rattle.host_imports.specs.declared.import.Import.TheVariants.{Over as OverLast, Arg, FreeArray}
+use Rattle.host_imports.specs.declared.import.VariadicImport.TheVariants as listing
+use Rattle.host_imports.specs.declared.import.Import.TheVariants.{Variadic as OverLast, Arg, FreeArray}
 use Rattle.lower_model.proofs.Simulation.{operator_room}
 use Rattle.agreement.proofs.TypedLemmas.Singles.{Stack, Labels, Exit, called, get, tee, word}
 use Rattle.agreement.proofs.TypedLemmas.Standing.{Stands}
@@ -62,8 +62,8 @@ pushed_on : (us ws ps : Stack) → reverse (us ++ ws) ++ ps ≡ reverse ws ++ (r
 pushed_on us ws ps = ap (λ r. r ++ ps) (reverse-append us ws) ∙ append_assoc (reverse ws) (reverse us) ps
 
 no_iterator : (f : Form) → fits f sort.Iterator ≡ true → ⊥
-no_iterator (Answered (answer.Of sort.Value)) e = cc
-no_iterator Bare e = cc
+no_iterator (PrimitiveAnswer (answer.Of sort.Value)) e = cc
+no_iterator NumberOrText e = cc
 no_iterator f e = cc
 
 pub made_among : (es : Codes) → made_in es ≤ arrays_among es
@@ -122,7 +122,7 @@ module _ {p : Program} {ks : List Kind} {b : Bases} {C : Context} (at : Stands p
         CodeOk C L k (kind_type kind ∷ ps) rs → CodeOk C L (one_given (layout_of p b) kind e t k) ps rs
     one_given_ok Boxed fs e t ps s lt r = moved_out_ok at (at.handle t lt) r
     one_given_ok Unboxed fs e t ps s lt r = get (at.number t lt) r
-    one_given_ok Many fs e t ps s lt r = array_pushed_ok at (array_meant e) (meant_ok p ks fs e s) r
+    one_given_ok ArrayKind fs e t ps s lt r = array_pushed_ok at (array_meant e) (meant_ok p ks fs e s) r
 
   module _ {L : Labels} {k : Instructions} {rs : Stack} where
     pub all_pushed_ok : (fs : List Form) (wanted : List Argument) (es : Codes) (t : ℕ) (ps : Stack) → fit_row fs wanted es ≡ true →
@@ -186,7 +186,7 @@ module _ {p : Program} {ks : List Kind} {b : Bases} {C : Context} (at : Stands p
         (all_given_pushed_ok fs kinds es (suc t) w (kind_type kind ∷ ps) (and_parts (is_given (form_of fs e) kind) (fit_call fs kinds es) f).1 q.1
         (rest_room e es t b.temporaries h) g
         (subst (λ l. CodeOk C L k l rs) (pushed_on (kind_type kind ∷ []) (map kind_type kinds) ps) r))
-    all_given_pushed_ok fs (Many ∷ kinds) (Fresh es) t w ps f s h g r =
+    all_given_pushed_ok fs (ArrayKind ∷ kinds) (Fresh es) t w ps f s h g r =
         let lt : w < b.arrays = omega (arith, g) in
         get (at.array w lt) (tee (at.array w lt)
         (all_given_pushed_ok fs kinds es t (suc w) (I32 ∷ ps) f (fresh_sorted p ks fs es s) h (omega (arith, g))

@@ -17,13 +17,13 @@ use Rattle.wasm_types.specs.declared.instr.CvtOp.TheVariants.{I64ExtendI32S}
 use Rattle.wasm_types.specs.declared.instr.Simple.{Simple}
 use Rattle.mid_program.specs.declared.mid.Arithmetic.{Arithmetic}
 use Rattle.mid_program.specs.declared.mid.Arithmetic.TheVariants as inline
-use Rattle.mid_program.specs.Mid.{Kind, Program, Form, Answered, Bare, Perhaps}
+use Rattle.mid_program.specs.Mid.{Kind, Program, Form, PrimitiveAnswer, NumberOrText, OptionalNumber}
 use Rattle.lower_model.specs.Arithmetic.{out_of_range, ranged, factors_differ, times, unless_zero, divided, unless_broken, is_value, may_be_text, calculated, field_checked, values_compared, zeroed_if, numbers_compared, texts_beside, bare_compared, compared}
 use Rattle.host_imports.specs.Imports.{import_type, import_number, result_of}
 use Rattle.lower_model.specs.Places.{Bases, number_local, calculated_room}
 use Rattle.lower_model.specs.Small.{moved_out, moved, emptied, let_go, copied, copied_if_any, fail_if, number_is, kept_code, kept_value, kept_number, kept_done, text_taken, answer_kept, kept, boxed_number, boxed_perhaps, to_value, zeroed, code_number, number_of_value, to_number, converted, not_zero, truth, unused, released, number_copied, moved_from, copied_from, bound_from}
 use Rattle.host_imports.specs.declared.import.Import.{Import}
-use Rattle.host_imports.specs.declared.import.Import.TheVariants.{Of, Drop}
+use Rattle.host_imports.specs.declared.import.Import.TheVariants.{OfPrimitive, Drop}
 use Rattle.lower_model.proofs.Answers.{IsPlain}
 use Rattle.lower_model.proofs.Simulation.{operator_room}
 use Rattle.agreement.proofs.TypedLemmas.Singles.{Stack, Labels, Exit, Reads, Writes, reads_local, writes_local, called, gives, takes, get, put, tee, read, word, long, test, compare, binary, convert, discard, inner, leave, leave_if, branched}
@@ -54,10 +54,10 @@ module _ {p : Program} {ks : List Kind} {b : Bases} {C : Context} (at : Stands p
       pub copied_ok : {get_it set_it : Simple} {y : ℕ} → Reads C get_it I32 → Writes C set_it I32 → slice_get C.locals y ≡ Some I32 →
           CodeOk C L k ps rs →
           CodeOk C L (copied get_it set_it y k) ps rs
-      copied_ok g s e r = gives g (tee e (called ps (at.imported (Of row.Dup)) (takes s r)))
+      copied_ok g s e r = gives g (tee e (called ps (at.imported (OfPrimitive row.Dup)) (takes s r)))
 
       pub fail_if_ok : {d : ℕ} → (f : Fault) → Exit L d → CodeOk C L k ps rs → CodeOk C L (fail_if f d k) (I32 ∷ ps) rs
-      fail_if_ok f e r = branched (word (called [] (at.imported (Of row.Fail)) (leave (inner e) done))) done r
+      fail_if_ok f e r = branched (word (called [] (at.imported (OfPrimitive row.Fail)) (leave (inner e) done))) done r
 
       pub number_is_ok : {x m : ℕ} → slice_get C.locals x ≡ Some I64 → CodeOk C L k (I32 ∷ ps) rs → CodeOk C L (number_is x m k) ps rs
       number_is_ok e r = get e (long (compare r))
@@ -109,13 +109,13 @@ module _ {p : Program} {ks : List Kind} {b : Bases} {C : Context} (at : Stands p
     -- Conversions.
 
     pub boxed_number_ok : {t : ℕ} → t < b.temporaries → CodeOk C L k (I32 ∷ ps) rs → CodeOk C L (boxed_number b t k) ps rs
-    boxed_number_ok {t = t} lt r = get (at.number t lt) (called ps (at.imported (Of row.Num)) r)
+    boxed_number_ok {t = t} lt r = get (at.number t lt) (called ps (at.imported (OfPrimitive row.Num)) r)
 
   module _ {L : Labels} {k : Instructions} {ps rs : Stack} where
     pub boxed_perhaps_ok : {t : ℕ} {set_it : Simple} → t < b.temporaries → Writes C set_it I32 → CodeOk C L k ps rs →
         CodeOk C L (boxed_perhaps b t set_it k) ps rs
     boxed_perhaps_ok {t = t} lt s r =
-        number_is_ok (at.number t lt) (branched (called [] (at.imported (Of row.Uninit)) (takes s done)) (boxed_number_ok lt (takes s done)) r)
+        number_is_ok (at.number t lt) (branched (called [] (at.imported (OfPrimitive row.Uninit)) (takes s done)) (boxed_number_ok lt (takes s done)) r)
 
     zeroed_ok : {t : ℕ} → t < b.temporaries → CodeOk C L k ps rs → CodeOk C L (zeroed b t k) ps rs
     zeroed_ok {t = t} lt r = number_is_ok (at.number t lt) (branched (long (put (at.number t lt) done)) done r)
@@ -126,25 +126,25 @@ module _ {p : Program} {ks : List Kind} {b : Bases} {C : Context} (at : Stands p
         (number_is_ok (at.number t lt) (binary (convert {op = I64ExtendI32S} (put (at.number t lt) r))))
 
     pub number_of_value_ok : {t d : ℕ} → t < b.temporaries → Exit L d → CodeOk C L k ps rs → CodeOk C L (number_of_value b t d k) ps rs
-    number_of_value_ok {t = t} lt e r = moved_out_ok (at.handle t lt) (called ps (at.imported (Of row.ToNum)) (kept_number_ok true lt e r))
+    number_of_value_ok {t = t} lt e r = moved_out_ok (at.handle t lt) (called ps (at.imported (OfPrimitive row.ToNum)) (kept_number_ok true lt e r))
 
   module _ {L : Labels} {k : Instructions} {ps rs : Stack} where
     pub to_value_ok : (f : Form) {t : ℕ} → t < b.temporaries → CodeOk C L k ps rs → CodeOk C L (to_value b f t k) ps rs
-    to_value_ok (Answered (answer.Of sort.Value)) lt r = r
-    to_value_ok (Answered (answer.Of sort.Number)) {t = t} lt r = boxed_number_ok lt (put (at.handle t lt) r)
-    to_value_ok (Answered answer.Truth) {t = t} lt r = boxed_number_ok lt (put (at.handle t lt) r)
-    to_value_ok Bare {t = t} lt r = number_is_ok (at.number t lt) (branched done (boxed_perhaps_ok lt (writes_local (at.handle t lt)) done) r)
-    to_value_ok Perhaps {t = t} lt r = boxed_perhaps_ok lt (writes_local (at.handle t lt)) r
-    to_value_ok f {t = t} lt r = called ps (at.imported (Of row.Uninit)) (put (at.handle t lt) r)
+    to_value_ok (PrimitiveAnswer (answer.Of sort.Value)) lt r = r
+    to_value_ok (PrimitiveAnswer (answer.Of sort.Number)) {t = t} lt r = boxed_number_ok lt (put (at.handle t lt) r)
+    to_value_ok (PrimitiveAnswer answer.Truth) {t = t} lt r = boxed_number_ok lt (put (at.handle t lt) r)
+    to_value_ok NumberOrText {t = t} lt r = number_is_ok (at.number t lt) (branched done (boxed_perhaps_ok lt (writes_local (at.handle t lt)) done) r)
+    to_value_ok OptionalNumber {t = t} lt r = boxed_perhaps_ok lt (writes_local (at.handle t lt)) r
+    to_value_ok f {t = t} lt r = called ps (at.imported (OfPrimitive row.Uninit)) (put (at.handle t lt) r)
 
     pub to_number_ok : (f : Form) {t d : ℕ} → t < b.temporaries → Exit L d → CodeOk C L k ps rs → CodeOk C L (to_number b f t d k) ps rs
-    to_number_ok (Answered (answer.Of sort.Value)) lt e r = number_of_value_ok lt e r
-    to_number_ok (Answered answer.Input) lt e r = code_number_ok lt r
-    to_number_ok (Answered answer.Stream) lt e r = code_number_ok lt r
-    to_number_ok Bare {t = t} lt e r =
+    to_number_ok (PrimitiveAnswer (answer.Of sort.Value)) lt e r = number_of_value_ok lt e r
+    to_number_ok (PrimitiveAnswer answer.Input) lt e r = code_number_ok lt r
+    to_number_ok (PrimitiveAnswer answer.Stream) lt e r = code_number_ok lt r
+    to_number_ok NumberOrText {t = t} lt e r =
         get (at.number t lt) (long (compare (branched
         (number_is_ok (at.number t lt) (branched (number_of_value_ok lt (inner (inner e)) done) (long (put (at.number t lt) done)) done)) done r)))
-    to_number_ok Perhaps lt e r = zeroed_ok lt r
+    to_number_ok OptionalNumber lt e r = zeroed_ok lt r
     to_number_ok f lt e r = r
 
     not_zero_ok : {t : ℕ} → t < b.temporaries → CodeOk C L k (I32 ∷ ps) rs → CodeOk C L (not_zero b t k) ps rs
@@ -157,25 +157,25 @@ module _ {p : Program} {ks : List Kind} {b : Bases} {C : Context} (at : Stands p
     converted_ok f s lt e r = r
 
     pub truth_ok : (f : Form) {t : ℕ} → t < b.temporaries → CodeOk C L k (I32 ∷ ps) rs → CodeOk C L (truth b f t k) ps rs
-    truth_ok (Answered (answer.Of sort.Value)) {t = t} lt r = moved_out_ok (at.handle t lt) (called ps (at.imported (Of row.Truth)) r)
-    truth_ok Bare {t = t} lt r =
+    truth_ok (PrimitiveAnswer (answer.Of sort.Value)) {t = t} lt r = moved_out_ok (at.handle t lt) (called ps (at.imported (OfPrimitive row.Truth)) r)
+    truth_ok NumberOrText {t = t} lt r =
         number_is_ok (at.number t lt) (branched
-        (moved_out_ok (at.handle t lt) (called [] (at.imported (Of row.Truth)) (convert (put (at.number t lt) done))))
+        (moved_out_ok (at.handle t lt) (called [] (at.imported (OfPrimitive row.Truth)) (convert (put (at.number t lt) done))))
         (zeroed_ok lt done)
         (not_zero_ok lt r))
-    truth_ok Perhaps lt r = zeroed_ok lt (not_zero_ok lt r)
+    truth_ok OptionalNumber lt r = zeroed_ok lt (not_zero_ok lt r)
     truth_ok f lt r = not_zero_ok lt r
 
     -- What is in a temporary is dropped, moved or copied.
 
     pub unused_ok : (f : Form) {t : ℕ} → t < b.temporaries → CodeOk C L k ps rs → CodeOk C L (unused b f t k) ps rs
-    unused_ok (Answered (answer.Of sort.Value)) {t = t} lt r = moved_out_ok (at.handle t lt) (called ps (at.imported Drop) r)
-    unused_ok Bare {t = t} lt r = let_go_ok Drop (at.imported Drop) (at.handle t lt) r
+    unused_ok (PrimitiveAnswer (answer.Of sort.Value)) {t = t} lt r = moved_out_ok (at.handle t lt) (called ps (at.imported Drop) r)
+    unused_ok NumberOrText {t = t} lt r = let_go_ok Drop (at.imported Drop) (at.handle t lt) r
     unused_ok f lt r = r
 
     pub released_ok : (f : Form) {t : ℕ} → t < b.temporaries → CodeOk C L k ps rs → CodeOk C L (released b f t k) ps rs
-    released_ok (Answered (answer.Of sort.Value)) {t = t} lt r = let_go_ok Drop (at.imported Drop) (at.handle t lt) r
-    released_ok Bare {t = t} lt r = let_go_ok Drop (at.imported Drop) (at.handle t lt) r
+    released_ok (PrimitiveAnswer (answer.Of sort.Value)) {t = t} lt r = let_go_ok Drop (at.imported Drop) (at.handle t lt) r
+    released_ok NumberOrText {t = t} lt r = let_go_ok Drop (at.imported Drop) (at.handle t lt) r
     released_ok f lt r = r
 
     number_copied_ok : {s t : ℕ} → s < b.temporaries → t < b.temporaries → CodeOk C L k ps rs → CodeOk C L (number_copied b s t k) ps rs
@@ -183,14 +183,14 @@ module _ {p : Program} {ks : List Kind} {b : Bases} {C : Context} (at : Stands p
 
   module _ {L : Labels} {k : Instructions} {ps rs : Stack} where
     pub moved_from_ok : (f : Form) {s t : ℕ} → s < b.temporaries → t < b.temporaries → CodeOk C L k ps rs → CodeOk C L (moved_from b f s t k) ps rs
-    moved_from_ok (Answered (answer.Of sort.Value)) {s = s} {t = t} ls lt r = moved_ok (at.handle s ls) (at.handle t lt) r
-    moved_from_ok Bare {s = s} {t = t} ls lt r = number_copied_ok ls lt (moved_ok (at.handle s ls) (at.handle t lt) r)
+    moved_from_ok (PrimitiveAnswer (answer.Of sort.Value)) {s = s} {t = t} ls lt r = moved_ok (at.handle s ls) (at.handle t lt) r
+    moved_from_ok NumberOrText {s = s} {t = t} ls lt r = number_copied_ok ls lt (moved_ok (at.handle s ls) (at.handle t lt) r)
     moved_from_ok f ls lt r = number_copied_ok ls lt r
 
     copied_from_ok : (f : Form) {s t : ℕ} → s < b.temporaries → t < b.temporaries → CodeOk C L k ps rs → CodeOk C L (copied_from b f s t k) ps rs
-    copied_from_ok (Answered (answer.Of sort.Value)) {s = s} {t = t} ls lt r =
+    copied_from_ok (PrimitiveAnswer (answer.Of sort.Value)) {s = s} {t = t} ls lt r =
         copied_ok (reads_local (at.handle s ls)) (writes_local (at.handle s ls)) (at.handle t lt) r
-    copied_from_ok Bare {s = s} {t = t} ls lt r =
+    copied_from_ok NumberOrText {s = s} {t = t} ls lt r =
         number_copied_ok ls lt (copied_if_any_ok (reads_local (at.handle s ls)) (writes_local (at.handle s ls)) (at.handle t lt) r)
     copied_from_ok f ls lt r = number_copied_ok ls lt r
 
@@ -269,17 +269,17 @@ module _ {p : Program} {ks : List Kind} {b : Bases} {C : Context} (at : Stands p
         let le : t < b.temporaries = omega (arith, lt) in
         to_value_ok f le (to_value_ok g lt
         (word (moved_out_ok (at.handle t le) (moved_out_ok (at.handle (suc t) lt)
-        (called ps (at.imported (Of row.Compare)) (kept_code_ok true le e r))))))
+        (called ps (at.imported (OfPrimitive row.Compare)) (kept_code_ok true le e r))))))
 
   module _ {L : Labels} {k : Instructions} {ps rs : Stack} where
     zeroed_if_ok : (f : Form) {t : ℕ} → t < b.temporaries → CodeOk C L k ps rs → CodeOk C L (zeroed_if b f t k) ps rs
-    zeroed_if_ok Bare lt r = zeroed_ok lt r
-    zeroed_if_ok Perhaps lt r = zeroed_ok lt r
+    zeroed_if_ok NumberOrText lt r = zeroed_ok lt r
+    zeroed_if_ok OptionalNumber lt r = zeroed_ok lt r
     zeroed_if_ok f lt r = r
 
     texts_beside_ok : (f g : Form) {t : ℕ} → suc t < b.temporaries → CodeOk C L k (I32 ∷ ps) rs → CodeOk C L (texts_beside b f g t k) ps rs
-    texts_beside_ok Bare Bare {t = t} lt r = number_is_ok (at.number t (omega (arith, lt))) (number_is_ok (at.number (suc t) lt) (binary r))
-    texts_beside_ok Bare g {t = t} lt r = number_is_ok (at.number t (omega (arith, lt))) r
+    texts_beside_ok NumberOrText NumberOrText {t = t} lt r = number_is_ok (at.number t (omega (arith, lt))) (number_is_ok (at.number (suc t) lt) (binary r))
+    texts_beside_ok NumberOrText g {t = t} lt r = number_is_ok (at.number t (omega (arith, lt))) r
     texts_beside_ok f g {t = t} lt r = number_is_ok (at.number (suc t) lt) r
 
   module _ {L : Labels} {k : Instructions} {ps rs : Stack} where

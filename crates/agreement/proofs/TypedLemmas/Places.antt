@@ -9,7 +9,7 @@ use Rattle.wasm_types.specs.Typing.{Context}
 use Rattle.wasm_types.specs.declared.types.ValType.{ValType}
 use Rattle.wasm_types.specs.declared.types.ValType.TheVariants.{I32, I64}
 use Rattle.wasm_types.specs.declared.types.GlobalType.{GlobalType}
-use Rattle.mid_program.specs.Mid.{Kind, Boxed, Unboxed, Many, Routine, Program, parameters_at}
+use Rattle.mid_program.specs.Mid.{Kind, Boxed, Unboxed, ArrayKind, Routine, Program, parameters_at}
 use Rattle.mid_program.specs.Sorted.{kinds_of, calls_of, has_kind}
 use Rattle.lower_model.specs.Emission.{function_number}
 use Rattle.lower_model.specs.Functions.{routine_callee, main_callee}
@@ -19,8 +19,8 @@ use Rattle.lower_model.specs.Modules.{all_callees, callee_type, globals_of, word
 use Rattle.lower_model.specs.Places.{Bases, kind_type, local_types, temporary_types, handle_types, range_global, handle_global, number_global, answer_local, handle_local, number_local, iterator_local, array_local}
 use Rattle.lower_model.specs.Small.{minus_one, least}
 use Rattle.host_imports.specs.declared.import.Import.{Import}
-use Rattle.host_imports.specs.declared.import.Import.TheVariants.{Of, Over}
-use Rattle.host_imports.specs.declared.import.Listing.TheVariants.{Sprintf}
+use Rattle.host_imports.specs.declared.import.Import.TheVariants.{OfPrimitive, Variadic}
+use Rattle.host_imports.specs.declared.import.VariadicImport.TheVariants.{Sprintf}
 use Rattle.agreement.proofs.TypedLemmas.Standing.{Stands, routine_type}
 
 -- Lists that are put together.
@@ -67,7 +67,7 @@ parameter_there : (ks : List Kind) (i : ℕ) (k : Kind) → has_kind ks i k ≡ 
 parameter_there [] i k e = cc
 parameter_there (Boxed ∷ ks) zero Boxed e = refl
 parameter_there (Unboxed ∷ ks) zero Unboxed e = refl
-parameter_there (Many ∷ ks) zero Many e = refl
+parameter_there (ArrayKind ∷ ks) zero ArrayKind e = refl
 parameter_there (j ∷ ks) zero k e = cc
 parameter_there (j ∷ ks) (suc i) k e = parameter_there ks i k e
 
@@ -143,10 +143,10 @@ module _ (p : Program) where
   all_types = map import_type imports ++ map callee_type (all_callees p)
 
   imported_there : (i : Import) → slice_get all_types (import_number i) ≡ Some (import_type i)
-  imported_there (Of row.Num) = refl
-  imported_there (Of q) = refl
-  imported_there (Over Sprintf) = refl
-  imported_there (Over l) = refl
+  imported_there (OfPrimitive row.Num) = refl
+  imported_there (OfPrimitive q) = refl
+  imported_there (Variadic Sprintf) = refl
+  imported_there (Variadic l) = refl
   imported_there i = refl
 
   routine_there : (rs : List Routine) (fs : List Callee) (f : ℕ) → f < length rs →

@@ -10,14 +10,14 @@ use Rattle.wasm_types.specs.Syntax.{Instructions}
 use Rattle.wasm_types.specs.Typing.{Context, CodeOk, done}
 use Rattle.wasm_types.specs.declared.types.ValType.TheVariants.{I32}
 use Rattle.wasm_types.specs.declared.instr.Simple.{Simple}
-use Rattle.mid_program.specs.Mid.{Kind, Boxed, Unboxed, Many, Slot, Global, Parameter, Program, Form, Answered, Bare, Perhaps}
+use Rattle.mid_program.specs.Mid.{Kind, Boxed, Unboxed, ArrayKind, Slot, Global, Parameter, Program, Form, PrimitiveAnswer, NumberOrText, OptionalNumber}
 use Rattle.sem_scripts.specs.Names.{ArrayName, Numbered, Given}
 use Rattle.mid_program.specs.Sorted.{context_of, is_array_place, is_slot, kinds_of, arrays_among}
 use Rattle.lower_model.specs.Emission.{array_pushed, slot_read, handle_stored, value_stored, text_dropped, slot_set, assigned, assigned_by_number, pending_assigned, asked}
 use Rattle.lower_model.specs.Functions.{layout_of}
 use Rattle.host_imports.specs.Imports.{primitive_number}
 use Rattle.lower_model.specs.Places.{Bases, handle_global, array_name}
-use Rattle.host_imports.specs.declared.import.Import.TheVariants.{Of, Drop}
+use Rattle.host_imports.specs.declared.import.Import.TheVariants.{OfPrimitive, Drop}
 use Rattle.lower_model.proofs.Arrays.{array_named}
 use Rattle.agreement.proofs.TypedLemmas.Singles.{Stack, Labels, Exit, inner, nearest, variable, Writes, reads_local, writes_local, reads_global, writes_global, called, takes, get, put, tee, read, write, word, long, compare, convert, leave, looped, branched}
 use Rattle.agreement.proofs.TypedLemmas.Standing.{Stands, kind_below}
@@ -36,7 +36,7 @@ module _ {p : Program} {ks : List Kind} {b : Bases} {C : Context} (at : Stands p
     array_pushed_ok (Numbered zero) h r = word r
     array_pushed_ok (Numbered (suc zero)) h r = word r
     array_pushed_ok (Numbered (suc (suc i))) h r = read (array_there i h) r
-    array_pushed_ok (Given i) h r = get (at.parameter i Many h) r
+    array_pushed_ok (Given i) h r = get (at.parameter i ArrayKind h) r
 
     pub slot_read_ok : (x : Slot) {t : ℕ} → is_slot (context_of p ks) x ≡ true → t < b.temporaries → CodeOk C L k ps rs →
         CodeOk C L (slot_read (layout_of p b) x t k) ps rs
@@ -55,7 +55,7 @@ module _ {p : Program} {ks : List Kind} {b : Bases} {C : Context} (at : Stands p
     handle_stored_ok : (o : Bool) {t : ℕ} {set_it : Simple} → t < b.temporaries → Writes C set_it I32 → CodeOk C L k ps rs →
         CodeOk C L (handle_stored (layout_of p b) o t set_it k) ps rs
     handle_stored_ok true {t = t} lt s r = moved_out_ok at (at.handle t lt) (takes s r)
-    handle_stored_ok false {t = t} lt s r = get (at.handle t lt) (tee (at.handle t lt) (called ps (at.imported (Of row.Dup)) (takes s r)))
+    handle_stored_ok false {t = t} lt s r = get (at.handle t lt) (tee (at.handle t lt) (called ps (at.imported (OfPrimitive row.Dup)) (takes s r)))
 
     pub text_dropped_ok : {i : ℕ} → i < length (kinds_of p.globals) → CodeOk C L k ps rs → CodeOk C L (text_dropped (layout_of p b) i k) ps rs
     text_dropped_ok {i = i} li r =
@@ -64,14 +64,14 @@ module _ {p : Program} {ks : List Kind} {b : Bases} {C : Context} (at : Stands p
   module _ {L : Labels} {k : Instructions} {ps rs : Stack} where
     value_stored_ok : (o : Bool) (f : Form) {t : ℕ} {set_it : Simple} → t < b.temporaries → Writes C set_it I32 → CodeOk C L k ps rs →
         CodeOk C L (value_stored (layout_of p b) o f t set_it k) ps rs
-    value_stored_ok o (Answered (answer.Of sort.Value)) lt s r = handle_stored_ok o lt s r
-    value_stored_ok o (Answered (answer.Of sort.Number)) lt s r = boxed_number_ok at lt (takes s r)
-    value_stored_ok o (Answered answer.Truth) lt s r = boxed_number_ok at lt (takes s r)
-    value_stored_ok o Bare {t = t} lt s r =
+    value_stored_ok o (PrimitiveAnswer (answer.Of sort.Value)) lt s r = handle_stored_ok o lt s r
+    value_stored_ok o (PrimitiveAnswer (answer.Of sort.Number)) lt s r = boxed_number_ok at lt (takes s r)
+    value_stored_ok o (PrimitiveAnswer answer.Truth) lt s r = boxed_number_ok at lt (takes s r)
+    value_stored_ok o NumberOrText {t = t} lt s r =
         number_is_ok at (at.number t lt)
         (branched (handle_stored_ok o lt s done) (boxed_perhaps_ok at lt s done) r)
-    value_stored_ok o Perhaps lt s r = boxed_perhaps_ok at lt s r
-    value_stored_ok o f lt s r = called ps (at.imported (Of row.Uninit)) (takes s r)
+    value_stored_ok o OptionalNumber lt s r = boxed_perhaps_ok at lt s r
+    value_stored_ok o f lt s r = called ps (at.imported (OfPrimitive row.Uninit)) (takes s r)
 
   module _ {L : Labels} {k : Instructions} {ps rs : Stack} where
     pub slot_set_ok : (o : Bool) (x : Slot) (f : Form) {t : ℕ} → is_slot (context_of p ks) x ≡ true → t < b.temporaries → CodeOk C L k ps rs →
@@ -96,14 +96,14 @@ module _ {p : Program} {ks : List Kind} {b : Bases} {C : Context} (at : Stands p
         read g (called ps (at.imported Drop) (moved_out_ok at (at.handle t (omega (arith, lt))) (write g r)))
     assigned_ok Unboxed {i = i} {t = t} li lt r =
         text_dropped_ok li (moved_out_ok at (at.handle t (omega (arith, lt))) (write (at.name_handle i li) (long (write (at.name_number i li) r))))
-    assigned_ok Many li lt r = r
+    assigned_ok ArrayKind li lt r = r
 
   module _ {L : Labels} {k : Instructions} {ps rs : Stack} where
     assigned_by_number_ok : (kinds : List Kind) (i : ℕ) {t : ℕ} → i + length kinds ≤ length (kinds_of p.globals) → suc t < b.temporaries →
         CodeOk C L k ps rs →
         CodeOk C L (assigned_by_number (layout_of p b) kinds i t k) ps rs
     assigned_by_number_ok [] i li lt r = r
-    assigned_by_number_ok (Many ∷ kinds) i li lt r = assigned_by_number_ok kinds (suc i) (omega (arith, li)) lt r
+    assigned_by_number_ok (ArrayKind ∷ kinds) i li lt r = assigned_by_number_ok kinds (suc i) (omega (arith, li)) lt r
     assigned_by_number_ok (kind ∷ kinds) i {t = t} li lt r =
         number_is_ok at (at.number t (omega (arith, lt)))
         (branched (assigned_ok kind {i = i} (omega (arith, li)) lt done) done (assigned_by_number_ok kinds (suc i) (omega (arith, li)) lt r))
@@ -111,8 +111,8 @@ module _ {p : Program} {ks : List Kind} {b : Bases} {C : Context} (at : Stands p
   module _ {L : Labels} {k : Instructions} {ps rs : Stack} where
     pub pending_assigned_ok : {t : ℕ} → suc t < b.temporaries → CodeOk C L k ps rs → CodeOk C L (pending_assigned (layout_of p b) t k) ps rs
     pending_assigned_ok {t = t} lt r =
-        called ps (at.imported (Of row.PendingName)) (convert (put (at.number t (omega (arith, lt)))
-        (called ps (at.imported (Of row.PendingValue)) (put (at.handle t (omega (arith, lt)))
+        called ps (at.imported (OfPrimitive row.PendingName)) (convert (put (at.number t (omega (arith, lt)))
+        (called ps (at.imported (OfPrimitive row.PendingValue)) (put (at.handle t (omega (arith, lt)))
         (assigned_by_number_ok (kinds_of p.globals) 0 (omega arith) lt r)))))
 
   module _ {L : Labels} {k : Instructions} {ps rs : Stack} where

@@ -13,21 +13,21 @@ use Rattle.lower_model.specs.Functions.{layout_of}
 use Rattle.lower_model.specs.Machine.{no_notes}
 use Rattle.lower_model.specs.Places.{Bases}
 use Rattle.lower_model.specs.Quick.{Holder, OfName, OfParameter, Source, Held, Constant, joined, all_unsure, Addition, addition_names, addition_in}
-use Rattle.lower_model.specs.Small.{does}
+use Rattle.lower_model.specs.Small.{emit}
 use Rattle.lower_model.proofs.Adding.{AdditionIs, addition_is, addition_unboxed}
 use Rattle.lower_model.proofs.QuickParts.{HolderFits, AllUnboxed}
 use Rattle.lower_model.proofs.QuickSteps.{SourceFits}
-use Rattle.lower_model.proofs.Watch.{Watch}
+use Rattle.lower_model.proofs.Observer.{Observer}
 use Rattle.agreement.proofs.TypedLemmas.Singles.{Stack, Labels, get, put, read, word, long, binary, compare, branched}
 use Rattle.agreement.proofs.TypedLemmas.Standing.{Stands, kind_below}
 
 -- it does not matter here how the machine is watched
-abbrev pub unwatched : Watch
+abbrev pub unwatched : Observer
 unwatched = record { callers = 0; notes = no_notes }
 
 module _ {p : Program} {ks : List Kind} {b : Bases} {C : Context} (at : Stands p ks b C) where
   module _ {L : Labels} {k : Instructions} {rs : Stack} where
-    pub holder_read : {ps : Stack} (h : Holder) → HolderFits p unwatched ks [] b 0 0 h → CodeOk C L k (I64 ∷ ps) rs → CodeOk C L (does (name_read (layout_of p b) h) k) ps rs
+    pub holder_read : {ps : Stack} (h : Holder) → HolderFits p unwatched ks [] b 0 0 h → CodeOk C L k (I64 ∷ ps) rs → CodeOk C L (emit (name_read (layout_of p b) h) k) ps rs
     holder_read (OfName i) hf r = read (at.name_number i (kind_below (kinds_of p.globals) i Unboxed hf)) r
     holder_read (OfParameter i) hf r = get (at.parameter i Unboxed hf) r
 

@@ -11,14 +11,14 @@ use Rattle.wasm_types.specs.Typing.{Context, CodeOk, done}
 use Rattle.wasm_types.specs.declared.types.ValType.{ValType}
 use Rattle.wasm_types.specs.declared.types.ValType.TheVariants.{I32, I64}
 use Rattle.wasm_types.specs.declared.instr.IBinOp.{IBinOp}
-use Rattle.mid_program.specs.Mid.{Kind, Unboxed, Program, Code, Get, Parameter, Step, Eval, Block, If, Loop, Each, Break, Continue, Next, Exit as ExitStep, ExitWith, Return, Mark, Steps, NoStep, Then, Choose, Form, Answered, Bare, Perhaps, a_value, form_of}
+use Rattle.mid_program.specs.Mid.{Kind, Unboxed, Program, Code, Get, Parameter, Step, Eval, Block, If, Loop, Each, Break, Continue, Next, Exit as ExitStep, ExitWith, Return, Mark, Steps, NoStep, Then, Choose, Form, PrimitiveAnswer, NumberOrText, OptionalNumber, a_value, form_of}
 use Rattle.sem_scripts.specs.Names.{ArrayName}
 use Rattle.mid_program.specs.Sorted.{context_of, kinds_of, is_array_place, fits, is_tested, is_dropped, stores_well, sorted, test_sorted, step_sorted, steps_sorted}
 use Rattle.lower_model.specs.Emission.{dropped, field_at, tested}
 use Rattle.lower_model.specs.Functions.{layout_of}
 use Rattle.lower_model.specs.Places.{Bases, room, arrays_in, step_room, steps_room, step_arrays, steps_arrays, step_iterators, steps_iterators}
 use Rattle.lower_model.specs.Quick.{Within, test_within, Holder, OfName, OfParameter, Source, Held, Constant, Sum, sum_names, sum_op, sum_in, Update, update_in, Tally, tally_in, Remainder, remainder_in, remainder_names, most_multiplied, multiplied, Counted, counted_in, Pair, pair_names, pair_in, step_jumps, is_nothing}
-use Rattle.lower_model.specs.Small.{does}
+use Rattle.lower_model.specs.Small.{emit}
 use Rattle.lower_model.proofs.QuickParts.{HolderFits}
 use Rattle.lower_model.proofs.Remainders.{remainder_is, remainder_sorted, remainder_unboxed}
 use Rattle.lower_model.proofs.QuickSteps.{near_source, test_is, sum_is, sum_unboxed, pair_is, pair_unboxed, counted_is}
@@ -26,7 +26,7 @@ use Rattle.lower_model.proofs.Summing.{IsSource}
 use Rattle.lower_model.proofs.Tallies.{Shape, tally_code, IsAdded, tally_is, tally_room, tally_sorted}
 use Rattle.lower_model.proofs.Updating.{UpdateParts, added_code, added_is, added_sorted}
 use Rattle.lower_model.specs.Statements.{holder_cleared, name_put, name_numbered, source_numbered, source_taken, sum_kept, sum_taken, summed_anyway, both_asked, updated, element_numbered, element_given, tallied, remainder_taken, remainder_dropped, barely_dropped, plainly_dropped, quickly_dropped, left_unless_counted, left_unless_pair, left_unless, left_by, key_stored, iterator_left, step_emitted, steps_emitted, answer_given, returned}
-use Rattle.host_imports.specs.declared.import.Import.TheVariants.{Of, Drop, IterFree}
+use Rattle.host_imports.specs.declared.import.Import.TheVariants.{OfPrimitive, Drop, IterFree}
 use Rattle.agreement.proofs.TypedLemmas.Singles.{Stack, Labels, Exit, inner, nearest, reads_global, writes_global, nothing, called, get, put, tee, read, write, word, long, binary, compare, test, discard, leave, leave_if, blocked, looped, branched}
 use Rattle.agreement.proofs.TypedLemmas.Standing.{Stands, kind_below}
 use Rattle.agreement.proofs.TypedLemmas.Pieces.{moved_out_ok, emptied_ok, copied_ok, let_go_ok, fail_if_ok, number_is_ok, kept_number_ok, number_of_value_ok, to_value_ok, to_number_ok, truth_ok}
@@ -64,7 +64,7 @@ module _ {p : Program} {ks : List Kind} {b : Bases} {C : Context} (at : Stands p
         (truth_ok at (form_of [] e) lt r)
 
     -- a holder's number is written
-    holder_put : {ps : Stack} (h : Holder) → HolderFits p unwatched ks [] b 0 0 h → CodeOk C L k ps rs → CodeOk C L (does (name_put (layout_of p b) h) k) (I64 ∷ ps) rs
+    holder_put : {ps : Stack} (h : Holder) → HolderFits p unwatched ks [] b 0 0 h → CodeOk C L k ps rs → CodeOk C L (emit (name_put (layout_of p b) h) k) (I64 ∷ ps) rs
     holder_put (OfName i) hf r = write (at.name_number i (kind_below (kinds_of p.globals) i Unboxed hf)) r
     holder_put (OfParameter i) hf r = put (at.parameter i Unboxed hf) r
 
@@ -132,7 +132,7 @@ module _ {p : Program} {ks : List Kind} {b : Bases} {C : Context} (at : Stands p
         by : (o : Option ℤ) → CodeOk C L (both_asked (layout_of p b) o q d (sum_taken (layout_of p b) (sum_op q.op) q.target 0 d k)) [] rs
         by (Some z) =
             name_numbered_ok {t = 0} q.name parts.name first x (get (at.number 0 first)
-            (long (called (I64 ∷ []) (at.imported (Of row.Field)) (called (I64 ∷ []) (at.imported (Of row.ToNum)) taken))))
+            (long (called (I64 ∷ []) (at.imported (OfPrimitive row.Field)) (called (I64 ∷ []) (at.imported (OfPrimitive row.ToNum)) taken))))
         by None =
             code_ok at false [] [] q.added 0 0 d (none_below b.temporaries first) parts.added (omega (arith, h)) (omega (arith, g)) x
             (name_numbered_ok {t = 1} q.name parts.name there x
@@ -143,12 +143,12 @@ module _ {p : Program} {ks : List Kind} {b : Bases} {C : Context} (at : Stands p
     element_numbered_ok : {d : ℕ} (a : ArrayName) → is_array_place (context_of p ks) a ≡ true → 2 < b.temporaries → Exit L d → CodeOk C L k [] rs → CodeOk C L (element_numbered (layout_of p b) a d k) [] rs
     element_numbered_ok a h lt x r =
         let lh : 0 < b.temporaries = omega (arith, lt) in
-        array_pushed_ok at a h (get (at.handle 0 lh) (tee (at.handle 0 lh) (called (I32 ∷ []) (at.imported (Of row.Dup)) (called [] (at.imported (Of row.Elem)) (called [] (at.imported (Of row.ToNum)) (kept_number_ok at true lt x r))))))
+        array_pushed_ok at a h (get (at.handle 0 lh) (tee (at.handle 0 lh) (called (I32 ∷ []) (at.imported (OfPrimitive row.Dup)) (called [] (at.imported (OfPrimitive row.Elem)) (called [] (at.imported (OfPrimitive row.ToNum)) (kept_number_ok at true lt x r))))))
 
     element_given_ok : (a : ArrayName) → is_array_place (context_of p ks) a ≡ true → 2 < b.temporaries → CodeOk C L k [] rs → CodeOk C L (element_given (layout_of p b) a k) [] rs
     element_given_ok a h lt r =
         let lh : 0 < b.temporaries = omega (arith, lt) in
-        array_pushed_ok at a h (moved_out_ok at (at.handle 0 lh) (get (at.number 2 lt) (called (I32 ∷ (I32 ∷ [])) (at.imported (Of row.Num)) (called [] (at.imported (Of row.SetElem)) (discard r)))))
+        array_pushed_ok at a h (moved_out_ok at (at.handle 0 lh) (get (at.number 2 lt) (called (I32 ∷ (I32 ∷ [])) (at.imported (OfPrimitive row.Num)) (called [] (at.imported (OfPrimitive row.SetElem)) (discard r)))))
 
   module _ {L : Labels} {k : Instructions} {rs : Stack} where
     tallied_ok : {d : ℕ} (q : Tally) (i : Shape) → IsAdded i q.added → sorted (context_of p ks) [] (tally_code i q) ≡ true → room (tally_code i q) ≤ b.temporaries → arrays_in (tally_code i q) ≤ b.arrays → Exit L d →
@@ -218,7 +218,7 @@ module _ {p : Program} {ks : List Kind} {b : Bases} {C : Context} (at : Stands p
     left_unless_counted_ok (Some q) e d out eq s h g x z r =
         let hf = (counted_is p unwatched ks [] b 0 0 e q eq (and_parts (is_tested (form_of [] e)) (sorted (context_of p ks) [] e) s).1).kind in
         holder_read at q.name hf (long (compare (branched (tested_ok e s h g (inner x) (test (leave_if (inner z) done)))
-        (holder_read at q.name hf (word (called (I64 ∷ []) (at.imported (Of row.GetSpecial)) (called (I64 ∷ []) (at.imported (Of row.ToNum)) (compare (leave_if (inner z) done)))))) r)))
+        (holder_read at q.name hf (word (called (I64 ∷ []) (at.imported (OfPrimitive row.GetSpecial)) (called (I64 ∷ []) (at.imported (OfPrimitive row.ToNum)) (compare (leave_if (inner z) done)))))) r)))
 
     left_unless_pair_ok : (o : Option Pair) (e : Code) (d out : ℕ) → pair_in e ≡ o → test_sorted (context_of p ks) e ≡ true → room e ≤ b.temporaries → arrays_in e ≤ b.arrays → Exit L d → Exit L out →
         CodeOk C L k [] rs → CodeOk C L (left_unless_pair (layout_of p b) o e d out k) [] rs
@@ -247,7 +247,7 @@ module _ {p : Program} {ks : List Kind} {b : Bases} {C : Context} (at : Stands p
         CodeOk C L k [] rs → CodeOk C L (key_stored (layout_of p b) u e d k) [] rs
     key_stored_ok u e d lu s h g z x r =
         let lt : 0 < b.temporaries = omega (arith, h) in
-        get (at.iterator u lu) (tee (at.iterator u lu) (called [] (at.imported (Of row.IterNext))
+        get (at.iterator u lu) (tee (at.iterator u lu) (called [] (at.imported (OfPrimitive row.IterNext))
         (tee (at.handle 0 lt) (word (compare (leave_if z
         (dropped_ok (a_value ∷ []) (0 ∷ []) e 1 0 d (one_more_below 0 b.temporaries [] lt (none_below b.temporaries lt)) s (omega (arith, h))
         (omega (arith, g)) x
@@ -257,13 +257,13 @@ module _ {p : Program} {ks : List Kind} {b : Bases} {C : Context} (at : Stands p
 
   module _ {L : Labels} {k : Instructions} {rs : Stack} where
     answer_given_ok : {d : ℕ} (f : Form) → 0 < b.temporaries → Exit L (suc d) → CodeOk C L k [] rs → CodeOk C L (answer_given (layout_of p b) f d k) [] rs
-    answer_given_ok (Answered (answer.Of sort.Value)) lt y r = moved_out_ok at (at.handle 0 lt) (write at.text (long (put at.answer (leave y r))))
-    answer_given_ok (Answered (answer.Of sort.Number)) lt y r = get (at.number 0 lt) (put at.answer (leave y r))
-    answer_given_ok (Answered answer.Truth) lt y r = get (at.number 0 lt) (put at.answer (leave y r))
-    answer_given_ok Bare lt y r =
+    answer_given_ok (PrimitiveAnswer (answer.Of sort.Value)) lt y r = moved_out_ok at (at.handle 0 lt) (write at.text (long (put at.answer (leave y r))))
+    answer_given_ok (PrimitiveAnswer (answer.Of sort.Number)) lt y r = get (at.number 0 lt) (put at.answer (leave y r))
+    answer_given_ok (PrimitiveAnswer answer.Truth) lt y r = get (at.number 0 lt) (put at.answer (leave y r))
+    answer_given_ok NumberOrText lt y r =
         number_is_ok at (at.number 0 lt) (branched (moved_out_ok at (at.handle 0 lt) (write at.text done)) done
         (get (at.number 0 lt) (put at.answer (leave y r))))
-    answer_given_ok Perhaps lt y r = get (at.number 0 lt) (put at.answer (leave y r))
+    answer_given_ok OptionalNumber lt y r = get (at.number 0 lt) (put at.answer (leave y r))
     answer_given_ok f lt y r = long (put at.answer (leave y r))
 
   returned_ok : {L : Labels} {k : Instructions} {rs : Stack} (e : Code) (d : ℕ) → fits (form_of [] e) sort.Value ≡ true → sorted (context_of p ks) [] e ≡ true → room e ≤ b.temporaries → arrays_in e ≤ b.arrays →
@@ -344,7 +344,7 @@ module _ {p : Program} {ks : List Kind} {b : Bases} {C : Context} (at : Stands p
         let se = sorted (context_of p ks) (a_value ∷ []) e in
         let s1 = and_parts (is_array_place (context_of p ks) a) (stores_well [] e && (se && sc)) s in
         let s2 = and_parts se sc (and_parts (stores_well [] e) (se && sc) s1.1).1 in
-        nothing (array_pushed_ok at a s1.0 (called [] (at.imported (Of row.Iter)) (put (at.iterator u (omega (arith, i)))
+        nothing (array_pushed_ok at a s1.0 (called [] (at.imported (OfPrimitive row.Iter)) (put (at.iterator u (omega (arith, i)))
         (blocked (looped
         (key_stored_ok u e (suc (suc d)) (omega (arith, i)) s2.0 (omega (arith, h)) (omega (arith, g)) (inner nearest) (inner (inner x.left)) (blocked
         (step_ok o true c (suc u) (suc (suc (suc d))) 2 0 s2.1 (omega (arith, h)) (omega (arith, i)) (omega (arith, g)) (deeper (deeper (deeper x)))

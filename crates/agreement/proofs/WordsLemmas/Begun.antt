@@ -17,7 +17,7 @@ use Rattle.lower_model.specs.Places.{Bases}
 use Rattle.lower_model.specs.Runs.{begun, code_of, first_globals, host_at_start}
 use Rattle.lower_model.specs.Small.{ask_row, kept_number}
 use Rattle.lower_model.specs.Statements.{block, first_part, last_part, part_done, started}
-use Rattle.host_imports.specs.declared.import.Import.TheVariants.{Of}
+use Rattle.host_imports.specs.declared.import.Import.TheVariants.{OfPrimitive}
 use Rattle.lower_model.proofs.Announcing.{Telling}
 use Rattle.lower_model.proofs.Answers.{beside_state, machine}
 use Rattle.lower_model.proofs.Beginnings.{begins, first_cells, first_placed, named_ok, naming}
@@ -35,7 +35,7 @@ use Rattle.lower_model.proofs.Relation.{globals_told, routines_told}
 use Rattle.lower_model.proofs.Runs.{Goes, by_steps, goes_from, goes_to, then_goes}
 use Rattle.lower_model.proofs.State.{host_of}
 use Rattle.lower_model.proofs.Steps.{set_ok, unanswered}
-use Rattle.lower_model.proofs.Watch.{Watch, watched}
+use Rattle.lower_model.proofs.Observer.{Observer, watched}
 
 -- all names of a script, in their order: its globals, and its functions
 abbrev pub all_names : Program → List Telling
@@ -48,7 +48,7 @@ module _ (p : Program) (s : Setting) (differ : all_differ (announced_names p) �
   abbrev y : Layout
   y = layout_of p (main_bases p)
 
-  abbrev w : Watch
+  abbrev w : Observer
   w = watched no_notes s
 
   abbrev u : Code
@@ -98,7 +98,7 @@ module _ (p : Program) (s : Setting) (differ : all_differ (announced_names p) �
   answered =
       let number : Number = record { number = pos 1; in_range = tt } in
       let same = ap (λ (τ : State). host_of τ None) (same_state {A = Number} first_state number) in
-      then_goes (goes_to (called (Of row.Pow) (Bits (I64 1) ∷ (Bits (I64 1) ∷ [])) [] (storing globals (host_of first_state None)) (Some (Bits (I64 1))) _ refl refl refl)
+      then_goes (goes_to (called (OfPrimitive row.Pow) (Bits (I64 1) ∷ (Bits (I64 1) ∷ [])) [] (storing globals (host_of first_state None)) (Some (Bits (I64 1))) _ refl refl refl)
       (ap (λ o. at [] (Bits (I64 1) ∷ []) exit (laid b (functions.begun [])) [] (kept_number b true zero zero told_code) (storing globals o)) same))
       (number_kept b (functions.begun []) zero zero 1 (omega arith) refl refl)
 

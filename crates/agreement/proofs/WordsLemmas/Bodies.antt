@@ -14,7 +14,7 @@ use Rattle.wasm_types.specs.declared.instr.ITestOp.TheVariants.{Eqz}
 use Rattle.wasm_types.specs.declared.instr.Simple.TheVariants.{Br, BrIf, Compare, Convert, GlobalGet, GlobalSet, I32Const, LocalGet, LocalSet, Nop, Test}
 use Rattle.wasm_types.specs.declared.types.ValType.TheVariants as ty
 use Rattle.sem_scripts.specs.Names.{ArrayName}
-use Rattle.mid_program.specs.Mid.{Kind, Boxed, Unboxed, Many, Parameter, Code, Get, Choose, Let, Form, Answered, Bare, Perhaps, Step, Eval, Block as Steps_, If as Either, Loop, Each, Break, Continue, Next, Exit, ExitWith, Return, Mark, Steps, NoStep, Then as AndThen, Program, a_value, form_of, parameters_at}
+use Rattle.mid_program.specs.Mid.{Kind, Boxed, Unboxed, ArrayKind, Parameter, Code, Get, Choose, Let, Form, PrimitiveAnswer, NumberOrText, OptionalNumber, Step, Eval, Block as Steps_, If as Either, Loop, Each, Break, Continue, Next, Exit, ExitWith, Return, Mark, Steps, NoStep, Then as AndThen, Program, a_value, form_of, parameters_at}
 use Rattle.mid_program.specs.Sorted.{Context, all_sorted, calls_of, context_of, fits, is_array_place, is_dropped, is_kept, is_tested, keeps_well, sorted, step_sorted, steps_sorted, stores_well, test_sorted}
 use Rattle.lower_model.specs.Cells.{cell_at}
 use Rattle.lower_model.specs.Emission.{Layout, asked, dropped, field_at, tested}
@@ -22,7 +22,7 @@ use Rattle.lower_model.specs.Machine.{zeros}
 use Rattle.wasm_types.specs.declared.types.ValType.{ValType}
 use Rattle.lower_model.specs.Places.{Bases, answer_local, array_local, handle_local, handle_types, iterator_local, local_types, number_global, number_local, status_global, temporary_types, text_global, way_global}
 use Rattle.lower_model.specs.Quick.{Within, test_within, Source, Holder, OfName, OfParameter, Held, Constant, Sum, sum_names, sum_op, sum_in, Update, update_in, Tally, tally_in, Remainder, remainder_in, remainder_names, multiplied, Counted, counted_in, Pair, pair_names, pair_in, step_jumps, is_nothing}
-use Rattle.lower_model.specs.Small.{ask_row, does, either}
+use Rattle.lower_model.specs.Small.{ask_row, emit, emit_if}
 use Rattle.lower_model.specs.Statements.{again, answer_given, returned, routine_ended, left_by, pair_left, summed, way_exit, way_next, name_numbered, source_numbered, source_taken, sum_kept, sum_taken, summed_anyway, field_numbered, both_asked, element_numbered, element_given, remainder_taken, remainder_dropped, barely_dropped, plainly_dropped, quickly_dropped, left_unless_counted, left_unless_pair, left_unless, all_emptied, arrays_emptied, arrays_swept, block, first_part, goes_on, has_functions, iterator_left, iterators_emptied, iterators_swept, key_stored, last_part, left_swept, main_body, names_declared, names_made, parameters_dropped, part_done, record_done, records_read, routine_body, routines_declared, step_emitted, steps_emitted, swept, temporaries_emptied, temporaries_swept, name_put}
 use Rattle.lower_model.proofs.Tallies.{Shape, Updating, Following, Leading, tally_code, tally_is, tally_sorted}
 use Rattle.lower_model.proofs.Updating.{added_code, added_is}
@@ -78,10 +78,10 @@ module _ (tells : Bool) (y : Layout) (sizes : ℕ → Option ℕ) (whole : Progr
   done = none tells y sizes
 
   -- a jump: what comes after it is not reached from there
-  jumps : {d : ℕ} → So false (does (Br d) Done)
+  jumps : {d : ℕ} → So false (emit (Br d) Done)
   jumps = record { so = λ A. tt }
 
-  leaves_if : {d : ℕ} → So false (does (BrIf d) Done)
+  leaves_if : {d : ℕ} → So false (emit (BrIf d) Done)
   leaves_if = record { so = λ A. tt }
 
   -- a global that is no name's
@@ -90,7 +90,7 @@ module _ (tells : Bool) (y : Layout) (sizes : ℕ → Option ℕ) (whole : Progr
 
   module _ {e : Bool} {k : Instructions} (r : So e k) where
     -- the truth on the stack leaves where it is false
-    out_if : (out : ℕ) → So e (does (Test ty.I32 Eqz) (does (BrIf out) k))
+    out_if : (out : ℕ) → So e (emit (Test ty.I32 Eqz) (emit (BrIf out) k))
     out_if out = record { so = λ A. r.so (popped A) }
 
     key_spares : (u : ℕ) (s : Code) (d : ℕ) → sorted c (a_value ∷ []) s ≡ true → names_argv s ≡ false → So e (key_stored y u s d k)
@@ -102,7 +102,7 @@ module _ (tells : Bool) (y : Layout) (sizes : ℕ → Option ℕ) (whole : Progr
   -- Quick ways.
 
   -- a holder's number is written
-  put_spares : (h : Holder) (e : Bool) (k : Instructions) (A : Tags) → At e k A → At e (does (name_put y h) k) (true ∷ A)
+  put_spares : (h : Holder) (e : Bool) (k : Instructions) (A : Tags) → At e k A → At e (emit (name_put y h) k) (true ∷ A)
   put_spares (OfName i) e k A r = (refl, r)
   put_spares (OfParameter i) e k A r = r
 
@@ -133,11 +133,11 @@ module _ (tells : Bool) (y : Layout) (sizes : ℕ → Option ℕ) (whole : Progr
     sum_spares : (op : IBinOp) (i : Holder) (t d : ℕ) → So e (sum_taken y op i t d k)
     sum_spares op (OfName i) t d = kept_spares (dropped_text tells y sizes stored i) op t d
       where
-        stored : So e (does (LocalGet (number_local b t)) (does (GlobalSet (number_global y.ranges i)) k))
+        stored : So e (emit (LocalGet (number_local b t)) (emit (GlobalSet (number_global y.ranges i)) k))
         stored = record { so = λ A. (refl, r.so A) }
     sum_spares op (OfParameter i) t d = kept_spares stored op t d
       where
-        stored : So e (does (LocalGet (number_local b t)) (does (LocalSet i) k))
+        stored : So e (emit (LocalGet (number_local b t)) (emit (LocalSet i) k))
         stored = record { so = λ A. r.so A }
 
   -- a remainder of the number on the stack goes to a name
@@ -156,7 +156,7 @@ module _ (tells : Bool) (y : Layout) (sizes : ℕ → Option ℕ) (whole : Progr
         slow : So false (dropped y [] [] s zero zero (suc d) Done)
         slow = dropped_spares tells y sizes c sized same done [] [] s zero zero (suc d) none_kept o q
 
-        both : So e (either (dropped y [] [] s zero zero (suc d) Done) (remainder_taken y x Done) k)
+        both : So e (emit_if (dropped y [] [] s zero zero (suc d) Done) (remainder_taken y x Done) k)
         both = record { so = λ A. (slow.so [], (holder_spares tells y sizes x.multiple.name _ _ [] (multiplied_spares _ _ x.multiple.factor _ (put_spares x.target _ _ [] tt)), r.so [])) }
 
     barely_spares : (o : Option Tally) (s : Code) (d : ℕ) → tally_in s ≡ o → sorted c [] s ≡ true → names_argv s ≡ false → So e (barely_dropped y o s d k)
@@ -171,7 +171,7 @@ module _ (tells : Bool) (y : Layout) (sizes : ℕ → Option ℕ) (whole : Progr
         false (f ∷ []) (zero ∷ []) x.added 1 zero d (one_kept f [] (tested_no_array f t.kept) none_kept) t.added n.1)
         false [] [] x.key zero zero d none_kept t.key n.0
       where
-        summed : (x : Tally) → is_argv x.written ≡ false → So e (does (LocalGet (number_local b 2)) (does (LocalGet (number_local b 1)) (sum_kept y (sum_op x.op) 2 d (element_given y x.written k))))
+        summed : (x : Tally) → is_argv x.written ≡ false → So e (emit (LocalGet (number_local b 2)) (emit (LocalGet (number_local b 1)) (sum_kept y (sum_op x.op) 2 d (element_given y x.written k))))
         summed x n = record { so = λ A. (kept_spares (given_spares r x.written n) (sum_op x.op) 2 d).so (true ∷ (true ∷ A)) }
 
     plainly_spares : (o : Option Update) (s : Code) (d : ℕ) → update_in s ≡ o → sorted c [] s ≡ true → names_argv s ≡ false → So e (plainly_dropped y o s d k)
@@ -185,10 +185,10 @@ module _ (tells : Bool) (y : Layout) (sizes : ℕ → Option ℕ) (whole : Progr
         taken : So e (sum_taken y (sum_op x.op) x.target zero d k)
         taken = sum_spares r (sum_op x.op) x.target zero d
 
-        added : So e (does (LocalGet (number_local b 1)) (does (LocalGet (number_local b zero)) (sum_taken y (sum_op x.op) x.target zero d k)))
+        added : So e (emit (LocalGet (number_local b 1)) (emit (LocalGet (number_local b zero)) (sum_taken y (sum_op x.op) x.target zero d k)))
         added = record { so = λ A. taken.so (true ∷ (true ∷ A)) }
 
-        field : (z : ℤ) → So e (does (LocalGet (number_local b zero)) (field_numbered y z (sum_taken y (sum_op x.op) x.target zero d k)))
+        field : (z : ℤ) → So e (emit (LocalGet (number_local b zero)) (field_numbered y z (sum_taken y (sum_op x.op) x.target zero d k)))
         field z = record { so = λ A. (refl, (refl, taken.so (true ∷ (true ∷ A)))) }
 
         by : sorted c [] x.added ≡ true → names_argv x.added ≡ false → (o : Option ℤ) → So e (both_asked y o x d (sum_taken y (sum_op x.op) x.target zero d k))
@@ -200,11 +200,11 @@ module _ (tells : Bool) (y : Layout) (sizes : ℕ → Option ℕ) (whole : Progr
     quick_spares None s d o q = plainly_spares r (update_in s) s d refl o q
     quick_spares (Some x) s d o q = all_spares tells y sizes both (sum_names x) _ _
       where
-        both : So e (either (summed_anyway y x (suc d) Done) (summed y x Done) k)
+        both : So e (emit_if (summed_anyway y x (suc d) Done) (summed y x Done) k)
         both = record { so = λ A. ((anyway_spares done x (suc d)).so [], (source_spares tells y sizes _ _ x.left [] (source_spares tells y sizes _ _ x.right (true ∷ []) (put_spares x.target _ _ [] tt)), r.so [])) }
 
     -- where it is not so this code goes on
-    tested_out : (s : Code) (d out : ℕ) → sorted c [] s ≡ true → names_argv s ≡ false → So false (tested y [] [] s zero zero (suc d) (does (Test ty.I32 Eqz) (does (BrIf (suc out)) Done)))
+    tested_out : (s : Code) (d out : ℕ) → sorted c [] s ≡ true → names_argv s ≡ false → So false (tested y [] [] s zero zero (suc d) (emit (Test ty.I32 Eqz) (emit (BrIf (suc out)) Done)))
     tested_out s d out o q = tested_spares tells y sizes c sized same (out_if done (suc out)) [] [] s zero zero (suc d) none_kept o q
 
     counted_spares : (o : Option Counted) (s : Code) (d out : ℕ) → sorted c [] s ≡ true → names_argv s ≡ false → So e (left_unless_counted y o s d out k)
@@ -215,7 +215,7 @@ module _ (tells : Bool) (y : Layout) (sizes : ℕ → Option ℕ) (whole : Progr
     pair_spares None s d out o q = counted_spares (counted_in s) s d out o q
     pair_spares (Some x) s d out o q = all_spares tells y sizes both (pair_names x) _ _
       where
-        both : So e (either (tested y [] [] s zero zero (suc d) (does (Test ty.I32 Eqz) (does (BrIf (suc out)) Done))) (pair_left y x (suc out) Done) k)
+        both : So e (emit_if (tested y [] [] s zero zero (suc d) (emit (Test ty.I32 Eqz) (emit (BrIf (suc out)) Done))) (pair_left y x (suc out) Done) k)
         both = record { so = λ A. ((tested_out s d out o q).so [], (source_spares tells y sizes _ _ x.left [] (source_spares tells y sizes _ _ x.right (true ∷ []) tt), r.so [])) }
 
     left_spares : (o : Option Within) (s : Code) (d out : ℕ) → sorted c [] s ≡ true → names_argv s ≡ false → So e (left_unless y o s d out k)
@@ -232,23 +232,23 @@ module _ (tells : Bool) (y : Layout) (sizes : ℕ → Option ℕ) (whole : Progr
   rounds_spare : {e : Bool} {a k : Instructions} → So false a → So e k → So e (again a k)
   rounds_spare p r = record { so = λ A. (p.so [], r.so []) }
 
-  either_spares : {e : Bool} {a d k : Instructions} → So false a → So false d → So e k → So e (either a d k)
+  either_spares : {e : Bool} {a d k : Instructions} → So false a → So false d → So e k → So e (emit_if a d k)
   either_spares p q r = record { so = λ A. (p.so [], (q.so [], r.so [])) }
 
-  begun : {e : Bool} {k : Instructions} → So e k → So e (does Nop k)
+  begun : {e : Bool} {k : Instructions} → So e k → So e (emit Nop k)
   begun r = record { so = λ A. r.so A }
 
-  left_on : {e : Bool} {k : Instructions} {d : ℕ} → So e (does (Br d) k)
+  left_on : {e : Bool} {k : Instructions} {d : ℕ} → So e (emit (Br d) k)
   left_on = record { so = λ A. tt }
 
   -- `return`
 
   answer_spares : {e : Bool} (k : Instructions) (f : Form) (d : ℕ) → So e (answer_given y f d k)
-  answer_spares k (Answered (answer.Of sort.Value)) d = record { so = λ A. (refl, tt) }
-  answer_spares k (Answered (answer.Of sort.Number)) d = record { so = λ A. tt }
-  answer_spares k (Answered answer.Truth) d = record { so = λ A. tt }
-  answer_spares k Bare d = record { so = λ A. ((refl, tt), (tt, tt)) }
-  answer_spares k Perhaps d = record { so = λ A. tt }
+  answer_spares k (PrimitiveAnswer (answer.Of sort.Value)) d = record { so = λ A. (refl, tt) }
+  answer_spares k (PrimitiveAnswer (answer.Of sort.Number)) d = record { so = λ A. tt }
+  answer_spares k (PrimitiveAnswer answer.Truth) d = record { so = λ A. tt }
+  answer_spares k NumberOrText d = record { so = λ A. ((refl, tt), (tt, tt)) }
+  answer_spares k OptionalNumber d = record { so = λ A. tt }
   answer_spares k f d = record { so = λ A. tt }
 
   returned_spares : {e : Bool} {k : Instructions} → So e k → (x : Code) (d : ℕ) → sorted c [] x ≡ true → names_argv x ≡ false → So e (returned y x d k)
@@ -317,7 +317,7 @@ module _ (tells : Bool) (y : Layout) (sizes : ℕ → Option ℕ) (whole : Progr
     step_spares {e = e} {k = k} r (ExitWith x) u d bk ct g l o q =
         begun (emitted_spares tells y sizes c sized same (to_number_spares tells y sizes status (form_of [] x) zero d) false [] [] x zero zero d none_kept (and_parts (fits (form_of [] x) sort.Number) (sorted c [] x) o).1 q)
       where
-        status : So e (does (LocalGet (number_local b zero)) (does (GlobalSet status_global) (left_by way_exit d k)))
+        status : So e (emit (LocalGet (number_local b zero)) (emit (GlobalSet status_global) (left_by way_exit d k)))
         status = record { so = λ A. (refl, (refl, tt)) }
     step_spares r (Return x) u d bk ct g l o q =
         begun (returned_spares r x d (and_parts (fits (form_of [] x) sort.Value) (sorted c [] x) (and_parts g (fits (form_of [] x) sort.Value && sorted c [] x) o).1).1 q)
@@ -372,7 +372,7 @@ module _ (tells : Bool) (y : Layout) (sizes : ℕ → Option ℕ) (whole : Progr
   parameters_spare r x [] = r
   parameters_spare r x (Boxed ∷ ks) = record { so = λ A. (refl, (parameters_spare r (suc x) ks).so A) }
   parameters_spare r x (Unboxed ∷ ks) = parameters_spare r (suc x) ks
-  parameters_spare r x (Many ∷ ks) = parameters_spare r (suc x) ks
+  parameters_spare r x (ArrayKind ∷ ks) = parameters_spare r (suc x) ks
 
   pub routine_spares : (ks : List Kind) (body : Steps) → steps_sorted c true false body ≡ true → steps_name body ≡ false → So true (routine_body y ks body)
   routine_spares ks body o q =
@@ -382,7 +382,7 @@ module _ (tells : Bool) (y : Layout) (sizes : ℕ → Option ℕ) (whole : Progr
       ended : So false (routine_ended y)
       ended = record { so = λ A. tt }
 
-      answer : So true (does (LocalGet (answer_local b)) Done)
+      answer : So true (emit (LocalGet (answer_local b)) Done)
       answer = record { so = λ A. refl }
 
   -- `main`.
@@ -400,7 +400,7 @@ module _ (tells : Bool) (y : Layout) (sizes : ℕ → Option ℕ) (whole : Progr
   made_spares r i [] = r
   made_spares r i (Boxed ∷ ks) = record { so = λ A. (refl, (refl, (made_spares r (suc i) ks).so A)) }
   made_spares r i (Unboxed ∷ ks) = made_spares r (suc i) ks
-  made_spares r i (Many ∷ ks) = record { so = λ A. (refl, (refl, (made_spares r (suc i) ks).so A)) }
+  made_spares r i (ArrayKind ∷ ks) = record { so = λ A. (refl, (refl, (made_spares r (suc i) ks).so A)) }
 
   module _ {e : Bool} {k : Instructions} (r : So e k) where
     goes_spares : So e (goes_on y k)
@@ -410,7 +410,7 @@ module _ (tells : Bool) (y : Layout) (sizes : ℕ → Option ℕ) (whole : Progr
     record_spares : (items : Steps) (d : ℕ) → steps_sorted c false false items ≡ true → steps_name items ≡ false → So e (record_done y items d k)
     record_spares items d o q = block_spares (block_spares (steps_spares jumps items zero zero zero zero false false o q) left) r
       where
-        left : So false (does (GlobalGet way_global) (does (I32Const way_next) (does (Compare ty.I32 Ne) (does (BrIf (suc d)) (goes_on y Done)))))
+        left : So false (emit (GlobalGet way_global) (emit (I32Const way_next) (emit (Compare ty.I32 Ne) (emit (BrIf (suc d)) (goes_on y Done)))))
         left = record { so = λ A. (false, (λ z. cc), (goes_spares done).so A) }
 
     part_spares : {a : Instructions} (d : ℕ) → So false a → So e (part_done y a d k)
@@ -428,14 +428,14 @@ module _ (tells : Bool) (y : Layout) (sizes : ℕ → Option ℕ) (whole : Progr
   pub script_spares : (p : Program) → steps_sorted c false false p.begin ≡ true → steps_sorted c false false p.items ≡ true → steps_sorted c false false p.end ≡ true → steps_name p.begin ≡ false → steps_name p.items ≡ false → steps_name p.end ≡ false → So false (script_code p)
   script_spares p o1 o2 o3 q1 q2 q3 = start_asked tells y sizes (part_spares ends zero (steps_spares (by p.reads) p.begin zero zero zero zero false false o1 q1)) zero zero
     where
-      by : (z : Bool) → So false (if z then records_read y p.items zero (does (Br 1) Done) else does (Br 1) Done)
+      by : (z : Bool) → So false (if z then records_read y p.items zero (emit (Br 1) Done) else emit (Br 1) Done)
       by true = records_spares jumps p.items zero o2 q2
       by false = jumps
 
       ends : So false (ask_row row.BeginEnd (part_done y (last_part y p) zero Done))
       ends = record { so = λ A. (refl, (part_spares done zero (steps_spares jumps p.end zero zero zero zero false false o3 q3)).so A) }
 
-  pub exit_spares : So false (swept y (does (GlobalGet status_global) (does (Convert I32WrapI64) Done)))
+  pub exit_spares : So false (swept y (emit (GlobalGet status_global) (emit (Convert I32WrapI64) Done)))
   exit_spares = swept_spares (record { so = λ A. (false, (λ z. cc), tt) })
 
   pub main_spares : (p : Program) → tells ≡ true → So false (script_code p) → So false (main_body y p)

@@ -23,8 +23,8 @@ use Rattle.lower_model.specs.ImportCalls.{Acts, Host, acted, and_rest, acts, aft
 use Rattle.host_imports.specs.Imports.{import_answer, import_arguments, lets_go}
 use Rattle.lower_model.specs.Machine.{onto, width}
 use Rattle.host_imports.specs.declared.import.Import.{Import}
-use Rattle.host_imports.specs.declared.import.Import.TheVariants.{Arg, Drop, FreeArray, IterFree, Of, Over}
-use Rattle.host_imports.specs.declared.import.Listing.TheVariants.{Print, Printf, Sprintf}
+use Rattle.host_imports.specs.declared.import.Import.TheVariants.{Arg, Drop, FreeArray, IterFree, OfPrimitive, Variadic}
+use Rattle.host_imports.specs.declared.import.VariadicImport.TheVariants.{Print, Printf, Sprintf}
 use Rattle.agreement.specs.Refined.Growing.{NewIn}
 use Rattle.agreement.specs.Refined.Words.{arrays_made}
 use Rattle.agreement.proofs.RefinedLemmas.ArrayRows.{SparedIf, array_changed, listed_kept, row_kept}
@@ -78,7 +78,7 @@ module _ (argv : Pairs) where
   spared (Some a) i h e = λ ps. other_set i.arrays a ps h e
 
   abbrev pub GivenOther : (i : Import) → Row (import_arguments i) → Type 0
-  GivenOther (Of p) r = IsOther (array_changed p r)
+  GivenOther (OfPrimitive p) r = IsOther (array_changed p r)
   GivenOther i r = Unit {0}
 
   -- What a call leaves, as in `Words` of agreement::places.
@@ -96,10 +96,10 @@ module _ (argv : Pairs) where
     listed_acts_kept l n = where_kept (nat_le n (length h.arguments) && listed_in_turn l (last_of n h.arguments)) _ (listed_kept HasArgv l (last_of n h.arguments) h.shared e)
 
     acts_kept : (i : Import) (r : Row (import_arguments i)) → GivenOther i r → ActsKept (acts i r h)
-    acts_kept (Of p) r g = where_kept (in_turn p r h.shared) (primitive_acts h.arguments (can_fault p) (meaning p r h.shared)) (row_kept HasArgv p r h.shared (λ q. one_more) (spared (array_changed p r) h.shared.inner g e) e)
-    acts_kept (Over Sprintf) r g = listed_acts_kept listed.Sprintf (values_taken listed.Sprintf r.0)
-    acts_kept (Over Print) r g = listed_acts_kept (listed.Print r.1.0) (values_taken (listed.Print r.1.0) r.0)
-    acts_kept (Over Printf) r g = listed_acts_kept (listed.Printf r.1.0) (values_taken (listed.Printf r.1.0) r.0)
+    acts_kept (OfPrimitive p) r g = where_kept (in_turn p r h.shared) (primitive_acts h.arguments (can_fault p) (meaning p r h.shared)) (row_kept HasArgv p r h.shared (λ q. one_more) (spared (array_changed p r) h.shared.inner g e) e)
+    acts_kept (Variadic Sprintf) r g = listed_acts_kept listed.Sprintf (values_taken listed.Sprintf r.0)
+    acts_kept (Variadic Print) r g = listed_acts_kept (listed.Print r.1.0) (values_taken (listed.Print r.1.0) r.0)
+    acts_kept (Variadic Printf) r g = listed_acts_kept (listed.Printf r.1.0) (values_taken (listed.Printf r.1.0) r.0)
     acts_kept Arg r g = e
     acts_kept Drop r g = e
     acts_kept IterFree r g = e
@@ -202,8 +202,8 @@ module _ (argv : Pairs) where
           by (Some x) = fault_kept_fits memory i cs g
 
       looked_given : (i : Import) (c : Cell) → GivenIf i (looked_at i c)
-      looked_given (Of row.Dup) (Held v) = tt
-      looked_given (Of row.IterNext) (IteratorOf t) = tt
+      looked_given (OfPrimitive row.Dup) (Held v) = tt
+      looked_given (OfPrimitive row.IterNext) (IteratorOf t) = tt
       looked_given i c = tt
 
       pub look_fits : (i : Import) (c : Cell) (a : Option Cell × Host) → look i c h ≡ Some a → Fits i a.0 a.1
@@ -281,34 +281,34 @@ second_array memory rest Q ok v c cs o = by (in_sort sort.Value v)
 
 -- WHAT IS TAKEN from a stack whose tags are well
 pub taken_other : (tells : Bool) (argv : Pairs) (memory : List ℕ) (i : Import) (A : Tags) (vs : List Cell) → Matches A vs → spares tells i A ≡ true → IfRow (GivenOther argv i) (taken memory i (reverse (take (width i) vs)))
-taken_other tells argv memory (Of row.Elem) [] vs m e = cc
-taken_other tells argv memory (Of row.Elem) (b ∷ []) vs m e = cc
-taken_other tells argv memory (Of row.Elem) (b ∷ (a ∷ A)) [] m e = absurd m
-taken_other tells argv memory (Of row.Elem) (b ∷ (a ∷ A)) (v ∷ []) m e = absurd m.1
-taken_other tells argv memory (Of row.Elem) (b ∷ (a ∷ A)) (v ∷ (c ∷ vs)) m e = first_array memory (argument.Of sort.Value ∷ []) (GivenOther argv (Of row.Elem)) (λ r q. q) c (v ∷ []) (m.1.0 e)
-taken_other tells argv memory (Of row.SetElem) [] vs m e = cc
-taken_other tells argv memory (Of row.SetElem) (b ∷ []) vs m e = cc
-taken_other tells argv memory (Of row.SetElem) (b ∷ (k ∷ [])) vs m e = cc
-taken_other tells argv memory (Of row.SetElem) (b ∷ (k ∷ (a ∷ A))) [] m e = absurd m
-taken_other tells argv memory (Of row.SetElem) (b ∷ (k ∷ (a ∷ A))) (v ∷ []) m e = absurd m.1
-taken_other tells argv memory (Of row.SetElem) (b ∷ (k ∷ (a ∷ A))) (v ∷ (w ∷ [])) m e = absurd m.1.1
-taken_other tells argv memory (Of row.SetElem) (b ∷ (k ∷ (a ∷ A))) (v ∷ (w ∷ (c ∷ vs))) m e = first_array memory (argument.Of sort.Value ∷ (argument.Of sort.Value ∷ [])) (GivenOther argv (Of row.SetElem)) (λ r q. q) c (w ∷ (v ∷ [])) (m.1.1.0 e)
-taken_other tells argv memory (Of row.Delete) [] vs m e = cc
-taken_other tells argv memory (Of row.Delete) (b ∷ []) vs m e = cc
-taken_other tells argv memory (Of row.Delete) (b ∷ (a ∷ A)) [] m e = absurd m
-taken_other tells argv memory (Of row.Delete) (b ∷ (a ∷ A)) (v ∷ []) m e = absurd m.1
-taken_other tells argv memory (Of row.Delete) (b ∷ (a ∷ A)) (v ∷ (c ∷ vs)) m e = first_array memory (argument.Of sort.Value ∷ []) (GivenOther argv (Of row.Delete)) (λ r q. q) c (v ∷ []) (m.1.0 e)
-taken_other tells argv memory (Of row.Clear) [] vs m e = cc
-taken_other tells argv memory (Of row.Clear) (a ∷ A) [] m e = absurd m
-taken_other tells argv memory (Of row.Clear) (a ∷ A) (c ∷ vs) m e = first_array memory [] (GivenOther argv (Of row.Clear)) (λ r q. q) c [] (m.0 e)
-taken_other tells argv memory (Of row.Split) [] vs m e = cc
-taken_other tells argv memory (Of row.Split) (f ∷ []) vs m e = cc
-taken_other tells argv memory (Of row.Split) (f ∷ (s ∷ [])) vs m e = cc
-taken_other tells argv memory (Of row.Split) (f ∷ (s ∷ (a ∷ []))) vs m e = cc
-taken_other tells argv memory (Of row.Split) (f ∷ (s ∷ (a ∷ (t ∷ A)))) [] m e = absurd m
-taken_other tells argv memory (Of row.Split) (f ∷ (s ∷ (a ∷ (t ∷ A)))) (v ∷ []) m e = absurd m.1
-taken_other tells argv memory (Of row.Split) (f ∷ (s ∷ (a ∷ (t ∷ A)))) (v ∷ (w ∷ [])) m e = absurd m.1.1
-taken_other tells argv memory (Of row.Split) (f ∷ (s ∷ (a ∷ (t ∷ A)))) (v ∷ (w ∷ (c ∷ []))) m e = absurd m.1.1.1
-taken_other tells argv memory (Of row.Split) (f ∷ (s ∷ (a ∷ (t ∷ A)))) (v ∷ (w ∷ (c ∷ (x ∷ vs)))) m e = second_array memory (argument.Of sort.Value ∷ (argument.Constant constant.Flag ∷ [])) (GivenOther argv (Of row.Split)) (λ r q. q) x c (w ∷ (v ∷ [])) (m.1.1.0 e)
-taken_other tells argv memory (Of p) A vs m e = whatever (GivenOther argv (Of p)) (λ r. tt) (taken memory (Of p) (reverse (take (width (Of p)) vs)))
+taken_other tells argv memory (OfPrimitive row.Elem) [] vs m e = cc
+taken_other tells argv memory (OfPrimitive row.Elem) (b ∷ []) vs m e = cc
+taken_other tells argv memory (OfPrimitive row.Elem) (b ∷ (a ∷ A)) [] m e = absurd m
+taken_other tells argv memory (OfPrimitive row.Elem) (b ∷ (a ∷ A)) (v ∷ []) m e = absurd m.1
+taken_other tells argv memory (OfPrimitive row.Elem) (b ∷ (a ∷ A)) (v ∷ (c ∷ vs)) m e = first_array memory (argument.Of sort.Value ∷ []) (GivenOther argv (OfPrimitive row.Elem)) (λ r q. q) c (v ∷ []) (m.1.0 e)
+taken_other tells argv memory (OfPrimitive row.SetElem) [] vs m e = cc
+taken_other tells argv memory (OfPrimitive row.SetElem) (b ∷ []) vs m e = cc
+taken_other tells argv memory (OfPrimitive row.SetElem) (b ∷ (k ∷ [])) vs m e = cc
+taken_other tells argv memory (OfPrimitive row.SetElem) (b ∷ (k ∷ (a ∷ A))) [] m e = absurd m
+taken_other tells argv memory (OfPrimitive row.SetElem) (b ∷ (k ∷ (a ∷ A))) (v ∷ []) m e = absurd m.1
+taken_other tells argv memory (OfPrimitive row.SetElem) (b ∷ (k ∷ (a ∷ A))) (v ∷ (w ∷ [])) m e = absurd m.1.1
+taken_other tells argv memory (OfPrimitive row.SetElem) (b ∷ (k ∷ (a ∷ A))) (v ∷ (w ∷ (c ∷ vs))) m e = first_array memory (argument.Of sort.Value ∷ (argument.Of sort.Value ∷ [])) (GivenOther argv (OfPrimitive row.SetElem)) (λ r q. q) c (w ∷ (v ∷ [])) (m.1.1.0 e)
+taken_other tells argv memory (OfPrimitive row.Delete) [] vs m e = cc
+taken_other tells argv memory (OfPrimitive row.Delete) (b ∷ []) vs m e = cc
+taken_other tells argv memory (OfPrimitive row.Delete) (b ∷ (a ∷ A)) [] m e = absurd m
+taken_other tells argv memory (OfPrimitive row.Delete) (b ∷ (a ∷ A)) (v ∷ []) m e = absurd m.1
+taken_other tells argv memory (OfPrimitive row.Delete) (b ∷ (a ∷ A)) (v ∷ (c ∷ vs)) m e = first_array memory (argument.Of sort.Value ∷ []) (GivenOther argv (OfPrimitive row.Delete)) (λ r q. q) c (v ∷ []) (m.1.0 e)
+taken_other tells argv memory (OfPrimitive row.Clear) [] vs m e = cc
+taken_other tells argv memory (OfPrimitive row.Clear) (a ∷ A) [] m e = absurd m
+taken_other tells argv memory (OfPrimitive row.Clear) (a ∷ A) (c ∷ vs) m e = first_array memory [] (GivenOther argv (OfPrimitive row.Clear)) (λ r q. q) c [] (m.0 e)
+taken_other tells argv memory (OfPrimitive row.Split) [] vs m e = cc
+taken_other tells argv memory (OfPrimitive row.Split) (f ∷ []) vs m e = cc
+taken_other tells argv memory (OfPrimitive row.Split) (f ∷ (s ∷ [])) vs m e = cc
+taken_other tells argv memory (OfPrimitive row.Split) (f ∷ (s ∷ (a ∷ []))) vs m e = cc
+taken_other tells argv memory (OfPrimitive row.Split) (f ∷ (s ∷ (a ∷ (t ∷ A)))) [] m e = absurd m
+taken_other tells argv memory (OfPrimitive row.Split) (f ∷ (s ∷ (a ∷ (t ∷ A)))) (v ∷ []) m e = absurd m.1
+taken_other tells argv memory (OfPrimitive row.Split) (f ∷ (s ∷ (a ∷ (t ∷ A)))) (v ∷ (w ∷ [])) m e = absurd m.1.1
+taken_other tells argv memory (OfPrimitive row.Split) (f ∷ (s ∷ (a ∷ (t ∷ A)))) (v ∷ (w ∷ (c ∷ []))) m e = absurd m.1.1.1
+taken_other tells argv memory (OfPrimitive row.Split) (f ∷ (s ∷ (a ∷ (t ∷ A)))) (v ∷ (w ∷ (c ∷ (x ∷ vs)))) m e = second_array memory (argument.Of sort.Value ∷ (argument.Constant constant.Flag ∷ [])) (GivenOther argv (OfPrimitive row.Split)) (λ r q. q) x c (w ∷ (v ∷ [])) (m.1.1.0 e)
+taken_other tells argv memory (OfPrimitive p) A vs m e = whatever (GivenOther argv (OfPrimitive p)) (λ r. tt) (taken memory (OfPrimitive p) (reverse (take (width (OfPrimitive p)) vs)))
 taken_other tells argv memory i A vs m e = whatever (GivenOther argv i) (λ r. tt) (taken memory i (reverse (take (width i) vs)))

@@ -26,7 +26,7 @@ use Rattle.mid_program.specs.declared.mid.Operation.{Operation}
 use Rattle.mid_program.specs.declared.mid.Operation.TheVariants.{Host, Inline, AsNumber, FieldNumber}
 use Rattle.mid_program.specs.MidMeaning.{three_values}
 use Rattle.sem_scripts.specs.Names.{ArrayName, Numbered, Given}
-use Rattle.mid_program.specs.Mid.{Kind, Boxed, Unboxed, Many, Slot, Global, Parameter, Code, Do, Over, Compare, Call, Ask, AskLine, FileLine, Replace, Number, Text, Unset, Get, Set, Array, IsOpen, Choose, Seq, Let, Bound, Codes, End, At, Fixed, Fresh, Form, Answered, Bare, Perhaps, a_value, arguments, form_at, form_of, parameters_at}
+use Rattle.mid_program.specs.Mid.{Kind, Boxed, Unboxed, ArrayKind, Slot, Global, Parameter, Code, Do, Over, Compare, Call, Ask, AskLine, FileLine, Replace, Number, Text, Unset, Get, Set, Array, IsOpen, Choose, Seq, Let, Bound, Codes, End, At, Fixed, Fresh, Form, PrimitiveAnswer, NumberOrText, OptionalNumber, a_value, arguments, form_at, form_of, parameters_at}
 use Rattle.mid_program.specs.Sorted.{Context, all_sorted, all_values, are_enough, are_missing, count_of, fit_call, fit_row, fits, is_chosen, is_constant, is_done_here, is_dropped, is_given, is_kept, is_number, is_operation, is_slot, is_tested, keeps_well, sorted, stores_well, takes}
 use Rattle.lower_model.specs.Arithmetic.{calculated, compared, field_checked, is_value, may_be_text, numbers_compared, texts_beside, values_compared, zeroed_if}
 use Rattle.lower_model.specs.Emission.{Layout, Immediate, FieldOf, TextOf, NumberOf, name_read, source_pushed, added, added_or, immediate_in, immediate_or, all_appended, all_boxed, all_converted, all_emitted, all_freed, all_given, all_given_pushed, all_pushed, array_meant, array_pushed, asked as asked_until, assigned, assigned_by_number, bound_read, dropped, emitted, field_in, field_or, function_number, handle_stored, keeping_closed, left_over, listed_asked, pending_assigned, performed, sequence_closed, slot_read, slot_set, tested, text_dropped, text_let_go, value_stored}
@@ -34,9 +34,9 @@ use Rattle.host_imports.specs.Imports.{import_answer, import_at, import_count, i
 use Rattle.lower_model.specs.Machine.{width}
 use Rattle.lower_model.specs.Places.{Bases, array_name, handle_global, made_in, number_global, text_global}
 use Rattle.lower_model.specs.Quick.{Holder, OfName, OfParameter, Source, Held, Constant, joined, all_unsure, Addition, addition_names, addition_in}
-use Rattle.lower_model.specs.Small.{answer_kept, ask, ask_row, bound_from, boxed_perhaps, code_number, converted, does, either, kept, kept_code, kept_done, kept_number, kept_value, moved_from, released, to_number, to_value, truth, unused}
+use Rattle.lower_model.specs.Small.{answer_kept, ask, ask_row, bound_from, boxed_perhaps, code_number, converted, emit, emit_if, kept, kept_code, kept_done, kept_number, kept_value, moved_from, released, to_number, to_value, truth, unused}
 use Rattle.host_imports.specs.declared.import.Import.{Import}
-use Rattle.host_imports.specs.declared.import.Import.TheVariants.{Of}
+use Rattle.host_imports.specs.declared.import.Import.TheVariants.{OfPrimitive}
 use Rattle.lower_model.proofs.Calls.{import_found}
 use Rattle.agreement.specs.Words.Naming.{any_argv, is_argv, names_argv}
 use Rattle.agreement.proofs.WordsLemmas.Tags.{Spares, Tags, all_other, answered, asked, asks_well, entered, enters_well, first_of, is_name, popped, spares, third_of_four}
@@ -50,36 +50,36 @@ or_none false b e = (refl, e)
 
 -- The array that code stands for is not ARGV, where the code does not name it.
 
-no_array_row : (p : Primitive) → is_operation p ≡ true → fits (Answered (answer_of p)) sort.Array ≡ false
+no_array_row : (p : Primitive) → is_operation p ≡ true → fits (PrimitiveAnswer (answer_of p)) sort.Array ≡ false
 no_array_row row.NewArray e = cc
 no_array_row _ e = refl
 
 value_no_array : (f : Form) → fits f sort.Value ≡ true → fits f sort.Array ≡ false
-value_no_array (Answered (answer.Of sort.Array)) e = cc
-value_no_array (Answered (answer.Of sort.Value)) e = refl
-value_no_array (Answered (answer.Of sort.Number)) e = refl
-value_no_array (Answered (answer.Of sort.Iterator)) e = refl
-value_no_array (Answered answer.Nothing) e = refl
-value_no_array (Answered answer.Truth) e = refl
-value_no_array (Answered answer.Done) e = refl
-value_no_array (Answered answer.Input) e = refl
-value_no_array (Answered answer.Assign) e = refl
-value_no_array (Answered answer.Stream) e = refl
-value_no_array (Answered answer.ValueOrEnd) e = refl
-value_no_array (Answered answer.Name) e = refl
-value_no_array Bare e = refl
-value_no_array Perhaps e = refl
+value_no_array (PrimitiveAnswer (answer.Of sort.Array)) e = cc
+value_no_array (PrimitiveAnswer (answer.Of sort.Value)) e = refl
+value_no_array (PrimitiveAnswer (answer.Of sort.Number)) e = refl
+value_no_array (PrimitiveAnswer (answer.Of sort.Iterator)) e = refl
+value_no_array (PrimitiveAnswer answer.Nothing) e = refl
+value_no_array (PrimitiveAnswer answer.Truth) e = refl
+value_no_array (PrimitiveAnswer answer.Done) e = refl
+value_no_array (PrimitiveAnswer answer.Input) e = refl
+value_no_array (PrimitiveAnswer answer.Assign) e = refl
+value_no_array (PrimitiveAnswer answer.Stream) e = refl
+value_no_array (PrimitiveAnswer answer.ValueOrEnd) e = refl
+value_no_array (PrimitiveAnswer answer.Name) e = refl
+value_no_array NumberOrText e = refl
+value_no_array OptionalNumber e = refl
 
 number_no_array : (f : Form) → is_number f ≡ true → fits f sort.Array ≡ false
-number_no_array (Answered (answer.Of sort.Number)) e = refl
-number_no_array (Answered answer.Truth) e = refl
+number_no_array (PrimitiveAnswer (answer.Of sort.Number)) e = refl
+number_no_array (PrimitiveAnswer answer.Truth) e = refl
 number_no_array f e = cc
 
 pub tested_no_array : (f : Form) → is_tested f ≡ true → fits f sort.Array ≡ false
-tested_no_array (Answered (answer.Of sort.Value)) e = refl
-tested_no_array (Answered (answer.Of sort.Number)) e = refl
-tested_no_array (Answered answer.Truth) e = refl
-tested_no_array Bare e = refl
+tested_no_array (PrimitiveAnswer (answer.Of sort.Value)) e = refl
+tested_no_array (PrimitiveAnswer (answer.Of sort.Number)) e = refl
+tested_no_array (PrimitiveAnswer answer.Truth) e = refl
+tested_no_array NumberOrText e = refl
 tested_no_array f e = cc
 
 taken_no_array : (x : Slot) (f : Form) → takes x f ≡ true → fits f sort.Array ≡ false
@@ -108,7 +108,7 @@ module _ (c : Context) where
   other_form : (fs : List Form) (e : Code) → fits (form_of fs e) sort.Array ≡ false → fits (form_of fs e) sort.Array ≡ true → is_argv (array_meant e) ≡ false
   other_form fs e n q = apart (fits (form_of fs e) sort.Array) n q
 
-  listed_no_array : (l : Listed) → fits (Answered (listed_answer l)) sort.Array ≡ false
+  listed_no_array : (l : Listed) → fits (PrimitiveAnswer (listed_answer l)) sort.Array ≡ false
   listed_no_array listed.Sprintf = refl
   listed_no_array (listed.Print to) = refl
   listed_no_array (listed.Printf to) = refl
@@ -125,7 +125,7 @@ module _ (c : Context) where
   slot_no_array (Parameter true i) fs = refl
   slot_no_array (Parameter false i) fs = refl
 
-  chosen_no_array : (s : Sort) → is_chosen s ≡ true → fits (Answered (answer.Of s)) sort.Array ≡ false
+  chosen_no_array : (s : Sort) → is_chosen s ≡ true → fits (PrimitiveAnswer (answer.Of s)) sort.Array ≡ false
   chosen_no_array sort.Value e = refl
   chosen_no_array sort.Number e = refl
   chosen_no_array sort.Array e = cc
@@ -249,26 +249,26 @@ module _ (tells : Bool) (y : Layout) (sizes : ℕ → Option ℕ) where
 
     -- Conversions.
 
-    perhaps_spares : (t : ℕ) (put : Simple) → S false (does put Done) (true ∷ []) → Always e (boxed_perhaps b t put k)
+    perhaps_spares : (t : ℕ) (put : Simple) → S false (emit put Done) (true ∷ []) → Always e (boxed_perhaps b t put k)
     perhaps_spares t put p = record { so = λ A. ((refl, p), ((refl, p), r.so [])) }
 
     pub to_value_spares : (f : Form) (t : ℕ) → Always e (to_value b f t k)
-    to_value_spares (Answered (answer.Of sort.Value)) t = r
-    to_value_spares (Answered (answer.Of sort.Number)) t = record { so = λ A. (refl, r.so A) }
-    to_value_spares (Answered answer.Truth) t = record { so = λ A. (refl, r.so A) }
-    to_value_spares Bare t = record { so = λ A. (tt, (((refl, tt), ((refl, tt), tt)), r.so [])) }
-    to_value_spares Perhaps t = record { so = λ A. ((refl, tt), ((refl, tt), r.so [])) }
+    to_value_spares (PrimitiveAnswer (answer.Of sort.Value)) t = r
+    to_value_spares (PrimitiveAnswer (answer.Of sort.Number)) t = record { so = λ A. (refl, r.so A) }
+    to_value_spares (PrimitiveAnswer answer.Truth) t = record { so = λ A. (refl, r.so A) }
+    to_value_spares NumberOrText t = record { so = λ A. (tt, (((refl, tt), ((refl, tt), tt)), r.so [])) }
+    to_value_spares OptionalNumber t = record { so = λ A. ((refl, tt), ((refl, tt), r.so [])) }
     to_value_spares f t = record { so = λ A. (refl, r.so A) }
 
     code_number_spares : (t : ℕ) → Always e (code_number b t k)
     code_number_spares t = record { so = λ A. r.so A }
 
     pub to_number_spares : (f : Form) (t d : ℕ) → Always e (to_number b f t d k)
-    to_number_spares (Answered (answer.Of sort.Value)) t d = record { so = λ A. (refl, r.so A) }
-    to_number_spares (Answered answer.Input) t d = code_number_spares t
-    to_number_spares (Answered answer.Stream) t d = code_number_spares t
-    to_number_spares Bare t d = record { so = λ A. (((refl, tt), (tt, tt)), (tt, r.so [])) }
-    to_number_spares Perhaps t d = record { so = λ A. (tt, (tt, r.so [])) }
+    to_number_spares (PrimitiveAnswer (answer.Of sort.Value)) t d = record { so = λ A. (refl, r.so A) }
+    to_number_spares (PrimitiveAnswer answer.Input) t d = code_number_spares t
+    to_number_spares (PrimitiveAnswer answer.Stream) t d = code_number_spares t
+    to_number_spares NumberOrText t d = record { so = λ A. (((refl, tt), (tt, tt)), (tt, r.so [])) }
+    to_number_spares OptionalNumber t d = record { so = λ A. (tt, (tt, r.so [])) }
     to_number_spares f t d = r
 
     converted_spares : (f : Form) (s : Sort) (t d : ℕ) → Always e (converted b f s t d k)
@@ -277,26 +277,26 @@ module _ (tells : Bool) (y : Layout) (sizes : ℕ → Option ℕ) where
     converted_spares f s t d = r
 
     truth_spares : (f : Form) (t : ℕ) → Always e (truth b f t k)
-    truth_spares (Answered (answer.Of sort.Value)) t = record { so = λ A. (refl, r.so (false ∷ A)) }
-    truth_spares Bare t = record { so = λ A. ((refl, tt), ((tt, (tt, tt)), r.so (false ∷ []))) }
-    truth_spares Perhaps t = record { so = λ A. (tt, (tt, r.so (false ∷ []))) }
+    truth_spares (PrimitiveAnswer (answer.Of sort.Value)) t = record { so = λ A. (refl, r.so (false ∷ A)) }
+    truth_spares NumberOrText t = record { so = λ A. ((refl, tt), ((tt, (tt, tt)), r.so (false ∷ []))) }
+    truth_spares OptionalNumber t = record { so = λ A. (tt, (tt, r.so (false ∷ []))) }
     truth_spares f t = record { so = λ A. r.so (false ∷ A) }
 
     unused_spares : (f : Form) (t : ℕ) → Always e (unused b f t k)
-    unused_spares (Answered (answer.Of sort.Value)) t = record { so = λ A. (refl, r.so A) }
-    unused_spares Bare t = record { so = λ A. ((refl, tt), (tt, r.so [])) }
+    unused_spares (PrimitiveAnswer (answer.Of sort.Value)) t = record { so = λ A. (refl, r.so A) }
+    unused_spares NumberOrText t = record { so = λ A. ((refl, tt), (tt, r.so [])) }
     unused_spares f t = r
 
     released_spares : (f : Form) (t : ℕ) → Always e (released b f t k)
-    released_spares (Answered (answer.Of sort.Value)) t = record { so = λ A. ((refl, tt), (tt, r.so [])) }
-    released_spares Bare t = record { so = λ A. ((refl, tt), (tt, r.so [])) }
+    released_spares (PrimitiveAnswer (answer.Of sort.Value)) t = record { so = λ A. ((refl, tt), (tt, r.so [])) }
+    released_spares NumberOrText t = record { so = λ A. ((refl, tt), (tt, r.so [])) }
     released_spares f t = r
 
     bound_spares : (z : Bool) (f : Form) (s t : ℕ) → Always e (bound_from b z f s t k)
-    bound_spares true (Answered (answer.Of sort.Value)) s t = record { so = λ A. r.so A }
+    bound_spares true (PrimitiveAnswer (answer.Of sort.Value)) s t = record { so = λ A. r.so A }
     bound_spares true f s t = record { so = λ A. r.so A }
-    bound_spares false (Answered (answer.Of sort.Value)) s t = record { so = λ A. (refl, r.so A) }
-    bound_spares false Bare s t = record { so = λ A. ((refl, tt), (tt, r.so [])) }
+    bound_spares false (PrimitiveAnswer (answer.Of sort.Value)) s t = record { so = λ A. (refl, r.so A) }
+    bound_spares false NumberOrText s t = record { so = λ A. ((refl, tt), (tt, r.so [])) }
     bound_spares false f s t = record { so = λ A. r.so A }
 
     moved_spares : (f : Form) (s t : ℕ) → Always e (moved_from b f s t k)
@@ -312,13 +312,13 @@ module _ (tells : Bool) (y : Layout) (sizes : ℕ → Option ℕ) where
     field_spares t d = record { so = λ A. ((refl, tt), (tt, r.so [])) }
 
     zeroed_spares : (f : Form) (t : ℕ) → Always e (zeroed_if b f t k)
-    zeroed_spares Bare t = record { so = λ A. (tt, (tt, r.so [])) }
-    zeroed_spares Perhaps t = record { so = λ A. (tt, (tt, r.so [])) }
+    zeroed_spares NumberOrText t = record { so = λ A. (tt, (tt, r.so [])) }
+    zeroed_spares OptionalNumber t = record { so = λ A. (tt, (tt, r.so [])) }
     zeroed_spares f t = r
 
     beside_spares : (f g : Form) (t : ℕ) → Always e (texts_beside b f g t k)
-    beside_spares Bare Bare t = record { so = λ A. r.so (false ∷ A) }
-    beside_spares Bare g t = record { so = λ A. r.so (false ∷ A) }
+    beside_spares NumberOrText NumberOrText t = record { so = λ A. r.so (false ∷ A) }
+    beside_spares NumberOrText g t = record { so = λ A. r.so (false ∷ A) }
     beside_spares f g t = record { so = λ A. r.so (false ∷ A) }
 
   module _ {e : Bool} {k : Instructions} (r : Always e k) where
@@ -336,7 +336,7 @@ module _ (tells : Bool) (y : Layout) (sizes : ℕ → Option ℕ) where
           (whichever _ _ _ _ (may_be_text f || may_be_text g) ((beside_spares two f g t).so A) ((numbers_spares r c f g t).so A));
     }
       where
-        two : Always e (either (values_compared b c f g t (suc d) Done) (numbers_compared b c f g t Done) k)
+        two : Always e (emit_if (values_compared b c f g t (suc d) Done) (numbers_compared b c f g t Done) k)
         two = record { so = λ B. ((values_spares none c f g t (suc d)).so [], ((numbers_spares none c f g t).so [], r.so [])) }
 
     -- Names.
@@ -347,7 +347,7 @@ module _ (tells : Bool) (y : Layout) (sizes : ℕ → Option ℕ) where
     read_spares (Parameter false i) t = record { so = λ A. (refl, r.so A) }
     read_spares (Parameter true i) t = record { so = λ A. r.so A }
 
-    handle_spares : (o : Bool) (t : ℕ) (put : Simple) (A : Tags) → S e (does put k) (true ∷ A) → S e (handle_stored y o t put k) A
+    handle_spares : (o : Bool) (t : ℕ) (put : Simple) (A : Tags) → S e (emit put k) (true ∷ A) → S e (handle_stored y o t put k) A
     handle_spares true t put A p = p
     handle_spares false t put A p = (refl, p)
 
@@ -355,12 +355,12 @@ module _ (tells : Bool) (y : Layout) (sizes : ℕ → Option ℕ) where
     dropped_text i = record { so = λ A. (true, (λ q. numbered i), ((true, (λ q. named i), (refl, (refl, tt))), (tt, r.so []))) }
 
   module _ {e : Bool} {k : Instructions} (r : Always e k) where
-    stored_spares : (o : Bool) (f : Form) (t : ℕ) (put : Simple) → ((A : Tags) → S e (does put k) (true ∷ A)) → S false (does put Done) (true ∷ []) → Always e (value_stored y o f t put k)
-    stored_spares o (Answered (answer.Of sort.Value)) t put p p0 = record { so = λ A. handle_spares r o t put A (p A) }
-    stored_spares o (Answered (answer.Of sort.Number)) t put p p0 = record { so = λ A. (refl, p A) }
-    stored_spares o (Answered answer.Truth) t put p p0 = record { so = λ A. (refl, p A) }
-    stored_spares o Bare t put p p0 = record { so = λ A. (handle_spares none o t put [] p0, ((perhaps_spares none t put p0).so [], r.so [])) }
-    stored_spares o Perhaps t put p p0 = perhaps_spares r t put p0
+    stored_spares : (o : Bool) (f : Form) (t : ℕ) (put : Simple) → ((A : Tags) → S e (emit put k) (true ∷ A)) → S false (emit put Done) (true ∷ []) → Always e (value_stored y o f t put k)
+    stored_spares o (PrimitiveAnswer (answer.Of sort.Value)) t put p p0 = record { so = λ A. handle_spares r o t put A (p A) }
+    stored_spares o (PrimitiveAnswer (answer.Of sort.Number)) t put p p0 = record { so = λ A. (refl, p A) }
+    stored_spares o (PrimitiveAnswer answer.Truth) t put p p0 = record { so = λ A. (refl, p A) }
+    stored_spares o NumberOrText t put p p0 = record { so = λ A. (handle_spares none o t put [] p0, ((perhaps_spares none t put p0).so [], r.so [])) }
+    stored_spares o OptionalNumber t put p p0 = perhaps_spares r t put p0
     stored_spares o f t put p p0 = record { so = λ A. (refl, p A) }
 
   module _ {e : Bool} {k : Instructions} (r : Always e k) where
@@ -373,11 +373,11 @@ module _ (tells : Bool) (y : Layout) (sizes : ℕ → Option ℕ) where
     assigned_spares : (kind : Kind) (i t : ℕ) → Always e (assigned y kind i t k)
     assigned_spares Boxed i t = record { so = λ A. (true, (λ q. named i), (refl, (refl, r.so A))) }
     assigned_spares Unboxed i t = dropped_text (record { so = λ A. (refl, (refl, r.so A)) }) i
-    assigned_spares Many i t = r
+    assigned_spares ArrayKind i t = r
 
   by_number_spares : {e : Bool} {k : Instructions} → Always e k → (ks : List Kind) (i t : ℕ) → Always e (assigned_by_number y ks i t k)
   by_number_spares r [] i t = r
-  by_number_spares r (Many ∷ ks) i t = by_number_spares r ks (suc i) t
+  by_number_spares r (ArrayKind ∷ ks) i t = by_number_spares r ks (suc i) t
   by_number_spares r (Boxed ∷ ks) i t = record { so = λ A. ((assigned_spares none Boxed i t).so [], (tt, (by_number_spares r ks (suc i) t).so [])) }
   by_number_spares r (Unboxed ∷ ks) i t = record { so = λ A. ((assigned_spares none Unboxed i t).so [], (tt, (by_number_spares r ks (suc i) t).so [])) }
 
@@ -385,7 +385,7 @@ module _ (tells : Bool) (y : Layout) (sizes : ℕ → Option ℕ) where
     pub pending_spares : (t : ℕ) → Always e (pending_assigned y t k)
     pending_spares t = record { so = λ A. (refl, (refl, (by_number_spares r y.names zero t).so A)) }
 
-  pub again_spares : Always false (does (Br 1) Done)
+  pub again_spares : Always false (emit (Br 1) Done)
   again_spares = record { so = λ A. tt }
 
   module _ {e : Bool} {k : Instructions} (r : Always e k) where
@@ -453,7 +453,7 @@ module _ (tells : Bool) (y : Layout) (sizes : ℕ → Option ℕ) where
   like fs given es A f = cc
 
   -- a row that changes an array has it in its place
-  array_placed : (p : Primitive) (fs : List Form) (es : Codes) (A : Tags) → is_operation p ≡ true → fit_row fs (arguments_of p) es ≡ true → spares tells (Of p) (all_tags (arguments_of p) es A) ≡ true
+  array_placed : (p : Primitive) (fs : List Form) (es : Codes) (A : Tags) → is_operation p ≡ true → fit_row fs (arguments_of p) es ≡ true → spares tells (OfPrimitive p) (all_tags (arguments_of p) es A) ≡ true
   array_placed row.Elem fs es A w f = ap (λ T. first_of (popped T)) (like fs (arguments_of row.Elem) es A f)
   array_placed row.SetElem fs es A w f = ap (λ T. first_of (popped (popped T))) (like fs (arguments_of row.SetElem) es A f)
   array_placed row.Delete fs es A w f = ap (λ T. first_of (popped T)) (like fs (arguments_of row.Delete) es A f)
@@ -484,7 +484,7 @@ module _ (tells : Bool) (y : Layout) (sizes : ℕ → Option ℕ) where
     performed_spares c (Host p) fs es t d n w f s q = record {
       so = λ A.
           pushes_spares e (ask_row p (kept b (can_fault p) (answer_of p) t d k)) (arguments_of p) es t A (operands_other c fs (arguments_of p) es n f s q)
-          (asks e (kept b (can_fault p) (answer_of p) t d k) (all_tags (arguments_of p) es A) (Of p) (array_placed p fs es A w f) (kept_spares r (can_fault p) (answer_of p) t d (drop (width (Of p)) (all_tags (arguments_of p) es A))));
+          (asks e (kept b (can_fault p) (answer_of p) t d k) (all_tags (arguments_of p) es A) (OfPrimitive p) (array_placed p fs es A w f) (kept_spares r (can_fault p) (answer_of p) t d (drop (width (OfPrimitive p)) (all_tags (arguments_of p) es A))));
     }
     performed_spares c (Inline a) fs es t d n w f s q = calculated_spares r a t d
     performed_spares c AsNumber fs es t d n w f s q = r
@@ -507,7 +507,7 @@ module _ (tells : Bool) (y : Layout) (sizes : ℕ → Option ℕ) where
   given_spares : {e : Bool} {k : Instructions} → Always e k → (fs : List Form) (ks : List Kind) (es : Codes) (t : ℕ) → Always e (all_given y fs ks es t k)
   given_spares r fs (Boxed ∷ ks) (At e es) t = to_value_spares (given_spares r fs ks es (suc t)) (form_of fs e) t
   given_spares r fs (Unboxed ∷ ks) (At e es) t = given_spares r fs ks es (suc t)
-  given_spares r fs (Many ∷ ks) (At e es) t = given_spares r fs ks es (suc t)
+  given_spares r fs (ArrayKind ∷ ks) (At e es) t = given_spares r fs ks es (suc t)
   given_spares r fs (kind ∷ ks) (Fresh es) t = given_spares r fs ks es t
   given_spares r fs ks es t = r
 
@@ -533,17 +533,17 @@ module _ (tells : Bool) (y : Layout) (sizes : ℕ → Option ℕ) where
       given_pushed l k c fs ks es (suc t) w (true ∷ A) n (and_parts (is_given (form_of fs e) Boxed) (fit_call fs ks es) f).1 (and_parts (sorted c fs e) (all_sorted c fs es) s).1 (or_none (names_argv e) (any_argv es) q).1 r
   given_pushed l k c fs (Unboxed ∷ ks) (At e es) t w A n f s q r =
       given_pushed l k c fs ks es (suc t) w (true ∷ A) n (and_parts (is_given (form_of fs e) Unboxed) (fit_call fs ks es) f).1 (and_parts (sorted c fs e) (all_sorted c fs es) s).1 (or_none (names_argv e) (any_argv es) q).1 r
-  given_pushed l k c fs (Many ∷ ks) (At e es) t w A n f s q r =
-      let g = and_parts (is_given (form_of fs e) Many) (fit_call fs ks es) f in
+  given_pushed l k c fs (ArrayKind ∷ ks) (At e es) t w A n f s q r =
+      let g = and_parts (is_given (form_of fs e) ArrayKind) (fit_call fs ks es) f in
       let x = and_parts (sorted c fs e) (all_sorted c fs es) s in
       let o = or_none (names_argv e) (any_argv es) q in
       array_spares _ _ _ (array_meant e) (meant_other c fs e n x.0 o.0 (many_array (form_of fs e) g.0)) (given_pushed l k c fs ks es (suc t) w (true ∷ A) n g.1 x.1 o.1 r)
     where
-      many_array : (f : Form) → is_given f Many ≡ true → fits f sort.Array ≡ true
-      many_array Perhaps h = cc
-      many_array Bare h = h
-      many_array (Answered a) h = h
-  given_pushed l k c fs (Many ∷ ks) (Fresh es) t w A n f s q r = given_pushed l k c fs ks es t (suc w) (true ∷ A) n f (and_parts (are_missing es) (all_sorted c fs es) s).1 q r
+      many_array : (f : Form) → is_given f ArrayKind ≡ true → fits f sort.Array ≡ true
+      many_array OptionalNumber h = cc
+      many_array NumberOrText h = h
+      many_array (PrimitiveAnswer a) h = h
+  given_pushed l k c fs (ArrayKind ∷ ks) (Fresh es) t w A n f s q r = given_pushed l k c fs ks es t (suc w) (true ∷ A) n f (and_parts (are_missing es) (all_sorted c fs es) s).1 q r
   given_pushed l k c fs ks es t w A n f s q r = cc
 
   freed_spares : {e : Bool} {k : Instructions} → Always e k → (w n : ℕ) → Always e (all_freed y w n k)
@@ -585,7 +585,7 @@ module _ (tells : Bool) (y : Layout) (sizes : ℕ → Option ℕ) where
     text_spares fs s t = left_spares (record { so = λ A. ((refl, tt), (tt, r.so [])) }) s (form_of (a_value ∷ fs) s) (suc (suc t))
 
   -- a function is called
-  function_spares : (e : Bool) (k : Instructions) (f : ℕ) (ks : List Kind) (A : Tags) → sizes f ≡ Some (length ks) → ((B : Tags) → S e k (true ∷ B)) → S e (does (CallOf (function_number f)) k) (so_many (length ks) A)
+  function_spares : (e : Bool) (k : Instructions) (f : ℕ) (ks : List Kind) (A : Tags) → sizes f ≡ Some (length ks) → ((B : Tags) → S e k (true ∷ B)) → S e (emit (CallOf (function_number f)) k) (so_many (length ks) A)
   function_spares e k f ks A n r = (
     ap (λ t. cond t (asks_well tells (import_at (function_number f)) B) (enters_well (sizes (function_number f - import_count)) B)) high ∙ (ap (λ o. enters_well o B) size ∙ all_so (length ks) A),
     subst (S e k) (sym (ap (λ t. cond t (asked (import_at (function_number f)) B) (entered (sizes (function_number f - import_count)) B)) high ∙ ap (λ o. entered o B) size)) (r (drop (length ks) B)),
@@ -603,7 +603,7 @@ module _ (tells : Bool) (y : Layout) (sizes : ℕ → Option ℕ) where
   -- What is read without a handle, and sums of such.
 
   -- a holder's number is read
-  pub holder_spares : (h : Holder) (e : Bool) (k : Instructions) (A : Tags) → S e k (true ∷ A) → S e (does (name_read y h) k) A
+  pub holder_spares : (h : Holder) (e : Bool) (k : Instructions) (A : Tags) → S e k (true ∷ A) → S e (emit (name_read y h) k) A
   holder_spares (OfName i) e k A r = (true, (λ q. numbered i), r)
   holder_spares (OfParameter i) e k A r = r
 
@@ -616,7 +616,7 @@ module _ (tells : Bool) (y : Layout) (sizes : ℕ → Option ℕ) where
     all_spares [] q w = record { so = λ A. r.so (false ∷ A) }
     all_spares (i ∷ is) q w = record { so = λ A. holder_spares i _ _ A (joined_spares compared is q A) }
       where
-        compared : Always e (does (I64Const w) (does (Comparing ty.I64 GtU) k))
+        compared : Always e (emit (I64Const w) (emit (Comparing ty.I64 GtU) k))
         compared = record { so = λ A. r.so (false ∷ popped A) }
 
   pub source_spares : (e : Bool) (k : Instructions) (x : Source) (A : Tags) → S e k (true ∷ A) → S e (source_pushed y x k) A
@@ -626,7 +626,7 @@ module _ (tells : Bool) (y : Layout) (sizes : ℕ → Option ℕ) where
   added_spares_or : {e : Bool} {anyway k other : Instructions} → Always e k → (o : Option Addition) (t : ℕ) → Always false anyway → Always e other → Always e (added_or y o t anyway k other)
   added_spares_or {e = e} {anyway = anyway} {k = k} r (Some x) t a q = all_spares both (addition_names x) _ _
     where
-      both : Always e (either anyway (added y x t Done) k)
+      both : Always e (emit_if anyway (added y x t Done) k)
       both = record { so = λ A. (a.so [], (source_spares _ _ x.left [] (source_spares _ _ x.right (true ∷ []) tt), r.so [])) }
   added_spares_or r None t a q = q
 

@@ -20,14 +20,14 @@ use Rattle.lower_model.specs.Cells.{Cell, none_owned}
 use Rattle.lower_model.specs.ImportCalls.{Acts, Host, acted, acts, after_fault, call, fault_cell, last_of, listed_acts, look, looked_at, primitive_acts, replied, taken, where_so, with_some}
 use Rattle.host_imports.specs.Imports.{import_answer, import_arguments, lets_go}
 use Rattle.host_imports.specs.declared.import.Import.{Import}
-use Rattle.host_imports.specs.declared.import.Import.TheVariants.{Arg, Drop, FreeArray, IterFree, Of, Over}
-use Rattle.host_imports.specs.declared.import.Listing.TheVariants.{Print, Printf, Sprintf}
+use Rattle.host_imports.specs.declared.import.Import.TheVariants.{Arg, Drop, FreeArray, IterFree, OfPrimitive, Variadic}
+use Rattle.host_imports.specs.declared.import.VariadicImport.TheVariants.{Print, Printf, Sprintf}
 use Rattle.lower_model.proofs.HostLaws.{Keeps, listed_keeps, row_keeps}
 use Rattle.lower_model.proofs.InputLaws.{AfterInput, AfterStart, GoodInput, GoodStart, getline_line_row_good, getline_row_good, next_main_row_good, start_good}
 
 -- the import that announces a name
 abbrev pub is_telling : Import → Bool
-is_telling (Of row.Declare) = true
+is_telling (OfPrimitive row.Declare) = true
 is_telling i = false
 
 -- after the names that there were come perhaps some more, only where they may be announced
@@ -60,7 +60,7 @@ start_grows : {tells : Bool} (s : Shared) (r : Result (Inner × AssignAnswer) Fa
 start_grows s (Ok x) h = still s.inner x.0 (started_same s.inner x.0 x.1 h)
 start_grows s (Err f) h = still s.inner s.inner refl
 
-row_grows : (q : Primitive) (r : Row (arguments_of q)) (s : Shared) → Grows (is_telling (Of q)) s.inner (meaning q r s).inner
+row_grows : (q : Primitive) (r : Row (arguments_of q)) (s : Shared) → Grows (is_telling (OfPrimitive q)) s.inner (meaning q r s).inner
 row_grows row.NextMain r s = read_grows s (next_main_row s.outside s.inner) (next_main_row_good s.outside s.inner)
 row_grows row.Getline r s = read_grows s (getline_row s.outside s.inner) (getline_row_good s.outside s.inner)
 row_grows row.GetlineVar r s = read_grows s (getline_line_row s.outside s.inner) (getline_line_row_good s.outside s.inner)
@@ -89,10 +89,10 @@ module _ (h : Host) where
       where_grows (nat_le n (length h.arguments) && listed_in_turn l (last_of n h.arguments)) _ (kept h.shared.inner (listed_meaning l (last_of n h.arguments) h.shared).inner (listed_keeps l (last_of n h.arguments) h.shared))
 
   acts_grow : (i : Import) (r : Row (import_arguments i)) → ActsGrow (is_telling i) (acts i r h)
-  acts_grow (Of p) r = where_grows (in_turn p r h.shared) (primitive_acts h.arguments (can_fault p) (meaning p r h.shared)) (row_grows p r h.shared)
-  acts_grow (Over Sprintf) r = listed_grows listed.Sprintf (values_taken listed.Sprintf r.0)
-  acts_grow (Over Print) r = listed_grows (listed.Print r.1.0) (values_taken (listed.Print r.1.0) r.0)
-  acts_grow (Over Printf) r = listed_grows (listed.Printf r.1.0) (values_taken (listed.Printf r.1.0) r.0)
+  acts_grow (OfPrimitive p) r = where_grows (in_turn p r h.shared) (primitive_acts h.arguments (can_fault p) (meaning p r h.shared)) (row_grows p r h.shared)
+  acts_grow (Variadic Sprintf) r = listed_grows listed.Sprintf (values_taken listed.Sprintf r.0)
+  acts_grow (Variadic Print) r = listed_grows (listed.Print r.1.0) (values_taken (listed.Print r.1.0) r.0)
+  acts_grow (Variadic Printf) r = listed_grows (listed.Printf r.1.0) (values_taken (listed.Printf r.1.0) r.0)
   acts_grow Arg r = still h.shared.inner h.shared.inner refl
   acts_grow Drop r = still h.shared.inner h.shared.inner refl
   acts_grow IterFree r = still h.shared.inner h.shared.inner refl
@@ -125,8 +125,8 @@ module _ (h : Host) where
   let_go f e IterFree l (Some r) = (e, refl)
   let_go f e FreeArray l (Some r) = (e, refl)
   let_go f e Arg l (Some r) = cc
-  let_go f e (Of p) l (Some r) = cc
-  let_go f e (Over x) l (Some r) = cc
+  let_go f e (OfPrimitive p) l (Some r) = cc
+  let_go f e (Variadic x) l (Some r) = cc
 
   refused : (f : Fault) → h.fault ≡ Some f → (memory : List ℕ) (i : Import) (cs : List Cell) → FaultKept f (after_fault memory i cs h)
   refused f e memory i cs = by (lets_go i) refl (none_owned cs)

@@ -7,7 +7,7 @@ use Rattle.mid_program.specs.Mid.{Global, Kind, Parameter, Program, Slot}
 use Rattle.sem_scripts.specs.Names.{Reserved, Scope, Variable}
 use Rattle.sem_scripts.specs.Names as names
 use Rattle.value_kinds.specs.Applied.{slot_in}
-use Rattle.agreement.specs.Places.Kept.{AtStatement}
+use Rattle.agreement.specs.Places.NoLeaks.{AtStatement}
 use Rattle.agreement.specs.Quiet.Laned.{AtNumeric, IsLaned}
 use Rattle.agreement.specs.Quiet.Statements.{IsNumeric, IsSo, added, constant, group, multiplied, name, signed}
 

@@ -12,7 +12,7 @@ use Rattle.awk_values.specs.declared.value.Value.TheVariants.{StrNum}
 use Rattle.sem_primitives.specs.ArrayMeaning.{element}
 use Rattle.sem_primitives.specs.Assignments.{assignment_of}
 use Rattle.sem_primitives.specs.InputMeaning.{text_or_none}
-use Rattle.sem_primitives.specs.Jobs.{JobForm, Surroundings, arguments_from, fault_of_job}
+use Rattle.sem_primitives.specs.Jobs.{JobForm, Environment, arguments_from, fault_of_job}
 use Rattle.sem_primitives.specs.SharedState.{Pairs}
 use Rattle.sem_primitives.specs.Texts.{same_text}
 use Rattle.world_core.specs.WorldState.{Action, Source}
@@ -46,7 +46,7 @@ use Rattle.agreement.proofs.RefinedLemmas.Running.{steps_as}
 use Rattle.agreement.specs.Modules.ValueAgreement.{ValueAgreement}
 use Rattle.agreement.proofs.ModulesLemmas.Stores.{InStore, store_there}
 use Rattle.agreement.specs.Places.Assigned.{IsAssigned, IsOperand, IsOption, IsWord, Somewhere}
-use Rattle.agreement.specs.Places.Kept.{Reached}
+use Rattle.agreement.specs.Places.NoLeaks.{Reached}
 use Rattle.agreement.proofs.PlacesLemmas.FromWords.{from_words}
 use Rattle.agreement.specs.Words.Naming.{program_names, routines_name, steps_name}
 use Rattle.agreement.specs.Words.Words.{Assigns, AssignsName, IsArgument}
@@ -185,7 +185,7 @@ module _ (tells : Bool) (u : Code) (argv : Pairs) (told : List Telling) (sizes :
   argv_in used bs (Deep G) c s a h alive = absurd a
   argv_in used bs Stuck c s a h alive = absurd (alive refl)
 
-module _ (p : Program) (is : IsSorted p) (names : program_names p ≡ false) (agree : ValueAgreement p) (job : JobForm) (input : Source) (outside : Surroundings) where
+module _ (p : Program) (is : IsSorted p) (names : program_names p ≡ false) (agree : ValueAgreement p) (job : JobForm) (input : Source) (outside : Environment) where
   abbrev start : HostState
   start = state_in job input outside
 

@@ -28,7 +28,7 @@ use Rattle.lower_model.specs.ImportCalls.{Host, call, look}
 use Rattle.host_imports.specs.Imports.{import_at, import_count, imports}
 use Rattle.lower_model.specs.Machine.{Code, Callee, Conf, Run, Look, Over, Deep, Stuck, Frame, Label, Store, act, all_live, ask, ask_looking, assigning_after, at, br, br_if, call_number, choose, compared, ending_name, enter, guarded, label, leave, leave_function, onto, operated, push_result, push_word, run_looking, set_global, set_local, step, takes_look, tee_local, teed, width, with_answer, with_operands, work, zeros}
 use Rattle.host_imports.specs.declared.import.Import.{Import}
-use Rattle.host_imports.specs.declared.import.Import.TheVariants.{Of}
+use Rattle.host_imports.specs.declared.import.Import.TheVariants.{OfPrimitive}
 use Rattle.agreement.proofs.WordsLemmas.Calls.{InHost, Matches, call_fits, drop_match, look_fits, popped_match, taken_other}
 use Rattle.agreement.proofs.WordsLemmas.Names.{is_telling, looked_kept, names_kept}
 use Rattle.agreement.proofs.WordsLemmas.Tags.{Spares, Tags, all_other, asked, asks_well, called, calls_well, entered, enters_well, first_of, is_long, is_name, is_other, is_set, makes_long, popped, spares}
@@ -222,7 +222,7 @@ nothing (Some x) a q = cc
 
 -- an import that such code asks announces no name
 quiet_so : {tells : Bool} (i : Import) (A : Tags) → tells ≡ false → spares tells i A ≡ true → is_telling i ≡ false
-quiet_so (Of row.Declare) A t w = sym w ∙ t
+quiet_so (OfPrimitive row.Declare) A t w = sym w ∙ t
 quiet_so _ A t w = refl
 
 first_other : (A : Tags) (v : Cell) (vs : List Cell) → Matches A (v ∷ vs) → first_of A ≡ true → is_other v ≡ true
@@ -403,11 +403,11 @@ module _ (tells : Bool) (u : Code) (argv : Pairs) (names : List (List ℕ × Nam
     looking_good : (i : Option Import) (v : Cell) (A : Tags) (vs : List Cell) (K : List Label) (L : List Cell) (F : List Frame) (c : Instructions) (G : Store) →
         Matches A vs → S (ending K e) c (asked i (true ∷ A)) → LabelsSpare e K → AllOther L → FramesSpare e F → InStore G → Good (ask_looking i v ks vs K L F c G)
     looking_good None v A vs K L F c G m s k l r g = tt
-    looking_good (Some (Of row.Dup)) v A vs K L F c G m s k l r g =
-        answer_good (true ∷ A) (look (Of row.Dup) v G.host) vs K L F c G (λ a q. let h = look_fits argv G.host g.1.0 A vs m (Of row.Dup) v a q in (h.stack, (h.kept, λ t. looked_kept G.host (Of row.Dup) v a q refl ∙ g.1.1 t))) s k l r g
-    looking_good (Some (Of row.IterNext)) v A vs K L F c G m s k l r g =
-        answer_good (true ∷ A) (look (Of row.IterNext) v G.host) vs K L F c G (λ a q. let h = look_fits argv G.host g.1.0 A vs m (Of row.IterNext) v a q in (h.stack, (h.kept, λ t. looked_kept G.host (Of row.IterNext) v a q refl ∙ g.1.1 t))) s k l r g
-    looking_good (Some (Of p)) v A vs K L F c G m s k l r g = answer_good (asked (Some (Of p)) (true ∷ A)) (look (Of p) v G.host) vs K L F c G (λ a q. absurd (nothing G.host.fault a q)) s k l r g
+    looking_good (Some (OfPrimitive row.Dup)) v A vs K L F c G m s k l r g =
+        answer_good (true ∷ A) (look (OfPrimitive row.Dup) v G.host) vs K L F c G (λ a q. let h = look_fits argv G.host g.1.0 A vs m (OfPrimitive row.Dup) v a q in (h.stack, (h.kept, λ t. looked_kept G.host (OfPrimitive row.Dup) v a q refl ∙ g.1.1 t))) s k l r g
+    looking_good (Some (OfPrimitive row.IterNext)) v A vs K L F c G m s k l r g =
+        answer_good (true ∷ A) (look (OfPrimitive row.IterNext) v G.host) vs K L F c G (λ a q. let h = look_fits argv G.host g.1.0 A vs m (OfPrimitive row.IterNext) v a q in (h.stack, (h.kept, λ t. looked_kept G.host (OfPrimitive row.IterNext) v a q refl ∙ g.1.1 t))) s k l r g
+    looking_good (Some (OfPrimitive p)) v A vs K L F c G m s k l r g = answer_good (asked (Some (OfPrimitive p)) (true ∷ A)) (look (OfPrimitive p) v G.host) vs K L F c G (λ a q. absurd (nothing G.host.fault a q)) s k l r g
     looking_good (Some i) v A vs K L F c G m s k l r g = answer_good (asked (Some i) (true ∷ A)) (look i v G.host) vs K L F c G (λ a q. absurd (nothing G.host.fault a q)) s k l r g
 
     enter_good : (n : Option ℕ) (f : Option Callee) → ((h : Callee) → f ≡ Some h → (n ≡ Some (length h.kinds)) × (S true h.body [] × ((x : ℕ) → is_set h.body (length h.kinds + x) ≡ false → is_other (cell_at (zeros h.locals) x) ≡ true))) →

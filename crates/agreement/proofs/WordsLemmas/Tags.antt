@@ -16,7 +16,7 @@ use Rattle.host_imports.specs.Imports.{import_answer, import_at, import_count}
 use Rattle.lower_model.specs.Machine.{width}
 use Rattle.lower_model.specs.Places.{text_global}
 use Rattle.host_imports.specs.declared.import.Import.{Import}
-use Rattle.host_imports.specs.declared.import.Import.TheVariants.{Of}
+use Rattle.host_imports.specs.declared.import.Import.TheVariants.{OfPrimitive}
 
 -- where an array is wanted this cell is not ARGV
 abbrev pub is_other : Cell → Bool
@@ -44,12 +44,12 @@ third_of_four A = false
 
 -- What an import wants: the rows that change an array, of that array; and code may announce names, or may not.
 abbrev pub spares : (tells : Bool) → Import → Tags → Bool
-spares tells (Of row.Declare) A = tells
-spares tells (Of row.Elem) A = first_of (popped A)
-spares tells (Of row.SetElem) A = first_of (popped (popped A))
-spares tells (Of row.Delete) A = first_of (popped A)
-spares tells (Of row.Clear) A = first_of A
-spares tells (Of row.Split) A = third_of_four A
+spares tells (OfPrimitive row.Declare) A = tells
+spares tells (OfPrimitive row.Elem) A = first_of (popped A)
+spares tells (OfPrimitive row.SetElem) A = first_of (popped (popped A))
+spares tells (OfPrimitive row.Delete) A = first_of (popped A)
+spares tells (OfPrimitive row.Clear) A = first_of A
+spares tells (OfPrimitive row.Split) A = third_of_four A
 spares tells i A = true
 
 -- an array that is answered is a new one

@@ -2,7 +2,7 @@
 use Rattle.std.specs.Prelude.{◌≡◌, ℕ, ◌+◌, ◌*◌, ◌≤◌, ℤ, pos, unsigned_abs, List, Option, Some, None}
 use Rattle.std.specs.Int.{int_rem_euclid}
 use Rattle.awk_values.specs.declared.fault.Fault.{Fault}
-use Rattle.sem_primitives.specs.Jobs.{JobForm, Surroundings}
+use Rattle.sem_primitives.specs.Jobs.{JobForm, Environment}
 use Rattle.world_core.specs.WorldState.{Action, Source}
 use Rattle.wasm_types.specs.Syntax.{ModuleForm}
 use Rattle.wasm_store.specs.declared.trap.TrapKind.{TrapKind}
@@ -15,7 +15,7 @@ use Rattle.wasm_model.specs.declared.ends.MachineEnd.TheVariants as machine
 use Rattle.host_step.specs.HostState.{HostState}
 use Rattle.host_imports.specs.Imports.{host_finds}
 use Rattle.host_step.specs.Starts.{state_in}
-use Rattle.sem_scripts.specs.Kept.{Grows, output_of}
+use Rattle.sem_scripts.specs.MoreTurns.{Grows, output_of}
 use Rattle.sem_scripts.specs.ScriptRun.{Setting, Ending, Ended, FaultedBy, GoesOn, Exhausted, setting_in}
 use Rattle.agreement.specs.Modules.TableMeaning.{table_meaning}
 use Rattle.agreement.specs.Modules.Over.{IsOver}
@@ -44,7 +44,7 @@ output_in (Trapped kind output) = output
 
 -- How a module may end that is given so many steps, in a job and a world: linked with a host of the table, from the beginning, with whatever free
 -- numbers the host gives to what is new.
-pub record MayEnd (m : ModuleForm) (job : JobForm) (input : Source) (outside : Surroundings) (steps : ℕ) (e : ModuleEnding) : Type 0 where
+pub record MayEnd (m : ModuleForm) (job : JobForm) (input : Source) (outside : Environment) (steps : ℕ) (e : ModuleEnding) : Type 0 where
   pub machine : MachineForm
   pub is_new : IsNew host_finds m machine
   pub run-end : RunEnd
@@ -61,16 +61,16 @@ pub record MayEnd (m : ModuleForm) (job : JobForm) (input : Source) (outside : S
 -- and turns, and it does not matter which free numbers the host picks. `script` is what the script does within so many turns.
 pub record Agreement (script : Setting → ℕ → Ending) (m : ModuleForm) : Type 0 where
   pub bound : ℕ
-  pub one_run : (job : JobForm) (input : Source) (outside : Surroundings) (steps : ℕ) (e f : ModuleEnding) → MayEnd m job input outside steps e
+  pub one_run : (job : JobForm) (input : Source) (outside : Environment) (steps : ℕ) (e f : ModuleEnding) → MayEnd m job input outside steps e
       → MayEnd m job input outside steps f → e ≡ f
-  pub forward : (job : JobForm) (input : Source) (outside : Surroundings) (turns : ℕ) (e : Ending) → IsOver e → script (setting_in job input outside) turns ≡ e →
+  pub forward : (job : JobForm) (input : Source) (outside : Environment) (turns : ℕ) (e : Ending) → IsOver e → script (setting_in job input outside) turns ≡ e →
       (enough : ℕ) × (enough ≤ bound * (turns + 1)) × ((steps : ℕ) (f : ModuleEnding) → enough ≤ steps → MayEnd m job input outside steps f → f ≡ Like e)
-  pub backward : (job : JobForm) (input : Source) (outside : Surroundings) (steps : ℕ) (e : Ending) → IsOver e → MayEnd m job input outside steps (Like e) →
+  pub backward : (job : JobForm) (input : Source) (outside : Environment) (steps : ℕ) (e : Ending) → IsOver e → MayEnd m job input outside steps (Like e) →
       (turns : ℕ) × (script (setting_in job input outside) turns ≡ e)
-  pub never_trapped : (job : JobForm) (input : Source) (outside : Surroundings) (steps : ℕ) (kind : TrapKind) (output : List Action)
+  pub never_trapped : (job : JobForm) (input : Source) (outside : Environment) (steps : ℕ) (kind : TrapKind) (output : List Action)
       → MayEnd m job input outside steps (Trapped kind output) → ⊥
-  pub output_module : (job : JobForm) (input : Source) (outside : Surroundings) (steps : ℕ) (e : ModuleEnding) → MayEnd m job input outside steps e →
+  pub output_module : (job : JobForm) (input : Source) (outside : Environment) (steps : ℕ) (e : ModuleEnding) → MayEnd m job input outside steps e →
       (turns : ℕ) × Grows (output_in e) (output_of (script (setting_in job input outside) turns))
-  pub output_script : (job : JobForm) (input : Source) (outside : Surroundings) (turns : ℕ) →
+  pub output_script : (job : JobForm) (input : Source) (outside : Environment) (turns : ℕ) →
       (enough : ℕ) × (enough ≤ bound * (turns + 1)) × ((steps : ℕ) (e : ModuleEnding) → enough ≤ steps → MayEnd m job input outside steps e
       → Grows (output_of (script (setting_in job input outside) turns)) (output_in e))

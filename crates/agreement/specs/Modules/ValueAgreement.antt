@@ -1,6 +1,6 @@
 -- A program and the machine over values agree.
 use Rattle.std.specs.Prelude.{◌≡◌, ℕ, ◌+◌, ◌*◌, ◌≤◌, Some}
-use Rattle.sem_scripts.specs.Kept.{Grows, output_of}
+use Rattle.sem_scripts.specs.MoreTurns.{Grows, output_of}
 use Rattle.mid_program.specs.Mid.{Program}
 use Rattle.mid_program.specs.MidMeaning.{mid_run_in}
 use Rattle.sem_scripts.specs.ScriptRun.{Setting, Ending}

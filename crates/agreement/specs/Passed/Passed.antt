@@ -2,7 +2,7 @@
 -- one would see of places is said by a probe: actions that are added to the output each time that a place is passed, any that one likes. So what is
 -- put out with a probe shows the places that a run passes, in their order, and among what it puts out.
 use Rattle.std.specs.Prelude.{◌≡◌, ℕ, zero, suc, ◌≤◌, List, [], ◌++◌, Some}
-use Rattle.sem_primitives.specs.Jobs.{JobForm, Surroundings}
+use Rattle.sem_primitives.specs.Jobs.{JobForm, Environment}
 use Rattle.world_core.specs.WorldState.{Action, Source}
 use Rattle.wasm_types.specs.Syntax.{Plain, Instructions, Then, ModuleForm}
 use Rattle.wasm_types.specs.declared.instr.Simple.TheVariants.{Nop}
@@ -15,7 +15,7 @@ use Rattle.wasm_model.specs.declared.ends.End.{End}
 use Rattle.host_step.specs.HostState.{HostState}
 use Rattle.host_imports.specs.Imports.{host_finds}
 use Rattle.host_step.specs.Starts.{state_in}
-use Rattle.sem_scripts.specs.Kept.{Grows, output_of}
+use Rattle.sem_scripts.specs.MoreTurns.{Grows, output_of}
 use Rattle.sem_scripts.specs.ScriptRun.{Ending, Setting, setting_in}
 use Rattle.agreement.specs.Modules.TableMeaning.{table_meaning}
 use Rattle.agreement.specs.Modules.Over.{IsOver}
@@ -41,7 +41,7 @@ ProbedSteps probe m (suc n) c s output c' s' output' =
     × ProbedSteps probe m n c1 s1 (probed_at probe (settled_code c.frame.code) output ++ added) c' s' output'
 
 -- a run of so many steps with a probe
-pub record ProbedRun (probe : Probe) (m : ModuleForm) (job : JobForm) (input : Source) (outside : Surroundings) (steps : ℕ) (a : MachineForm) (c : Conf)
+pub record ProbedRun (probe : Probe) (m : ModuleForm) (job : JobForm) (input : Source) (outside : Environment) (steps : ℕ) (a : MachineForm) (c : Conf)
     (s : HostState) (output : List Action) : Type 0 where
   pub is_new : IsNew host_finds m a
   pub taken : ProbedSteps probe a.program steps a.conf (state_in job input outside) [] c s output
@@ -50,13 +50,13 @@ pub record ProbedRun (probe : Probe) (m : ModuleForm) (job : JobForm) (input : S
 -- probe is put out by some time; where the run ends that is all; and what is put out within some turns a run has put out once it has taken enough
 -- steps.
 pub record Passes (done : Probe → Setting → ℕ → Ending) (m : ModuleForm) : Type 0 where
-  pub so_far : (probe : Probe) (job : JobForm) (input : Source) (outside : Surroundings) (steps : ℕ) (a : MachineForm) (c : Conf) (s : HostState)
+  pub so_far : (probe : Probe) (job : JobForm) (input : Source) (outside : Environment) (steps : ℕ) (a : MachineForm) (c : Conf) (s : HostState)
       (output : List Action)
       → ProbedRun probe m job input outside steps a c s output → (turns : ℕ) × Grows output (output_of (done probe (setting_in job input outside) turns))
-  pub ended : (probe : Probe) (job : JobForm) (input : Source) (outside : Surroundings) (steps : ℕ) (a : MachineForm) (c : Conf) (s : HostState)
+  pub ended : (probe : Probe) (job : JobForm) (input : Source) (outside : Environment) (steps : ℕ) (a : MachineForm) (c : Conf) (s : HostState)
       (output : List Action)
       → ProbedRun probe m job input outside steps a c s output → (e : End) (t : MachineEnd) → turn a.program c ≡ Ends e → told_end e ≡ Some t
       → (turns : ℕ) × IsOver (done probe (setting_in job input outside) turns) × (output_of (done probe (setting_in job input outside) turns) ≡ output)
-  pub in_time : (probe : Probe) (job : JobForm) (input : Source) (outside : Surroundings) (turns : ℕ)
+  pub in_time : (probe : Probe) (job : JobForm) (input : Source) (outside : Environment) (turns : ℕ)
       → (enough : ℕ) × ((steps : ℕ) (a : MachineForm) (c : Conf) (s : HostState) (output : List Action) → enough ≤ steps
       → ProbedRun probe m job input outside steps a c s output → Grows (output_of (done probe (setting_in job input outside) turns)) output)

@@ -12,13 +12,13 @@ use Rattle.awk_grammar.specs.Token.{Number as Numeral}
 use Rattle.awk_grammar.specs.Tree.{Tree, Leaf, Var, Call as CallOf, Bin, Join, NoTree, Then as AndTree}
 use Rattle.awk_grammar.specs.Stmt.{Print, NoArgs, Written, Put, Return, Stmt, Simple, Leave, NoStmt, And}
 use Rattle.awk_grammar.specs.Item.{Begin}
-use Rattle.mid_program.specs.Mid.{Kind, Boxed, Unboxed, Many}
+use Rattle.mid_program.specs.Mid.{Kind, Boxed, Unboxed, ArrayKind}
 use Rattle.sem_scripts.specs.Names.{Resolved}
 use Rattle.host_imports.specs.Imports.{import_number}
 use Rattle.lower_model.specs.Machine.{freed_next}
 use Rattle.lower_model.specs.Small.{minus_one}
-use Rattle.host_imports.specs.declared.import.Import.TheVariants.{FreeArray, Of}
-use Rattle.agreement.specs.Places.Kept.{arrays, begins_statement, boxed, holders, is_keys, scalars, walks}
+use Rattle.host_imports.specs.declared.import.Import.TheVariants.{FreeArray, OfPrimitive}
+use Rattle.agreement.specs.Places.NoLeaks.{arrays, begins_statement, boxed, holders, is_keys, scalars, walks}
 use Rattle.agreement.specs.Places.Nodes.{nodes_of}
 use Rattle.agreement.specs.Places.Places.{size}
 
@@ -53,7 +53,7 @@ pub two_holders : holders sort.Value 5 (Some sort.Value ∷ (Some sort.Value ∷
 two_holders = refl
 
 abbrev kinds : List Kind
-kinds = Boxed ∷ (Many ∷ (Unboxed ∷ (Boxed ∷ [])))
+kinds = Boxed ∷ (ArrayKind ∷ (Unboxed ∷ (Boxed ∷ [])))
 
 pub names_counted : scalars kinds ∷ (arrays kinds ∷ (boxed kinds ∷ [])) ≡ 3 ∷ (1 ∷ (2 ∷ []))
 names_counted = refl
@@ -61,7 +61,7 @@ names_counted = refl
 -- A loop over keys begins with the call for its next key. In this module that import is the second one.
 
 abbrev numbers : List ℕ
-numbers = 0 ∷ (import_number (Of row.IterNext) ∷ [])
+numbers = 0 ∷ (import_number (OfPrimitive row.IterNext) ∷ [])
 
 abbrev next_key : ℕ → Option Instructions
 next_key n = Some (Then (Plain (LocalGet 3)) (Then (Plain (LocalTee 3)) (Then (Plain (Call n)) Done)))

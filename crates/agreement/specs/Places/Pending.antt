@@ -6,7 +6,7 @@ use Rattle.host_step.specs.HostState.{HostState, live_values}
 use Rattle.mid_program.specs.Mid.{Program}
 use Rattle.mid_program.specs.Sorted.{kinds_of}
 use Rattle.lower_model.specs.Modules.{all_callees}
-use Rattle.agreement.specs.Places.Kept.{AtStatement, CallerWaits, CallersWait, boxed, scalars}
+use Rattle.agreement.specs.Places.NoLeaks.{AtStatement, CallerWaits, CallersWait, boxed, scalars}
 
 pub record FewPending (limits : List ℕ) (p : Program) (os : List (Option Sort)) (r : CallerForm) (w : CallerWaits p os r) : Type 0 where
   pub number : ℕ

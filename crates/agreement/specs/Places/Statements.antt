@@ -7,7 +7,7 @@ use Rattle.lower_model.specs.Boundaries.{is_nop, steps_places}
 use Rattle.lower_model.specs.Emission.{Layout, tested}
 use Rattle.lower_model.specs.Functions.{layout_of, main_bases, routine_bases}
 use Rattle.lower_model.specs.Quick.{is_nothing, pair_in, step_jumps}
-use Rattle.lower_model.specs.Small.{does}
+use Rattle.lower_model.specs.Small.{emit}
 use Rattle.lower_model.specs.Statements.{records_read, routine_ended, step_emitted, steps_emitted}
 
 -- the places of code, in order: all code that begins with a `nop`, up to the end of its block
@@ -17,7 +17,7 @@ abbrev mutual
   starts_in (Then i k) = starts_of i k ++ starts_in k
 
   pub starts_of : Instruction → Instructions → List Instructions
-  starts_of (Plain p) k = cond (nat_eq (is_nop p) 0) [] (does p k ∷ [])
+  starts_of (Plain p) k = cond (nat_eq (is_nop p) 0) [] (emit p k ∷ [])
   starts_of (BrTable ds d) k = []
   starts_of (Block r a) k = starts_in a
   starts_of (Again r a) k = starts_in a
@@ -34,17 +34,17 @@ module _ (y : Layout) where
     step_starts (Body ss) u d bk ct k = step_emitted y (Body ss) u d bk ct k ∷ steps_starts ss u d bk ct k
     step_starts (Either e a c) u d bk ct k =
         step_emitted y (Either e a c) u d bk ct k
-        ∷ ((if is_some (pair_in e) then step_starts a u (suc (suc d)) (suc (suc bk)) (suc (suc ct)) (does (Br 1) Done) else
+        ∷ ((if is_some (pair_in e) then step_starts a u (suc (suc d)) (suc (suc bk)) (suc (suc ct)) (emit (Br 1) Done) else
         step_starts a u (suc d) (suc bk) (suc ct) Done)
         ++ step_starts c u (suc d) (suc bk) (suc ct) Done)
     step_starts (Loop true e a c) u d bk ct k =
-        let again = does (Br zero) Done in
+        let again = emit (Br zero) Done in
         let rest = if is_nothing c then again else step_emitted y c u (suc (suc d)) 1 zero again in
         step_emitted y (Loop true e a c) u d bk ct k ∷ ((if step_jumps a then step_starts a u (suc (suc (suc d))) 2 zero Done else
         step_starts a u (suc (suc d)) 1 zero rest)
         ++ (if is_nothing c then [] else step_starts c u (suc (suc d)) 1 zero again))
     step_starts (Loop false e a c) u d bk ct k =
-        let test = does Nop (tested y [] [] e zero zero (suc (suc d)) (does (BrIf zero) Done)) in
+        let test = emit Nop (tested y [] [] e zero zero (suc (suc d)) (emit (BrIf zero) Done)) in
         step_emitted y (Loop false e a c) u d bk ct k
         ∷ (step_starts a u (suc (suc (suc d))) 2 zero Done ++ (step_starts c u (suc (suc d)) 1 zero test ++ (test ∷ [])))
     step_starts (Each a e s) u d bk ct k = step_emitted y (Each a e s) u d bk ct k ∷ step_starts s (suc u) (suc (suc (suc d))) 2 zero Done
@@ -70,7 +70,7 @@ routine_starts p r =
 abbrev pub main_starts : Program → List Instructions
 main_starts p =
     let y = layout_of p (main_bases p) in
-    let out = does (Br 1) Done in
+    let out = emit (Br 1) Done in
     (steps_starts y p.begin zero zero zero zero (if p.reads then records_read y p.items zero out else out)
     ++ (if p.reads then steps_starts y p.items zero zero zero zero out else []))
     ++ steps_starts y p.end zero zero zero zero out

@@ -20,9 +20,9 @@ use Rattle.lower_model.specs.Functions.{main_bases}
 use Rattle.host_imports.specs.Imports.{import_number}
 use Rattle.lower_model.specs.Modules.{called_imports, imports_of, module_of, renumbered}
 use Rattle.lower_model.specs.Places.{local_types}
-use Rattle.lower_model.specs.Small.{ask_row, does, minus_one, text_beside}
+use Rattle.lower_model.specs.Small.{ask_row, emit, minus_one, text_beside}
 use Rattle.lower_model.specs.Statements.{step_emitted, steps_emitted}
-use Rattle.agreement.specs.Quiet.Quiet.{quiet}
+use Rattle.agreement.specs.Quiet.Quiet.{host_call_free}
 use Rattle.agreement.specs.Quiet.Sums.{AtSum, IsSum, code_in, constant, joined, name}
 
 abbrev kind_for : Bool → Kind
@@ -105,26 +105,26 @@ begins_sum = record {
 }
 
 -- 9 steps, none of which calls an import, to the next statement; then n is 6
-pub quiet_statement : code_there (quiet (machine true) 9 (begun true minus_one 5)) ≡ Some (code true (printing true))
+pub quiet_statement : code_there (host_call_free (machine true) 9 (begun true minus_one 5)) ≡ Some (code true (printing true))
 unfolding emitted all_emitted step_emitted steps_emitted
 quiet_statement = refl
 
-pub six_then : names_there (quiet (machine true) 9 (begun true minus_one 5)) ≡ Some (I32 0 ∷ (I64 0 ∷ (I32 minus_one ∷ (I32 minus_one ∷ (I64 6 ∷ [])))))
+pub six_then : names_there (host_call_free (machine true) 9 (begun true minus_one 5)) ≡ Some (I32 0 ∷ (I64 0 ∷ (I32 minus_one ∷ (I32 minus_one ∷ (I64 6 ∷ [])))))
 unfolding emitted all_emitted step_emitted steps_emitted
 six_then = refl
 
 -- a sum out of range: by the code of all cases, after 16 steps the call that keeps the fault is next
-pub out_of_range : code_there (quiet (machine true) 16 (begun true minus_one (2 ^ 53))) ≡
-    Some (renumbered (called_imports (script true)) (does (I32Const (fault_number Range)) (ask_row row.Fail (does (Br 2) Done))))
+pub out_of_range : code_there (host_call_free (machine true) 16 (begun true minus_one (2 ^ 53))) ≡
+    Some (renumbered (called_imports (script true)) (emit (I32Const (fault_number Range)) (ask_row row.Fail (emit (Br 2) Done))))
 unfolding emitted all_emitted step_emitted steps_emitted
 out_of_range = refl
 
 -- a text beside n, of handle 7: it is copied, which calls an import
-pub text_there : (is_some (quiet (machine true) 14 (begun true 7 text_beside)) ≡ true) × (is_none (quiet (machine true) 15 (begun true 7 text_beside)) ≡ true)
+pub text_there : (is_some (host_call_free (machine true) 14 (begun true 7 text_beside)) ≡ true) × (is_none (host_call_free (machine true) 15 (begun true 7 text_beside)) ≡ true)
 unfolding emitted all_emitted step_emitted steps_emitted
 text_there = (refl, refl)
 
 -- where n is boxed its value is copied, which calls an import
-pub boxed_statement : (is_some (quiet (machine false) 3 (begun false 7 0)) ≡ true) × (is_none (quiet (machine false) 4 (begun false 7 0)) ≡ true)
+pub boxed_statement : (is_some (host_call_free (machine false) 3 (begun false 7 0)) ≡ true) × (is_none (host_call_free (machine false) 4 (begun false 7 0)) ≡ true)
 unfolding emitted all_emitted step_emitted steps_emitted
 boxed_statement = (refl, refl)

@@ -8,7 +8,7 @@ use Rattle.mid_program.specs.Mid.{Code, Eval, Global, Kind, Parameter, Program, 
 use Rattle.sem_scripts.specs.Names.{Scope, variable_of}
 use Rattle.mid_program.specs.Sorted.{has_kind, kinds_of}
 use Rattle.lower_model.specs.Places.{Bases}
-use Rattle.agreement.specs.Places.Kept.{AtStatement}
+use Rattle.agreement.specs.Places.NoLeaks.{AtStatement}
 use Rattle.agreement.specs.Quiet.Statements.{IsNumeric, IsSo, assignment}
 use Rattle.agreement.specs.Quiet.Sums.{IsSum, code_in}
 

@@ -14,7 +14,7 @@ use Rattle.mid_program.specs.Mid.{At, Code, Do, End, Eval, Get, Global, Number, 
 use Rattle.lower_model.specs.Functions.{layout_of}
 use Rattle.lower_model.specs.Modules.{called_imports, renumbered}
 use Rattle.lower_model.specs.Places.{Bases, handle_global, number_global}
-use Rattle.lower_model.specs.Small.{ask_row, does, minus_one, text_beside}
+use Rattle.lower_model.specs.Small.{ask_row, emit, minus_one, text_beside}
 use Rattle.lower_model.specs.Statements.{steps_emitted}
 
 -- Expressions of number constants, names, groups, `+`, `-` and `*`. A group's code is that of what it encloses; `-a` is 0 - a, and `+a` the number of a.
@@ -74,6 +74,6 @@ pub record AtNext (p : Program) (c : Conf) (a : AtSum p c) (there : Conf) : Type
 -- THE FAULT: a number is out of range, and the call that keeps this fault is next
 pub record AtFault (p : Program) (c there : Conf) : Type 0 where
   pub after : Instructions
-  pub code : there.frame.code ≡ renumbered (called_imports p) (does (I32Const (fault_number Range)) (ask_row row.Fail after))
+  pub code : there.frame.code ≡ renumbered (called_imports p) (emit (I32Const (fault_number Range)) (ask_row row.Fail after))
   pub operands : there.frame.values ≡ []
   pub callers : there.callers ≡ c.callers

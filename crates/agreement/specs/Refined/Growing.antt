@@ -1,7 +1,7 @@
 -- What a call does to the numbers of arrays in the shared state: none is given up, and a new array has a number that none had.
 use Rattle.std.specs.Prelude.{ℕ, ◌≡◌, ◌<◌, ◌≤◌, length, Some, Result, Ok}
 use Rattle.awk_values.specs.declared.fault.Fault.{Fault}
-use Rattle.sem_primitives.specs.SharedState.{Does}
+use Rattle.sem_primitives.specs.SharedState.{HostResult}
 use Rattle.sem_primitives.specs.Sorts.{InAnswer, Row}
 use Rattle.sem_primitives.specs.declared.sorts.Answer.{Answer}
 use Rattle.sem_primitives.specs.declared.sorts.Answer.TheVariants as answer
@@ -15,7 +15,7 @@ abbrev pub NewIn : ℕ → ℕ → (a : Answer) → Result (InAnswer a) Fault �
 NewIn made made1 (answer.Of sort.Array) (Ok x) = (made ≤ x) × (x < made1)
 NewIn made made1 _ _ = Unit {0}
 
-pub record GrowsBy (made : ℕ) (a : Answer) (d : Does (Result (InAnswer a) Fault)) : Type 0 where
+pub record GrowsBy (made : ℕ) (a : Answer) (d : HostResult (Result (InAnswer a) Fault)) : Type 0 where
   pub longer : made ≤ length d.inner.arrays
   pub fresh : NewIn made (length d.inner.arrays) a d.answer
 

@@ -2,7 +2,7 @@
 use Rattle.std.specs.Prelude.{◌≡◌, ℕ, ◌+◌, ◌*◌, ◌≤◌, List, ◌++◌, Option, Some}
 use Rattle.awk_values.specs.declared.fault.Fault.{Fault}
 use Rattle.sem_primitives.specs.InputMeaning.{nothing_left}
-use Rattle.sem_primitives.specs.Jobs.{Found, JobForm, Kept, Surroundings}
+use Rattle.sem_primitives.specs.Jobs.{Opened, JobForm, Closed, Environment}
 use Rattle.world_core.specs.WorldState.{Action, Entry, Outside, Source, after as outside_after}
 use Rattle.wasm_types.specs.Syntax.{ModuleForm}
 use Rattle.wasm_model.specs.Machines.{Conf, ProgramForm}
@@ -13,43 +13,43 @@ use Rattle.wasm_model.specs.declared.ends.MachineEnd.TheVariants as machine
 use Rattle.host_step.specs.HostState.{HostState}
 use Rattle.host_values.specs.Forms.{HostForm}
 use Rattle.host_values.specs.Shown.{Shown}
-use Rattle.host_step.specs.Worlds.{anyhow_meaning}
-use Rattle.sem_scripts.specs.Kept.{Grows, output_of}
+use Rattle.host_step.specs.Worlds.{in_any_world_meaning}
+use Rattle.sem_scripts.specs.MoreTurns.{Grows, output_of}
 use Rattle.sem_scripts.specs.ScriptRun.{Ending, Exhausted, Setting, setting_in, setting_of}
 use Rattle.agreement.specs.Modules.Agreement.{MayEnd, ModuleEnding, ended_with, ending_told, output_in}
 use Rattle.agreement.specs.Modules.Over.{IsOver}
 
 -- what was told, with this fault kept and this output, is how the module may end
-abbrev pub TellsEnding : ModuleForm → JobForm → Source → Surroundings → ℕ → Option Fault → MachineEnd → List Action → Type 0
+abbrev pub TellsEnding : ModuleForm → JobForm → Source → Environment → ℕ → Option Fault → MachineEnd → List Action → Type 0
 TellsEnding m job input outside steps kept e output = (ending : ModuleEnding) × (ending_told kept e output ≡ Some ending)
     × MayEnd m job input outside steps ending
 
 -- Where memory was wanting, the module may end with an output that begins so.
-abbrev pub Tells : ModuleForm → JobForm → Source → Surroundings → ℕ → Option Fault → MachineEnd → List Action → Type 0
+abbrev pub Tells : ModuleForm → JobForm → Source → Environment → ℕ → Option Fault → MachineEnd → List Action → Type 0
 Tells m job input outside steps kept machine.NoMemory output =
     (fewer : ℕ) × (fewer ≤ steps) × (ending : ModuleEnding) × (rest : List Action) × (output_in ending ≡ output ++ rest)
     × MayEnd m job input outside fewer ending
 Tells m job input outside steps kept e output = TellsEnding m job input outside steps kept e output
 
--- A run of a module in a job, over a world that tells what it holds: what was told of it, and what the names outside hold then.
+-- A run of a module in a job, over a modelled world: what was told of it, and what the names outside hold then.
 pub record ToldRun (m : ModuleForm) (job : JobForm) (input : Source) (outside : Outside) (steps : ℕ) (e : MachineEnd) (after-run : HostForm) : Type 0 where
   pub output : List Action
-  pub tells : Tells m job input (Kept outside) steps after-run.fault e output
+  pub tells : Tells m job input (Closed outside) steps after-run.fault e output
   pub applied : after-run.shared.outside ≡ outside_after output outside
 
--- A run of a module in a job, over any world: how the module may end in surroundings that others change too, where each opening, read and write finds the
+-- A run of a module in a job, over any world: how the module may end in an environment that others change too, where each opening, read and write finds the
 -- next of some list.
 pub record FoundRun (m : ModuleForm) (job : JobForm) (steps : ℕ) (e : MachineEnd) (after-run : HostForm) : Type 0 where
   pub finds : List Entry
   pub output : List Action
-  pub tells : Tells m job nothing_left (Found finds) steps after-run.fault e output
+  pub tells : Tells m job nothing_left (Opened finds) steps after-run.fault e output
 
 -- A run over any world: each of its calls is as it is said of every world, from one state that is shown to another.
-pub record AnyhowRun (m : ProgramForm) (steps : ℕ) (conf : Conf) (state : HostState) (output : List Action) (e : RunEnd) (conf' : Conf)
+pub record InAnyWorldRun (m : ProgramForm) (steps : ℕ) (conf : Conf) (state : HostState) (output : List Action) (e : RunEnd) (conf' : Conf)
     (after-run : HostForm) : Type 0 where
   pub state' : HostState
   pub shown : Shown after-run state'
-  pub ran : Ran anyhow_meaning m steps conf state output e conf' state'
+  pub ran : Ran in_any_world_meaning m steps conf state output e conf' state'
 
 -- What is told of a script: how it ends; that it puts something out, where steps or memory did not suffice; or what no script does.
 pub data Told : Type 0 where
@@ -70,17 +70,17 @@ pub record DoesSo (script : Setting → ℕ → Ending) (job : JobForm) (input :
   pub says : Says told output (script (setting_of job input outside) turns)
   pub applied : held ≡ outside_after output outside
 
--- The script does so, in this job, in surroundings that others change too, where each time that something is opened, read or written these are found, within some
+-- The script does so, in this job, in an environment that others change too, where each time that something is opened, read or written these are found, within some
 -- number of turns.
 pub record DoesSoThere (script : Setting → ℕ → Ending) (job : JobForm) (finds : List Entry) (told : Told) : Type 0 where
   pub turns : ℕ
   pub output : List Action
-  pub says : Says told output (script (setting_in job nothing_left (Found finds)) turns)
+  pub says : Says told output (script (setting_in job nothing_left (Opened finds)) turns)
 
 -- The script goes on there: within so many turns as these steps suffice for, so many for each turn, it is not over.
 abbrev pub GoesOnThere : (Setting → ℕ → Ending) → JobForm → List Entry → (bound steps : ℕ) → Type 0
 GoesOnThere script job finds bound steps = (turns : ℕ) → bound * (turns + 1) ≤ steps
-    → IsOver (script (setting_in job nothing_left (Found finds)) turns) → ⊥
+    → IsOver (script (setting_in job nothing_left (Opened finds)) turns) → ⊥
 
 -- what a machine's end tells, with this fault kept; a script never traps
 abbrev pub told_by : Option Fault → MachineEnd → Told

@@ -22,7 +22,7 @@ use Rattle.sem_scripts.specs.ScriptRun.{first_assigned, records_done, Ended, set
 use Rattle.sem_scripts.specs.ScriptState.{spend_all}
 use Rattle.sem_scripts.specs.Statements.{loop, over_keys, plain_done, done_by}
 use Rattle.agreement.specs.Spots.Marked.{Marks, done_marked, all_marked, marked_called, items_marked, begun_marked, ended_marked, marked_run}
-use Rattle.agreement.specs.Spots.Spots.{Part, Whole, First, Looping, Between, Testing, Unless, GivesUp, Leaves, PatternPart, Asked, Unmet, Opening, Already, FirstTest, Opens, StaysClosed, Inside, Entered, LastTest, Closes, StaysOpen, Spot, Of, OfPattern}
+use Rattle.agreement.specs.Spots.Spots.{Part, Whole, First, Looping, Between, Testing, Unless, GivesUp, Leaves, PatternPart, Asked, Unmet, Opening, Already, FirstTest, Opens, StaysClosed, Inside, Entered, LastTest, Closes, StaysOpen, StatementPath, Of, OfPattern}
 
 -- B: block, E: empty, S: plain, I: `if`, W: `while`, D: `do`, F: `for`, K: `for` over keys, J: `break`, `continue`, `next` and `nextfile`, R:
 -- `return` and `exit`
@@ -63,7 +63,7 @@ pattern_letter LastTest = codes "l"
 pattern_letter Closes = codes ")"
 pattern_letter StaysOpen = codes "y"
 
-abbrev letter : Spot → List ℕ
+abbrev letter : StatementPath → List ℕ
 letter (Of s part w) = part_letter s part
 letter (OfPattern part) = pattern_letter part
 

@@ -11,14 +11,14 @@ use Rattle.sem_scripts.specs.Items.{top, print_record, pattern_ranges, range_ope
 use Rattle.sem_scripts.specs.Meaning.{Calls}
 use Rattle.sem_scripts.specs.Names.{Resolved, Scope, function_at, variable_of, array_of}
 use Rattle.sem_scripts.specs.ScriptRun.{Ending, Parts, Setting, as_name, run_with}
-use Rattle.sem_scripts.specs.ScriptState.{State, Doing, ◌>>=◌, ◌>>◌, give, nothing, stop, look, change, Nexted, OutOfTurns, does, with_range}
+use Rattle.sem_scripts.specs.ScriptState.{State, Execution, ◌>>=◌, ◌>>◌, give, nothing, stop, look, change, Nexted, OutOfTurns, call, with_range}
 use Rattle.sem_scripts.specs.Statements.{Flow, Normal, after, after_round, loop, over_keys, test_of, maybe_test, plain_done, maybe_done, done_by, entered, scope_in}
 use Rattle.sem_scripts.specs.Steps.{array_number, store_variable}
-use Rattle.agreement.specs.Spots.Spots.{Frame, Before, Within, AfterElse, Home, OfBegin, OfEnd, OfRecord, OfFunction, Part, Whole, First, Looping, Between, Testing, Unless, GivesUp, Leaves, PatternPart, Asked, Unmet, Opening, Already, FirstTest, Opens, StaysClosed, Inside, Entered, LastTest, Closes, StaysOpen, Spot, Of, OfPattern}
+use Rattle.agreement.specs.Spots.Spots.{Frame, Before, Within, AfterElse, Home, OfBegin, OfEnd, OfRecord, OfFunction, Part, Whole, First, Looping, Between, Testing, Unless, GivesUp, Leaves, PatternPart, Asked, Unmet, Opening, Already, FirstTest, Opens, StaysClosed, Inside, Entered, LastTest, Closes, StaysOpen, StatementPath, Of, OfPattern}
 
 -- what is done to the output at each spot of an action or a function
 abbrev pub Marks : Type 0
-Marks = Home → Spot → List Action → List Action
+Marks = Home → StatementPath → List Action → List Action
 
 abbrev pub no_marks : Marks
 no_marks home spot output = output
@@ -26,27 +26,27 @@ no_marks home spot output = output
 abbrev pub with_mark : (List Action → List Action) → State → State
 with_mark m state = record state { shared = record state.shared { output = m state.shared.output } }
 
-abbrev pub mark : (List Action → List Action) → Doing (Unit {0})
+abbrev pub mark : (List Action → List Action) → Execution (Unit {0})
 mark m = change (with_mark m)
 
 -- Statements.
 
-module _ (marks : Spot → List Action → List Action) (scope : Scope) (n : ℕ) (calls : Calls) where
-  abbrev pub passing : Stmt → Part → List Frame → Doing (Unit {0})
+module _ (marks : StatementPath → List Action → List Action) (scope : Scope) (n : ℕ) (calls : Calls) where
+  abbrev pub passing : Stmt → Part → List Frame → Execution (Unit {0})
   passing s part w = mark (marks (Of s part w))
 
   -- a statement with no other one in it
-  abbrev pub alone : Stmt → List Frame → Doing Flow
+  abbrev pub alone : Stmt → List Frame → Execution Flow
   alone s w = passing s Whole w >> done_by scope n calls s
 
   -- what a `for` does between its rounds
-  abbrev pub between_marked : Stmt → Option Plain → List Frame → Doing (Unit {0})
+  abbrev pub between_marked : Stmt → Option Plain → List Frame → Execution (Unit {0})
   between_marked s None w = nothing
   between_marked s (Some p) w = passing s Between w >> plain_done scope n calls p
 
   unfoldable mutual
     -- a statement that stands there
-    pub done_marked : Stmt → List Frame → Doing Flow
+    pub done_marked : Stmt → List Frame → Execution Flow
     done_marked (Block ss) w = passing (Block ss) Whole w >> all_marked ss w
     done_marked Empty w = alone Empty w
     done_marked (Simple p) w = alone (Simple p) w
@@ -67,15 +67,15 @@ module _ (marks : Spot → List Action → List Action) (scope : Scope) (n : ℕ
         passing (For i c p s) Whole w >> passing (For i c p s) First w >> maybe_done scope n calls i >>
         passing (For i c p s) Looping w >> loop n (maybe_test scope n calls c) body (between_marked (For i c p s) p w)
     done_marked (ForIn k a s) w =
-        passing (ForIn k a s) Whole w >> array_number (array_of scope a) >>= λ i. does row.Iter (i, tt) >>= λ keys.
+        passing (ForIn k a s) Whole w >> array_number (array_of scope a) >>= λ i. call row.Iter (i, tt) >>= λ keys.
         over_keys n keys (store_variable (variable_of scope k)) (done_marked s (Within (ForIn k a s) ∷ w))
     done_marked (Jumping NextFile) w =
         let s = Jumping NextFile in
-        passing s Whole w >> passing s GivesUp w >> does row.NextFile tt >> passing s Leaves w >> stop Nexted
+        passing s Whole w >> passing s GivesUp w >> call row.NextFile tt >> passing s Leaves w >> stop Nexted
     done_marked (Jumping j) w = alone (Jumping j) w
     done_marked (Leave l t) w = alone (Leave l t) w
 
-    pub all_marked : Stmts → List Frame → Doing Flow
+    pub all_marked : Stmts → List Frame → Execution Flow
     all_marked NoStmt w = give Normal
     all_marked (And s ss) w = done_marked s (Before ss ∷ w) >>= λ flow. after flow (all_marked ss w)
 
@@ -90,32 +90,32 @@ marked_called marks script (suc n) f locals =
 -- Items. An action is a block of statements.
 
 module _ (marks : Marks) (scope : Scope) (n : ℕ) (calls : Calls) where
-  abbrev pub action_marked : Home → Stmts → Doing Flow
+  abbrev pub action_marked : Home → Stmts → Execution Flow
   action_marked home ss = done_marked (marks home) scope n calls (Block ss) []
 
-  abbrev pub asking : Home → PatternPart → Doing (Unit {0})
+  abbrev pub asking : Home → PatternPart → Execution (Unit {0})
   asking home part = mark (marks home (OfPattern part))
 
   -- a range that is not open opens where its first pattern is true
-  abbrev pub opens_marked : Home → ℕ → Tree → Doing (Unit {0})
+  abbrev pub opens_marked : Home → ℕ → Tree → Execution (Unit {0})
   opens_marked home i t =
       asking home Opening >> look (range_open i) >>= λ already. if already then asking home Already else
       (asking home FirstTest >> tested scope n calls t >>= λ b. if b then (asking home Opens >> change (with_range i true)) else asking home StaysClosed)
 
   -- and where it is open, it closes if the second is
-  abbrev pub closes_marked : Home → ℕ → Tree → Doing (Unit {0})
+  abbrev pub closes_marked : Home → ℕ → Tree → Execution (Unit {0})
   closes_marked home i u = asking home LastTest >> tested scope n calls u >>= λ b. if b then (asking home Closes >> change (with_range i false)) else
       asking home StaysOpen
 
   -- an action where its pattern is met, which is the i-th range if it is one
-  abbrev pub where_marked : Home → ℕ → Pattern → Doing Flow → Doing Flow
+  abbrev pub where_marked : Home → ℕ → Pattern → Execution Flow → Execution Flow
   where_marked home i (One t) action = asking home Asked >> tested scope n calls t >>= λ b. if b then action else (asking home Unmet >> give Normal)
   where_marked home i (Range t u) action =
       asking home Asked >> opens_marked home i t >> asking home Inside >> look (range_open i) >>= λ now.
       if now then (asking home Entered >> closes_marked home i u >> action) else (asking home Unmet >> give Normal)
 
   -- items for a record, where the first range among them is the i-th
-  unfoldable pub items_marked : ℕ → List Item → Doing Flow
+  unfoldable pub items_marked : ℕ → List Item → Execution Flow
   items_marked i [] = give Normal
   items_marked i (Always ss ∷ items) = action_marked (OfRecord i None ss items) ss >>= λ flow. after flow (items_marked i items)
   items_marked i (When p ss ∷ items) =
@@ -127,12 +127,12 @@ module _ (marks : Marks) (scope : Scope) (n : ℕ) (calls : Calls) where
   items_marked i (_ ∷ items) = items_marked i items
 
   -- the actions of BEGIN, and those of END
-  unfoldable pub begun_marked : List Item → Doing Flow
+  unfoldable pub begun_marked : List Item → Execution Flow
   begun_marked [] = give Normal
   begun_marked (Begin ss ∷ items) = action_marked (OfBegin items) ss >>= λ flow. after flow (begun_marked items)
   begun_marked (_ ∷ items) = begun_marked items
 
-  unfoldable pub ended_marked : List Item → Doing Flow
+  unfoldable pub ended_marked : List Item → Execution Flow
   ended_marked [] = give Normal
   ended_marked (End ss ∷ items) = action_marked (OfEnd items) ss >>= λ flow. after flow (ended_marked items)
   ended_marked (_ ∷ items) = ended_marked items

@@ -25,9 +25,9 @@ use Rattle.lower_model.specs.Functions.{layout_of, main_bases, routine_bases}
 use Rattle.lower_model.specs.Noted.{begin_rest, out_of_part, routine_rest, test_place}
 use Rattle.lower_model.specs.Places.{Bases}
 use Rattle.lower_model.specs.Quick.{is_nothing, pair_in, step_jumps}
-use Rattle.lower_model.specs.Small.{does as instruction}
+use Rattle.lower_model.specs.Small.{emit as instruction}
 use Rattle.lower_model.specs.Statements.{step_emitted, steps_emitted}
-use Rattle.agreement.specs.Spots.Spots.{Frame, Before, Within, AfterElse, Home, OfBegin, OfEnd, OfRecord, OfFunction, Part, First, Looping, Between, Testing, Unless, GivesUp, Leaves, PatternPart, Asked, Unmet, Opening, Already, FirstTest, Opens, StaysClosed, Inside, Entered, LastTest, Closes, StaysOpen, Spot, Of, OfPattern}
+use Rattle.agreement.specs.Spots.Spots.{Frame, Before, Within, AfterElse, Home, OfBegin, OfEnd, OfRecord, OfFunction, Part, First, Looping, Between, Testing, Unless, GivesUp, Leaves, PatternPart, Asked, Unmet, Opening, Already, FirstTest, Opens, StaysClosed, Inside, Entered, LastTest, Closes, StaysOpen, StatementPath, Of, OfPattern}
 
 -- Where code stands in a function: so many iterators are in use, and so many labels are between it and the function's exit, the place where `break`
 -- goes, and the one where `continue` goes; then what comes after it in its block.
@@ -245,7 +245,7 @@ start_in script home = after_pattern (layout_at script home) (slots_at (lanes_of
     (pattern_of home) (outermost_in script home)
 
 -- THE PLACE OF A SPOT
-abbrev pub place_of : Resolved → Home → Spot → Instructions
+abbrev pub place_of : Resolved → Home → StatementPath → Instructions
 place_of script home (Of s part w) =
     let y = layout_at script home in
     let slots = slots_at (lanes_of script) home in

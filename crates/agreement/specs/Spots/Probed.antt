@@ -7,10 +7,10 @@ use Rattle.lower_model.specs.Modules.{called_imports, renumbered}
 use Rattle.agreement.specs.Passed.Passed.{Probe}
 use Rattle.agreement.specs.Spots.Marked.{Marks, marked_run}
 use Rattle.agreement.specs.Spots.Places.{final_program, place_of}
-use Rattle.agreement.specs.Spots.Spots.{Home, Spot}
+use Rattle.agreement.specs.Spots.Spots.{Home, StatementPath}
 
 -- the place in the script's module, whose calls have the module's numbers
-abbrev pub module_place : Resolved → Home → Spot → Instructions
+abbrev pub module_place : Resolved → Home → StatementPath → Instructions
 module_place script home spot = renumbered (called_imports (final_program script)) (place_of script home spot)
 
 abbrev pub marks_of : Resolved → Probe → Marks

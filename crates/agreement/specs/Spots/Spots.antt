@@ -56,8 +56,8 @@ pub data PatternPart : Type 0 where
   Closes : PatternPart
   StaysOpen : PatternPart
 
-pub data Spot : Type 0 where
+pub data StatementPath : Type 0 where
   -- a part of a statement, and what the statement stands in, from the inside to the outside
-  Of : Stmt → Part → List Frame → Spot
+  Of : Stmt → Part → List Frame → StatementPath
   -- a part of the pattern of an action
-  OfPattern : PatternPart → Spot
+  OfPattern : PatternPart → StatementPath

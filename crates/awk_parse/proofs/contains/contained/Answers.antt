@@ -1,7 +1,7 @@
 use Rattle.awk_grammar.specs.Tree.{Has}
 use Rattle.awk_grammar.specs.View.{view}
-use Rattle.awk_parse.specs.Went.{is_read}
-use Rattle.awk_parse.proofs.Went.{then, is_here}
+use Rattle.awk_parse.specs.Parsed.{is_read}
+use Rattle.awk_parse.proofs.ParsedLemmas.{then, is_here}
 use Rattle.awk_parse.proofs.contains.contained.Goals as goal
 
 pub returns : goal.returns

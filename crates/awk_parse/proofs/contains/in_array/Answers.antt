@@ -1,7 +1,7 @@
 use Rattle.awk_grammar.specs.Tree.{HasList}
 use Rattle.awk_grammar.specs.View.{view, views}
-use Rattle.awk_parse.specs.Went.{is_read}
-use Rattle.awk_parse.proofs.Went.{then, past, is_here}
+use Rattle.awk_parse.specs.Parsed.{is_read}
+use Rattle.awk_parse.proofs.ParsedLemmas.{then, past, is_here}
 use Rattle.awk_parse.proofs.contains.in_array.Goals as goal
 
 pub returns : goal.returns

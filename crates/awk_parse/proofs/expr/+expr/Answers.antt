@@ -8,12 +8,12 @@ use Rattle.awk_grammar.specs.declared.tree.Expr.{Expr}
 use Rattle.awk_parse.specs.Operands.{view_variable, in_array_at}
 use Rattle.awk_parse.specs.Seen.{seen, view_mode, view_infix, view_link}
 use Rattle.awk_parse.specs.Starts.{below, view_start, view_prefix}
-use Rattle.awk_parse.specs.Went.{is_read}
+use Rattle.awk_parse.specs.Parsed.{is_read}
 use Rattle.awk_parse.proofs.Climbs.{climb_begin, climb_next, climb_end, climb_over, expr_none, expr_went}
 use Rattle.awk_parse.proofs.Fits.{call_is, linked_went, moded, variable_went}
 use Rattle.awk_parse.proofs.Lists.{trees_begin, trees_next, trees_end, trees_over, no_arguments, some_arguments}
 use Rattle.awk_parse.proofs.Starts.{not_begun, begun}
-use Rattle.awk_parse.proofs.Went.{seen_length, then, past, is_here, fails_here, goes_on, goes_as, reads_as, no_memory, kept_then}
+use Rattle.awk_parse.proofs.ParsedLemmas.{seen_length, then, past, is_here, fails_here, goes_on, goes_as, reads_as, no_memory, kept_then}
 use Rattle.awk_parse.proofs.expr.+expr.Goals as goal
 
 pub read-returns-then-limit-eq0 : goal.read-returns-then-limit-eq0

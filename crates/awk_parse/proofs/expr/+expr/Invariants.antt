@@ -2,17 +2,17 @@ use Rattle.std.proofs.Common.{◌*◌, ◌+◌, ◌-◌, length}
 use Rattle.awk_grammar.specs.Tree.{Tree, Trees}
 use Rattle.awk_grammar.specs.Reading.{list_at, climb, expr_at}
 use Rattle.awk_grammar.specs.View.{view, views}
-use Rattle.awk_parse.specs.Went.{At, at, Went}
+use Rattle.awk_parse.specs.Parsed.{At, at, Parsed}
 use Rattle.awk_parse.proofs.Lists.{left_trees}
 use Rattle.awk_parse.proofs.expr.+expr.Given as goal
 
 -- the operators so far, and those that follow
 abbrev pub invariant-chain-loop : goal.invariant-chain-loop
 invariant-chain-loop l =
-    (v : Tree) (s : At) → Went v (at l.source) s (climb (expr_at (l.limit - 1)) l.greater l.limit (l.turns - l.counter) l.least (view l.left.tree)) → Went v (at l.fn.source) s (λ ts. climb (expr_at (l.limit - 1)) l.greater l.limit (length ts) l.least (view l.fn.first.tree) ts)
+    (v : Tree) (s : At) → Parsed v (at l.source) s (climb (expr_at (l.limit - 1)) l.greater l.limit (l.turns - l.counter) l.least (view l.left.tree)) → Parsed v (at l.fn.source) s (λ ts. climb (expr_at (l.limit - 1)) l.greater l.limit (length ts) l.least (view l.fn.first.tree) ts)
 
 abbrev pub invariant-read_list-loop : goal.invariant-read_list-loop
-invariant-read_list-loop l = (v : Trees) (s : At) → Went v (at l.source) s (left_trees (expr_at l.limit) l.greater (views l.all.trees.items) (l.turns - l.counter)) → Went v (at l.fn.source) s (list_at (expr_at l.limit) l.greater)
+invariant-read_list-loop l = (v : Trees) (s : At) → Parsed v (at l.source) s (left_trees (expr_at l.limit) l.greater (views l.all.trees.items) (l.turns - l.counter)) → Parsed v (at l.fn.source) s (list_at (expr_at l.limit) l.greater)
 
 abbrev pub decreases-read : goal.decreases-read
 decreases-read l = 6 * l.limit

@@ -5,14 +5,14 @@ use Rattle.awk_grammar.specs.ReadStmt.{stmt_at, block_at, if_at, else_at, else_b
 use Rattle.awk_grammar.specs.Stmt.{Block, If, IfElse}
 use Rattle.awk_grammar.specs.ViewStmt.{view_stmts}
 use Rattle.awk_parse.specs.Seen.{seen}
-use Rattle.awk_parse.proofs.Went.{seen_length}
+use Rattle.awk_parse.proofs.ParsedLemmas.{seen_length}
 use Rattle.awk_parse.specs.Bodies.{view_boxed, looped_at, short_at}
-use Rattle.awk_parse.specs.Went.{is_read}
+use Rattle.awk_parse.specs.Parsed.{is_read}
 use Rattle.awk_parse.proofs.Closed.{chooses}
 use Rattle.awk_parse.specs.StatementStarts.{view_stmt_start}
 use Rattle.awk_parse.proofs.Blocks.{stmts_begin, stmts_next, stmts_added, stmts_closed, stmts_stopped, stmts_over}
 use Rattle.awk_parse.proofs.StatementStarts.{stmt_is, stmt_none, short_is, looped_is}
-use Rattle.awk_parse.proofs.Went.{then, fails_here, goes_on, goes_as}
+use Rattle.awk_parse.proofs.ParsedLemmas.{then, fails_here, goes_on, goes_as}
 use Rattle.awk_parse.proofs.HeldLemmas.{none_went}
 use Rattle.awk_parse.proofs.flow.+flow.Goals as goal
 

@@ -2,12 +2,12 @@ use Rattle.std.proofs.Common.{◌*◌, ◌+◌, ◌-◌, length}
 use Rattle.awk_grammar.specs.Stmt.{Stmts}
 use Rattle.awk_grammar.specs.ReadStmt.{stmts_at, stmt_at}
 use Rattle.awk_grammar.specs.ViewStmt.{view_stmts}
-use Rattle.awk_parse.specs.Went.{At, at, Went}
+use Rattle.awk_parse.specs.Parsed.{At, at, Parsed}
 use Rattle.awk_parse.proofs.Blocks.{left_stmts}
 use Rattle.awk_parse.proofs.flow.+flow.Given as goal
 
 abbrev pub invariant-statements-loop : goal.invariant-statements-loop
-invariant-statements-loop l = (v : Stmts) (s : At) → Went v (at l.source) s (left_stmts (stmt_at l.limit) (view_stmts l.read.items) (l.turns - l.counter)) → Went v (at l.fn.source) s (λ ts. stmts_at (stmt_at l.limit) (length ts) ts)
+invariant-statements-loop l = (v : Stmts) (s : At) → Parsed v (at l.source) s (left_stmts (stmt_at l.limit) (view_stmts l.read.items) (l.turns - l.counter)) → Parsed v (at l.fn.source) s (λ ts. stmts_at (stmt_at l.limit) (length ts) ts)
 
 abbrev pub decreases-statement : goal.decreases-statement
 decreases-statement l = 2 * l.limit

@@ -1,4 +1,4 @@
-use Rattle.awk_parse.proofs.Went.{past}
+use Rattle.awk_parse.proofs.ParsedLemmas.{past}
 use Rattle.awk_parse.proofs.flow.ended.Goals as goal
 
 pub returns-clause-read : goal.returns-clause-read

@@ -1,4 +1,4 @@
-use Rattle.awk_parse.proofs.Went.{then}
+use Rattle.awk_parse.proofs.ParsedLemmas.{then}
 use Rattle.awk_parse.proofs.flow.short.Goals as goal
 
 pub returns-in-Leave-clause-read : goal.returns-in-Leave-clause-read

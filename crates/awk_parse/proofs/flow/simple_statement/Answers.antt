@@ -1,4 +1,4 @@
-use Rattle.awk_parse.proofs.Went.{then}
+use Rattle.awk_parse.proofs.ParsedLemmas.{then}
 use Rattle.awk_parse.proofs.flow.simple_statement.Goals as goal
 
 pub returns-clause-read : goal.returns-clause-read

@@ -1,5 +1,5 @@
 use Rattle.awk_parse.specs.Bodies.{view_head}
-use Rattle.awk_parse.proofs.Went.{no_memory, then, past}
+use Rattle.awk_parse.proofs.ParsedLemmas.{no_memory, then, past}
 use Rattle.awk_parse.proofs.HeldLemmas.{kept}
 use Rattle.awk_parse.proofs.head.counted.Goals as goal
 

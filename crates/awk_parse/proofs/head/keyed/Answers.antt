@@ -2,8 +2,8 @@ use Rattle.std.proofs.Common.{ap}
 use Rattle.awk_grammar.specs.Reading.{expr_at}
 use Rattle.awk_parse.specs.Seen.{seen}
 use Rattle.awk_parse.specs.Bodies.{Keyed, keyed_by, keyed_at, counted_at}
-use Rattle.awk_parse.specs.Went.{is_read}
-use Rattle.awk_parse.proofs.Went.{stays, then, goes_on, goes_as}
+use Rattle.awk_parse.specs.Parsed.{is_read}
+use Rattle.awk_parse.proofs.ParsedLemmas.{stays, then, goes_on, goes_as}
 use Rattle.awk_parse.proofs.head.keyed.Goals as goal
 
 pub returns-in_default : goal.returns-in_default

@@ -1,4 +1,4 @@
-use Rattle.awk_parse.proofs.Went.{stays, then, past}
+use Rattle.awk_parse.proofs.ParsedLemmas.{stays, then, past}
 use Rattle.awk_parse.proofs.head.loop_lead.Goals as goal
 
 pub returns-in-While : goal.returns-in-While

@@ -2,7 +2,7 @@ use Rattle.std.proofs.Common.{◌+◌, ◌-◌, ◌≡◌, ◌<◌, length, sym,
 use Rattle.std.proofs.lemmas.Bool.{eqb-true, eqb-false}
 use Rattle.awk_grammar.specs.ViewStmt.{view_items}
 use Rattle.awk_parse.specs.Seen.{seen}
-use Rattle.awk_parse.proofs.Went.{seen_length}
+use Rattle.awk_parse.proofs.ParsedLemmas.{seen_length}
 use Rattle.awk_parse.proofs.Scripts.{items_begin, items_next, items_added, items_done, items_over}
 use Rattle.awk_parse.proofs.item.all_items.Goals as goal
 

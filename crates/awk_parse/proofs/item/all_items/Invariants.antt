@@ -2,7 +2,7 @@ use Rattle.std.proofs.Common.{◌-◌, List}
 use Rattle.awk_grammar.specs.Item.{Item}
 use Rattle.awk_grammar.specs.ReadItem.{script_at}
 use Rattle.awk_grammar.specs.ViewStmt.{view_items}
-use Rattle.awk_parse.specs.Went.{At, at, Ends}
+use Rattle.awk_parse.specs.Parsed.{At, at, Ends}
 use Rattle.awk_parse.proofs.Scripts.{left_items}
 use Rattle.awk_parse.proofs.item.all_items.Given as goal
 

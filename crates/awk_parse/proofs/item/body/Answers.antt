@@ -3,7 +3,7 @@ use Rattle.awk_grammar.specs.ReadStmt.{stmt_at, stmts_at}
 use Rattle.awk_grammar.specs.ReadItem.{body_at}
 use Rattle.awk_parse.specs.Seen.{seen}
 use Rattle.awk_parse.proofs.Scripts.{body_some, body_none}
-use Rattle.awk_parse.proofs.Went.{fails_here, goes_on}
+use Rattle.awk_parse.proofs.ParsedLemmas.{fails_here, goes_on}
 use Rattle.awk_parse.proofs.item.body.Goals as goal
 
 pub returns-in_default : goal.returns-in_default

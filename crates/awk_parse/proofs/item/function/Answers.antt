@@ -5,9 +5,9 @@ use Rattle.awk_grammar.specs.Lexeme.{spoken_after}
 use Rattle.awk_grammar.specs.ReadItem.{function_at, function_by}
 use Rattle.awk_grammar.specs.ViewStmt.{view_names, view_stmts}
 use Rattle.awk_parse.specs.Seen.{seen}
-use Rattle.awk_parse.specs.Went.{is_read}
+use Rattle.awk_parse.specs.Parsed.{is_read}
 use Rattle.awk_parse.proofs.Scripts.{function_named, function_none}
-use Rattle.awk_parse.proofs.Went.{stays, then, past, ended_same, fails_here, goes_on}
+use Rattle.awk_parse.proofs.ParsedLemmas.{stays, then, past, ended_same, fails_here, goes_on}
 use Rattle.awk_parse.proofs.item.function.Goals as goal
 
 pub returns-in_default : goal.returns-in_default

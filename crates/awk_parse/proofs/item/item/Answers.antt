@@ -6,7 +6,7 @@ use Rattle.awk_grammar.specs.ReadItem.{body_at, function_at, rule_at, item_at}
 use Rattle.awk_parse.specs.Seen.{seen}
 use Rattle.awk_parse.specs.StatementStarts.{acting, item_by, view_item_start}
 use Rattle.awk_parse.proofs.StatementStarts.{item_is}
-use Rattle.awk_parse.proofs.Went.{stays, then, came, goes_on, goes_as}
+use Rattle.awk_parse.proofs.ParsedLemmas.{stays, then, came, goes_on, goes_as}
 use Rattle.awk_parse.proofs.item.item.Goals as goal
 
 pub returns-in-Function : goal.returns-in-Function

@@ -1,7 +1,7 @@
 use Rattle.std.proofs.Common.{◌-◌, length, arith}
 use Rattle.awk_grammar.specs.ViewStmt.{view_names}
 use Rattle.awk_parse.specs.Seen.{seen}
-use Rattle.awk_parse.proofs.Went.{seen_length}
+use Rattle.awk_parse.proofs.ParsedLemmas.{seen_length}
 use Rattle.awk_parse.proofs.Names.{names_begin, names_next, names_added, names_end, names_over}
 use Rattle.awk_parse.proofs.item.others.Goals as goal
 

@@ -3,7 +3,7 @@ use Rattle.awk_grammar.specs.ReadItem.{params_at}
 use Rattle.awk_grammar.specs.ViewStmt.{view_names}
 use Rattle.awk_parse.specs.Seen.{seen}
 use Rattle.awk_parse.proofs.Names.{left_names, params_named, params_none, first_added}
-use Rattle.awk_parse.proofs.Went.{then, came, goes_on}
+use Rattle.awk_parse.proofs.ParsedLemmas.{then, came, goes_on}
 use Rattle.awk_parse.proofs.item.params.Goals as goal
 
 pub returns-in_default : goal.returns-in_default

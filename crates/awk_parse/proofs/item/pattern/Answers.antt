@@ -5,7 +5,7 @@ use Rattle.awk_grammar.specs.View.{view}
 use Rattle.awk_grammar.specs.Reading.{◌>>=◌, comma_at, expr_at}
 use Rattle.awk_grammar.specs.ReadItem.{pattern_by}
 use Rattle.awk_parse.specs.Seen.{seen}
-use Rattle.awk_parse.proofs.Went.{stays, then, came, goes_on}
+use Rattle.awk_parse.proofs.ParsedLemmas.{stays, then, came, goes_on}
 use Rattle.awk_parse.proofs.item.pattern.Goals as goal
 
 pub returns-in_default : goal.returns-in_default

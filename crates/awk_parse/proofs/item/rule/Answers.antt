@@ -5,7 +5,7 @@ use Rattle.awk_grammar.specs.ReadItem.{body_at, action_at}
 use Rattle.awk_grammar.specs.ViewStmt.{view_pattern}
 use Rattle.awk_parse.specs.Seen.{seen}
 use Rattle.awk_parse.proofs.Scripts.{action_lone, action_when}
-use Rattle.awk_parse.proofs.Went.{stays, then, came, goes_as}
+use Rattle.awk_parse.proofs.ParsedLemmas.{stays, then, came, goes_as}
 use Rattle.awk_parse.proofs.item.rule.Goals as goal
 
 pub returns-in_default : goal.returns-in_default

@@ -1,7 +1,7 @@
 use Rattle.awk_grammar.specs.Tree.{depth, depths}
 use Rattle.awk_grammar.specs.View.{view, views}
 use Rattle.awk_parse.proofs.Lists.{pushed, pushed_depth}
-use Rattle.awk_parse.proofs.Went.{is_here}
+use Rattle.awk_parse.proofs.ParsedLemmas.{is_here}
 use Rattle.awk_parse.proofs.node.with_one.Goals as goal
 
 pub invariant_of-result-2 : goal.invariant_of-result-2

@@ -2,8 +2,8 @@ use Rattle.awk_grammar.specs.Reading.{◌>>=◌, expr_at}
 use Rattle.awk_grammar.specs.ReadStmt.{condition_at}
 use Rattle.awk_grammar.specs.Stmt.{Do}
 use Rattle.awk_grammar.specs.ViewStmt.{view_stmt}
-use Rattle.awk_parse.specs.Went.{is_read}
-use Rattle.awk_parse.proofs.Went.{then, past}
+use Rattle.awk_parse.specs.Parsed.{is_read}
+use Rattle.awk_parse.proofs.ParsedLemmas.{then, past}
 use Rattle.awk_parse.proofs.Closed.{closes, closes_counted}
 use Rattle.awk_parse.proofs.statement_node.closed.Goals as goal
 

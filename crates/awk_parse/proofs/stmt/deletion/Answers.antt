@@ -5,7 +5,7 @@ use Rattle.awk_grammar.specs.Stmt.{Delete}
 use Rattle.awk_parse.specs.Seen.{seen}
 use Rattle.awk_parse.specs.StatementStarts.{deleted_by}
 use Rattle.awk_parse.proofs.StatementStarts.{delete_is}
-use Rattle.awk_parse.proofs.Went.{stays, then, past, came, goes_on}
+use Rattle.awk_parse.proofs.ParsedLemmas.{stays, then, past, came, goes_on}
 use Rattle.awk_parse.proofs.stmt.deletion.Goals as goal
 
 pub returns-in_default : goal.returns-in_default

@@ -1,4 +1,4 @@
-use Rattle.awk_parse.proofs.Went.{stays, then, past}
+use Rattle.awk_parse.proofs.ParsedLemmas.{stays, then, past}
 use Rattle.awk_parse.proofs.stmt.enclosed.Goals as goal
 
 pub returns : goal.returns

@@ -3,7 +3,7 @@ use Rattle.awk_grammar.specs.Reading.{◌>>=◌, expr_at}
 use Rattle.awk_grammar.specs.ReadStmt.{starts_expr, maybe_at}
 use Rattle.awk_grammar.specs.Tree.{Whole}
 use Rattle.awk_parse.specs.Seen.{seen}
-use Rattle.awk_parse.proofs.Went.{stays, then, goes_as}
+use Rattle.awk_parse.proofs.ParsedLemmas.{stays, then, goes_as}
 use Rattle.awk_parse.proofs.stmt.optional.Goals as goal
 
 pub returns : goal.returns

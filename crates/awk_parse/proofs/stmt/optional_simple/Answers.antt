@@ -2,7 +2,7 @@ use Rattle.std.proofs.Common.{◌≡◌, true, Some, Ok, refl, sym, ◌∙◌}
 use Rattle.awk_grammar.specs.Reading.{◌>>=◌, expr_at}
 use Rattle.awk_grammar.specs.ReadStmt.{starts_plain, plain_at, maybe_plain_at}
 use Rattle.awk_parse.specs.Seen.{seen}
-use Rattle.awk_parse.proofs.Went.{stays, then, goes_as}
+use Rattle.awk_parse.proofs.ParsedLemmas.{stays, then, goes_as}
 use Rattle.awk_parse.proofs.stmt.optional_simple.Goals as goal
 
 pub returns : goal.returns

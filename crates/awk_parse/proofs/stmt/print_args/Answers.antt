@@ -3,7 +3,7 @@ use Rattle.awk_grammar.specs.Reading.{expr_at}
 use Rattle.awk_grammar.specs.Stmt.{Listed}
 use Rattle.awk_grammar.specs.ViewStmt.{view_word}
 use Rattle.awk_parse.proofs.Printed.{args_enclosed, args_listed}
-use Rattle.awk_parse.proofs.Went.{stays, then}
+use Rattle.awk_parse.proofs.ParsedLemmas.{stays, then}
 use Rattle.awk_parse.proofs.stmt.print_args.Goals as goal
 
 pub returns-in-Some : goal.returns-in-Some

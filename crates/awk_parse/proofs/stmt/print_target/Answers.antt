@@ -5,7 +5,7 @@ use Rattle.awk_grammar.specs.Tree.{AfterCompare}
 use Rattle.awk_parse.specs.Seen.{seen}
 use Rattle.awk_parse.specs.StatementStarts.{target_by, target_of}
 use Rattle.awk_parse.proofs.StatementStarts.{target_is}
-use Rattle.awk_parse.proofs.Went.{stays, then, came, goes_on}
+use Rattle.awk_parse.proofs.ParsedLemmas.{stays, then, came, goes_on}
 use Rattle.awk_parse.proofs.stmt.print_target.Goals as goal
 
 pub returns-in_default : goal.returns-in_default

@@ -5,7 +5,7 @@ use Rattle.awk_grammar.specs.ViewStmt.{view_word}
 use Rattle.awk_parse.specs.Seen.{seen}
 use Rattle.awk_parse.specs.StatementStarts.{plain_by, view_plain_start}
 use Rattle.awk_parse.proofs.StatementStarts.{plain_is}
-use Rattle.awk_parse.proofs.Went.{stays, then, goes_on, goes_as}
+use Rattle.awk_parse.proofs.ParsedLemmas.{stays, then, goes_on, goes_as}
 use Rattle.awk_parse.proofs.stmt.simple.Goals as goal
 
 pub returns-in-Print : goal.returns-in-Print

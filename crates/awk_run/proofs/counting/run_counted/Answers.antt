@@ -14,7 +14,7 @@ pub returns-clause-did : goal.returns-clause-did
 returns-clause-did g c =
     let told = g.W.World.state in
     let t = c.step_through-end.ensures.tallied in
-    whole_run g.W.World.tells c.args.machine.now.program c.args.machine.now.conf (host_form told c.args.host) c.args.steps c.step_through-end.result.1 t.within
+    whole_run g.W.World.is_modelled c.args.machine.now.program c.args.machine.now.conf (host_form told c.args.host) c.args.steps c.step_through-end.result.1 t.within
     c.step_through-end.new.machine.conf (host_form told c.step_through-end.new.host) t.moments c.step_through-end.result.0 t.stepped t.count t.over
 
 pub returns-clause-counted : goal.returns-clause-counted

@@ -13,7 +13,7 @@ use Rattle.awk_run.proofs.counting.run_module_counted.Goals as goal
 
 pub returns-clause-answers : goal.returns-clause-answers
 returns-clause-answers g c =
-    let tells = g.W.World.tells in
+    let tells = g.W.World.is_modelled in
     let told = g.W.World.state in
     let job = job_of c.args.job.now in
     let before = told c.args.world in
@@ -27,7 +27,7 @@ returns-clause-answers g c =
 
 pub returns-clause-counted : goal.returns-clause-counted
 returns-clause-counted g c =
-    let tells = g.W.World.tells in
+    let tells = g.W.World.is_modelled in
     let told = g.W.World.state in
     let job = job_of c.args.job.now in
     let whole = view_module c.in-Ok.valid in

@@ -1,6 +1,6 @@
 use Rattle.std.proofs.Common.{◌≡◌, sym, ap, ◌∙◌, subst, Option}
 use Rattle.awk_values.specs.declared.fault.Fault.{Fault}
-use Rattle.agreement.proofs.RunsLemmas.Telling.{anyhow_run, did_find, did_tell}
+use Rattle.agreement.proofs.RunsLemmas.Telling.{in_any_world_run, did_find, did_tell}
 use Rattle.host_calls.specs.Forms.{host_form}
 use Rattle.host_step.specs.Starts.{state_at_start}
 use Rattle.wasm_types.specs.Syntax.{ModuleForm}
@@ -20,7 +20,7 @@ run_counted-end-requires-clause-nops g c =
 
 pub returns-clause-answers : goal.returns-clause-answers
 returns-clause-answers g c = λ job shown.
-    let tells = g.W.World.tells in
+    let tells = g.W.World.is_modelled in
     let told = g.W.World.state in
     let n = c.in-Ok-new.ensures.ok in
     let before = told c.args.host.world in
@@ -38,7 +38,7 @@ returns-clause-answers g c = λ job shown.
     (ap (λ w. (told w).outside) c.into_world-2.ensures)
     (λ t. did_tell whole c.requires a n job (before.readers 0) before.outside tells t start shown c.args.steps end conf left did)
     (did_find whole c.requires a n job (before.readers 0) before.outside tells start shown c.args.steps end conf left did)
-    (λ out r ne ran. anyhow_run tells a.program c.args.steps a.conf start out r conf left (state_at_start job (before.readers 0) before.outside) shown ne ran))
+    (λ out r ne ran. in_any_world_run tells a.program c.args.steps a.conf start out r conf left (state_at_start job (before.readers 0) before.outside) shown ne ran))
 
 pub returns-clause-counted : goal.returns-clause-counted
 returns-clause-counted g c = λ job shown.

@@ -10,7 +10,7 @@ use Rattle.awk_run.proofs.module.run_over.Goals as goal
 
 pub returns : goal.returns
 returns g c =
-    let tells = g.W.World.tells in
+    let tells = g.W.World.is_modelled in
     let told = g.W.World.state in
     let job = job_of c.args.job.now in
     let before = told c.args.world in

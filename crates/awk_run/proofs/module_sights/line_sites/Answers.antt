@@ -8,7 +8,7 @@ use Rattle.awk_run.proofs.module_sights.line_sites.Goals as goal
 pub loop-number-init : goal.loop-number-init
 loop-number-init c =
     let m = c.args.machine.now in (
-      subst (AreLineSites (map form_of c.args.table.now) m.program.whole m.conf) (sym c.new-sites.ensures.items) (no_line_sites (map form_of c.args.table.now) m.program.whole m.conf),
+      subst (AreLineSites (map form_of c.args.table.now) m.program m.conf) (sym c.new-sites.ensures.items) (no_line_sites (map form_of c.args.table.now) m.program m.conf),
       ap length c.new-sites.ensures.items,
     )
 
@@ -21,9 +21,9 @@ loop-number-preserved c =
     let site = c.in_ok-site.site in
     let items = c.in_ok-push.ensures.items in
     let place = c.in-Some.place in
-    let stands = subst (λ n. StandsAt m.program.whole place (frame_at m.conf n)) (sym inv.1) c.in-Some.ensures in
+    let stands = subst (λ n. StandsAt m.program.whole place (frame_at m.conf n)) (sym inv.1) c.in-Some.ensures.stands in
     let size = length-append old (site ∷ []) in
     let more = ap length items in (
-      subst (AreLineSites table m.program.whole m.conf) (sym items) (with_line_site table m.program.whole m.conf old site place inv.0 stands c.in_ok-site.ensures),
+      subst (AreLineSites table m.program m.conf) (sym items) (with_line_site table m.program m.conf old site place inv.0 stands c.in_ok-site.ensures),
       (let before = inv.1 in omega (arith, more, size, before)),
     )

@@ -15,7 +15,7 @@ use Rattle.awk_run.proofs.module_where.run_seen_over.Goals as goal
 
 pub returns-clause-answers : goal.returns-clause-answers
 returns-clause-answers g c =
-    let tells = g.W.World.tells in
+    let tells = g.W.World.is_modelled in
     let told = g.W.World.state in
     let job = job_of c.args.job.now in
     let before = told c.args.world in
@@ -29,7 +29,7 @@ returns-clause-answers g c =
 
 pub returns-clause-seen : goal.returns-clause-seen
 returns-clause-seen g c =
-    let tells = g.W.World.tells in
+    let tells = g.W.World.is_modelled in
     let told = g.W.World.state in
     let job = job_of c.args.job.now in
     let before = told c.args.world in

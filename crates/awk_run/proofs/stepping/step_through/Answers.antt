@@ -29,5 +29,5 @@ loop-taken-preserved g c =
       ended = c.run-end-in-loop-taken.ensures.ended going;
       nops = c.note.ensures.nops ∙ inv.nops;
       tallied = next_step _ m c.loop-taken.taken _ _ _ _ _ _ _ _ _ c.place.result c.live_values.result _ _ _ inv.tallied out (omega arith) (subst (λ (q : ProgramForm). MatchOption c.place.result (frame_at c.loop-taken.machine.conf 0 ≡ None)
-          (λ p. StandsAt q.whole p (frame_at c.loop-taken.machine.conf 0))) inv.program c.place.ensures) c.live_values.ensures (subst (λ (q : ProgramForm). Did (form_meaning g.W.World.tells) q 1 c.loop-taken.machine.conf (Told (host_form told c.loop-taken.host)) c.run-end-in-loop-taken.result c.run-end-in-loop-taken.new.self.conf (Told (host_form told c.run-end-in-loop-taken.new.host))) inv.program (c.run-end-in-loop-taken.ensures.run going)) c.note.ensures.rows c.note.ensures.values;
+          (λ p. StandsAt q.whole p (frame_at c.loop-taken.machine.conf 0))) inv.program c.place.ensures.stands) c.live_values.ensures.form (subst (λ (q : ProgramForm). Did (form_meaning g.W.World.is_modelled) q 1 c.loop-taken.machine.conf (Told (host_form told c.loop-taken.host)) c.run-end-in-loop-taken.result c.run-end-in-loop-taken.new.self.conf (Told (host_form told c.run-end-in-loop-taken.new.host))) inv.program (c.run-end-in-loop-taken.ensures.run going)) c.note.ensures.rows c.note.ensures.values;
     }

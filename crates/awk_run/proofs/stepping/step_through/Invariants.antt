@@ -9,6 +9,6 @@ invariant-loop-taken g l = record {
   program : l.machine.program ≡ l.fn.machine.program;
   ended : l.machine.ended ≡ lasting l.end;
   nops : l.tally.nops ≡ l.fn.tally.nops;
-  tallied : IsTallied g.W.World.tells l.fn.machine.program l.taken l.taken l.fn.machine.conf (host_form g.W.World.state l.fn.host) l.end l.machine.conf (host_form g.W.World.state l.host)
+  tallied : IsTallied g.W.World.is_modelled l.fn.machine.program l.taken l.taken l.fn.machine.conf (host_form g.W.World.state l.fn.host) l.end l.machine.conf (host_form g.W.World.state l.host)
       (rows_of l.tally.rows.items) l.tally.values;
 }

@@ -1,4 +1,4 @@
-use Rattle.std.proofs.Common.{rules, ◌≡◌, ◌≢◌, ◌-◌, ◌∙◌, ap, subst, sym, arith}
+use Rattle.std.proofs.Common.{rules, ◌≡◌, ◌≢◌, ◌-◌, ◌∙◌, ap, is_some, subst, sym, arith}
 use Rattle.host_calls.specs.Forms.{host_form}
 use Rattle.host_values.specs.Forms.{HostForm}
 use Rattle.host_values.specs.FormMeaning.{Told, form_meaning}
@@ -7,7 +7,7 @@ use Rattle.wasm_model.specs.Runs.{Did, lasting}
 use Rattle.wasm_model.specs.declared.ends.MachineEnd.{MachineEnd}
 use Rattle.wasm_model.specs.declared.ends.MachineEnd.TheVariants as ends
 use Rattle.awk_run.specs.Seen.{Tells}
-use Rattle.awk_run.proofs.Pausing.{of_some, was_over, went_on}
+use Rattle.awk_run.proofs.Pausing.{fault_step, of_some, was_over, went_on}
 use Rattle.awk_run.proofs.whereabouts.run_seen.Goals as goal
 
 pub returns-then-ne-clause-did : goal.returns-then-ne-clause-did
@@ -15,9 +15,9 @@ returns-then-ne-clause-did g c =
     let told = g.W.World.state in
     let other : c.run_to_pause-end.result.0 ≢ ends.OutOfSteps = search rules in
     let paused = c.run_to_pause-end.new.host.host in
-    subst (λ (f : HostForm). Did (form_meaning g.W.World.tells) c.args.machine.now.program c.args.steps c.args.machine.now.conf (Told (host_form told c.args.host)) c.run_to_pause-end.result.0
+    subst (λ (f : HostForm). Did (form_meaning g.W.World.is_modelled) c.args.machine.now.program c.args.steps c.args.machine.now.conf (Told (host_form told c.args.host)) c.run_to_pause-end.result.0
     c.run_to_pause-end.new.self.conf (Told f)) (sym c.seen_at-found.ensures.same)
-    (was_over (form_meaning g.W.World.tells) c.args.machine.now.program c.args.steps c.run_to_pause-end.result.1 c.run_to_pause-end.ensures.within
+    (was_over (form_meaning g.W.World.is_modelled) c.args.machine.now.program c.args.steps c.run_to_pause-end.result.1 c.run_to_pause-end.ensures.within
     c.args.machine.now.conf (Told (host_form told c.args.host)) c.run_to_pause-end.new.self.conf (Told (host_form told paused)) c.run_to_pause-end.result.0 other
     (c.run_to_pause-end.ensures.run c.requires.going))
 
@@ -36,13 +36,15 @@ returns-then-ne-clause-seen g c =
       left = form;
       did = c.run_to_pause-end.ensures.run c.requires.going;
       why = λ some. c.run_to_pause-end.ensures.paused c.requires.going (λ none. some (omega (arith, none)));
-      told = subst (λ (q : ProgramForm). Tells c.args.script.now q.whole conf form w) c.run_to_pause-end.ensures.program t;
+      at_once = λ out none some. fault_step g.W.World.is_modelled c.args.machine.now.program steps left c.args.machine.now.conf
+          (host_form told c.args.host) conf form (c.run_to_pause-end.ensures.first c.requires.going out (ap is_some none) some);
+      told = subst (λ (q : ProgramForm). Tells c.args.script.now q conf form w) c.run_to_pause-end.ensures.program t;
     }) c.seen_at-found.ensures.told
 
 pub returns-clause-did : goal.returns-clause-did
 returns-clause-did g c =
     let told = g.W.World.state in
-    let M = form_meaning g.W.World.tells in
+    let M = form_meaning g.W.World.is_modelled in
     let m = c.args.machine.now.program in
     let left = c.run_to_pause-end.result.1 in
     let start = Told (host_form told c.args.host) in
@@ -73,5 +75,7 @@ returns-clause-seen g c =
       left = form;
       did = c.run_to_pause-end.ensures.run c.requires.going;
       why = λ some. c.run_to_pause-end.ensures.paused c.requires.going (λ none. some (omega (arith, none)));
-      told = subst (λ (q : ProgramForm). Tells c.args.script.now q.whole conf form w) c.run_to_pause-end.ensures.program t;
+      at_once = λ out none some. fault_step g.W.World.is_modelled c.args.machine.now.program steps left c.args.machine.now.conf
+          (host_form told c.args.host) conf form (c.run_to_pause-end.ensures.first c.requires.going out (ap is_some none) some);
+      told = subst (λ (q : ProgramForm). Tells c.args.script.now q conf form w) c.run_to_pause-end.ensures.program t;
     }) c.seen_at-found.ensures.told

@@ -9,8 +9,8 @@ use Rattle.awk_run.proofs.whereabouts.sites_in.Goals as goal
 pub loop-number-init : goal.loop-number-init
 loop-number-init c =
     let m = c.args.machine.now in (
-      subst (AreSites (map spelled c.args.tokens.now) (view_script c.args.tree.now) m.program.whole m.conf) (sym c.new-sites.ensures.items)
-          (no_sites (map spelled c.args.tokens.now) (view_script c.args.tree.now) m.program.whole m.conf),
+      subst (AreSites (map spelled c.args.tokens.now) (view_script c.args.tree.now) m.program m.conf) (sym c.new-sites.ensures.items)
+          (no_sites (map spelled c.args.tokens.now) (view_script c.args.tree.now) m.program m.conf),
       ap length c.new-sites.ensures.items,
     )
 
@@ -24,9 +24,9 @@ loop-number-preserved c =
     let site = c.in_ok-site.site in
     let items = c.in_ok-push.ensures.items in
     let place = c.in-Some.place in
-    let stands = subst (λ n. StandsAt m.program.whole place (frame_at m.conf n)) (sym inv.1) c.in-Some.ensures in
+    let stands = subst (λ n. StandsAt m.program.whole place (frame_at m.conf n)) (sym inv.1) c.in-Some.ensures.stands in
     let size = length-append old (site ∷ []) in
     let more = ap length items in (
-      subst (AreSites tokens tree m.program.whole m.conf) (sym items) (with_site tokens tree m.program.whole m.conf old site place inv.0 stands c.in_ok-site.ensures),
+      subst (AreSites tokens tree m.program m.conf) (sym items) (with_site tokens tree m.program m.conf old site place inv.0 stands c.in_ok-site.ensures),
       (let before = inv.1 in omega (arith, more, size, before)),
     )

@@ -6,4 +6,4 @@ use Rattle.awk_run.proofs.whereabouts.sites_in.Given as goal
 
 abbrev pub invariant-loop-number : goal.invariant-loop-number
 invariant-loop-number l =
-    AreSites (map spelled l.tokens) (view_script l.tree) l.machine.program.whole l.machine.conf l.sites.items × (length l.sites.items ≡ l.number)
+    AreSites (map spelled l.tokens) (view_script l.tree) l.machine.program l.machine.conf l.sites.items × (length l.sites.items ≡ l.number)

@@ -15,5 +15,5 @@ returns-clause-sites c =
       tree,
       c.in-Ok.ensures.found,
       subst (λ ts. IsParsed (map spelled ts) tree) c.deref.ensures.value c.in-Ok-parse.ensures.parsed,
-      subst (λ ts. AreSites (map spelled ts) tree m.program.whole m.conf sites.items) c.deref-2.ensures.value are,
+      subst (λ ts. AreSites (map spelled ts) tree m.program m.conf sites.items) c.deref-2.ensures.value are,
     )) c.sites_in.ensures.sites

@@ -21,4 +21,4 @@ returns-in-Err-clause-ends g c = ends_new (Unit {0}) ℕ c.args.text.now c.in-Er
 
 pub returns-in-Err-clause-begun : goal.returns-in-Err-clause-begun
 returns-in-Err-clause-begun g c =
-    begins_opened g.W.World.tells c.args.name.now c.args.text.now c.args.append c.in_ok-id.id c.in-Err.stop _ _ _ _ c.in_ok-id.ensures.told (λ tells. (c.close.ensures.told tells).outside) c.in-Err.ensures.begun
+    begins_opened g.W.World.is_modelled c.args.name.now c.args.text.now c.args.append c.in_ok-id.id c.in-Err.stop _ _ _ _ c.in_ok-id.ensures.told (λ tells. (c.close.ensures.told tells).outside) c.in-Err.ensures.begun

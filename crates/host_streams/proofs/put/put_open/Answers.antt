@@ -1,7 +1,7 @@
 use Rattle.std.proofs.Common.{◌∙◌, Err, ap}
 use Rattle.world_core.specs.declared.world.WorldFault.TheVariants.{NoMemory}
 use Rattle.world_core.specs.WorldState.{after}
-use Rattle.host_streams.specs.Puts.{BeginsText, PutsSome}
+use Rattle.host_streams.specs.Puts.{TextPrefix, PutsSome}
 use Rattle.sem_primitives.specs.Finds.{seen}
 use Rattle.host_streams.proofs.Writing.{part_put, seen_over}
 use Rattle.host_streams.proofs.put.put_open.Goals as goal
@@ -13,5 +13,5 @@ returns-in-Err-NoMemory-clause-told g c = λ tells shared e.
 
 pub returns-in-Err-NoMemory-clause-begun : goal.returns-in-Err-NoMemory-clause-begun
 returns-in-Err-NoMemory-clause-begun g c =
-    let p : BeginsText g.W.World.tells c.args.id c.args.text.now (g.W.World.state c.args.world.now) (Err NoMemory) (g.W.World.state c.write_all.new.world) = rw c.in-Err-NoMemory.field-0-is at c.in-Err-NoMemory.ensures.begun in
+    let p : TextPrefix g.W.World.is_modelled c.args.id c.args.text.now (g.W.World.state c.args.world.now) (Err NoMemory) (g.W.World.state c.write_all.new.world) = rw c.in-Err-NoMemory.field-0-is at c.in-Err-NoMemory.ensures.begun in
     (p.0, λ tells shared e. (p.1 tells).outside ∙ ap (λ acts. after acts (g.W.World.state c.args.world.now).outside) (part_put ((g.W.World.state c.args.world.now).writers c.args.id) p.0 c.args.text.now (seen shared.inner shared.outside) (g.W.World.state c.args.world.now).outside (seen_over (g.W.World.state c.args.world.now) shared e)))

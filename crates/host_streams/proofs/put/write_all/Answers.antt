@@ -28,5 +28,5 @@ returns-in_err-n-clause-some g c =
 pub returns-in_err-n-clause-begun : goal.returns-in_err-n-clause-begun
 returns-in_err-n-clause-begun g c =
     let p = err_from_is_err_and c.from_residual.result c.from_residual.ensures.1 in rw (p.1, p.2)
-    (put_begins g.W.World.tells c.loop-at.at c.args.id c.args.text.now _ _ _ c.in_err-n.field-0.0 c.loop-at.invariant.fits c.loop-at.invariant.does
+    (put_begins g.W.World.is_modelled c.loop-at.at c.args.id c.args.text.now _ _ _ c.in_err-n.field-0.0 c.loop-at.invariant.fits c.loop-at.invariant.does
     (λ tells. subst (λ (piece : List ℕ). Writes c.args.id piece (g.W.World.state c.loop-at.world) (Err c.in_err-n.field-0.0) (g.W.World.state c.write.new.self)) (rest_is c.loop-at.at c.args.text.now) (c.in_err-n.ensures.told tells)))

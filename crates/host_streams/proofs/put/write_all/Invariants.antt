@@ -10,8 +10,8 @@ invariant-loop-at g l =
       within : l.at ≤ length l.text;
       kinds : w.kinds l.world ≡ w.kinds l.fn.world;
       count : w.count l.world ≡ w.count l.fn.world;
-      fits : w.tells → Fits l.at ((w.state l.fn.world).outside ((w.state l.fn.world).writers l.id));
-      does : w.tells → PutsPart l.at l.id l.text (w.state l.fn.world) (w.state l.world);
+      fits : w.is_modelled → Fits l.at ((w.state l.fn.world).outside ((w.state l.fn.world).writers l.id));
+      does : w.is_modelled → PutsPart l.at l.id l.text (w.state l.fn.world) (w.state l.world);
     }
 
 abbrev pub decreases-loop-at : goal.decreases-loop-at

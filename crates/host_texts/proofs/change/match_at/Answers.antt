@@ -5,8 +5,8 @@ use Rattle.std.proofs.lemmas.Result.{err_from_is_err_and}
 use Rattle.std.specs.FinMap as map
 use Rattle.awk_values.specs.declared.value.Value.{Value as AnyValue}
 use Rattle.host_step.specs.HostState.{HostState}
-use Rattle.host_values.specs.Evaluations.{Values}
-use Rattle.host_texts.specs.Evaluations.{Evaluation, NoTrap, Outcome, number_reply, settled}
+use Rattle.host_values.specs.Evaluations.{Evaluation, NoTrap, Outcome, Values}
+use Rattle.host_texts.specs.Evaluations.{number_reply, settled}
 use Rattle.host_texts.specs.States.{holding}
 use Rattle.sem_primitives.specs.TextMeaning.{match_row}
 use Rattle.host_texts.proofs.change.match_at.Goals as goal

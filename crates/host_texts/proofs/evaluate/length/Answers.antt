@@ -6,9 +6,9 @@ use Rattle.std.proofs.lemmas.Result.{err_from_is_err_and}
 use Rattle.std.specs.FinMap as map
 use Rattle.awk_values.specs.declared.value.Value.{Value as AnyValue}
 use Rattle.host_step.specs.HostState.{HostState}
-use Rattle.host_values.specs.Evaluations.{Values}
-use Rattle.host_texts.specs.Evaluations.{Evaluation, number_reply}
-use Rattle.host_texts.specs.declared.reply.Reply.TheVariants as reply
+use Rattle.host_values.specs.Evaluations.{Evaluation, Values}
+use Rattle.host_texts.specs.Evaluations.{number_reply}
+use Rattle.host_values.specs.declared.reply.Reply.TheVariants as reply
 use Rattle.sem_primitives.specs.Texts.{counted}
 use Rattle.sem_primitives.specs.TextMeaning.{length_row}
 use Rattle.host_texts.proofs.evaluate.length.Goals as goal

@@ -5,9 +5,8 @@ use Rattle.std.proofs.lemmas.Result.{err_from_is_err_and}
 use Rattle.std.specs.FinMap as map
 use Rattle.awk_values.specs.declared.value.Value.{Value as AnyValue}
 use Rattle.host_step.specs.HostState.{HostState}
-use Rattle.host_values.specs.Evaluations.{Values}
-use Rattle.host_texts.specs.Evaluations.{Evaluation, NoTrap}
-use Rattle.host_texts.specs.declared.reply.Reply.TheVariants as reply
+use Rattle.host_values.specs.Evaluations.{Evaluation, NoTrap, Values}
+use Rattle.host_values.specs.declared.reply.Reply.TheVariants as reply
 use Rattle.std.proofs.Common.{map as mapped}
 use Rattle.awk_values.specs.declared.value.Value.TheVariants as value
 use Rattle.sem_primitives.specs.TextMeaning.{lower, lower_row}

@@ -6,10 +6,10 @@ use Rattle.std.specs.FinMap as map
 use Rattle.awk_values.specs.declared.fault.Fault.{Fault}
 use Rattle.awk_values.specs.declared.value.Value.{Value as AnyValue}
 use Rattle.host_step.specs.HostState.{HostState}
-use Rattle.host_values.specs.Evaluations.{Values}
-use Rattle.host_texts.specs.Evaluations.{Evaluation, NoTrap, replied}
-use Rattle.host_texts.specs.declared.reply.Reply.{Reply}
-use Rattle.host_texts.specs.declared.reply.Reply.TheVariants as reply
+use Rattle.host_values.specs.Evaluations.{Evaluation, NoTrap, Values}
+use Rattle.host_texts.specs.Evaluations.{replied}
+use Rattle.host_values.specs.declared.reply.Reply.{Reply}
+use Rattle.host_values.specs.declared.reply.Reply.TheVariants as reply
 use Rattle.sem_primitives.specs.TextMeaning.{matches_row}
 use Rattle.host_texts.proofs.expressions.matches.Goals as goal
 

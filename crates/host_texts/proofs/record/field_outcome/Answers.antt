@@ -4,7 +4,8 @@ use Rattle.std.proofs.lemmas.Int.{to_z-of_z}
 use Rattle.sem_primitives.specs.FieldMeaning.{done}
 use Rattle.host_fields.specs.Calls.{field_set}
 use Rattle.host_texts.proofs.Outcomes.{done_stop, refused_outcome}
-use Rattle.host_texts.specs.Evaluations.{Outcome, done_reply, settled}
+use Rattle.host_texts.specs.Evaluations.{done_reply, settled}
+use Rattle.host_values.specs.Evaluations.{Outcome}
 use Rattle.host_texts.specs.States.{holding, with_texts}
 use Rattle.host_texts.proofs.record.field_outcome.Goals as goal
 

@@ -1,6 +1,6 @@
 use Rattle.std.proofs.Common.{rules, ◌≡◌, sym, ap, ◌∙◌, []}
 use Rattle.std.specs.FinMap as map
-use Rattle.host_values.specs.Calls.{spare}
+use Rattle.host_values.specs.Calls.{reserved_handle}
 use Rattle.host_values.specs.ElementCalls.{with_arrays}
 use Rattle.host_values.proofs.ArrayCalls.{clear_call}
 use Rattle.host_values.proofs.ArraySteps.{clear_traps}
@@ -18,4 +18,4 @@ returns-clause-step c f memory none =
 pub returns-clause-spare : goal.returns-clause-spare
 returns-clause-spare c free =
     let cleared : c.clear.new.self ≡ map.insert c.args.arrays.now c.in-Ok.number [] = search rules in
-    ap (λ m. map.get m spare) cleared ∙ free_still c.args.arrays.now c.in-Ok.number _ spare c.in-Ok.ensures.there free
+    ap (λ m. map.get m reserved_handle) cleared ∙ free_still c.args.arrays.now c.in-Ok.number _ reserved_handle c.in-Ok.ensures.there free

@@ -1,6 +1,6 @@
 use Rattle.std.proofs.Common.{rules, ◌≡◌, sym, ap, ◌∙◌}
 use Rattle.std.specs.FinMap as map
-use Rattle.host_values.specs.Calls.{spare}
+use Rattle.host_values.specs.Calls.{reserved_handle}
 use Rattle.host_values.proofs.Spare.{spare_removed}
 use Rattle.host_values.specs.ElementCalls.{with_arrays}
 use Rattle.host_values.proofs.KeyCalls.{argv_traps, environ_traps, free_call}
@@ -23,4 +23,4 @@ returns-clause-step c f memory =
     free_call (with_arrays f.values c.args.arrays.now f) c.free.new.self c.args.words.now memory _ (sym c.in-Ok.ensures.number) c.in-Ok.ensures.there (search rules) (search rules) freed
 
 pub returns-clause-spare : goal.returns-clause-spare
-returns-clause-spare c free = ap (λ m. map.get m spare) c.free.ensures ∙ spare_removed c.args.arrays.now _ free
+returns-clause-spare c free = ap (λ m. map.get m reserved_handle) c.free.ensures ∙ spare_removed c.args.arrays.now _ free

@@ -1,6 +1,6 @@
 use Rattle.std.proofs.Common.{rules, ◌≡◌, sym, ap, ◌∙◌}
 use Rattle.std.specs.FinMap as map
-use Rattle.host_values.specs.Calls.{spare}
+use Rattle.host_values.specs.Calls.{reserved_handle}
 use Rattle.host_values.proofs.Spare.{spare_removed}
 use Rattle.host_values.specs.ElementCalls.{with_arrays}
 use Rattle.host_values.proofs.ArrayCalls.{has_call, has_memory}
@@ -19,4 +19,4 @@ returns-clause-step c f memory none =
     has_call (with_arrays c.args.handles.now c.args.arrays.now f) c.args.words.now memory none _ _ _ (sym c.in-Ok.ensures.value) c.in-Ok.ensures.there _ _ _ gone (c.bytes.ensures ∙ c.in-Ok-key_text.ensures) (search rules)
 
 pub returns-clause-spare : goal.returns-clause-spare
-returns-clause-spare c free = ap (λ m. map.get m spare) c.take.ensures.rest ∙ spare_removed c.args.handles.now _ free
+returns-clause-spare c free = ap (λ m. map.get m reserved_handle) c.take.ensures.rest ∙ spare_removed c.args.handles.now _ free

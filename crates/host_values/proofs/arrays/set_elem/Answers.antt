@@ -1,7 +1,7 @@
 use Rattle.std.proofs.Common.{rules, ◌≡◌, Some, None, sym, ap, ◌∙◌}
 use Rattle.std.specs.FinMap as map
 use Rattle.awk_values.specs.Values.{text_of_value}
-use Rattle.host_values.specs.Calls.{spare}
+use Rattle.host_values.specs.Calls.{reserved_handle}
 use Rattle.host_values.proofs.Spare.{spare_removed}
 use Rattle.host_arrays.specs.Pairs.{pairs_at, set_pair}
 use Rattle.host_values.specs.ElementCalls.{IsPut, with_arrays}
@@ -49,7 +49,7 @@ returns-clause-step c f memory none =
     (same_some _ _ (sym held ∙ ap (λ m. map.get m c.in-Ok.read.3) gone ∙ value_held c.args.arrays.now c.args.handles.now c.args.words.now _ w.1)) put
 
 pub returns-in_default-key_text-clause-spare : goal.returns-in_default-key_text-clause-spare
-returns-in_default-key_text-clause-spare c free = ap (λ m. map.get m spare) c.take-2.ensures.rest ∙ spare_removed c.take.new.self _ (ap (λ m. map.get m spare) c.take.ensures.rest ∙ spare_removed c.args.handles.now _ free)
+returns-in_default-key_text-clause-spare c free = ap (λ m. map.get m reserved_handle) c.take-2.ensures.rest ∙ spare_removed c.take.new.self _ (ap (λ m. map.get m reserved_handle) c.take.ensures.rest ∙ spare_removed c.args.handles.now _ free)
 
 pub returns-clause-spare : goal.returns-clause-spare
-returns-clause-spare c free = ap (λ m. map.get m spare) c.take-2.ensures.rest ∙ spare_removed c.take.new.self _ (ap (λ m. map.get m spare) c.take.ensures.rest ∙ spare_removed c.args.handles.now _ free)
+returns-clause-spare c free = ap (λ m. map.get m reserved_handle) c.take-2.ensures.rest ∙ spare_removed c.take.new.self _ (ap (λ m. map.get m reserved_handle) c.take.ensures.rest ∙ spare_removed c.args.handles.now _ free)

@@ -1,6 +1,6 @@
 use Rattle.std.proofs.Common.{rules, ◌≡◌, sym, ap, ◌∙◌}
 use Rattle.std.specs.FinMap as map
-use Rattle.host_values.specs.Calls.{spare}
+use Rattle.host_values.specs.Calls.{reserved_handle}
 use Rattle.host_values.proofs.Spare.{spare_removed}
 use Rattle.host_values.specs.ElementCalls.{with_iterators}
 use Rattle.host_values.proofs.KeyCalls.{iter_free_call}
@@ -16,4 +16,4 @@ returns-clause-step c f memory =
     iter_free_call (with_iterators f.values c.args.iterators.now f) c.free.new.self c.args.words.now memory _ (sym c.in-Ok.ensures.number) freed
 
 pub returns-clause-spare : goal.returns-clause-spare
-returns-clause-spare c free = ap (λ m. map.get m spare) c.free.ensures ∙ spare_removed c.args.iterators.now _ free
+returns-clause-spare c free = ap (λ m. map.get m reserved_handle) c.free.ensures ∙ spare_removed c.args.iterators.now _ free

@@ -2,7 +2,7 @@ use Rattle.std.proofs.Common.{rules, ◌≡◌, Some, None, sym, ap, ◌∙◌}
 use Rattle.std.specs.FinMap as map
 use Rattle.host_values.specs.ElementCalls.{with_iterators}
 use Rattle.host_values.specs.Turns.{first_key, keys_at, other_keys}
-use Rattle.host_values.specs.Calls.{spare}
+use Rattle.host_values.specs.Calls.{reserved_handle}
 use Rattle.host_values.proofs.Places.{free_still}
 use Rattle.host_values.proofs.KeyCalls.{end_call, next_call, next_memory}
 use Rattle.host_values.proofs.KeySteps.{next_traps}
@@ -29,9 +29,9 @@ returns-in-Err-next-clause-step c f memory none = next_memory (with_iterators c.
 pub returns-in-Ok-Some-clause-spare_iterator : goal.returns-in-Ok-Some-clause-spare_iterator
 returns-in-Ok-Some-clause-spare_iterator c free =
     let left : c.next.new.self ≡ map.insert c.args.iterators.now c.in-Ok.number (other_keys (keys_at c.args.iterators.now c.in-Ok.number)) = search rules in
-    ap (λ m. map.get m spare) left ∙ free_still c.args.iterators.now c.in-Ok.number _ spare c.in-Ok.ensures.there free
+    ap (λ m. map.get m reserved_handle) left ∙ free_still c.args.iterators.now c.in-Ok.number _ reserved_handle c.in-Ok.ensures.there free
 
 pub returns-in-Ok-None-clause-spare_iterator : goal.returns-in-Ok-None-clause-spare_iterator
 returns-in-Ok-None-clause-spare_iterator c free =
     let left : c.next.new.self ≡ map.insert c.args.iterators.now c.in-Ok.number (other_keys (keys_at c.args.iterators.now c.in-Ok.number)) = search rules in
-    ap (λ m. map.get m spare) left ∙ free_still c.args.iterators.now c.in-Ok.number _ spare c.in-Ok.ensures.there free
+    ap (λ m. map.get m reserved_handle) left ∙ free_still c.args.iterators.now c.in-Ok.number _ reserved_handle c.in-Ok.ensures.there free

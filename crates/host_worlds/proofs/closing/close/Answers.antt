@@ -1,8 +1,8 @@
 use Rattle.std.proofs.Common.{rules, ◌≡◌, [], Some, Ok, ap, subst, sym, ◌∙◌}
 use Rattle.std.specs.FinMap as map
 use Rattle.sem_primitives.specs.declared.table.Primitive.TheVariants as row
-use Rattle.host_imports.specs.declared.import.Import.TheVariants.{Of}
-use Rattle.host_values.specs.Calls.{spare}
+use Rattle.host_imports.specs.declared.import.Import.TheVariants.{OfPrimitive}
+use Rattle.host_values.specs.Calls.{reserved_handle}
 use Rattle.host_values.proofs.Spare.{spare_removed}
 use Rattle.host_values.specs.WorldCalls.{IsCalled}
 use Rattle.host_worlds.specs.Forms.{closing}
@@ -10,10 +10,10 @@ use Rattle.host_worlds.proofs.Closings.{close_closes, close_traps, close_wants}
 use Rattle.host_worlds.proofs.closing.close.Goals as goal
 
 pub returns-in-Err-clause-step : goal.returns-in-Err-clause-step
-returns-in-Err-clause-step g c = λ f memory none. close_traps g.W.World.tells f c.args.words.now memory none c.args.handles.now c.args.streams.now (g.W.World.state c.args.world.now) c.in-Err.kind (sym c.in-Err.ensures)
+returns-in-Err-clause-step g c = λ f memory none. close_traps g.W.World.is_modelled f c.args.words.now memory none c.args.handles.now c.args.streams.now (g.W.World.state c.args.world.now) c.in-Err.kind (sym c.in-Err.ensures)
 
 pub returns-in_default-clause-step : goal.returns-in_default-clause-step
-returns-in_default-clause-step g c = λ f memory none. close_wants g.W.World.tells f c.args.words.now memory none c.args.handles.now c.args.streams.now (g.W.World.state c.args.world.now) c.in-Ok.read.0 c.in-Ok.read.1.now (sym c.in-Ok.ensures)
+returns-in_default-clause-step g c = λ f memory none. close_wants g.W.World.is_modelled f c.args.words.now memory none c.args.handles.now c.args.streams.now (g.W.World.state c.args.world.now) c.in-Ok.read.0 c.in-Ok.read.1.now (sym c.in-Ok.ensures)
 
 pub returns-clause-step : goal.returns-clause-step
 returns-clause-step g c = λ f memory none.
@@ -21,10 +21,10 @@ returns-clause-step g c = λ f memory none.
     let after = g.W.World.state c.close-closed.new.world in
     let files = c.close-closed.new.self in
     let gone : c.take.new.self ≡ map.remove c.args.handles.now c.in-Ok.read.0 = search rules in
-    subst (λ w. IsCalled g.W.World.tells (Of row.Close) (closing c.args.handles.now c.args.streams.now before f) c.args.words.now memory (Ok (Some w)) (closing c.take.new.self files after f) []) (sym c.code.ensures)
-    (close_closes g.W.World.tells f c.args.words.now memory none c.args.handles.now c.args.streams.now before c.in-Ok.read.0 c.in-Ok.read.1.now c.as_slice.result.now (sym c.in-Ok.ensures)
+    subst (λ w. IsCalled g.W.World.is_modelled (OfPrimitive row.Close) (closing c.args.handles.now c.args.streams.now before f) c.args.words.now memory (Ok (Some w)) (closing c.take.new.self files after f) []) (sym c.code.ensures)
+    (close_closes g.W.World.is_modelled f c.args.words.now memory none c.args.handles.now c.args.streams.now before c.in-Ok.read.0 c.in-Ok.read.1.now c.as_slice.result.now (sym c.in-Ok.ensures)
     (c.as_slice.ensures.value ∙ c.in-Ok-to_text.ensures.ok) c.take.new.self gone files after c.close-closed.result c.close-closed.ensures.answer
     c.close-closed.ensures.reader_names c.close-closed.ensures.writer_names c.close-closed.ensures.told c.close-closed.ensures.outside)
 
 pub returns-clause-spare : goal.returns-clause-spare
-returns-clause-spare g c free = ap (λ m. map.get m spare) c.take.ensures.rest ∙ spare_removed c.args.handles.now _ free
+returns-clause-spare g c free = ap (λ m. map.get m reserved_handle) c.take.ensures.rest ∙ spare_removed c.args.handles.now _ free

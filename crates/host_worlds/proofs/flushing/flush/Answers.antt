@@ -1,8 +1,8 @@
 use Rattle.std.proofs.Common.{rules, ◌≡◌, Some, Ok, ap, subst, sym, ◌∙◌}
 use Rattle.std.specs.FinMap as map
 use Rattle.sem_primitives.specs.declared.table.Primitive.TheVariants as row
-use Rattle.host_imports.specs.declared.import.Import.TheVariants.{Of}
-use Rattle.host_values.specs.Calls.{spare}
+use Rattle.host_imports.specs.declared.import.Import.TheVariants.{OfPrimitive}
+use Rattle.host_values.specs.Calls.{reserved_handle}
 use Rattle.host_values.proofs.Spare.{spare_removed}
 use Rattle.host_values.specs.ElementCalls.{IsTableCall}
 use Rattle.host_worlds.specs.Forms.{flushing}
@@ -21,9 +21,9 @@ pub returns-clause-step : goal.returns-clause-step
 returns-clause-step c = λ f memory none.
     let before = flushing c.args.handles.now c.args.streams.now f in
     let gone : c.take.new.self ≡ map.remove c.args.handles.now c.in-Ok.read.0 = search rules in
-    subst (λ w. IsTableCall (Of row.Flush) before c.args.words.now memory (Ok (Some w)) (flushing c.take.new.self c.args.streams.now f)) (sym c.code.ensures)
+    subst (λ w. IsTableCall (OfPrimitive row.Flush) before c.args.words.now memory (Ok (Some w)) (flushing c.take.new.self c.args.streams.now f)) (sym c.code.ensures)
     (flush_call before c.args.words.now memory none c.in-Ok.read.0 c.in-Ok.read.1.now (sym c.in-Ok.ensures) c.take.new.self c.as_slice.result.now c.is_out.result gone
     (c.as_slice.ensures.value ∙ c.in-Ok-to_text.ensures.ok) c.is_out.ensures)
 
 pub returns-clause-spare : goal.returns-clause-spare
-returns-clause-spare c free = ap (λ m. map.get m spare) c.take.ensures.rest ∙ spare_removed c.args.handles.now _ free
+returns-clause-spare c free = ap (λ m. map.get m reserved_handle) c.take.ensures.rest ∙ spare_removed c.args.handles.now _ free

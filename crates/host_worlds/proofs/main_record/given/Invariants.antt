@@ -13,13 +13,13 @@ invariant-turns g l =
     let w = g.W.World in
     record {
       held : HoldsInput l.input (w.kinds l.world);
-      goes : w.tells → WritersGo l.input.files.writers.items (w.state l.world);
-      outside : w.tells → (w.state l.world).outside ≡ (w.state l.fn.world).outside;
+      goes : w.is_modelled → WritersGo l.input.files.writers.items (w.state l.world);
+      outside : w.is_modelled → (w.state l.world).outside ≡ (w.state l.fn.world).outside;
       rest : IsMoved l.fn.input l.input;
       substituted : KeepsSubstituted l.fn.texts l.texts;
       pending : l.input.names.pending ≡ l.fn.input.names.pending;
       finds : FoundSoFar (g.O.Operands.text l.operands) l.fn.texts l.fn.input l.texts l.input;
-      told : w.tells → (inner : Inner) → OffersTexts (g.O.Operands.text l.operands) inner →
+      told : w.is_modelled → (inner : Inner) → OffersTexts (g.O.Operands.text l.operands) inner →
           main_input (w.state l.fn.world).outside (with_tables l.fn.texts l.fn.input (Over (w.state l.fn.world)) inner) ≡ main_input (w.state l.fn.world).outside (with_tables l.texts l.input (Over (w.state l.world)) inner);
     }
 

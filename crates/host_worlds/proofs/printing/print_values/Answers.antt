@@ -12,12 +12,12 @@ returns-clause-told g c = λ tells shared is.
     subst (λ xs. PutsIs (put_text c.args.to (file_name c.args.to c.args.values.now) xs (shared_with c.args.specials.now shared)) c.put_out.result (g.W.World.state c.args.world.now) (g.W.World.state c.put_out.new.world) (names_of c.args.streams.now.writers.items) (names_of c.put_out.new.streams.writers.items)) text
     (c.put_out.ensures.told tells (shared_with c.args.specials.now shared) (record { kept = is.kept; readers = is.readers; writers = is.writers; outside = is.outside }))
 
-pub returns-clause-anyhow : goal.returns-clause-anyhow
-returns-clause-anyhow g c =
+pub returns-clause-in_any_world : goal.returns-clause-in_any_world
+returns-clause-in_any_world g c =
     could_line c.args.to c.args.values.now c.args.specials.now c.as_slice.result.now (λ inner. c.as_slice.ensures.value ∙ c.in_ok-fill.ensures inner ∙ ap (printed (inner_with c.args.specials.now inner)) c.operands.ensures)
-    c.args.streams.now c.put_out.new.streams c.put_out.result c.put_out.ensures.anyhow
+    c.args.streams.now c.put_out.new.streams c.put_out.result c.put_out.ensures.in_any_world
 
 pub returns-clause-begun : goal.returns-clause-begun
 returns-clause-begun g c =
     begins_line c.args.to c.args.values.now c.args.specials.now c.as_slice.result.now (λ inner. c.as_slice.ensures.value ∙ c.in_ok-fill.ensures inner ∙ ap (printed (inner_with c.args.specials.now inner)) c.operands.ensures)
-    g.W.World.tells c.args.streams.now (g.W.World.state c.args.world.now) _ c.put_out.result c.put_out.ensures.begun
+    g.W.World.is_modelled c.args.streams.now (g.W.World.state c.args.world.now) _ c.put_out.result c.put_out.ensures.begun

@@ -614,7 +614,7 @@ sum-added-requires-clause-place t c = place_fits c.args.at.temporary c.args.at.a
 pub sum-returns : goal.sum-returns
 sum-returns t c =
     let slow = rw c.inner_at.ensures at c.anyway.ensures in
-    λ k. c.either.ensures _ _ (slow Done _ (c.new-code.ensures _)) (c.added.ensures Done) k ⨟ c.addition_unsure.ensures _
+    λ k. c.emit_if.ensures _ _ (slow Done _ (c.new-code.ensures _)) (c.added.ensures Done) k ⨟ c.addition_unsure.ensures _
 
 pub operation-returns-in-Some-addition_in-clause-emits : goal.operation-returns-in-Some-addition_in-clause-emits
 operation-returns-in-Some-addition_in-clause-emits t c = λ v. sum_emitted (view_layout c.args.layout.now) v (keeping_in c.args.keeps.now).forms
@@ -708,8 +708,8 @@ replacement-returns-clause-emits t c =
     let e = weaker (λ h. ap (map view_form) c.deref.ensures.value ∙ h) (rw c.new-forms.ensures.items at c.all_operands.ensures.forms) in
     λ v. replace_emitted (view_layout c.args.layout.now) v (keeping_in c.args.keeps.now).forms (map view_form c.deref.result.now) (keeping_in c.args.keeps.now).temporaries c.args.all
     (views c.args.operands.now) (view c.args.store.now) c.args.at.temporary c.args.at.arrays c.args.at.exit c.args.out.now c.all_operands.new.out
-    c.replaced.new.out c.either.new.out e c.all_operands.ensures.emits c.replaced.ensures
-    (c.either.ensures _ _ (c.new.ensures Done) (c.stored-store.ensures Done))
+    c.replaced.new.out c.emit_if.new.out e c.all_operands.ensures.emits c.replaced.ensures
+    (c.emit_if.ensures _ _ (c.new.ensures Done) (c.stored-store.ensures Done))
 
 -- a comparison
 
@@ -868,9 +868,9 @@ choice-branch-no-requires t c = (omega (arith, c.decreases), (c.requires.1.1.1, 
 pub choice-returns-clause-emits : goal.choice-returns-clause-emits
 choice-returns-clause-emits t c = λ v. choice_emitted (view_layout c.args.layout.now) v (keeping_in c.args.keeps.now).forms (keeping_in c.args.keeps.now).temporaries c.args.sort (view
     c.args.test.now) (view c.args.yes.now) (view c.args.no.now) (view_form c.evaluated-form.result) c.args.at.temporary c.args.at.arrays c.args.at.exit
-    c.args.out.now c.evaluated-form.new.out c.truth.new.out c.either.new.out c.evaluated-form.ensures.form c.evaluated-form.ensures.emits
+    c.args.out.now c.evaluated-form.new.out c.truth.new.out c.emit_if.new.out c.evaluated-form.ensures.form c.evaluated-form.ensures.emits
     c.truth.ensures
-    (c.either.ensures _ _ (c.branch-yes.ensures Done)
+    (c.emit_if.ensures _ _ (c.branch-yes.ensures Done)
     (c.branch-no.ensures Done))
 
 -- one after the other

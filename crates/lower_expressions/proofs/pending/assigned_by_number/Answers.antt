@@ -1,6 +1,6 @@
 use Rattle.std.proofs.Common.{◌≡◌, ℕ, suc, ◌+◌, ◌<◌, List, ◌∷◌, drop, get_or, length, map, refl, sym, ap, ◌∙◌, arith, drop-cons}
 use Rattle.wasm_types.specs.Syntax.{Instructions}
-use Rattle.mid_program.specs.Mid.{Kind, Boxed, Unboxed, Many}
+use Rattle.mid_program.specs.Mid.{Kind, Boxed, Unboxed, ArrayKind}
 use Rattle.mid_program.specs.Sorted.{kinds_of}
 use Rattle.mid_program.specs.View.{view_declared, view_kind}
 use Rattle.mid_program.specs.declared.program.Declared.{Declared}
@@ -13,7 +13,7 @@ use Rattle.lower_expressions.proofs.pending.assigned_by_number.Goals as goal
 first_assigned : (y : Layout) (kind : Kind) (i t : ℕ) (ks : List Kind) (k : Instructions) → one_assigned y kind i t (assigned_by_number y ks (suc i) t k) ≡ assigned_by_number y (kind ∷ ks) i t k
 first_assigned y Boxed i t ks k = refl
 first_assigned y Unboxed i t ks k = refl
-first_assigned y Many i t ks k = refl
+first_assigned y ArrayKind i t ks k = refl
 
 -- a name before others
 assigned_step : (y : Layout) (ds : List Declared) (i t : ℕ) (d : Declared) (k : Instructions) → i < length ds → d ≡ get_or ds i d →

@@ -2,4 +2,4 @@ use Rattle.lower_pieces.proofs.Appended.{◌⨟◌}
 use Rattle.lower_expressions.proofs.slots.text_dropped.Goals as goal
 
 pub returns : goal.returns
-returns c = λ k. (rw (c.global_handle-global.ensures, c.import_call.ensures) at c.when_all.ensures) k ⨟ (rw c.global_number.ensures at c.does_all.ensures) _
+returns c = λ k. (rw (c.global_handle-global.ensures, c.import_call.ensures) at c.when_all.ensures) k ⨟ (rw c.global_number.ensures at c.emit_all.ensures) _

@@ -13,7 +13,7 @@ use Rattle.lower_expressions.proofs.sources.joined.Goals as goal
 pub loop-name-preserved : goal.loop-name-preserved
 loop-name-preserved c = record {
   fit = (names_left c.args.names.now c.loop-name.name-index (Name 0) (omega arith) c.loop-name.invariant.fit).1;
-  emits = λ k. (rw c.name_read.ensures at c.does_all.ensures) _
+  emits = λ k. (rw c.name_read.ensures at c.emit_all.ensures) _
       ⨟ same (joined_step (name_read (view_layout c.args.layout.now)) c.args.names.now c.loop-name.name-index _ (pos c.args.shift) k (omega arith)) ⨟ c.loop-name.invariant.emits k;
 }
 

@@ -2,4 +2,4 @@ use Rattle.wasm_types.specs.Syntax.{Done}
 use Rattle.lower_pieces.proofs.numbers.bare_number.Goals as goal
 
 pub returns : goal.returns
-returns c = λ k w h. c.when.ensures _ (c.number_made.ensures Done) k w ((rw c.number.ensures at c.does_all.ensures) _ w h)
+returns c = λ k w h. c.when.ensures _ (c.number_made.ensures Done) k w ((rw c.number.ensures at c.emit_all.ensures) _ w h)

@@ -13,5 +13,5 @@ names_unsure-requires c = IfOk-weaker c.remainder_names.result _ _ (λ names e. 
 pub returns : goal.returns
 returns c = λ k.
     let inner : c.args.exit + 1 ≡ suc c.args.exit = omega arith in
-    c.either.ensures _ _ ((rw inner at c.done_alone.ensures) Done _ (c.new-all_cases.ensures _)) (c.remainder_code-quick.ensures Done) k
+    c.emit_if.ensures _ _ ((rw inner at c.done_alone.ensures) Done _ (c.new-all_cases.ensures _)) (c.remainder_code-quick.ensures Done) k
     ⨟ (rw c.most_multiplied-most.ensures.value at c.names_unsure.ensures) _ c.remainder_names.ensures _

@@ -13,5 +13,5 @@ names_unsure-requires c = IfOk-weaker c.sum_names.result _ _ (λ names e. subst 
 pub returns : goal.returns
 returns c = λ k.
     let inner : c.args.exit + 1 ≡ suc c.args.exit = omega arith in
-    c.either.ensures _ _ ((rw inner at c.summed_anyway.ensures) Done _ (c.new-all_cases.ensures _)) (c.sum_code-quick.ensures Done) k
+    c.emit_if.ensures _ _ ((rw inner at c.summed_anyway.ensures) Done _ (c.new-all_cases.ensures _)) (c.sum_code-quick.ensures Done) k
     ⨟ c.names_unsure.ensures _ c.sum_names.ensures _

@@ -5,5 +5,5 @@ use Rattle.lowering.proofs.holding.all_emptied.Goals as goal
 
 pub returns : goal.returns
 returns c = λ k.
-    c.held_emptied-3.ensures k ⨟ c.held_emptied-2.ensures _ ⨟ c.held_emptied.ensures _ ⨟ (rw c.answer.ensures at c.does_all.ensures) _
+    c.held_emptied-3.ensures k ⨟ c.held_emptied-2.ensures _ ⨟ c.held_emptied.ensures _ ⨟ (rw c.answer.ensures at c.emit_all.ensures) _
     ⨟ same (held_emptied_all (view_layout c.args.layout.now) k)

@@ -18,7 +18,7 @@ quickly_returned-returns t c = λ k.
 pub either_returned-returns : goal.either_returned-returns
 either_returned-returns t c = λ k.
     let inner : c.args.exit + 1 ≡ suc c.args.exit = omega arith in
-    c.either.ensures _ _ ((rw inner at c.returned.ensures) Done _ (c.new-so.ensures _)) ((rw inner at c.returned-2.ensures) Done _ (c.new-otherwise.ensures _)) k
+    c.emit_if.ensures _ _ ((rw inner at c.returned.ensures) Done _ (c.new-so.ensures _)) ((rw inner at c.returned-2.ensures) Done _ (c.new-otherwise.ensures _)) k
     ⨟ c.tested.ensures _
 
 pub returned-returns-in-Some : goal.returned-returns-in-Some

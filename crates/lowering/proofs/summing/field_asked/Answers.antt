@@ -8,4 +8,4 @@ use Rattle.lowering.proofs.summing.field_asked.Goals as goal
 pub returns : goal.returns
 returns c =
     let fits : FitsSigned w64 c.args.number = search rules in
-    λ k. (rw (c.number.ensures, c.cast_unsigned.ensures, to_z-of_z w64 c.args.number fits, c.row_call.ensures, c.row_call-2.ensures) at c.does_all.ensures) k ⨟ c.name_numbered.ensures _
+    λ k. (rw (c.number.ensures, c.cast_unsigned.ensures, to_z-of_z w64 c.args.number fits, c.row_call.ensures, c.row_call-2.ensures) at c.emit_all.ensures) k ⨟ c.name_numbered.ensures _

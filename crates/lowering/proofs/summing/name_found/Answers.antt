@@ -4,5 +4,5 @@ use Rattle.lowering.proofs.summing.name_found.Goals as goal
 
 pub returns : goal.returns
 returns c = λ k.
-    c.either.ensures _ _ (c.number_there.ensures Done _ (c.new-some.ensures _)) ((rw c.number-local.ensures at c.code_of-none.ensures) Done) k
+    c.emit_if.ensures _ _ (c.number_there.ensures Done _ (c.new-some.ensures _)) ((rw c.number-local.ensures at c.code_of-none.ensures) Done) k
     ⨟ (rw c.number-local.ensures at c.number_is.ensures) _

@@ -12,4 +12,4 @@ names_unsure-requires c = IfOk-weaker c.pair_names.result _ _ (λ names e. subst
 
 pub returns : goal.returns
 returns c = λ k.
-    c.either.ensures _ _ (c.test_code-all_cases.ensures Done) (c.pair_code-quick.ensures Done) k ⨟ c.names_unsure.ensures _ c.pair_names.ensures _
+    c.emit_if.ensures _ _ (c.test_code-all_cases.ensures Done) (c.pair_code-quick.ensures Done) k ⨟ c.names_unsure.ensures _ c.pair_names.ensures _

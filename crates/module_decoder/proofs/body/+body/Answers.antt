@@ -42,13 +42,13 @@ pub nested-returns-in-End : goal.nested-returns-in-End
 nested-returns-in-End t c =
     let kind = took (λ k. k) c.block_type.result (block_type_at c.args.reader.now.span c.args.reader.now.rest.now) c.take-kind.ensures.span c.take-kind.ensures.took c.block_type.ensures in
     rw c.in-If.is (one_side c.args.limit (views c.body_of-first.result.instrs.items) c.body_of-first.result.ending kind c.body_of-first.ensures c.in-End.is
-    (made_is view c.choice.result c.made-in-End.ensures.span c.made-in-End.ensures.rest c.made-in-End.ensures.made (rw c.new.ensures.items at c.choice.ensures)))
+    (made_is view c.choice.result c.made-in-End.ensures.span c.made-in-End.ensures.rest c.made-in-End.ensures.made (rw c.new-empty.ensures.items at c.choice.ensures)))
 
 pub nested-returns-in-Else : goal.nested-returns-in-Else
 nested-returns-in-Else t c =
     let kind = took (λ k. k) c.block_type.result (block_type_at c.args.reader.now.span c.args.reader.now.rest.now) c.take-kind.ensures.span c.take-kind.ensures.took c.block_type.ensures in
     rw c.in-If.is (two_sides c.args.limit (views c.body_of-first.result.instrs.items) c.body_of-first.result.ending (views c.body_of-second.result.instrs.items) c.body_of-second.result.ending kind c.body_of-first.ensures c.in-Else.is c.body_of-second.ensures c.end-in-Else.ensures
-    (made_is view c.choice-in-Else.result c.made-in-Else.ensures.span c.made-in-Else.ensures.rest c.made-in-Else.ensures.made c.choice-in-Else.ensures))
+    (made_is view c.choice-both.result c.made-in-Else.ensures.span c.made-in-Else.ensures.rest c.made-in-Else.ensures.made c.choice-both.ensures))
 
 pub instr-returns-in-Some : goal.instr-returns-in-Some
 instr-returns-in-Some t c = rw (opened c.args.reader.now.span (body_at c.args.reader.now.span c.args.limit) c.args.lead c.in-Some.opener c.args.reader.now.rest.now (sym c.opener_of.ensures ∙ c.in-Some.is)) c.nested.ensures

@@ -6,7 +6,7 @@ use Rattle.run_tasks.proofs.Moved.{moved}
 use Rattle.run_tasks.proofs.module_sight.module_seen_behind.Goals as goal
 
 pub returns-in-Ok : goal.returns-in-Ok
-returns-in-Ok g c = moved (λ job fence. Answers (g.W.World.tells × ⊥) c.args.bytes.now job c.args.task.now.steps
+returns-in-Ok g c = moved (λ job fence. Answers (g.W.World.is_modelled × ⊥) c.args.bytes.now job c.args.task.now.steps
     (behind (lets_read fence) (g.W.World.state c.args.world.inner)) c.run_module_where.result.0
     (behind (lets_read (form_of c.run_module_where.result.2.fence)) (g.W.World.state c.run_module_where.result.2.inner))) c.in-Ok.ensures c.requires c.run_module_where.ensures.answers
 

@@ -7,10 +7,10 @@ use Rattle.run_tasks.proofs.Moved.{at, moved}
 use Rattle.run_tasks.proofs.sandbox.script_behind.Goals as goal
 
 pub returns-in-Ok : goal.returns-in-Ok
-returns-in-Ok g c = moved (λ job fence. ScriptAnswers (g.W.World.tells × ⊥) c.args.task.now.subject.now job c.args.task.now.steps
+returns-in-Ok g c = moved (λ job fence. ScriptAnswers (g.W.World.is_modelled × ⊥) c.args.task.now.subject.now job c.args.task.now.steps
     (behind (lets_read fence) (g.W.World.state c.args.world.inner)) c.run_script.result.0
     (behind (lets_read (form_of c.run_script.result.1.fence)) (g.W.World.state c.run_script.result.1.inner))) c.in-Ok.ensures c.requires
-    (at (λ (script : List ℕ). ScriptAnswers (g.W.World.tells × ⊥) script (job_of c.in-Ok.job) c.args.task.now.steps
+    (at (λ (script : List ℕ). ScriptAnswers (g.W.World.is_modelled × ⊥) script (job_of c.in-Ok.job) c.args.task.now.steps
     (behind (lets_read (form_of c.args.world.fence)) (g.W.World.state c.args.world.inner)) c.run_script.result.0
     (behind (lets_read (form_of c.run_script.result.1.fence)) (g.W.World.state c.run_script.result.1.inner))) c.as_bytes-script.ensures.value c.run_script.ensures)
 

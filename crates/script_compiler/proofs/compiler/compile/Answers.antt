@@ -17,7 +17,7 @@ returns-clause-compiled c =
     (c.modules_run.ensures.spelled p sorted c.in_ok-bytes.bytes.items m parameters)
     (record { functions = c.statements_have_places.ensures.routines p; main = c.statements_have_places.ensures.main p })
     (record { statement = c.nothing_kept.ensures.statement p sorted; returned = c.nothing_kept.ensures.returned p sorted })
-    (c.statements_are_quiet.ensures p sorted typed) (c.quiet_by_the_job.ensures p sorted typed) c.statements_are_passed.ensures c.names_of_numbers_are_unboxed.ensures
+    c.statements_of_scripts_are_quiet.ensures c.scripts_are_quiet_by_the_job.ensures c.statements_are_passed.ensures c.names_of_numbers_are_unboxed.ensures
 
 pub returns-in_err-bytes-clause-refused : goal.returns-in_err-bytes-clause-refused
 returns-in_err-bytes-clause-refused c =

@@ -1,5 +1,5 @@
 use Rattle.awk_parse.specs.Marks.{mark_at}
-use Rattle.awk_parse.proofs.Went.{passes, fails_to_pass}
+use Rattle.awk_parse.proofs.ParsedLemmas.{passes, fails_to_pass}
 use Rattle.awk_parse.proofs.source.Source.expect.Goals as goal
 
 pub returns-in-Some : goal.returns-in-Some

@@ -1,7 +1,7 @@
 use Rattle.awk_grammar.specs.Reading.{name_at}
 use Rattle.awk_parse.specs.Seen.{seen}
-use Rattle.awk_parse.specs.Went.{is_read}
-use Rattle.awk_parse.proofs.Went.{fails_here, goes_on}
+use Rattle.awk_parse.specs.Parsed.{is_read}
+use Rattle.awk_parse.proofs.ParsedLemmas.{fails_here, goes_on}
 use Rattle.awk_parse.proofs.source.Source.name.Goals as goal
 
 pub returns-in_default : goal.returns-in_default

@@ -1,6 +1,6 @@
 use Rattle.std.proofs.Common.{refl, subst, sym}
 use Rattle.sem_primitives.specs.declared.table.Primitive.TheVariants as row
-use Rattle.host_imports.specs.declared.import.Import.TheVariants.{Of}
+use Rattle.host_imports.specs.declared.import.Import.TheVariants.{OfPrimitive}
 use Rattle.host_worlds.specs.Keeps.{with_end}
 use Rattle.host_values.specs.Findings.{form_finding}
 use Rattle.host_values.specs.Shown.{form_with_output}
@@ -15,7 +15,7 @@ returns g c memory =
     let state = g.W.World.state host.world in
     let before = form_in host.tables host.input state in
     let after = form_in host.tables (with_end c.begin_end.new.input.in_end host.input) state in
-    subst (λ i. ComesTo g.W.World.tells (Of row.BeginEnd) before c.args.words.now memory c.begin_end.result (form_in host.tables i state)) (sym c.begin_end.ensures.rest)
-    (plain_comes g.W.World.tells (Of row.BeginEnd) c.args.words.now memory refl before after c.begin_end.result c.requires refl refl
+    subst (λ i. ComesTo g.W.World.is_modelled (OfPrimitive row.BeginEnd) before c.args.words.now memory c.begin_end.result (form_in host.tables i state)) (sym c.begin_end.ensures.rest)
+    (plain_comes g.W.World.is_modelled (OfPrimitive row.BeginEnd) c.args.words.now memory refl before after c.begin_end.result c.requires refl refl
     (λ so_far. c.begin_end.ensures.step (form_with_output so_far before) memory c.requires)
     (λ finds outside so_far. c.begin_end.ensures.step (form_finding finds outside so_far before) memory c.requires))

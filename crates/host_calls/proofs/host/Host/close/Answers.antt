@@ -1,6 +1,6 @@
 use Rattle.std.proofs.Common.{[], refl}
 use Rattle.sem_primitives.specs.declared.table.Primitive.TheVariants as row
-use Rattle.host_imports.specs.declared.import.Import.TheVariants.{Of}
+use Rattle.host_imports.specs.declared.import.Import.TheVariants.{OfPrimitive}
 use Rattle.host_worlds.proofs.Apart.{holds_file}
 use Rattle.host_worlds.specs.Forms.{closing}
 use Rattle.host_calls.specs.Forms.{host_form}
@@ -20,7 +20,7 @@ returns g c = λ memory.
     let old = g.W.World.state was.world in
     let new = g.W.World.state c.close.new.world in
     let before = host_form g.W.World.state was in
-    files_come g.W.World.tells (Of row.Close) c.args.words.now memory refl
+    files_come g.W.World.is_modelled (OfPrimitive row.Close) c.args.words.now memory refl
     was.input (g.W.World.kinds was.world) was.held (g.met.W.World.input was.world) old new
     c.close.ensures.places before
     (closing c.close.new.handles c.close.new.streams new before) c.close.result c.requires

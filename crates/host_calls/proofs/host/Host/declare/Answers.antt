@@ -1,6 +1,6 @@
 use Rattle.std.proofs.Common.{refl}
 use Rattle.sem_primitives.specs.declared.table.Primitive.TheVariants as row
-use Rattle.host_imports.specs.declared.import.Import.TheVariants.{Of}
+use Rattle.host_imports.specs.declared.import.Import.TheVariants.{OfPrimitive}
 use Rattle.host_values.specs.Findings.{form_finding}
 use Rattle.host_values.specs.Shown.{form_with_output}
 use Rattle.host_calls.specs.Forms.{form_in}
@@ -13,6 +13,6 @@ returns g c =
     let state = g.W.World.state host.world in
     let before = form_in host.tables host.input state in
     let after = form_in host.tables (record host.input { names = c.declare.new.names }) state in
-    plain_comes g.W.World.tells (Of row.Declare) c.args.words.now c.args.memory.now refl before after c.declare.result c.requires refl refl
+    plain_comes g.W.World.is_modelled (OfPrimitive row.Declare) c.args.words.now c.args.memory.now refl before after c.declare.result c.requires refl refl
     (λ so_far. c.declare.ensures.step (form_with_output so_far before) c.requires)
     (λ finds outside so_far. c.declare.ensures.step (form_finding finds outside so_far before) c.requires)

@@ -1,6 +1,6 @@
 use Rattle.std.proofs.Common.{refl}
 use Rattle.sem_primitives.specs.declared.table.Primitive.TheVariants as row
-use Rattle.host_imports.specs.declared.import.Import.TheVariants.{Of}
+use Rattle.host_imports.specs.declared.import.Import.TheVariants.{OfPrimitive}
 use Rattle.host_values.specs.Findings.{form_finding}
 use Rattle.host_values.specs.Shown.{form_with_output}
 use Rattle.host_worlds.specs.Forms.{flushing}
@@ -14,6 +14,6 @@ returns g c memory =
     let state = g.W.World.state host.world in
     let before = form_in host.tables host.input state in
     let after = flushing c.flush.new.handles host.input.files before in
-    plain_comes g.W.World.tells (Of row.Flush) c.args.words.now memory refl before after c.flush.result c.requires refl refl
+    plain_comes g.W.World.is_modelled (OfPrimitive row.Flush) c.args.words.now memory refl before after c.flush.result c.requires refl refl
     (λ so_far. c.flush.ensures.step (form_with_output so_far before) memory c.requires)
     (λ finds outside so_far. c.flush.ensures.step (form_finding finds outside so_far before) memory c.requires)

@@ -1,6 +1,6 @@
 use Rattle.std.proofs.Common.{refl, subst, sym}
 use Rattle.sem_primitives.specs.declared.table.Primitive.TheVariants as row
-use Rattle.host_imports.specs.declared.import.Import.TheVariants.{Of}
+use Rattle.host_imports.specs.declared.import.Import.TheVariants.{OfPrimitive}
 use Rattle.host_values.specs.Forms.{HostForm}
 use Rattle.host_worlds.specs.Keeps.{with_line}
 use Rattle.host_values.specs.Findings.{form_finding}
@@ -17,7 +17,7 @@ returns g c memory =
     let before = form_in host.tables host.input state in
     let after : HostForm = record (form_in host.tables (with_line c.line.new.input.line host.input) state) { values = c.line.new.handles } in
     subst (λ i. let left : HostForm = record (form_in host.tables i state) { values = c.line.new.handles } in
-    ComesTo g.W.World.tells (Of row.Line) before c.args.words.now memory c.line.result left) (sym c.line.ensures.rest)
-    (plain_comes g.W.World.tells (Of row.Line) c.args.words.now memory refl before after c.line.result c.requires refl refl
+    ComesTo g.W.World.is_modelled (OfPrimitive row.Line) before c.args.words.now memory c.line.result left) (sym c.line.ensures.rest)
+    (plain_comes g.W.World.is_modelled (OfPrimitive row.Line) c.args.words.now memory refl before after c.line.result c.requires refl refl
     (λ so_far. c.line.ensures.step (form_with_output so_far before) memory c.requires)
     (λ finds outside so_far. c.line.ensures.step (form_finding finds outside so_far before) memory c.requires))

@@ -1,6 +1,6 @@
 use Rattle.std.proofs.Common.{[]}
 use Rattle.sem_primitives.specs.declared.table.Primitive.TheVariants as row
-use Rattle.host_imports.specs.declared.import.Import.TheVariants.{Of}
+use Rattle.host_imports.specs.declared.import.Import.TheVariants.{OfPrimitive}
 use Rattle.host_worlds.specs.States.{over_world}
 use Rattle.host_calls.specs.Forms.{host_form}
 use Rattle.host_calls.proofs.Comes.{world_comes}
@@ -11,5 +11,5 @@ returns g c = λ memory.
     let host = c.args.self.now in
     let before = host_form g.W.World.state host in
     let after = over_world host.tables.texts c.next_file.new.input (g.W.World.state c.next_file.new.world) before in
-    world_comes g.W.World.tells (Of row.NextFile) c.args.words.now memory before after c.next_file.result c.requires []
+    world_comes g.W.World.is_modelled (OfPrimitive row.NextFile) c.args.words.now memory before after c.next_file.result c.requires []
     (c.next_file.ensures.called before memory host.tables.texts c.requires)

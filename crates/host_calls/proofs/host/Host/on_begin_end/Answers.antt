@@ -1,5 +1,5 @@
 use Rattle.sem_primitives.specs.declared.table.Primitive.TheVariants as row
-use Rattle.host_imports.specs.declared.import.Import.TheVariants.{Of}
+use Rattle.host_imports.specs.declared.import.Import.TheVariants.{OfPrimitive}
 use Rattle.host_calls.specs.Forms.{host_form}
 use Rattle.host_calls.proofs.Comes.{told_comes}
 use Rattle.host_calls.proofs.host.Host.on_begin_end.Goals as goal
@@ -7,5 +7,5 @@ use Rattle.host_calls.proofs.host.Host.on_begin_end.Goals as goal
 pub returns : goal.returns
 returns g c memory =
     let state = g.W.World.state in
-    told_comes g.W.World.tells (Of row.BeginEnd) (host_form state c.args.self.now) (host_form state c.begin_end-outcome.new.self) (host_form state c.tell.new.self) c.args.words.now memory
+    told_comes g.W.World.is_modelled (OfPrimitive row.BeginEnd) (host_form state c.args.self.now) (host_form state c.begin_end-outcome.new.self) (host_form state c.tell.new.self) c.args.words.now memory
     c.begin_end-outcome.result c.tell.result c.tell.ensures.told c.tell.ensures.kept (c.begin_end-outcome.ensures memory)

@@ -1,12 +1,16 @@
-use Rattle.host_tables.specs.declared.table_call.TableCall.TheVariants.{Iter}
-use Rattle.host_calls.specs.Forms.{form_in, host_form}
-use Rattle.host_calls.proofs.Comes.{table_told}
+use Rattle.std.proofs.Common.{refl}
+use Rattle.sem_primitives.specs.declared.table.Primitive.TheVariants as row
+use Rattle.host_imports.specs.declared.import.Import.TheVariants.{OfPrimitive}
+use Rattle.host_calls.specs.Forms.{host_form}
+use Rattle.host_calls.proofs.Comes.{none_kept, plain_told}
 use Rattle.host_calls.proofs.host.Host.on_iter.Goals as goal
 
+pub iter-outcome-requires : goal.iter-outcome-requires
+iter-outcome-requires g c = none_kept (OfPrimitive row.Iter) c.args.self.now.tables.fault refl c.requires
+
 pub returns : goal.returns
-returns g c =
+returns g c memory =
     let host = c.args.self.now in
-    let state = g.W.World.state host.world in
-    table_told g.W.World.tells Iter c.args.words.now c.args.memory.now host.tables c.call-outcome.new.self host.input state c.call-outcome.result
-    c.tell.result (host_form g.W.World.state c.tell.new.self) c.tell.ensures.told c.tell.ensures.kept
-    (c.call-outcome.ensures (form_in host.tables host.input state))
+    plain_told g.W.World.is_modelled (OfPrimitive row.Iter) refl c.args.words.now memory host.tables c.iter-outcome.new.self host.input (g.W.World.state host.world)
+    c.iter-outcome.result c.tell.result (host_form g.W.World.state c.tell.new.self) c.tell.ensures.told c.tell.ensures.kept
+    (none_kept (OfPrimitive row.Iter) host.tables.fault refl c.requires) (λ f. c.iter-outcome.ensures f memory)

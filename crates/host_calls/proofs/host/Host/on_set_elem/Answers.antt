@@ -1,17 +1,16 @@
 use Rattle.std.proofs.Common.{refl}
 use Rattle.sem_primitives.specs.declared.table.Primitive.TheVariants as row
-use Rattle.host_imports.specs.declared.import.Import.TheVariants.{Of}
-use Rattle.host_tables.specs.declared.table_call.TableCall.TheVariants as call
+use Rattle.host_imports.specs.declared.import.Import.TheVariants.{OfPrimitive}
 use Rattle.host_calls.specs.Forms.{host_form}
 use Rattle.host_calls.proofs.Comes.{none_kept, plain_told}
 use Rattle.host_calls.proofs.host.Host.on_set_elem.Goals as goal
 
 pub set_elem-outcome-requires : goal.set_elem-outcome-requires
-set_elem-outcome-requires g c = none_kept (Of row.SetElem) c.args.self.now.tables.fault refl c.requires
+set_elem-outcome-requires g c = none_kept (OfPrimitive row.SetElem) c.args.self.now.tables.fault refl c.requires
 
 pub returns : goal.returns
 returns g c memory =
     let host = c.args.self.now in
-    plain_told g.W.World.tells call.SetElem c.args.words.now memory host.tables c.set_elem-outcome.new.self host.input (g.W.World.state host.world) c.set_elem-outcome.result
-    c.tell.result (host_form g.W.World.state c.tell.new.self) c.tell.ensures.told c.tell.ensures.kept
-    (none_kept (Of row.SetElem) host.tables.fault refl c.requires) (λ f. c.set_elem-outcome.ensures f memory)
+    plain_told g.W.World.is_modelled (OfPrimitive row.SetElem) refl c.args.words.now memory host.tables c.set_elem-outcome.new.self host.input (g.W.World.state host.world)
+    c.set_elem-outcome.result c.tell.result (host_form g.W.World.state c.tell.new.self) c.tell.ensures.told c.tell.ensures.kept
+    (none_kept (OfPrimitive row.SetElem) host.tables.fault refl c.requires) (λ f. c.set_elem-outcome.ensures f memory)

@@ -19,15 +19,15 @@ invariant-steps g l =
       count : w.count l.world ≡ w.count l.fn.world;
       phase : is_broken (main_phase l.self) ≡ is_broken (main_phase l.fn.self);
       ended : l.self.ended ≡ l.fn.self.ended;
-      places : w.tells → SparesPlaces l.fn.self.reading (w.kinds l.fn.world) (w.state l.fn.world) (w.state l.world);
-      outside : w.tells → (w.state l.world).outside ≡ (w.state l.fn.world).outside;
+      places : w.is_modelled → SparesPlaces l.fn.self.reading (w.kinds l.fn.world) (w.state l.fn.world) (w.state l.world);
+      outside : w.is_modelled → (w.state l.world).outside ≡ (w.state l.fn.world).outside;
       so : SoFarMain l.separator l.fn.self l.self;
       standard : StandardStays l.fn.self.reading l.fn.self.standard l.self.standard;
       skips : Skips (g.O.Operands.text l.operands) l.fn.self.next l.self.next;
       found : l.self.found ≡ l.fn.self.found;
       there : AreThere (number_of_value l.argc) l.fn.self.next l.self.next;
       finds : FoundSoFar l.separator l.argc (g.O.Operands.text l.operands) l.fn.self l.self;
-      told : w.tells → (inner : Inner) → IsAsked l.separator inner → IsOffered l.argc (g.O.Operands.text l.operands) inner →
+      told : w.is_modelled → (inner : Inner) → IsAsked l.separator inner → IsOffered l.argc (g.O.Operands.text l.operands) inner →
           main_input (w.state l.fn.world).outside (main_in l.fn.self (w.state l.fn.world) inner) ≡ main_input (w.state l.fn.world).outside (main_in l.self (w.state l.world) inner);
     }
 

@@ -29,7 +29,7 @@ returns-in-Ok-true g c =
     let fill = c.in-Ok-true.ensures in
     let now = c.fill.new.kept.items in
     let all : drop c.compact.new.self.start now ≡ now = ap (λ n. drop n now) was.start in
-    let does = λ (tells : w.tells). filled {is = id} true (w.state c.args.world.now) (w.state c.fill.new.world) c.compact.new.self.kept.items now was.id c.in-Ok-true.field-0-test (fill.told tells) in
+    let does = λ (tells : w.is_modelled). filled {is = id} true (w.state c.args.world.now) (w.state c.fill.new.world) c.compact.new.self.kept.items now was.id c.in-Ok-true.field-0-test (fill.told tells) in
     let grows : length kept < length (drop c.compact.new.self.start now) = omega (arith, fill.grows c.in-Ok-true.field-0-test, ap length was.whole, ap length all, c.fill.new.kept.ok.0, c.compact.new.self.kept.ok.0) in record {
       id = was.id;
       kinds = fill.kinds;
@@ -56,7 +56,7 @@ returns-in-Ok-false g c =
     let now = c.fill.new.kept.items in
     let all : drop c.compact.new.self.start now ≡ now = ap (λ n. drop n now) was.start in
     let same = all ∙ (fill.ended c.in-Ok-false.field-0-test ∙ was.whole) in
-    let does = λ (tells : w.tells). filled {is = id} false (w.state c.args.world.now) (w.state c.fill.new.world) c.compact.new.self.kept.items now was.id c.in-Ok-false.field-0-test (fill.told tells) in record {
+    let does = λ (tells : w.is_modelled). filled {is = id} false (w.state c.args.world.now) (w.state c.fill.new.world) c.compact.new.self.kept.items now was.id c.in-Ok-false.field-0-test (fill.told tells) in record {
       id = was.id;
       kinds = fill.kinds;
       count = fill.count;
@@ -79,7 +79,7 @@ returns-in-Err-Failed g c =
     let kept = unread c.args.self.now in
     let was = c.in_ok-compact.ensures in
     let fill = c.in-Err-Failed.ensures in
-    let does = λ (tells : w.tells). not_filled {is = id} world_fault.Failed (w.state c.args.world.now) (w.state c.fill.new.world) c.compact.new.self.kept.items c.fill.new.kept.items was.id c.in-Err-Failed.field-0-is (fill.told tells) in record {
+    let does = λ (tells : w.is_modelled). not_filled {is = id} world_fault.Failed (w.state c.args.world.now) (w.state c.fill.new.world) c.compact.new.self.kept.items c.fill.new.kept.items was.id c.in-Err-Failed.field-0-is (fill.told tells) in record {
       id = was.id;
       kinds = fill.kinds;
       count = fill.count ∙ ap (λ (x : WorldFault). next_count {T = Bool} (Err x) (w.count c.args.world.now)) c.in-Err-Failed.field-0-is;
@@ -99,7 +99,7 @@ returns-in-Err-NoMemory g c =
     let fill = c.in-Err-NoMemory.ensures in
     let rest = drop c.compact.new.self.start c.fill.new.kept.items in
     let same : rest ≡ kept = ap (λ n. drop n c.fill.new.kept.items) was.start ∙ (fill.failed ∙ was.whole) in
-    let does = λ (tells : w.tells). not_filled {is = id} world_fault.NoMemory (w.state c.args.world.now) (w.state c.fill.new.world) c.compact.new.self.kept.items c.fill.new.kept.items was.id c.in-Err-NoMemory.field-0-is (fill.told tells) in record {
+    let does = λ (tells : w.is_modelled). not_filled {is = id} world_fault.NoMemory (w.state c.args.world.now) (w.state c.fill.new.world) c.compact.new.self.kept.items c.fill.new.kept.items was.id c.in-Err-NoMemory.field-0-is (fill.told tells) in record {
       id = was.id;
       kinds = fill.kinds;
       count = fill.count ∙ ap (λ (x : WorldFault). next_count {T = Bool} (Err x) (w.count c.args.world.now)) c.in-Err-NoMemory.field-0-is;

@@ -17,8 +17,8 @@ invariant-turns g l =
       kinds : w.kinds l.world ≡ w.kinds l.fn.world;
       count : w.count l.world ≡ w.count l.fn.world;
       started : l.fn.self.phase ≢ Broken;
-      told : w.tells → left l.self ((w.state l.world).readers l.fn.self.id) ≡ left l.fn.self ((w.state l.fn.world).readers l.fn.self.id);
-      only : w.tells → OnlyReads l.fn.self.id (w.state l.fn.world) (w.state l.world);
+      told : w.is_modelled → left l.self ((w.state l.world).readers l.fn.self.id) ≡ left l.fn.self ((w.state l.fn.world).readers l.fn.self.id);
+      only : w.is_modelled → OnlyReads l.fn.self.id (w.state l.fn.world) (w.state l.world);
     }
 
 abbrev pub decreases-turns : goal.decreases-turns

@@ -188,7 +188,7 @@ returns-in-Err-Failed g c =
     let before = w.state c.args.world.now in
     let room = may_by c.args.self.now (few_streams c.args.self.now (length c.as_slice.result.now) (length c.as_slice-2.result.now) (ap length c.as_slice.ensures.value) (ap length c.as_slice-2.ensures.value) c.if-as_slice-ge-MAX_STREAMS.false) in
     let call = c.in-Err-Failed.ensures in
-    let shut = λ (tells : w.tells). subst (λ (x : WorldFault). OpensToRead c.args.name.now before (Err x) (w.state c.open_read.new.self)) c.in-Err-Failed.field-0-is (call.told tells) in
+    let shut = λ (tells : w.is_modelled). subst (λ (x : WorldFault). OpensToRead c.args.name.now before (Err x) (w.state c.open_read.new.self)) c.in-Err-Failed.field-0-is (call.told tells) in
     rw (c.reserve.ensures.items, call.not_opened) (record {
       held = c.requires.held;
       writers = refl;
@@ -212,7 +212,7 @@ returns g c =
     let before = w.state c.args.world.now in
     let room = may_by c.args.self.now (few_streams c.args.self.now (length c.as_slice.result.now) (length c.as_slice-2.result.now) (ap length c.as_slice.ensures.value) (ap length c.as_slice-2.ensures.value) c.if-as_slice-ge-MAX_STREAMS.false) in
     let call = c.in-Err-NoMemory.ensures in
-    let shut = λ (tells : w.tells). subst (λ (x : WorldFault). OpensToRead c.args.name.now before (Err x) (w.state c.open_read.new.self)) c.in-Err-NoMemory.field-0-is (call.told tells) in
+    let shut = λ (tells : w.is_modelled). subst (λ (x : WorldFault). OpensToRead c.args.name.now before (Err x) (w.state c.open_read.new.self)) c.in-Err-NoMemory.field-0-is (call.told tells) in
     rw (c.reserve.ensures.items, call.not_opened) (record {
       held = c.requires.held;
       writers = refl;

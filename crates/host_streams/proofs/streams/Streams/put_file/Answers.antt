@@ -46,7 +46,7 @@ pub returns-in-Some-clause-begun : goal.returns-in-Some-clause-begun
 returns-in-Some-clause-begun g c =
     let found = ap (writer_place c.args.name.now) (sym c.as_slice.ensures.value) ∙ sym c.in-Some.ensures in
     let state = g.W.World.state c.args.world.now in
-    begins_as g.W.World.tells (IsOver state) (IsOf c.args.self.now state) (written (state.writers c.index.result.now.id) c.args.text.now) (λ shared. written_by (is_writing c.args.name.now shared.inner.writers) c.args.name.now c.args.append c.args.text.now shared) c.put_open.result _ _
+    begins_as g.W.World.is_modelled (IsOver state) (IsOf c.args.self.now state) (written (state.writers c.index.result.now.id) c.args.text.now) (λ shared. written_by (is_writing c.args.name.now shared.inner.writers) c.args.name.now c.args.append c.args.text.now shared) c.put_open.result _ _
     (λ tells shared is. (
       record { kept = is.kept; outside = is.outside },
       ap (λ x. (written x c.args.text.now shared).added) (writer_goes c.args.name.now c.args.self.now.writers.items c.in-Some.at found c.index.result.now c.index.ensures state (c.requires.goes tells))
@@ -63,7 +63,7 @@ pub returns-in-None-clause-begun : goal.returns-in-None-clause-begun
 returns-in-None-clause-begun g c =
     let missing = ap (writer_place c.args.name.now) (sym c.as_slice.ensures.value) ∙ sym c.in-None.ensures in
     let state = g.W.World.state c.args.world.now in
-    begins_as g.W.World.tells (IsOf c.args.self.now state) (IsOf c.args.self.now state) (written_by false c.args.name.now c.args.append c.args.text.now) (λ shared. written_by (is_writing c.args.name.now shared.inner.writers) c.args.name.now c.args.append c.args.text.now shared) c.put_first.result _ _
+    begins_as g.W.World.is_modelled (IsOf c.args.self.now state) (IsOf c.args.self.now state) (written_by false c.args.name.now c.args.append c.args.text.now) (λ shared. written_by (is_writing c.args.name.now shared.inner.writers) c.args.name.now c.args.append c.args.text.now shared) c.put_first.result _ _
     (λ tells shared is. (
       is,
       sym (ap (λ b. (written_by b c.args.name.now c.args.append c.args.text.now shared).added) (ap (λ names. is_writing c.args.name.now names) is.writers ∙ writer_missing c.args.name.now c.args.self.now.writers.items missing)),

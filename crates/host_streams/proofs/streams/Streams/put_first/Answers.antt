@@ -17,7 +17,7 @@ use Rattle.std.proofs.Math.Seq.{take-append_seam}
 use Rattle.awk_values.specs.declared.fault.Fault.{Fault as AnyFault}
 use Rattle.awk_values.specs.declared.fault.Stop.{Stop}
 use Rattle.world_core.specs.WorldState.{State}
-use Rattle.sem_primitives.specs.SharedState.{Does}
+use Rattle.sem_primitives.specs.SharedState.{HostResult}
 use Rattle.host_streams.specs.Puts.{PutCounts, PutsBy}
 use Rattle.host_streams.proofs.streams.Streams.put_first.Goals as goal
 
@@ -30,7 +30,7 @@ ends_as : (text : List ℕ) (stop : Stop) → EndsPut {A = ℕ} false true text 
 ends_as text (IsFault fault) h = h
 ends_as text NoMemory h = h
 
-puts_as : (does : Does (Result (Unit {0}) AnyFault)) (stop : Stop) (old new : State) → PutsBy {A = ℕ} does (Err stop) old new → PutsBy {A = Unit {0}} does (Err stop) old new
+puts_as : (does : HostResult (Result (Unit {0}) AnyFault)) (stop : Stop) (old new : State) → PutsBy {A = ℕ} does (Err stop) old new → PutsBy {A = Unit {0}} does (Err stop) old new
 puts_as does (IsFault fault) old new h = record { answer_is = h.answer_is; outside = h.outside }
 puts_as does NoMemory old new h = h
 
@@ -84,7 +84,7 @@ returns-in_err-id-clause-begun g c =
     let writers : length c.as_slice-2.result.now ≡ length c.args.self.now.writers.items = ap length c.as_slice-2.ensures.value in
     let few : length c.args.self.now.readers.items + length c.args.self.now.writers.items < 256 = (let below = c.if-as_slice-ge-MAX_STREAMS.false in omega arith) in
     let state = g.W.World.state c.args.world.now in
-    rw (p.1, p.2) (begins_first ℕ (Unit {0}) g.W.World.tells (IsOver state) (IsOf c.args.self.now state) (λ shared. opened_if true (seen shared.inner shared.outside (Named c.args.name.now)).opens c.args.name.now c.args.append c.args.text.now shared) (written_by false c.args.name.now c.args.append c.args.text.now) c.in_err-id.field-0.0 _ _
+    rw (p.1, p.2) (begins_first ℕ (Unit {0}) g.W.World.is_modelled (IsOver state) (IsOf c.args.self.now state) (λ shared. opened_if true (seen shared.inner shared.outside (Named c.args.name.now)).opens c.args.name.now c.args.append c.args.text.now shared) (written_by false c.args.name.now c.args.append c.args.text.now) c.in_err-id.field-0.0 _ _
     (λ tells shared is. (record { kept = is.kept; outside = is.outside }, sym (ap (λ b. (opened_if b (seen shared.inner shared.outside (Named c.args.name.now)).opens c.args.name.now c.args.append c.args.text.now shared).added) (room_is c.args.self.now state shared is few)))) c.in_err-id.ensures.begun)
 
 pub returns-then-as_slice-ge-MAX_STREAMS-clause-told : goal.returns-then-as_slice-ge-MAX_STREAMS-clause-told

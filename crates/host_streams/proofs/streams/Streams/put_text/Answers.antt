@@ -30,7 +30,7 @@ returns-in-Standard-clause-ends g c = rw c.in-Standard.is (ends_open (has_room c
 pub returns-in-Standard-clause-begun : goal.returns-in-Standard-clause-begun
 returns-in-Standard-clause-begun g c =
     let state = g.W.World.state c.args.world.now in
-    rw c.in-Standard.is (begins_as g.W.World.tells (IsOver state) (IsOf c.args.self.now state) (written (state.writers 1) c.args.text.now) (put_text destination.Standard [] c.args.text.now) c.put_open.result _ _
+    rw c.in-Standard.is (begins_as g.W.World.is_modelled (IsOver state) (IsOf c.args.self.now state) (written (state.writers 1) c.args.text.now) (put_text destination.Standard [] c.args.text.now) c.put_open.result _ _
     (λ tells shared is. (record { kept = is.kept; outside = is.outside }, ap (λ x. (written x c.args.text.now shared).added) (g.met.W.World.standard c.args.world.now))) c.put_open.ensures.begun)
 
 pub returns-in-Emptied-clause-begun : goal.returns-in-Emptied-clause-begun

@@ -5,7 +5,7 @@ use Rattle.host_names.specs.Forms.{pair_of}
 use Rattle.host_tables.specs.Starts.{job_of}
 use Rattle.host_tables.specs.declared.start.FirstTables.{FirstTables}
 use Rattle.host_tables.proofs.Starting.{none_there, spare_first, stands}
-use Rattle.host_values.specs.Calls.{spare}
+use Rattle.host_values.specs.Calls.{reserved_handle}
 use Rattle.host_tables.proofs.start.FirstTables.at_start.Goals as goal
 
 pub returns-clause-stands : goal.returns-clause-stands
@@ -29,10 +29,10 @@ returns-clause-stands c input outside =
     input outside
 
 pub returns-clause-values : goal.returns-clause-values
-returns-clause-values c = ap (λ m. maps.get m spare) c.new.ensures ∙ none_there spare
+returns-clause-values c = ap (λ m. maps.get m reserved_handle) c.new.ensures ∙ none_there reserved_handle
 
 pub returns-clause-arrays : goal.returns-clause-arrays
-returns-clause-arrays c = ap (λ m. maps.get m spare) c.in_ok-arrays.ensures ∙ spare_first _ _
+returns-clause-arrays c = ap (λ m. maps.get m reserved_handle) c.in_ok-arrays.ensures ∙ spare_first _ _
 
 pub returns-clause-iterators : goal.returns-clause-iterators
-returns-clause-iterators c = ap (λ m. maps.get m spare) c.new-2.ensures ∙ none_there spare
+returns-clause-iterators c = ap (λ m. maps.get m reserved_handle) c.new-2.ensures ∙ none_there reserved_handle

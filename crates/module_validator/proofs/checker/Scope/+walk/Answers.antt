@@ -1,4 +1,4 @@
-use Rattle.std.proofs.Common.{◌∷◌, [], ap, ◌∙◌, arith}
+use Rattle.std.proofs.Common.{ℕ, ◌∷◌, [], ap, ◌∙◌, arith}
 use Rattle.std.specs.declared.vec.Vec.{Vec}
 use Rattle.std.specs.declared.alloc.Global.{Global}
 use Rattle.wasm_types.specs.declared.instr.Instr.{Instr}
@@ -15,7 +15,9 @@ pub step-returns-in-Plain-clause-follows : goal.step-returns-in-Plain-clause-fol
 step-returns-in-Plain-clause-follows t c = rw (ap view c.in-Plain.is) (simple_follows (context_of c.args.self.now) c.args.labels.now c.simple.result c.in-Plain.p c.args.stack.now c.simple.new.stack c.simple.ensures)
 
 pub step-returns-in-BrTable-clause-follows : goal.step-returns-in-BrTable-clause-follows
-step-returns-in-BrTable-clause-follows t c = rw (ap view c.in-BrTable.is) (rw c.deref.ensures.value at c.branch_table.ensures)
+step-returns-in-BrTable-clause-follows t c =
+    let labels = c.deref-in-BrTable.ensures.value ∙ ap (λ (v : Vec ℕ Global). v.items) c.deref.ensures in
+    rw (ap view c.in-BrTable.is) (rw labels at c.branch_table.ensures)
 
 pub step-returns-in_err-body-in-Block-clause-follows : goal.step-returns-in_err-body-in-Block-clause-follows
 step-returns-in_err-body-in-Block-clause-follows t c =

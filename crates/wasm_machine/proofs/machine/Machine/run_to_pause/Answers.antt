@@ -26,3 +26,7 @@ invariant_of-self-else-ne g c =
 
 pub run_to_pause-stopped-requires-clause-linked : goal.run_to_pause-stopped-requires-clause-linked
 run_to_pause-stopped-requires-clause-linked g c = rw (← c.self.view_is) at c.requires.linked
+
+pub returns-else-ne-clause-first : goal.returns-else-ne-clause-first
+returns-else-ne-clause-first g c = λ going. rw (← c.self.view_is)
+    (λ out none some. c.run_to_pause-stopped.ensures.first (told_out c.run_to_pause-stopped.result.end (c.tell-end.ensures ∙ ap Some out)) none some)

@@ -1,0 +1,4 @@
+pub mod Wrapped
+pub mod Divided
+pub mod Placed
+pub mod Remembered

@@ -1,0 +1,4 @@
+pub mod Arithmetic
+pub mod Bits
+pub mod Memory
+pub mod Examples

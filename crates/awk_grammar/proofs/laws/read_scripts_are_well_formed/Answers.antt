@@ -1,5 +1,0 @@
-use Rattle.awk_grammar.proofs.ItemSound.{script_sound}
-use Rattle.awk_grammar.proofs.laws.read_scripts_are_well_formed.Goals as goal
-
-pub returns : goal.returns
-returns c = script_sound

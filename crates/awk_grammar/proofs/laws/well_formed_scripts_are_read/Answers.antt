@@ -1,5 +1,0 @@
-use Rattle.awk_grammar.proofs.ItemComplete.{script_again}
-use Rattle.awk_grammar.proofs.laws.well_formed_scripts_are_read.Goals as goal
-
-pub returns : goal.returns
-returns c = script_again

@@ -1,5 +1,0 @@
-use Rattle.ere_syntax.proofs.Meaning.{matches_inside}
-use Rattle.ere_syntax.proofs.laws.matches_inside.Goals as goal
-
-pub returns : goal.returns
-returns c = matches_inside

@@ -1,5 +1,0 @@
-use Rattle.ere_syntax.proofs.Scans.{one_ere}
-use Rattle.ere_syntax.proofs.laws.one_tree.Goals as goal
-
-pub returns : goal.returns
-returns c = one_ere

@@ -1,0 +1,11 @@
+use Rattle.std.proofs.Common.{◌≡◌, ◌∙◌, rules}
+use Rattle.std.specs.FinMap as map
+use Rattle.host_calls.specs.Forms.{host_form}
+use Rattle.host_calls.proofs.Live.{counts}
+use Rattle.host_calls.proofs.host.Host.live_iterators.Goals as goal
+
+pub returns-clause-counted : goal.returns-clause-counted
+returns-clause-counted g c = λ s shown.
+    let form = host_form g.W.World.state c.args.self.now in
+    let is : c.live.result ≡ map.len form.iterators = search rules in
+    is ∙ (counts form s shown).iterators

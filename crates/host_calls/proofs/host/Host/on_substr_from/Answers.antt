@@ -1,0 +1,19 @@
+use Rattle.std.proofs.Common.{refl}
+use Rattle.sem_primitives.specs.declared.table.Primitive.TheVariants as row
+use Rattle.host_imports.specs.declared.import.Import.TheVariants.{OfPrimitive}
+use Rattle.host_texts.specs.Evaluations.{substr_from_evaluation}
+use Rattle.host_texts.proofs.Rows.{substr_from_comes}
+use Rattle.host_texts.specs.States.{holding}
+use Rattle.host_calls.specs.Forms.{host_form}
+use Rattle.host_calls.proofs.Comes.{none_kept, settled_means}
+use Rattle.host_calls.proofs.host.Host.on_substr_from.Goals as goal
+
+pub returns : goal.returns
+returns g c memory =
+    let host = c.args.self.now in
+    let t = host.tables in
+    settled_means g.W.World.is_modelled (OfPrimitive row.SubstrFrom) refl c.args.words.now memory t t.texts host.input (g.W.World.state host.world)
+    c.substr_from-evaluated.result substr_from_evaluation
+    (none_kept (OfPrimitive row.SubstrFrom) t.fault refl c.requires)
+    (λ s. substr_from_comes s t.handles c.args.words.now memory) (λ s. c.substr_from-evaluated.ensures (holding t.texts s))
+    c.settle.result (host_form g.W.World.state c.settle.new.self) c.settle.ensures

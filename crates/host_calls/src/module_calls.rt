@@ -1,0 +1,66 @@
+//! The calls of a module.
+ghost use Rattle.std.specs.Prelude.{◌≡◌};
+
+use crate::host::Host;
+use host_imports::Import;
+use wasm_model::{HostAnswer, HostCalls};
+use wasm_store::{Memory, TrapKind, Word};
+use wasm_types::FuncType;
+use world_core::World;
+
+/// What is answered to a number that no import has.
+#[inline(never)]
+fn unknown() -> HostAnswer
+    ensures { result ≡ HostAnswer.Trap TrapKind.BadArgument }
+{
+    HostAnswer::Trap(TrapKind::BadArgument)
+}
+
+impl<W: World> HostCalls for Host<W> {
+    ghost use Rattle.std.specs.Prelude.{false};
+    ghost use Rattle.host_values.specs.FormLaws.{form_refused, form_typed};
+    ghost use Rattle.host_values.specs.FormMeaning.{FormState, Told, form_meaning};
+    ghost use Rattle.host_calls.specs.Forms.{host_form};
+    ghost use Rattle.host_step.specs.HostLaws.{host_found};
+    ghost use Rattle.host_imports.specs.Imports.{host_finds, host_types};
+    ghost use Rattle.world_core.specs.WorldState.{Action};
+
+    ghost Output = { Action };
+
+    ghost State = { FormState };
+
+    ghost state = { λ h. Told (host_form W.state h) };
+
+    ghost meaning = { form_meaning W.is_modelled };
+
+    ghost types = { host_types };
+
+    ghost finds = { host_finds };
+
+    fn find(&self, from: &[u8], name: &[u8]) -> Option<(u32, &FuncType)> {
+        self.links.find(from, name)
+    }
+
+    // In the machine's loop, so that the answer is not copied on the way.
+    #[inline(always)]
+    fn call(&mut self, import: u32, args: &[Word], memory: &mut Memory) -> HostAnswer {
+        match Import::of_number(import) {
+            Some(import) => self.answer(import, args, memory.bytes()),
+            None => unknown(),
+        }
+    }
+
+    ghost halts = { λ _. false };
+
+    // Runs over it never pause.
+    #[inline(always)]
+    fn is_halting(&self) -> bool {
+        false
+    }
+
+    ghost found = { host_found };
+
+    ghost typed = { form_typed W.is_modelled };
+
+    ghost refused = { form_refused W.is_modelled };
+}

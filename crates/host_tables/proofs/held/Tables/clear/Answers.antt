@@ -1,5 +1,0 @@
-use Rattle.host_tables.specs.Forms.{of_tables}
-use Rattle.host_tables.proofs.held.Tables.clear.Goals as goal
-
-pub returns : goal.returns
-returns c f memory = c.clear.ensures.step (of_tables c.args.self.now f) memory c.requires

@@ -1,5 +1,0 @@
-use Rattle.host_tables.specs.Forms.{of_tables}
-use Rattle.host_tables.proofs.held.Tables.iter_next.Goals as goal
-
-pub returns : goal.returns
-returns c f memory = c.iter_next.ensures.step (of_tables c.args.self.now f) memory c.requires

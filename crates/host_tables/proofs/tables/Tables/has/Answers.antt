@@ -1,0 +1,5 @@
+use Rattle.host_tables.specs.Forms.{of_tables}
+use Rattle.host_tables.proofs.tables.Tables.has.Goals as goal
+
+pub returns : goal.returns
+returns c f memory = c.has.ensures.step (of_tables c.args.self.now f) memory c.requires

@@ -1,8 +1,0 @@
-use Rattle.host_values.proofs.Led.{unfit_led, world_means}
-use Rattle.host_values.proofs.laws.world_calls.Goals as goal
-
-pub returns-clause-called : goal.returns-clause-called
-returns-clause-called g c = world_means g.W.World.tells
-
-pub returns-clause-unfit : goal.returns-clause-unfit
-returns-clause-unfit g c = unfit_led g.W.World.tells

@@ -1,0 +1,56 @@
+//! Answers: what a call spends leaves the handles, and what is new gets one.
+ghost use Rattle.std.specs.Prelude.{◌≡◌, None};
+ghost use Rattle.std.specs.FinMap as map;
+ghost use Rattle.host_values.specs.Calls.{CarriesOut, Gives, reserved_handle};
+
+use crate::reply::{Evaluated, Reply};
+use host_handles::Handles;
+use host_step::Refusal;
+use wasm_store::Word;
+
+/// Gives an answer: a value under a new handle.
+///
+/// # Errors
+///
+/// There is no memory; nothing changes.
+#[inline(always)]
+pub fn give(handles: &mut Handles, reply: Reply) -> Result<Option<Word>, Refusal>
+    requires { map.get handles.old reserved_handle ≡ None }
+    ensures answer { Gives reply handles.old result handles.new }
+    ensures spare { map.get handles.new reserved_handle ≡ None }
+{
+    match reply {
+        Reply::Value(value) => match handles.put(value) {
+            Ok(handle) => Ok(Some(Word::I32(handle.cast_unsigned()))),
+            Err(_) => Err(Refusal::NoMemory),
+        },
+        Reply::Number(number) => Ok(Some(Word::I64(number.cast_unsigned()))),
+        Reply::Truth(truth) => Ok(Some(Word::I32(u32::from(truth)))),
+        Reply::Done => Ok(Some(Word::I32(0))),
+    }
+}
+
+/// Carries out what a call came to: what it spends leaves the handles, and what is new gets a handle.
+///
+/// # Errors
+///
+/// The refusal of the call, which changes nothing; its fault, which is to be kept; or want of memory.
+#[inline(always)]
+pub fn carry_out(
+    handles: &mut Handles,
+    evaluated: Result<Evaluated, Refusal>,
+) -> Result<Option<Word>, Refusal>
+    requires { map.get handles.old reserved_handle ≡ None }
+    ensures outcome { CarriesOut evaluated handles.old result handles.new }
+    ensures spare { map.get handles.new reserved_handle ≡ None }
+{
+    let evaluated = match evaluated {
+        Ok(evaluated) => evaluated,
+        Err(refusal) => return Err(refusal),
+    };
+    evaluated.spent.leave(handles);
+    match evaluated.outcome {
+        Ok(reply) => give(handles, reply),
+        Err(fault) => Err(Refusal::Fault(fault)),
+    }
+}

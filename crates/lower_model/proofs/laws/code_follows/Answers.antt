@@ -1,5 +1,0 @@
-use Rattle.lower_model.proofs.CodeFollows.{code_follows}
-use Rattle.lower_model.proofs.laws.code_follows.Goals as goal
-
-pub returns : goal.returns
-returns c = code_follows

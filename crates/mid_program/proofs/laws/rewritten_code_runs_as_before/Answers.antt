@@ -1,5 +1,0 @@
-use Rattle.mid_program.proofs.Runs.{runs_same}
-use Rattle.mid_program.proofs.laws.rewritten_code_runs_as_before.Goals as goal
-
-pub returns : goal.returns
-returns c = runs_same

@@ -1,5 +1,0 @@
-use Rattle.module_validator.proofs.Exact.{after_exact}
-use Rattle.module_validator.proofs.laws.after_is_exact.Goals as goal
-
-pub returns : goal.returns
-returns c = after_exact

@@ -1,5 +1,0 @@
-use Rattle.script_compiler.proofs.OneModule.{one_module}
-use Rattle.script_compiler.proofs.laws.scripts_have_one_module.Goals as goal
-
-pub returns : goal.returns
-returns c = one_module

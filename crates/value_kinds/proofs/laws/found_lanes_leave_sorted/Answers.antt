@@ -1,5 +1,0 @@
-use Rattle.value_kinds.proofs.Sound.{found_sorted}
-use Rattle.value_kinds.proofs.laws.found_lanes_leave_sorted.Goals as goal
-
-pub returns : goal.returns
-returns c = found_sorted

@@ -1,5 +1,0 @@
-use Rattle.value_kinds.proofs.Applies.{applies}
-use Rattle.value_kinds.proofs.laws.lanes_keep_the_meaning.Goals as goal
-
-pub returns : goal.returns
-returns c = applies

@@ -1,5 +1,0 @@
-use Rattle.value_kinds.proofs.Finds.{finds}
-use Rattle.value_kinds.proofs.laws.numbers_are_unboxed.Goals as goal
-
-pub returns : goal.returns
-returns c = finds

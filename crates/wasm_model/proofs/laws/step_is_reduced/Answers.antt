@@ -1,5 +1,0 @@
-use Rattle.wasm_model.proofs.Reduced.{step_is}
-use Rattle.wasm_model.proofs.laws.step_is_reduced.Goals as goal
-
-pub returns : goal.returns
-returns g c = λ m p d h k. step_is g.H.HostCalls.meaning m p d h k

@@ -1,5 +1,0 @@
-use Rattle.wasm_model.proofs.Whole.{turn_safe}
-use Rattle.wasm_model.proofs.laws.turn_safe.Goals as goal
-
-pub returns : goal.returns
-returns c = turn_safe

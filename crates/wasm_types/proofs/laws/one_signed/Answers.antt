@@ -1,5 +1,0 @@
-use Rattle.wasm_types.proofs.Groups.{signed_is_one}
-use Rattle.wasm_types.proofs.laws.one_signed.Goals as goal
-
-pub returns : goal.returns
-returns c = signed_is_one

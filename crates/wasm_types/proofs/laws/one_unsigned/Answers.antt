@@ -1,5 +1,0 @@
-use Rattle.wasm_types.proofs.Groups.{unsigned_is_one}
-use Rattle.wasm_types.proofs.laws.one_unsigned.Goals as goal
-
-pub returns : goal.returns
-returns c = unsigned_is_one
