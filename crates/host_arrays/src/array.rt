@@ -1,13 +1,14 @@
 //! One array: its pairs in the order of insertion.
-ghost use Rattle.std.specs.Prelude.{◌≡◌, ℕ, List, [], Option, Some, None, get_or, is_some, option_copied, OnOk, OnErr, IfOk, IfErr, IsSome, slice_get, true};
+ghost use Rattle.std.specs.Prelude.{◌≡◌, ℕ, List, [], Option, Some, None, get_or, is_some, option_copied, OnOk, OnErr, IfOk, IfErr, IfSome, IsSome, slice_get, true};
 ghost use Rattle.std.specs.Map.{keys_of};
 ghost use Rattle.host_arrays.specs.Pairs.{get_pair, set_pair, delete_pair, created, value_or_uninit};
 ghost use Rattle.host_arrays.specs.Order.{Changes, IsOnce, SpecHeld, StandsIn, held_in, kept_value, place_in};
 
-use crate::key::Key;
+use crate::key::{Key, Sought};
 use crate::listing::texts_of;
+use crate::near::{Near, number_in};
 use awk_values::{Bytes, Value};
-use indexmap::{Equivalent, IndexMap};
+use indexmap::IndexMap;
 use std::alloc::{AllocError, Global};
 use std::hash::RandomState;
 use std::marker::Model;
@@ -30,8 +31,7 @@ pub(crate) struct Held {
 pub(crate) struct Array {
     pairs: IndexMap<Key, Held, RandomState>,
     order: Vec<Option<Key>>,
-    /// Where in the map the key stands that was read last: most often that key is written next, and then it is not hashed again.
-    last: usize,
+    near: Near,
 }
 
 impl Model for Array {
@@ -56,12 +56,25 @@ fn copy_of(value: &Value) -> Result<Value, AllocError>
     value.clone()
 }
 
+/// What is held at a key, if the key stands at this place of the map.
+#[inline(always)]
+fn held_at<'a>(
+    pairs: &'a IndexMap<Key, Held, RandomState>,
+    place: Option<usize>,
+    key: &[u8],
+) -> Option<&'a Held>
+    ensures { IfSome result (λ held. held_in pairs.now.entries key.now ≡ Some held.now) }
+{
+    let (own, held) = pairs.get_index(place?)?;
+    if own.is(key) { Some(held) } else { None }
+}
+
 /// Whether a key stands at this place of the map.
-fn stands_in(pairs: &IndexMap<Key, Held, RandomState>, place: usize, key: &Bytes) -> bool
+fn stands_in(pairs: &IndexMap<Key, Held, RandomState>, place: usize, key: &[u8]) -> bool
     ensures { result ≡ true → StandsIn pairs.now.entries place key.now }
 {
     match pairs.get_index(place) {
-        Some(entry) => key.equivalent(entry.0),
+        Some(entry) => entry.0.is(key),
         None => false,
     }
 }
@@ -104,22 +117,22 @@ impl Array {
         Array {
             pairs: IndexMap::with_hasher(alloc, state),
             order: Vec::new(alloc),
-            last: 0,
+            near: Near::new(),
         }
     }
 
     /// Whether the key has a pair.
-    pub(crate) fn has(&self, key: &Bytes) -> bool
+    pub(crate) fn has(&self, key: &[u8]) -> bool
         ensures { result ≡ is_some (get_pair key.now self.now) }
     {
-        self.pairs.contains_key(key)
+        self.pairs.contains_key(Sought { bytes: key })
     }
 
     /// The value at a key.
-    pub(crate) fn get(&self, key: &Bytes) -> Option<&Value>
+    pub(crate) fn get(&self, key: &[u8]) -> Option<&Value>
         ensures { option_copied result ≡ get_pair key.now self.now }
     {
-        match self.pairs.get(key) {
+        match self.pairs.get(Sought { bytes: key }) {
             Some(held) => Some(&held.value),
             None => None,
         }
@@ -131,7 +144,6 @@ impl Array {
     {
         self.pairs.clear();
         self.order.clear();
-        self.last = 0;
     }
 
     /// Whether it takes little room.
@@ -140,14 +152,14 @@ impl Array {
     }
 
     /// Adds a pair of a key that has none, or hands the value back.
-    fn add(&mut self, key: &Bytes, value: Value, longest: usize) -> Result<(), Value>
+    fn add(&mut self, key: &[u8], value: Value) -> Result<(), Value>
         requires { get_pair key.now self.old ≡ None }
         ensures added { OnOk result (self.new ≡ set_pair key.now value self.old) }
         ensures refused { OnErr result (self.new ≡ self.old) }
         ensures handed_back { IfErr result (λ v. v ≡ value) }
     {
         let place = self.order.len();
-        let Ok(own) = Key::new(*self.pairs.allocator(), key, longest) else {
+        let Ok(own) = Key::new(*self.pairs.allocator(), key) else {
             return Err(value);
         };
         let Ok(listed) = own.clone() else {
@@ -166,39 +178,45 @@ impl Array {
         }
     }
 
-    /// Puts a value at a key, or hands it back. Texts may be parts of others of up to `longest` bytes.
-    pub(crate) fn set(&mut self, key: &Bytes, value: Value, longest: usize) -> Result<(), Value>
+    /// Puts a value at a key, or hands it back.
+    pub(crate) fn set(&mut self, key: &[u8], value: Value) -> Result<(), Value>
         ensures set { OnOk result (self.new ≡ set_pair key.now value self.old) }
         ensures refused { OnErr result (self.new ≡ self.old) }
         ensures handed_back { IfErr result (λ v. v ≡ value) }
     {
-        if stands_in(&self.pairs, self.last, key) {
-            write_at(&mut self.pairs, self.last, value);
+        let likely = self.near.place_to_write(number_in(key));
+        if stands_in(&self.pairs, likely, key) {
+            write_at(&mut self.pairs, likely, value);
             return Ok(());
         }
-        if let Some(held) = self.pairs.get_mut(key) {
+        if let Some(held) = self.pairs.get_mut(Sought { bytes: key }) {
             held.value = value;
             return Ok(());
         }
-        self.add(key, value, longest)
+        self.add(key, value)
     }
 
-    /// A copy of the value at a key, which is created where it is missing. Keys may be parts of texts of up to `longest` bytes.
-    pub(crate) fn get_or_create(&mut self, key: &Bytes, longest: usize) -> Result<Value, AllocError>
+    /// A copy of the value at a key, which is created where it is missing.
+    pub(crate) fn get_or_create(&mut self, key: &[u8]) -> Result<Value, AllocError>
         ensures value { IfOk result (λ v. v ≡ value_or_uninit (get_pair key.now self.old)) }
         ensures created { OnOk result (self.new ≡ created key.now self.old) }
         ensures refused { OnErr result (self.new ≡ self.old) }
     {
-        if let Some((place, _, held)) = self.pairs.get_full(key) {
+        let number = number_in(key);
+        if let Some(held) = held_at(&self.pairs, self.near.place_of(number), key) {
             let copy = copy_of(&held.value)?;
-            self.last = place;
+            return Ok(copy);
+        }
+        if let Some((place, _, held)) = self.pairs.get_full(Sought { bytes: key }) {
+            let copy = copy_of(&held.value)?;
+            self.near.see(place, number);
             return Ok(copy);
         }
         let place = self.pairs.len();
-        let Ok(()) = self.add(key, Value::Uninit, longest) else {
+        let Ok(()) = self.add(key, Value::Uninit) else {
             return Err(AllocError);
         };
-        self.last = place;
+        self.near.see(place, number);
         Ok(Value::Uninit)
     }
 
@@ -211,10 +229,10 @@ impl Array {
     }
 
     /// Takes a key out. The others keep their order.
-    pub(crate) fn delete(&mut self, key: &Bytes)
+    pub(crate) fn delete(&mut self, key: &[u8])
         ensures { self.new ≡ delete_pair key.now self.old }
     {
-        if let Some(held) = self.pairs.swap_remove(key) {
+        if let Some(held) = self.pairs.swap_remove(Sought { bytes: key }) {
             self.order[held.place] = None;
             if self.order.len() / 2 > self.pairs.len() {
                 self.sweep();

@@ -1,10 +1,10 @@
 //! The keys of an array.
 ghost use Rattle.std.specs.Prelude.{◌≡◌, ◌==◌, ◌≤◌, ◌↔◌, ◌∷◌, [], length, IfOk, IsTrue};
+ghost use Rattle.std.specs.Cmp.{on_equiv, on_per, partial_equiv_from_equiv};
 ghost use Rattle.std.specs.Cmp.Lexicographic.{pointwise, bytes_decides, nat_list_eq_equiv};
 ghost use Rattle.std.specs.Cmp.Rules.{comparing, hashing};
 ghost use Rattle.std.proofs.Common.{ap, rules};
 
-use crate::stored::stored;
 use awk_values::Bytes;
 use indexmap::Equivalent;
 use std::alloc::{AllocError, Global};
@@ -86,18 +86,18 @@ impl Model for Key {
 }
 
 impl Key {
-    /// The key that a text is. Texts may be parts of others of up to `longest` bytes.
+    /// The key of these bytes.
     ///
     /// # Errors
     ///
     /// There is no memory.
-    pub(crate) fn new(alloc: Global, text: &Bytes, longest: usize) -> Result<Key, AllocError>
-        ensures { IfOk result (λ key. key ≡ text.now) }
+    pub(crate) fn new(alloc: Global, bytes: &[u8]) -> Result<Key, AllocError>
+        ensures { IfOk result (λ key. key ≡ bytes.now) }
     {
-        let place = if text.len() <= MOST_SHORT {
-            Place::Here(Short::new(text.as_slice()))
+        let place = if bytes.len() <= MOST_SHORT {
+            Place::Here(Short::new(bytes))
         } else {
-            Place::Shared(stored(alloc, text, longest)?)
+            Place::Shared(Bytes::from_slice(alloc, bytes)?)
         };
         Ok(Key { place })
     }
@@ -110,6 +110,17 @@ impl Key {
         match &self.place {
             Place::Here(short) => short.as_slice(),
             Place::Shared(text) => text.as_slice(),
+        }
+    }
+
+    /// Whether it has these bytes.
+    #[inline(always)]
+    pub(crate) fn is(&self, bytes: &[u8]) -> bool
+        ensures { result ≡ pointwise ◌==◌ bytes.now self.now }
+    {
+        match &self.place {
+            Place::Here(short) => are_same(bytes, short.as_slice()),
+            Place::Shared(text) => bytes == text.as_slice(),
         }
     }
 
@@ -200,18 +211,45 @@ impl Hash for Key {
     }
 }
 
-// A text finds the key that has its bytes, and no key is made of it.
-impl Equivalent<Key> for &Bytes {
-    ghost equivalent = { λ text k. pointwise ◌==◌ text.now k };
+/// Bytes that find the key that has them. No key is made of them.
+#[derive(Clone, Copy)]
+pub(crate) struct Sought<'a> {
+    pub(crate) bytes: &'a [u8],
+}
 
-    ghost respects_hash = { λ text k h. ap (λ b. b ∷ []) ((bytes_decides text.now k).0 h) };
+impl<'a> PartialEq for Sought<'a> {
+    ghost eq = { λ x y. pointwise ◌==◌ x.bytes.now y.bytes.now };
 
-    ghost respects_eq = { λ text x y. nat_list_eq_equiv.congr text.now x y };
+    ghost laws = { on_per (λ s. s.bytes.now) (partial_equiv_from_equiv nat_list_eq_equiv) };
+
+    fn eq(&self, other: &Sought<'a>) -> bool {
+        self.bytes == other.bytes
+    }
+}
+
+impl<'a> Eq for Sought<'a> {
+    ghost laws = { on_equiv (λ s. s.bytes.now) nat_list_eq_equiv };
+}
+
+impl<'a> Hash for Sought<'a> {
+    ghost hash_input = { λ s. s.bytes.now ∷ [] };
+
+    ghost respects_eq = { λ x y h. ap (λ b. b ∷ []) ((bytes_decides x.bytes.now y.bytes.now).0 h) };
+
+    // As a key is hashed.
+    fn hash<H: Hasher>(&self, state: &mut H) {
+        state.write(self.bytes);
+    }
+}
+
+impl<'a> Equivalent<Key> for Sought<'a> {
+    ghost equivalent = { λ s k. pointwise ◌==◌ s.bytes.now k };
+
+    ghost respects_hash = { λ s k h. ap (λ b. b ∷ []) ((bytes_decides s.bytes.now k).0 h) };
+
+    ghost respects_eq = { λ s x y. nat_list_eq_equiv.congr s.bytes.now x y };
 
     fn equivalent(&self, key: &Key) -> bool {
-        match &key.place {
-            Place::Here(short) => are_same((*self).as_slice(), short.as_slice()),
-            Place::Shared(text) => (*self).is(text.as_slice()),
-        }
+        key.is(self.bytes)
     }
 }

@@ -4,6 +4,7 @@
 mod array;
 mod key;
 mod listing;
+mod near;
 mod stored;
 mod table;
 

@@ -49,13 +49,13 @@ fn to_keep(alloc: Global, value: Value, longest: usize) -> Result<Value, Value>
     match value {
         Value::Uninit => Ok(Value::Uninit),
         Value::Num(number) => Ok(Value::Num(number)),
-        Value::Text(text) => match stored(alloc, &text, longest) {
+        Value::Text(text) => match stored(alloc, text, longest) {
             Ok(kept) => Ok(Value::Text(kept)),
-            Err(_) => Err(Value::Text(text)),
+            Err(text) => Err(Value::Text(text)),
         },
-        Value::StrNum(text) => match stored(alloc, &text, longest) {
+        Value::StrNum(text) => match stored(alloc, text, longest) {
             Ok(kept) => Ok(Value::StrNum(kept)),
-            Err(_) => Err(Value::StrNum(text)),
+            Err(text) => Err(Value::StrNum(text)),
         },
     }
 }
@@ -157,7 +157,7 @@ impl Arrays {
     }
 
     /// Whether the array has the key (`key in a`). It creates nothing.
-    pub fn has(&self, number: i32, key: &Bytes) -> bool
+    pub fn has(&self, number: i32, key: &[u8]) -> bool
         requires { map.contains_key self.now number ≡ true }
         ensures { result ≡ is_some (get_pair key.now (pairs_at self.now number)) }
     {
@@ -165,7 +165,7 @@ impl Arrays {
     }
 
     /// The value at a key of the array; none where the number has no array, or the key no pair. It creates nothing.
-    pub fn get(&self, number: i32, key: &Bytes) -> Option<&Value>
+    pub fn get(&self, number: i32, key: &[u8]) -> Option<&Value>
         ensures { option_copied result ≡ get_pair key.now (pairs_at self.now number) }
     {
         if !self.is_array(number) {
@@ -174,18 +174,12 @@ impl Arrays {
         self.array(number).get(key)
     }
 
-    /// A copy of the value at a key of the array. A key without a pair is created uninitialised, and goes last. The key may be a part of a text of up to
-    /// `longest` bytes; what is stored of it is then a copy, unless it keeps at most 256 bytes more than twice its own in memory.
+    /// A copy of the value at a key of the array. A key without a pair is created uninitialised, and goes last.
     ///
     /// # Errors
     ///
     /// There is no memory; nothing changes.
-    pub fn get_or_create(
-        &mut self,
-        number: i32,
-        key: &Bytes,
-        longest: usize,
-    ) -> Result<Value, AllocError>
+    pub fn get_or_create(&mut self, number: i32, key: &[u8]) -> Result<Value, AllocError>
         requires { map.contains_key self.old number ≡ true }
         ensures value { IfOk result
             (λ v. v ≡ value_or_uninit (get_pair key.now (pairs_at self.old number))) }
@@ -193,11 +187,11 @@ impl Arrays {
             (self.new ≡ map.insert self.old number (created key.now (pairs_at self.old number))) }
         ensures refused { OnErr result (self.new ≡ self.old) }
     {
-        self.array_mut(number).get_or_create(key, longest)
+        self.array_mut(number).get_or_create(key)
     }
 
-    /// Puts a value at a key of the array. A key that has a pair keeps its place; a new one goes last. Key and value may be parts of texts of up to `longest`
-    /// bytes; what is stored of them is then a copy, unless it keeps at most 256 bytes more than twice its own in memory.
+    /// Puts a value at a key of the array. A key that has a pair keeps its place; a new one goes last. The value may be a part of a text of up to `longest`
+    /// bytes; what is stored of it is then a copy, unless it keeps at most 256 bytes more than twice its own in memory.
     ///
     /// # Errors
     ///
@@ -205,7 +199,7 @@ impl Arrays {
     pub fn set(
         &mut self,
         number: i32,
-        key: &Bytes,
+        key: &[u8],
         value: Value,
         longest: usize,
     ) -> Result<(), Value>
@@ -216,11 +210,11 @@ impl Arrays {
         ensures handed_back { IfErr result (λ v. v ≡ value) }
     {
         let kept = to_keep(self.alloc, value, longest)?;
-        self.array_mut(number).set(key, kept, longest)
+        self.array_mut(number).set(key, kept)
     }
 
     /// Takes a key out of the array, where it has one. The others keep their order. It takes no memory, and the time of a few calls on average.
-    pub fn delete(&mut self, number: i32, key: &Bytes)
+    pub fn delete(&mut self, number: i32, key: &[u8])
         requires { map.contains_key self.old number ≡ true }
         ensures { self.new
             ≡ map.insert self.old number (delete_pair key.now (pairs_at self.old number)) }

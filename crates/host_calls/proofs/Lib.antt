@@ -1,5 +1,6 @@
 pub mod Comes
 pub mod Faulted
+pub mod KeptFaults
 pub mod Live
 pub mod Moved
 pub mod Starting

@@ -2,6 +2,7 @@
 #![tactic(auto)]
 
 mod answers;
+pub mod fault_laws;
 mod host;
 mod inputs;
 mod looks;

@@ -25,7 +25,7 @@ impl<W: World> Host<W> {
         ensures { option_copied result
             ≡ get_pair key.now (pairs_at (host_form W.state self.now).arrays array) }
     {
-        self.tables.arrays.get(array, key)
+        self.tables.arrays.get(array, key.as_slice())
     }
 
     /// The field of a number, as the record lends it. It takes no memory.

@@ -1,9 +1,10 @@
 -- The first place at which a text stands in another.
-use Rattle.std.proofs.Common.{◌≡◌, ℕ, zero, suc, ◌+◌, ◌-◌, ◌<◌, ◌≤◌, Bool, true, false, List, [], ◌∷◌, length, drop, get_or, refl, ap, ◌∙◌, arith, sym, subst, Some, None, inl, inr}
+use Rattle.std.proofs.Common.{◌≡◌, ℕ, zero, suc, ◌+◌, ◌-◌, ◌<◌, ◌≤◌, Bool, true, false, List, [], ◌∷◌, length, drop, get_or, refl, ap, ◌∙◌, arith, sym, subst, Option, Some, None, inl, inr}
 use Rattle.std.specs.Prelude.{◌==◌, ◌&&◌, if◌then◌else◌}
 use Rattle.std.proofs.lemmas.Bool.{eqb-true, eq-eqb, false≢true, cases_Bool}
 use Rattle.std.proofs.lemmas.List.{get_or-drop, length-drop}
-use Rattle.memchr.specs.Find.{OccursAt, FindsNeedle}
+use Rattle.memchr.specs.Find.{OccursAt, FindsNeedle, IsFirstByte, Passes, is_byte}
+use Rattle.memchr.proofs.lemmas.FindLemmas.{IsFirst-agree, IsFirst-wider, OccursAt-byte, byte-OccursAt}
 use Rattle.sem_primitives.specs.Texts.{begins_with}
 use Rattle.sem_primitives.specs.TextMeaning.{place_of, place_from}
 
@@ -86,3 +87,10 @@ place_missing text wanted some h =
 pub some : (text : List ℕ) (b : Bool) → b ≡ (length text == 0) → b ≡ false → 0 < length text
 some [] b e f = absurd (false≢true (sym f ∙ e))
 some (c ∷ cs) b e f = omega arith
+
+-- a text of one byte stands where that byte does
+pub byte_found : (text wanted : List ℕ) (r : Option ℕ) → length wanted ≡ 1 → IsFirstByte (is_byte (get_or wanted 0 0)) text r → FindsNeedle text wanted 0 r
+byte_found text wanted r one h =
+    IsFirst-wider (OccursAt text wanted) 0 (length text) (length text + 1) (omega arith) (λ k q. let fits = q.fits in omega (arith, fits, one)) r
+    (IsFirst-agree (Passes (is_byte (get_or wanted 0 0)) text) (OccursAt text wanted) 0 (length text)
+    (λ k low p. OccursAt-byte text wanted one k low p) (λ k low q. byte-OccursAt text wanted one k q) r h)

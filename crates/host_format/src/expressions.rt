@@ -12,10 +12,10 @@ use std::mem::{replace, swap};
 use std::num::NonZeroUsize;
 
 /// How many are near.
-const NEAR: usize = 3;
+const NEAR: usize = 15;
 
 /// How many are kept beside the last one and those near.
-const MANY: usize = 60;
+const MANY: usize = 48;
 
 /// The matchers of the last texts that were asked for. They change no answer, so a clause sees nothing of them.
 #[derive(Drop)]

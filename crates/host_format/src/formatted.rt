@@ -14,6 +14,9 @@ use memchr::memchr;
 use std::alloc::Global;
 use std::mem;
 
+/// The least room that a new text begins with: most texts are longer than their format.
+const ROOM: usize = 24;
+
 /// Adds what a directive stands for, and gives the values that are left.
 fn put_directive<'a>(
     out: &mut Growing,
@@ -95,7 +98,7 @@ pub fn format(alloc: Global, format: &[u8], values: &[Value]) -> Result<Bytes, S
     ensures ok { IfOk result (λ text. formatted format.now values.now ≡ Ok text) }
     ensures err { IfErr result (IsStopOf (formatted format.now values.now)) }
 {
-    let mut out = Vec::with_capacity(alloc, format.len())?;
+    let mut out = Vec::with_capacity(alloc, format.len().max(ROOM))?;
     format_into(&mut out, format, values)?;
     Ok(Bytes::from_vec(out)?)
 }

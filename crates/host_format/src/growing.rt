@@ -1,10 +1,27 @@
 //! Texts that grow up to the limit.
-ghost use Rattle.std.specs.Prelude.{◌≡◌, ◌+◌, ◌≤◌, ℕ, Err, List, None, Ok, false, length, replicate, true};
+ghost use Rattle.std.specs.Prelude.{◌≡◌, ◌+◌, ◌++◌, ◌≤◌, ℕ, Err, List, None, Ok, OnOk, false, length, replicate, true};
 ghost use Rattle.sem_primitives.specs.Limits.{most_text};
 ghost use Rattle.host_format.specs.Growing.{Grows, IsAllOf};
 
 use awk_values::{Fault, Stop};
 use sem_primitives::MAX_TEXT;
+use std::alloc::AllocError;
+
+/// So few bytes are appended one by one: to copy memory is a call.
+const FEW: usize = 8;
+
+/// Appends bytes.
+fn append(to: &mut Vec<u8>, bytes: &[u8]) -> Result<(), AllocError>
+    ensures { OnOk result (to.new.items ≡ to.old.items ++ bytes.now) }
+{
+    if bytes.len() > FEW {
+        return to.extend_from_slice(bytes);
+    }
+    for byte in bytes {
+        to.push(*byte)?;
+    }
+    Ok(())
+}
 
 /// A text that is written piece by piece, and why it takes no more. From then on it takes nothing: only who asks for all of it learns why.
 #[derive(Drop)]
@@ -42,7 +59,7 @@ impl Growing {
     pub(crate) fn put(&mut self, bytes: &[u8])
         ensures { Grows self.old self.new (Ok bytes.now) }
     {
-        if self.takes(bytes.len()) && self.bytes.extend_from_slice(bytes).is_err() {
+        if self.takes(bytes.len()) && append(&mut self.bytes, bytes).is_err() {
             self.stop = Some(Stop::NoMemory);
         }
     }

@@ -2,10 +2,11 @@
 ghost use Rattle.std.specs.Prelude.{◌≡◌, ◌≤◌, ℕ, IfErr, IfOk, int_lt, length, map, nat_le, pos, slice_range};
 ghost use Rattle.sem_primitives.specs.TextMeaning.{lower, place_of, upper};
 ghost use Rattle.awk_values.specs.declared.fault.Stop.TheVariants as stops;
+ghost use Rattle.memchr.specs.Find.{FindsNeedle};
 ghost use Rattle.host_format.specs.Parts.{is_before_end, part};
 
 use awk_values::{Bytes, Stop};
-use memchr::memmem;
+use memchr::{memchr, memmem};
 use std::alloc::Global;
 
 /// How many of the text's places, counted from 1, lie before this one.
@@ -54,6 +55,16 @@ pub fn substr_span(text: &[u8], start: i64, len: Option<i64>) -> (usize, usize)
     (first, past)
 }
 
+/// The first place at which `wanted` stands in the text. A byte is looked for as such, since a search for more takes long to begin.
+fn find(text: &[u8], wanted: &[u8]) -> Option<usize>
+    ensures { FindsNeedle text.now wanted.now 0 result }
+{
+    if wanted.len() == 1 {
+        return memchr(wanted[0], text);
+    }
+    memmem::find(text, wanted)
+}
+
 /// The first place, counted from 1, at which `wanted` stands in the text; 0 where there is none, and where `wanted` is empty.
 pub fn index_of(text: &[u8], wanted: &[u8]) -> usize
     ensures { result ≡ place_of text.now wanted.now }
@@ -61,7 +72,7 @@ pub fn index_of(text: &[u8], wanted: &[u8]) -> usize
     if wanted.is_empty() {
         return 0;
     }
-    match memmem::find(text, wanted) {
+    match find(text, wanted) {
         Some(at) => at + 1,
         None => 0,
     }

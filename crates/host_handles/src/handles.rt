@@ -1,12 +1,13 @@
 //! The table of values by handle.
-ghost use Rattle.std.specs.Prelude.{◌≡◌, ◌≤ℤ◌, ◌<ℤ◌, pos, IfOk, IfErr, IfSome, IfNone, OnErr, None, option_copied};
+ghost use Rattle.std.specs.Prelude.{◌≡◌, ◌≤ℤ◌, ◌<ℤ◌, pos, IfOk, IfErr, IfSome, IfNone, OnErr, OnOk, None, option_copied};
 ghost use Rattle.std.specs.FinMap as map;
+ghost use Rattle.slab.specs.Slab.{HasRoomFor};
 ghost use Rattle.host_handles.specs.Tables.{most_slots};
 
 use crate::MAX_SLOTS;
 use awk_values::Value;
 use slab::Slab;
-use std::alloc::Global;
+use std::alloc::{AllocError, Global};
 use std::marker::Model;
 
 /// Values, each under a handle: a number from 0 to 2^31 - 2. Contracts see a finite map from handles to values.
@@ -42,6 +43,18 @@ fn slot_of(handle: i32) -> Option<usize>
     Some(handle as usize)
 }
 
+/// Makes room for one more value. Mostly there is some.
+#[inline(always)]
+fn make_room(slab: &mut Slab<Value>) -> Result<(), AllocError>
+    ensures room { OnOk result (HasRoomFor slab.new 1) }
+    ensures same { slab.new ≡ record slab.old { capacity = slab.new.capacity } }
+{
+    if slab.len() < slab.capacity() {
+        return Ok(());
+    }
+    slab.reserve(1)
+}
+
 impl Handles {
     /// A table without a value. It takes no memory.
     pub fn new(alloc: Global) -> Self
@@ -70,10 +83,10 @@ impl Handles {
         if slab.vacant_key() >= MAX_SLOTS {
             return Err(value);
         }
-        let key = match slab.insert(value) {
-            Ok(key) => key,
-            Err(failed) => return Err(failed.value),
-        };
+        if make_room(slab).is_err() {
+            return Err(value);
+        }
+        let key = slab.insert_reserved(value);
         Ok(key as i32)
     }
 

@@ -38,14 +38,7 @@ impl Tables {
         ensures { (f : HostForm) (memory : List ℕ) → IsTableCall (Import.OfPrimitive row.Elem)
             (of_tables self.old f) words.now memory result (of_tables self.new f) }
     {
-        elem(
-            &mut self.key_texts,
-            self.alloc,
-            &mut self.arrays,
-            &mut self.handles,
-            words,
-            self.texts.current_record.longest(),
-        )
+        elem(&mut self.arrays, &mut self.handles, words)
     }
 
     /// `set_elem`: gives an element a value.
@@ -60,8 +53,6 @@ impl Tables {
             (of_tables self.old f) words.now memory result (of_tables self.new f) }
     {
         set_elem(
-            &mut self.key_texts,
-            self.alloc,
             &mut self.arrays,
             &mut self.handles,
             words,
@@ -73,39 +64,27 @@ impl Tables {
     ///
     /// # Errors
     ///
-    /// A trap, which changes nothing; a fault, which is to be kept; or want of memory.
+    /// A trap, which changes nothing.
     #[inline(always)]
     pub fn has(&mut self, words: &[Word]) -> Result<Option<Word>, Refusal>
         requires { self.old.fault ≡ None }
         ensures { (f : HostForm) (memory : List ℕ) → IsTableCall (Import.OfPrimitive row.Has)
             (of_tables self.old f) words.now memory result (of_tables self.new f) }
     {
-        has(
-            &mut self.key_texts,
-            self.alloc,
-            &self.arrays,
-            &mut self.handles,
-            words,
-        )
+        has(&self.arrays, &mut self.handles, words)
     }
 
     /// `delete`: takes an element away, where there is one.
     ///
     /// # Errors
     ///
-    /// A trap, which changes nothing, or want of memory.
+    /// A trap, which changes nothing.
     pub fn delete(&mut self, words: &[Word]) -> Result<Option<Word>, Refusal>
         requires { self.old.fault ≡ None }
         ensures { (f : HostForm) (memory : List ℕ) → IsTableCall (Import.OfPrimitive row.Delete)
             (of_tables self.old f) words.now memory result (of_tables self.new f) }
     {
-        delete(
-            &mut self.key_texts,
-            self.alloc,
-            &mut self.arrays,
-            &mut self.handles,
-            words,
-        )
+        delete(&mut self.arrays, &mut self.handles, words)
     }
 
     /// `clear`: takes all elements away.

@@ -9,10 +9,10 @@ ghost use Rattle.host_format.specs.Spans.{IsInside, span_text};
 ghost use Rattle.host_values.specs.Calls.{reserved_handle};
 
 use crate::byte_texts::ByteTexts;
+use awk_text::text_of;
 use awk_values::{Bytes, Value};
 use host_arrays::Arrays;
 use host_format::Span;
-use host_values::KeyTexts;
 use std::alloc::{AllocError, Global};
 
 /// A part of a text that is longer by more than this many bytes than twice the part is copied.
@@ -20,8 +20,6 @@ const MOST_MORE: usize = 256;
 
 /// Puts a text, which is no part of another, at the key that a number is.
 pub(crate) fn put_text(
-    keys: &mut KeyTexts,
-    alloc: Global,
     arrays: &mut Arrays,
     array: i32,
     number: usize,
@@ -35,8 +33,8 @@ pub(crate) fn put_text(
     let Ok(number) = i64::try_from(number) else {
         return Err(AllocError);
     };
-    let key = keys.text(alloc, number)?;
-    match arrays.set(array, &key, Value::StrNum(text), 0) {
+    let key = text_of(number);
+    match arrays.set(array, key.as_bytes(), Value::StrNum(text), 0) {
         Ok(()) => Ok(()),
         Err(_) => Err(AllocError),
     }
@@ -64,7 +62,6 @@ fn piece(
 
 /// The array holds these parts of a text, by their numbers from 1 on, and nothing else. The text may be a part of one of up to `longest` bytes.
 pub(crate) fn fill(
-    keys: &mut KeyTexts,
     bytes: &mut ByteTexts,
     alloc: Global,
     longest: usize,
@@ -83,7 +80,7 @@ pub(crate) fn fill(
     let longest = longest.max(text.len());
     for (at, span) in spans.iter().enumerate() {
         let piece = piece(bytes, alloc, longest, text, *span)?;
-        put_text(keys, alloc, arrays, array, at + 1, piece)?;
+        put_text(arrays, array, at + 1, piece)?;
     }
     Ok(())
 }

@@ -20,13 +20,12 @@ use host_arrays::Arrays;
 use host_format::{Expressions, Span};
 use host_handles::Handles;
 use host_texts::counted;
-use host_values::{KeyTexts, Refusal};
+use host_values::Refusal;
 use std::alloc::Global;
 use wasm_store::Word;
 
 /// The array holds these parts of a text and nothing else; how many they are is answered. The text may be a part of one of up to `longest` bytes.
 fn take_pieces(
-    keys: &mut KeyTexts,
     bytes: &mut ByteTexts,
     alloc: Global,
     longest: usize,
@@ -41,7 +40,7 @@ fn take_pieces(
         (numbered 1 (map (span_text text.now) spans.now))) arrays.new }
     ensures spare { maps.get arrays.old reserved_handle ≡ None → maps.get arrays.new reserved_handle ≡ None }
 {
-    match fill(keys, bytes, alloc, longest, arrays, array, text, spans) {
+    match fill(bytes, alloc, longest, arrays, array, text, spans) {
         Ok(()) => Ok(Some(Word::I64(counted(spans.len()).cast_unsigned()))),
         Err(_) => Err(Refusal::NoMemory),
     }
@@ -54,7 +53,6 @@ fn take_pieces(
 ///
 /// A trap, which changes nothing; a fault, which is to be kept, and changes no array; or want of memory.
 pub fn split(
-    keys: &mut KeyTexts,
     bytes: &mut ByteTexts,
     alloc: Global,
     longest: usize,
@@ -80,7 +78,6 @@ pub fn split(
     handles.take(second);
     match found {
         Ok((text, spans)) => take_pieces(
-            keys,
             bytes,
             alloc,
             longest,

@@ -16,7 +16,7 @@ use host_arrays::Arrays;
 use host_handles::Handles;
 use host_names::{NamedText, Names};
 use host_texts::Texts;
-use host_values::{Iterators, KeyTexts};
+use host_values::Iterators;
 use smallvec::SmallVec;
 use std::alloc::{AllocError, Global};
 use std::hash::RandomState;
@@ -62,12 +62,11 @@ fn fill_argv(alloc: Global, arrays: &mut Arrays, operands: &[Bytes]) -> Result<(
         ≡ maps.insert arrays.old (pos 0) (arguments_from 0 (codes "awk" ∷ operands.now))) }
 {
     arrays.clear(Arrays::ARGV);
-    let mut keys = KeyTexts::new(alloc);
     let awk = Bytes::from_slice(alloc, b"awk")?;
-    put_text(&mut keys, alloc, arrays, Arrays::ARGV, 0, awk)?;
+    put_text(arrays, Arrays::ARGV, 0, awk)?;
     for (at, operand) in operands.iter().enumerate() {
         let text = copied(operand)?;
-        put_text(&mut keys, alloc, arrays, Arrays::ARGV, at + 1, text)?;
+        put_text(arrays, Arrays::ARGV, at + 1, text)?;
     }
     Ok(())
 }
@@ -81,7 +80,12 @@ fn fill_environ(arrays: &mut Arrays, environment: &[NamedText]) -> Result<(), Al
     arrays.clear(Arrays::ENVIRON);
     for pair in environment {
         let text = copied(&pair.text)?;
-        match arrays.set(Arrays::ENVIRON, &pair.name, Value::StrNum(text), 0) {
+        match arrays.set(
+            Arrays::ENVIRON,
+            pair.name.as_slice(),
+            Value::StrNum(text),
+            0,
+        ) {
             Ok(()) => {}
             Err(_) => return Err(AllocError),
         }

@@ -10,7 +10,7 @@ use crate::byte_texts::ByteTexts;
 use crate::start::FirstTables;
 use crate::tables::Tables;
 use host_names::Names;
-use host_values::{KeyTexts, Literals};
+use host_values::Literals;
 use std::alloc::Global;
 
 impl Tables {
@@ -32,7 +32,6 @@ impl Tables {
             texts: first.texts,
             arguments: first.arguments,
             literals: Literals::new(alloc),
-            key_texts: KeyTexts::new(alloc),
             byte_texts: ByteTexts::new(alloc),
             fault: first.fault,
         };

@@ -53,7 +53,6 @@ impl Tables {
             (of_tables self.old f) words.now memory result (of_tables self.new f) }
     {
         split(
-            &mut self.key_texts,
             &mut self.byte_texts,
             self.alloc,
             self.texts.current_record.longest(),

@@ -8,7 +8,7 @@ use awk_values::{Fault, Value};
 use host_arrays::Arrays;
 use host_handles::Handles;
 use host_texts::Texts;
-use host_values::{Iterators, KeyTexts, Literals};
+use host_values::{Iterators, Literals};
 use smallvec::SmallVec;
 use std::alloc::Global;
 
@@ -25,8 +25,6 @@ pub struct Tables {
     pub arguments: SmallVec<Value, 8>,
     /// The texts of literals that were asked for last.
     pub literals: Literals,
-    /// The texts of numbers that were keys last.
-    pub key_texts: KeyTexts,
     /// The texts of single bytes.
     pub byte_texts: ByteTexts,
     /// The fault that is kept.

@@ -1,5 +1,5 @@
 //! Two parts of a key.
-ghost use Rattle.std.specs.Prelude.{◌≡◌, ◌+◌, ◌++◌, IfOk, nat_le};
+ghost use Rattle.std.specs.Prelude.{◌≡◌, ◌+◌, ◌++◌, ◌≤◌, IfOk, nat_le, true};
 ghost use Rattle.sem_primitives.specs.Limits.{most_text};
 ghost use Rattle.sem_primitives.specs.ValueMeaning.{within_limit};
 ghost use Rattle.sem_primitives.specs.declared.constants.Special.{Special as AnySpecial};
@@ -20,7 +20,8 @@ use wasm_store::Word;
 
 /// Whether three texts are within the limit together.
 fn fits(left: usize, between: usize, right: usize) -> bool
-    ensures { result ≡ nat_le (left + (between + right)) most_text }
+    ensures value { result ≡ nat_le (left + (between + right)) most_text }
+    ensures within { result ≡ true → left + (between + right) ≤ most_text }
 {
     left <= MAX_TEXT
         && between <= MAX_TEXT
@@ -28,12 +29,18 @@ fn fits(left: usize, between: usize, right: usize) -> bool
         && left + (between + right) <= MAX_TEXT
 }
 
-/// The texts of two values with another between them.
-fn joined(alloc: Global, left: &Value, between: &Value, right: &Value) -> Result<Bytes, AllocError>
+/// The texts of two values with another between them, in so much room to begin with.
+fn joined(
+    alloc: Global,
+    room: usize,
+    left: &Value,
+    between: &Value,
+    right: &Value,
+) -> Result<Bytes, AllocError>
     ensures { IfOk result (λ text. text
         ≡ text_of_value left.now ++ (text_of_value between.now ++ text_of_value right.now)) }
 {
-    let mut text = Vec::new(alloc);
+    let mut text = Vec::with_capacity(alloc, room)?;
     push_text(&mut text, left)?;
     push_text(&mut text, between)?;
     push_text(&mut text, right)?;
@@ -52,10 +59,14 @@ fn join_outcome(
         texts.now.specials.values AnySpecial.Subsep) ++ text_of_value right.now))) ≡ outcome) }
 {
     let between = texts.specials.get(Special::Subsep);
-    if !fits(text_len(left), text_len(between), text_len(right)) {
+    let first = text_len(left);
+    let middle = text_len(between);
+    let last = text_len(right);
+    if !fits(first, middle, last) {
         return Ok(Err(Fault::TextLimit));
     }
-    Ok(Ok(Reply::Value(Value::Text(joined(alloc, left, between, right)?))))
+    let text = joined(alloc, first + (middle + last), left, between, right)?;
+    Ok(Ok(Reply::Value(Value::Text(text))))
 }
 
 /// A key of two texts, with SUBSEP between them.

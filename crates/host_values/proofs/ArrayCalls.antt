@@ -47,22 +47,12 @@ clear_call f arrays words memory a none reads there cleared =
 
 -- an array, and the value of a key with its handle
 module _ (f : HostForm) (words : List Word) (memory : List ℕ) (none : f.fault ≡ None) (a h : ℤ) (v : Value) (reads : array_and_value f.arrays f.values words ≡ Ok (a, h, v)) (there : map.contains_key f.arrays a ≡ true) where
-  pub delete_memory : (g : HostForm) → IsTableCall (OfPrimitive row.Delete) f words memory (Err why.NoMemory) g
-  delete_memory g =
-      wanted (OfPrimitive row.Delete) f (with_arrays (map.remove f.values h) (map.insert f.arrays a (delete_pair (text_of_value v) (pairs_at f.arrays a))) f) g words memory (Some (I32 0))
-      (λ p past. delete_goes f p words memory a h v none reads there past)
-
   pub delete_call : (values : Values) (arrays : Arrays) (key : List ℕ) → values ≡ map.remove f.values h → key ≡ text_of_value v
       → arrays ≡ map.insert f.arrays a (delete_pair key (pairs_at f.arrays a)) → IsTableCall (OfPrimitive row.Delete) f words memory (Ok (Some (I32 0))) (with_arrays values arrays f)
   delete_call values arrays key left text deleted =
       subst (λ (m : Values). IsTableCall (OfPrimitive row.Delete) f words memory (Ok (Some (I32 0))) (with_arrays m arrays f)) (sym left)
       (subst (λ (m : Arrays). IsTableCall (OfPrimitive row.Delete) f words memory (Ok (Some (I32 0))) (with_arrays (map.remove f.values h) m f)) (sym (deleted ∙ ap (λ k. map.insert f.arrays a (delete_pair k (pairs_at f.arrays a))) text))
       (leads (OfPrimitive row.Delete) f words memory (told.Done (Some (I32 0))) _ (λ p past. delete_goes f p words memory a h v none reads there past)))
-
-  pub has_memory : (g : HostForm) → IsTableCall (OfPrimitive row.Has) f words memory (Err why.NoMemory) g
-  has_memory g =
-      wanted (OfPrimitive row.Has) f (with_arrays (map.remove f.values h) f.arrays f) g words memory (Some (I32 (flag_number (is_some (get_pair (text_of_value v) (pairs_at f.arrays a))))))
-      (λ p past. has_goes f p words memory a h v none reads there past)
 
   pub has_call : (values : Values) (key : List ℕ) (n : ℕ) → values ≡ map.remove f.values h → key ≡ text_of_value v
       → n ≡ flag_number (is_some (get_pair key (pairs_at f.arrays a))) → IsTableCall (OfPrimitive row.Has) f words memory (Ok (Some (I32 n))) (with_arrays values f.arrays f)
@@ -99,7 +89,7 @@ module _ (f : HostForm) (words : List Word) (memory : List ℕ) (none : f.fault 
 
 -- an array, a key and a value
 module _ (f : HostForm) (words : List Word) (memory : List ℕ) (none : f.fault ≡ None) (a h k : ℤ) (v w : Value) (reads : array_and_two f.arrays f.values words ≡ Ok (a, h, v, k, w)) (there : map.contains_key f.arrays a ≡ true) where
-  pub set_memory : (g : HostForm) → IsTableCall (OfPrimitive row.SetElem) f words memory (Err why.NoMemory) g
+  set_memory : (g : HostForm) → IsTableCall (OfPrimitive row.SetElem) f words memory (Err why.NoMemory) g
   set_memory g =
       wanted (OfPrimitive row.SetElem) f (with_arrays (map.remove (map.remove f.values h) k) (map.insert f.arrays a (set_pair (text_of_value v) w (pairs_at f.arrays a))) f) g words memory (Some (I32 0))
       (λ p past. set_goes f p words memory a h k v w none reads there past)

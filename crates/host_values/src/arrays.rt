@@ -1,26 +1,22 @@
 //! Calls on arrays and their keys.
-ghost use Rattle.std.specs.Prelude.{◌≡◌, List, [], ℕ, IfOk, None, true};
+ghost use Rattle.std.specs.Prelude.{◌≡◌, List, [], ℕ, None, true};
 ghost use Rattle.std.specs.FinMap as map;
 ghost use Rattle.sem_primitives.specs.declared.table.Primitive.TheVariants as row;
-ghost use Rattle.awk_values.specs.Values.{text_of_value};
 ghost use Rattle.host_imports.specs.declared.import.Import.{Import};
 ghost use Rattle.host_values.specs.Calls.{reserved_handle};
 ghost use Rattle.host_values.specs.ElementCalls.{IsNumbered, IsPut, IsTableCall, with_arrays};
 ghost use Rattle.host_values.specs.Forms.{HostForm};
-ghost use Rattle.host_values.specs.Texts.{shown};
 ghost use Rattle.host_arrays.specs.Pairs.{pairs_at, set_pair};
 
 use crate::argument_words::expect_end;
+use crate::element_keys::key_text;
 use crate::element_words::{array_and_key, array_key_value, only_array};
-use crate::key_texts::KeyTexts;
 use crate::reply::Reply;
-use crate::text::{ValueText, shared_text};
 use crate::value_calls::give;
-use awk_values::{Bytes, Value};
+use awk_values::Value;
 use host_arrays::Arrays;
 use host_handles::Handles;
 use host_step::Refusal;
-use std::alloc::{AllocError, Global};
 use wasm_store::{TrapKind, Word};
 
 /// What is answered where nothing else is to be said.
@@ -56,39 +52,16 @@ pub fn new_array(arrays: &mut Arrays, words: &[Word]) -> Result<Option<Word>, Re
     }
 }
 
-/// The text of a key, which is lent where the key is a text, and kept where it is a number.
-///
-/// # Errors
-///
-/// There is no memory for the text of a number.
-#[inline(always)]
-fn key_text<'a>(
-    texts: &mut KeyTexts,
-    alloc: Global,
-    value: &'a Value,
-) -> Result<ValueText<'a>, AllocError>
-    ensures { IfOk result (λ text. shown text ≡ text_of_value value.now) }
-{
-    match value {
-        Value::Text(text) | Value::StrNum(text) => Ok(ValueText::Own(text)),
-        Value::Num(number) => Ok(ValueText::Made(texts.text(alloc, *number)?)),
-        Value::Uninit => Ok(ValueText::Made(shared_text(alloc, value)?)),
-    }
-}
-
-/// A copy of an element, which is made where there is none. Keys may be parts of texts of up to `longest` bytes.
+/// A copy of an element, which is made where there is none.
 ///
 /// # Errors
 ///
 /// A trap, which changes nothing, or want of memory.
 #[inline(always)]
 pub fn elem(
-    texts: &mut KeyTexts,
-    alloc: Global,
     arrays: &mut Arrays,
     handles: &mut Handles,
     words: &[Word],
-    longest: usize,
 ) -> Result<Option<Word>, Refusal>
     requires { map.get handles.old reserved_handle ≡ None }
     ensures step { (f : HostForm) (memory : List ℕ) → f.fault ≡ None
@@ -101,10 +74,8 @@ pub fn elem(
         Ok(read) => read,
         Err(kind) => return Err(Refusal::Trap(kind)),
     };
-    let Ok(key) = key_text(texts, alloc, value) else {
-        return Err(Refusal::NoMemory);
-    };
-    let Ok(found) = arrays.get_or_create(array, key.bytes(), longest) else {
+    let key = key_text(value);
+    let Ok(found) = arrays.get_or_create(array, key.as_slice()) else {
         return Err(Refusal::NoMemory);
     };
     drop(key);
@@ -116,7 +87,7 @@ pub fn elem(
 fn put(
     arrays: &mut Arrays,
     array: i32,
-    key: &Bytes,
+    key: &[u8],
     value: Value,
     longest: usize,
 ) -> Result<Option<Word>, Refusal>
@@ -131,15 +102,13 @@ fn put(
     }
 }
 
-/// Gives an element a value. Key and value may be parts of texts of up to `longest` bytes.
+/// Gives an element a value, which may be a part of a text of up to `longest` bytes.
 ///
 /// # Errors
 ///
 /// A trap, which changes nothing, or want of memory.
 #[inline(always)]
 pub fn set_elem(
-    texts: &mut KeyTexts,
-    alloc: Global,
     arrays: &mut Arrays,
     handles: &mut Handles,
     words: &[Word],
@@ -161,25 +130,17 @@ pub fn set_elem(
     let Some(value) = handles.take(second) else {
         unreachable!();
     };
-    let Ok(text) = key_text(texts, alloc, &key) else {
-        return Err(Refusal::NoMemory);
-    };
-    put(arrays, array, text.bytes(), value, longest)
+    let text = key_text(&key);
+    put(arrays, array, text.as_slice(), value, longest)
 }
 
 /// Whether an array has an element; none is made.
 ///
 /// # Errors
 ///
-/// A trap, which changes nothing, or want of memory.
+/// A trap, which changes nothing.
 #[inline(always)]
-pub fn has(
-    texts: &mut KeyTexts,
-    alloc: Global,
-    arrays: &Arrays,
-    handles: &mut Handles,
-    words: &[Word],
-) -> Result<Option<Word>, Refusal>
+pub fn has(arrays: &Arrays, handles: &mut Handles, words: &[Word]) -> Result<Option<Word>, Refusal>
     ensures step { (f : HostForm) (memory : List ℕ) → f.fault ≡ None
         → IsTableCall (Import.OfPrimitive row.Has) (with_arrays handles.old arrays.now f) words.now memory
         result (with_arrays handles.new arrays.now f) }
@@ -189,10 +150,8 @@ pub fn has(
         Ok(read) => read,
         Err(kind) => return Err(Refusal::Trap(kind)),
     };
-    let Ok(key) = key_text(texts, alloc, value) else {
-        return Err(Refusal::NoMemory);
-    };
-    let found = arrays.has(array, key.bytes());
+    let key = key_text(value);
+    let found = arrays.has(array, key.as_slice());
     drop(key);
     handles.take(handle);
     Ok(Some(Word::I32(u32::from(found))))
@@ -202,10 +161,8 @@ pub fn has(
 ///
 /// # Errors
 ///
-/// A trap, which changes nothing, or want of memory.
+/// A trap, which changes nothing.
 pub fn delete(
-    texts: &mut KeyTexts,
-    alloc: Global,
     arrays: &mut Arrays,
     handles: &mut Handles,
     words: &[Word],
@@ -220,10 +177,8 @@ pub fn delete(
         Ok(read) => read,
         Err(kind) => return Err(Refusal::Trap(kind)),
     };
-    let Ok(key) = key_text(texts, alloc, value) else {
-        return Err(Refusal::NoMemory);
-    };
-    arrays.delete(array, key.bytes());
+    let key = key_text(value);
+    arrays.delete(array, key.as_slice());
     drop(key);
     handles.take(handle);
     Ok(Some(DONE))

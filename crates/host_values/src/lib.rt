@@ -8,10 +8,10 @@
 mod argument_words;
 mod arrays;
 pub mod call_laws;
+mod element_keys;
 mod element_words;
 mod evaluate;
 mod iterators;
-mod key_texts;
 mod keys;
 mod literals;
 mod reply;
@@ -29,7 +29,6 @@ pub use evaluate::{
 };
 pub use host_step::Refusal;
 pub use iterators::Iterators;
-pub use key_texts::KeyTexts;
 pub use keys::{iter, iter_free, iter_next};
 pub use literals::Literals;
 pub use reply::{Evaluated, Reply};

@@ -2,7 +2,7 @@
 ghost use Rattle.std.specs.Prelude.{◌≡◌, IfOk, decimal};
 ghost use Rattle.host_worlds.specs.States.{argv_texts};
 
-use awk_text::text_of;
+use awk_text::{NumText, text_of};
 use awk_values::{Bytes, to_text};
 use host_arrays::Arrays;
 use host_streams::Operands;
@@ -16,18 +16,18 @@ pub(crate) struct Argv<'a> {
 }
 
 /// The key of a number.
-fn key_of(alloc: Global, number: u32) -> Result<Bytes, AllocError>
-    ensures { IfOk result (λ key. key ≡ decimal number) }
+fn key_of(number: u32) -> NumText
+    ensures { result ≡ decimal number }
 {
-    Bytes::from_slice(alloc, text_of(i64::from(number)).as_bytes())
+    text_of(i64::from(number))
 }
 
 /// The text of an element of ARGV, empty where there is none.
 fn argv_text(alloc: Global, arrays: &Arrays, number: u32) -> Result<Bytes, AllocError>
     ensures { IfOk result (λ text. text ≡ argv_texts arrays.now number) }
 {
-    let key = key_of(alloc, number)?;
-    match arrays.get(Arrays::ARGV, &key) {
+    let key = key_of(number);
+    match arrays.get(Arrays::ARGV, key.as_bytes()) {
         Some(value) => match to_text(alloc, value) {
             Ok(text) => Ok(text),
             Err(_) => Err(AllocError),

@@ -127,10 +127,10 @@ module _ (p : Program) (deepest : Observer) (ks : List Kind) (F : List Frame) (b
       fast q = added (layout p deepest ks F b M n) q t NoMore
 
       -- in all cases
-      anyway : Reached p deepest ks F b M (31 + (works_of es + extra_of es)) σ.turns (at ks [] K1 (laid b l) F slow S) P Q outcome
+      anyway : Reached p deepest ks F b M (42 + (works_of es + extra_of es)) σ.turns (at ks [] K1 (laid b l) F slow S) P Q outcome
       anyway =
-          within (machine p deepest ks F) M ((30 + (works_of es + extra_of es)) + 1) (31 + (works_of es + extra_of es)) σ.turns _ P Q outcome (omega arith)
-          (blocked p deepest ks F b M (30 + (works_of es + extra_of es)) σ.turns d k K _ (Done p deepest ks F b M n v (Do (Inline o) es) fs env ts st t u w NoMore K1 l σ) P outcome (λ x τ c h. done_closes v (Do (Inline o) es) fs env ts st t u w k K l σ x τ c h)
+          within (machine p deepest ks F) M ((41 + (works_of es + extra_of es)) + 1) (42 + (works_of es + extra_of es)) σ.turns _ P Q outcome (omega arith)
+          (blocked p deepest ks F b M (41 + (works_of es + extra_of es)) σ.turns d k K _ (Done p deepest ks F b M n v (Do (Inline o) es) fs env ts st t u w NoMore K1 l σ) P outcome (λ x τ c h. done_closes v (Do (Inline o) es) fs env ts st t u w k K l σ x τ c h)
           (plainly_calculated p deepest ks F b M n o es ok v fs env ts st t u w (suc d) NoMore K1 l σ so us rm ar rd))
 
       sums : (q : Addition) → AdditionIs fs o es q → AllSure σ (pos (2 ^ 52)) (2 ^ 53) (addition_names q) → Reached p deepest ks F b M 5 σ.turns (at ks [] K1 (laid b l) F (fast q) S) P Q outcome
@@ -150,19 +150,19 @@ module _ (p : Program) (deepest : Observer) (ks : List Kind) (F : List Frame) (b
           (put_word p deepest ks F b M t u w (number_word y) a_number k K l y σ (refl, refl) rd.fit)))
 
       chosen : (q : Addition) → AdditionIs fs o es q → (f : Bool) → all_flag σ (pos (2 ^ 52)) (2 ^ 53) (addition_names q) ≡ f →
-          Reached p deepest ks F b M (31 + (works_of es + extra_of es)) σ.turns (at ks [] K1 (laid b l) F (cond (nat_eq (if f then 1 else 0) 0) (fast q) slow) S) P Q outcome
+          Reached p deepest ks F b M (42 + (works_of es + extra_of es)) σ.turns (at ks [] K1 (laid b l) F (cond (nat_eq (if f then 1 else 0) 0) (fast q) slow) S) P Q outcome
       chosen q a true eq = anyway
-      chosen q a false eq = within (machine p deepest ks F) M 5 (31 + (works_of es + extra_of es)) σ.turns _ P Q outcome (omega arith) (sums q a (all_sure (addition_names q) (pos (2 ^ 52)) (2 ^ 53) σ (omega arith) (omega arith) eq))
+      chosen q a false eq = within (machine p deepest ks F) M 5 (42 + (works_of es + extra_of es)) σ.turns _ P Q outcome (omega arith) (sums q a (all_sure (addition_names q) (pos (2 ^ 52)) (2 ^ 53) σ (omega arith) (omega arith) eq))
 
       by : (r : Option Addition) → addition_in (Inline o) es ≡ r → Reached p deepest ks F b M (work_of (Do (Inline o) es)) σ.turns (at ks [] K (laid b l) F (added_or (layout p deepest ks F b M n) r t slow k (plain d k)) S) P Q outcome
       by None eq =
-          within (machine p deepest ks F) M (30 + (works_of es + extra_of es)) (work_of (Do (Inline o) es)) σ.turns _ P Q outcome (omega arith)
+          within (machine p deepest ks F) M (41 + (works_of es + extra_of es)) (work_of (Do (Inline o) es)) σ.turns _ P Q outcome (omega arith)
           (plainly_calculated p deepest ks F b M n o es ok v fs env ts st t u w d k K l σ so us rm ar rd)
       by (Some q) eq =
           let a = addition_is fs o es q eq so in
           let few = two_few q.left q.right in
           let unboxed = addition_unboxed fs o es q a in
           let f = all_flag σ (pos (2 ^ 52)) (2 ^ 53) (addition_names q) in
-          first (machine p deepest ks F) M (all_steps (addition_names q) + 1) (31 + (works_of es + extra_of es)) (work_of (Do (Inline o) es)) σ.turns _ _ P Q outcome
+          first (machine p deepest ks F) M (all_steps (addition_names q) + 1) (42 + (works_of es + extra_of es)) (work_of (Do (Inline o) es)) σ.turns _ _ P Q outcome
           (then_goes (all_unsure_ok p deepest ks F b M n _ _ (addition_names q) (pos (2 ^ 52)) (2 ^ 53) t u w l σ unboxed rd.parameters rd.fit) (chooses slow (fast q) (if f then 1 else 0))) (omega (arith, few))
           (chosen q a f refl)

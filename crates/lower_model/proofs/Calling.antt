@@ -18,7 +18,7 @@ use Rattle.sem_scripts.specs.ScriptState.{State, Stop, Faulted, OutOfTurns, TooD
 use Rattle.mid_program.specs.Sorted.{sorted, all_sorted, held_after_all, fits, is_given, fit_call, is_array_place, context_of, calls_of, kinds_of}
 use Rattle.lower_model.specs.Cells.{Cell, Bits, Held, OwnedArray, LentArray, Gone, is_owned, has_owner}
 use Rattle.lower_model.specs.Emission.{array_meant, emitted, all_emitted, all_given, all_given_pushed, all_freed, function_number}
-use Rattle.lower_model.specs.Machine.{Conf, Deep, Label, Frame, at, br, owner_waits, loops_walked, waits}
+use Rattle.lower_model.specs.Machine.{Conf, Deep, Label, Frame, array_kinds, at, br, owner_waits, loops_walked, makes_few, waits}
 use Rattle.lower_model.specs.Noted.{noted_called}
 use Rattle.lower_model.specs.Places.{Bases, made_in, arrays_among as arrays_in_codes}
 use Rattle.lower_model.specs.Small.{emit, answer_kept}
@@ -38,7 +38,22 @@ use Rattle.lower_model.proofs.Setting.{number_of_form, number_boxed, number_held
 use Rattle.lower_model.proofs.Arguments.{Under, under_self, under_then, under_keeps, onto_reverse}
 use Rattle.lower_model.proofs.Operands.{all_held_same}
 use Rattle.lower_model.proofs.Simulation.{work_of, works_of, extra_of, past, made_past, past_from, made_from, past_room, layout, context, all_meant, Done, ExprOk, AllHeld, AllDone, CodesOk, walking_same}
-use Rattle.lower_model.proofs.Waiting.{freed_after, waits_there}
+use Rattle.lower_model.proofs.Waiting.{freed_after, makes_few_there, waits_there}
+
+-- an array is made for nothing but an array that the function is given
+made_given : (fs : List Form) (pks : List Kind) (es : Codes) → fit_call fs pks es ≡ true → made_in es ≤ array_kinds pks
+made_given fs [] End e = omega arith
+made_given fs (Boxed ∷ pks) (At c es) e =
+    let r = made_given fs pks es (and_parts (is_given (form_of fs c) Boxed) (fit_call fs pks es) e).1 in
+    omega (arith, r)
+made_given fs (Unboxed ∷ pks) (At c es) e =
+    let r = made_given fs pks es (and_parts (is_given (form_of fs c) Unboxed) (fit_call fs pks es) e).1 in
+    omega (arith, r)
+made_given fs (ArrayKind ∷ pks) (At c es) e =
+    let r = made_given fs pks es (and_parts (is_given (form_of fs c) ArrayKind) (fit_call fs pks es) e).1 in
+    omega (arith, r)
+made_given fs (ArrayKind ∷ pks) (Fresh es) e = let r = made_given fs pks es e in omega (arith, r)
+made_given fs pks es e = absurd (true≢false (sym e))
 
 -- what an unboxed parameter is given is a number, or nothing yet
 unboxed_given : (f : Form) (x : Holds f) (t : ℕ) (l : Locals) → is_given f Unboxed ≡ true → HoldsAt f t l x → (l.hand t ≡ empty) × (l.number t ≡ Bits (I64 (bare (boxed f x)))) × (beside (boxed f x) ≡ empty)
@@ -347,7 +362,7 @@ module _ (p : Program) (deepest : Observer) (ks : List Kind) (F : List Frame) (b
 
   -- each call of a function does what it means
   abbrev pub CallsDo : Type 0
-  CallsDo = (f : ℕ) (own : List Local) (words : List Cell) (K : List Label) (L : List Cell) (rest : Instructions) (σ : State) → f < length p.routines → waits ks K L rest ≡ true →
+  CallsDo = (f : ℕ) (own : List Local) (words : List Cell) (K : List Label) (L : List Cell) (rest : Instructions) (σ : State) → f < length p.routines → waits ks K L rest ≡ true → makes_few (parameters_at (calls_of p) f) L ≡ true →
       GivenTo (parameters_at (calls_of p) f) (waiting K L rest ∷ F) (parameters_at (calls_of p) f) own words → Sound p deepest ks F σ → σ.turns ≤ n →
       Arrives (machine p deepest ks F) M 20 σ.turns (at ks (reverse words ++ []) K L F (emit (CallOf (function_number f)) rest) (beside_state p deepest ks F σ)) (CameBack K L rest σ) (LeftCall K L rest) (go_on (spent σ.turns σ) (λ x. noted_called deepest.notes p n f own))
 
@@ -454,6 +469,7 @@ module _ (p : Program) (deepest : Observer) (ks : List Kind) (F : List Frame) (b
       let ex = extra_for_call es in
       let none = rd.none in
       let fb = freed_after lay w (made_in es) k in
+      let mg = made_given fs pks es s2.0 in
       then_on mach M (works_of es) (41 + extra_of es) (work_of (Call f es)) σ.turns _ (AllDone p deepest ks F b M n es fs env ts st t u w k1 K l σ) P Q (all_meant p deepest ks F b M n fs env es σ) _ (omega arith)
       (oks fs env ts st t u w d k1 K l σ s2.1 us (omega (arith, rm)) ar rd)
       (λ vs τ c1 le a.
@@ -495,4 +511,4 @@ module _ (p : Program) (deepest : Observer) (ks : List Kind) (F : List Frame) (b
       })
       (left_onward 9 20 29 τ.turns _ (CameBack K (laid b z.next) k4 τ) (LeftCall K (laid b z.next) k4) Q (go_on (spent τ.turns τ) (λ x. noted_called deepest.notes p n f own)) (omega arith)
       (λ why τ1 c2 q. leaves_too t u (made_past w es) d k5 K z.next τ why τ1 c2 (λ e. let none = ap length e in omega (arith, none, fl)) (omega (arith, rm)) z.fit q)
-      (calls f own z.words K (laid b z.next) k4 τ (omega (arith, fl, ln)) (waits_there p deepest ks F b M n t u (made_past w es) d k5 K z.next τ z.fit (walking_same p deepest ks F b M n (loops_walked K) u l z.next (λ x. z.under.iterators x ∙ (g.under.iterators x ∙ a.same.iterators x)) rd.walking) rd.parameters (omega (arith, rm)) (omega (arith, mw, none, fb))) (to_given pks K k4 g.next z.next pks own z.words z.under.arrays z.given) z.fit.sound (omega (arith, le, rd.turns))))))
+      (calls f own z.words K (laid b z.next) k4 τ (omega (arith, fl, ln)) (waits_there p deepest ks F b M n t u (made_past w es) d k5 K z.next τ z.fit (walking_same p deepest ks F b M n (loops_walked K) u l z.next (λ x. z.under.iterators x ∙ (g.under.iterators x ∙ a.same.iterators x)) rd.walking) rd.parameters (omega (arith, rm)) (omega (arith, mw, none, fb))) (makes_few_there p deepest ks F b M n t u (made_past w es) z.next τ z.fit rd.parameters pks (omega (arith, mw, none, mg))) (to_given pks K k4 g.next z.next pks own z.words z.under.arrays z.given) z.fit.sound (omega (arith, le, rd.turns))))))

@@ -15,6 +15,7 @@ use Rattle.sem_primitives.specs.declared.sorts.Sort.TheVariants as sort
 use Rattle.sem_primitives.specs.declared.sorts.Answer.TheVariants as answer
 use Rattle.sem_primitives.specs.declared.answers.InputAnswer.TheVariants as input
 use Rattle.sem_primitives.specs.declared.answers.StreamAnswer.TheVariants as stream
+use Rattle.sem_primitives.specs.declared.table.Primitive.TheVariants as row
 use Rattle.sem_primitives.proofs.Words.{fits as word_fits, number_again, small}
 use Rattle.wasm_types.specs.Syntax.{Instructions, Done}
 use Rattle.wasm_types.specs.declared.instr.Simple.TheVariants.{I64Const, LocalSet}
@@ -30,18 +31,18 @@ use Rattle.sem_scripts.specs.ScriptState.{State, Faulted, Outcome, Gives, settle
 use Rattle.lower_model.specs.Cells.{Cell, Bits, Held, is_owned}
 use Rattle.lower_model.specs.Machine.{Code, Conf, Label, Frame, Store, at, br, label}
 use Rattle.lower_model.specs.Places.{Bases, handle_local, number_local}
-use Rattle.lower_model.specs.Small.{emit, emit_if, least, text_beside, boxed_perhaps, number_of_value, number_made, unnumbered, kept_number}
+use Rattle.lower_model.specs.Small.{emit, ask_row, least, text_beside, boxed_number, nothing_boxed, number_of_value, number_made, unnumbered, kept_number}
 use Rattle.lower_model.specs.Small
 use Rattle.lower_model.proofs.Observer.{Observer}
 use Rattle.lower_model.proofs.Runs.{Goes, by_steps, then_goes, goes_to, goes_from, stays, there, faulted, first, within, weaker, then_step, Onward}
 use Rattle.lower_model.proofs.Regions.{upd_same, upd_other}
 use Rattle.lower_model.proofs.Locals.{Locals, Hand, Number as NumberAt, with_at, laid}
 use Rattle.lower_model.proofs.Steps.{empty, get_copied, set_ok, moved_out_ok}
-use Rattle.lower_model.proofs.State.{perhaps, word_not_least, word_not_beside, BareIs, IsBeside, IsNone, IsNumber}
+use Rattle.lower_model.proofs.State.{perhaps, word_not_least, BareIs, IsBeside, IsNone, IsNumber}
 use Rattle.lower_model.proofs.Relation.{HoldsAt, Fit, fit_loose, fit_hand, fit_number, Away, away_out}
 use Rattle.lower_model.proofs.Pieces.{chooses, closes, number_is_ok, number_kept, number_failed}
 use Rattle.lower_model.proofs.Answers.{machine, beside_state, left_beside, reply, after_reply, Reached}
-use Rattle.lower_model.proofs.Conversions.{ask_to_num, PerhapsIs, NoNumber, There, boxed_number_ok, boxed_perhaps_ok, code_number_ok}
+use Rattle.lower_model.proofs.Conversions.{ask_to_num, ask_uninit, PerhapsIs, NoNumber, There, boxed_number_ok, boxed_perhaps_ok, code_number_ok}
 
 -- the same but for one temporary
 pub record Keeps (t : ℕ) (l l1 : Locals) : Type 0 where
@@ -101,25 +102,6 @@ module _ (p : Program) (deepest : Observer) (ks : List Kind) (F : List Frame) (b
 
   conv_comes : (q i w t : ℕ) (f : Form) (k : Instructions) (K : List Label) (l : Locals) (x y : Holds f) (σ : State) (c : Conf) → x ≡ y → Converted q i w t f k K l x σ c → Converted q i w t f k K l y σ c
   conv_comes q i w t f k K l x y σ c e a = subst (λ z. Converted q i w t f k K l z σ c) e a
-
-  -- a number that may not be there yet, or have a text beside it, as a value
-  bare_boxed : (q i w t d : ℕ) (k : Instructions) (K : List Label) (l : Locals) (v : Value) (σ : State) → t < q → t < b.temporaries → Fit p deepest ks F q i w l σ → (n0 : ℕ) → l.number t ≡ Bits (I64 n0) → BareIs v n0 (l.hand t) →
-      Reached p deepest ks F b M 16 σ.turns (at ks [] K (laid b l) F (Small.to_value b NumberOrText t k) (beside_state p deepest ks F σ)) (Converted q i w t (PrimitiveAnswer (answer.Of sort.Value)) k K l) (Away p deepest ks F b d K) (settled (Ok v) σ)
-  bare_boxed q i w t d k K l v σ lq lt ft n0 en (IsBeside e e1) =
-      there u M 16 4 _ _ v σ (Converted q i w t (PrimitiveAnswer (answer.Of sort.Value)) k K l) (Away p deepest ks F b d K)
-      (then_goes (number_is_ok b l t text_beside text_beside lt (en ∙ ap (λ m. Bits (I64 m)) e)) (then_goes (chooses Done (boxed_perhaps b t (LocalSet (handle_local b t)) Done) 1) closes)) (omega arith)
-      (conv_self q i w t (PrimitiveAnswer (answer.Of sort.Value)) k K l v σ ft (e1, tt))
-  bare_boxed q i w t d k K l v σ lq lt ft n0 en (IsNone e e1 e2) =
-      let x = boxed_perhaps_ok p deepest ks F b Done (label [] None k ∷ K) l t n0 σ v lt en (ap is_owned e2) (NoNumber e1 e) in
-      there u M 16 (3 + (x.steps + 1)) _ _ v σ (Converted q i w t (PrimitiveAnswer (answer.Of sort.Value)) k K l) (Away p deepest ks F b d K)
-      (then_goes (then_goes (number_is_ok b l t least text_beside lt (en ∙ ap (λ m. Bits (I64 m)) e1)) (chooses Done (boxed_perhaps b t (LocalSet (handle_local b t)) Done) 0)) (then_goes x.goes closes)) (omega (arith, x.few))
-      (conv_hand q i w t k K l v σ lq ft)
-  bare_boxed q i w t d k K l v σ lq lt ft n0 en (IsNumber m e e1 e2) =
-      let x = boxed_perhaps_ok p deepest ks F b Done (label [] None k ∷ K) l t n0 σ v lt en (ap is_owned e2) (There m e1 e) in
-      there u M 16 (3 + (x.steps + 1)) _ _ v σ (Converted q i w t (PrimitiveAnswer (answer.Of sort.Value)) k K l) (Away p deepest ks F b d K)
-      (then_goes (then_goes (goes_to (number_is_ok b l t (number_word m) text_beside lt (en ∙ ap (λ z. Bits (I64 z)) e1)) (ap (λ f. at ks (Bits (flag f) ∷ []) K (laid b l) F (emit_if Done (boxed_perhaps b t (LocalSet (handle_local b t)) Done) k) (beside_state p deepest ks F σ)) (word_not_beside m)))
-      (chooses Done (boxed_perhaps b t (LocalSet (handle_local b t)) Done) 0)) (then_goes x.goes closes)) (omega (arith, x.few))
-      (conv_hand q i w t k K l v σ lq ft)
 
   pub perhaps_is : (o : Option Number) → PerhapsIs p deepest ks F b (perhaps o) (boxed OptionalNumber o)
   perhaps_is None = NoNumber refl refl
@@ -188,6 +170,36 @@ module _ (p : Program) (deepest : Observer) (ks : List Kind) (F : List Frame) (b
       Goes u 2 (at ks [] K (laid b l) F (unnumbered b t c) G) (at ks (Bits (flag f) ∷ []) K (laid b l) F c G)
   unnumbered_ok {K = K} {c = c} {G = G} l t m f h e q =
       then_goes (get_copied b l (NumberAt t) (Bits (I64 m)) h e refl) (goes_to (by_steps 1 refl) (ap (λ (o : Bool). at ks (Bits (flag o) ∷ []) K (laid b l) F c G) q))
+
+  -- what an unboxed name has, as a value
+  bare_boxed : (q i w t d : ℕ) (k : Instructions) (K : List Label) (l : Locals) (v : Value) (σ : State) → t < q → t < b.temporaries → Fit p deepest ks F q i w l σ → (n0 : ℕ) → l.number t ≡ Bits (I64 n0) → BareIs v n0 (l.hand t) →
+      Reached p deepest ks F b M 16 σ.turns (at ks [] K (laid b l) F (Small.to_value b NumberOrText t k) (beside_state p deepest ks F σ)) (Converted q i w t (PrimitiveAnswer (answer.Of sort.Value)) k K l) (Away p deepest ks F b d K) (settled (Ok v) σ)
+  bare_boxed q i w t d k K l v σ lq lt ft n0 en (IsBeside e e1) =
+      let put = emit (LocalSet (handle_local b t)) Done in
+      let he = en ∙ ap (λ m. Bits (I64 m)) e in
+      there u M 16 8 _ _ v σ (Converted q i w t (PrimitiveAnswer (answer.Of sort.Value)) k K l) (Away p deepest ks F b d K)
+      (then_goes (then_goes (unnumbered_ok l t text_beside true lt he refl) (chooses (nothing_boxed b t Done) (boxed_number b t put) 1))
+      (then_goes (then_goes (number_is_ok b l t text_beside least lt he) (chooses (ask_row row.Uninit put) Done 0)) (then_goes closes closes))) (omega arith)
+      (conv_self q i w t (PrimitiveAnswer (answer.Of sort.Value)) k K l v σ ft (e1, tt))
+  bare_boxed q i w t d k K l v σ lq lt ft n0 en (IsNone e e1 e2) =
+      let put = emit (LocalSet (handle_local b t)) Done in
+      let he = en ∙ ap (λ m. Bits (I64 m)) e1 in
+      there u M 16 10 _ _ v σ (Converted q i w t (PrimitiveAnswer (answer.Of sort.Value)) k K l) (Away p deepest ks F b d K)
+      (goes_to
+      (then_goes (then_goes (unnumbered_ok l t least true lt he refl) (chooses (nothing_boxed b t Done) (boxed_number b t put) 1))
+      (then_goes (then_goes (number_is_ok b l t least least lt he) (chooses (ask_row row.Uninit put) Done 1))
+      (then_goes (ask_uninit p deepest ks F [] σ) (then_goes (set_ok b l (Hand t) (Held value.Uninit) lt (ap is_owned e2)) (then_goes closes closes)))))
+      (ap (λ x. at ks [] K (laid b (with_at l (Hand t) (Held x))) F k (beside_state p deepest ks F σ)) (sym e))) (omega arith)
+      (conv_hand q i w t k K l v σ lq ft)
+  bare_boxed q i w t d k K l v σ lq lt ft n0 en (IsNumber m e e1 e2) =
+      let put = emit (LocalSet (handle_local b t)) Done in
+      let he = en ∙ ap (λ z. Bits (I64 z)) e1 in
+      there u M 16 7 _ _ v σ (Converted q i w t (PrimitiveAnswer (answer.Of sort.Value)) k K l) (Away p deepest ks F b d K)
+      (goes_to
+      (then_goes (then_goes (unnumbered_ok l t (number_word m) false lt he (word_numbered m)) (chooses (nothing_boxed b t Done) (boxed_number b t put) 0))
+      (then_goes (boxed_number_ok p deepest ks F b l t σ m lt he (ap is_owned e2)) closes))
+      (ap (λ x. at ks [] K (laid b (with_at l (Hand t) (Held x))) F k (beside_state p deepest ks F σ)) (sym e))) (omega arith)
+      (conv_hand q i w t k K l v σ lq ft)
 
   -- what an unboxed name has, as a number
   bare_numbered : (q i w t d : ℕ) (k : Instructions) (K : List Label) (l : Locals) (v : Value) (σ : State) → t < q → t < b.temporaries → Fit p deepest ks F q i w l σ → (n0 : ℕ) → l.number t ≡ Bits (I64 n0) → BareIs v n0 (l.hand t) →

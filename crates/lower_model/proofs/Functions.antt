@@ -18,7 +18,7 @@ use Rattle.sem_scripts.specs.Statements.{Flow, Normal, Broke, Continued, returne
 use Rattle.lower_model.specs.Cells.{Cell, Bits, Gone, is_owned, none_owned}
 use Rattle.lower_model.specs.Emission.{function_number}
 use Rattle.lower_model.specs.Functions.{layout_of, routine_bases, routine_callee}
-use Rattle.lower_model.specs.Machine.{Conf, Deep, Label, Frame, Store, at, label, zeros, guarded, enter, waits, ask as asked}
+use Rattle.lower_model.specs.Machine.{Conf, Deep, Label, Frame, Store, at, label, zeros, guarded, enter, makes_few, waits, ask as asked}
 use Rattle.host_imports.specs.Imports.{import_at, import_count}
 use Rattle.lower_model.specs.Noted.{noted_called, steps_noted, routine_rest}
 use Rattle.lower_model.specs.Places.{Bases, local_types, temporary_types, handle_types, steps_room, steps_iterators, steps_arrays}
@@ -248,7 +248,7 @@ module _ (p : Program) (deepest : Observer) where
 
   -- A call of a function, with n more inside one another. It costs a turn, which pays for all of it.
   abbrev pub CallOk : (M n f : ℕ) → Type 0
-  CallOk M n f = (ks : List Kind) (F : List Frame) (K : List Label) (L : List Cell) (k : Instructions) (words : List Cell) (os : List Local) (σ : State) → waits ks K L k ≡ true →
+  CallOk M n f = (ks : List Kind) (F : List Frame) (K : List Label) (L : List Cell) (k : Instructions) (words : List Cell) (os : List Local) (σ : State) → waits ks K L k ≡ true → makes_few (routine_at p.routines f).parameters L ≡ true →
       GivenTo (routine_at p.routines f).parameters (waiting ks K L k ∷ F) words os → Sound p deepest ks F σ → σ.turns ≤ n →
       Arrives (machine p deepest ks F) M 0 σ.turns (at ks (reverse words ++ []) K L F (emit (Call (function_number f)) k) (beside_state p deepest ks F σ)) (Back (waiting ks K L k) F σ.own) (Lost (waiting ks K L k) F) ((spend >> noted_called deepest.notes p n f os) σ)
 
@@ -276,10 +276,10 @@ module _ (p : Program) (deepest : Observer) where
   begins f ks F K L k words G = at (routine_at p.routines f).parameters [] [] (words ++ zeros (local_types (routine_bases (routine_at p.routines f)))) (waiting ks K L k ∷ F) (routine_callee p (routine_at p.routines f)).body G
 
   -- the frame is pushed, unless too many wait
-  entered : (f : ℕ) (ks : List Kind) (F : List Frame) (K : List Label) (L : List Cell) (k : Instructions) (words : List Cell) (G : Store) → f < length p.routines → length words ≡ length (routine_at p.routines f).parameters → waits ks K L k ≡ true →
+  entered : (f : ℕ) (ks : List Kind) (F : List Frame) (K : List Label) (L : List Cell) (k : Instructions) (words : List Cell) (G : Store) → f < length p.routines → length words ≡ length (routine_at p.routines f).parameters → waits ks K L k ≡ true → makes_few (routine_at p.routines f).parameters L ≡ true →
       Goes (machine p deepest ks F) 1 (at ks (reverse words ++ []) K L F (emit (Call (function_number f)) k) G)
       (cond (nat_lt (length F) deepest.callers) (begins f ks F K L k words G) (Deep G))
-  entered f ks F K L k words G lt wide wt =
+  entered f ks F K L k words G lt wide wt mf =
       let r = routine_at p.routines f in
       let vs = reverse words ++ [] in
       let m = length r.parameters in
@@ -295,8 +295,9 @@ module _ (p : Program) (deepest : Observer) where
             ap (λ t. cond t (asked (machine p deepest ks F).memory (import_at (function_number f)) ks vs K L F k G) (enter deepest.callers (slice_get (machine p deepest ks F).callees (function_number f - import_count)) ks vs K L F k G)) high
             ∙ (ap (λ i. enter deepest.callers (slice_get (machine p deepest ks F).callees i) ks vs K L F k G) index
             ∙ (ap (λ o. enter deepest.callers o ks vs K L F k G) (callee_found f lt)
-            ∙ (ap₂ (λ t z. guarded ((t && none_owned (drop m vs)) && z) (cond (nat_lt (length F) deepest.callers) (at r.parameters [] [] (reverse (take m vs) ++ zeros (routine_callee p r).locals) (record { kinds = ks; under = drop m vs; labels = K; locals = L; rest = k } ∷ F) (routine_callee p r).body G) (Deep G))) enough wt
-            ∙ ap₂ (λ ws us. guarded ((true && none_owned us) && true) (cond (nat_lt (length F) deepest.callers) (at r.parameters [] [] (ws ++ zeros (routine_callee p r).locals) (record { kinds = ks; under = us; labels = K; locals = L; rest = k } ∷ F) (routine_callee p r).body G) (Deep G))) front under)));
+            ∙ (ap₂ (λ t z. guarded (((t && none_owned (drop m vs)) && z) && makes_few r.parameters L) (cond (nat_lt (length F) deepest.callers) (at r.parameters [] [] (reverse (take m vs) ++ zeros (routine_callee p r).locals) (record { kinds = ks; under = drop m vs; labels = K; locals = L; rest = k } ∷ F) (routine_callee p r).body G) (Deep G))) enough wt
+            ∙ (ap (λ y. guarded (((true && none_owned (drop m vs)) && true) && y) (cond (nat_lt (length F) deepest.callers) (at r.parameters [] [] (reverse (take m vs) ++ zeros (routine_callee p r).locals) (record { kinds = ks; under = drop m vs; labels = K; locals = L; rest = k } ∷ F) (routine_callee p r).body G) (Deep G))) mf
+            ∙ ap₂ (λ ws us. guarded (((true && none_owned us) && true) && true) (cond (nat_lt (length F) deepest.callers) (at r.parameters [] [] (ws ++ zeros (routine_callee p r).locals) (record { kinds = ks; under = us; labels = K; locals = L; rest = k } ∷ F) (routine_callee p r).body G) (Deep G))) front under))));
       }
 
   -- Every call does what it means, if expressions do where calls inside them do.
@@ -338,9 +339,9 @@ module _ (p : Program) (deepest : Observer) where
 
     pub calls_ok : (n : ℕ) → CallsOk M n
     unfolding noted_called
-    calls_ok zero f lt ks F K L k words os σ wt given s le =
-        turned (machine p deepest ks F) M σ.turns 0 0 0 σ _ _ (Back (waiting ks K L k) F σ.own) (Lost (waiting ks K L k) F) (noted_called deepest.notes p zero f os) refl (entered f ks F K L k words (beside_state p deepest ks F σ) lt given.wide wt) refl (let q = few f lt in omega (arith, q))
+    calls_ok zero f lt ks F K L k words os σ wt mf given s le =
+        turned (machine p deepest ks F) M σ.turns 0 0 0 σ _ _ (Back (waiting ks K L k) F σ.own) (Lost (waiting ks K L k) F) (noted_called deepest.notes p zero f os) refl (entered f ks F K L k words (beside_state p deepest ks F σ) lt given.wide wt mf) refl (let q = few f lt in omega (arith, q))
         (λ m e. absurd (omega (arith, e, le)))
-    calls_ok (suc n) f lt ks F K L k words os σ wt given s le =
-        turned (machine p deepest ks F) M σ.turns 0 (routine_work (routine_at p.routines f)) 0 σ _ _ (Back (waiting ks K L k) F σ.own) (Lost (waiting ks K L k) F) (noted_called deepest.notes p (suc n) f os) refl (entered f ks F K L k words (beside_state p deepest ks F σ) lt given.wide wt) refl (let q = few f lt in omega (arith, q))
+    calls_ok (suc n) f lt ks F K L k words os σ wt mf given s le =
+        turned (machine p deepest ks F) M σ.turns 0 (routine_work (routine_at p.routines f)) 0 σ _ _ (Back (waiting ks K L k) F σ.own) (Lost (waiting ks K L k) F) (noted_called deepest.notes p (suc n) f os) refl (entered f ks F K L k words (beside_state p deepest ks F σ) lt given.wide wt mf) refl (let q = few f lt in omega (arith, q))
         (λ m e. pushed n f σ.own.calls_left (calls_ok n) lt ks F K L k words os (record σ { turns = m }) given (record { room = s.room; names = s.names; calm = s.calm }) (omega (arith, e, le)) refl)

@@ -1,5 +1,5 @@
 -- Arithmetic in the module: sums, products and quotients of numbers in temporaries, with their ranges tested.
-use Rattle.std.proofs.Common.{◌≡◌, ⊎_elim, ℕ, suc, ◌+◌, ◌*◌, ◌^◌, ◌<◌, ◌≤◌, Bool, true, false, T, not, ◌&&◌, ◌||◌, nat_eq, nat_le, List, [], ◌∷◌, Some, Ok, Err, ℤ, ◌+ℤ◌, ◌*ℤ◌, neg_ℤ, unsigned_abs, int_div, int_rem, w64, refl, sym, ap, ap₂, ◌∙◌, subst, true≢false, arith, if◌then◌else◌}
+use Rattle.std.proofs.Common.{◌≡◌, ⊎_elim, ℕ, suc, ◌+◌, ◌*◌, ◌^◌, ◌<◌, ◌≤◌, Bool, true, false, T, not, ◌&&◌, ◌||◌, nat_eq, nat_le, List, [], ◌∷◌, Some, None, Ok, Err, ℤ, ◌+ℤ◌, ◌*ℤ◌, neg_ℤ, unsigned_abs, int_div, int_rem, w64, refl, sym, ap, ap₂, ◌∙◌, subst, true≢false, arith, if◌then◌else◌}
 use Rattle.std.specs.Prelude.{FitsSigned, bit_and}
 use Rattle.std.proofs.lemmas.Int.{ints, fits_signed_from_abs, to_z-of_z, rem_below}
 use Rattle.std.proofs.lemmas.Bool.{and_parts, eq-eqb, cases_lt, le-leb}
@@ -13,12 +13,12 @@ use Rattle.sem_primitives.specs.declared.sorts.Argument.{Argument}
 use Rattle.sem_primitives.specs.declared.sorts.Argument.TheVariants as argument
 use Rattle.sem_primitives.specs.declared.sorts.Sort.TheVariants as sort
 use Rattle.sem_primitives.proofs.Words.{number_again, small, fits}
-use Rattle.wasm_types.specs.Syntax.{Instructions}
+use Rattle.wasm_types.specs.Syntax.{Instructions, Done as NoMore}
 use Rattle.wasm_types.specs.declared.types.ValType.TheVariants as ty
 use Rattle.wasm_types.specs.declared.instr.IBinOp.{IBinOp}
 use Rattle.wasm_types.specs.declared.instr.IBinOp.TheVariants as bin
 use Rattle.wasm_types.specs.declared.instr.IRelOp.TheVariants.{Ne}
-use Rattle.wasm_types.specs.declared.instr.Simple.TheVariants.{LocalGet, LocalSet, I64Const, Compare, Binary}
+use Rattle.wasm_types.specs.declared.instr.Simple.TheVariants.{Br, BrIf, LocalGet, LocalSet, I64Const, Compare, Binary}
 use Rattle.wasm_store.specs.Integers.{binary_at, quotient_signed, remainder_signed, is_integer}
 use Rattle.wasm_store.specs.Words.{flag, given_by}
 use Rattle.wasm_store.specs.declared.trap.TrapKind.TheVariants.{DivideByZero, IntegerOverflow}
@@ -28,12 +28,12 @@ use Rattle.mid_program.specs.declared.mid.Arithmetic.TheVariants as inline
 use Rattle.mid_program.specs.declared.mid.Operation.TheVariants.{Inline}
 use Rattle.mid_program.specs.Mid.{Kind, Program, Form, a_number, Do, Codes, End, At, Fixed, Fresh}
 use Rattle.mid_program.specs.MidMeaning.{Env, evaluated, all_evaluated, arithmetic_of}
-use Rattle.sem_scripts.specs.ScriptState.{State, Faulted, settled}
+use Rattle.sem_scripts.specs.ScriptState.{State, Stop, Faulted, Outcome, settled}
 use Rattle.mid_program.specs.Sorted.{Held as Standing, sorted, all_sorted, held_after, fit_row}
-use Rattle.lower_model.specs.Arithmetic.{out_of_range, two_numbers, ranged, times, unless_zero, unless_broken, divided, calculated}
+use Rattle.lower_model.specs.Arithmetic.{out_of_range, two_numbers, ranged, any_product, far_off, times, unless_zero, unless_broken, divided, calculated}
 use Rattle.lower_model.specs.Cells.{Cell, Bits}
 use Rattle.lower_model.specs.Emission.{all_emitted, all_converted}
-use Rattle.lower_model.specs.Machine.{Conf, Label, Frame, at, br, loops_walked, with_operands, push_result}
+use Rattle.lower_model.specs.Machine.{Conf, Label, Frame, Store, at, br, label, loops_walked, with_operands, push_result}
 use Rattle.lower_model.specs.Places.{Bases, calculated_room, room, arrays_in, number_local}
 use Rattle.lower_model.specs.Small.{emit, fail_if}
 use Rattle.lower_model.proofs.Observer.{Observer}
@@ -43,9 +43,10 @@ use Rattle.lower_model.proofs.Locals.{Locals, Number as NumberAt, with_at, laid}
 use Rattle.lower_model.proofs.Steps.{empty, get_copied, set_ok}
 use Rattle.lower_model.proofs.Relation.{Same, same_self, same_then, same_number, Fit, fit_loose, fit_less, fit_number, Away}
 use Rattle.lower_model.proofs.Answers.{machine, beside_state, left_beside, Put, Reached}
-use Rattle.lower_model.proofs.Products.{word, is_out, out_word, sum_word, difference_word, triangle, product, told, quotient_bound, is_signed}
+use Rattle.lower_model.proofs.Products.{word, is_out, out_word, is_far, product_near, sum_word, difference_word, triangle, product, told, quotient_bound, is_signed}
 use Rattle.lower_model.proofs.Choosing.{zero_word}
-use Rattle.lower_model.proofs.Comparing.{flags_or}
+use Rattle.lower_model.proofs.Converting.{blocked}
+use Rattle.lower_model.proofs.Comparing.{flags_or, put_closes}
 use Rattle.lower_model.proofs.HostCalls.{row_then, extra_enough}
 use Rattle.lower_model.proofs.Numbers.{fails_ok, passes_ok}
 use Rattle.lower_model.proofs.Expressions.{put_done}
@@ -177,18 +178,19 @@ module _ (p : Program) (deepest : Observer) (ks : List Kind) (F : List Frame) (b
 
   -- a sum or a difference
   ranged_ok : (op : IBinOp) (x y : Number) (z : ℤ) (t u w d : ℕ) (k : Instructions) (K : List Label) (l0 l : Locals) (σ : State) → FitsSigned w64 z → binary_at w64 op (number_word x) (number_word y) ≡ Ok (word z) → suc t < b.temporaries → Same [] t w l0 l → Pair x y t u w l σ →
-      Reached p deepest ks F b M 30 σ.turns (at ks [] K (laid b l) F (ranged op (number_local b t) (number_local b (suc t)) d k) (beside_state p deepest ks F σ)) (Put p deepest ks F b t u w a_number k K l0) (Away p deepest ks F b d K) (settled (outcome_of (checked z)) σ)
+      Reached p deepest ks F b M 41 σ.turns (at ks [] K (laid b l) F (ranged op (number_local b t) (number_local b (suc t)) d k) (beside_state p deepest ks F σ)) (Put p deepest ks F b t u w a_number k K l0) (Away p deepest ks F b d K) (settled (outcome_of (checked z)) σ)
   ranged_ok op x y z t u w d k K l0 l σ fz e lt sm a =
       let c = Bits (I64 (word z)) in
       let l1 = with_at l (NumberAt t) c in
       let f1 = fit_number p deepest ks F t (suc t) u w l σ c refl a.fit in
-      first (machine p deepest ks F) M 7 4 30 σ.turns _ _ (Put p deepest ks F b t u w a_number k K l0) (Away p deepest ks F b d K) (settled (outcome_of (checked z)) σ)
+      first (machine p deepest ks F) M 7 4 41 σ.turns _ _ (Put p deepest ks F b t u w a_number k K l0) (Away p deepest ks F b d K) (settled (outcome_of (checked z)) σ)
       (then_goes (computed_ok op x y (word z) t u w l σ lt a e) (then_goes (set_ok b l (NumberAt t) c (omega (arith, lt)) (a.fit.numbers t)) (range_told l1 t (word z) σ (omega (arith, lt)) (upd_same l.number t c)))) (omega arith)
       (tested z (is_out (word z)) t u w d (suc t) 0 k k K l0 l1 l1 σ (out_word z fz) f1 (omega arith) stays f1 (same_then [] t t w w l0 l l1 (omega arith) (omega arith) sm (same_number [] t w t l c (omega arith))) a.hand (λ i. upd_same l.number t c))
 
-  times_ok : (x y : Number) (t u w d : ℕ) (k : Instructions) (K : List Label) (l0 l : Locals) (σ : State) → suc (suc t) < b.temporaries → Same [] t w l0 l → Pair x y t u w l σ →
-      Reached p deepest ks F b M 30 σ.turns (at ks [] K (laid b l) F (times (number_local b t) (number_local b (suc t)) (number_local b (suc (suc t))) d k) (beside_state p deepest ks F σ)) (Put p deepest ks F b t u w a_number k K l0) (Away p deepest ks F b d K) (settled (outcome_of (checked (x.number *ℤ y.number))) σ)
-  times_ok x y t u w d k K l0 l σ lt sm a =
+  -- a product of any two numbers
+  any_product_ok : (x y : Number) (t u w d : ℕ) (k : Instructions) (K : List Label) (l0 l : Locals) (σ : State) → suc (suc t) < b.temporaries → Same [] t w l0 l → Pair x y t u w l σ →
+      Reached p deepest ks F b M 30 σ.turns (at ks [] K (laid b l) F (any_product (number_local b t) (number_local b (suc t)) (number_local b (suc (suc t))) d k) (beside_state p deepest ks F σ)) (Put p deepest ks F b t u w a_number k K l0) (Away p deepest ks F b d K) (settled (outcome_of (checked (x.number *ℤ y.number))) σ)
+  any_product_ok x y t u w d k K l0 l σ lt sm a =
       let mach = machine p deepest ks F in
       let S = beside_state p deepest ks F σ in
       let P = Put p deepest ks F b t u w a_number k K l0 in
@@ -235,6 +237,88 @@ module _ (p : Program) (deepest : Observer) (ks : List Kind) (F : List Frame) (b
       (tested (x.number *ℤ y.number) (differ || is_out q) t u w d (suc t) 2 move k K l0 l1 l2 σ facts.tells f1 (omega arith)
       (then_goes (get_copied b l1 (NumberAt (suc (suc t))) c lt ep refl) (set_ok b l1 (NumberAt t) c (omega (arith, lt)) (f1.numbers t))) f2 s2 a.hand
       (λ i. upd_same l1.number t c ∙ ap (λ m. Bits (I64 m)) (facts.is_product i))))))
+
+  -- whether a number is far from 0
+  far_told : {K : List Label} {k : Instructions} → (l : Locals) (t m : ℕ) (σ : State) → t < b.temporaries → l.number t ≡ Bits (I64 m) →
+      Goes (machine p deepest ks F) 3 (at ks [] K (laid b l) F (far_off (number_local b t) k) (beside_state p deepest ks F σ)) (at ks (Bits (flag (is_far m)) ∷ []) K (laid b l) F k (beside_state p deepest ks F σ))
+  far_told l t m σ lt e = then_goes (get_copied b l (NumberAt t) (Bits (I64 m)) lt e refl) (by_steps 2 refl)
+
+  times_ok : (x y : Number) (t u w d : ℕ) (k : Instructions) (K : List Label) (l0 l : Locals) (σ : State) → suc (suc t) < b.temporaries → Same [] t w l0 l → Pair x y t u w l σ →
+      Reached p deepest ks F b M 41 σ.turns (at ks [] K (laid b l) F (times (number_local b t) (number_local b (suc t)) (number_local b (suc (suc t))) d k) (beside_state p deepest ks F σ)) (Put p deepest ks F b t u w a_number k K l0) (Away p deepest ks F b d K) (settled (outcome_of (checked (x.number *ℤ y.number))) σ)
+  times_ok x y t u w d k K l0 l σ lt sm a =
+      first (machine p deepest ks F) M 5 36 41 σ.turns _ _ P Q r
+      (then_goes (by_steps 2 refl) (far_told {K = K2} {k = emit (BrIf 0) (far_off yy (emit (BrIf 0) multiplied))} l t (number_word x) σ (omega (arith, lt)) a.left)) (omega arith)
+      (by_left (is_far (number_word x)) refl)
+    where
+      S : Store
+      S = beside_state p deepest ks F σ
+
+      P : Number → State → Conf → Type 0
+      P = Put p deepest ks F b t u w a_number k K l0
+
+      Q : Stop → State → Conf → Type 0
+      Q = Away p deepest ks F b d K
+
+      z : ℤ
+      z = x.number *ℤ y.number
+
+      r : Outcome Number
+      r = settled (outcome_of (checked z)) σ
+
+      xx : ℕ
+      xx = number_local b t
+
+      yy : ℕ
+      yy = number_local b (suc t)
+
+      all_cases : Instructions
+      all_cases = any_product xx yy (number_local b (suc (suc t))) (suc d) NoMore
+
+      K1 : List Label
+      K1 = label [] None k ∷ K
+
+      K2 : List Label
+      K2 = label [] None all_cases ∷ K1
+
+      multiplied : Instructions
+      multiplied = two_numbers xx yy bin.Mul (emit (LocalSet xx) (emit (Br 1) NoMore))
+
+      -- the code behind the test of a factor
+      behind : Bool → Instructions → Conf
+      behind f c = at ks (Bits (flag f) ∷ []) K2 (laid b l) F (emit (BrIf 0) c) S
+
+      anyway : Reached p deepest ks F b M 31 σ.turns (at ks [] K1 (laid b l) F all_cases S) P Q r
+      anyway =
+          blocked p deepest ks F b M 30 σ.turns d k K _ (Put p deepest ks F b t u w a_number NoMore K1 l0) P r
+          (λ v τ c q. put_closes p deepest ks F b M n t u w a_number k K l0 v τ c q)
+          (any_product_ok x y t u w (suc d) NoMore K1 l0 l σ lt sm a)
+
+      far : (c : Instructions) → Reached p deepest ks F b M 32 σ.turns (behind true c) P Q r
+      far c = first (machine p deepest ks F) M 1 31 32 σ.turns _ (at ks [] K1 (laid b l) F all_cases S) P Q r (by_steps 1 refl) (omega arith) anyway
+
+      near : unsigned_abs z ≤ 2 ^ 53 → Reached p deepest ks F b M 5 σ.turns (at ks [] K2 (laid b l) F multiplied S) P Q r
+      near le =
+          let i = le-leb (unsigned_abs z) (2 ^ 53) le in
+          let v : Number = record { number = z; in_range = subst T (sym i) tt } in
+          let facts = told x.number y.number (small x) (small y) in
+          subst (λ g. Reached p deepest ks F b M 5 σ.turns (at ks [] K2 (laid b l) F multiplied S) P Q (settled g σ)) (sym (checked_in z i))
+          (there (machine p deepest ks F) M 5 5 _ _ v σ P Q
+          (then_goes (computed_ok bin.Mul x y (word z) t u w l σ (omega (arith, lt)) a (ap Ok (facts.is_product i)))
+          (then_goes (set_ok b l (NumberAt t) (Bits (I64 (word z))) (omega (arith, lt)) (a.fit.numbers t)) (by_steps 1 refl))) (omega arith)
+          (put_number t u w k K l0 l v σ a.fit sm a.hand))
+
+      by_right : (g : Bool) → is_far (number_word x) ≡ false → is_far (number_word y) ≡ g → Reached p deepest ks F b M 32 σ.turns (behind g multiplied) P Q r
+      by_right true e h = far multiplied
+      by_right false e h =
+          first (machine p deepest ks F) M 1 5 32 σ.turns _ (at ks [] K2 (laid b l) F multiplied S) P Q r (by_steps 1 refl) (omega arith)
+          (near (product_near x.number y.number (small x) (small y) e h))
+
+      by_left : (f : Bool) → is_far (number_word x) ≡ f → Reached p deepest ks F b M 36 σ.turns (behind f (far_off yy (emit (BrIf 0) multiplied))) P Q r
+      by_left true e = within (machine p deepest ks F) M 32 36 σ.turns _ P Q r (omega arith) (far (far_off yy (emit (BrIf 0) multiplied)))
+      by_left false e =
+          first (machine p deepest ks F) M 4 32 36 σ.turns _ _ P Q r
+          (then_goes (by_steps 1 refl) (far_told {K = K2} {k = emit (BrIf 0) multiplied} l (suc t) (number_word y) σ (omega (arith, lt)) a.right)) (omega arith)
+          (by_right (is_far (number_word y)) e refl)
 
   -- Quotients.
 
@@ -287,37 +371,37 @@ module _ (p : Program) (deepest : Observer) (ks : List Kind) (F : List Frame) (b
   difference_fits x y = fits_signed_from_abs w64 (x.number +ℤ neg_ℤ y.number) (let s = triangle x.number y.number in let i = small x in let j = small y in omega (arith, s, i, j))
 
   calculated_ok : (o : Arithmetic) (x y : Number) (t u w d : ℕ) (k : Instructions) (K : List Label) (l0 l : Locals) (σ : State) → t + calculated_room o ≤ b.temporaries → Same [] t w l0 l → Pair x y t u w l σ →
-      Reached p deepest ks F b M 30 σ.turns (at ks [] K (laid b l) F (calculated b o t d k) (beside_state p deepest ks F σ)) (Put p deepest ks F b t u w a_number k K l0) (Away p deepest ks F b d K) (settled (outcome_of (arithmetic_of o x.number y.number)) σ)
+      Reached p deepest ks F b M 41 σ.turns (at ks [] K (laid b l) F (calculated b o t d k) (beside_state p deepest ks F σ)) (Put p deepest ks F b t u w a_number k K l0) (Away p deepest ks F b d K) (settled (outcome_of (arithmetic_of o x.number y.number)) σ)
   calculated_ok inline.Plus x y t u w d k K l0 l σ lt sm a = ranged_ok bin.Add x y (x.number +ℤ y.number) t u w d k K l0 l σ (sum_fits x y) (ap Ok (sum_word x.number y.number (fits x.number (small x)) (fits y.number (small y)) (sum_fits x y))) (omega (arith, lt)) sm a
   calculated_ok inline.Minus x y t u w d k K l0 l σ lt sm a = ranged_ok bin.Sub x y (x.number +ℤ neg_ℤ y.number) t u w d k K l0 l σ (difference_fits x y) (ap Ok (difference_word x.number y.number (fits x.number (small x)) (fits y.number (small y)) (difference_fits x y))) (omega (arith, lt)) sm a
   calculated_ok inline.Times x y t u w d k K l0 l σ lt sm a = times_ok x y t u w d k K l0 l σ (omega (arith, lt)) sm a
   calculated_ok inline.Over x y t u w d k K l0 l σ lt sm a =
-      within (machine p deepest ks F) M 16 30 σ.turns _ (Put p deepest ks F b t u w a_number k K l0) (Away p deepest ks F b d K) (settled (outcome_of (arithmetic_of inline.Over x.number y.number)) σ) (omega arith)
+      within (machine p deepest ks F) M 16 41 σ.turns _ (Put p deepest ks F b t u w a_number k K l0) (Away p deepest ks F b d K) (settled (outcome_of (arithmetic_of inline.Over x.number y.number)) σ) (omega arith)
       (divisor_ok y (if is_zero (int_rem x.number y.number) then Ok (int_div x.number y.number) else Err Inexact) (suc t) u w d 11 (suc t) _ K l σ (omega (arith, lt)) a.right a.fit (Put p deepest ks F b t u w a_number k K l0)
       (λ nz. broken_ok x y t u w d k K l0 l σ nz (omega (arith, lt)) sm a))
   calculated_ok inline.Modulo x y t u w d k K l0 l σ lt sm a =
-      within (machine p deepest ks F) M 9 30 σ.turns _ (Put p deepest ks F b t u w a_number k K l0) (Away p deepest ks F b d K) (settled (outcome_of (arithmetic_of inline.Modulo x.number y.number)) σ) (omega arith)
+      within (machine p deepest ks F) M 9 41 σ.turns _ (Put p deepest ks F b t u w a_number k K l0) (Away p deepest ks F b d K) (settled (outcome_of (arithmetic_of inline.Modulo x.number y.number)) σ) (omega arith)
       (divisor_ok y (Ok (int_rem x.number y.number)) (suc t) u w d 4 (suc t) _ K l σ (omega (arith, lt)) a.right a.fit (Put p deepest ks F b t u w a_number k K l0)
       (λ nz. whole_ok bin.RemS x y (int_rem x.number y.number) t u w d k K l0 l σ (remainder_small x y nz) (remainder_word x y nz) (omega (arith, lt)) sm a))
   calculated_ok inline.Truncated x y t u w d k K l0 l σ lt sm a =
-      within (machine p deepest ks F) M 9 30 σ.turns _ (Put p deepest ks F b t u w a_number k K l0) (Away p deepest ks F b d K) (settled (outcome_of (arithmetic_of inline.Truncated x.number y.number)) σ) (omega arith)
+      within (machine p deepest ks F) M 9 41 σ.turns _ (Put p deepest ks F b t u w a_number k K l0) (Away p deepest ks F b d K) (settled (outcome_of (arithmetic_of inline.Truncated x.number y.number)) σ) (omega arith)
       (divisor_ok y (Ok (int_div x.number y.number)) (suc t) u w d 4 (suc t) _ K l σ (omega (arith, lt)) a.right a.fit (Put p deepest ks F b t u w a_number k K l0)
       (λ nz. whole_ok bin.DivS x y (int_div x.number y.number) t u w d k K l0 l σ (quotient_small x y nz) (quotient_word x y nz) (omega (arith, lt)) sm a))
 
   -- the code of all cases
   pub plainly_calculated : (o : Arithmetic) (es : Codes) → CodesOk p deepest ks F b M n es → (v : Bool) (fs : List Form) (env : Env fs) (ts : List ℕ) (st : ℕ → Standing) (t u w d : ℕ) (k : Instructions) (K : List Label) (l : Locals) (σ : State) →
       sorted (context p deepest ks F b M n) fs (Do (Inline o) es) ≡ true → WellUsed p deepest ks F b M n fs (λ i. held_after i (Do (Inline o) es) (st i)) → t + room (Do (Inline o) es) ≤ b.temporaries → w + arrays_in (Do (Inline o) es) ≤ b.arrays → Ready p deepest ks F b M n fs env ts st t u w (loops_walked K) l σ →
-      Reached p deepest ks F b M (30 + (works_of es + extra_of es)) σ.turns (at ks [] K (laid b l) F (all_emitted (layout p deepest ks F b M n) fs ts es t w d (all_converted (layout p deepest ks F b M n) fs two_wanted es t d (calculated b o t d k))) (beside_state p deepest ks F σ))
+      Reached p deepest ks F b M (41 + (works_of es + extra_of es)) σ.turns (at ks [] K (laid b l) F (all_emitted (layout p deepest ks F b M n) fs ts es t w d (all_converted (layout p deepest ks F b M n) fs two_wanted es t d (calculated b o t d k))) (beside_state p deepest ks F σ))
       (Done p deepest ks F b M n v (Do (Inline o) es) fs env ts st t u w k K l σ) (Away p deepest ks F b d K) (meant p deepest ks F b M n fs env (Do (Inline o) es) σ)
   unfolding evaluated all_evaluated sorted all_sorted
   plainly_calculated o es ok v fs env ts st t u w d k K l σ so us rm ar rd =
       let s2 = and_parts (fit_row fs two_wanted es) (all_sorted (context p deepest ks F b M n) fs es) so in
       let ee = extra_enough es in
       let P = Done p deepest ks F b M n v (Do (Inline o) es) fs env ts st t u w k K l σ in
-      row_then p deepest ks F b M n two_wanted es ok fs env ts st t u w d (calculated b o t d k) K l σ 30 (30 + (works_of es + extra_of es)) P (λ r. settled (outcome_of (arithmetic_of o r.0.number r.1.0.number)))
+      row_then p deepest ks F b M n two_wanted es ok fs env ts st t u w d (calculated b o t d k) K l σ 41 (41 + (works_of es + extra_of es)) P (λ r. settled (outcome_of (arithmetic_of o r.0.number r.1.0.number)))
       s2.0 s2.1 us (omega (arith, rm)) ar rd (omega (arith, ee))
       (λ r τ c le a.
-      first (machine p deepest ks F) M 0 30 30 τ.turns c _ P (Away p deepest ks F b d K) _ (record { it = a.comes }) (omega arith)
-      (weaker_settled (machine p deepest ks F) M 30 _ τ (Put p deepest ks F b t u w a_number k K a.next) P (Away p deepest ks F b d K) (outcome_of (arithmetic_of o r.0.number r.1.0.number))
+      first (machine p deepest ks F) M 0 41 41 τ.turns c _ P (Away p deepest ks F b d K) _ (record { it = a.comes }) (omega arith)
+      (weaker_settled (machine p deepest ks F) M 41 _ τ (Put p deepest ks F b t u w a_number k K a.next) P (Away p deepest ks F b d K) (outcome_of (arithmetic_of o r.0.number r.1.0.number))
       (λ z c2 q. put_done p deepest ks F b M n (Do (Inline o) es) v fs env ts st t u w k K l a.next σ τ z c2 rd.below a.same a.own a.kept refl tt q)
       (calculated_ok o r.0 r.1.0 t u w d k K a.next a.next τ (omega (arith, rm)) (same_self [] t w a.next) (two_row es t u w a.next τ r a.fit a.row))))

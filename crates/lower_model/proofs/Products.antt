@@ -5,10 +5,11 @@ use Rattle.std.specs.Int.{cast_signed, cast_unsigned, int_wrap}
 use Rattle.std.proofs.lemmas.Int.{ints, to_z-of_z, of_z-to_z, int_wrap_fits, int_wrap-add_left, wrapping_add-bits, wrapping_sub-bits, wrapping_mul-bits, SFits-int_wrap, quot-rem, rem_below, unsigned_abs-mul, fits_signed_from_abs}
 use Rattle.std.proofs.Math.Nat.{mul-div_cancel, div-mul-le_self, mul-le-mul_left}
 use Rattle.std.proofs.Math.IntN.{*ℤ_comm}
-use Rattle.std.proofs.lemmas.Bool.{eq-eqb, eqb-true, leb-true, le-leb, lt-ltb, ltb-true, ne_eqb, cases_lt}
+use Rattle.std.proofs.lemmas.Bool.{eq-eqb, eqb-true, leb-true, le-leb, lt-ltb, ltb-true, ltb-false, ne_eqb, cases_lt}
 use Rattle.sem_primitives.proofs.Words.{fits}
 use Rattle.wasm_store.specs.declared.trap.TrapKind.TheVariants.{DivideByZero, IntegerOverflow}
 use Rattle.wasm_store.specs.Integers.{difference, quotient_signed, is_integer}
+use Rattle.lower_model.specs.Arithmetic.{near}
 
 abbrev pub word : ℤ → ℕ
 word z = cast_unsigned w64 z
@@ -90,6 +91,33 @@ out_word (negsuc n) f = by (nat_le (suc n) (2 ^ 53)) refl
         let h = beyond (suc n) (2 ^ 53) e in
         let same : (2 ^ 64 - suc n + 2 ^ 53) % 2 ^ 64 ≡ 2 ^ 64 - suc n + 2 ^ 53 = mod_small (2 ^ 64 - suc n + 2 ^ 53) (omega (arith, h, small-n)) in
         ap (nat_lt (2 ^ 54)) same ∙ less_not (2 ^ 54) (2 ^ 64 - suc n + 2 ^ 53) true (λ x. omega (arith, h, small-n)) (λ x. absurd (true≢false x))
+
+-- Numbers near 0, and their products.
+
+abbrev pub is_far : ℕ → Bool
+is_far n = nat_lt (near + near) ((n + near) % 2 ^ 64)
+
+near_word : (z : ℤ) → unsigned_abs z ≤ 2 ^ 53 → is_far (word z) ≡ false → unsigned_abs z ≤ near
+near_word (pos n) h e =
+    let same = mod_small (n + near) (omega (arith, h)) in
+    let le = ltb-false (near + near) ((n + near) % 2 ^ 64) e in
+    omega (arith, same, le)
+near_word (negsuc n) h e = by (nat_le (suc n) near) refl
+  where
+    by : (q : Bool) → nat_le (suc n) near ≡ q → suc n ≤ near
+    by true i = within (suc n) near i
+    by false i =
+        let lt = beyond (suc n) near i in
+        let same = mod_small (2 ^ 64 - suc n + near) (omega (arith, lt, h)) in
+        let le = ltb-false (near + near) ((2 ^ 64 - suc n + near) % 2 ^ 64) e in
+        absurd (omega (arith, same, le, lt, h))
+
+pub product_near : (m n : ℤ) → unsigned_abs m ≤ 2 ^ 53 → unsigned_abs n ≤ 2 ^ 53 → is_far (word m) ≡ false → is_far (word n) ≡ false → unsigned_abs (m *ℤ n) ≤ 2 ^ 53
+product_near m n hm hn em en =
+    let am = near_word m hm em in
+    let s : unsigned_abs m * unsigned_abs n ≤ unsigned_abs m * near = mul-le-mul_left (unsigned_abs m) (near_word n hn en) in
+    let e = unsigned_abs-mul m n in
+    omega (arith, am, s, e)
 
 -- Products.
 

@@ -11,7 +11,7 @@ use Rattle.mid_program.specs.Sorted.{has_kind, same_kind, calls_of, kinds_of}
 use Rattle.sem_scripts.specs.Statements.{Flow, returned, entered_with}
 use Rattle.lower_model.specs.Cells.{Cell, Gone}
 use Rattle.lower_model.specs.Functions.{layout_of, routine_bases}
-use Rattle.lower_model.specs.Machine.{Notes, Conf, Label, Frame}
+use Rattle.lower_model.specs.Machine.{Notes, Conf, Label, Frame, makes_few}
 use Rattle.lower_model.specs.Noted.{noted_called, steps_noted, routine_rest}
 use Rattle.lower_model.specs.Places.{Bases}
 use Rattle.lower_model.proofs.Observer.{Observer}
@@ -122,10 +122,10 @@ module _ (p : Program) (deepest : Observer) where
     came_back K L k σ w l c (Stops Exited τ) e a = lost K L k Exited tt τ w l c a
 
     calls_do : CallsOk p deepest M n → CallsDo p deepest ks F b M n
-    calls_do calls f own words K L rest σ lt wt g s le =
+    calls_do calls f own words K L rest σ lt wt mf g s le =
         within (machine p deepest ks F) M 0 20 σ.turns _ (CameBack p deepest ks F b M n K L rest σ) (LeftCall p deepest ks F b M n K L rest) (go_on (spent σ.turns σ) (λ x. noted_called deepest.notes p n f own)) (omega arith)
         (came_back K L rest σ 0 σ.turns _ (go_on (spent σ.turns σ) (λ x. noted_called deepest.notes p n f own)) (spent_ends deepest.notes p n f own σ.turns σ)
-        (calls f lt ks F K L rest words own σ wt (given (routine_at p.routines f).parameters (parameters_at (calls_of p) f) (function.waiting ks K L rest ∷ F) own words (parameters_of p.routines f) g) s le))
+        (calls f lt ks F K L rest words own σ wt (subst (λ (x : List Kind). makes_few x L ≡ true) (parameters_of p.routines f) mf) (given (routine_at p.routines f).parameters (parameters_at (calls_of p) f) (function.waiting ks K L rest ∷ F) own words (parameters_of p.routines f) g) s le))
 
 pub exprs_do : (p : Program) (M : ℕ) (deepest : Observer) (n : ℕ) → 40 + 4 * length (kinds_of p.globals) ≤ M → CallsOk p deepest M n → (ks : List Kind) (F : List Frame) (b : Bases) (e : Code) → ExprOk p deepest ks F b M n e
 exprs_do p M deepest n paid calls ks F b e = expr_ok p deepest ks F b M n (record { paid = paid; calls = calls_do p deepest ks F b M n calls }) e

@@ -8,7 +8,7 @@ use Rattle.sem_scripts.specs.ScriptState.{State}
 use Rattle.mid_program.specs.Sorted.{has_kind}
 use Rattle.lower_model.specs.Cells.{Cell, Bits, Held, IteratorOf, OwnedArray, LentArray, Gone, arrays_owned, is_array, is_owned, is_held, is_iterator, iterators_in, is_operand, locals_wait, no_value, operands_wait}
 use Rattle.lower_model.specs.Emission.{Layout, all_freed}
-use Rattle.lower_model.specs.Machine.{Label, Frame, arrays_freed, loops_walked, waits}
+use Rattle.lower_model.specs.Machine.{Label, Frame, arrays_freed, array_kinds, loops_walked, makes_few, waits}
 use Rattle.lower_model.specs.Places.{Bases}
 use Rattle.lower_model.specs.Small.{answer_kept}
 use Rattle.lower_model.proofs.Observer.{Observer}
@@ -121,6 +121,12 @@ module _ (p : Program) (deepest : Observer) (ks : List Kind) (F : List Frame) (b
       let e5 = first_arrays l.array b.arrays w [] (λ i le. ap is_array (fit.spare i le)) in
       let e : arrays_owned (laid b l) ≡ arrays_owned (cells l.array b.arrays ++ []) = e0 ∙ (e1 ∙ (e2 ∙ (e3 ∙ e4))) in
       omega (arith, e, e5)
+
+  -- nor more than a function is given
+  pub makes_few_there : (t u w : ℕ) (l : Locals) (σ : State) → Fit p deepest ks F t u w l σ → length ks ≡ b.parameters → (kinds : List Kind)
+      → w ≤ array_kinds kinds → makes_few kinds (laid b l) ≡ true
+  makes_few_there t u w l σ fit same kinds enough =
+      le-leb (arrays_owned (laid b l)) (array_kinds kinds) (let a = few_arrays t u w l σ fit same in omega (arith, a, enough))
 
   parameters_wait : (js : List Kind) (f : ℕ → Cell) (m x : ℕ) (rest : List Cell) → x ≡ suc (length js) + m → ((i : ℕ) (k : Kind) → has_kind js i k ≡ true → ParamLoose p deepest ks F k (f i)) → locals_wait (suc m) [] rest ≡ true → locals_wait x js (cells f (length js) ++ rest) ≡ true
   parameters_wait [] f m x rest e h r = let q : x ≡ suc m = omega (arith, e) in ap (λ z. locals_wait z [] rest) q ∙ r

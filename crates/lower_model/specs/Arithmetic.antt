@@ -1,5 +1,5 @@
 -- Arithmetic and comparison that the module carries out itself. Operands stand in a temporary and the next one; the result goes to the first.
-use Rattle.std.specs.Prelude.{ℕ, suc, ◌^◌, Bool, true, false, ◌||◌, if◌then◌else◌}
+use Rattle.std.specs.Prelude.{ℕ, zero, suc, ◌+◌, ◌^◌, Bool, true, false, ◌||◌, None, if◌then◌else◌}
 use Rattle.awk_text.specs.Number.{largest}
 use Rattle.awk_values.specs.declared.fault.Fault.TheVariants.{Range, DivisionByZero, Inexact, FieldNumber}
 use Rattle.awk_values.specs.declared.comparison.CompareOp.{CompareOp}
@@ -9,9 +9,9 @@ use Rattle.sem_primitives.specs.Limits.{most_fields}
 use Rattle.sem_primitives.specs.declared.sorts.Sort.TheVariants as sort
 use Rattle.sem_primitives.specs.declared.sorts.Answer.TheVariants as answer
 use Rattle.sem_primitives.specs.declared.table.Primitive.TheVariants as row
-use Rattle.wasm_types.specs.Syntax.{Instructions, Done}
+use Rattle.wasm_types.specs.Syntax.{Block, Instructions, Done, Then}
 use Rattle.wasm_types.specs.declared.types.ValType.TheVariants.{I32, I64}
-use Rattle.wasm_types.specs.declared.instr.Simple.TheVariants.{LocalGet, LocalSet, I32Const, I64Const, Test, Compare, Binary, Convert}
+use Rattle.wasm_types.specs.declared.instr.Simple.TheVariants.{Br, BrIf, LocalGet, LocalSet, I32Const, I64Const, Test, Compare, Binary, Convert}
 use Rattle.wasm_types.specs.declared.instr.IBinOp.{IBinOp}
 use Rattle.wasm_types.specs.declared.instr.IBinOp.TheVariants.{Add, Sub, Mul, DivS, RemS, And, Or}
 use Rattle.wasm_types.specs.declared.instr.IRelOp.{IRelOp}
@@ -43,10 +43,28 @@ factors_differ product left right after =
     (emit (LocalGet right) (emit (Compare I64 Ne)
     (emit (LocalGet left) (emit (I64Const 0) (emit (Compare I64 Ne) (emit (Binary I32 And) after))))))))))))
 
-abbrev pub times : ℕ → ℕ → ℕ → ℕ → Instructions → Instructions
-times left right product exit after = two_numbers left right Mul (emit (LocalSet product)
+-- a product of any two numbers
+abbrev pub any_product : ℕ → ℕ → ℕ → ℕ → Instructions → Instructions
+any_product left right product exit after = two_numbers left right Mul (emit (LocalSet product)
     (factors_differ product left right
     (out_of_range product (emit (Binary I32 Or) (fail_if Range exit (emit (LocalGet product) (emit (LocalSet left) after)))))))
+
+-- numbers of at most this size are near 0: the product of two is in range
+abbrev pub near : ℕ
+near = 2 ^ 26
+
+-- whether the number in a local is far from 0
+abbrev pub far_off : ℕ → Instructions → Instructions
+far_off local after = emit (LocalGet local) (emit (I64Const near) (emit (Binary I64 Add) (emit (I64Const (near + near)) (emit (Compare I64 GtU) after))))
+
+-- within two blocks: the product of two numbers near 0, and out of both; where one is far, out of the inner one
+abbrev pub near_product : ℕ → ℕ → Instructions → Instructions
+near_product left right after = far_off left (emit (BrIf zero) (far_off right (emit (BrIf zero) (two_numbers left right Mul
+    (emit (LocalSet left) (emit (Br 1) after))))))
+
+abbrev pub times : ℕ → ℕ → ℕ → ℕ → Instructions → Instructions
+times left right product exit after =
+    Then (Block None (Then (Block None (near_product left right Done)) (any_product left right product (suc exit) Done))) after
 
 abbrev pub unless_zero : ℕ → ℕ → Instructions → Instructions
 unless_zero right exit after = emit (LocalGet right) (emit (Test I64 Eqz) (fail_if DivisionByZero exit after))

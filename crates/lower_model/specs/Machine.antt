@@ -14,7 +14,7 @@ use Rattle.wasm_store.specs.declared.word.Word.{Word}
 use Rattle.wasm_store.specs.declared.word.Word.TheVariants.{I32}
 use Rattle.wasm_store.specs.Words.{binary_of, test_of, compare_of, converted, flag, zero_of}
 use Rattle.wasm_model.specs.Frames.{constant_of}
-use Rattle.mid_program.specs.Mid.{Kind}
+use Rattle.mid_program.specs.Mid.{Kind, ArrayKind}
 use Rattle.awk_values.specs.declared.value.Value.{Value}
 use Rattle.world_core.specs.WorldState.{Action}
 use Rattle.sem_scripts.specs.ScriptRun.{Ending, Ended, FaultedBy, GoesOn, Exhausted}
@@ -273,13 +273,23 @@ abbrev pub waits : List Kind → List Label → List Cell → Instructions → B
 waits kinds labels locals rest =
     locals_wait (answers_to rest) kinds locals && (nat_eq (iterators_in locals) (loops_walked labels) && nat_le (arrays_owned locals) (freed_next rest))
 
+-- how many of these kinds are an array's
+abbrev pub array_kinds : List Kind → ℕ
+array_kinds [] = 0
+array_kinds (ArrayKind ∷ kinds) = suc (array_kinds kinds)
+array_kinds (kind ∷ kinds) = array_kinds kinds
+
+-- a caller has made at most an array for each that a function with these parameters is given
+abbrev pub makes_few : List Kind → List Cell → Bool
+makes_few kinds locals = nat_le (arrays_owned locals) (array_kinds kinds)
+
 -- the arguments are the first locals; nothing that is owned waits on the stack of a caller
 abbrev pub enter : ℕ → Option Callee → List Kind → List Cell → List Label → List Cell → List Frame → Instructions → Store → Conf
 enter deepest None kinds stack labels locals callers rest store = Stuck
 enter deepest (Some callee) kinds stack labels locals callers rest store =
     let count = length callee.kinds in
     let under = drop count stack in
-    guarded ((nat_le count (length stack) && none_owned under) && waits kinds labels locals rest)
+    guarded (((nat_le count (length stack) && none_owned under) && waits kinds labels locals rest) && makes_few callee.kinds locals)
     (cond (nat_lt (length callers) deepest)
     (at callee.kinds [] [] (reverse (take count stack) ++ zeros callee.locals)
     (record { kinds = kinds; under = under; labels = labels; locals = locals; rest = rest } ∷ callers) callee.body store)

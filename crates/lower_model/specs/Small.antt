@@ -154,12 +154,22 @@ module _ (bases : Bases) where
   boxed_perhaps temporary put after =
       number_is (number_local bases temporary) least (emit_if (ask_row row.Uninit (emit put Done)) (boxed_number temporary (emit put Done)) after)
 
+  -- whether an unboxed name has no number: the two words that are none are the least ones
+  abbrev pub unnumbered : ℕ → Instructions → Instructions
+  unnumbered temporary after = emit (LocalGet (number_local bases temporary)) (emit (I64Const text_beside) (emit (Compare I64 LeS) after))
+
+  -- the uninitialised value where there is nothing yet; a text beside is a value already
+  abbrev pub nothing_boxed : ℕ → Instructions → Instructions
+  nothing_boxed temporary after =
+      number_is (number_local bases temporary) least (when (ask_row row.Uninit (emit (LocalSet (handle_local bases temporary)) Done)) after)
+
   abbrev pub to_value : Form → ℕ → Instructions → Instructions
   to_value (PrimitiveAnswer (answer.Of sort.Value)) temporary after = after
   to_value (PrimitiveAnswer (answer.Of sort.Number)) temporary after = boxed_number temporary (emit (LocalSet (handle_local bases temporary)) after)
   to_value (PrimitiveAnswer answer.Truth) temporary after = boxed_number temporary (emit (LocalSet (handle_local bases temporary)) after)
   to_value NumberOrText temporary after =
-      number_is (number_local bases temporary) text_beside (emit_if Done (boxed_perhaps temporary (LocalSet (handle_local bases temporary)) Done) after)
+      unnumbered temporary
+      (emit_if (nothing_boxed temporary Done) (boxed_number temporary (emit (LocalSet (handle_local bases temporary)) Done)) after)
   to_value OptionalNumber temporary after = boxed_perhaps temporary (LocalSet (handle_local bases temporary)) after
   to_value _ temporary after = ask_row row.Uninit (emit (LocalSet (handle_local bases temporary)) after)
 
@@ -175,10 +185,6 @@ module _ (bases : Bases) where
 
   abbrev pub number_of_value : ℕ → ℕ → Instructions → Instructions
   number_of_value temporary exit after = moved_out (handle_local bases temporary) (ask_row row.ToNum (kept_number true temporary exit after))
-
-  -- whether an unboxed name has no number: the two words that are none are the least ones
-  abbrev pub unnumbered : ℕ → Instructions → Instructions
-  unnumbered temporary after = emit (LocalGet (number_local bases temporary)) (emit (I64Const text_beside) (emit (Compare I64 LeS) after))
 
   -- the number of a text beside, and 0 where there is none yet
   abbrev pub number_made : ℕ → ℕ → Instructions → Instructions

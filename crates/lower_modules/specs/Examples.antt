@@ -35,7 +35,8 @@ one_more u = Eval (Set (Global u 0) (with_one Plus u))
 abbrev below_three : Bool → Code
 below_three u = Compare Less (Get (Global u 0)) (Number (pos 3))
 
--- wherever they stand, a sum and a difference have a quick way where n is unboxed, and the code of all cases in an `if` beside it; a product has none
+-- wherever they stand, a sum and a difference have a quick way where n is unboxed, and the code of all cases in an `if` beside it;
+-- the operands of a product are evaluated outside its blocks
 sum_anywhere : labels_in (with_one Plus true) ≡ 1 × labels_in (with_one Minus true) ≡ 1 × labels_in (with_one Plus false) ≡ 0 × labels_in (with_one Times true) ≡ 0
 sum_anywhere = (refl, refl, refl, refl)
 

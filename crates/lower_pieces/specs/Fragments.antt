@@ -7,9 +7,10 @@ use Rattle.wasm_types.specs.Syntax.{Instructions, Done}
 use Rattle.wasm_types.specs.declared.instr.CvtOp.TheVariants.{I64ExtendI32U}
 use Rattle.wasm_types.specs.declared.instr.Simple.TheVariants.{Convert, I32Const, LocalSet}
 use Rattle.mid_program.specs.Mid.{Form}
-use Rattle.lower_model.specs.Arithmetic.{numbers_compared, texts_beside, values_compared}
+use Rattle.lower_model.specs.Arithmetic.{any_product, near_product, numbers_compared, texts_beside, values_compared}
 use Rattle.lower_model.specs.Places.{Bases, handle_local, number_local}
 use Rattle.lower_model.specs.Small.{ask_row, emit, emit_if, kept_code, moved_out, number_is, text_beside, zeroed}
+use Rattle.lower_model.specs.Statements.{block}
 
 -- what an unboxed name has becomes a number with its truth
 abbrev pub emit_truth : Bases → ℕ → Instructions → Instructions
@@ -17,6 +18,10 @@ emit_truth bases temporary after =
     number_is (number_local bases temporary) text_beside
     (emit_if (moved_out (handle_local bases temporary) (ask_row Truth (emit (Convert I64ExtendI32U) (emit (LocalSet (number_local bases temporary)) Done))))
     (zeroed bases temporary Done) after)
+
+-- a product's quick way, in a block, and then the one of all cases
+abbrev pub product_inside : ℕ → ℕ → ℕ → ℕ → Instructions → Instructions
+product_inside left right product exit after = block (near_product left right Done) (any_product left right product (suc exit) after)
 
 -- the host is asked for a comparison of two values
 abbrev pub host_compared : Bases → CompareOp → ℕ → ℕ → Instructions → Instructions

@@ -1,13 +1,14 @@
 //! Arithmetic that the module carries out itself. Operands stand in a temporary and in the one behind it; the result goes to the first.
 ghost use Rattle.std.specs.Prelude.{suc, ◌≤◌};
-ghost use Rattle.lower_model.specs.Arithmetic.{calculated, factors_differ, field_checked, out_of_range, ranged, times, two_numbers, unless_broken, unless_zero};
+ghost use Rattle.lower_model.specs.Arithmetic.{any_product, calculated, factors_differ, far_off, field_checked, near_product, out_of_range, ranged, times, two_numbers, unless_broken, unless_zero};
 ghost use Rattle.lower_model.specs.Small.{emit};
 ghost use Rattle.wasm_types.specs.declared.instr.Simple.TheVariants.{LocalSet};
 ghost use Rattle.lower_pieces.specs.Bounds.{most_labels, most_places};
-ghost use Rattle.lower_pieces.specs.Emits.{Emits};
+ghost use Rattle.lower_pieces.specs.Emits.{Emits, Holds};
+ghost use Rattle.lower_pieces.specs.Fragments.{product_inside};
 
 use crate::bases::Bases;
-use crate::emission::{emit, emit_all};
+use crate::emission::{block, emit, emit_all};
 use crate::emitted::Emitted;
 use crate::faults::fail_if;
 use awk_text::MAX_NUMBER;
@@ -16,6 +17,9 @@ use mid_program::Arithmetic;
 use sem_primitives::MAX_FIELDS;
 use std::alloc::Global;
 use wasm_types::{CvtOp, IBinOp, IRelOp, ITestOp, Simple, ValType};
+
+/// Numbers of at most this size are near 0: the product of two is in range.
+const NEAR: u64 = 1 << 26;
 
 /// Adds the test whether a local's number is out of range.
 fn out_of_range(out: &mut Emitted, local: u32)
@@ -77,10 +81,10 @@ fn factors_differ(out: &mut Emitted, product: u32, left: u32, right: u32)
     emit_all(out, &all);
 }
 
-/// Adds a product, which stands in `product` until it is known to be in range.
-fn times(alloc: Global, out: &mut Emitted, left: u32, right: u32, product: u32, exit: u32)
-    requires { exit ≤ most_labels }
-    ensures { Emits out.old out.new (times left right product exit) }
+/// Adds a product of any two numbers, which stands in `product` until it is known to be in range.
+fn any_product(alloc: Global, out: &mut Emitted, left: u32, right: u32, product: u32, exit: u32)
+    requires { exit ≤ suc most_labels }
+    ensures { Emits out.old out.new (any_product left right product exit) }
 {
     combined(out, IBinOp::Mul, left, right, product);
     factors_differ(out, product, left, right);
@@ -88,6 +92,57 @@ fn times(alloc: Global, out: &mut Emitted, left: u32, right: u32, product: u32, 
     emit(out, Simple::Binary(ValType::I32, IBinOp::Or));
     fail_if(alloc, out, Fault::Range, exit);
     emit_all(out, &[Simple::LocalGet(product), Simple::LocalSet(left)]);
+}
+
+/// Adds the test whether a local's number is far from 0.
+fn far_off(out: &mut Emitted, local: u32)
+    ensures { Emits out.old out.new (far_off local) }
+{
+    let all = [
+        Simple::LocalGet(local),
+        Simple::I64Const(NEAR),
+        Simple::Binary(ValType::I64, IBinOp::Add),
+        Simple::I64Const(NEAR + NEAR),
+        Simple::Compare(ValType::I64, IRelOp::GtU),
+    ];
+    emit_all(out, &all);
+}
+
+/// The product of two numbers near 0, which leaves two blocks. Where one is far, the inner block alone is left.
+fn near_product(alloc: Global, left: u32, right: u32) -> Emitted
+    ensures { Holds result (near_product left right) }
+{
+    let mut code = Emitted::new(alloc);
+    far_off(&mut code, left);
+    emit(&mut code, Simple::BrIf(0));
+    far_off(&mut code, right);
+    emit(&mut code, Simple::BrIf(0));
+    combined(&mut code, IBinOp::Mul, left, right, left);
+    emit(&mut code, Simple::Br(1));
+    code
+}
+
+/// What a product's block has inside: the quick way in a block of its own, and then that of all cases.
+fn product_inside(alloc: Global, left: u32, right: u32, product: u32, exit: u32) -> Emitted
+    requires { exit ≤ most_labels }
+    ensures { Holds result (product_inside left right product exit) }
+{
+    let mut code = Emitted::new(alloc);
+    block(alloc, &mut code, near_product(alloc, left, right));
+    any_product(alloc, &mut code, left, right, product, exit + 1);
+    code
+}
+
+/// Adds a product.
+fn times(alloc: Global, out: &mut Emitted, left: u32, right: u32, product: u32, exit: u32)
+    requires { exit ≤ most_labels }
+    ensures { Emits out.old out.new (times left right product exit) }
+{
+    block(
+        alloc,
+        out,
+        product_inside(alloc, left, right, product, exit),
+    );
 }
 
 /// Leaves where a divisor is 0.

@@ -1,5 +1,5 @@
 //! Faults that the module itself finds.
-ghost use Rattle.std.specs.Prelude.{◌≤◌};
+ghost use Rattle.std.specs.Prelude.{suc, ◌≤◌};
 ghost use Rattle.lower_model.specs.Small.{fail_if, number_is};
 ghost use Rattle.lower_pieces.specs.Bounds.{most_labels};
 ghost use Rattle.lower_pieces.specs.Emits.{Emits};
@@ -13,7 +13,7 @@ use wasm_types::{IRelOp, Simple, ValType};
 
 /// Keeps a fault and leaves the function, whose exit is `exit` labels further out, where the topmost operand is not 0.
 pub fn fail_if(alloc: Global, out: &mut Emitted, fault: Fault, exit: u32)
-    requires { exit ≤ most_labels }
+    requires { exit ≤ suc most_labels }
     ensures { Emits out.old out.new (fail_if fault exit) }
 {
     let all = [

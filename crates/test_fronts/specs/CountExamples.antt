@@ -94,7 +94,7 @@ unfolding emitted all_emitted step_emitted steps_emitted digits
 kept_from_the_start = refl
 
 -- 15 steps a round and no import; boxed, 44 steps and 7 imports
-pub unboxed_rounds : (steps_of (counting true 10) ≡ 290) × ((steps_of (counting true 20) ≡ 440) × (imports_of (counting true 10) ≡ 7))
+pub unboxed_rounds : (steps_of (counting true 10) ≡ 286) × ((steps_of (counting true 20) ≡ 436) × (imports_of (counting true 10) ≡ 7))
 unfolding emitted all_emitted step_emitted steps_emitted digits
 unboxed_rounds = (refl, (refl, refl))
 
@@ -147,7 +147,7 @@ unfolding emitted all_emitted step_emitted steps_emitted digits sorted all_sorte
 summed_to_ten = (refl, refl)
 
 -- 35 steps a round
-pub summing_rounds : (steps_of (summing 10) ≡ 478) × (steps_of (summing 20) ≡ 828)
+pub summing_rounds : (steps_of (summing 10) ≡ 474) × (steps_of (summing 20) ≡ 824)
 unfolding emitted all_emitted step_emitted steps_emitted digits
 summing_rounds = (refl, refl)
 

@@ -28,7 +28,7 @@ steps_on given script =
     steps_within (emitted_of program 9999) 4000 (begun program (setting_of no_job given empty))
 
 -- function f(x) { if (x == "b") next; return x } { print "<" f($1) ">" }
-pub next_in_function : suc (steps_on (input (codes "a\nb\nc\n")) scripts.next_in_function) ≡ 338
+pub next_in_function : suc (steps_on (input (codes "a\nb\nc\n")) scripts.next_in_function) ≡ 346
 unfolding special_arrays special_scalars emitted all_emitted step_emitted steps_emitted texts_in all_texts stmt_texts stmts_texts code_of codes_of key_code kept_code argument_codes truncated_code applied_code step_code steps_code numeral_at sign_at fraction_at exponent_at numerator denominator digits unescaped escaped octal keywords builtins left_out_words table sign_of
 next_in_function = refl
 

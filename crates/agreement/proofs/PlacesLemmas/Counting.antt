@@ -8,9 +8,9 @@ use Rattle.wasm_store.specs.declared.word.Word.TheVariants.{I32, I64}
 use Rattle.wasm_model.specs.Machines.{CallerForm}
 use Rattle.mid_program.specs.Mid.{Kind, Boxed, Unboxed, ArrayKind}
 use Rattle.lower_model.specs.Cells.{Cell, Bits, Held, IteratorOf, OwnedArray, LentArray, Gone, arrays_owned, count_cells, each_name, ended_name, globals_by, is_array, is_bare, is_iterator, is_owned, iterators_in, no_temporary, none_owned, tidy_locals, tidy_name}
-use Rattle.lower_model.specs.Machine.{Frame, ending_name}
+use Rattle.lower_model.specs.Machine.{Frame, array_kinds, ending_name}
 use Rattle.agreement.specs.Refined.Owners.{owners, owns_sort, waiting}
-use Rattle.agreement.specs.Places.NoLeaks.{GlobalsHold, LocalsHold, NameHolds, NameMayHold, NamesHold, OnlyIterators, arrays, boxed, count, holders, holders_waiting, holds, one, scalars}
+use Rattle.agreement.specs.Places.NoLeaks.{GlobalsHold, LocalsHold, NameHolds, NameMayHold, NamesHold, OnlyIterators, boxed, count, holders, holders_waiting, holds, one, scalars}
 
 -- what a place holds, by its cell
 abbrev pub held_in : Cell → Option Sort
@@ -250,7 +250,7 @@ values_of (Boxed ∷ ks) = let r = values_of ks in omega (arith, r)
 values_of (Unboxed ∷ ks) = let r = values_of ks in omega (arith, r)
 values_of (ArrayKind ∷ ks) = let r = values_of ks in omega (arith, r)
 
-arrays_of : (ks : List Kind) → of_kinds sort.Array ks ≡ arrays ks
+arrays_of : (ks : List Kind) → of_kinds sort.Array ks ≡ array_kinds ks
 arrays_of [] = refl
 arrays_of (Boxed ∷ ks) = let r = arrays_of ks in omega (arith, r)
 arrays_of (Unboxed ∷ ks) = let r = arrays_of ks in omega (arith, r)
@@ -266,14 +266,14 @@ module _ (before : ℕ) (ks : List Kind) (os : List (Option Sort)) (h : GlobalsH
   pub global_values : count sort.Value os ≤ scalars ks
   global_values = let x = globals_counted sort.Value before ks os h in let y = values_of ks in omega (arith, x, y)
 
-  pub global_arrays : count sort.Array os ≤ arrays ks
+  pub global_arrays : count sort.Array os ≤ array_kinds ks
   global_arrays = let x = globals_counted sort.Array before ks os h in let y = arrays_of ks in omega (arith, x, y)
 
   pub global_iterators : count sort.Iterator os ≡ 0
   global_iterators = let x = globals_counted sort.Iterator before ks os h in let y = iterators_of ks in omega (arith, x, y)
 
 -- each name of an array holds one, and no other name does
-arrays_held : (ks : List Kind) (os : List (Option Sort)) → NamesHold NameHolds ks os → count sort.Array os ≡ arrays ks
+arrays_held : (ks : List Kind) (os : List (Option Sort)) → NamesHold NameHolds ks os → count sort.Array os ≡ array_kinds ks
 arrays_held [] [] h = refl
 arrays_held [] (o ∷ os) h = absurd h
 arrays_held (k ∷ ks) [] h = absurd h
@@ -282,7 +282,7 @@ arrays_held (Boxed ∷ ks) (o ∷ (n ∷ os)) h = let x = ap (one sort.Array) h.
 arrays_held (Unboxed ∷ ks) (o ∷ (n ∷ os)) h = let x = either_counted sort.Array sort.Value o h.0 in let y = ap (one sort.Array) h.1 in let r = arrays_held ks os h.2 in omega (arith, x, y, r)
 arrays_held (ArrayKind ∷ ks) (o ∷ (n ∷ os)) h = let x = ap (one sort.Array) h.0 in let y = ap (one sort.Array) h.1 in let r = arrays_held ks os h.2 in omega (arith, x, y, r)
 
-pub global_arrays_are : (before : ℕ) (ks : List Kind) (os : List (Option Sort)) → GlobalsHold NameHolds before ks os → count sort.Array os ≡ arrays ks
+pub global_arrays_are : (before : ℕ) (ks : List Kind) (os : List (Option Sort)) → GlobalsHold NameHolds before ks os → count sort.Array os ≡ array_kinds ks
 global_arrays_are zero ks os h = arrays_held ks os h
 global_arrays_are (suc n) ks [] h = arrays_held ks [] h
 global_arrays_are (suc n) ks (o ∷ os) h = let x = ap (one sort.Array) h.0 in let r = global_arrays_are n ks os h.1 in omega (arith, x, r)

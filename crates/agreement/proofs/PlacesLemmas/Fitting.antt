@@ -17,7 +17,7 @@ use Rattle.mid_program.specs.Mid.{Kind}
 use Rattle.lower_model.specs.Cells.{Cell, Bits, Held, LentArray, OwnedArray, IteratorOf, Gone, cell_at, globals_by, is_owned, left_by, left_in_global, none_owned}
 use Rattle.lower_model.specs.ImportCalls.{Host, call, look}
 use Rattle.host_imports.specs.Imports.{import_at, import_count}
-use Rattle.lower_model.specs.Machine.{Code, Callee, Conf, Run, Look, Over, Deep, Stuck, Frame, Label, Store, act, ask, ask_looking, assigning_after, assigning_then, at, br, br_if, call_number, choose, compared, enter, go, guarded, label, leave, leave_function, onto, operated, push_result, push_word, run_looking, set_global, set_local, step, takes_look, tee_local, teed, waits, width, with_answer, with_operands, work, zeros, ending_name}
+use Rattle.lower_model.specs.Machine.{Code, Callee, Conf, Run, Look, Over, Deep, Stuck, Frame, Label, Store, act, ask, ask_looking, assigning_after, assigning_then, at, br, br_if, call_number, choose, compared, enter, go, guarded, label, leave, leave_function, makes_few, onto, operated, push_result, push_word, run_looking, set_global, set_local, step, takes_look, tee_local, teed, waits, width, with_answer, with_operands, work, zeros, ending_name}
 use Rattle.host_imports.specs.declared.import.Import.{Import}
 use Rattle.agreement.specs.Places.Places.{IsWithin, size}
 
@@ -208,8 +208,9 @@ module _ (u : Code) (instructions places globals : ℕ) (Own : List Kind → Typ
   enter_fits : (f : Option Callee) → ((g : Callee) → f ≡ Some g → Own g.kinds × IsWithin places instructions g) → (ks : List Kind) (vs : List Cell) (K : List Label) (L : List Cell) (F : List Frame) (c : Instructions) (G : Store) → CodeFits (suc (length vs)) c K → RestFits ks K L F G → Fits (enter u.deepest f ks vs K L F c G)
   enter_fits None w ks vs K L F c G h r = tt
   enter_fits (Some f) w ks vs K L F c G h r =
-      guarded_known ((nat_le (length f.kinds) (length vs) && none_owned (drop (length f.kinds) vs)) && waits ks K L c) _
-      (λ q. by (and_parts (nat_le (length f.kinds) (length vs) && none_owned (drop (length f.kinds) vs)) (waits ks K L c) q).1 (nat_lt (length F) u.deepest) refl)
+      guarded_known (((nat_le (length f.kinds) (length vs) && none_owned (drop (length f.kinds) vs)) && waits ks K L c) && makes_few f.kinds L) _
+      (λ q. by (and_parts (nat_le (length f.kinds) (length vs) && none_owned (drop (length f.kinds) vs)) (waits ks K L c)
+      (and_parts ((nat_le (length f.kinds) (length vs) && none_owned (drop (length f.kinds) vs)) && waits ks K L c) (makes_few f.kinds L) q).0).1 (nat_lt (length F) u.deepest) refl)
     where
       waiting : Frame
       waiting = record { kinds = ks; under = drop (length f.kinds) vs; labels = K; locals = L; rest = c }

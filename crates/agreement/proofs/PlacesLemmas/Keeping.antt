@@ -222,7 +222,7 @@ module _ (p : Program) where
       let no_more = no_words (arrays_made G.host) s.names vs ws none a.operands in
       let here = subst (λ (z : List Cell). RunAs (stays p) (called_imports p) u z K L F code G ws (settled_code c.frame.code) c s × TidyAt ks z K L G) none (a, tidy-is) in
       at_statement ks K L F code G ws (settled_code c.frame.code) c s here.0 (sym (operands_nop c.frame.values c.frame.code e) ∙ no_more) here.1 (stands.0.function, stands.0.is, stands.0.kinds) (stands_at stands.0.function.body code stands.0.code begins) (sym (settled_nop c.frame.code e) ∙ a.code-is.same)
-      (callers_wait p u instructions places (length (globals_of p)) (arrays_made G.host) s.names F c.callers a.rest.callers fits.1.frames stands.1) tables
+      (callers_wait p u refl instructions places (length (globals_of p)) (arrays_made G.host) s.names F c.callers a.rest.callers fits.1.frames stands.1) tables
   begins_as (Look x ks vs K L F code G) c s instructions places a fits stands alive tables e =
       absurd (no_look u x ks vs K L F code G (sym (begins_same (called_imports p) code) ∙ ap begins_statement (sym a.run.code-is.same) ∙ e) alive)
   begins_as (Over v G) c s instructions places a fits stands alive tables e = let h : false ≡ true = sym (ap (λ (f : FrameForm). begins_statement f.code) a.frame) ∙ e in cc

@@ -1,8 +1,8 @@
 -- What a caller that waits holds, and the loops over keys that are walked.
-use Rattle.std.proofs.Common.{◌≡◌, ◌⊎◌, inl, inr, ℕ, zero, suc, ◌+◌, ◌-◌, ◌≤◌, Bool, true, false, not, ◌&&◌, ◌||◌, cond, nat_eq, nat_le, nat_lt, List, [], ◌∷◌, length, get_or, slice_get, Option, Some, None, refl, sym, ap, ap₂, ◌∙◌, subst, arith}
+use Rattle.std.proofs.Common.{◌≡◌, ◌⊎◌, inl, inr, ℕ, zero, suc, ◌+◌, ◌-◌, ◌≤◌, Bool, true, false, not, ◌&&◌, ◌||◌, cond, nat_eq, nat_le, nat_lt, List, [], ◌∷◌, length, map, get_or, slice_get, Option, Some, None, refl, sym, ap, ap₂, ◌∙◌, subst, arith}
 use Rattle.std.proofs.lemmas.Bool.{and_parts, eq-eqb, eqb-true, leb-true, ltb-false, ltb-true, ne_eqb}
 use Rattle.std.proofs.lemmas.List.{length-map}
-use Rattle.std.proofs.lemmas.Option.{slice_get-get_or, slice_get_past}
+use Rattle.std.proofs.lemmas.Option.{none-some, slice_get-get_or, slice_get_past}
 use Rattle.sem_primitives.specs.declared.sorts.Sort.{Sort}
 use Rattle.sem_primitives.specs.declared.sorts.Sort.TheVariants as sort
 use Rattle.sem_primitives.specs.declared.table.Primitive.TheVariants as row
@@ -12,15 +12,17 @@ use Rattle.wasm_types.specs.declared.instr.Simple.TheVariants as simple
 use Rattle.wasm_model.specs.Frames.{LabelForm}
 use Rattle.wasm_model.specs.Machines.{CallerForm}
 use Rattle.host_step.specs.HostState.{Names}
-use Rattle.mid_program.specs.Mid.{Kind, Boxed, Unboxed, ArrayKind, Program}
+use Rattle.mid_program.specs.Mid.{Kind, Boxed, Unboxed, ArrayKind, Program, Routine, parameters_at}
 use Rattle.lower_model.specs.Cells.{Cell, Bits, Held, IteratorOf, OwnedArray, LentArray, Gone, arrays_owned, is_held, is_operand, is_owned, iterators_in, locals_wait, no_value, operands_wait}
 use Rattle.lower_model.specs.Emission.{function_number}
+use Rattle.lower_model.specs.Functions.{routine_callee}
 use Rattle.host_imports.specs.Imports.{import_count, import_number, imports}
-use Rattle.lower_model.specs.Machine.{Code, Frame, Label, answers_to, freed_next, is_walk, loops_walked}
+use Rattle.lower_model.specs.Machine.{Callee, Code, Frame, Label, answers_to, array_kinds, freed_next, is_walk, loops_walked}
 use Rattle.lower_model.specs.Modules.{all_callees, called_imports, calls_in, imports_of, new_number, renumbered, renumbered_simple}
 use Rattle.host_imports.specs.declared.import.Import.TheVariants.{Drop, OfPrimitive}
 use Rattle.agreement.proofs.TypedLemmas.Chosen.{functions_behind}
 use Rattle.agreement.specs.Refined.Refined.{AgainAs, FrameAs, FramesAs, LabelsAs}
+use Rattle.agreement.proofs.RefinedLemmas.ImportAnswers.{some_of}
 use Rattle.agreement.proofs.RefinedLemmas.Links.{number_there, stays}
 use Rattle.agreement.specs.Places.NoLeaks.{CallerWaits, CallersWait, LocalsWait, NoValues, OperandsHold, boxed, count, count_waiting, is_keys, is_next, numbers_of, one, values_waiting, walks, walks_waiting}
 use Rattle.agreement.proofs.PlacesLemmas.Begun.{OfFunction}
@@ -28,7 +30,7 @@ use Rattle.agreement.proofs.PlacesLemmas.Counting.{held, held_in, held_waiting, 
 use Rattle.std.specs.List.{Contains}
 use Rattle.agreement.proofs.PlacesLemmas.Totals.{held_each}
 use Rattle.agreement.proofs.PlacesLemmas.Fitting.{FrameFits, FramesFit}
-use Rattle.agreement.proofs.PlacesLemmas.Working.{FramesWork, Waits}
+use Rattle.agreement.proofs.PlacesLemmas.Working.{FramesWork, HasMadeFew, Waits}
 
 -- Locals.
 
@@ -209,9 +211,15 @@ module _ (p : Program) where
 
   -- Callers.
 
-  module _ (u : Code) (instructions places globals : ℕ) (made : ℕ) (N : Names) where
-    caller_waits : (f : Frame) (r : CallerForm) → FrameAs (stays p) bs made N f r → FrameFits u instructions places globals (OfFunction p) f → Waits u (Contains (all_callees p)) f.kinds f.rest f.labels → CallerWaits p (held f.locals) r
-    caller_waits f r a b y =
+  kinds_called : (rs : List Routine) (k : ℕ) (f : Callee) → slice_get (map (routine_callee p) rs) k ≡ Some f
+      → f.kinds ≡ parameters_at (map (λ (r : Routine). r.parameters) rs) k
+  kinds_called [] k f e = absurd (none-some f e)
+  kinds_called (r ∷ rs) zero f e = ap (λ (z : Callee). z.kinds) (sym (some_of (routine_callee p r) f e))
+  kinds_called (r ∷ rs) (suc k) f e = kinds_called rs k f e
+
+  module _ (u : Code) (callees : u.callees ≡ map (routine_callee p) p.routines) (instructions places globals : ℕ) (made : ℕ) (N : Names) where
+    caller_waits : (f : Frame) (r : CallerForm) → FrameAs (stays p) bs made N f r → FrameFits u instructions places globals (OfFunction p) f → (y : Waits u (Contains (all_callees p)) f.kinds f.rest f.labels) → HasMadeFew u (Contains (all_callees p)) y.called f.locals → CallerWaits p (held f.locals) r
+    caller_waits f r a b y z =
         let w = and_parts (locals_wait (answers_to f.rest) f.kinds f.locals) (nat_eq (iterators_in f.locals) (loops_walked f.labels) && nat_le (arrays_owned f.locals) (freed_next f.rest)) b.waits in
         let v = and_parts (nat_eq (iterators_in f.locals) (loops_walked f.labels)) (nat_le (arrays_owned f.locals) (freed_next f.rest)) w.1 in
         let h = locals_hold (answers_to f.rest) f.kinds f.locals w.0 in
@@ -227,7 +235,13 @@ module _ (p : Program) where
           each = held_each made N f.locals r.frame.locals a.locals;
           locals_hold = subst (λ (ks : List Kind). LocalsWait h.0 ks (held f.locals)) (sym y.kinds) h.2;
           walked = local_iterators f.locals ∙ (eqb-true (iterators_in f.locals) (loops_walked f.labels) v.0 ∙ sym (walks_same made N f.labels r.frame.labels a.labels));
-          fresh = (let e = owned_arrays f.locals in let le = leb-true (arrays_owned f.locals) (freed_next f.rest) v.1 in omega (arith, e, le));
+          fresh =
+              (let e = owned_arrays f.locals in
+              let le = leb-true (arrays_owned f.locals) (array_kinds z.callee.kinds) z.few in
+              let is_called = sym (ap (λ (fs : List Callee). slice_get fs y.called) callees) ∙ z.is_callee in
+              let k = ap array_kinds (kinds_called p.routines y.called z.callee is_called) in
+              omega (arith, e, le, k));
+          freed = (let e = owned_arrays f.locals in let le = leb-true (arrays_owned f.locals) (freed_next f.rest) v.1 in omega (arith, e, le));
         }
 
     pub callers_wait : (F : List Frame) (rs : List CallerForm) → FramesAs (stays p) bs made N F rs → FramesFit u instructions places globals (OfFunction p) F → FramesWork u (Contains (all_callees p)) F → CallersWait p (held_waiting F) rs
@@ -235,7 +249,7 @@ module _ (p : Program) where
     callers_wait [] (r ∷ []) a b y = a
     callers_wait [] (r ∷ (q ∷ rs)) a b y = absurd a
     callers_wait (f ∷ F) [] a b y = absurd a
-    callers_wait (f ∷ F) (r ∷ rs) a b y = (caller_waits f r a.0 b.0 y.0, callers_wait F rs a.1 b.1 y.1)
+    callers_wait (f ∷ F) (r ∷ rs) a b y = (caller_waits f r a.0 b.0 y.0.0 y.0.1, callers_wait F rs a.1 b.1 y.1)
 
   pub values_counted : (F : List Frame) (rs : List CallerForm) (h : CallersWait p (held_waiting F) rs) → count_waiting sort.Value (held_waiting F) ≤ values_waiting p (held_waiting F) rs h
   values_counted [] rs h = omega arith

@@ -1,6 +1,6 @@
 -- Which function is at work: its code, and that under its labels, are parts of the function's body, and so are those of callers that wait.
-use Rattle.std.proofs.Common.{◌≡◌, ℕ, zero, suc, ◌-◌, Bool, true, false, not, ◌&&◌, cond, nat_eq, nat_lt, List, [], ◌∷◌, ◌++◌, length, take, drop, reverse, set, slice_get, Option, Some, None, refl, sym, subst, arith}
-use Rattle.std.proofs.lemmas.Bool.{ltb-false}
+use Rattle.std.proofs.Common.{◌≡◌, ℕ, zero, suc, ◌-◌, Bool, true, false, not, ◌&&◌, cond, nat_eq, nat_le, nat_lt, List, [], ◌∷◌, ◌++◌, length, take, drop, reverse, set, slice_get, Option, Some, None, refl, sym, subst, arith}
+use Rattle.std.proofs.lemmas.Bool.{and_parts, ltb-false}
 use Rattle.wasm_types.specs.Syntax.{Instruction, Plain, Block, Loop, If, Instructions, Done, Then}
 use Rattle.wasm_types.specs.declared.instr.Simple.{Simple}
 use Rattle.wasm_types.specs.declared.instr.Simple.TheVariants as simple
@@ -13,7 +13,7 @@ use Rattle.lower_model.specs.Cells.{Cell, Bits, Held, LentArray, OwnedArray, Ite
 use Rattle.lower_model.specs.Emission.{function_number}
 use Rattle.lower_model.specs.ImportCalls.{Host, call, look}
 use Rattle.host_imports.specs.Imports.{import_at, import_count}
-use Rattle.lower_model.specs.Machine.{Code, Callee, Conf, Run, Look, Over, Deep, Stuck, Frame, Label, Store, act, ask, ask_looking, at, br, br_if, call_number, choose, enter, go, guarded, label, leave, leave_function, onto, operated, run_looking, set_global, set_local, step, takes_look, tee_local, teed, width, with_answer, with_operands, work, zeros, ending_name}
+use Rattle.lower_model.specs.Machine.{Code, Callee, Conf, Run, Look, Over, Deep, Stuck, Frame, Label, Store, act, ask, ask_looking, at, br, br_if, call_number, choose, enter, go, guarded, label, leave, leave_function, makes_few, onto, operated, run_looking, set_global, set_local, step, takes_look, tee_local, teed, waits, width, with_answer, with_operands, work, zeros, ending_name}
 use Rattle.host_imports.specs.declared.import.Import.{Import}
 use Rattle.std.specs.List.{Contains}
 use Rattle.std.proofs.lemmas.List.Elements.{Contains-append_left, Contains-append_right, Contains-push}
@@ -53,9 +53,15 @@ module _ (u : Code) (Fun : Callee → Type 0) where
     pub code : IsPart function.body (Then (Plain (simple.Call (function_number called))) c)
     pub labels : LabelsPart function.body K
 
+  -- and has made few arrays for that function
+  pub record HasMadeFew (called : ℕ) (L : List Cell) : Type 0 where
+    pub callee : Callee
+    pub is_callee : slice_get u.callees called ≡ Some callee
+    pub few : makes_few callee.kinds L ≡ true
+
   abbrev pub FramesWork : List Frame → Type 0
   FramesWork [] = Unit {0}
-  FramesWork (f ∷ F) = Waits f.kinds f.rest f.labels × FramesWork F
+  FramesWork (f ∷ F) = ((w : Waits f.kinds f.rest f.labels) × HasMadeFew w.called f.locals) × FramesWork F
 
   abbrev pub Stands : Conf → Type 0
   Stands (Run ks vs K L F c G) = Works ks c K × FramesWork F
@@ -91,6 +97,10 @@ module _ (u : Code) (Fun : Callee → Type 0) where
   guarded_stands : (b : Bool) (c : Conf) → Stands c → Stands (guarded b c)
   guarded_stands true c h = h
   guarded_stands false c h = tt
+
+  guarded_known : (b : Bool) (c : Conf) → (b ≡ true → Stands c) → Stands (guarded b c)
+  guarded_known true c h = h refl
+  guarded_known false c h = tt
 
   pub at_stands : (ks : List Kind) (vs : List Cell) (K : List Label) (L : List Cell) (F : List Frame) (c : Instructions) (G : Store) → Works ks c K → FramesWork F → Stands (at ks vs K L F c G)
   at_stands ks vs K L F Done G w r = (w, r)
@@ -157,20 +167,24 @@ module _ (u : Code) (Fun : Callee → Type 0) where
   ask_looking_stands None v ks vs K L F c G w r = tt
   ask_looking_stands (Some i) v ks vs K L F c G w r = with_answer_stands (look i v G.host) ks vs K L F c G w r
 
-  enter_stands : (f : Option Callee) → ((g : Callee) → f ≡ Some g → Fun g) → (ks : List Kind) (vs : List Cell) (K : List Label) (L : List Cell) (F : List Frame) (c : Instructions) (G : Store) → Waits ks c K → FramesWork F → Stands (enter u.deepest f ks vs K L F c G)
-  enter_stands None is ks vs K L F c G w r = tt
-  enter_stands (Some f) is ks vs K L F c G w r = guarded_stands _ _ (by (nat_lt (length F) u.deepest))
+  enter_stands : (f : Option Callee) → ((g : Callee) → f ≡ Some g → Fun g) → (ks : List Kind) (vs : List Cell) (K : List Label) (L : List Cell) (F : List Frame) (c : Instructions) (G : Store) → (w : Waits ks c K) → slice_get u.callees w.called ≡ f → FramesWork F → Stands (enter u.deepest f ks vs K L F c G)
+  enter_stands None is ks vs K L F c G w called r = tt
+  enter_stands (Some f) is ks vs K L F c G w called r =
+      guarded_known (((nat_le (length f.kinds) (length vs) && none_owned (drop (length f.kinds) vs)) && waits ks K L c) && makes_few f.kinds L) _
+      (λ q. by (and_parts ((nat_le (length f.kinds) (length vs) && none_owned (drop (length f.kinds) vs)) && waits ks K L c) (makes_few f.kinds L) q).1 (nat_lt (length F) u.deepest))
     where
       waiting : Frame
       waiting = record { kinds = ks; under = drop (length f.kinds) vs; labels = K; locals = L; rest = c }
 
-      by : (b : Bool) → Stands (cond b (at f.kinds [] [] (reverse (take (length f.kinds) vs) ++ zeros f.locals) (waiting ∷ F) f.body G) (Deep G))
-      by true = at_stands f.kinds [] [] (reverse (take (length f.kinds) vs) ++ zeros f.locals) (waiting ∷ F) f.body G (record { function = f; is = is f refl; kinds = refl; code = all; labels = tt }) (w, r)
-      by false = tt
+      by : makes_few f.kinds L ≡ true → (b : Bool) → Stands (cond b (at f.kinds [] [] (reverse (take (length f.kinds) vs) ++ zeros f.locals) (waiting ∷ F) f.body G) (Deep G))
+      by few true =
+          at_stands f.kinds [] [] (reverse (take (length f.kinds) vs) ++ zeros f.locals) (waiting ∷ F) f.body G (record { function = f; is = is f refl; kinds = refl; code = all; labels = tt })
+          ((w, record { callee = f; is_callee = called; few = few }), r)
+      by few false = tt
 
   leave_function_stands : (v : Cell) (F : List Frame) (G : Store) → FramesWork F → Stands (leave_function u v F G)
   leave_function_stands v [] G r = guarded_stands (not (is_owned v) && globals_by (ending_name G.host.fault) u.before u.names G.globals) (Over v G) tt
-  leave_function_stands v (f ∷ F) G r = at_stands f.kinds (v ∷ f.under) f.labels f.locals F f.rest G (called_back r.0) r.1
+  leave_function_stands v (f ∷ F) G r = at_stands f.kinds (v ∷ f.under) f.labels f.locals F f.rest G (called_back r.0.0) r.1
 
   leave_stands : (ks : List Kind) (vs : List Cell) (K : List Label) (L : List Cell) (F : List Frame) (G : Store) → Works ks Done K → FramesWork F → Stands (leave u ks vs K L F G)
   leave_stands ks vs (l ∷ K) L F G w r = guarded_stands _ _ (at_stands ks (vs ++ l.under) K L F l.rest G (out w) r)
@@ -183,11 +197,12 @@ module _ (u : Code) (Fun : Callee → Type 0) where
 
   module _ (bodies : (k : ℕ) (f : Callee) → slice_get u.callees k ≡ Some f → Fun f) where
     call_number_stands : (n : ℕ) (ks : List Kind) (vs : List Cell) (K : List Label) (L : List Cell) (F : List Frame) (c : Instructions) (G : Store) → Works ks (Then (Plain (simple.Call n)) c) K → FramesWork F → Stands (call_number u n ks vs K L F c G)
+    unfolding calling
     call_number_stands n ks vs K L F c G w r = by (nat_lt n import_count) refl
       where
         by : (b : Bool) → nat_lt n import_count ≡ b → Stands (cond b (ask u.memory (import_at n) ks vs K L F c G) (enter u.deepest (slice_get u.callees (n - import_count)) ks vs K L F c G))
         by true e = ask_stands u.memory (import_at n) ks vs K L F c G (on w) r
-        by false e = enter_stands (slice_get u.callees (n - import_count)) (bodies (n - import_count)) ks vs K L F c G (calling e w) r
+        by false e = enter_stands (slice_get u.callees (n - import_count)) (bodies (n - import_count)) ks vs K L F c G (calling e w) refl r
 
     act_stands : (i : Simple) (ks : List Kind) (vs : List Cell) (K : List Label) (L : List Cell) (F : List Frame) (c : Instructions) (G : Store) → Works ks (Then (Plain i) c) K → FramesWork F → Stands (act u i ks vs K L F c G)
     act_stands simple.Nop ks vs K L F c G w r = guarded_stands _ _ (at_stands ks vs K L F c _ (on w) r)

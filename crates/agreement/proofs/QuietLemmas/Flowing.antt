@@ -1,9 +1,10 @@
 -- Single instructions of a run that calls no import. A run that is nowhere stuck and never traps goes on at each of them: what an operator needs is there.
 use Rattle.std.proofs.Common.{◌≡◌, ℕ, zero, suc, Bool, true, false, if◌then◌else◌, List, [], ◌∷◌, length, nat_eq, nat_lt, Option, Some, None, Result, Ok, Err, refl, sym, ap, ◌∙◌, subst}
 use Rattle.std.specs.Prelude.{slice_get, slice_set}
-use Rattle.wasm_types.specs.Syntax.{Done, If, Instructions, Then}
+use Rattle.std.proofs.Math.Dec.{eqb-zero-suc, eqb-suc-suc}
+use Rattle.wasm_types.specs.Syntax.{Block, Done, If, Instructions, Then}
 use Rattle.wasm_types.specs.declared.types.ValType.{ValType}
-use Rattle.wasm_types.specs.declared.instr.Simple.TheVariants.{Binary, Compare, Convert, GlobalGet, GlobalSet, I32Const, I64Const, LocalGet, LocalSet, LocalTee, Nop, Test}
+use Rattle.wasm_types.specs.declared.instr.Simple.TheVariants.{Binary, Br, BrIf, Compare, Convert, GlobalGet, GlobalSet, I32Const, I64Const, LocalGet, LocalSet, LocalTee, Nop, Test}
 use Rattle.wasm_types.specs.declared.instr.CvtOp.{CvtOp}
 use Rattle.wasm_types.specs.declared.instr.IBinOp.{IBinOp}
 use Rattle.wasm_types.specs.declared.instr.IRelOp.{IRelOp}
@@ -12,7 +13,7 @@ use Rattle.wasm_store.specs.declared.trap.TrapKind.{TrapKind}
 use Rattle.wasm_store.specs.declared.word.Word.{Word}
 use Rattle.wasm_store.specs.declared.word.Word.TheVariants.{I32, I64}
 use Rattle.wasm_store.specs.Words.{binary_of, compare_of, converted, test_of}
-use Rattle.wasm_model.specs.Frames.{FrameForm, LabelForm, Local, local_step, pushed, pushed_or, with_values}
+use Rattle.wasm_model.specs.Frames.{FrameForm, LabelForm, Local, branch_at, jump, local_step, pushed, pushed_or, with_values}
 use Rattle.wasm_model.specs.Frames as form
 use Rattle.wasm_model.specs.Machines.{Conf, Ends, Goes, ProgramForm, Turn, turn, turn_by, with_frame, with_value}
 use Rattle.wasm_model.specs.declared.ends.End.TheVariants as ends
@@ -229,4 +230,47 @@ module _ {m : ProgramForm} {P : Conf → Type 0} {bs : List Bool} {base : Conf} 
           it = λ a. goes m P (at bs base K gs L (I32 n ∷ vs) (Then (If None p q) k)) (inside p)
               (ap (λ z. Goes (record (inside p) { frame = record (inside p).frame { code = if z then renumbered bs q else renumbered bs p } })) e) a
               (f n refl e).it;
+        }
+
+    -- into a block
+    pub entered : {p : Instructions} → Flows m P bs base (block bs vs k ∷ K) gs L [] p → Flows m P bs base K gs L vs (Then (Block None p) k)
+    entered {p = p} h = record { it = λ a. goes m P (at bs base K gs L vs (Then (Block None p) k)) (at bs base (block bs vs k ∷ K) gs L [] p) refl a h.it }
+
+    -- out of two blocks
+    pub left_twice : {r : LabelForm} {p : Instructions} → Flows m P bs base K gs L [] p → Flows m P bs base (r ∷ (block bs [] p ∷ K)) gs L vs (emit (Br 1) k)
+    left_twice {r = r} {p = p} h = record { it = λ a. goes m P c (at bs base K gs L [] p) out a h.it }
+      where
+        K1 : List LabelForm
+        K1 = r ∷ (block bs [] p ∷ K)
+
+        c : Conf
+        c = at bs base K1 gs L vs (emit (Br 1) k)
+
+        behind : FrameForm
+        behind = (at bs base K1 gs L vs k).frame
+
+        out : turn m c ≡ Goes (at bs base K gs L [] p)
+        out = ap (λ z. turn_by m c (if z then form.Leaves behind else branch_at behind (block bs [] p ∷ K))) (eqb-suc-suc zero (suc (length K)) ∙ eqb-zero-suc (length K))
+
+    -- out of the innermost block, or not
+    pub left_if : {p : Instructions} {w : Word} → Flows m P bs base K gs L [] p → Flows m P bs base (block bs [] p ∷ K) gs L vs k →
+        Flows m P bs base (block bs [] p ∷ K) gs L (w ∷ vs) (emit (BrIf 0) k)
+    left_if {p = p} {w = I64 n} f g = record { it = λ a. absurd (not_stuck m P (at bs base (block bs [] p ∷ K) gs L (I64 n ∷ vs) (emit (BrIf 0) k)) refl a) }
+    left_if {p = p} {w = I32 n} f g = by (nat_eq n 0) refl
+      where
+        K1 : List LabelForm
+        K1 = block bs [] p ∷ K
+
+        c : Conf
+        c = at bs base K1 gs L (I32 n ∷ vs) (emit (BrIf 0) k)
+
+        behind : FrameForm
+        behind = (at bs base K1 gs L vs k).frame
+
+        by : (b : Bool) → nat_eq n 0 ≡ b → Flows m P bs base K1 gs L (I32 n ∷ vs) (emit (BrIf 0) k)
+        by true e = record { it = λ a. goes m P c (at bs base K1 gs L vs k) (ap (λ z. turn_by m c (if z then form.Goes behind else jump behind 0)) e) a g.it }
+        by false e = record {
+          it = λ a. goes m P c (at bs base K gs L [] p)
+              (ap (λ z. turn_by m c (if z then form.Goes behind else jump behind 0)) e
+              ∙ ap (λ z. turn_by m c (if z then form.Leaves behind else branch_at behind K1)) (eqb-zero-suc (length K))) a f.it;
         }

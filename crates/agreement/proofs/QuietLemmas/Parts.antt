@@ -16,9 +16,9 @@ use Rattle.wasm_store.specs.declared.word.Word.TheVariants.{I32, I64}
 use Rattle.wasm_store.specs.Words.{compare_of, flag}
 use Rattle.wasm_model.specs.Frames.{LabelForm}
 use Rattle.wasm_model.specs.Machines.{Conf, ProgramForm}
-use Rattle.lower_model.specs.Arithmetic.{factors_differ, out_of_range, ranged, times, two_numbers}
+use Rattle.lower_model.specs.Arithmetic.{any_product, factors_differ, far_off, out_of_range, ranged, times, two_numbers}
 use Rattle.lower_model.specs.Small.{ask_row, emit, fail_if, number_is, text_beside, when}
-use Rattle.agreement.proofs.QuietLemmas.Flowing.{Flows, arrived, at, binary, branch, compare, const64, convert, ended, get, set, test}
+use Rattle.agreement.proofs.QuietLemmas.Flowing.{Flows, arrived, at, binary, block, branch, compare, const64, convert, ended, entered, get, left_if, left_twice, set, test}
 
 -- a number is what it is compared with, where the answer is not 0
 pub equal_word : (w v : Word) (n j : ℕ) → compare_of ty.I64 Eq w (I64 n) ≡ Some v → v ≡ I32 j → nat_eq j 0 ≡ false → w ≡ I64 n
@@ -47,6 +47,9 @@ module _ (m : ProgramForm) (P : Conf → Type 0) (bs : List Bool) (base : Conf) 
     range_tested : {L vs : List Word} (x : ℕ) → ((w : Word) → To K gs L (w ∷ vs) k) → To K gs L vs (out_of_range x k)
     range_tested x h = get (λ w e. const64 (binary (λ v. const64 (compare (λ u q. h u)))))
 
+    far_tested : {L vs : List Word} (x : ℕ) → ((w : Word) → To K gs L (w ∷ vs) k) → To K gs L vs (far_off x k)
+    far_tested x h = get (λ w e. const64 (binary (λ v. const64 (compare (λ u q. h u)))))
+
     both : {L : List Word} (x y : ℕ) (op : IBinOp) → ((w : Word) → To K gs L (w ∷ []) k) → To K gs L [] (two_numbers x y op k)
     both x y op h = get (λ w e. get (λ v q. binary h))
 
@@ -60,9 +63,9 @@ module _ (m : ProgramForm) (P : Conf → Type 0) (bs : List Bool) (base : Conf) 
         To K gs L [] (ranged op x y d k)
     ranged_flows fault op x y d h = both x y op (λ w. set (λ e. range_tested x (λ v. failing fault d (h w))))
 
-    pub times_flows : {L : List Word} (fault : Faults) (x y p d : ℕ) → ((w v : Word) → To K gs (slice_set (slice_set L p w) x v) [] k) →
-        To K gs L [] (times x y p d k)
-    times_flows fault x y p d h =
+    any_product_flows : {L : List Word} (fault : Faults) (x y p d : ℕ) → ((w v : Word) → To K gs (slice_set (slice_set L p w) x v) [] k) →
+        To K gs L [] (any_product x y p d k)
+    any_product_flows fault x y p d h =
         both x y Mul (λ w. set (λ e. factors_tested p x y (λ v. range_tested p (λ u. binary (λ z. failing fault d (get (λ t q. set (λ f. h w t))))))))
 
     -- whether a local has this number
@@ -74,3 +77,12 @@ module _ (m : ProgramForm) (P : Conf → Type 0) (bs : List Bool) (base : Conf) 
     pub no_mark_flows : {L : List Word} {w : Word} (a : Instructions) → w ≢ I64 text_beside → To K gs L [] k →
         To K gs L (w ∷ []) (emit (I64Const text_beside) (emit (Compare ty.I64 Eq) (when a k)))
     no_mark_flows {w = w} a none h = const64 (compare (λ v q. branch (λ n e z. absurd (none (equal_word w v text_beside n q e z))) (λ n e z. ended h)))
+
+  module _ {K : List LabelForm} {gs : List Word} {k : Instructions} where
+    -- two factors near 0, or any two
+    pub times_flows : {L : List Word} (fault : Faults) (x y p d : ℕ) → ((w : Word) → To K gs (slice_set L x w) [] k) →
+        ((w v : Word) → To K gs (slice_set (slice_set L p w) x v) [] k) →
+        To K gs L [] (times x y p d k)
+    times_flows {L = L} fault x y p d near any =
+        let other : To (block bs [] k ∷ K) gs L [] (any_product x y p (suc d) Done) = any_product_flows fault x y p (suc d) (λ w v. ended (any w v)) in
+        entered (entered (far_tested x (λ w. left_if other (far_tested y (λ v. left_if other (both x y Mul (λ u. set (λ e. left_twice (near u)))))))))

@@ -101,7 +101,7 @@ module _ (m : ProgramForm) (P : Conf → Type 0) (bs : List Bool) (base : Conf) 
   calculated_flows inline.Plus t d L s next = ranged_flows m P bs base fault Add _ _ d (λ w. next _ (below_set b t (number_local b t) L w (omega arith)))
   calculated_flows inline.Minus t d L s next = ranged_flows m P bs base fault Sub _ _ d (λ w. next _ (below_set b t (number_local b t) L w (omega arith)))
   calculated_flows inline.Times t d L s next =
-      times_flows m P bs base fault _ _ _ d (λ w v. next _ (below_then b t (below_set b t (number_local b (suc (suc t))) L w (omega arith))
+      times_flows m P bs base fault _ _ _ d (λ w. next _ (below_set b t (number_local b t) L w (omega arith))) (λ w v. next _ (below_then b t (below_set b t (number_local b (suc (suc t))) L w (omega arith))
       (below_set b t (number_local b t) (slice_set L (number_local b (suc (suc t))) w) v (omega arith))))
   calculated_flows inline.Over t d L s next = absurd s
   calculated_flows inline.Modulo t d L s next = absurd s

@@ -13,7 +13,7 @@ use Rattle.wasm_model.specs.declared.ends.End.TheVariants as ends
 use Rattle.mid_program.specs.Mid.{Kind}
 use Rattle.host_step.specs.HostState.{HostState, Names}
 use Rattle.lower_model.specs.Cells.{Cell, Bits, none_owned}
-use Rattle.lower_model.specs.Machine.{Callee, Code, Conf, Deep, Frame, Label, Store, at, enter, guarded, waits, zeros}
+use Rattle.lower_model.specs.Machine.{Callee, Code, Conf, Deep, Frame, Label, Store, at, enter, guarded, makes_few, waits, zeros}
 use Rattle.lower_model.specs.Modules.{callee_type}
 use Rattle.lower_model.specs.Places.{kind_type}
 use Rattle.agreement.specs.Refined.Owners.{owners}
@@ -112,7 +112,7 @@ module _ {used : ℕ → Bool} {bs : List Bool} {u : Code} {K : List Label} {L :
       by false h = le-ltb (length c.callers) 10000 (let x = ltb-false (length F) u.deepest h in let y = frames_length used bs made s.names F c.callers rest.callers in omega arith)
 
   pub entered_as : u.deepest ≡ 9999 → Next (enter u.deepest (Some f) ks vs K L F k G) (entered_func (callee_type f) g c)
-  entered_as e = subst (λ b. Next (enter u.deepest (Some f) ks vs K L F k G) (if b then fits else Ends ends.Exhausted)) (sym (depth_same e)) (by ((nat_le n (length vs) && none_owned under) && waits ks K L k) refl (nat_lt (length F) u.deepest))
+  entered_as e = subst (λ b. Next (enter u.deepest (Some f) ks vs K L F k G) (if b then fits else Ends ends.Exhausted)) (sym (depth_same e)) (by (((nat_le n (length vs) && none_owned under) && waits ks K L k) && makes_few f.kinds L) refl (nat_lt (length F) u.deepest))
     where
       fits : Turn
       fits = if nat_lt (length c.frame.values) (length (callee_type f).params) then Ends ends.Stuck else Goes (after (length (callee_type f).params) g.locals)
@@ -121,7 +121,8 @@ module _ {used : ℕ → Bool} {bs : List Bool} {u : Code} {K : List Label} {L :
       enough free true = untyped_as c s begun
       enough free false = begun_as free
 
-      by : (b : Bool) → (nat_le n (length vs) && none_owned under) && waits ks K L k ≡ b → (d : Bool) → Next (guarded b (cond d begun (Deep G))) (if d then fits else Ends ends.Exhausted)
+      by : (b : Bool) → ((nat_le n (length vs) && none_owned under) && waits ks K L k) && makes_few f.kinds L ≡ b → (d : Bool) → Next (guarded b (cond d begun (Deep G))) (if d then fits else Ends ends.Exhausted)
       by false h d = stuck_as c s (if d then fits else Ends ends.Exhausted)
-      by true h true = enough (both (nat_le n (length vs)) (none_owned under) (both (nat_le n (length vs) && none_owned under) (waits ks K L k) h).0).1 (nat_lt (length c.frame.values) (length (callee_type f).params))
+      by true h true = enough (both (nat_le n (length vs)) (none_owned under) (both (nat_le n (length vs) && none_owned under) (waits ks K L k)
+          (both ((nat_le n (length vs) && none_owned under) && waits ks K L k) (makes_few f.kinds L) h).0).0).1 (nat_lt (length c.frame.values) (length (callee_type f).params))
       by true h false = deep_as

@@ -18,7 +18,7 @@ use Rattle.wasm_types.specs.declared.instr.Simple.{Simple}
 use Rattle.mid_program.specs.declared.mid.Arithmetic.{Arithmetic}
 use Rattle.mid_program.specs.declared.mid.Arithmetic.TheVariants as inline
 use Rattle.mid_program.specs.Mid.{Kind, Program, Form, PrimitiveAnswer, NumberOrText, OptionalNumber}
-use Rattle.lower_model.specs.Arithmetic.{out_of_range, ranged, factors_differ, times, unless_zero, divided, unless_broken, is_value, may_be_text, calculated, field_checked, values_compared, zeroed_if, numbers_compared, texts_beside, bare_compared, compared}
+use Rattle.lower_model.specs.Arithmetic.{out_of_range, ranged, factors_differ, any_product, far_off, times, unless_zero, divided, unless_broken, is_value, may_be_text, calculated, field_checked, values_compared, zeroed_if, numbers_compared, texts_beside, bare_compared, compared}
 use Rattle.host_imports.specs.Imports.{import_type, import_number, result_of}
 use Rattle.lower_model.specs.Places.{Bases, number_local, calculated_room}
 use Rattle.lower_model.specs.Small.{moved_out, moved, emptied, let_go, copied, copied_if_any, fail_if, number_is, kept_code, kept_value, kept_number, kept_done, text_taken, answer_kept, kept, boxed_number, boxed_perhaps, to_value, zeroed, code_number, number_of_value, to_number, converted, not_zero, truth, unused, released, number_copied, moved_from, copied_from, bound_from}
@@ -26,7 +26,7 @@ use Rattle.host_imports.specs.declared.import.Import.{Import}
 use Rattle.host_imports.specs.declared.import.Import.TheVariants.{OfPrimitive, Drop}
 use Rattle.lower_model.proofs.Answers.{IsPlain}
 use Rattle.lower_model.proofs.Simulation.{operator_room}
-use Rattle.agreement.proofs.TypedLemmas.Singles.{Stack, Labels, Exit, Reads, Writes, reads_local, writes_local, called, gives, takes, get, put, tee, read, word, long, test, compare, binary, convert, discard, inner, leave, leave_if, branched}
+use Rattle.agreement.proofs.TypedLemmas.Singles.{Stack, Labels, Exit, Reads, Writes, reads_local, writes_local, called, gives, takes, get, put, tee, read, word, long, test, compare, binary, convert, discard, inner, nearest, leave, leave_if, blocked, branched}
 use Rattle.agreement.proofs.TypedLemmas.Standing.{Stands}
 
 -- an import that lets a handle go
@@ -133,7 +133,11 @@ module _ {p : Program} {ks : List Kind} {b : Bases} {C : Context} (at : Stands p
     to_value_ok (PrimitiveAnswer (answer.Of sort.Value)) lt r = r
     to_value_ok (PrimitiveAnswer (answer.Of sort.Number)) {t = t} lt r = boxed_number_ok lt (put (at.handle t lt) r)
     to_value_ok (PrimitiveAnswer answer.Truth) {t = t} lt r = boxed_number_ok lt (put (at.handle t lt) r)
-    to_value_ok NumberOrText {t = t} lt r = number_is_ok (at.number t lt) (branched done (boxed_perhaps_ok lt (writes_local (at.handle t lt)) done) r)
+    to_value_ok NumberOrText {t = t} lt r =
+        get (at.number t lt) (long (compare (branched
+        (number_is_ok (at.number t lt) (branched (called [] (at.imported (OfPrimitive row.Uninit)) (put (at.handle t lt) done)) done done))
+        (boxed_number_ok lt (put (at.handle t lt) done))
+        r)))
     to_value_ok OptionalNumber {t = t} lt r = boxed_perhaps_ok lt (writes_local (at.handle t lt)) r
     to_value_ok f {t = t} lt r = called ps (at.imported (OfPrimitive row.Uninit)) (put (at.handle t lt) r)
 
@@ -211,6 +215,9 @@ module _ {p : Program} {ks : List Kind} {b : Bases} {C : Context} (at : Stands p
     out_of_range_ok : {x : ℕ} → slice_get C.locals x ≡ Some I64 → CodeOk C L k (I32 ∷ ps) rs → CodeOk C L (out_of_range x k) ps rs
     out_of_range_ok e r = get e (long (binary (long (compare r))))
 
+    far_off_ok : {x : ℕ} → slice_get C.locals x ≡ Some I64 → CodeOk C L k (I32 ∷ ps) rs → CodeOk C L (far_off x k) ps rs
+    far_off_ok e r = get e (long (binary (long (compare r))))
+
     factors_differ_ok : {q x y : ℕ} → slice_get C.locals q ≡ Some I64 → slice_get C.locals x ≡ Some I64 → slice_get C.locals y ≡ Some I64 →
         CodeOk C L k (I32 ∷ ps) rs →
         CodeOk C L (factors_differ q x y k) ps rs
@@ -221,9 +228,9 @@ module _ {p : Program} {ks : List Kind} {b : Bases} {C : Context} (at : Stands p
         CodeOk C L (ranged op x y d k) ps rs
     ranged_ok ex ey r = get ex (get ey (binary (put ex (out_of_range_ok ex (fail_if_ok Range e r)))))
 
-    times_ok : {x y q : ℕ} → slice_get C.locals x ≡ Some I64 → slice_get C.locals y ≡ Some I64 → slice_get C.locals q ≡ Some I64 →
-        CodeOk C L k ps rs → CodeOk C L (times x y q d k) ps rs
-    times_ok ex ey eq r =
+    any_product_ok : {x y q : ℕ} → slice_get C.locals x ≡ Some I64 → slice_get C.locals y ≡ Some I64 → slice_get C.locals q ≡ Some I64 →
+        CodeOk C L k ps rs → CodeOk C L (any_product x y q d k) ps rs
+    any_product_ok ex ey eq r =
         get ex (get ey (binary (put eq (factors_differ_ok eq ex ey (out_of_range_ok eq (binary (fail_if_ok Range e (get eq (put ex r)))))))))
 
     unless_zero_ok : {y : ℕ} → slice_get C.locals y ≡ Some I64 → CodeOk C L k ps rs → CodeOk C L (unless_zero y d k) ps rs
@@ -235,6 +242,15 @@ module _ {p : Program} {ks : List Kind} {b : Bases} {C : Context} (at : Stands p
 
     pub field_checked_ok : {t : ℕ} → t < b.temporaries → CodeOk C L k ps rs → CodeOk C L (field_checked b t d k) ps rs
     field_checked_ok {t = t} lt r = get (at.number t lt) (long (compare (fail_if_ok FieldNumber e r)))
+
+  module _ {L : Labels} {k : Instructions} {ps rs : Stack} {d : ℕ} (e : Exit L d) where
+    times_ok : {x y q : ℕ} → slice_get C.locals x ≡ Some I64 → slice_get C.locals y ≡ Some I64 → slice_get C.locals q ≡ Some I64 →
+        CodeOk C L k ps rs → CodeOk C L (times x y q d k) ps rs
+    times_ok ex ey eq r =
+        blocked
+        (blocked (far_off_ok ex (leave_if nearest (far_off_ok ey (leave_if nearest (get ex (get ey (binary (put ex (leave (inner nearest) done)))))))))
+        (any_product_ok (inner e) ex ey eq done))
+        r
 
   module _ {L : Labels} {k : Instructions} {ps rs : Stack} where
     divided_ok : {x y : ℕ} {op : IBinOp} → slice_get C.locals x ≡ Some I64 → slice_get C.locals y ≡ Some I64 → CodeOk C L k ps rs →

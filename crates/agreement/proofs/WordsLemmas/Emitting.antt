@@ -256,7 +256,7 @@ module _ (tells : Bool) (y : Layout) (sizes : ℕ → Option ℕ) where
     to_value_spares (PrimitiveAnswer (answer.Of sort.Value)) t = r
     to_value_spares (PrimitiveAnswer (answer.Of sort.Number)) t = record { so = λ A. (refl, r.so A) }
     to_value_spares (PrimitiveAnswer answer.Truth) t = record { so = λ A. (refl, r.so A) }
-    to_value_spares NumberOrText t = record { so = λ A. (tt, (((refl, tt), ((refl, tt), tt)), r.so [])) }
+    to_value_spares NumberOrText t = record { so = λ A. (((refl, tt), (tt, tt)), ((refl, tt), r.so [])) }
     to_value_spares OptionalNumber t = record { so = λ A. ((refl, tt), ((refl, tt), r.so [])) }
     to_value_spares f t = record { so = λ A. (refl, r.so A) }
 
@@ -306,6 +306,7 @@ module _ (tells : Bool) (y : Layout) (sizes : ℕ → Option ℕ) where
 
     calculated_spares : (a : Arithmetic) (t d : ℕ) → Always e (calculated b a t d k)
     calculated_spares inline.Over t d = record { so = λ A. ((refl, tt), (tt, ((refl, tt), (tt, r.so [])))) }
+    calculated_spares inline.Times t d = record { so = λ A. ((tt, ((refl, tt), (tt, tt))), r.so []) }
     calculated_spares a t d = record { so = λ A. ((refl, tt), (tt, r.so [])) }
 
     field_spares : (t d : ℕ) → Always e (field_checked b t d k)

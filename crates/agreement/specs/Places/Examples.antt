@@ -15,10 +15,10 @@ use Rattle.awk_grammar.specs.Item.{Begin}
 use Rattle.mid_program.specs.Mid.{Kind, Boxed, Unboxed, ArrayKind}
 use Rattle.sem_scripts.specs.Names.{Resolved}
 use Rattle.host_imports.specs.Imports.{import_number}
-use Rattle.lower_model.specs.Machine.{freed_next}
+use Rattle.lower_model.specs.Machine.{array_kinds, freed_next}
 use Rattle.lower_model.specs.Small.{minus_one}
 use Rattle.host_imports.specs.declared.import.Import.TheVariants.{FreeArray, OfPrimitive}
-use Rattle.agreement.specs.Places.NoLeaks.{arrays, begins_statement, boxed, holders, is_keys, scalars, walks}
+use Rattle.agreement.specs.Places.NoLeaks.{begins_statement, boxed, holders, is_keys, scalars, walks}
 use Rattle.agreement.specs.Places.Nodes.{nodes_of}
 use Rattle.agreement.specs.Places.Places.{size}
 
@@ -55,7 +55,7 @@ two_holders = refl
 abbrev kinds : List Kind
 kinds = Boxed ∷ (ArrayKind ∷ (Unboxed ∷ (Boxed ∷ [])))
 
-pub names_counted : scalars kinds ∷ (arrays kinds ∷ (boxed kinds ∷ [])) ≡ 3 ∷ (1 ∷ (2 ∷ []))
+pub names_counted : scalars kinds ∷ (array_kinds kinds ∷ (boxed kinds ∷ [])) ≡ 3 ∷ (1 ∷ (2 ∷ []))
 names_counted = refl
 
 -- A loop over keys begins with the call for its next key. In this module that import is the second one.

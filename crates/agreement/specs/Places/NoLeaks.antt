@@ -18,12 +18,12 @@ use Rattle.wasm_model.specs.Runs.{MachineForm, Steps}
 use Rattle.host_step.specs.HostState.{HostState, live_arrays, live_iterators, live_values}
 use Rattle.host_imports.specs.Imports.{host_finds}
 use Rattle.host_step.specs.Starts.{state_in}
-use Rattle.mid_program.specs.Mid.{Kind, Boxed, Unboxed, ArrayKind, Program}
-use Rattle.mid_program.specs.Sorted.{kinds_of}
+use Rattle.mid_program.specs.Mid.{Kind, Boxed, Unboxed, ArrayKind, Program, parameters_at}
+use Rattle.mid_program.specs.Sorted.{calls_of, kinds_of}
 use Rattle.sem_primitives.specs.declared.table.Primitive.TheVariants as row
 use Rattle.lower_model.specs.Emission.{function_number}
 use Rattle.host_imports.specs.Imports.{import_number}
-use Rattle.lower_model.specs.Machine.{Callee, answers_to, freed_next}
+use Rattle.lower_model.specs.Machine.{Callee, answers_to, array_kinds, freed_next}
 use Rattle.lower_model.specs.Modules.{all_callees, called_imports, imports_of, renumbered}
 use Rattle.lower_model.specs.Small.{minus_one, text_beside}
 use Rattle.host_imports.specs.declared.import.Import.TheVariants.{OfPrimitive}
@@ -100,11 +100,6 @@ boxed [] = 0
 boxed (Boxed ∷ ks) = suc (boxed ks)
 boxed (k ∷ ks) = boxed ks
 
-abbrev pub arrays : List Kind → ℕ
-arrays [] = 0
-arrays (ArrayKind ∷ ks) = suc (arrays ks)
-arrays (k ∷ ks) = arrays ks
-
 abbrev pub one : Sort → Option Sort → ℕ
 one t o = cond (holds t o) 1 0
 
@@ -158,7 +153,8 @@ LocalsWait m (Unboxed ∷ ks) (o ∷ os) = (o ≡ None) × LocalsWait m ks os
 LocalsWait m (ArrayKind ∷ ks) (o ∷ os) = (o ≡ None) × LocalsWait m ks os
 
 -- A caller that waits for a call of a function in one of its expressions: what is left comes after that call, and the answer goes to the local of the
--- operand after those that are pending. Arrays that it holds were made for that call, and are let go right after it.
+-- operand after those that are pending. Arrays that it holds were made for that call, at most one for each that its function is given, and are let go right
+-- after it.
 pub record CallerWaits (p : Program) (os : List (Option Sort)) (r : CallerForm) : Type 0 where
   pub function : Callee
   pub is_function : Contains (all_callees p) function
@@ -171,7 +167,8 @@ pub record CallerWaits (p : Program) (os : List (Option Sort)) (r : CallerForm) 
   pub each : length os ≡ length r.frame.locals
   pub locals_hold : LocalsWait operands function.kinds os
   pub walked : count sort.Iterator os ≡ walks (numbers_of p) r.frame.labels
-  pub fresh : count sort.Array os ≤ freed_next place
+  pub fresh : count sort.Array os ≤ array_kinds (parameters_at (calls_of p) called)
+  pub freed : count sort.Array os ≤ freed_next place
 
 -- outside of all callers stands the frame in which `main` is called, which holds nothing
 abbrev pub first_caller : CallerForm
@@ -231,7 +228,7 @@ pub record AtStatement (p : Program) (c : Conf) (s : HostState) : Type 0 where
   pub bare : BareParameters function.kinds c.frame.locals
   pub marked : NamesMarked (kinds_of p.globals) (drop (suc (suc (suc p.ranges))) c.globals)
   pub few_values : live_values s ≤ scalars (kinds_of p.globals) + (boxed function.kinds + values_waiting p waiting c.callers waits)
-  pub live_arrays_are : live_arrays s ≡ 2 + (arrays (kinds_of p.globals) + count_waiting sort.Array waiting)
+  pub live_arrays_are : live_arrays s ≡ 2 + (array_kinds (kinds_of p.globals) + count_waiting sort.Array waiting)
   pub live_iterators_are : live_iterators s ≡ walks (numbers_of p) c.frame.labels + walks_waiting (numbers_of p) c.callers
 
 -- WHERE `main` HAS RETURNED: names alone hold something.
@@ -242,7 +239,7 @@ pub record AtReturn (p : Program) (c : Conf) (s : HostState) : Type 0 where
   pub names_hold : GlobalsHold NameMayHold (suc (suc (suc p.ranges))) (kinds_of p.globals) globals
   pub exact : s.fault ≡ None → GlobalsHold NameHolds (suc (suc (suc p.ranges))) (kinds_of p.globals) globals
   pub few_values : live_values s ≤ scalars (kinds_of p.globals)
-  pub few_arrays : live_arrays s ≤ 2 + arrays (kinds_of p.globals)
+  pub few_arrays : live_arrays s ≤ 2 + array_kinds (kinds_of p.globals)
   pub few_iterators : live_iterators s ≡ 0
 
 -- each statement begins with a `nop`, and so does the test of a `do` loop

@@ -12,24 +12,21 @@ use Rattle.host_values.proofs.arrays.elem.Goals as goal
 pub returns-in-Err-clause-step : goal.returns-in-Err-clause-step
 returns-in-Err-clause-step c f memory none = elem_traps (with_arrays c.args.handles.now c.args.arrays.now f) c.args.words.now memory c.in-Err.kind none (sym c.in-Err.ensures.value)
 
-pub returns-in_default-clause-step : goal.returns-in_default-clause-step
-returns-in_default-clause-step c f memory none = elem_memory (with_arrays c.args.handles.now c.args.arrays.now f) c.args.words.now memory none _ _ _ (sym c.in-Ok.ensures.value) c.in-Ok.ensures.there c.requires f
-
 pub give-requires : goal.give-requires
 give-requires c = ap (λ m. map.get m reserved_handle) c.take.ensures.rest ∙ spare_removed c.args.handles.now _ c.requires
 
 pub returns-clause-step : goal.returns-clause-step
 returns-clause-step c f memory none =
     let gone : c.take.new.self ≡ map.remove c.args.handles.now c.in-Ok.read.1 = search rules in
-    let made : c.get_or_create.new.self ≡ map.insert c.args.arrays.now c.in-Ok.read.0 (created c.bytes.result.now (pairs_at c.args.arrays.now c.in-Ok.read.0)) = search rules in
-    let found : c.in-Ok-get_or_create.found ≡ value_or_uninit (get_pair c.bytes.result.now (pairs_at c.args.arrays.now c.in-Ok.read.0)) = search rules in
-    elem_call (with_arrays c.args.handles.now c.args.arrays.now f) c.args.words.now memory none _ _ _ (sym c.in-Ok.ensures.value) c.in-Ok.ensures.there _ _ _ _ _ c.give.result c.requires gone (c.bytes.ensures ∙ c.in-Ok-key_text.ensures)
+    let made : c.get_or_create.new.self ≡ map.insert c.args.arrays.now c.in-Ok.read.0 (created c.as_slice.result.now (pairs_at c.args.arrays.now c.in-Ok.read.0)) = search rules in
+    let found : c.in-Ok-get_or_create.found ≡ value_or_uninit (get_pair c.as_slice.result.now (pairs_at c.args.arrays.now c.in-Ok.read.0)) = search rules in
+    elem_call (with_arrays c.args.handles.now c.args.arrays.now f) c.args.words.now memory none _ _ _ (sym c.in-Ok.ensures.value) c.in-Ok.ensures.there _ _ _ _ _ c.give.result c.requires gone (c.as_slice.ensures ∙ c.key_text-key.ensures)
     made found c.give.ensures.answer
 
-pub returns-in_default-get_or_create-clause-step : goal.returns-in_default-get_or_create-clause-step
-returns-in_default-get_or_create-clause-step c f memory none = elem_memory (with_arrays c.args.handles.now c.args.arrays.now f) c.args.words.now memory none _ _ _ (sym c.in-Ok.ensures.value) c.in-Ok.ensures.there c.requires f
+pub returns-in_default-clause-step : goal.returns-in_default-clause-step
+returns-in_default-clause-step c f memory none = elem_memory (with_arrays c.args.handles.now c.args.arrays.now f) c.args.words.now memory none _ _ _ (sym c.in-Ok.ensures.value) c.in-Ok.ensures.there c.requires f
 
 pub returns-clause-spare_array : goal.returns-clause-spare_array
 returns-clause-spare_array c free =
-    let made : c.get_or_create.new.self ≡ map.insert c.args.arrays.now c.in-Ok.read.0 (created c.bytes.result.now (pairs_at c.args.arrays.now c.in-Ok.read.0)) = search rules in
+    let made : c.get_or_create.new.self ≡ map.insert c.args.arrays.now c.in-Ok.read.0 (created c.as_slice.result.now (pairs_at c.args.arrays.now c.in-Ok.read.0)) = search rules in
     ap (λ m. map.get m reserved_handle) made ∙ free_still c.args.arrays.now c.in-Ok.read.0 _ reserved_handle c.in-Ok.ensures.there free

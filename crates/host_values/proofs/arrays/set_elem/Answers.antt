@@ -6,19 +6,13 @@ use Rattle.host_values.proofs.Spare.{spare_removed}
 use Rattle.host_arrays.specs.Pairs.{pairs_at, set_pair}
 use Rattle.host_values.specs.ElementCalls.{IsPut, with_arrays}
 use Rattle.host_values.specs.Reads.{array_and_two}
-use Rattle.host_values.proofs.ArrayCalls.{set_call, set_memory}
+use Rattle.host_values.proofs.ArrayCalls.{set_call}
 use Rattle.host_values.proofs.ArraySteps.{set_traps}
 use Rattle.host_values.proofs.SpentLemmas.{apart_some, key_held, same_some, unread, value_held, with_value}
 use Rattle.host_values.proofs.arrays.set_elem.Goals as goal
 
 pub returns-in-Err-clause-step : goal.returns-in-Err-clause-step
 returns-in-Err-clause-step c f memory none = set_traps (with_arrays c.args.handles.now c.args.arrays.now f) c.args.words.now memory c.in-Err.kind none (unread _ _ c.in-Err.ensures.value)
-
-pub returns-in_default-key_text-clause-step : goal.returns-in_default-key_text-clause-step
-returns-in_default-key_text-clause-step c f memory none =
-    let read = c.in-Ok.read in
-    let w = with_value (array_and_two c.args.arrays.now c.args.handles.now c.args.words.now) (read.0, read.1, read.2.now, read.3) c.in-Ok.ensures.value in
-    set_memory (with_arrays c.args.handles.now c.args.arrays.now f) c.args.words.now memory none _ _ _ _ w.0 w.1 c.in-Ok.ensures.there f
 
 pub unreachable-requires : goal.unreachable-requires
 unreachable-requires c =
@@ -44,12 +38,9 @@ returns-clause-step c f memory none =
     let first : map.get c.args.handles.now c.in-Ok.read.1 ≡ Some c.in-Some.key = search rules in
     let held : map.get c.take.new.self c.in-Ok.read.3 ≡ Some c.in-Some-take.value = search rules in
     let key = same_some _ _ (sym first ∙ key_held c.args.arrays.now c.args.handles.now c.args.words.now _ w.1) in
-    let put : IsPut c.put.result (map.insert c.args.arrays.now c.in-Ok.read.0 (set_pair c.bytes.result.now c.in-Some-take.value (pairs_at c.args.arrays.now c.in-Ok.read.0))) c.put.new.arrays = search rules in
-    set_call (with_arrays c.args.handles.now c.args.arrays.now f) c.args.words.now memory none _ _ _ _ w.0 w.1 c.in-Ok.ensures.there _ _ _ _ c.put.result (left ∙ ap (λ m. map.remove m c.in-Ok.read.3) gone) (c.bytes.ensures ∙ c.in-Ok-key_text.ensures ∙ ap text_of_value key)
+    let put : IsPut c.put.result (map.insert c.args.arrays.now c.in-Ok.read.0 (set_pair c.as_slice.result.now c.in-Some-take.value (pairs_at c.args.arrays.now c.in-Ok.read.0))) c.put.new.arrays = search rules in
+    set_call (with_arrays c.args.handles.now c.args.arrays.now f) c.args.words.now memory none _ _ _ _ w.0 w.1 c.in-Ok.ensures.there _ _ _ _ c.put.result (left ∙ ap (λ m. map.remove m c.in-Ok.read.3) gone) (c.as_slice.ensures ∙ c.key_text-text.ensures ∙ ap text_of_value key)
     (same_some _ _ (sym held ∙ ap (λ m. map.get m c.in-Ok.read.3) gone ∙ value_held c.args.arrays.now c.args.handles.now c.args.words.now _ w.1)) put
-
-pub returns-in_default-key_text-clause-spare : goal.returns-in_default-key_text-clause-spare
-returns-in_default-key_text-clause-spare c free = ap (λ m. map.get m reserved_handle) c.take-2.ensures.rest ∙ spare_removed c.take.new.self _ (ap (λ m. map.get m reserved_handle) c.take.ensures.rest ∙ spare_removed c.args.handles.now _ free)
 
 pub returns-clause-spare : goal.returns-clause-spare
 returns-clause-spare c free = ap (λ m. map.get m reserved_handle) c.take-2.ensures.rest ∙ spare_removed c.take.new.self _ (ap (λ m. map.get m reserved_handle) c.take.ensures.rest ∙ spare_removed c.args.handles.now _ free)
