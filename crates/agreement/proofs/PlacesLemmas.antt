@@ -10,6 +10,7 @@ pub mod Assigning
 pub mod Working
 pub mod Waiting
 pub mod Keeping
+pub mod Alive
 pub mod Handles
 pub mod Words
 pub mod FromWords

@@ -1,6 +1,7 @@
 pub mod Places
 pub mod Existence
 pub mod NoLeaks
+pub mod Alive
 pub mod Statements
 pub mod Assigned
 pub mod Nodes

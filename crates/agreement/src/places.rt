@@ -2,29 +2,34 @@
 //!
 //! Laws of the runs of modules, each the contract of a function that does nothing.
 ghost use Rattle.std.specs.List.{All};
-ghost use Rattle.std.specs.Prelude.{◌≡◌, ◌≤◌, true, ℕ, List, None, Some, length, slice_get};
+ghost use Rattle.std.specs.Prelude.{◌≡◌, ◌≤◌, ◌+◌, true, ℕ, List, Option, None, Some, length, slice_get};
 ghost use Rattle.sem_primitives.specs.Jobs.{JobForm, Environment};
 ghost use Rattle.awk_grammar.specs.Item.{Item};
 ghost use Rattle.awk_grammar.specs.Kinds.{most_parameters, refusal};
-ghost use Rattle.host_step.specs.HostState.{HostState};
+ghost use Rattle.sem_primitives.specs.declared.sorts.Sort.{Sort};
+ghost use Rattle.sem_primitives.specs.declared.sorts.Sort.TheVariants as sort;
+ghost use Rattle.host_step.specs.HostState.{HostState, live_arrays, live_iterators, live_values};
 ghost use Rattle.sem_scripts.specs.Kinds.{resolved};
 ghost use Rattle.mid_program.specs.Mid.{Program, Routine, Unboxed};
 ghost use Rattle.mid_program.specs.Sorted.{IsSorted, has_kind, kinds_of};
 ghost use Rattle.mid_program.specs.Translation.{program_of};
 ghost use Rattle.lower_model.specs.Boundaries.{nops_in, steps_places};
 ghost use Rattle.lower_model.specs.Functions.{main_callee, routine_callee};
+ghost use Rattle.lower_model.specs.Machine.{array_kinds};
 ghost use Rattle.lower_model.specs.Modules.{module_of};
 ghost use Rattle.lower_model.specs.Places.{handle_global};
 ghost use Rattle.lower_model.specs.Small.{minus_one};
 ghost use Rattle.wasm_model.specs.Machines.{Conf, Ends, turn};
 ghost use Rattle.wasm_model.specs.Runs.{MachineForm};
 ghost use Rattle.wasm_model.specs.declared.ends.End.TheVariants as ends;
+ghost use Rattle.wasm_store.specs.declared.word.Word.{Word};
 ghost use Rattle.wasm_store.specs.declared.word.Word.TheVariants.{I32};
 ghost use Rattle.wasm_types.specs.ModuleGrammar.{IsModule};
 ghost use Rattle.world_core.specs.WorldState.{Source};
 ghost use Rattle.agreement.specs.Places.Assigned.{HasWord, IsAssigned};
 ghost use Rattle.agreement.specs.Places.Existence.{HasRuns};
-ghost use Rattle.agreement.specs.Places.NoLeaks.{AtReturn, AtStatement, Reached, begins_statement};
+ghost use Rattle.agreement.specs.Places.Alive.{count_waiting, values_waiting, walks_waiting};
+ghost use Rattle.agreement.specs.Places.NoLeaks.{AtReturn, AtStatement, EachPlace, Reached, begins_statement, boxed, numbers_of, scalars, walks};
 ghost use Rattle.agreement.specs.Places.Places.{IsSmall};
 ghost use Rattle.agreement.specs.Places.Statements.{main_places, main_starts, routine_starts, starts_in};
 
@@ -54,6 +59,29 @@ pub fn nothing_kept()
         → (m : MachineForm) (c : Conf) (s : HostState)
         → Reached (module_of p) job input outside m c s
         → (n : ℕ) → turn m.program c ≡ Ends (ends.Returned (Some (I32 n))) → AtReturn p c s }
+{}
+
+/// Where a statement begins at most so many values are alive, and exactly so many arrays and iterators: values are those of names, of boxed parameters, and
+/// what callers that wait may hold; arrays those of the host, of names, and those that callers that wait hold; each loop over keys that is walked has an
+/// iterator. This follows from what holds there.
+pub fn little_is_alive()
+    ensures values { (p : Program) (c : Conf) (s : HostState) → (here : AtStatement p c s)
+        → live_values s ≤ scalars (kinds_of p.globals)
+        + (boxed here.function.kinds + values_waiting p here.waiting c.callers here.waits) }
+    ensures arrays { (p : Program) (c : Conf) (s : HostState) → (here : AtStatement p c s)
+        → live_arrays s ≡ 2 + (array_kinds (kinds_of p.globals) + count_waiting sort.Array here.waiting) }
+    ensures iterators { (p : Program) (c : Conf) (s : HostState) → AtStatement p c s
+        → live_iterators s ≡ walks (numbers_of p) c.frame.labels + walks_waiting (numbers_of p) c.callers }
+    ensures places { (os : List (Option Sort)) (ws : List Word) → EachPlace os ws → length os ≡ length ws }
+{}
+
+/// Where `main` has returned at most as many values and arrays are alive as names have, and the host's own arrays, and no iterator.
+pub fn names_alone_are_alive()
+    ensures values { (p : Program) (c : Conf) (s : HostState) → AtReturn p c s
+        → live_values s ≤ scalars (kinds_of p.globals) }
+    ensures arrays { (p : Program) (c : Conf) (s : HostState) → AtReturn p c s
+        → live_arrays s ≤ 2 + array_kinds (kinds_of p.globals) }
+    ensures iterators { (p : Program) (c : Conf) (s : HostState) → AtReturn p c s → live_iterators s ≡ 0 }
 {}
 
 /// An unboxed name to which the command line has not assigned in a run has no handle where that run comes to a statement: a text comes beside a number by

@@ -1,17 +1,15 @@
 //! A run over a host that is told by its tables is a run over a host of the table of imports.
 //!
 //! Laws of the definitions, each the contract of a function that does nothing.
-ghost use Rattle.std.specs.Prelude.{◌≢◌, List, ℕ};
+ghost use Rattle.std.specs.Prelude.{ℕ};
 ghost use Rattle.sem_primitives.specs.Jobs.{JobForm};
 ghost use Rattle.wasm_model.specs.Links.{IsNew};
-ghost use Rattle.wasm_model.specs.Machines.{Conf, ProgramForm};
-ghost use Rattle.wasm_model.specs.Runs.{Did, MachineForm, Ran};
+ghost use Rattle.wasm_model.specs.Machines.{Conf};
+ghost use Rattle.wasm_model.specs.Runs.{Did, MachineForm};
 ghost use Rattle.wasm_model.specs.declared.ends.MachineEnd.{MachineEnd};
-ghost use Rattle.wasm_model.specs.declared.ends.RunEnd.{RunEnd};
 ghost use Rattle.wasm_types.specs.Syntax.{ModuleForm};
 ghost use Rattle.wasm_types.specs.Typing.{ModuleOk};
-ghost use Rattle.world_core.specs.WorldState.{Action, Outside, Source};
-ghost use Rattle.host_step.specs.HostState.{HostState};
+ghost use Rattle.world_core.specs.WorldState.{Outside, Source};
 ghost use Rattle.host_imports.specs.Imports.{host_finds};
 ghost use Rattle.host_step.specs.Starts.{state_at_start};
 ghost use Rattle.host_values.specs.Forms.{HostForm};
@@ -19,7 +17,7 @@ ghost use Rattle.host_values.specs.FormMeaning.{FormState, form_meaning};
 ghost use Rattle.host_values.specs.Shown.{Shown};
 ghost use Rattle.sem_scripts.specs.ScriptRun.{Ending, Setting};
 ghost use Rattle.agreement.specs.Modules.Agreement.{Agreement};
-ghost use Rattle.agreement.specs.Runs.ToldRuns.{InAnyWorldRun, DoesSo, DoesSoThere, FoundRun, GoesOnThere, ToldRun, told_by};
+ghost use Rattle.agreement.specs.Runs.ToldRuns.{DoesSo, DoesSoThere, FoundRun, GoesOnThere, ToldRun, told_by};
 
 use world_core::World;
 
@@ -42,14 +40,6 @@ pub fn does_so()
         → (job : JobForm) (input : Source) (outside : Outside)
         → (steps : ℕ) (e : MachineEnd) (f : HostForm) → ToldRun m job input outside steps e f
         → DoesSo script job input outside (told_by f.fault e) f.shared.outside }
-{}
-
-/// Over any world, each call of a run that did not want memory is as it is said of every world.
-pub fn in_any_world<W: World>()
-    ensures { (m : ProgramForm) (steps : ℕ) (c : Conf) (f : HostForm) (output : List Action)
-        (e : RunEnd) (c' : Conf) (g : HostForm) (s : HostState) → Shown f s → e ≢ RunEnd.NoMemory
-        → Ran (form_meaning W.is_modelled) m steps c (FormState.Told f) output e c' (FormState.Told g)
-        → InAnyWorldRun m steps c s output e c' g }
 {}
 
 /// Over any world, what a machine did with a typed module is how the module may end in an environment that others change too, over a host of the table: there

@@ -121,10 +121,10 @@ choice_opened (End ∷ fs) k b c rest e = absurd cc
 
 -- Places of flat code from one on, beside the code that begins at each.
 
-abbrev Match : ℕ → List Form → ℕ → Instructions → Type 0
+abbrev pub Match : ℕ → List Form → ℕ → Instructions → Type 0
 Match p fs n code = (j : ℕ) × (n ≡ p + j) × (code ≡ first (decode (drop j fs)))
 
-abbrev Matches : ℕ → List Form → List ℕ → List Instructions → Type 0
+abbrev pub Matches : ℕ → List Form → List ℕ → List Instructions → Type 0
 Matches p fs [] [] = Unit {0}
 Matches p fs (n ∷ ns) (code ∷ codes) = Match p fs n code × Matches p fs ns codes
 Matches p fs [] (code ∷ codes) = ⊥
@@ -145,7 +145,7 @@ further p d fs [] (c ∷ cs) h = absurd h
 further p d fs (n ∷ ns) [] h = absurd h
 
 mutual
-  matched : (is : Instructions) (p : ℕ) (fs : List Form) → first (decode fs) ≡ is → Matches p fs (nops_from p (flat p is)) (starts_in is)
+  pub matched : (is : Instructions) (p : ℕ) (fs : List Form) → first (decode fs) ≡ is → Matches p fs (nops_from p (flat p is)) (starts_in is)
   matched Done p fs e = tt
   matched (Then i rest) p fs e =
       let n = length (flat_one p i) in

@@ -3,15 +3,13 @@ use Rattle.std.proofs.Common.{◌≡◌, ◌≢◌, ℕ, Option, Some, None, Lis
 use Rattle.std.specs.Result.{is_ok}
 use Rattle.awk_values.specs.declared.fault.Fault.{Fault}
 use Rattle.sem_primitives.specs.Jobs.{JobForm}
-use Rattle.world_core.specs.WorldState.{Action, State}
+use Rattle.world_core.specs.WorldState.{State}
 use Rattle.wasm_types.specs.Syntax.{ModuleForm}
 use Rattle.wasm_model.specs.Links.{IsNew}
 use Rattle.wasm_model.specs.Machines.{Conf}
-use Rattle.wasm_model.specs.Runs.{Did, MachineForm, Ran}
+use Rattle.wasm_model.specs.Runs.{Did, MachineForm}
 use Rattle.wasm_model.specs.declared.ends.MachineEnd.{MachineEnd}
 use Rattle.wasm_model.specs.declared.ends.MachineEnd.TheVariants as machine
-use Rattle.wasm_model.specs.declared.ends.RunEnd.{RunEnd as MachineRunEnd}
-use Rattle.wasm_model.specs.declared.ends.RunEnd.TheVariants as chain
 use Rattle.module_decoder.specs.Readers.{Fails}
 use Rattle.module_decoder.specs.Reading.{module_at}
 use Rattle.module_decoder.specs.declared.fault.DecodeFault.{DecodeFault}
@@ -23,7 +21,7 @@ use Rattle.host_step.specs.Starts.{state_at_start}
 use Rattle.host_values.specs.Forms.{HostForm}
 use Rattle.host_values.specs.FormMeaning.{Told, form_meaning}
 use Rattle.host_values.specs.Shown.{Shown}
-use Rattle.agreement.specs.Runs.ToldRuns.{InAnyWorldRun, FoundRun, ToldRun}
+use Rattle.agreement.specs.Runs.ToldRuns.{FoundRun, ToldRun}
 use Rattle.awk_run.specs.ModuleRun.{run_end, undecoded, IsRefused, IsRunOf, RunAnswers, Answers, IsTyped, Unread}
 use Rattle.run_report.specs.declared.end.Refusal.TheVariants.{Compile, Decode, Invalid, Link}
 use Rattle.run_report.specs.declared.end.RunEnd.{RunEnd}
@@ -46,10 +44,8 @@ module _ (tells : Type 0) (whole : ModuleForm) (job : JobForm) (steps : ℕ) (be
   pub did_answers : (a : MachineForm) → IsNew host_finds whole a → (f : HostForm) → Shown f start → (t : MachineEnd) (c : Conf) (g : HostForm)
       → Did (form_meaning tells) a.program steps a.conf (Told f) t c (Told g) → after.outside ≡ g.shared.outside
       → (tells → ToldRun whole job (before.readers 0) before.outside steps t g) → FoundRun whole job steps t g
-      → ((out : List Action) (e : MachineRunEnd) → e ≢ chain.NoMemory → Ran (form_meaning tells) a.program steps a.conf (Told f) out e c (Told g)
-      → InAnyWorldRun a.program steps a.conf start out e c g)
       → RunAnswers tells whole job steps before (run_end g.fault t) after
-  did_answers a n f h t c g d o over there in_any_world =
+  did_answers a n f h t c g d o over there =
       told g.fault t (record {
         machine = a;
         is_new = n;
@@ -66,7 +62,6 @@ module _ (tells : Type 0) (whole : ModuleForm) (job : JobForm) (steps : ℕ) (be
         outside = o;
         over_table = over;
         there = there;
-        in_any_world = λ ne. in_any_world d.0 d.1 ne d.3;
       })
 
 -- bytes that the decoder refuses are no module

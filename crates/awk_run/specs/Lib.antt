@@ -7,3 +7,4 @@ pub mod ModuleSeen
 pub mod Counted
 pub mod SpotPlaces
 pub mod Tallied
+pub mod Executions

@@ -18,7 +18,6 @@ use Rattle.wasm_model.specs.Runs.{MachineForm, Ran, told_run}
 use Rattle.wasm_model.specs.declared.fault.LinkFault.{LinkFault}
 use Rattle.wasm_model.specs.declared.fault.LinkFault.TheVariants as link
 use Rattle.wasm_model.specs.declared.ends.RunEnd.{RunEnd as MachineRunEnd}
-use Rattle.wasm_model.specs.declared.ends.RunEnd.TheVariants as chain
 use Rattle.wasm_model.specs.declared.ends.MachineEnd.{MachineEnd}
 use Rattle.wasm_model.specs.declared.ends.MachineEnd.TheVariants as machine
 use Rattle.sem_primitives.specs.Jobs.{JobForm}
@@ -27,7 +26,7 @@ use Rattle.host_step.specs.Starts.{state_at_start}
 use Rattle.host_values.specs.Forms.{HostForm}
 use Rattle.host_values.specs.FormMeaning.{Told, form_meaning}
 use Rattle.host_values.specs.Shown.{Shown}
-use Rattle.agreement.specs.Runs.ToldRuns.{InAnyWorldRun, FoundRun, ToldRun}
+use Rattle.agreement.specs.Runs.ToldRuns.{FoundRun, ToldRun}
 use Rattle.run_report.specs.declared.end.Refusal.{Refusal}
 use Rattle.run_report.specs.declared.end.Refusal.TheVariants.{Decode, Invalid, Link}
 use Rattle.run_report.specs.declared.end.RunEnd.{RunEnd}
@@ -69,8 +68,7 @@ IsUnlinked whole cause = (cause ≢ link.NoMemory) × Unlinks host_finds whole c
 
 -- A run of a typed module in a job: from its beginning, over a host that shows the state at the start of the job, to a world that holds what the host
 -- left. Where the world tells what it holds, this is how the module may end, and its output made what the names hold of what they held. In every
--- world it is how the module may end in an environment that others change too, where each opening, read and write finds the next of some list; and each call
--- is as it is said of every world, unless memory ran out.
+-- world it is how the module may end in an environment that others change too, where each opening, read and write finds the next of some list.
 pub record IsRunOf (tells : Type 0) (whole : ModuleForm) (job : JobForm) (steps : ℕ) (before : State) (e : RunEnd) (after : State) : Type 0 where
   pub machine : MachineForm
   pub is_new : IsNew host_finds whole machine
@@ -87,8 +85,6 @@ pub record IsRunOf (tells : Type 0) (whole : ModuleForm) (job : JobForm) (steps 
   pub outside : after.outside ≡ left.shared.outside
   pub over_table : tells → ToldRun whole job (before.readers 0) before.outside steps told left
   pub there : FoundRun whole job steps told left
-  pub in_any_world : run-end ≢ chain.NoMemory
-      → InAnyWorldRun machine.program steps machine.conf (state_at_start job (before.readers 0) before.outside) output run-end conf left
 
 -- what is answered for a typed module; a run that wanted memory may not have begun
 abbrev pub RunAnswers : (tells : Type 0) → ModuleForm → JobForm → ℕ → State → RunEnd → State → Type 0

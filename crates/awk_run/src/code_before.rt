@@ -180,6 +180,19 @@ impl<'a> CodeBefore<'a> {
         num && uninit && self.is_joint(at, 3) && self.asks(at, 6)
     }
 
+    /// The same where a text may stand beside the number, which is left where it is.
+    fn is_boxed_beside(&self, at: usize) -> bool {
+        let num = matches!(
+            self.import_back(at, 1),
+            Some(Import::OfPrimitive(Primitive::Num))
+        );
+        let uninit = matches!(
+            self.import_back(at, 7),
+            Some(Import::OfPrimitive(Primitive::Uninit))
+        );
+        num && uninit && self.is_joint(at, 3) && self.asks(at, 8) && self.asks(at, 12)
+    }
+
     /// Where a local was written last before a place, if that was done. It is no handle's.
     fn numbered(&self, local: u32, before: usize) -> Option<usize> {
         for count in 0..before {
@@ -237,9 +250,9 @@ impl<'a> CodeBefore<'a> {
         }
     }
 
-    /// The word of the number that becomes a value at a place; none where there is no number.
-    fn boxed(&self, at: usize) -> Option<u64> {
-        match (self.back(at, 2)?, self.back(at, 8)?) {
+    /// The word of the number that becomes a value at a place; none where there is no number, as the constant so many places before says.
+    fn boxed(&self, at: usize, count: usize) -> Option<u64> {
+        match (self.back(at, 2)?, self.back(at, count)?) {
             (Simple::LocalGet(local), Simple::I64Const(least)) => {
                 let number = self.number_of(local, at)?;
                 (number.bits != least).then_some(number.bits)
@@ -248,22 +261,20 @@ impl<'a> CodeBefore<'a> {
         }
     }
 
-    /// What a number that becomes a value at a place tells of who wrote the value last: it was written there, or, where a text stands beside the number,
-    /// before another place.
+    /// What a number that becomes a value at a place tells of who wrote the value last: it was written there.
     fn choice(&self, at: usize) -> Write {
-        let Some(bits) = self.boxed(at) else {
-            return Write::Unknown;
-        };
-        let (Some(test), Some(beside)) = (at.checked_sub(6), at.checked_sub(11)) else {
-            return Write::Unknown;
-        };
-        if self.is_passed(test) {
-            return Write::At(at);
+        match (self.boxed(at, 8), at.checked_sub(6)) {
+            (Some(_), Some(test)) if self.is_passed(test) => Write::At(at),
+            _ => Write::Unknown,
         }
-        match self.back(at, 13) {
-            Some(Simple::I64Const(mark)) if self.asks(at, 11) && self.is_passed(beside) => {
+    }
+
+    /// The same where a text may stand beside the number: that was written before the test.
+    fn choice_beside(&self, at: usize) -> Write {
+        match (self.boxed(at, 10), self.back(at, 14), at.checked_sub(12)) {
+            (Some(bits), Some(Simple::I64Const(mark)), Some(test)) if self.is_passed(test) => {
                 if bits == mark {
-                    Write::Before(beside)
+                    Write::Before(test)
                 } else {
                     Write::At(at)
                 }
@@ -278,6 +289,8 @@ impl<'a> CodeBefore<'a> {
             Write::At(at)
         } else if self.is_boxed(at) {
             self.choice(at)
+        } else if self.is_boxed_beside(at) {
+            self.choice_beside(at)
         } else {
             Write::Unknown
         }

@@ -6,6 +6,7 @@ mod code_before;
 mod compiled_laws;
 mod counting;
 mod end;
+mod execution_laws;
 mod line_counts;
 mod module;
 mod module_sights;
@@ -22,6 +23,7 @@ pub use compiled_laws::{
     counts_are_of_spots, lines_are_of_spots, told_places_are_at_work,
 };
 pub use counting::count_script;
+pub use execution_laws::{counts_are_executions, steps_begin_executions};
 pub use module::run_module;
 pub use module_sights::ModuleWhereabouts;
 pub use module_where::run_module_where;

@@ -107,6 +107,7 @@ impl Notes {
     }
 
     /// A stream is not read, or not written.
+    #[inline(never)]
     fn break_stream(&mut self, id: u32) {
         match id {
             0 => self.failed = Failed::StandardInput,
@@ -197,6 +198,7 @@ impl<W: World> World for NotedWorld<W> {
         opened
     }
 
+    #[inline(always)]
     fn read(&mut self, id: u32, buffer: &mut [u8]) -> Result<usize, WorldFault> {
         let read = self.inner.read(id, buffer);
         if read.is_err() {
@@ -205,6 +207,7 @@ impl<W: World> World for NotedWorld<W> {
         read
     }
 
+    #[inline(always)]
     fn write(&mut self, id: u32, text: &[u8]) -> Result<usize, WorldFault> {
         let written = self.inner.write(id, text);
         if written.is_err() {

@@ -101,8 +101,8 @@ fn run_module_noted<W: World>(
     (end, found, noted.into_inner())
 }
 
-/// As `run_script`, and tells where the script was: where its run kept the first fault, or else where it ended. None is told of a script that is not run, or
-/// for want of memory.
+/// As `run_script`, and tells where the script was: where its run kept the first fault, or else where it ended. None is told of a script that is not run or that
+/// ends by itself, or for want of memory.
 #[tactic(auto, using(crate::proofs::ScriptRuns::script_answers))]
 pub fn run_script_where<W: World>(
     alloc: Global,

@@ -167,7 +167,7 @@ fn kept_about<W: World + KnowsFailed>(
 }
 
 /// What is told of where a machine stands over a host; none where memory is wanting.
-fn seen_at<W: World + KnowsFailed>(
+fn whereabouts_of<W: World + KnowsFailed>(
     alloc: Global,
     script: &[u8],
     machine: &Machine,
@@ -201,6 +201,24 @@ fn seen_at<W: World + KnowsFailed>(
     })
 }
 
+/// What is told of where a machine stands that ended so; nothing where its script ended by itself, or memory is wanting.
+fn seen_at<W: World + KnowsFailed>(
+    alloc: Global,
+    script: &[u8],
+    machine: &Machine,
+    host: &mut Host<W>,
+    end: MachineEnd,
+) -> Option<Whereabouts>
+    ensures same { host_form W.state host.new ≡ host_form W.state host.old }
+    ensures told { IfSome result (Tells script.now machine.now.program machine.now.conf
+        (host_form W.state host.old)) }
+{
+    match (end, host.kept_fault()) {
+        (MachineEnd::Returned(_), None) => None,
+        _ => whereabouts_of(alloc, script, machine, host),
+    }
+}
+
 /// Runs a machine from its beginning, and sees where it stands where a fault is kept, or else at its end. It is one run: after the pause it goes on.
 pub(crate) fn run_seen<W: World + KnowsFailed>(
     alloc: Global,
@@ -219,7 +237,7 @@ pub(crate) fn run_seen<W: World + KnowsFailed>(
 {
     let mut watched = Watched { host };
     let (end, left) = machine.run_to_pause(&mut watched, steps);
-    let found = seen_at(alloc, script, machine, &mut watched.host);
+    let found = seen_at(alloc, script, machine, &mut watched.host, end);
     let Watched { host } = watched;
     if end != MachineEnd::OutOfSteps {
         return (end, found, host);

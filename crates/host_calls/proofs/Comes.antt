@@ -6,7 +6,6 @@ use Rattle.wasm_store.specs.declared.word.Word.{Word}
 use Rattle.world_core.specs.WorldState.{Action, Entry, Outside, State}
 use Rattle.host_step.specs.HostState.{HostState}
 use Rattle.host_step.specs.HostStep.{refuses}
-use Rattle.host_step.specs.Worlds.{reads}
 use Rattle.host_imports.specs.Imports.{lets_go}
 use Rattle.host_imports.specs.declared.import.Import.{Import}
 use Rattle.host_worlds.specs.declared.input.Input.{Input}
@@ -37,49 +36,48 @@ use Rattle.host_calls.specs.Calls.{ComesTo, MeansSome}
 use Rattle.host_calls.specs.Forms.{form_in}
 
 module _ (tells : Type 0) (i : Import) (words : List Word) (memory : List ℕ) where
-  module _ (quiet : reads i ≡ false) where
-    -- a call on tables
-    pub table_comes : (before after-call : HostForm) (r : Result (Option Word) Refusal) → after-call.shared.outside ≡ before.shared.outside
-        → after-call.shared.output ≡ before.shared.output → TableCalls i before words memory r after-call → ComesTo tells i before words memory r after-call
-    table_comes before after-call r outside output calls = ([], told_means tells i words memory quiet before after-call outside output r calls)
+  -- a call on tables
+  pub table_comes : (before after-call : HostForm) (r : Result (Option Word) Refusal) → after-call.shared.outside ≡ before.shared.outside
+      → TableCalls i before words memory r after-call → ComesTo tells i before words memory r after-call
+  table_comes before after-call r outside calls = ([], told_means tells i words memory before after-call outside r calls)
 
-    -- the same where no fault is kept
-    pub plain_comes : (before after-call : HostForm) (r : Result (Option Word) Refusal) → before.fault ≡ None
-        → after-call.shared.outside ≡ before.shared.outside → after-call.shared.output ≡ before.shared.output
-        → ((so_far : List Action) → IsTableCall i (form_with_output so_far before) words memory r (form_with_output so_far after-call))
-        → ((finds : List Entry) (o : Outside) (so_far : List Action)
-        → IsTableCall i (form_finding finds o so_far before) words memory r (form_finding finds o so_far after-call))
-        → ComesTo tells i before words memory r after-call
-    plain_comes before after-call r none outside output calls found = table_comes before after-call r outside output (plain_calls i before after-call words memory r none by)
-      where
-        by : (v : View) → IsTableCall i (viewed v before) words memory r (viewed v after-call)
-        by (After o) = calls o
-        by (Finding finds o so_far) = found finds o so_far
+  -- the same where no fault is kept
+  pub plain_comes : (before after-call : HostForm) (r : Result (Option Word) Refusal) → before.fault ≡ None
+      → after-call.shared.outside ≡ before.shared.outside
+      → ((so_far : List Action) → IsTableCall i (form_with_output so_far before) words memory r (form_with_output so_far after-call))
+      → ((finds : List Entry) (o : Outside) (so_far : List Action)
+      → IsTableCall i (form_finding finds o so_far before) words memory r (form_finding finds o so_far after-call))
+      → ComesTo tells i before words memory r after-call
+  plain_comes before after-call r none outside calls found = table_comes before after-call r outside (plain_calls i before after-call words memory r none by)
+    where
+      by : (v : View) → IsTableCall i (viewed v before) words memory r (viewed v after-call)
+      by (After o) = calls o
+      by (Finding finds o so_far) = found finds o so_far
 
-    -- a call that at a fault leaves what is shared as it was, as the family tells it
-    pub left_comes : (before after-call : HostForm) (r : Result (Option Word) Refusal) → before.fault ≡ None
-        → after-call.shared.outside ≡ before.shared.outside → after-call.shared.output ≡ before.shared.output
-        → ((f : Fault) → SharesTables (record before { fault = Some f }) (record after-call { fault = Some f }))
-        → ((so_far : List Action) → IsTableCall i (form_with_output so_far before) words memory r
-        (left_after r (form_with_output so_far before) (form_with_output so_far after-call)))
-        → ((finds : List Entry) (o : Outside) (so_far : List Action) → IsTableCall i (form_finding finds o so_far before) words memory r
-        (left_after r (form_finding finds o so_far before) (form_finding finds o so_far after-call)))
-        → ComesTo tells i before words memory r after-call
-    left_comes before after-call (Ok w) none outside output shares calls found = plain_comes before after-call (Ok w) none outside output calls found
-    left_comes before after-call (Err (why.Fault f)) none outside output shares calls found =
-        let faulted = plain_calls i before before words memory (Err (why.Fault f)) none by in
-        let told = told_means tells i words memory quiet before before refl refl (Err (why.Fault f)) faulted in
-        let answer = answer_of_call i (Err (why.Fault f)) in
-        let shown = record before { fault = Some f } in
-        ([], called_too tells (Some i) before shown (record after-call { fault = Some f }) words memory answer [] f refl (shares f) told)
-      where
-        by : (v : View) → IsTableCall i (viewed v before) words memory (Err (why.Fault f)) (viewed v before)
-        by (After o) = calls o
-        by (Finding finds o so_far) = found finds o so_far
-    left_comes before after-call (Err (why.Trap k)) none outside output shares calls found =
-        plain_comes before after-call (Err (why.Trap k)) none outside output calls found
-    left_comes before after-call (Err why.NoMemory) none outside output shares calls found =
-        plain_comes before after-call (Err why.NoMemory) none outside output calls found
+  -- a call that at a fault leaves what is shared as it was, as the family tells it
+  pub left_comes : (before after-call : HostForm) (r : Result (Option Word) Refusal) → before.fault ≡ None
+      → after-call.shared.outside ≡ before.shared.outside
+      → ((f : Fault) → SharesTables (record before { fault = Some f }) (record after-call { fault = Some f }))
+      → ((so_far : List Action) → IsTableCall i (form_with_output so_far before) words memory r
+      (left_after r (form_with_output so_far before) (form_with_output so_far after-call)))
+      → ((finds : List Entry) (o : Outside) (so_far : List Action) → IsTableCall i (form_finding finds o so_far before) words memory r
+      (left_after r (form_finding finds o so_far before) (form_finding finds o so_far after-call)))
+      → ComesTo tells i before words memory r after-call
+  left_comes before after-call (Ok w) none outside shares calls found = plain_comes before after-call (Ok w) none outside calls found
+  left_comes before after-call (Err (why.Fault f)) none outside shares calls found =
+      let faulted = plain_calls i before before words memory (Err (why.Fault f)) none by in
+      let told = told_means tells i words memory before before refl (Err (why.Fault f)) faulted in
+      let answer = answer_of_call i (Err (why.Fault f)) in
+      let shown = record before { fault = Some f } in
+      ([], called_too tells (Some i) before shown (record after-call { fault = Some f }) words memory answer [] f refl (shares f) told)
+    where
+      by : (v : View) → IsTableCall i (viewed v before) words memory (Err (why.Fault f)) (viewed v before)
+      by (After o) = calls o
+      by (Finding finds o so_far) = found finds o so_far
+  left_comes before after-call (Err (why.Trap k)) none outside shares calls found =
+      plain_comes before after-call (Err (why.Trap k)) none outside calls found
+  left_comes before after-call (Err why.NoMemory) none outside shares calls found =
+      plain_comes before after-call (Err why.NoMemory) none outside calls found
 
   -- a call over a world, where no fault is kept
   pub world_comes : (before after-call : HostForm) (r : Result (Option Word) Refusal) → before.fault ≡ None → (output : List Action)
@@ -94,13 +92,13 @@ told_comes tells i before between after-call words memory r a told left comes =
     (subst (λ (z : HostForm). MeansSome tells i before words memory (told_as i r) z) (sym left) comes)
 
 -- a call on the tables by a function of its own, as it is told
-module _ (tells : Type 0) (i : Import) (quiet : reads i ≡ false) (words : List Word) (memory : List ℕ) (t u : Tables) (input : Input) (state : State)
+module _ (tells : Type 0) (i : Import) (words : List Word) (memory : List ℕ) (t u : Tables) (input : Input) (state : State)
     (r : Result (Option Word) Refusal) (a : HostAnswer) (after-call : HostForm) (told : a ≡ told_as i r) (kept : after-call ≡ left_by_call r (form_in u input state)) where
   pub table_told : TableCalls i (form_in t input state) words memory r (form_in u input state)
       → MeansSome tells i (form_in t input state) words memory a after-call
   table_told calls =
       told_comes tells i (form_in t input state) (form_in u input state) after-call words memory r a told kept
-      (table_comes tells i words memory quiet (form_in t input state) (form_in u input state) r refl refl calls)
+      (table_comes tells i words memory (form_in t input state) (form_in u input state) r refl calls)
 
   -- where no fault is kept
   pub plain_told : t.fault ≡ None → ((f : HostForm) → IsTableCall i (of_tables t f) words memory r (of_tables u f))
@@ -108,7 +106,7 @@ module _ (tells : Type 0) (i : Import) (quiet : reads i ≡ false) (words : List
   plain_told none calls = table_told (plain_tables i words memory r t u (form_in t input state) none calls)
 
 -- a call that came to what its evaluation says, carried out and told
-module _ (tells : Type 0) (i : Import) (quiet : reads i ≡ false) (words : List Word) (memory : List ℕ) (t : Tables) (now : Texts) (input : Input) (state : State)
+module _ (tells : Type 0) (i : Import) (words : List Word) (memory : List ℕ) (t : Tables) (now : Texts) (input : Input) (state : State)
     (evaluated : Result Evaluated Refusal) (e : Values → HostState → List Word → Evaluation) (none : t.fault ≡ None)
     (comes : (s : HostState) → EvaluatesTo i t.handles s words memory (e t.handles s words))
     (evaluates : (s : HostState) → Evaluates t.handles (holding t.texts s) evaluated (holding now s) (e t.handles (holding t.texts s) words))
@@ -122,7 +120,7 @@ module _ (tells : Type 0) (i : Import) (quiet : reads i ≡ false) (words : List
       let before = form_in t input state in
       let after = of_texts now values before in
       told_comes tells i before after after-call words memory r a told kept
-      (table_comes tells i words memory quiet before after r refl refl (carried_tables i words memory t now values evaluated r e none comes evaluates carries before))
+      (table_comes tells i words memory before after r refl (carried_tables i words memory t now values evaluated r e none comes evaluates carries before))
 
 -- an answer, by the import that was found
 pub found : (tells : Type 0) (i k : Import) (before : HostForm) (words : List Word) (memory : List ℕ) (a : HostAnswer) (after-call : HostForm) → i ≡ k

@@ -1,8 +1,8 @@
 -- A fault that a host keeps stays.
-use Rattle.std.proofs.Common.{◌≡◌, ℕ, zero, suc, Bool, true, false, cond, not, ◌&&◌, List, Option, Some, None, is_some, refl, sym, ap, subst, ◌∙◌}
+use Rattle.std.proofs.Common.{◌≡◌, ℕ, zero, suc, Bool, true, false, cond, not, ◌&&◌, List, [], ◌++◌, Option, Some, None, is_some, refl, sym, ap, subst, ◌∙◌}
 use Rattle.awk_values.specs.declared.fault.Fault.{Fault}
 use Rattle.sem_primitives.specs.Sorts.{InAnswer}
-use Rattle.world_core.specs.WorldState.{Action}
+use Rattle.world_core.specs.WorldState.{Action, Entry, Outside, after as outside_after}
 use Rattle.wasm_store.specs.Memories.{MemoryForm}
 use Rattle.wasm_store.specs.declared.word.Word.{Word}
 use Rattle.wasm_model.specs.Hosts.{Meaning}
@@ -14,12 +14,13 @@ use Rattle.host_imports.specs.Imports.{can_fault, import_answer, import_at, lets
 use Rattle.host_imports.specs.declared.import.Import.{Import}
 use Rattle.host_imports.specs.declared.import.Import.TheVariants.{OfPrimitive, Variadic, Arg, Drop, IterFree, FreeArray}
 use Rattle.host_step.specs.HostState.{HostState}
-use Rattle.host_step.specs.HostStep.{Comes, Refuses, StepBy, StepOf, carried, come, comes, refuses}
-use Rattle.host_step.specs.Worlds.{InAnyWorld, InAnyWorldIf, ReadBy, reads}
+use Rattle.host_step.specs.HostStep.{Comes, Refuses, StepBy, StepIf, StepOf, carried, come, comes, refuses}
 use Rattle.host_step.proofs.Columns.{no_fault}
-use Rattle.host_values.specs.FormMeaning.{FormCalled, FormState, Told, Untold, form_meaning}
-use Rattle.host_values.specs.Forms.{HostForm}
-use Rattle.host_values.specs.Shown.{Shown}
+use Rattle.host_values.specs.FormMeaning.{FindsSo, FormCalled, FormState, Told, Untold, form_meaning}
+use Rattle.host_values.specs.Forms.{HostForm, state_of}
+use Rattle.host_values.specs.Findings.{IsFound, form_finding}
+use Rattle.host_values.specs.Shown.{SharesBy, Shown}
+use Rattle.host_values.proofs.Found.{none_left}
 use Rattle.host_values.proofs.Showing.{shown_fault}
 
 -- Calls. One that lets something go keeps no fault of its own; every other one is refused.
@@ -31,14 +32,6 @@ letting_cannot Arg e = cc
 letting_cannot Drop e = refl
 letting_cannot IterFree e = refl
 letting_cannot FreeArray e = refl
-
-reading_keeps : (i : Import) → reads i ≡ true → lets_go i ≡ false
-reading_keeps (OfPrimitive p) e = refl
-reading_keeps (Variadic l) e = refl
-reading_keeps Arg e = refl
-reading_keeps Drop e = cc
-reading_keeps IterFree e = cc
-reading_keeps FreeArray e = cc
 
 fault_in : (s t : HostState) → s ≡ t → s.fault ≡ t.fault
 fault_in s t e = ap (λ (z : HostState). z.fault) e
@@ -63,26 +56,54 @@ module _ (i : Import) (words : List Word) (memory : List ℕ) (s : HostState) (f
           subst (λ (c : Come). StepBy (import_answer i) s c a s1 output) (comes_refused keeps) h in
           fault_in s1 s refused.state ∙ kept
 
-  read_stays : (a : HostAnswer) (s1 : HostState) → reads i ≡ true → ReadBy i (comes i words memory s) s a s1 → s1.fault ≡ Some fault
-  read_stays a s1 is_read h = fault_in s1 s (subst (λ (c : Come). ReadBy i c s a s1) (comes_refused (reading_keeps i is_read)) h).1 ∙ kept
-
-call_stays : (o : Option Import) (s : HostState) (words : List Word) (memory : List ℕ) (a : HostAnswer) (s1 : HostState) (fault : Fault)
-    → InAnyWorld o s words memory a s1 → s.fault ≡ Some fault → s1.fault ≡ Some fault
-call_stays None s words memory a s1 fault h kept = fault_in s1 s h.1 ∙ kept
-call_stays (Some i) s words memory a s1 fault h kept = by (reads i) refl h
-  where
-    by : (b : Bool) → reads i ≡ b → InAnyWorldIf b i s words memory a s1 → s1.fault ≡ Some fault
-    by true is r = read_stays i words memory s fault kept a s1 is r
-    by false is r =
-        let before : r.old.fault ≡ Some fault = ap (λ (z : HostState). z.fault) r.same_before ∙ kept in
-        let after : r.new.fault ≡ s1.fault = ap (λ (z : HostState). z.fault) r.same_after in
-        sym after ∙ step_stays i words memory r.old fault before a r.new r.output r.step
+call_stays : (o : Option Import) (s : HostState) (words : List Word) (memory : List ℕ) (a : HostAnswer) (s1 : HostState) (output : List Action) (fault : Fault)
+    → StepIf o s words memory a s1 output → s.fault ≡ Some fault → s1.fault ≡ Some fault
+call_stays None s words memory a s1 output fault h kept = fault_in s1 s h.state ∙ kept
+call_stays (Some i) s words memory a s1 output fault h kept = step_stays i words memory s fault kept a s1 output h
 
 -- Runs.
 
--- tables that show a state
+-- Tables that show a state in an environment that others change too, whatever is found later.
+record ShowsOne (f : HostForm) (later : List Entry) : Type 0 where
+  pub finds : List Entry
+  pub left : IsFound f.fault [] later finds
+  pub outside : Outside
+  pub so_far : List Action
+  pub state : HostState
+  pub shown : Shown (form_finding finds outside so_far f) state
+
 abbrev Shows : HostForm → Type 0
-Shows f = (s : HostState) × Shown f s
+Shows f = (later : List Entry) → ShowsOne f later
+
+finds_too : (f : HostForm) (s : HostState) → Shown f s → Shows f
+finds_too f s h later = record {
+  finds = later;
+  left = none_left f.fault later;
+  outside = f.shared.outside;
+  so_far = [];
+  state = state_of (form_finding later f.shared.outside [] h.form) h.stands.past;
+  shown = record {
+    form = form_finding later f.shared.outside [] h.form;
+    same = by f.fault h.same;
+    stands = record { past = h.stands.past; state = refl; arrays = h.stands.arrays; iterators = h.stands.iterators; first = h.stands.first };
+  };
+}
+  where
+    by : (o : Option Fault) → SharesBy o h.form f
+        → SharesBy o (form_finding later f.shared.outside [] h.form) (form_finding later f.shared.outside [] f)
+    by None same = ap (form_finding later f.shared.outside []) same
+    by (Some fault) same = record {
+      values = same.values;
+      arrays = same.arrays;
+      iterators = same.iterators;
+      fault = same.fault;
+      outside = refl;
+      output = refl;
+    }
+
+found_first : (o : Option Fault) (a later finds : List Entry) → IsFound o [] (a ++ later) finds → IsFound o a later finds
+found_first None a later finds e = e
+found_first (Some fault) a later finds e = tt
 
 -- later tables show a state, and keep the fault that was kept
 record Stays (f f1 : HostForm) : Type 0 where
@@ -103,6 +124,23 @@ unmoved f f1 shows e = record {
 
 stays_on : (f f1 f2 : HostForm) → Stays f f1 → Stays f1 f2 → Stays f f2
 stays_on f f1 f2 x y = record { shows = y.shows; kept = λ fault kept. y.kept fault (x.kept fault kept) }
+
+module _ (o : Option Import) (f f1 : HostForm) (words : List Word) (memory : List ℕ) (a : HostAnswer) (x : FindsSo o f words memory a f1) where
+  call_shows : Shows f → Stays f f1
+  call_shows shows = record { shows = shown_later; kept = kept_later }
+    where
+      shown_later : Shows f1
+      shown_later later =
+          let w = shows (x.found ++ later) in
+          let y = x.leads w.finds later (found_first f.fault x.found later w.finds w.left) w.outside w.so_far w.state w.shown in
+          record { finds = y.rest; left = y.left; outside = outside_after x.output w.outside; so_far = w.so_far ++ x.output; state = y.to.state; shown = y.to.shown }
+
+      kept_later : (fault : Fault) → f.fault ≡ Some fault → f1.fault ≡ Some fault
+      kept_later fault kept =
+          let w = shows (x.found ++ []) in
+          let y = x.leads w.finds [] (found_first f.fault x.found [] w.finds w.left) w.outside w.so_far w.state w.shown in
+          sym (shown_fault _ y.to.state y.to.shown)
+          ∙ call_stays o w.state words memory a y.to.state x.output fault y.to.step (shown_fault _ w.state w.shown ∙ kept)
 
 module _ (tells : Type 0) where
   abbrev M : Meaning FormState Action
@@ -127,13 +165,7 @@ module _ (tells : Type 0) where
   taken_stays (Ends e) f f1 mem output c1 r shows = absurd r
   taken_stays (Asks n ws c) f f1 mem output c1 r shows =
       let called : FormCalled tells (import_at n) f ws mem.bytes (told.Done r.0) f1 output = r.1.1 in
-      let x = called.in_any_world shows.0 shows.1 in
-      let was = shown_fault f shows.0 shows.1 in
-      let is = shown_fault f1 x.state x.shown in
-      record {
-        shows = (x.state, x.shown);
-        kept = λ fault kept. sym is ∙ call_stays (import_at n) shows.0 ws mem.bytes (told.Done r.0) x.state fault x.in_any_world (was ∙ kept);
-      }
+      call_shows (import_at n) f f1 ws mem.bytes (told.Done r.0) called.finds shows
 
   run_stays : (m : ProgramForm) (n : ℕ) (c : Conf) (f : HostForm) (output : List Action) (c1 : Conf) (f1 : HostForm)
       → Steps M m n c (Told f) output c1 (Told f1) → Shows f → Stays f f1
@@ -152,7 +184,7 @@ module _ (tells : Type 0) where
       → Shown first s → Steps M m taken start (Told first) output c (Told f) → Steps M m rest c (Told f) more later (Told last)
       → (fault : Fault) → f.fault ≡ Some fault → last.fault ≡ Some fault
   stays m taken rest start c later first f last s output more shown ran went =
-      (run_stays m rest c f more later last went (run_stays m taken start first output c f ran (s, shown)).shows).kept
+      (run_stays m rest c f more later last went (run_stays m taken start first output c f ran (finds_too first s shown)).shows).kept
 
   pub none_before : (m : ProgramForm) (taken rest : ℕ) (start c later : Conf) (first f last : HostForm) (s : HostState) (output more : List Action)
       → Shown first s → Steps M m taken start (Told first) output c (Told f) → Steps M m rest c (Told f) more later (Told last)

@@ -1,24 +1,22 @@
 -- Where a call writes, what is left of the main input stays as it was; in a world that is not modelled, nobody sees whether it does.
-use Rattle.std.proofs.Common.{◌≡◌, ℕ, List, ◌++◌, Option, Some, None, Result, Ok, Err, false, refl, sym, ap, ◌∙◌, subst}
+use Rattle.std.proofs.Common.{◌≡◌, ℕ, List, ◌++◌, Option, Some, None, Result, Ok, Err, refl, sym, ap, subst}
 use Rattle.awk_values.specs.declared.fault.Fault.{Fault}
 use Rattle.sem_primitives.specs.SharedState.{MainInput}
 use Rattle.wasm_model.specs.declared.host.HostAnswer.{HostAnswer}
 use Rattle.wasm_model.specs.declared.host.HostAnswer.TheVariants as told
 use Rattle.wasm_store.specs.declared.word.Word.{Word}
 use Rattle.world_core.specs.WorldState.{Action, Entry, Outside, State, after as outside_after}
-use Rattle.host_step.specs.HostState.{HostState}
-use Rattle.host_step.specs.Worlds.{InAnyWorldIf, IsStepInSomeWorld, reads, unseen, unseen_main, unseen_reading}
 use Rattle.host_imports.specs.declared.import.Import.{Import}
 use Rattle.host_step.specs.declared.refusal.Refusal.{Refusal}
 use Rattle.host_step.specs.declared.refusal.Refusal.TheVariants as why
-use Rattle.host_values.specs.Forms.{HostForm, Past, Stands, state_of}
+use Rattle.host_values.specs.Forms.{HostForm}
 use Rattle.host_streams.specs.Mains.{main_of, reading_of}
 use Rattle.host_streams.specs.declared.main_input.MainInput.{MainInput as Mains}
 use Rattle.host_streams.specs.declared.main_input.Reading.{Reading}
 use Rattle.host_streams.specs.declared.main_input.Reading.TheVariants as reading
-use Rattle.host_values.specs.Findings.{form_finding}
-use Rattle.host_values.specs.FormMeaning.{InAnyWorldShown, FormCalled, FormMeans, StepShown}
-use Rattle.host_values.specs.Shown.{SharesBy, form_with_output}
+use Rattle.host_values.specs.Findings.{form_finding, unseen_main, unseen_reading}
+use Rattle.host_values.specs.FormMeaning.{FormCalled, FormMeans, StepShown}
+use Rattle.host_values.specs.Shown.{form_with_output}
 use Rattle.host_values.specs.TableCalls.{left_by_call}
 use Rattle.host_values.specs.WorldCalls.{IsCalled}
 use Rattle.host_tables.specs.Answers.{told_as}
@@ -39,46 +37,9 @@ unseen_by (reading.File r) old new = refl
 pub unseen_of : (m : Mains) (old new : State) → unseen_main (main_of m old) ≡ unseen_main (main_of m new)
 unseen_of m old new = ap (λ r. record (unseen_main (main_of m old)) { reading = r }) (unseen_by m.reading old new)
 
-module _ (tells : Type 0) (i : Import) (quiet : reads i ≡ false) (before f : HostForm) (words : List Word) (memory : List ℕ) (old new : MainInput)
+module _ (tells : Type 0) (i : Import) (before f : HostForm) (words : List Word) (memory : List ℕ) (old new : MainInput)
     (hidden : unseen_main old ≡ unseen_main new) (same : tells → old ≡ new) where
-  unseen_state : (p : Past) → unseen (state_of (with_main old f) p) ≡ unseen (state_of (with_main new f) p)
-  unseen_state p = ap (λ (z : MainInput). record (unseen (state_of (with_main old f) p)) {
-    shared = record (unseen (state_of (with_main old f) p)).shared { inner = record (unseen (state_of (with_main old f) p)).shared.inner { main = z } };
-  }) hidden
-
-  some_world : (a : HostAnswer) (s : HostState) (x y : HostState) → unseen x ≡ unseen y → InAnyWorldIf (reads i) i s words memory a x
-      → InAnyWorldIf (reads i) i s words memory a y
-  some_world a s x y e h = subst (λ b. InAnyWorldIf b i s words memory a y) (sym quiet)
-      (let w : IsStepInSomeWorld i s words memory a x = subst (λ b. InAnyWorldIf b i s words memory a x) quiet h in
-      record { old = w.old; new = w.new; output = w.output; same_before = w.same_before; same_after = w.same_after ∙ e; step = w.step })
-
-  in_any_world_by : (a : HostAnswer) (s state : HostState) (fault : Option Fault) → f.fault ≡ fault → (form : HostForm) → SharesBy fault form (with_main old f)
-      → Stands form state
-      → InAnyWorldIf (reads i) i s words memory a state → InAnyWorldShown (Some i) s words memory a (with_main new f)
-  in_any_world_by a s state None e form same stands any =
-      let x : Stands (with_main old f) state = subst (λ z. Stands z state) same stands in
-      let to = state_of (with_main new f) x.past in
-      record {
-        state = to;
-        shown = record {
-          form = with_main new f;
-          same = subst (λ z. SharesBy z (with_main new f) (with_main new f)) (sym e) refl;
-          stands = record { past = x.past; state = refl; arrays = x.arrays; iterators = x.iterators; first = x.first };
-        };
-        in_any_world = some_world a s state to (ap unseen x.state ∙ unseen_state x.past) any;
-      }
-  in_any_world_by a s state (Some fault) e form same stands any = record {
-    state = state;
-    shown = record {
-      form = form;
-      same = subst (λ z. SharesBy z form (with_main new f)) (sym e)
-          (record { values = same.values; arrays = same.arrays; iterators = same.iterators; fault = same.fault; outside = same.outside; output = same.output });
-      stands = stands;
-    };
-    in_any_world = any;
-  }
-
-  -- and so it is in an environment that others change too
+  -- in an environment that others change too it is the same
   same_finding : (finds : List Entry) (outside : Outside) (so_far : List Action) → form_finding finds outside so_far (with_main old f) ≡ form_finding finds outside so_far (with_main new f)
   same_finding finds outside so_far = ap (λ (z : MainInput). record (form_finding finds outside so_far f) {
     shared = record (form_finding finds outside so_far f).shared { inner = record (form_finding finds outside so_far f).shared.inner { main = z } };
@@ -90,7 +51,6 @@ module _ (tells : Type 0) (i : Import) (quiet : reads i ≡ false) (before f : H
     typed = c.typed;
     step = λ t so_far s h.
         subst (λ m. StepShown (Some i) s words memory a (form_with_output (so_far ++ output) (with_main m f)) output) (same t) (c.step t so_far s h);
-    in_any_world = λ s h. let x = c.in_any_world s h in in_any_world_by a s x.state f.fault refl x.shown.form x.shown.same x.shown.stands x.in_any_world;
     finds = record {
       found = c.finds.found;
       output = c.finds.output;
@@ -117,14 +77,14 @@ left_with_main (Err (why.Trap k)) m f = refl
 left_with_main (Err why.NoMemory) m f = refl
 
 -- A call that writes: the family tells the main input as it was before.
-pub wrote_comes : (tells : Type 0) (i : Import) (words : List Word) (memory : List ℕ) → reads i ≡ false → (before f : HostForm) (old new : MainInput)
+pub wrote_comes : (tells : Type 0) (i : Import) (words : List Word) (memory : List ℕ) (before f : HostForm) (old new : MainInput)
     → unseen_main old ≡ unseen_main new → (tells → old ≡ new)
     → (r : Result (Option Word) Refusal) → before.fault ≡ None → (output : List Action) → IsCalled tells i before words memory r (with_main old f) output
     → ComesTo tells i before words memory r (with_main new f)
-wrote_comes tells i words memory quiet before f old new hidden same r none output calls = (
+wrote_comes tells i words memory before f old new hidden same r none output calls = (
   output,
   subst (λ z. FormMeans tells (Some i) before words memory (told_as i r) z output) (sym (left_with_main r new f))
-      (means_moved tells i quiet before (left_by_call r f) words memory old new hidden same (told_as i r) output
+      (means_moved tells i before (left_by_call r f) words memory old new hidden same (told_as i r) output
       (subst (λ z. FormMeans tells (Some i) before words memory (told_as i r) z output) (left_with_main r old f)
       (world_told tells i words memory before none output (with_main old f) r calls))),
 )

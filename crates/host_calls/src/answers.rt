@@ -1,5 +1,5 @@
 //! The answer to a call.
-ghost use Rattle.std.specs.Prelude.{◌≡◌};
+ghost use Rattle.std.specs.Prelude.{◌≡◌, Ok};
 ghost use Rattle.host_calls.specs.Calls.{Means, Settles};
 ghost use Rattle.host_calls.specs.Forms.{host_form};
 ghost use Rattle.host_imports.specs.Imports.{import_answer};
@@ -43,12 +43,8 @@ impl<W: World> Host<W> {
 
     /// Carries out what a call came to, and tells it.
     #[inline(always)]
-    pub(crate) fn settle(
-        &mut self,
-        import: Import,
-        evaluated: Result<Evaluated, Refusal>,
-    ) -> HostAnswer
-        ensures { Settles W.state import evaluated self.old result self.new }
+    pub(crate) fn settle(&mut self, import: Import, evaluated: Evaluated) -> HostAnswer
+        ensures { Settles W.state import (Ok evaluated) self.old result self.new }
     {
         let outcome = carry_out(&mut self.tables.handles, evaluated);
         self.tell(import, outcome)

@@ -26,8 +26,11 @@ impl<W: World> Host<W> {
             memory result self.new }
     {
         let tables = &mut self.tables;
-        let evaluated = get_special(&tables.handles, &mut tables.texts, words);
-        self.settle(Import::OfPrimitive(Primitive::GetSpecial), evaluated)
+        let import = Import::OfPrimitive(Primitive::GetSpecial);
+        match get_special(&tables.handles, &mut tables.texts, words) {
+            Ok(evaluated) => self.settle(import, evaluated),
+            Err(refusal) => self.tell(import, Err(refusal)),
+        }
     }
 
     /// A special variable gets a value.
@@ -38,8 +41,11 @@ impl<W: World> Host<W> {
             memory result self.new }
     {
         let tables = &mut self.tables;
-        let evaluated = set_special(tables.alloc, &tables.handles, &mut tables.texts, words);
-        self.settle(Import::OfPrimitive(Primitive::SetSpecial), evaluated)
+        let import = Import::OfPrimitive(Primitive::SetSpecial);
+        match set_special(tables.alloc, &tables.handles, &mut tables.texts, words) {
+            Ok(evaluated) => self.settle(import, evaluated),
+            Err(refusal) => self.tell(import, Err(refusal)),
+        }
     }
 
     /// The value of a field.
@@ -50,8 +56,11 @@ impl<W: World> Host<W> {
             memory result self.new }
     {
         let tables = &mut self.tables;
-        let evaluated = field(tables.alloc, &tables.handles, &mut tables.texts, words);
-        self.settle(Import::OfPrimitive(Primitive::Field), evaluated)
+        let import = Import::OfPrimitive(Primitive::Field);
+        match field(tables.alloc, &tables.handles, &mut tables.texts, words) {
+            Ok(evaluated) => self.settle(import, evaluated),
+            Err(refusal) => self.tell(import, Err(refusal)),
+        }
     }
 
     /// A field gets a value.
@@ -62,8 +71,11 @@ impl<W: World> Host<W> {
             memory result self.new }
     {
         let tables = &mut self.tables;
-        let evaluated = set_field(tables.alloc, &tables.handles, &mut tables.texts, words);
-        self.settle(Import::OfPrimitive(Primitive::SetField), evaluated)
+        let import = Import::OfPrimitive(Primitive::SetField);
+        match set_field(tables.alloc, &tables.handles, &mut tables.texts, words) {
+            Ok(evaluated) => self.settle(import, evaluated),
+            Err(refusal) => self.tell(import, Err(refusal)),
+        }
     }
 
     /// The length of a value's text.
@@ -73,8 +85,11 @@ impl<W: World> Host<W> {
         ensures { (memory : List ℕ) → Means W.is_modelled W.state (OfPrimitive row.Length) self.old words.now
             memory result self.new }
     {
-        let evaluated = length(&self.tables.handles, words);
-        self.settle(Import::OfPrimitive(Primitive::Length), evaluated)
+        let import = Import::OfPrimitive(Primitive::Length);
+        match length(&self.tables.handles, words) {
+            Ok(evaluated) => self.settle(import, evaluated),
+            Err(refusal) => self.tell(import, Err(refusal)),
+        }
     }
 
     /// Whether an expression matches.
@@ -85,13 +100,16 @@ impl<W: World> Host<W> {
             memory result self.new }
     {
         let tables = &mut self.tables;
-        let evaluated = matches(
+        let import = Import::OfPrimitive(Primitive::Matches);
+        match matches(
             tables.alloc,
             &tables.handles,
             &mut tables.texts.expressions,
             words,
-        );
-        self.settle(Import::OfPrimitive(Primitive::Matches), evaluated)
+        ) {
+            Ok(evaluated) => self.settle(import, evaluated),
+            Err(refusal) => self.tell(import, Err(refusal)),
+        }
     }
 
     /// Where an expression matches first.
@@ -102,8 +120,11 @@ impl<W: World> Host<W> {
             memory result self.new }
     {
         let tables = &mut self.tables;
-        let evaluated = match_at(tables.alloc, &tables.handles, &mut tables.texts, words);
-        self.settle(Import::OfPrimitive(Primitive::Match), evaluated)
+        let import = Import::OfPrimitive(Primitive::Match);
+        match match_at(tables.alloc, &tables.handles, &mut tables.texts, words) {
+            Ok(evaluated) => self.settle(import, evaluated),
+            Err(refusal) => self.tell(import, Err(refusal)),
+        }
     }
 
     /// A substitution.
@@ -114,8 +135,11 @@ impl<W: World> Host<W> {
             memory result self.new }
     {
         let tables = &mut self.tables;
-        let evaluated = sub(tables.alloc, &tables.handles, &mut tables.texts, words);
-        self.settle(Import::OfPrimitive(Primitive::Sub), evaluated)
+        let import = Import::OfPrimitive(Primitive::Sub);
+        match sub(tables.alloc, &tables.handles, &mut tables.texts, words) {
+            Ok(evaluated) => self.settle(import, evaluated),
+            Err(refusal) => self.tell(import, Err(refusal)),
+        }
     }
 
     /// The text of the last substitution.
@@ -126,8 +150,11 @@ impl<W: World> Host<W> {
             memory result self.new }
     {
         let tables = &mut self.tables;
-        let evaluated = sub_result(&tables.handles, &mut tables.texts, words);
-        self.settle(Import::OfPrimitive(Primitive::SubResult), evaluated)
+        let import = Import::OfPrimitive(Primitive::SubResult);
+        match sub_result(&tables.handles, &mut tables.texts, words) {
+            Ok(evaluated) => self.settle(import, evaluated),
+            Err(refusal) => self.tell(import, Err(refusal)),
+        }
     }
 
     /// A part of a text.
@@ -137,8 +164,11 @@ impl<W: World> Host<W> {
         ensures { (memory : List ℕ) → Means W.is_modelled W.state (OfPrimitive row.Substr) self.old words.now
             memory result self.new }
     {
-        let evaluated = substr_of(self.tables.alloc, &self.tables.handles, words);
-        self.settle(Import::OfPrimitive(Primitive::Substr), evaluated)
+        let import = Import::OfPrimitive(Primitive::Substr);
+        match substr_of(self.tables.alloc, &self.tables.handles, words) {
+            Ok(evaluated) => self.settle(import, evaluated),
+            Err(refusal) => self.tell(import, Err(refusal)),
+        }
     }
 
     /// The rest of a text.
@@ -148,8 +178,11 @@ impl<W: World> Host<W> {
         ensures { (memory : List ℕ) → Means W.is_modelled W.state (OfPrimitive row.SubstrFrom) self.old words.now
             memory result self.new }
     {
-        let evaluated = substr_from(self.tables.alloc, &self.tables.handles, words);
-        self.settle(Import::OfPrimitive(Primitive::SubstrFrom), evaluated)
+        let import = Import::OfPrimitive(Primitive::SubstrFrom);
+        match substr_from(self.tables.alloc, &self.tables.handles, words) {
+            Ok(evaluated) => self.settle(import, evaluated),
+            Err(refusal) => self.tell(import, Err(refusal)),
+        }
     }
 
     /// Where a text stands in another.
@@ -159,8 +192,11 @@ impl<W: World> Host<W> {
         ensures { (memory : List ℕ) → Means W.is_modelled W.state (OfPrimitive row.Index) self.old words.now
             memory result self.new }
     {
-        let evaluated = index(self.tables.alloc, &self.tables.handles, words);
-        self.settle(Import::OfPrimitive(Primitive::Index), evaluated)
+        let import = Import::OfPrimitive(Primitive::Index);
+        match index(self.tables.alloc, &self.tables.handles, words) {
+            Ok(evaluated) => self.settle(import, evaluated),
+            Err(refusal) => self.tell(import, Err(refusal)),
+        }
     }
 
     /// A text in lower case.
@@ -170,8 +206,11 @@ impl<W: World> Host<W> {
         ensures { (memory : List ℕ) → Means W.is_modelled W.state (OfPrimitive row.Lower) self.old words.now
             memory result self.new }
     {
-        let evaluated = lower_case(self.tables.alloc, &self.tables.handles, words);
-        self.settle(Import::OfPrimitive(Primitive::Lower), evaluated)
+        let import = Import::OfPrimitive(Primitive::Lower);
+        match lower_case(self.tables.alloc, &self.tables.handles, words) {
+            Ok(evaluated) => self.settle(import, evaluated),
+            Err(refusal) => self.tell(import, Err(refusal)),
+        }
     }
 
     /// A text in upper case.
@@ -181,8 +220,11 @@ impl<W: World> Host<W> {
         ensures { (memory : List ℕ) → Means W.is_modelled W.state (OfPrimitive row.Upper) self.old words.now
             memory result self.new }
     {
-        let evaluated = upper_case(self.tables.alloc, &self.tables.handles, words);
-        self.settle(Import::OfPrimitive(Primitive::Upper), evaluated)
+        let import = Import::OfPrimitive(Primitive::Upper);
+        match upper_case(self.tables.alloc, &self.tables.handles, words) {
+            Ok(evaluated) => self.settle(import, evaluated),
+            Err(refusal) => self.tell(import, Err(refusal)),
+        }
     }
 
     /// A key of two texts.
@@ -193,8 +235,11 @@ impl<W: World> Host<W> {
             memory result self.new }
     {
         let tables = &self.tables;
-        let evaluated = join_texts(tables.alloc, &tables.handles, &tables.texts, words);
-        self.settle(Import::OfPrimitive(Primitive::Join), evaluated)
+        let import = Import::OfPrimitive(Primitive::Join);
+        match join_texts(tables.alloc, &tables.handles, &tables.texts, words) {
+            Ok(evaluated) => self.settle(import, evaluated),
+            Err(refusal) => self.tell(import, Err(refusal)),
+        }
     }
 
     /// The last values of the argument list make a text.

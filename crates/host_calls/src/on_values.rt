@@ -23,8 +23,11 @@ impl<W: World> Host<W> {
         ensures { (memory : List ℕ) → Means W.is_modelled W.state (OfPrimitive row.Num) self.old words.now
             memory result self.new }
     {
-        let evaluated = num(words);
-        self.settle(Import::OfPrimitive(Primitive::Num), evaluated)
+        let import = Import::OfPrimitive(Primitive::Num);
+        match num(words) {
+            Ok(evaluated) => self.settle(import, evaluated),
+            Err(refusal) => self.tell(import, Err(refusal)),
+        }
     }
 
     /// The value of a literal.
@@ -33,8 +36,11 @@ impl<W: World> Host<W> {
         requires { refuses (OfPrimitive row.Lit) self.old.tables.fault ≡ false }
         ensures { Means W.is_modelled W.state (OfPrimitive row.Lit) self.old words.now memory.now result self.new }
     {
-        let evaluated = lit(self.tables.alloc, &mut self.tables.literals, words, memory);
-        self.settle(Import::OfPrimitive(Primitive::Lit), evaluated)
+        let import = Import::OfPrimitive(Primitive::Lit);
+        match lit(self.tables.alloc, &mut self.tables.literals, words, memory) {
+            Ok(evaluated) => self.settle(import, evaluated),
+            Err(refusal) => self.tell(import, Err(refusal)),
+        }
     }
 
     /// The value of a variable that was never set.
@@ -44,8 +50,11 @@ impl<W: World> Host<W> {
         ensures { (memory : List ℕ) → Means W.is_modelled W.state (OfPrimitive row.Uninit) self.old words.now
             memory result self.new }
     {
-        let evaluated = uninit(words);
-        self.settle(Import::OfPrimitive(Primitive::Uninit), evaluated)
+        let import = Import::OfPrimitive(Primitive::Uninit);
+        match uninit(words) {
+            Ok(evaluated) => self.settle(import, evaluated),
+            Err(refusal) => self.tell(import, Err(refusal)),
+        }
     }
 
     /// A value once more.
@@ -55,8 +64,11 @@ impl<W: World> Host<W> {
         ensures { (memory : List ℕ) → Means W.is_modelled W.state (OfPrimitive row.Dup) self.old words.now
             memory result self.new }
     {
-        let evaluated = dup(&self.tables.handles, words);
-        self.settle(Import::OfPrimitive(Primitive::Dup), evaluated)
+        let import = Import::OfPrimitive(Primitive::Dup);
+        match dup(&self.tables.handles, words) {
+            Ok(evaluated) => self.settle(import, evaluated),
+            Err(refusal) => self.tell(import, Err(refusal)),
+        }
     }
 
     /// The number of a value.
@@ -66,8 +78,11 @@ impl<W: World> Host<W> {
         ensures { (memory : List ℕ) → Means W.is_modelled W.state (OfPrimitive row.ToNum) self.old words.now
             memory result self.new }
     {
-        let evaluated = to_num(&self.tables.handles, words);
-        self.settle(Import::OfPrimitive(Primitive::ToNum), evaluated)
+        let import = Import::OfPrimitive(Primitive::ToNum);
+        match to_num(&self.tables.handles, words) {
+            Ok(evaluated) => self.settle(import, evaluated),
+            Err(refusal) => self.tell(import, Err(refusal)),
+        }
     }
 
     /// The number of a value without its fraction.
@@ -77,8 +92,11 @@ impl<W: World> Host<W> {
         ensures { (memory : List ℕ) → Means W.is_modelled W.state (OfPrimitive row.IntOf) self.old words.now
             memory result self.new }
     {
-        let evaluated = int_of(&self.tables.handles, words);
-        self.settle(Import::OfPrimitive(Primitive::IntOf), evaluated)
+        let import = Import::OfPrimitive(Primitive::IntOf);
+        match int_of(&self.tables.handles, words) {
+            Ok(evaluated) => self.settle(import, evaluated),
+            Err(refusal) => self.tell(import, Err(refusal)),
+        }
     }
 
     /// The truth of a value.
@@ -88,8 +106,11 @@ impl<W: World> Host<W> {
         ensures { (memory : List ℕ) → Means W.is_modelled W.state (OfPrimitive row.Truth) self.old words.now
             memory result self.new }
     {
-        let evaluated = truth_of(&self.tables.handles, words);
-        self.settle(Import::OfPrimitive(Primitive::Truth), evaluated)
+        let import = Import::OfPrimitive(Primitive::Truth);
+        match truth_of(&self.tables.handles, words) {
+            Ok(evaluated) => self.settle(import, evaluated),
+            Err(refusal) => self.tell(import, Err(refusal)),
+        }
     }
 
     /// Two values are compared.
@@ -99,8 +120,11 @@ impl<W: World> Host<W> {
         ensures { (memory : List ℕ) → Means W.is_modelled W.state (OfPrimitive row.Compare) self.old words.now
             memory result self.new }
     {
-        let evaluated = comparison(&self.tables.handles, words);
-        self.settle(Import::OfPrimitive(Primitive::Compare), evaluated)
+        let import = Import::OfPrimitive(Primitive::Compare);
+        match comparison(&self.tables.handles, words) {
+            Ok(evaluated) => self.settle(import, evaluated),
+            Err(refusal) => self.tell(import, Err(refusal)),
+        }
     }
 
     /// The texts of two values as one.
@@ -110,8 +134,11 @@ impl<W: World> Host<W> {
         ensures { (memory : List ℕ) → Means W.is_modelled W.state (OfPrimitive row.Concat) self.old words.now
             memory result self.new }
     {
-        let evaluated = concat(self.tables.alloc, &self.tables.handles, words);
-        self.settle(Import::OfPrimitive(Primitive::Concat), evaluated)
+        let import = Import::OfPrimitive(Primitive::Concat);
+        match concat(self.tables.alloc, &self.tables.handles, words) {
+            Ok(evaluated) => self.settle(import, evaluated),
+            Err(refusal) => self.tell(import, Err(refusal)),
+        }
     }
 
     /// A power of numbers.
@@ -121,8 +148,11 @@ impl<W: World> Host<W> {
         ensures { (memory : List ℕ) → Means W.is_modelled W.state (OfPrimitive row.Pow) self.old words.now
             memory result self.new }
     {
-        let evaluated = power(words);
-        self.settle(Import::OfPrimitive(Primitive::Pow), evaluated)
+        let import = Import::OfPrimitive(Primitive::Pow);
+        match power(words) {
+            Ok(evaluated) => self.settle(import, evaluated),
+            Err(refusal) => self.tell(import, Err(refusal)),
+        }
     }
 
     /// The script meets a fault.
@@ -132,8 +162,11 @@ impl<W: World> Host<W> {
         ensures { (memory : List ℕ) → Means W.is_modelled W.state (OfPrimitive row.Fail) self.old words.now
             memory result self.new }
     {
-        let evaluated = fail(words);
-        self.settle(Import::OfPrimitive(Primitive::Fail), evaluated)
+        let import = Import::OfPrimitive(Primitive::Fail);
+        match fail(words) {
+            Ok(evaluated) => self.settle(import, evaluated),
+            Err(refusal) => self.tell(import, Err(refusal)),
+        }
     }
 
     /// A value is let go.

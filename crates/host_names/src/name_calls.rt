@@ -126,7 +126,7 @@ pub fn pending_value(
     ensures step { (f : HostForm) (memory : List ℕ) → f.fault ≡ None
         → IsTableCall (Import.OfPrimitive row.PendingValue) (of_names names.old handles.old f) words.now
         memory result (of_names names.new handles.new f) }
-    ensures spare { map.get handles.new reserved_handle ≡ None }
+    ensures reserved { map.get handles.new reserved_handle ≡ None }
 {
     match expect_end(words) {
         Ok(()) => {}

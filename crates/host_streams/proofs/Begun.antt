@@ -11,7 +11,7 @@ use Rattle.world_core.specs.declared.world.WorldFault.TheVariants.{Failed, NoMem
 use Rattle.world_core.specs.WorldState.{Named, Open, Outside, State, Target, after, free, puts}
 use Rattle.world_core.specs.Calls.{Does, Fits, OpensWriter, Writes}
 use Rattle.sem_primitives.specs.Finds.{seen}
-use Rattle.sem_primitives.specs.SharedState.{HostResult as Doing, Shared}
+use Rattle.sem_primitives.specs.SharedState.{HostResult, Shared}
 use Rattle.sem_primitives.specs.OutputMeaning.{has_room, opened_if, what_fits, written, written_by}
 use Rattle.host_streams.specs.OpenFiles.{has_room as may_open}
 use Rattle.host_streams.specs.Outputs.{IsOf}
@@ -61,12 +61,12 @@ put_begins tells at id text s t u NoMemory fits part w = (
 
 -- over what another says too, where the actions are the same
 
-pub begins_first : (A B : Type 0) (tells : Type 0) (is is' : Shared → Type 0) (does does' : Shared → Doing (Result (Unit {0}) Fault)) (stop : Stop) (s t : State)
+pub begins_first : (A B : Type 0) (tells : Type 0) (is is' : Shared → Type 0) (does does' : Shared → HostResult (Result (Unit {0}) Fault)) (stop : Stop) (s t : State)
     → (tells → (shared : Shared) → is' shared → is shared × ((does shared).added ≡ (does' shared).added)) → OutputPrefix {A = A} tells is does (Err stop) s t → OutputPrefix {A = B} tells is' does' (Err stop) s t
 begins_first A B tells is is' does does' (IsFault fault) s t same h = tt
 begins_first A B tells is is' does does' OutOfMemory s t same h = (h.0, λ w shared i. h.1 w shared (same w shared i).0 ∙ ap (λ acts. after (take h.0 acts) s.outside) (same w shared i).1)
 
-pub begins_as : {A : Type 0} (tells : Type 0) (is is' : Shared → Type 0) (does does' : Shared → Doing (Result (Unit {0}) Fault)) (r : Result A Stop) (s t : State)
+pub begins_as : {A : Type 0} (tells : Type 0) (is is' : Shared → Type 0) (does does' : Shared → HostResult (Result (Unit {0}) Fault)) (r : Result A Stop) (s t : State)
     → (tells → (shared : Shared) → is' shared → is shared × ((does shared).added ≡ (does' shared).added)) → OutputPrefix tells is does r s t → OutputPrefix tells is' does' r s t
 begins_as tells is is' does does' (Ok x) s t same h = tt
 begins_as {A} tells is is' does does' (Err stop) s t same h = begins_first A A tells is is' does does' stop s t same h

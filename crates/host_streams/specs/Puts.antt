@@ -8,7 +8,7 @@ use Rattle.world_core.specs.declared.world.WorldFault.{WorldFault}
 use Rattle.world_core.specs.declared.world.WorldFault.TheVariants.{Failed, NoMemory}
 use Rattle.world_core.specs.WorldState.{Action, Entry, Named, State, after, free, puts}
 use Rattle.world_core.specs.Calls.{Does, Kind, Closed, OpensWriter}
-use Rattle.sem_primitives.specs.SharedState.{Shared, HostResult as Doing}
+use Rattle.sem_primitives.specs.SharedState.{Shared, HostResult}
 use Rattle.sem_primitives.specs.OutputMeaning.{all_fits, what_fits}
 
 -- what a stream writes to holds
@@ -34,7 +34,7 @@ PutsText id text old (Err Failed) new = (all_fits (free (entry_written id old)) 
 PutsText id text old (Err NoMemory) new = PutsSome id text old new
 
 -- the outside is as after these actions, and this was to be answered
-pub record HasDone (does : Doing (Result (Unit {0}) Fault)) (answer : Result (Unit {0}) Fault) (old new : State) : Type 0 where
+pub record HasDone (does : HostResult (Result (Unit {0}) Fault)) (answer : Result (Unit {0}) Fault) (old new : State) : Type 0 where
   pub answer_is : does.answer ≡ answer
   pub outside : new.outside ≡ after does.added old.outside
 
@@ -43,7 +43,7 @@ abbrev pub HasBegun : List Action → State → State → Type 0
 HasBegun actions old new = (n : ℕ) × (new.outside ≡ after (take n actions) old.outside)
 
 -- what is to be done was done, or short of memory the first actions of it
-abbrev pub PutsBy : {A : Type 0} → Doing (Result (Unit {0}) Fault) → Result A Stop → State → State → Type 0
+abbrev pub PutsBy : {A : Type 0} → HostResult (Result (Unit {0}) Fault) → Result A Stop → State → State → Type 0
 PutsBy does (Ok x) old new = HasDone does (Ok tt) old new
 PutsBy does (Err (IsFault fault)) old new = HasDone does (Err fault) old new
 PutsBy does (Err OutOfMemory) old new = HasBegun does.added old new
@@ -84,7 +84,7 @@ EndsPut ready room text (Err (IsFault fault)) = PutFault ready room text fault
 EndsPut ready room text (Err OutOfMemory) = Unit {0}
 
 -- Where memory was wanting, so many of the actions were done; what these are, a modelled world tells.
-abbrev pub OutputPrefix : {A : Type 0} → Type 0 → (Shared → Type 0) → (Shared → Doing (Result (Unit {0}) Fault)) → Result A Stop → State → State → Type 0
+abbrev pub OutputPrefix : {A : Type 0} → Type 0 → (Shared → Type 0) → (Shared → HostResult (Result (Unit {0}) Fault)) → Result A Stop → State → State → Type 0
 OutputPrefix tells is does (Err OutOfMemory) old new = (n : ℕ)
     × (tells → (shared : Shared) → is shared → new.outside ≡ after (take n (does shared).added) old.outside)
 OutputPrefix tells is does r old new = Unit {0}

@@ -70,8 +70,8 @@ filled_both argv environ =
     by false true r = refl
     by false false r = refl
 
-pub spare_first : (argv environ : Pairs) → map.get (map.insert (map.insert nothing (pos 0) argv) (pos 1) environ) reserved_handle ≡ None
-spare_first argv environ =
+pub reserved_first : (argv environ : Pairs) → map.get (map.insert (map.insert nothing (pos 0) argv) (pos 1) environ) reserved_handle ≡ None
+reserved_first argv environ =
     inserted (map.insert nothing (pos 0) argv) (pos 1) environ reserved_handle ∙ inserted nothing (pos 0) argv reserved_handle ∙ none_there reserved_handle
 
 pub there_first : map.contains_key no_pairs (pos 0) ≡ true

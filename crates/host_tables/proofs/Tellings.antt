@@ -13,7 +13,6 @@ use Rattle.wasm_store.specs.declared.word.Word.TheVariants.{I32, I64}
 use Rattle.host_step.specs.Answers.{refusal}
 use Rattle.host_step.specs.HostStep.{refuses}
 use Rattle.host_imports.specs.Imports.{import_answer, lets_go, result_of}
-use Rattle.host_step.specs.Worlds.{reads}
 use Rattle.host_imports.specs.declared.import.Import.{Import}
 use Rattle.host_step.specs.declared.refusal.Refusal.{Refusal}
 use Rattle.host_step.specs.declared.refusal.Refusal.TheVariants as why
@@ -59,28 +58,28 @@ fits_so answer.Stream w = narrow_fits answer.Stream w refl refl
 fits_so answer.ValueOrEnd w = narrow_fits answer.ValueOrEnd w refl refl
 fits_so answer.Name w = narrow_fits answer.Name w refl refl
 
-module _ (tells : Type 0) (i : Import) (words : List Word) (memory : List ℕ) (quiet : reads i ≡ false) (before after-call : HostForm)
-    (outside : after-call.shared.outside ≡ before.shared.outside) (output : after-call.shared.output ≡ before.shared.output) where
+module _ (tells : Type 0) (i : Import) (words : List Word) (memory : List ℕ) (before after-call : HostForm)
+    (outside : after-call.shared.outside ≡ before.shared.outside) where
   told_word : (w : Option Word) (b : Bool) → Decides b (Fits i (Ok w)) → TableCalls i before words memory (Ok w) after-call
       → FormMeans tells (Some i) before words memory (cond b (told.Done w) (told.Trap BadArgument)) after-call []
-  told_word w true d calls = table_means tells i words memory quiet before after-call (Ok w) d outside output calls
-  told_word w false d calls = unfit_means tells i words memory quiet before after-call w d output calls
+  told_word w true d calls = table_means tells i words memory before after-call (Ok w) d outside calls
+  told_word w false d calls = unfit_means tells i words memory before after-call w d calls
 
   -- A CALL on tables, as it is told
   pub told_means : (r : Result (Option Word) Refusal) → TableCalls i before words memory r after-call
       → FormMeans tells (Some i) before words memory (told_as i r) (left_by_call r after-call) []
   told_means (Ok w) calls = told_word w (fits (import_answer i) w) (fits_so (import_answer i) w) calls
-  told_means (Err r) calls = table_means tells i words memory quiet before after-call (Err r) (fits_none r) outside output calls
+  told_means (Err r) calls = table_means tells i words memory before after-call (Err r) (fits_none r) outside calls
     where
       fits_none : (x : Refusal) → Fits i (Err x)
       fits_none x = tt
 
 -- the same once a fault is kept
-pub call_means : (tells : Type 0) (i : Import) (words : List Word) (memory : List ℕ) (before between after-call : HostForm) (r : Result (Option Word) Refusal) → reads i ≡ false
-    → between.shared.outside ≡ before.shared.outside → between.shared.output ≡ before.shared.output → TableCalls i before words memory r between
+pub call_means : (tells : Type 0) (i : Import) (words : List Word) (memory : List ℕ) (before between after-call : HostForm) (r : Result (Option Word) Refusal)
+    → between.shared.outside ≡ before.shared.outside → TableCalls i before words memory r between
     → after-call ≡ left_by_call r between → FormMeans tells (Some i) before words memory (told_as i r) after-call []
-call_means tells i words memory before between after-call r quiet outside output calls e =
-    subst (λ (z : HostForm). FormMeans tells (Some i) before words memory (told_as i r) z []) (sym e) (told_means tells i words memory quiet before between outside output r calls)
+call_means tells i words memory before between after-call r outside calls e =
+    subst (λ (z : HostForm). FormMeans tells (Some i) before words memory (told_as i r) z []) (sym e) (told_means tells i words memory before between outside r calls)
 
 -- a call that is refused
 pub refused_means : (tells : Type 0) (i : Import) (f : HostForm) (words : List Word) (memory : List ℕ) → refuses i f.fault ≡ true

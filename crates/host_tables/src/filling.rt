@@ -74,7 +74,7 @@ pub(crate) fn fill(
     requires inside { All (IsInside text.now) spans.now }
     ensures filled { OnOk result (arrays.new
         ≡ maps.insert arrays.old array (numbered 1 (map (span_text text.now) spans.now))) }
-    ensures spare { maps.get arrays.old reserved_handle ≡ None → maps.get arrays.new reserved_handle ≡ None }
+    ensures reserved { maps.get arrays.old reserved_handle ≡ None → maps.get arrays.new reserved_handle ≡ None }
 {
     arrays.clear(array);
     let longest = longest.max(text.len());

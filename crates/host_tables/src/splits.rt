@@ -38,7 +38,7 @@ fn take_pieces(
     requires inside { All (IsInside text.now) spans.now }
     ensures filled { IsFilled result (length spans.now) (maps.insert arrays.old array
         (numbered 1 (map (span_text text.now) spans.now))) arrays.new }
-    ensures spare { maps.get arrays.old reserved_handle ≡ None → maps.get arrays.new reserved_handle ≡ None }
+    ensures reserved { maps.get arrays.old reserved_handle ≡ None → maps.get arrays.new reserved_handle ≡ None }
 {
     match fill(bytes, alloc, longest, arrays, array, text, spans) {
         Ok(()) => Ok(Some(Word::I64(counted(spans.len()).cast_unsigned()))),
@@ -64,8 +64,8 @@ pub fn split(
     ensures step { (f : HostForm) (memory : List ℕ) → f.fault ≡ None
         → IsTableCall (Import.OfPrimitive row.Split) (with_arrays handles.old arrays.old f) words.now memory
         result (with_arrays handles.new arrays.new f) }
-    ensures spare { maps.get handles.old reserved_handle ≡ None → maps.get handles.new reserved_handle ≡ None }
-    ensures spare_array { maps.get arrays.old reserved_handle ≡ None → maps.get arrays.new reserved_handle ≡ None }
+    ensures reserved { maps.get handles.old reserved_handle ≡ None → maps.get handles.new reserved_handle ≡ None }
+    ensures reserved_array { maps.get arrays.old reserved_handle ≡ None → maps.get arrays.new reserved_handle ≡ None }
 {
     let (first, value, array, second, between, is_ere) = match split_front(arrays, handles, words) {
         Ok(said) => said,

@@ -30,7 +30,7 @@ use Rattle.host_values.specs.declared.reply.Reply.{Reply}
 use Rattle.host_values.specs.declared.reply.Reply.TheVariants as reply
 use Rattle.host_values.proofs.Matching.{IsDone, Matches, other, stop_at}
 use Rattle.host_texts.proofs.Rows.{fits_replied}
-use Rattle.host_values.proofs.Spare.{KeepsFree, end_fitting, front}
+use Rattle.host_values.proofs.ReservedHandle.{KeepsFree, end_fitting, front}
 
 abbrev text : Answer
 text = answer.Of sort.Value
@@ -53,8 +53,8 @@ pub matched_last : (s : HostState) (m : Values) (words : List Word) (memory : Li
 matched_last s m words memory e is =
     subst (Matches text s (IsDone text s) (carried (Variadic Sprintf) words memory (with_values m s))) is (matching_last s m words memory)
 
-pub spare_last : (m : Values) (s : HostState) (words : List Word) → map.get m reserved_handle ≡ None → KeepsFree (formatting m s words)
-spare_last m s words free =
+pub reserved_last : (m : Values) (s : HostState) (words : List Word) → map.get m reserved_handle ≡ None → KeepsFree (formatting m s words)
+reserved_last m s words free =
     front (constant_front constant.Count words) _ (λ n rest.
     end_fitting (no_more rest) (nat_le n (length s.arguments) && listed_in_turn listed.Sprintf (last_of n s.arguments)) m _ free)
 

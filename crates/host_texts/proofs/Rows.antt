@@ -32,7 +32,7 @@ use Rattle.host_values.specs.States.{with_inner}
 use Rattle.host_values.specs.declared.reply.Reply.{Reply}
 use Rattle.host_values.specs.declared.reply.Reply.TheVariants as reply
 use Rattle.host_values.proofs.Matching.{Fits, Good, IsDone, Matches, SameAnswer, number, other, rest_of, stop, stop_at, taken}
-use Rattle.host_values.proofs.Spare.{end, end_fitting, front, handle, spare_removed}
+use Rattle.host_values.proofs.ReservedHandle.{end, end_fitting, front, handle, reserved_removed}
 use Rattle.host_values.proofs.Steps.{ComesTo}
 use Rattle.host_values.specs.Fronts.{handle_front, plain_number}
 use Rattle.std.specs.FinMap as map
@@ -80,7 +80,7 @@ set_special_comes s m words memory = record {
       taken (answer_of row.SetSpecial) s (Good row.SetSpecial s) [] (spends (OfPrimitive row.SetSpecial)) memory refl m behind _ _ (λ v left rest.
       stop (answer_of row.SetSpecial) s (Good row.SetSpecial s) rest (names_with left s) _ left (settled s done_reply (set_special_row t v s.shared.inner)) (refl, settled_done answer.Done s done_reply (set_special_row t v s.shared.inner) (λ u. tt))));
   keeps = λ free.
-      front (constant_front constant.Special words) _ (λ t behind. handle (handle_front m behind) _ (λ h v rest. end (no_more rest) (map.remove m h) _ (spare_removed m h free)));
+      front (constant_front constant.Special words) _ (λ t behind. handle (handle_front m behind) _ (λ h v rest. end (no_more rest) (map.remove m h) _ (reserved_removed m h free)));
 }
 
 pub field_comes : (s : HostState) (m : Values) (words : List Word) (memory : List ℕ) → ComesTo (OfPrimitive row.Field) m s words memory (field_evaluation m s words)
@@ -99,7 +99,7 @@ set_field_comes s m words memory = record {
       taken (answer_of row.SetField) s (Good row.SetField s) [] (spends (OfPrimitive row.SetField)) memory refl m behind _ _ (λ v left rest.
       stop (answer_of row.SetField) s (Good row.SetField s) rest (names_with left s) _ left (settled s done_reply (done (field_set n.number v s.shared.inner))) (refl, field_done s n v)));
   keeps = λ free.
-      front (plain_number (number_front words)) _ (λ n behind. handle (handle_front m behind) _ (λ h v rest. end (no_more rest) (map.remove m h) _ (spare_removed m h free)));
+      front (plain_number (number_front words)) _ (λ n behind. handle (handle_front m behind) _ (λ h v rest. end (no_more rest) (map.remove m h) _ (reserved_removed m h free)));
 }
 
 pub length_comes : (s : HostState) (m : Values) (words : List Word) (memory : List ℕ) → ComesTo (OfPrimitive row.Length) m s words memory (length_evaluation m s words)
@@ -108,7 +108,7 @@ length_comes s m words memory = record {
       taken (answer_of row.Length) s (Good row.Length s) [] (spends (OfPrimitive row.Length)) memory refl m words _ _ (λ v left rest.
       stop (answer_of row.Length) s (Good row.Length s) rest (names_with left s) _ left (s, Ok (number_reply (length_row v))) (refl, record { added = refl; state = refl; fits = refl }));
   keeps = λ free.
-      handle (handle_front m words) _ (λ h v rest. end (no_more rest) (map.remove m h) _ (spare_removed m h free));
+      handle (handle_front m words) _ (λ h v rest. end (no_more rest) (map.remove m h) _ (reserved_removed m h free));
 }
 
 pub matches_comes : (s : HostState) (m : Values) (words : List Word) (memory : List ℕ) → ComesTo (OfPrimitive row.Matches) m s words memory (matches_evaluation m s words)
@@ -118,7 +118,7 @@ matches_comes s m words memory = record {
       taken (answer_of row.Matches) s (Good row.Matches s) [] (spends (OfPrimitive row.Matches)) memory refl without_v behind _ _ (λ ere left rest.
       stop (answer_of row.Matches) s (Good row.Matches s) rest (names_with left s) _ left (s, replied reply.Truth (matches_row v ere)) (refl, record { added = refl; state = refl; fits = fits_replied answer.Truth reply.Truth (matches_row v ere) (λ b. refl) })));
   keeps = λ free.
-      handle (handle_front m words) _ (λ h v behind. handle (handle_front (map.remove m h) behind) _ (λ k w rest. end (no_more rest) (map.remove (map.remove m h) k) _ (spare_removed (map.remove m h) k (spare_removed m h free))));
+      handle (handle_front m words) _ (λ h v behind. handle (handle_front (map.remove m h) behind) _ (λ k w rest. end (no_more rest) (map.remove (map.remove m h) k) _ (reserved_removed (map.remove m h) k (reserved_removed m h free))));
 }
 
 pub match_comes : (s : HostState) (m : Values) (words : List Word) (memory : List ℕ) → ComesTo (OfPrimitive row.Match) m s words memory (match_evaluation m s words)
@@ -128,7 +128,7 @@ match_comes s m words memory = record {
       taken (answer_of row.Match) s (Good row.Match s) [] (spends (OfPrimitive row.Match)) memory refl without_v behind _ _ (λ ere left rest.
       stop (answer_of row.Match) s (Good row.Match s) rest (names_with left s) _ left (settled s number_reply (match_row v ere s.shared.inner)) (refl, settled_done (answer.Of sort.Number) s number_reply (match_row v ere s.shared.inner) (λ n. refl))));
   keeps = λ free.
-      handle (handle_front m words) _ (λ h v behind. handle (handle_front (map.remove m h) behind) _ (λ k w rest. end (no_more rest) (map.remove (map.remove m h) k) _ (spare_removed (map.remove m h) k (spare_removed m h free))));
+      handle (handle_front m words) _ (λ h v behind. handle (handle_front (map.remove m h) behind) _ (λ k w rest. end (no_more rest) (map.remove (map.remove m h) k) _ (reserved_removed (map.remove m h) k (reserved_removed m h free))));
 }
 
 pub sub_comes : (s : HostState) (m : Values) (words : List Word) (memory : List ℕ) → ComesTo (OfPrimitive row.Sub) m s words memory (sub_evaluation m s words)
@@ -144,7 +144,7 @@ sub_comes s m words memory = record {
       handle (handle_front (map.remove m h) behind_h) _ (λ k w behind_k.
       handle (handle_front (map.remove (map.remove m h) k) behind_k) _ (λ l x behind.
       front (constant_front constant.Flag behind) _ (λ all rest.
-      end (no_more rest) (map.remove (map.remove (map.remove m h) k) l) _ (spare_removed (map.remove (map.remove m h) k) l (spare_removed (map.remove m h) k (spare_removed m h free)))))));
+      end (no_more rest) (map.remove (map.remove (map.remove m h) k) l) _ (reserved_removed (map.remove (map.remove m h) k) l (reserved_removed (map.remove m h) k (reserved_removed m h free)))))));
 }
 
 pub sub_result_comes : (s : HostState) (m : Values) (words : List Word) (memory : List ℕ) → ComesTo (OfPrimitive row.SubResult) m s words memory (sub_result_evaluation m s words)
@@ -167,7 +167,7 @@ substr_comes s m words memory = record {
   keeps = λ free.
       handle (handle_front m words) _ (λ h v behind.
       front (plain_number (number_front behind)) _ (λ from behind_from. front (plain_number (number_front behind_from)) _ (λ count rest.
-      end (no_more rest) (map.remove m h) _ (spare_removed m h free))));
+      end (no_more rest) (map.remove m h) _ (reserved_removed m h free))));
 }
 
 pub substr_from_comes : (s : HostState) (m : Values) (words : List Word) (memory : List ℕ) → ComesTo (OfPrimitive row.SubstrFrom) m s words memory (substr_from_evaluation m s words)
@@ -177,7 +177,7 @@ substr_from_comes s m words memory = record {
       number (answer_of row.SubstrFrom) s (Good row.SubstrFrom s) (number_front behind) (rest_of row.SubstrFrom memory s left []) _ _ (λ from rest.
       stop (answer_of row.SubstrFrom) s (Good row.SubstrFrom s) rest (names_with left s) _ left (s, text_reply (part (text_of_value v) from.number None)) (refl, record { added = refl; state = refl; fits = refl })));
   keeps = λ free.
-      handle (handle_front m words) _ (λ h v behind. front (plain_number (number_front behind)) _ (λ from rest. end (no_more rest) (map.remove m h) _ (spare_removed m h free)));
+      handle (handle_front m words) _ (λ h v behind. front (plain_number (number_front behind)) _ (λ from rest. end (no_more rest) (map.remove m h) _ (reserved_removed m h free)));
 }
 
 pub index_comes : (s : HostState) (m : Values) (words : List Word) (memory : List ℕ) → ComesTo (OfPrimitive row.Index) m s words memory (index_evaluation m s words)
@@ -187,7 +187,7 @@ index_comes s m words memory = record {
       taken (answer_of row.Index) s (Good row.Index s) [] (spends (OfPrimitive row.Index)) memory refl without_v behind _ _ (λ wanted left rest.
       stop (answer_of row.Index) s (Good row.Index s) rest (names_with left s) _ left (s, Ok (number_reply (index_row v wanted))) (refl, record { added = refl; state = refl; fits = refl })));
   keeps = λ free.
-      handle (handle_front m words) _ (λ h v behind. handle (handle_front (map.remove m h) behind) _ (λ k w rest. end (no_more rest) (map.remove (map.remove m h) k) _ (spare_removed (map.remove m h) k (spare_removed m h free))));
+      handle (handle_front m words) _ (λ h v behind. handle (handle_front (map.remove m h) behind) _ (λ k w rest. end (no_more rest) (map.remove (map.remove m h) k) _ (reserved_removed (map.remove m h) k (reserved_removed m h free))));
 }
 
 pub lower_comes : (s : HostState) (m : Values) (words : List Word) (memory : List ℕ) → ComesTo (OfPrimitive row.Lower) m s words memory (lower_evaluation m s words)
@@ -196,7 +196,7 @@ lower_comes s m words memory = record {
       taken (answer_of row.Lower) s (Good row.Lower s) [] (spends (OfPrimitive row.Lower)) memory refl m words _ _ (λ v left rest.
       stop (answer_of row.Lower) s (Good row.Lower s) rest (names_with left s) _ left (s, Ok (reply.Value (lower_row v))) (refl, record { added = refl; state = refl; fits = refl }));
   keeps = λ free.
-      handle (handle_front m words) _ (λ h v rest. end (no_more rest) (map.remove m h) _ (spare_removed m h free));
+      handle (handle_front m words) _ (λ h v rest. end (no_more rest) (map.remove m h) _ (reserved_removed m h free));
 }
 
 pub upper_comes : (s : HostState) (m : Values) (words : List Word) (memory : List ℕ) → ComesTo (OfPrimitive row.Upper) m s words memory (upper_evaluation m s words)
@@ -205,7 +205,7 @@ upper_comes s m words memory = record {
       taken (answer_of row.Upper) s (Good row.Upper s) [] (spends (OfPrimitive row.Upper)) memory refl m words _ _ (λ v left rest.
       stop (answer_of row.Upper) s (Good row.Upper s) rest (names_with left s) _ left (s, Ok (reply.Value (upper_row v))) (refl, record { added = refl; state = refl; fits = refl }));
   keeps = λ free.
-      handle (handle_front m words) _ (λ h v rest. end (no_more rest) (map.remove m h) _ (spare_removed m h free));
+      handle (handle_front m words) _ (λ h v rest. end (no_more rest) (map.remove m h) _ (reserved_removed m h free));
 }
 
 pub join_comes : (s : HostState) (m : Values) (words : List Word) (memory : List ℕ) → ComesTo (OfPrimitive row.Join) m s words memory (join_evaluation m s words)
@@ -215,5 +215,5 @@ join_comes s m words memory = record {
       taken (answer_of row.Join) s (Good row.Join s) [] (spends (OfPrimitive row.Join)) memory refl without_v behind _ _ (λ w left rest.
       stop (answer_of row.Join) s (Good row.Join s) rest (names_with left s) _ left (s, replied reply.Value (join_row v w s.shared.inner)) (refl, record { added = refl; state = refl; fits = fits_replied (answer.Of sort.Value) reply.Value (join_row v w s.shared.inner) (λ x. refl) })));
   keeps = λ free.
-      handle (handle_front m words) _ (λ h v behind. handle (handle_front (map.remove m h) behind) _ (λ k w rest. end (no_more rest) (map.remove (map.remove m h) k) _ (spare_removed (map.remove m h) k (spare_removed m h free))));
+      handle (handle_front m words) _ (λ h v behind. handle (handle_front (map.remove m h) behind) _ (λ k w rest. end (no_more rest) (map.remove (map.remove m h) k) _ (reserved_removed (map.remove m h) k (reserved_removed m h free))));
 }

@@ -100,7 +100,7 @@ pub fn sprintf(
         → IsCall (Import.Variadic VariadicImport.Sprintf) (with_values handles.old (with_arguments
         arguments.old.items s)) words.now memory result (with_values handles.new (with_arguments
         arguments.new.items s)) }
-    ensures spare { map.get handles.new reserved_handle ≡ None }
+    ensures reserved { map.get handles.new reserved_handle ≡ None }
 {
     let (count, outcome) = match formatting(alloc, arguments.as_slice(), words) {
         Ok(evaluated) => evaluated,

@@ -15,7 +15,7 @@ use Rattle.host_values.specs.Evaluations.{Values}
 use Rattle.host_step.specs.declared.refusal.Refusal.{Refusal}
 use Rattle.host_step.specs.declared.refusal.Refusal.TheVariants as why
 use Rattle.host_values.specs.declared.reply.Reply.TheVariants as reply
-use Rattle.host_values.proofs.Spare.{spare_removed}
+use Rattle.host_values.proofs.ReservedHandle.{reserved_removed}
 use Rattle.host_arrays.specs.Pairs.{created, delete_pair, get_pair, pairs_at, set_pair, value_or_uninit}
 use Rattle.host_values.specs.ElementCalls.{IsNumbered, IsPut, IsTableCall, with_arrays}
 use Rattle.host_values.specs.Forms.{Arrays, HostForm}
@@ -64,7 +64,7 @@ module _ (f : HostForm) (words : List Word) (memory : List ℕ) (none : f.fault 
   pub elem_memory : map.get f.values reserved_handle ≡ None → (g : HostForm) → IsTableCall (OfPrimitive row.Elem) f words memory (Err why.NoMemory) g
   elem_memory free g =
       wanted (OfPrimitive row.Elem) f (with_arrays (map.insert (map.remove f.values h) reserved_handle (value_or_uninit (get_pair (text_of_value v) (pairs_at f.arrays a)))) (map.insert f.arrays a (created (text_of_value v) (pairs_at f.arrays a))) f) g words memory (Some (I32 2147483647))
-      (λ p past. elem_goes f p words memory a h v 2147483647 none reads there below_limit (spare_removed f.values h free) past)
+      (λ p past. elem_goes f p words memory a h v 2147483647 none reads there below_limit (reserved_removed f.values h free) past)
 
   given : (values : Values) (r : Result (Option Word) Refusal) → map.get f.values reserved_handle ≡ None
       → Gives (reply.Value (value_or_uninit (get_pair (text_of_value v) (pairs_at f.arrays a)))) (map.remove f.values h) r values

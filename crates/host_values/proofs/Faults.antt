@@ -8,8 +8,8 @@ use Rattle.host_step.specs.HostState.{HostState}
 use Rattle.host_imports.specs.declared.import.Import.{Import}
 use Rattle.host_values.specs.Forms.{HostForm}
 use Rattle.host_values.specs.Findings.{After, Finding, IsFound, View, viewed}
-use Rattle.host_values.specs.FormMeaning.{InAnyWorldShown, FindsSo, FormCalled, StepShown}
-use Rattle.host_values.specs.Shown.{SharesTables, Shown, form_with_output}
+use Rattle.host_values.specs.FormMeaning.{FindsSo, FormCalled, StepShown}
+use Rattle.host_values.specs.Shown.{SharesTables}
 use Rattle.host_values.proofs.Showing.{shows_too}
 
 module _ (tells : Type 0) (import : Option Import) (before f g : HostForm) (words : List Word) (memory : List ℕ) (a : HostAnswer) (output : List Action)
@@ -28,17 +28,9 @@ module _ (tells : Type 0) (import : Option Import) (before f g : HostForm) (word
     };
   }
 
-  in_any_world_too : (s : HostState) → InAnyWorldShown import s words memory a f → InAnyWorldShown import s words memory a g
-  in_any_world_too s x = record {
-    state = x.state;
-    shown = subst (λ (o : List Action). Shown (form_with_output o g) x.state) shares.output (shows_too f g fault kept shares (After f.shared.output) x.state x.shown);
-    in_any_world = x.in_any_world;
-  }
-
   pub called_too : FormCalled tells import before words memory a f output → FormCalled tells import before words memory a g output
   called_too c = record {
     typed = c.typed;
     step = λ t so_far s h. step_too (After (so_far ++ output)) output s (c.step t so_far s h);
-    in_any_world = λ s h. in_any_world_too s (c.in_any_world s h);
     finds = finds_too c.finds;
   }

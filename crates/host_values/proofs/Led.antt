@@ -74,7 +74,6 @@ module _ (tells : Type 0) (i : Import) (words : List Word) (memory : List ℕ) (
       shown = shown_of (form_with_output (so_far ++ output) after-call) (with_output (so_far ++ output) x.0) (stands_with (so_far ++ output) after-call x.0 x.1);
       step = back so_far s h a (with_output (so_far ++ output) x.0) output (x.2.step t so_far);
     };
-    in_any_world = λ s h. let x = leads s (stands_of before s none h) in record { state = x.0; shown = shown_of after-call x.0 x.1; in_any_world = x.2.in_any_world };
     finds = finds_led a after-call both.1;
   }
 
@@ -103,7 +102,6 @@ module _ (tells : Type 0) (i : Import) (words : List Word) (memory : List ℕ) (
     unfit_led w unfit calls = record {
       typed = trap_typed (Some (import_type i)) BadArgument;
       step = λ t so_far s h. absurd (unfit (calls.0 (s0 so_far s h) (stands_there so_far s h)).2.typed);
-      in_any_world = λ s h. absurd (unfit (calls.0 s (stands_of before s none h)).2.typed);
       finds = record {
         found = calls.1.found;
         output = calls.1.output;

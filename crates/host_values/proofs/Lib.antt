@@ -1,7 +1,7 @@
 pub mod Tables
 pub mod Entries
 pub mod Matching
-pub mod Spare
+pub mod ReservedHandle
 pub mod Steps
 pub mod ValueRows
 pub mod OneHandle

@@ -14,7 +14,6 @@ use Rattle.host_step.specs.HostLaws.{refusal_typed, step_typed}
 use Rattle.host_step.specs.HostState.{HostState, Names}
 use Rattle.host_step.specs.HostStep.{Acts, Comes, Goes, Refuses, Settles, StepBy, StepIf, Traps, carried, come, comes, refuses}
 use Rattle.host_imports.specs.Imports.{import_answer, import_type, lets_go}
-use Rattle.host_step.specs.Worlds.{InAnyWorld, InAnyWorldIf, ReadBy, reads}
 use Rattle.host_imports.specs.declared.import.Import.{Import}
 use Rattle.host_step.specs.declared.refusal.Refusal.{Refusal}
 use Rattle.host_step.specs.declared.refusal.Refusal.TheVariants as why
@@ -22,7 +21,7 @@ use Rattle.host_values.specs.ElementCalls.{IsTableCall, Leads}
 use Rattle.host_values.specs.Forms.{HostForm}
 use Rattle.host_values.specs.FormLaws.{trap_typed}
 use Rattle.host_values.specs.Findings.{After, Finding, IsFound, View, form_finding, viewed}
-use Rattle.host_values.specs.FormMeaning.{InAnyWorldShown, Begins, FindsSo, FormCalled, FormMeans, StepFinds, StepShown}
+use Rattle.host_values.specs.FormMeaning.{Begins, FindsSo, FormCalled, FormMeans, StepFinds, StepShown}
 use Rattle.host_values.specs.Shown.{SharesBy, SharesTables, Shown, form_with_output}
 use Rattle.host_values.specs.TableCalls.{Fits, TableCalls, answer_of_call, left_by_call}
 use Rattle.host_values.proofs.Showing.{shares_self, shares_tables, shown_fault, shown_outside}
@@ -74,25 +73,14 @@ module _ (import : Option Import) (before : HostForm) (words : List Word) (memor
       → StepShown import s words memory a (form_with_output (so_far ++ []) after-call) []
   step_of moves so_far s h = subst (λ (o : List Action). StepShown import s words memory a (form_with_output o after-call) []) (sym (append-nil so_far)) (moves (After so_far) s h)
 
-module _ (tells : Type 0) (i : Import) (words : List Word) (memory : List ℕ) (quiet : reads i ≡ false) where
-  in_some_world : (s s' : HostState) (a : HostAnswer) → StepBy (import_answer i) s (comes i words memory s) a s' [] → InAnyWorld (Some i) s words memory a s'
-  in_some_world s s' a step = subst (λ (b : Bool). InAnyWorldIf b i s words memory a s') (sym quiet)
-      (record { old = s; new = s'; output = []; same_before = refl; same_after = refl; step = step })
-
-  called : (before : HostForm) (a : HostAnswer) (after-call : HostForm) → Typed (Some (import_type i)) a → after-call.shared.output ≡ before.shared.output → Moves (Some i) before words memory a after-call
+module _ (tells : Type 0) (i : Import) (words : List Word) (memory : List ℕ) where
+  called : (before : HostForm) (a : HostAnswer) (after-call : HostForm) → Typed (Some (import_type i)) a → Moves (Some i) before words memory a after-call
       → FormCalled tells (Some i) before words memory a after-call []
-  called before a after-call typed same_output moves = record {
+  called before a after-call typed moves = record {
     typed = typed;
     step = λ t so_far s h. step_of (Some i) before words memory a after-call moves so_far s h;
-    in_any_world = λ s h. by s (moves (After before.shared.output) s h);
     finds = finds_nothing (Some i) before words memory a after-call moves;
-  } where
-    by : (s : HostState) → StepShown (Some i) s words memory a (form_with_output before.shared.output after-call) [] → InAnyWorldShown (Some i) s words memory a after-call
-    by s x = record {
-      state = x.state;
-      shown = subst (λ (o : List Action). Shown (form_with_output o after-call) x.state) (sym same_output) x.shown;
-      in_any_world = in_some_world s x.state a x.step;
-    }
+  }
 
   module _ (before after-call : HostForm) where
     kept_so : (o : Option Fault) (f : Fault) (form g : HostForm) → SharesBy o form g → SharesTables (record form { fault = Some f }) (record g { fault = Some f })
@@ -137,22 +125,22 @@ module _ (tells : Type 0) (i : Import) (words : List Word) (memory : List ℕ) (
 
     -- A CALL on tables, however it ends
     pub table_means : (r : Result (Option Word) Refusal) → Fits i r → after-call.shared.outside ≡ before.shared.outside
-        → after-call.shared.output ≡ before.shared.output → TableCalls i before words memory r after-call
+        → TableCalls i before words memory r after-call
         → FormMeans tells (Some i) before words memory (answer_of_call i r) (left_by_call r after-call) []
-    table_means (Ok w) fits outside output calls = called before (told.Done w) after-call fits output (moved (Ok w) (λ q. cc) calls)
-    table_means (Err (why.Fault f)) fits outside output calls =
-        called before (told.Done (refusal (import_answer i))) (record after-call { fault = Some f }) (refusal_typed (import_answer i)) output
+    table_means (Ok w) fits outside calls = called before (told.Done w) after-call fits (moved (Ok w) (λ q. cc) calls)
+    table_means (Err (why.Fault f)) fits outside calls =
+        called before (told.Done (refusal (import_answer i))) (record after-call { fault = Some f }) (refusal_typed (import_answer i))
         (moved (Err (why.Fault f)) (λ q. cc) calls)
-    table_means (Err (why.Trap k)) fits outside output calls = called before (told.Trap k) after-call (trap_typed (Some (import_type i)) k) output (moved (Err (why.Trap k)) (λ q. cc) calls)
-    table_means (Err why.NoMemory) fits outside output calls = record {
+    table_means (Err (why.Trap k)) fits outside calls = called before (told.Trap k) after-call (trap_typed (Some (import_type i)) k) (moved (Err (why.Trap k)) (λ q. cc) calls)
+    table_means (Err why.NoMemory) fits outside calls = record {
       outside = λ t so_far s h. outside ∙ sym (shown_outside (form_with_output so_far before) s h);
       begins = λ t. begins calls;
     }
 
     -- an answer of another type is given from no state that is shown
-    pub unfit_means : (w : Option Word) → (Fits i (Ok w) → ⊥) → after-call.shared.output ≡ before.shared.output → TableCalls i before words memory (Ok w) after-call
+    pub unfit_means : (w : Option Word) → (Fits i (Ok w) → ⊥) → TableCalls i before words memory (Ok w) after-call
         → FormMeans tells (Some i) before words memory (told.Trap BadArgument) after-call []
-    unfit_means w unfit output calls = called before (told.Trap BadArgument) after-call (trap_typed (Some (import_type i)) BadArgument) output (λ v s h. absurd (none v s h)) where
+    unfit_means w unfit calls = called before (told.Trap BadArgument) after-call (trap_typed (Some (import_type i)) BadArgument) (λ v s h. absurd (none v s h)) where
       none : (v : View) (s : HostState) → Shown (viewed v before) s → ⊥
       none v s h =
           let x = moved (Ok w) (λ q. cc) calls v s h in
@@ -189,11 +177,6 @@ module _ (tells : Type 0) (i : Import) (f : HostForm) (words : List Word) (memor
     stays : StepBy (import_answer i) s (comes i words memory s) answer s []
     stays = subst (λ (c : Comes (InAnswer (import_answer i))). StepBy (import_answer i) s c answer s []) (sym come_so) (record { word = refl; state = refl; added = refl })
 
-    in_any_world_by : (b : Bool) → reads i ≡ b → InAnyWorld (Some i) s words memory answer s
-    in_any_world_by true e = subst (λ (b : Bool). InAnyWorldIf b i s words memory answer s) (sym e)
-        (subst (λ (c : Comes (InAnswer (import_answer i))). ReadBy i c s answer s) (sym come_so) (refl, refl))
-    in_any_world_by false e = in_some_world tells i words memory e s s answer stays
-
   move : Moves (Some i) f words memory answer f
   move (After o) s h = record { state = s; shown = h; step = stays s (shown_fault (form_with_output o f) s h) }
   move (Finding finds outside o) s h = record { state = s; shown = h; step = stays s (shown_fault (form_finding finds outside o f) s h) }
@@ -202,7 +185,6 @@ module _ (tells : Type 0) (i : Import) (f : HostForm) (words : List Word) (memor
   refused_called = record {
     typed = refusal_typed (import_answer i);
     step = λ t so_far s h. step_of (Some i) f words memory answer f move so_far s h;
-    in_any_world = λ s h. record { state = s; shown = h; in_any_world = in_any_world_by s (shown_fault f s h) (reads i) refl };
     finds = finds_nothing (Some i) f words memory answer f move;
   }
 
@@ -211,7 +193,6 @@ pub unknown_called : (tells : Type 0) (f : HostForm) (words : List Word) (memory
 unknown_called tells f words memory = record {
   typed = tt;
   step = λ t so_far s h. step_of None f words memory (told.Trap BadArgument) f move so_far s h;
-  in_any_world = λ s h. record { state = s; shown = h; in_any_world = (refl, refl) };
   finds = finds_nothing None f words memory (told.Trap BadArgument) f move;
 } where
   move : Moves None f words memory (told.Trap BadArgument) f

@@ -31,7 +31,7 @@ use Rattle.host_values.specs.Singles.{IsPushed, left_one, only_by, only_handle, 
 use Rattle.host_step.specs.declared.refusal.Refusal.{Refusal}
 use Rattle.host_step.specs.declared.refusal.Refusal.TheVariants as why
 use Rattle.host_values.proofs.Entries.{entries_remove, look_entries}
-use Rattle.host_values.proofs.Spare.{spare_removed}
+use Rattle.host_values.proofs.ReservedHandle.{reserved_removed}
 use Rattle.host_values.proofs.Steps.{state_by, unshared}
 
 -- a value and the tables without its handle
@@ -178,9 +178,9 @@ append_badly s arguments m m' words memory k none e left =
     let is = found_trap (only_handle m words) k e in
     subst (λ (x : Values). IsCall Arg (holding arguments m s) words memory (Err (why.Trap k)) (holding arguments x s)) (sym (left ∙ ap (left_one m) is)) (append_trapped s arguments m words memory k none is)
 
-spare_by : (m : Values) (r : Result (ℤ × Value) TrapKind) → map.get m reserved_handle ≡ None → map.get (left_one m r) reserved_handle ≡ None
-spare_by m (Ok x) free = spare_removed m x.0 free
-spare_by m (Err k) free = free
+reserved_by : (m : Values) (r : Result (ℤ × Value) TrapKind) → map.get m reserved_handle ≡ None → map.get (left_one m r) reserved_handle ≡ None
+reserved_by m (Ok x) free = reserved_removed m x.0 free
+reserved_by m (Err k) free = free
 
-pub spare_one : (m m' : Values) (words : List Word) → m' ≡ left_one m (only_handle m words) → map.get m reserved_handle ≡ None → map.get m' reserved_handle ≡ None
-spare_one m m' words left free = ap (λ x. map.get x reserved_handle) left ∙ spare_by m (only_handle m words) free
+pub reserved_one : (m m' : Values) (words : List Word) → m' ≡ left_one m (only_handle m words) → map.get m reserved_handle ≡ None → map.get m' reserved_handle ≡ None
+reserved_one m m' words left free = ap (λ x. map.get x reserved_handle) left ∙ reserved_by m (only_handle m words) free

@@ -34,7 +34,7 @@ use Rattle.host_values.specs.States.{with_inner}
 use Rattle.host_values.specs.declared.reply.Evaluated.{Evaluated}
 use Rattle.host_values.specs.declared.reply.Reply.{Reply}
 use Rattle.host_values.specs.declared.reply.Reply.TheVariants as reply
-use Rattle.host_values.proofs.Spare.{KeepsFree, spare_left}
+use Rattle.host_values.proofs.ReservedHandle.{KeepsFree, reserved_left}
 
 -- no further output
 kept_shared : (sh : Shared) → ◌≡◌ {A = Shared} (record { inner = sh.inner; outside = sh.outside; output = sh.output ++ [] }) sh
@@ -224,7 +224,7 @@ module _ (i : Import) (s : HostState) (m : Values) (words : List Word) (memory :
       → map.get m reserved_handle ≡ None → KeepsFree e → Is e → Evaluates m s evaluated t e → CarriesOut evaluated m result m'
       → IsCall i (with_values m s) words memory result (with_values m' t)
   carried_step e t (Ok x) result m' free keeps is wanted g =
-      settled_step t (left_by x.spent m) m' x.outcome result (spare_left x.spent m free) (subst (λ (y : Evaluation). Is y) wanted is) g
+      settled_step t (left_by x.spent m) m' x.outcome result (reserved_left x.spent m free) (subst (λ (y : Evaluation). Is y) wanted is) g
   carried_step e t (Err r) result m' free keeps is wanted (told, same) =
       subst (λ x. IsCall i (with_values m s) words memory x (with_values m' t)) (sym told)
       (subst (λ (y : Values). IsCall i (with_values m s) words memory (Err r) (with_values y t)) (sym same) (refused_step e t r keeps is wanted))

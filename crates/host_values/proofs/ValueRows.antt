@@ -22,7 +22,7 @@ use Rattle.host_values.specs.Fronts.{handle_front, plain_number}
 use Rattle.host_values.specs.ValueEvaluations.{compare_evaluation, concat_evaluation, dup_evaluation, fail_evaluation, int_of_evaluation, lit_evaluation, num_evaluation, number_reply, pow_evaluation, replies, to_num_evaluation, truth_evaluation, truth_reply, uninit_evaluation, value_reply}
 use Rattle.host_values.specs.declared.reply.Reply.TheVariants as reply
 use Rattle.host_values.proofs.Matching.{Good, fits_number, fits_truth, fits_value, looked, number, other, rest_of, stop, taken}
-use Rattle.host_values.proofs.Spare.{end, front, handle, spare_removed}
+use Rattle.host_values.proofs.ReservedHandle.{end, front, handle, reserved_removed}
 use Rattle.host_values.proofs.Steps.{ComesTo}
 
 pub num_comes : (s : HostState) (m : Values) (words : List Word) (memory : List ℕ) → ComesTo (OfPrimitive row.Num) m s words memory (num_evaluation m s words)
@@ -61,7 +61,7 @@ to_num_comes s m words memory = record {
   matches =
       taken (answer_of row.ToNum) s (Good row.ToNum s) [] (spends (OfPrimitive row.ToNum)) memory refl m words _ _ (λ v left rest.
       stop (answer_of row.ToNum) s (Good row.ToNum s) rest (names_with left s) _ left (s, number_reply (number_of_value v)) (refl, record { added = refl; state = refl; fits = fits_number (number_of_value v) }));
-  keeps = λ free. handle (handle_front m words) _ (λ h v rest. end (no_more rest) (map.remove m h) _ (spare_removed m h free));
+  keeps = λ free. handle (handle_front m words) _ (λ h v rest. end (no_more rest) (map.remove m h) _ (reserved_removed m h free));
 }
 
 pub int_of_comes : (s : HostState) (m : Values) (words : List Word) (memory : List ℕ) → ComesTo (OfPrimitive row.IntOf) m s words memory (int_of_evaluation m s words)
@@ -69,7 +69,7 @@ int_of_comes s m words memory = record {
   matches =
       taken (answer_of row.IntOf) s (Good row.IntOf s) [] (spends (OfPrimitive row.IntOf)) memory refl m words _ _ (λ v left rest.
       stop (answer_of row.IntOf) s (Good row.IntOf s) rest (names_with left s) _ left (s, number_reply (truncated_of_value v)) (refl, record { added = refl; state = refl; fits = fits_number (truncated_of_value v) }));
-  keeps = λ free. handle (handle_front m words) _ (λ h v rest. end (no_more rest) (map.remove m h) _ (spare_removed m h free));
+  keeps = λ free. handle (handle_front m words) _ (λ h v rest. end (no_more rest) (map.remove m h) _ (reserved_removed m h free));
 }
 
 pub truth_comes : (s : HostState) (m : Values) (words : List Word) (memory : List ℕ) → ComesTo (OfPrimitive row.Truth) m s words memory (truth_evaluation m s words)
@@ -77,7 +77,7 @@ truth_comes s m words memory = record {
   matches =
       taken (answer_of row.Truth) s (Good row.Truth s) [] (spends (OfPrimitive row.Truth)) memory refl m words _ _ (λ v left rest.
       stop (answer_of row.Truth) s (Good row.Truth s) rest (names_with left s) _ left (s, Ok (reply.Truth (truth_of_value v))) (refl, record { added = refl; state = refl; fits = refl }));
-  keeps = λ free. handle (handle_front m words) _ (λ h v rest. end (no_more rest) (map.remove m h) _ (spare_removed m h free));
+  keeps = λ free. handle (handle_front m words) _ (λ h v rest. end (no_more rest) (map.remove m h) _ (reserved_removed m h free));
 }
 
 pub compare_comes : (s : HostState) (m : Values) (words : List Word) (memory : List ℕ) → ComesTo (OfPrimitive row.Compare) m s words memory (compare_evaluation m s words)
@@ -89,7 +89,7 @@ compare_comes s m words memory = record {
       stop (answer_of row.Compare) s (Good row.Compare s) rest (names_with left s) _ left (s, truth_reply (comparison v w op)) (refl, record { added = refl; state = refl; fits = fits_truth (comparison v w op) }))));
   keeps = λ free. front (constant_front constant.Comparison words) _ (λ op behind_op.
       handle (handle_front m behind_op) _ (λ h v behind. handle (handle_front (map.remove m h) behind) _ (λ k w rest.
-      end (no_more rest) (map.remove (map.remove m h) k) _ (spare_removed (map.remove m h) k (spare_removed m h free)))));
+      end (no_more rest) (map.remove (map.remove m h) k) _ (reserved_removed (map.remove m h) k (reserved_removed m h free)))));
 }
 
 pub concat_comes : (s : HostState) (m : Values) (words : List Word) (memory : List ℕ) → ComesTo (OfPrimitive row.Concat) m s words memory (concat_evaluation m s words)
@@ -99,7 +99,7 @@ concat_comes s m words memory = record {
       taken (answer_of row.Concat) s (Good row.Concat s) [] (spends (OfPrimitive row.Concat)) memory refl without_v behind_v _ _ (λ w left rest.
       stop (answer_of row.Concat) s (Good row.Concat s) rest (names_with left s) _ left (s, value_reply (within_limit (text_of_value v ++ text_of_value w))) (refl, record { added = refl; state = refl; fits = fits_value (within_limit (text_of_value v ++ text_of_value w)) })));
   keeps = λ free. handle (handle_front m words) _ (λ h v behind. handle (handle_front (map.remove m h) behind) _ (λ k w rest.
-      end (no_more rest) (map.remove (map.remove m h) k) _ (spare_removed (map.remove m h) k (spare_removed m h free))));
+      end (no_more rest) (map.remove (map.remove m h) k) _ (reserved_removed (map.remove m h) k (reserved_removed m h free))));
 }
 
 pub pow_comes : (s : HostState) (m : Values) (words : List Word) (memory : List ℕ) → ComesTo (OfPrimitive row.Pow) m s words memory (pow_evaluation m s words)

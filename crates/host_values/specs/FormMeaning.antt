@@ -9,7 +9,6 @@ use Rattle.world_core.specs.WorldState.{Action, Entry, Outside, after as outside
 use Rattle.host_step.specs.HostState.{HostState}
 use Rattle.host_step.specs.HostStep.{StepIf}
 use Rattle.host_imports.specs.Imports.{import_at, type_if_there}
-use Rattle.host_step.specs.Worlds.{InAnyWorld}
 use Rattle.host_imports.specs.declared.import.Import.{Import}
 use Rattle.host_values.specs.Forms.{HostForm}
 use Rattle.host_values.specs.Findings.{IsFound, form_finding}
@@ -21,12 +20,6 @@ pub record StepShown (import : Option Import) (s : HostState) (words : List Word
   pub state : HostState
   pub shown : Shown after-call state
   pub step : StepIf import s words memory a state output
-
--- the same of what is said of a call in every world
-pub record InAnyWorldShown (import : Option Import) (s : HostState) (words : List Word) (memory : List ℕ) (a : HostAnswer) (after-call : HostForm) : Type 0 where
-  pub state : HostState
-  pub shown : Shown after-call state
-  pub in_any_world : InAnyWorld import s words memory a state
 
 -- A state that is shown after a call, to which there is such a step, where these are found later: nothing else is left of the list.
 pub record StepFinds (import : Option Import) (s : HostState) (words : List Word) (memory : List ℕ) (a : HostAnswer) (after-call : HostForm)
@@ -42,14 +35,13 @@ pub record FindsSo (import : Option Import) (before : HostForm) (words : List Wo
   pub leads : (finds later : List Entry) → IsFound before.fault found later finds → (outside : Outside) (so_far : List Action) (s : HostState)
       → Shown (form_finding finds outside so_far before) s → StepFinds import s words memory a after-call output later outside so_far
 
--- A call that wants no memory. From every state that is shown before it, there is one that is shown after it: a step leads there, where the world tells what
--- it holds, whatever was put out before; and so does what is said in every world.
+-- A call that wants no memory. From every state that is shown before it, a step leads to one that is shown after it, whatever was put out before, where the
+-- world tells what it holds; and in every world so it does where something is found.
 pub record FormCalled (tells : Type 0) (import : Option Import) (before : HostForm) (words : List Word) (memory : List ℕ) (a : HostAnswer)
     (after-call : HostForm) (output : List Action) : Type 0 where
   pub typed : Typed (type_if_there import) a
   pub step : tells → (so_far : List Action) (s : HostState) → Shown (form_with_output so_far before) s
       → StepShown import s words memory a (form_with_output (so_far ++ output) after-call) output
-  pub in_any_world : (s : HostState) → Shown before s → InAnyWorldShown import s words memory a after-call
   pub finds : FindsSo import before words memory a after-call
 
 -- a step by another answer, whose output begins so

@@ -26,7 +26,7 @@ const DONE: Word = Word::I32(0);
 fn add_array(arrays: &mut Arrays) -> Result<Option<Word>, Refusal>
     requires { map.get arrays.old reserved_handle ≡ None }
     ensures number { IsNumbered arrays.old [] result arrays.new }
-    ensures spare { map.get arrays.new reserved_handle ≡ None }
+    ensures reserved { map.get arrays.new reserved_handle ≡ None }
 {
     match arrays.new_array() {
         Ok(number) => Ok(Some(Word::I32(number.cast_unsigned()))),
@@ -44,7 +44,7 @@ pub fn new_array(arrays: &mut Arrays, words: &[Word]) -> Result<Option<Word>, Re
     ensures step { (f : HostForm) (memory : List ℕ) → f.fault ≡ None
         → IsTableCall (Import.OfPrimitive row.NewArray) (with_arrays f.values arrays.old f) words.now memory
         result (with_arrays f.values arrays.new f) }
-    ensures spare { map.get arrays.new reserved_handle ≡ None }
+    ensures reserved { map.get arrays.new reserved_handle ≡ None }
 {
     match expect_end(words) {
         Ok(()) => add_array(arrays),
@@ -67,8 +67,8 @@ pub fn elem(
     ensures step { (f : HostForm) (memory : List ℕ) → f.fault ≡ None
         → IsTableCall (Import.OfPrimitive row.Elem) (with_arrays handles.old arrays.old f) words.now memory
         result (with_arrays handles.new arrays.new f) }
-    ensures spare { map.get handles.new reserved_handle ≡ None }
-    ensures spare_array { map.get arrays.old reserved_handle ≡ None → map.get arrays.new reserved_handle ≡ None }
+    ensures reserved { map.get handles.new reserved_handle ≡ None }
+    ensures reserved_array { map.get arrays.old reserved_handle ≡ None → map.get arrays.new reserved_handle ≡ None }
 {
     let (array, handle, value) = match array_and_key(arrays, handles, words) {
         Ok(read) => read,
@@ -94,7 +94,7 @@ fn put(
     requires { map.contains_key arrays.old array ≡ true }
     ensures put { IsPut result (map.insert arrays.old array
         (set_pair key.now value (pairs_at arrays.old array))) arrays.new }
-    ensures spare_array { map.get arrays.old reserved_handle ≡ None → map.get arrays.new reserved_handle ≡ None }
+    ensures reserved_array { map.get arrays.old reserved_handle ≡ None → map.get arrays.new reserved_handle ≡ None }
 {
     match arrays.set(array, key, value, longest) {
         Ok(()) => Ok(Some(DONE)),
@@ -117,8 +117,8 @@ pub fn set_elem(
     ensures step { (f : HostForm) (memory : List ℕ) → f.fault ≡ None
         → IsTableCall (Import.OfPrimitive row.SetElem) (with_arrays handles.old arrays.old f) words.now
         memory result (with_arrays handles.new arrays.new f) }
-    ensures spare { map.get handles.old reserved_handle ≡ None → map.get handles.new reserved_handle ≡ None }
-    ensures spare_array { map.get arrays.old reserved_handle ≡ None → map.get arrays.new reserved_handle ≡ None }
+    ensures reserved { map.get handles.old reserved_handle ≡ None → map.get handles.new reserved_handle ≡ None }
+    ensures reserved_array { map.get arrays.old reserved_handle ≡ None → map.get arrays.new reserved_handle ≡ None }
 {
     let (array, first, _, second) = match array_key_value(arrays, handles, words) {
         Ok(read) => read,
@@ -144,7 +144,7 @@ pub fn has(arrays: &Arrays, handles: &mut Handles, words: &[Word]) -> Result<Opt
     ensures step { (f : HostForm) (memory : List ℕ) → f.fault ≡ None
         → IsTableCall (Import.OfPrimitive row.Has) (with_arrays handles.old arrays.now f) words.now memory
         result (with_arrays handles.new arrays.now f) }
-    ensures spare { map.get handles.old reserved_handle ≡ None → map.get handles.new reserved_handle ≡ None }
+    ensures reserved { map.get handles.old reserved_handle ≡ None → map.get handles.new reserved_handle ≡ None }
 {
     let (array, handle, value) = match array_and_key(arrays, handles, words) {
         Ok(read) => read,
@@ -170,8 +170,8 @@ pub fn delete(
     ensures step { (f : HostForm) (memory : List ℕ) → f.fault ≡ None
         → IsTableCall (Import.OfPrimitive row.Delete) (with_arrays handles.old arrays.old f) words.now memory
         result (with_arrays handles.new arrays.new f) }
-    ensures spare { map.get handles.old reserved_handle ≡ None → map.get handles.new reserved_handle ≡ None }
-    ensures spare_array { map.get arrays.old reserved_handle ≡ None → map.get arrays.new reserved_handle ≡ None }
+    ensures reserved { map.get handles.old reserved_handle ≡ None → map.get handles.new reserved_handle ≡ None }
+    ensures reserved_array { map.get arrays.old reserved_handle ≡ None → map.get arrays.new reserved_handle ≡ None }
 {
     let (array, handle, value) = match array_and_key(arrays, handles, words) {
         Ok(read) => read,
@@ -193,7 +193,7 @@ pub fn clear(arrays: &mut Arrays, words: &[Word]) -> Result<Option<Word>, Refusa
     ensures step { (f : HostForm) (memory : List ℕ) → f.fault ≡ None
         → IsTableCall (Import.OfPrimitive row.Clear) (with_arrays f.values arrays.old f) words.now memory
         result (with_arrays f.values arrays.new f) }
-    ensures spare { map.get arrays.old reserved_handle ≡ None → map.get arrays.new reserved_handle ≡ None }
+    ensures reserved { map.get arrays.old reserved_handle ≡ None → map.get arrays.new reserved_handle ≡ None }
 {
     let number = match only_array(arrays, words) {
         Ok(number) => number,
@@ -211,7 +211,7 @@ pub fn clear(arrays: &mut Arrays, words: &[Word]) -> Result<Option<Word>, Refusa
 pub fn free_array(arrays: &mut Arrays, words: &[Word]) -> Result<Option<Word>, Refusal>
     ensures step { (f : HostForm) (memory : List ℕ) → IsTableCall Import.FreeArray (with_arrays
         f.values arrays.old f) words.now memory result (with_arrays f.values arrays.new f) }
-    ensures spare { map.get arrays.old reserved_handle ≡ None → map.get arrays.new reserved_handle ≡ None }
+    ensures reserved { map.get arrays.old reserved_handle ≡ None → map.get arrays.new reserved_handle ≡ None }
 {
     let number = match only_array(arrays, words) {
         Ok(number) => number,

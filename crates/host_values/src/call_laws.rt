@@ -9,7 +9,6 @@ ghost use Rattle.wasm_store.specs.declared.word.Word.{Word};
 ghost use Rattle.world_core.specs.WorldState.{Action};
 ghost use Rattle.host_step.specs.Answers.{refusal};
 ghost use Rattle.host_imports.specs.Imports.{host_types, import_answer, lets_go};
-ghost use Rattle.host_step.specs.Worlds.{reads};
 ghost use Rattle.host_imports.specs.declared.import.Import.{Import};
 ghost use Rattle.host_step.specs.declared.refusal.Refusal.{Refusal};
 ghost use Rattle.host_values.specs.ElementCalls.{IsTableCall};
@@ -34,18 +33,17 @@ pub fn asked<W: World>()
         → GoesOn (form_meaning W.is_modelled) h i args mem out }
 {}
 
-/// A call on tables, of an import that does not read, means what it is told as; an answer of another type is given nowhere. Where no fault is kept the
+/// A call on tables means what it is told as; an answer of another type is given nowhere. Where no fault is kept the
 /// tables are told whole. Once one is kept, what lets nothing go is refused. A number of no import traps.
 pub fn table_calls<W: World>()
-    ensures called { (i : Import) (words : List Word) (memory : List ℕ) → reads i ≡ false
+    ensures called { (i : Import) (words : List Word) (memory : List ℕ)
         → (before after : HostForm) (r : Result (Option Word) Refusal) → Fits i r
-        → after.shared.outside ≡ before.shared.outside → after.shared.output ≡ before.shared.output
+        → after.shared.outside ≡ before.shared.outside
         → TableCalls i before words memory r after
         → FormMeans W.is_modelled (Some i) before words memory (answer_of_call i r)
         (left_by_call r after) [] }
-    ensures unfit { (i : Import) (words : List Word) (memory : List ℕ) → reads i ≡ false
+    ensures unfit { (i : Import) (words : List Word) (memory : List ℕ)
         → (before after : HostForm) (w : Option Word) → (Fits i (Ok w) → ⊥)
-        → after.shared.output ≡ before.shared.output
         → TableCalls i before words memory (Ok w) after
         → FormMeans W.is_modelled (Some i) before words memory
         (HostAnswer.Trap TrapKind.BadArgument) after [] }

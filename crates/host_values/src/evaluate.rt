@@ -264,6 +264,7 @@ fn fits(left: usize, right: usize) -> bool
 }
 
 /// The texts of two values as one, where that is within the limit.
+#[inline(always)]
 fn concatenation(
     alloc: Global,
     left: &Value,
@@ -305,6 +306,7 @@ pub fn concat(alloc: Global, handles: &Handles, words: &[Word]) -> Result<Evalua
 /// # Errors
 ///
 /// A trap.
+#[inline(always)]
 pub fn power(words: &[Word]) -> Result<Evaluated, Refusal>
     ensures { (values : Values) (s : HostState)
         → Evaluates values s result s (pow_evaluation values s words.now) }
@@ -320,6 +322,7 @@ pub fn power(words: &[Word]) -> Result<Evaluated, Refusal>
 /// # Errors
 ///
 /// A trap.
+#[inline(always)]
 pub fn fail(words: &[Word]) -> Result<Evaluated, Refusal>
     ensures { (values : Values) (s : HostState)
         → Evaluates values s result s (fail_evaluation values s words.now) }

@@ -24,7 +24,7 @@ const END: Word = Word::I32(0xffff_fffe);
 fn add_keys(iterators: &mut Iterators, keys: Vec<Bytes>) -> Result<Option<Word>, Refusal>
     requires { map.get iterators.old reserved_handle ≡ None }
     ensures number { IsNumbered iterators.old keys.items result iterators.new }
-    ensures spare { map.get iterators.new reserved_handle ≡ None }
+    ensures reserved { map.get iterators.new reserved_handle ≡ None }
 {
     match iterators.add(keys) {
         Ok(number) => Ok(Some(Word::I32(number.cast_unsigned()))),
@@ -46,7 +46,7 @@ pub fn iter(
     ensures step { (f : HostForm) (memory : List ℕ) → f.fault ≡ None
         → IsTableCall (Import.OfPrimitive row.Iter) (with_both arrays.now iterators.old f) words.now memory
         result (with_both arrays.now iterators.new f) }
-    ensures spare { map.get iterators.new reserved_handle ≡ None }
+    ensures reserved { map.get iterators.new reserved_handle ≡ None }
 {
     let array = match only_array(arrays, words) {
         Ok(array) => array,
@@ -72,8 +72,8 @@ pub fn iter_next(
     ensures step { (f : HostForm) (memory : List ℕ) → f.fault ≡ None
         → IsTableCall (Import.OfPrimitive row.IterNext) (with_iterators handles.old iterators.old f)
         words.now memory result (with_iterators handles.new iterators.new f) }
-    ensures spare { map.get handles.new reserved_handle ≡ None }
-    ensures spare_iterator { map.get iterators.old reserved_handle ≡ None → map.get iterators.new reserved_handle
+    ensures reserved { map.get handles.new reserved_handle ≡ None }
+    ensures reserved_iterator { map.get iterators.old reserved_handle ≡ None → map.get iterators.new reserved_handle
         ≡ None }
 {
     let number = match only_iterator(iterators, words) {
@@ -96,7 +96,7 @@ pub fn iter_free(iterators: &mut Iterators, words: &[Word]) -> Result<Option<Wor
     ensures step { (f : HostForm) (memory : List ℕ)
         → IsTableCall Import.IterFree (with_iterators f.values iterators.old f) words.now memory
         result (with_iterators f.values iterators.new f) }
-    ensures spare { map.get iterators.old reserved_handle ≡ None → map.get iterators.new reserved_handle ≡ None }
+    ensures reserved { map.get iterators.old reserved_handle ≡ None → map.get iterators.new reserved_handle ≡ None }
 {
     let number = match only_iterator(iterators, words) {
         Ok(number) => number,

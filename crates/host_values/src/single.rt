@@ -72,7 +72,7 @@ fn push_value(arguments: &mut SmallVec<Value, 8>, value: Value) -> Result<Option
 pub fn release(handles: &mut Handles, words: &[Word]) -> Result<Option<Word>, Refusal>
     ensures step { (s : HostState) (memory : List ℕ) → IsCall Import.Drop (with_values handles.old s)
         words.now memory result (with_values handles.new s) }
-    ensures spare { map.get handles.old reserved_handle ≡ None → map.get handles.new reserved_handle ≡ None }
+    ensures reserved { map.get handles.old reserved_handle ≡ None → map.get handles.new reserved_handle ≡ None }
 {
     match take_one(handles, words) {
         Ok(value) => {
@@ -97,7 +97,7 @@ pub fn append(
     ensures step { (s : HostState) (memory : List ℕ) → s.fault ≡ None → IsCall Import.Arg
         (with_arguments arguments.old.items (with_values handles.old s)) words.now memory result
         (with_arguments arguments.new.items (with_values handles.new s)) }
-    ensures spare { map.get handles.old reserved_handle ≡ None → map.get handles.new reserved_handle ≡ None }
+    ensures reserved { map.get handles.old reserved_handle ≡ None → map.get handles.new reserved_handle ≡ None }
 {
     match take_one(handles, words) {
         Ok(value) => push_value(arguments, value),

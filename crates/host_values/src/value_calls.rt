@@ -1,5 +1,5 @@
 //! Answers: what a call spends leaves the handles, and what is new gets one.
-ghost use Rattle.std.specs.Prelude.{◌≡◌, None};
+ghost use Rattle.std.specs.Prelude.{◌≡◌, None, Ok};
 ghost use Rattle.std.specs.FinMap as map;
 ghost use Rattle.host_values.specs.Calls.{CarriesOut, Gives, reserved_handle};
 
@@ -17,7 +17,7 @@ use wasm_store::Word;
 pub fn give(handles: &mut Handles, reply: Reply) -> Result<Option<Word>, Refusal>
     requires { map.get handles.old reserved_handle ≡ None }
     ensures answer { Gives reply handles.old result handles.new }
-    ensures spare { map.get handles.new reserved_handle ≡ None }
+    ensures reserved { map.get handles.new reserved_handle ≡ None }
 {
     match reply {
         Reply::Value(value) => match handles.put(value) {
@@ -34,20 +34,13 @@ pub fn give(handles: &mut Handles, reply: Reply) -> Result<Option<Word>, Refusal
 ///
 /// # Errors
 ///
-/// The refusal of the call, which changes nothing; its fault, which is to be kept; or want of memory.
+/// The fault of the call, which is to be kept, or want of memory.
 #[inline(always)]
-pub fn carry_out(
-    handles: &mut Handles,
-    evaluated: Result<Evaluated, Refusal>,
-) -> Result<Option<Word>, Refusal>
+pub fn carry_out(handles: &mut Handles, evaluated: Evaluated) -> Result<Option<Word>, Refusal>
     requires { map.get handles.old reserved_handle ≡ None }
-    ensures outcome { CarriesOut evaluated handles.old result handles.new }
-    ensures spare { map.get handles.new reserved_handle ≡ None }
+    ensures outcome { CarriesOut (Ok evaluated) handles.old result handles.new }
+    ensures reserved { map.get handles.new reserved_handle ≡ None }
 {
-    let evaluated = match evaluated {
-        Ok(evaluated) => evaluated,
-        Err(refusal) => return Err(refusal),
-    };
     evaluated.spent.leave(handles);
     match evaluated.outcome {
         Ok(reply) => give(handles, reply),

@@ -22,7 +22,7 @@ use Rattle.host_step.specs.HostState.{HostState}
 use Rattle.host_step.specs.HostStep.{StepOf, acts, carried}
 use Rattle.host_step.specs.Arguments.{and_then}
 use Rattle.host_imports.specs.Imports.{spends}
-use Rattle.host_step.specs.Worlds.{Called, Wanted, unseen, with_output}
+use Rattle.host_step.specs.Worlds.{Called, Wanted, with_output}
 use Rattle.host_imports.specs.declared.import.Import.TheVariants.{OfPrimitive}
 use Rattle.host_values.specs.Calls.{names_with}
 use Rattle.host_values.specs.Evaluations.{Values}
@@ -129,7 +129,7 @@ module _ (tells : Type 0) (f : HostForm) (words : List Word) (memory : List ℕ)
       s,
       st,
       subst (λ (t : HostState). Called tells (Some (OfPrimitive row.Close)) t words memory (told.Trap k) t []) (sym st.state)
-          (trap_called tells (OfPrimitive row.Close) (state_of at_first st.past) words memory k refl
+          (trap_called tells (OfPrimitive row.Close) (state_of at_first st.past) words memory k
           (λ so_far. traps (OfPrimitive row.Close) (so_far_form so_far at_first) st.past words memory k (unrefused (OfPrimitive row.Close) f.fault none) (close_trap (so_far_form so_far at_first) st.past words memory k is))),
     ),
     led_nothing (OfPrimitive row.Close) at_first at_first words memory (told.Trap k) (λ finds outside so_far s st. let g = form_finding finds outside so_far at_first in (
@@ -194,21 +194,6 @@ module _ (tells : Type 0) (f : HostForm) (words : List Word) (memory : List ℕ)
         ∙ ap (λ ws. shape p values' (readers_in streams'.readers.items state') ws state.outside) (sym c.writers)
         ∙ ap (λ (o : Outside). shape p values' (readers_in streams'.readers.items state') (names_of streams'.writers.items) o) (sym (outside t))
 
-    -- what is seen of it, with these files open for reading
-    abbrev blind : Past → List (List ℕ × Source) → HostState
-    blind p xs =
-        let base = unseen (shape p values' [] (names_of streams'.writers.items) state.outside) in
-        record base { shared = record base.shared { inner = record base.shared.inner { readers = xs } } }
-
-    -- but for what only the world knows
-    same_unseen : (p : Past) → unseen (step_after p) ≡ unseen (state_of at_last p)
-    same_unseen p =
-        ap (λ n. unseen (shape p (table.remove values h) (without_reader n (readers_in streams.readers.items state)) (without_writer n (names_of streams.writers.items)) state.outside)) (sym text)
-        ∙ ap (λ (m : Values). unseen (shape p m (without_reader name (readers_in streams.readers.items state)) (without_writer name (names_of streams.writers.items)) state.outside)) (sym left)
-        ∙ ap (λ ws. unseen (shape p values' (without_reader name (readers_in streams.readers.items state)) ws state.outside)) (sym writer_names')
-        ∙ ap (λ xs. blind p xs)
-        (beside_names name streams.readers.items state ∙ ap (λ ns. map as_reader ns) (sym reader_names') ∙ sym (names_only streams'.readers.items state'))
-
     -- where others change what names hold too
 
     abbrev there : List Entry → Outside → List Action → HostForm
@@ -262,16 +247,9 @@ module _ (tells : Type 0) (f : HostForm) (words : List Word) (memory : List ℕ)
           state_of at_last p,
           record { past = p; state = refl; arrays = st.arrays; iterators = st.iterators; first = st.first },
           subst (λ (t : HostState). Called tells (Some (OfPrimitive row.Close)) t words memory (told.Done (Some (closed_code closed))) (state_of at_last p) []) (sym st.state)
-              (silent_called tells (OfPrimitive row.Close) (state_of at_first p) (state_of at_last p) words memory (told.Done (Some (closed_code closed))) refl
-              (λ t so_far. subst (λ (x : HostState). StepOf (OfPrimitive row.Close) (with_output so_far (state_of at_first p)) words memory (told.Done (Some (closed_code closed))) (with_output so_far x) []) (same_told t p) (step_told p so_far))
-              (record {
-                old = with_output [] (state_of at_first p);
-                new = with_output [] (step_after p);
-                output = [];
-                same_before = refl;
-                same_after = same_unseen p;
-                step = step_told p [];
-              })),
+              (silent_called tells (OfPrimitive row.Close) (state_of at_first p) (state_of at_last p) (with_output [] (state_of at_first p)) (with_output [] (step_after p)) words memory
+              (told.Done (Some (closed_code closed))) (step_told p [])
+              (λ t so_far. subst (λ (x : HostState). StepOf (OfPrimitive row.Close) (with_output so_far (state_of at_first p)) words memory (told.Done (Some (closed_code closed))) (with_output so_far x) []) (same_told t p) (step_told p so_far))),
         )
 
     pub close_closes : IsCalled tells (OfPrimitive row.Close) at_first words memory (Ok (Some (closed_code closed))) at_last []

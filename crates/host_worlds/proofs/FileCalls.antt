@@ -1,5 +1,5 @@
 -- Reads of files are calls.
-use Rattle.std.proofs.Common.{◌≡◌, ◌≢◌, ℕ, ℤ, true, List, [], ◌∷◌, ◌++◌, Some, None, Result, Ok, Err, refl, sym, ap, subst, ◌∙◌}
+use Rattle.std.proofs.Common.{◌≡◌, ℕ, ℤ, true, List, [], ◌∷◌, ◌++◌, Some, None, Result, Ok, Err, refl, sym, ap, subst, ◌∙◌}
 use Rattle.awk_values.specs.Values.{text_of_value}
 use Rattle.std.specs.FinMap as map
 use Rattle.awk_values.specs.declared.fault.Stop.{Stop}
@@ -8,7 +8,6 @@ use Rattle.awk_values.specs.declared.value.Value.{Value}
 use Rattle.sem_primitives.specs.SharedState.{Inner}
 use Rattle.sem_primitives.specs.Sorts.{Row}
 use Rattle.sem_primitives.specs.declared.answers.InputAnswer.{InputAnswer}
-use Rattle.sem_primitives.specs.declared.answers.InputAnswer.TheVariants as input
 use Rattle.sem_primitives.specs.declared.sorts.Argument.TheVariants as argument
 use Rattle.sem_primitives.specs.declared.sorts.Sort.TheVariants as sort
 use Rattle.wasm_model.specs.declared.host.HostAnswer.TheVariants as told
@@ -22,9 +21,8 @@ use Rattle.host_step.specs.Arguments.{and_then}
 use Rattle.host_step.specs.HostState.{HostState, Names}
 use Rattle.host_step.specs.HostStep.{Acts, acts, carried}
 use Rattle.host_imports.specs.Imports.{import_answer, spends}
-use Rattle.host_step.specs.Worlds.{HasLine, HasPending, KeepsOthers, Wanted, reads_line, reads_main, unseen_inner}
+use Rattle.host_step.specs.Worlds.{Wanted}
 use Rattle.host_imports.specs.declared.import.Import.TheVariants.{OfPrimitive}
-use Rattle.host_streams.specs.OpenFiles.{names_of}
 use Rattle.host_texts.specs.declared.texts.Texts.{Texts}
 use Rattle.host_values.specs.Calls.{names_with}
 use Rattle.host_values.specs.Evaluations.{Values}
@@ -33,13 +31,11 @@ use Rattle.host_step.specs.declared.refusal.Refusal.TheVariants as why
 use Rattle.host_values.proofs.OneHandle.{as_row, decoded}
 use Rattle.host_values.specs.Forms.{HostForm, Past, inner_of, state_of}
 use Rattle.host_values.proofs.ElementSteps.{state_with}
-use Rattle.host_names.specs.Forms.{announced, left_of}
-use Rattle.host_values.specs.Findings.{form_finding}
+use Rattle.host_values.specs.Findings.{form_finding, unseen_inner}
 use Rattle.host_values.specs.WorldCalls.{IsCalled}
 use Rattle.host_worlds.specs.Calls.{answered_by, shown_after, with_values}
 use Rattle.host_worlds.specs.Finds.{FindsFileRow}
 use Rattle.host_worlds.specs.Givens.{RowGives, file_primitive, file_row}
-use Rattle.host_worlds.specs.Keeps.{AnswerLine, IsReadOn, KeepsSubstituted}
 use Rattle.host_worlds.specs.States.{Finding, Over, over_world, with_tables}
 use Rattle.host_worlds.specs.declared.input.Input.{Input}
 use Rattle.host_worlds.specs.declared.input.ReadInto.{ReadInto}
@@ -51,8 +47,8 @@ use Rattle.host_worlds.proofs.ReadSteps.{Carries, IsReading, answer_called, faul
 -- The two imports.
 
 pub file_reading : (to : ReadInto) → IsReading (OfPrimitive (file_primitive to))
-file_reading Record = record { coerce = λ x. x; word = λ names x. refl; free = λ names x. tt; refused = refl; typed = λ n. refl; reading = refl }
-file_reading Variable = record { coerce = λ x. x; word = λ names x. refl; free = λ names x. tt; refused = refl; typed = λ n. refl; reading = refl }
+file_reading Record = record { coerce = λ x. x; word = λ names x. refl; free = λ names x. tt; refused = refl; typed = λ n. refl }
+file_reading Variable = record { coerce = λ x. x; word = λ names x. refl; free = λ names x. tt; refused = refl; typed = λ n. refl }
 
 module _ (f : HostForm) (p : Past) (words : List Word) (memory : List ℕ) (none : f.fault ≡ None) where
   abbrev start : HostState
@@ -97,36 +93,6 @@ module _ (f : HostForm) (p : Past) (words : List Word) (memory : List ℕ) (none
   file_traps Record k e o = ap (then_records (at o)) (decoded (spends (OfPrimitive (file_primitive Record))) refl (at o) f.values memory words ∙ ap (as_row (at o) f.values) e)
   file_traps Variable k e o = ap (then_lines (at o)) (decoded (spends (OfPrimitive (file_primitive Variable))) refl (at o) f.values memory words ∙ ap (as_row (at o) f.values) e)
 
--- What is left alone.
-
-module _ (m m' : Values) (t t' : Texts) (i i' : Input) (s s' : State) (f : HostForm) (p : Past) where
-  abbrev before : Inner
-  before = (state_of (with_values m (over_world t i s f)) p).shared.inner
-
-  abbrev later : Inner
-  later = (state_of (with_values m' (over_world t' i' s' f)) p).shared.inner
-
-  file_others : IsReadOn i i' → i'.files.writers ≡ i.files.writers → KeepsSubstituted t t' → KeepsOthers before later
-  file_others moved writers kept = record {
-    arrays = refl;
-    iterators = refl;
-    writers = ap (λ w. names_of w.items) writers;
-    in_end = ap (λ (x : Input). x.in_end) moved;
-    names = ap (λ (x : Input). announced x.names) moved;
-    assigns = ap (λ (x : Input). left_of x.names) moved;
-    substituted = kept;
-  }
-
-  file_line : (to : ReadInto) (x : InputAnswer) → AnswerLine to (Ok x) i i' → HasLine (reads_line (OfPrimitive (file_primitive to))) x before later
-  file_line Record input.Read h = h
-  file_line Record input.End h = h
-  file_line Record input.Pending h = h
-  file_line Record input.Failed h = h
-  file_line Variable input.Read h = h
-  file_line Variable input.End h = h
-  file_line Variable input.Pending h = h
-  file_line Variable input.Failed h = h
-
 -- The calls.
 
 module _ (tells : Type 0) (to : ReadInto) (f : HostForm) (words : List Word) (memory : List ℕ) (none : f.fault ≡ None) (m : Values) (t : Texts) (i : Input) (s : State) where
@@ -142,7 +108,7 @@ module _ (tells : Type 0) (to : ReadInto) (f : HostForm) (words : List Word) (me
 
   module _ (h : ℤ) (v : Value) (reads : only_handle m words ≡ Ok (h, v)) (m' : Values) (taken : m' ≡ map.remove m h) (t' : Texts) (i' : Input) (s' : State) (r : Result InputAnswer Stop)
       (told_row : tells → (inner : Inner) → RowGives (file_row to v s.outside (with_tables t i (Over s) inner)) r (with_tables t' i' (Over s') inner)) (outside : tells → s'.outside ≡ s.outside)
-      (name : List ℕ) (same : text_of_value v ≡ name) (finds : FindsFileRow to name t i r t' i') (moved : IsReadOn i i') (writers : i'.files.writers ≡ i.files.writers) (line : AnswerLine to r i i') (other : r ≢ Ok input.Pending) (kept : KeepsSubstituted t t') where
+      (name : List ℕ) (same : text_of_value v ≡ name) (finds : FindsFileRow to name t i r t' i') where
     abbrev new : HostForm
     new = with_values m' (over_world t' i' s' f)
 
@@ -152,9 +118,6 @@ module _ (tells : Type 0) (to : ReadInto) (f : HostForm) (words : List Word) (me
     abbrev spent : Past → Names
     spent p = names_with (map.remove m h) (state_of old p)
 
-    names_are : (p : Past) → (state_of new p).names ≡ spent p
-    names_are p = ap (λ (x : Values). names_with x (state_of old p)) taken
-
     abbrev mid : Past → Values → Outside → HostState
     mid p x o = record (state_of (with_values x new) p) { shared = record (state_of new p).shared { outside = o } }
 
@@ -163,22 +126,6 @@ module _ (tells : Type 0) (to : ReadInto) (f : HostForm) (words : List Word) (me
 
     abbrev old_left : Values → HostForm
     old_left x = record old { values = x }
-
-    pending_by : (p : Past) (x : InputAnswer) → r ≡ Ok x → HasPending (reads_main (OfPrimitive (file_primitive to))) x (state_of old p).shared.inner (state_of new p).shared.inner
-    pending_by p x e = by to x e
-      where
-        stays : i'.names.pending ≡ i.names.pending
-        stays = ap (λ (y : Input). y.names.pending) moved
-
-        by : (k : ReadInto) (x : InputAnswer) → r ≡ Ok x → HasPending (reads_main (OfPrimitive (file_primitive k))) x (state_of old p).shared.inner (state_of new p).shared.inner
-        by Record input.Read e = stays
-        by Record input.End e = stays
-        by Record input.Pending e = other e
-        by Record input.Failed e = stays
-        by Variable input.Read e = stays
-        by Variable input.End e = stays
-        by Variable input.Pending e = other e
-        by Variable input.Failed e = stays
 
     -- where others change what names hold too
     row_found : (later : List Entry) (o : Outside) (p : Past)
@@ -196,14 +143,7 @@ module _ (tells : Type 0) (to : ReadInto) (f : HostForm) (words : List Word) (me
     file_called (Ok x) e = (
       leads_in tells (OfPrimitive (file_primitive to)) old new words memory (told.Done (Some (I32 (input_code x)))) refl refl (λ p past.
           answer_called (OfPrimitive (file_primitive to)) (file_reading to) old p words memory none (spent p) (file_row to v s.outside (with_tables t i (Over s) (inner_at p))) (file_carries old p words memory none h v reads to) tells x (state_of new p)
-          (λ y. (with_tables t' i' (Over s') (inner_at p), subst (λ a. RowGives (file_row to v s.outside (with_tables t i (Over s) (inner_at p))) a (with_tables t' i' (Over s') (inner_at p))) e (told_row y (inner_at p)), state_is p (outside y)))
-          (record {
-            names = names_are p;
-            arguments = refl;
-            others = file_others m m' t t' i i' s s' f p moved writers kept;
-            how = Ok x;
-            ends = record { answer = refl; fault = refl; line = file_line m m' t t' i i' s s' f p to x (subst (λ a. AnswerLine to a i i') e line); pending = pending_by p x e };
-          })),
+          (λ y. (with_tables t' i' (Over s') (inner_at p), subst (λ a. RowGives (file_row to v s.outside (with_tables t i (Over s) (inner_at p))) a (with_tables t' i' (Over s') (inner_at p))) e (told_row y (inner_at p)), state_is p (outside y)))),
       answers_found (OfPrimitive (file_primitive to)) (file_reading to) old words memory none new refl refl finds.0 none x (λ later o so_far p past. (
         spent p,
         file_row to v o (state_of (form_finding (finds.0 ++ later) o so_far old) p).shared.inner,
@@ -217,14 +157,7 @@ module _ (tells : Type 0) (to : ReadInto) (f : HostForm) (words : List Word) (me
       leads_in tells (OfPrimitive (file_primitive to)) old (record (old_left m') { fault = Some fault }) words memory (told.Done (refusal (import_answer (OfPrimitive (file_primitive to))))) refl refl (λ p past.
           fault_called (OfPrimitive (file_primitive to)) (file_reading to) old p words memory none (spent p) (file_row to v s.outside (with_tables t i (Over s) (inner_at p))) (file_carries old p words memory none h v reads to) tells fault (state_of (record (old_left m') { fault = Some fault }) p)
           (λ y. subst (λ a. RowGives (file_row to v s.outside (with_tables t i (Over s) (inner_at p))) a (with_tables t' i' (Over s') (inner_at p))) e (told_row y (inner_at p)))
-          (ap (λ (x : Values). state_of (record (old_left x) { fault = Some fault }) p) (sym taken))
-          (record {
-            names = names_are p;
-            arguments = refl;
-            others = record { arrays = refl; iterators = refl; writers = refl; in_end = refl; names = refl; assigns = refl; substituted = refl };
-            how = Err fault;
-            ends = record { answer = ap told.Done (file_reading to).refused; kept = refl };
-          })),
+          (ap (λ (x : Values). state_of (record (old_left x) { fault = Some fault }) p) (sym taken))),
       faults_found (OfPrimitive (file_primitive to)) (file_reading to) old words memory none (record (old_left m') { fault = Some fault }) refl refl finds.0 fault refl (λ later o so_far p past. (
         spent p,
         file_row to v o (state_of (form_finding (finds.0 ++ later) o so_far old) p).shared.inner,

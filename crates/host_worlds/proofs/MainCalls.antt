@@ -10,7 +10,6 @@ use Rattle.sem_primitives.specs.ArrayMeaning.{element}
 use Rattle.sem_primitives.specs.InputMeaning.{text_or_none}
 use Rattle.sem_primitives.specs.SharedState.{Inner, Pairs, settles}
 use Rattle.sem_primitives.specs.declared.answers.InputAnswer.{InputAnswer}
-use Rattle.sem_primitives.specs.declared.answers.InputAnswer.TheVariants as input
 use Rattle.wasm_model.specs.declared.host.HostAnswer.TheVariants as told
 use Rattle.wasm_store.specs.declared.trap.TrapKind.{TrapKind}
 use Rattle.wasm_store.specs.declared.trap.TrapKind.TheVariants.{BadArgument}
@@ -23,21 +22,18 @@ use Rattle.host_step.specs.Arguments.{and_then, no_more}
 use Rattle.host_step.specs.HostState.{HostState, Names}
 use Rattle.host_step.specs.HostStep.{Acts, carried, primitive_acts, where_fit}
 use Rattle.host_imports.specs.Imports.{import_answer}
-use Rattle.host_step.specs.Worlds.{HasLine, HasPending, KeepsOthers, Wanted, reads_line, reads_main, unseen_inner}
+use Rattle.host_step.specs.Worlds.{Wanted}
 use Rattle.host_imports.specs.declared.import.Import.TheVariants.{OfPrimitive}
-use Rattle.host_streams.specs.OpenFiles.{names_of}
 use Rattle.host_texts.specs.declared.texts.Texts.{Texts}
 use Rattle.host_arrays.specs.Pairs.{pairs_or_none}
-use Rattle.host_names.specs.Forms.{announced, left_of}
 use Rattle.host_step.specs.declared.refusal.Refusal.TheVariants as why
 use Rattle.host_values.specs.Forms.{Arrays, HostForm, Past, Shows, inner_of, state_of}
 use Rattle.host_values.proofs.ElementSteps.{IsPast, state_with}
-use Rattle.host_values.specs.Findings.{form_finding}
+use Rattle.host_values.specs.Findings.{form_finding, unseen_inner}
 use Rattle.host_values.specs.WorldCalls.{IsCalled}
 use Rattle.host_worlds.specs.Calls.{answered_by, shown_after}
 use Rattle.host_worlds.specs.Finds.{FindsRow}
 use Rattle.host_worlds.specs.Givens.{OffersTexts, RowGives, main_primitive, main_row}
-use Rattle.host_worlds.specs.Keeps.{AnswerLine, AnswerPends, IsMovedOn, KeepsSubstituted, keep_of}
 use Rattle.host_worlds.specs.States.{Finding, Over, argv_texts, over_world, with_tables}
 use Rattle.host_worlds.specs.declared.input.Input.{Input}
 use Rattle.host_worlds.specs.declared.input.ReadInto.TheVariants.{Variable, Record}
@@ -49,9 +45,9 @@ use Rattle.host_worlds.proofs.ReadSteps.{Carries, IsReading, answer_called, faul
 -- The three imports.
 
 pub main_reading : (how : MainRead) → IsReading (OfPrimitive (main_primitive how))
-main_reading Loop = record { coerce = λ x. x; word = λ names x. refl; free = λ names x. tt; refused = refl; typed = λ n. refl; reading = refl }
-main_reading (Getline Record) = record { coerce = λ x. x; word = λ names x. refl; free = λ names x. tt; refused = refl; typed = λ n. refl; reading = refl }
-main_reading (Getline Variable) = record { coerce = λ x. x; word = λ names x. refl; free = λ names x. tt; refused = refl; typed = λ n. refl; reading = refl }
+main_reading Loop = record { coerce = λ x. x; word = λ names x. refl; free = λ names x. tt; refused = refl; typed = λ n. refl }
+main_reading (Getline Record) = record { coerce = λ x. x; word = λ names x. refl; free = λ names x. tt; refused = refl; typed = λ n. refl }
+main_reading (Getline Variable) = record { coerce = λ x. x; word = λ names x. refl; free = λ names x. tt; refused = refl; typed = λ n. refl }
 
 -- what they come to, once their words are read
 abbrev pub acts_by : Bool → Names → HostState → Result (Inner × InputAnswer) Fault → Result (Names × Acts InputAnswer) TrapKind
@@ -112,51 +108,6 @@ pub offers : (arrays : Arrays) (f : HostForm) (p : Past) (inner : Inner) → IsP
 offers arrays f p inner past same = λ n.
     held_texts p.arrays (map.get f.arrays (pos 0)) n (subst (λ o. Shows p.arrays o (map.get f.arrays (pos 0))) past.first.argv (past.arrays.shows (pos 0))) ∙ ap (λ a. argv_texts a n) same
 
--- What is left alone.
-
-module _ (t t' : Texts) (i i' : Input) (s s' : State) (f : HostForm) (p : Past) where
-  abbrev before : Inner
-  before = (state_of (over_world t i s f) p).shared.inner
-
-  abbrev later : Inner
-  later = (state_of (over_world t' i' s' f) p).shared.inner
-
-  main_others : IsMovedOn i i' → KeepsSubstituted t t' → KeepsOthers before later
-  main_others moved kept = record {
-    arrays = refl;
-    iterators = refl;
-    writers = ap (λ (x : Input). names_of x.files.writers.items) moved;
-    in_end = ap (λ (x : Input). x.in_end) moved;
-    names = ap (λ (x : Input). announced x.names) moved;
-    assigns = ap (λ (x : Input). left_of x.names) moved;
-    substituted = kept;
-  }
-
-  main_line : (how : MainRead) (x : InputAnswer) → AnswerLine (keep_of how) (Ok x) i i' → HasLine (reads_line (OfPrimitive (main_primitive how))) x before later
-  main_line Loop input.Read h = h
-  main_line Loop input.End h = h
-  main_line Loop input.Pending h = h
-  main_line Loop input.Failed h = h
-  main_line (Getline Record) input.Read h = h
-  main_line (Getline Record) input.End h = h
-  main_line (Getline Record) input.Pending h = h
-  main_line (Getline Record) input.Failed h = h
-  main_line (Getline Variable) input.Read h = h
-  main_line (Getline Variable) input.End h = h
-  main_line (Getline Variable) input.Pending h = h
-  main_line (Getline Variable) input.Failed h = h
-
-  pending_by : (x : InputAnswer) → AnswerPends (Ok x) i i' → HasPending true x before later
-  pending_by input.Read h = h
-  pending_by input.End h = h
-  pending_by input.Pending h = h
-  pending_by input.Failed h = h
-
-  main_pending : (how : MainRead) (x : InputAnswer) → AnswerPends (Ok x) i i' → HasPending (reads_main (OfPrimitive (main_primitive how))) x before later
-  main_pending Loop x h = pending_by x h
-  main_pending (Getline Record) x h = pending_by x h
-  main_pending (Getline Variable) x h = pending_by x h
-
 pub no_words : (words : List Word) → no_more words ≡ Ok tt → words ≡ []
 no_words [] e = refl
 no_words (w ∷ rest) e = cc
@@ -184,7 +135,7 @@ module _ (tells : Type 0) (how : MainRead) (f : HostForm) (memory : List ℕ) (n
 
   module _ (arrays : Arrays) (same : f.arrays ≡ arrays) (waits : is_some i.names.pending ≡ false) (t' : Texts) (i' : Input) (s' : State) (r : Result InputAnswer Stop)
       (told_row : tells → (inner : Inner) → OffersTexts (argv_texts arrays) inner → RowGives (main_row how s.outside (with_tables t i (Over s) inner)) r (with_tables t' i' (Over s') inner)) (outside : tells → s'.outside ≡ s.outside)
-      (finds : FindsRow how (argv_texts arrays) t i r t' i') (moved : IsMovedOn i i') (line : AnswerLine (keep_of how) r i i') (pending : AnswerPends r i i') (kept : KeepsSubstituted t t') where
+      (finds : FindsRow how (argv_texts arrays) t i r t' i') where
     abbrev old : HostForm
     old = over_world t i s f
 
@@ -221,14 +172,7 @@ module _ (tells : Type 0) (how : MainRead) (f : HostForm) (memory : List ℕ) (n
       leads_in tells (OfPrimitive (main_primitive how)) old new [] memory (told.Done (Some (I32 (input_code x)))) refl refl (λ p past.
           let c = main_carries old p memory none how (ap not waits) in
           answer_called (OfPrimitive (main_primitive how)) (main_reading how) old p [] memory none (state_of old p).names (main_row how s.outside (with_tables t i (Over s) (inner_at p))) c tells x (state_of new p)
-          (λ y. (with_tables t' i' (Over s') (inner_at p), subst (λ a. RowGives (main_row how s.outside (with_tables t i (Over s) (inner_at p))) a (with_tables t' i' (Over s') (inner_at p))) e (told_row y (inner_at p) (offers arrays f p f.shared.inner (record { arrays = past.arrays; iterators = past.iterators; first = past.first }) same)), state_is p (outside y)))
-          (record {
-            names = refl;
-            arguments = refl;
-            others = main_others t t' i i' s s' f p moved kept;
-            how = Ok x;
-            ends = record { answer = refl; fault = refl; line = main_line t t' i i' s s' f p how x (subst (λ a. AnswerLine (keep_of how) a i i') e line); pending = main_pending t t' i i' s s' f p how x (subst (λ a. AnswerPends a i i') e pending) };
-          })),
+          (λ y. (with_tables t' i' (Over s') (inner_at p), subst (λ a. RowGives (main_row how s.outside (with_tables t i (Over s) (inner_at p))) a (with_tables t' i' (Over s') (inner_at p))) e (told_row y (inner_at p) (offers arrays f p f.shared.inner (record { arrays = past.arrays; iterators = past.iterators; first = past.first }) same)), state_is p (outside y)))),
       answers_found (OfPrimitive (main_primitive how)) (main_reading how) old [] memory none new refl refl finds.0 none x (λ later o so_far p past. (
         (state_of old p).names,
         main_row how o (state_of (form_finding (finds.0 ++ later) o so_far old) p).shared.inner,
@@ -243,14 +187,7 @@ module _ (tells : Type 0) (how : MainRead) (f : HostForm) (memory : List ℕ) (n
           let c = main_carries old p memory none how (ap not waits) in
           fault_called (OfPrimitive (main_primitive how)) (main_reading how) old p [] memory none (state_of old p).names (main_row how s.outside (with_tables t i (Over s) (inner_at p))) c tells fault (state_of (record old { fault = Some fault }) p)
           (λ y. subst (λ a. RowGives (main_row how s.outside (with_tables t i (Over s) (inner_at p))) a (with_tables t' i' (Over s') (inner_at p))) e (told_row y (inner_at p) (offers arrays f p f.shared.inner (record { arrays = past.arrays; iterators = past.iterators; first = past.first }) same)))
-          refl
-          (record {
-            names = refl;
-            arguments = refl;
-            others = record { arrays = refl; iterators = refl; writers = refl; in_end = refl; names = refl; assigns = refl; substituted = refl };
-            how = Err fault;
-            ends = record { answer = ap told.Done (main_reading how).refused; kept = refl };
-          })),
+          refl),
       faults_found (OfPrimitive (main_primitive how)) (main_reading how) old [] memory none (record old { fault = Some fault }) refl refl finds.0 fault refl (λ later o so_far p past. (
         (state_of old p).names,
         main_row how o (state_of (form_finding (finds.0 ++ later) o so_far old) p).shared.inner,

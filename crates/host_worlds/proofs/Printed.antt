@@ -40,7 +40,7 @@ module _ (tells : Type 0) (f : HostForm) (words : List Word) (memory : List ℕ)
       s,
       st,
       subst (λ (t : HostState). Called tells (Some (Variadic Print)) t words memory (told.Trap k) t []) (sym st.state)
-          (trap_called tells (Variadic Print) (state_of (printing arguments specials streams state f) st.past) words memory k refl
+          (trap_called tells (Variadic Print) (state_of (printing arguments specials streams state f) st.past) words memory k
           (λ so_far. print_trap (with_output so_far (state_of (printing arguments specials streams state f) st.past)) words memory k none is)),
     ),
     led_nothing (Variadic Print) (printing arguments specials streams state f) (printing arguments specials streams state f) words memory (told.Trap k) (λ finds outside so_far s st. (
@@ -58,7 +58,7 @@ module _ (tells : Type 0) (f : HostForm) (words : List Word) (memory : List ℕ)
       s,
       st,
       subst (λ (t : HostState). Called tells (Some (Variadic Printf)) t words memory (told.Trap k) t []) (sym st.state)
-          (trap_called tells (Variadic Printf) (state_of (writing arguments streams state f) st.past) words memory k refl
+          (trap_called tells (Variadic Printf) (state_of (writing arguments streams state f) st.past) words memory k
           (λ so_far. printf_trap (with_output so_far (state_of (writing arguments streams state f) st.past)) words memory k none is)),
     ),
     led_nothing (Variadic Printf) (writing arguments streams state f) (writing arguments streams state f) words memory (told.Trap k) (λ finds outside so_far s st. (
@@ -81,7 +81,7 @@ module _ (tells : Type 0) (f : HostForm) (words : List Word) (memory : List ℕ)
         → (output : List Action) × IsCalled tells (Variadic Print) (printing arguments specials streams state f) words memory (answer_of put) (printing (before_last_of n.0 arguments) specials streams' state' f) output
     prints_so specials is told_so could begun =
         let before : HostForm = printing arguments specials streams state f in
-        puts_so tells (Variadic Print) words memory refl refl (record f { shared = shared_with specials f.shared }) arguments (before_last_of n.0 arguments) streams streams' state state' (print_row n.1 values)
+        puts_so tells (Variadic Print) words memory refl (record f { shared = shared_with specials f.shared }) arguments (before_last_of n.0 arguments) streams streams' state state' (print_row n.1 values)
         (λ p shared. print_step (sharing (state_of before p) shared) words memory n none is)
         (λ shared output. printf_same (Ok (printed shared.inner (operands_of n.1 values))) n.1 (file_name n.1 values) shared output)
         (λ shared. printf_only (Ok (printed shared.inner (operands_of n.1 values))) n.1 (file_name n.1 values) shared)
@@ -98,7 +98,7 @@ module _ (tells : Type 0) (f : HostForm) (words : List Word) (memory : List ℕ)
         → (output : List Action) × IsCalled tells (Variadic Printf) (writing arguments streams state f) words memory (answer_of put) (writing (before_last_of n.0 arguments) streams' state' f) output
     formats_so is told_so could begun =
         let before : HostForm = writing arguments streams state f in
-        puts_so tells (Variadic Printf) words memory refl refl f arguments (before_last_of n.0 arguments) streams streams' state state' (printf_row n.1 values)
+        puts_so tells (Variadic Printf) words memory refl f arguments (before_last_of n.0 arguments) streams streams' state state' (printf_row n.1 values)
         (λ p shared. printf_step (sharing (state_of before p) shared) words memory n none is)
         (λ shared output. printf_same (formatted_values (operands_of n.1 values)) n.1 (file_name n.1 values) shared output)
         (λ shared. printf_only (formatted_values (operands_of n.1 values)) n.1 (file_name n.1 values) shared)

@@ -16,7 +16,7 @@ use Rattle.host_imports.specs.declared.import.Import.{Import}
 use Rattle.host_step.specs.Answers.{refusal}
 use Rattle.host_step.specs.HostState.{Names}
 use Rattle.host_step.specs.HostStep.{StepOf, carried}
-use Rattle.host_step.specs.Worlds.{unseen_inner, unseen_reading, with_output}
+use Rattle.host_step.specs.Worlds.{with_output}
 use Rattle.host_streams.specs.MainFinds.{main_found, reading_found}
 use Rattle.host_streams.specs.Mains.{reading_of}
 use Rattle.host_streams.specs.OpenFiles.{readers_in}
@@ -26,7 +26,7 @@ use Rattle.host_streams.specs.declared.streams.NamedReader.{NamedReader}
 use Rattle.host_texts.specs.declared.texts.Texts.{Texts}
 use Rattle.host_values.specs.Forms.{HostForm, IsHeld, Past, state_of}
 use Rattle.host_values.proofs.ElementSteps.{IsPast, leads, state_with, trapped, unrefused}
-use Rattle.host_values.specs.Findings.{IsFound, form_finding}
+use Rattle.host_values.specs.Findings.{IsFound, form_finding, unseen_inner, unseen_reading}
 use Rattle.host_values.specs.WorldCalls.{LeadsFinding}
 use Rattle.host_values.proofs.Found.{led_found, led_nothing, none_left}
 use Rattle.host_worlds.specs.States.{Finding, Over, with_tables}

@@ -1,5 +1,5 @@
 -- Reads are calls of a host over a world.
-use Rattle.std.proofs.Common.{◌≡◌, ◌≢◌, ℕ, true, cond, List, [], ◌++◌, ◌^◌, ◌-◌, Some, None, Result, Ok, Err, refl, sym, ap, subst, ◌∙◌}
+use Rattle.std.proofs.Common.{◌≡◌, ◌≢◌, ℕ, List, [], ◌++◌, ◌^◌, ◌-◌, Some, None, Result, Ok, Err, refl, sym, ap, subst, ◌∙◌}
 use Rattle.std.proofs.lemmas.List.{append-nil}
 use Rattle.awk_values.specs.declared.fault.Fault.{Fault}
 use Rattle.sem_primitives.specs.SharedState.{Inner}
@@ -16,9 +16,9 @@ use Rattle.world_core.specs.WorldState.{Action}
 use Rattle.host_imports.specs.Codes.{input_code}
 use Rattle.host_step.specs.Answers.{FreeFor, encode, refusal}
 use Rattle.host_step.specs.HostState.{HostState, Names}
-use Rattle.host_step.specs.HostStep.{Acts, Refuses, StepOf, carried, come}
+use Rattle.host_step.specs.HostStep.{Acts, StepOf, carried}
 use Rattle.host_imports.specs.Imports.{import_answer, result_of}
-use Rattle.host_step.specs.Worlds.{InAnyWorld, InAnyWorldIf, Called, IsRead, ReadBy, Wanted, reads, with_output}
+use Rattle.host_step.specs.Worlds.{Called, Wanted, with_output}
 use Rattle.host_imports.specs.declared.import.Import.{Import}
 use Rattle.host_values.specs.Forms.{HostForm, IsHeld, Past, state_of}
 use Rattle.host_values.proofs.ElementSteps.{IsPast, acts_of, done_is_some, faults_of, goes, keeps_fault, state_with, traps, unrefused}
@@ -35,7 +35,6 @@ pub record IsReading (i : Import) : Type 0 where
   pub free : (names : Names) (x : InputAnswer) → FreeFor names (import_answer i) (coerce x) 0
   pub refused : refusal (import_answer i) ≡ refusal answer.Input
   pub typed : (n : ℕ) → type_if (Some (I32 n)) ≡ result_of (import_answer i)
-  pub reading : reads i ≡ true
 
 -- the tables show it after the call as before
 pub leads_in : (tells : Type 0) (i : Import) (before after : HostForm) (words : List Word) (memory : List ℕ) (a : HostAnswer) → after.arrays ≡ before.arrays → after.iterators ≡ before.iterators
@@ -61,29 +60,14 @@ module _ (i : Import) (is : IsReading i) (f : HostForm) (p : Past) (words : List
     pub answers : (o : List Action) (inner : Inner) (x : InputAnswer) → wanted ≡ Ok (inner, x) → ◌≡◌ {A = Comes} (carried i words memory (state_of (form_output o f) p)) (Ok (left, acts_of f inner (is.coerce x)))
     pub faults : (o : List Action) (fault : Fault) → wanted ≡ Err fault → ◌≡◌ {A = Comes} (carried i words memory (state_of (form_output o f) p)) (Ok (left, faults_of f (state_of f p).shared.inner fault))
 
-  read_in_any_world : (c : Comes) (a : HostAnswer) (after : HostState) → carried i words memory (state_of f p) ≡ c → ReadBy i (come c) (state_of f p) a after → InAnyWorld (Some i) (state_of f p) words memory a after
-  read_in_any_world c a after e h =
-      subst (λ b. InAnyWorldIf b i (state_of f p) words memory a after) (sym is.reading)
-      (subst (λ b. ReadBy i (cond b Refuses (come (carried i words memory (state_of f p)))) (state_of f p) a after) (sym (unrefused i f.fault none))
-      (subst (λ (x : Comes). ReadBy i (come x) (state_of f p) a after) (sym e) h))
-
   -- it traps
   pub trap_called : (tells : Type 0) (k : TrapKind) → ((o : List Action) → ◌≡◌ {A = Comes} (carried i words memory (state_of (form_output o f) p)) (Err k)) → Called tells (Some i) (state_of f p) words memory (told.Trap k) (state_of f p) []
   trap_called tells k e = record {
     typed = tt;
     step = λ t o. subst (λ q. StepOf i (state_of (form_output o f) p) words memory (told.Trap k) (with_output q (state_of f p)) []) (sym (append-nil o)) (traps i (form_output o f) p words memory k (unrefused i f.fault none) (e o));
-    in_any_world = read_in_any_world (Err k) (told.Trap k) (state_of f p) (e f.shared.output) (record { trap = refl; state = refl; added = refl });
   }
 
   module _ (left : Names) (wanted : Result (Inner × InputAnswer) Fault) (c : Carries left wanted) where
-    -- whatever it is, it goes
-    some_acts : (y : Result (Inner × InputAnswer) Fault) → wanted ≡ y → (d : Acts (InAnswer (import_answer i))) × (◌≡◌ {A = Comes} (carried i words memory (state_of f p)) (Ok (left, d)))
-    some_acts (Ok (inner, x)) e = (acts_of f inner (is.coerce x), c.answers f.shared.output inner x e)
-    some_acts (Err fault) e = (faults_of f (state_of f p).shared.inner fault, c.faults f.shared.output fault e)
-
-    goes_in_any_world : (a : HostAnswer) (after : HostState) → IsRead i left (state_of f p) a after → InAnyWorld (Some i) (state_of f p) words memory a after
-    goes_in_any_world a after h = let d = some_acts wanted refl in read_in_any_world (Ok (left, d.0)) a after d.1 h
-
     pub answer_step : (o : List Action) (inner : Inner) (x : InputAnswer) (after : HostState) → wanted ≡ Ok (inner, x) → state_with left inner f ≡ after
         → StepOf i (state_of (form_output o f) p) words memory (told.Done (Some (I32 (input_code x)))) (with_output (o ++ []) after) []
     answer_step o inner x after e same =
@@ -98,20 +82,18 @@ module _ (i : Import) (is : IsReading i) (f : HostForm) (p : Past) (words : List
 
     -- it answers
     pub answer_called : (tells : Type 0) (x : InputAnswer) (after : HostState) → (tells → (inner : Inner) × (wanted ≡ Ok (inner, x)) × (state_with left inner f ≡ after))
-        → IsRead i left (state_of f p) (told.Done (Some (I32 (input_code x)))) after → Called tells (Some i) (state_of f p) words memory (told.Done (Some (I32 (input_code x)))) after []
-    answer_called tells x after says h = record {
+        → Called tells (Some i) (state_of f p) words memory (told.Done (Some (I32 (input_code x)))) after []
+    answer_called tells x after says = record {
       typed = is.typed (input_code x);
       step = λ t o. let g = says t in answer_step o g.0 x after g.1 g.2;
-      in_any_world = goes_in_any_world (told.Done (Some (I32 (input_code x)))) after h;
     }
 
     -- a fault is kept
     pub fault_called : (tells : Type 0) (fault : Fault) (after : HostState) → (tells → wanted ≡ Err fault) → state_with left (state_of f p).shared.inner (record f { fault = Some fault }) ≡ after
-        → IsRead i left (state_of f p) (told.Done (refusal (import_answer i))) after → Called tells (Some i) (state_of f p) words memory (told.Done (refusal (import_answer i))) after []
-    fault_called tells fault after says same h = record {
+        → Called tells (Some i) (state_of f p) words memory (told.Done (refusal (import_answer i))) after []
+    fault_called tells fault after says same = record {
       typed = subst (λ w. type_if w ≡ result_of (import_answer i)) (sym is.refused) (is.typed (2 ^ 32 - 1));
       step = λ t o. fault_step o fault after (says t) same;
-      in_any_world = goes_in_any_world (told.Done (refusal (import_answer i))) after h;
     }
 
     -- memory was wanting

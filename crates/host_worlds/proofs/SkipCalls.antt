@@ -10,9 +10,9 @@ use Rattle.wasm_store.specs.declared.word.Word.{Word}
 use Rattle.wasm_store.specs.declared.word.Word.TheVariants.{I32}
 use Rattle.world_core.specs.WorldState.{Action, Entry, Outside, Source, State}
 use Rattle.host_step.specs.Arguments.{and_then, no_more}
-use Rattle.host_step.specs.HostState.{HostState, Names}
+use Rattle.host_step.specs.HostState.{Names}
 use Rattle.host_step.specs.HostStep.{Acts, StepOf, primitive_acts}
-use Rattle.host_step.specs.Worlds.{IsStepInSomeWorld, unseen, unseen_inner, unseen_main, unseen_reading, with_output}
+use Rattle.host_step.specs.Worlds.{with_output}
 use Rattle.host_imports.specs.declared.import.Import.TheVariants.{OfPrimitive}
 use Rattle.host_streams.specs.Mains.{main_of, operands_of, reading_of}
 use Rattle.host_streams.specs.OpenFiles.{readers_in}
@@ -26,8 +26,8 @@ use Rattle.host_step.specs.declared.refusal.Refusal.TheVariants as why
 use Rattle.host_values.specs.ElementCalls.{Leads}
 use Rattle.host_values.specs.Forms.{HostForm, Past, inner_of, state_of}
 use Rattle.host_values.proofs.ArraySteps.{carry, no_word}
-use Rattle.host_values.proofs.ElementSteps.{goes, leads, state_with, unrefused}
-use Rattle.host_values.specs.Findings.{form_finding}
+use Rattle.host_values.proofs.ElementSteps.{goes, leads, unrefused}
+use Rattle.host_values.specs.Findings.{form_finding, unseen_inner, unseen_main, unseen_reading}
 use Rattle.host_values.proofs.Found.{led_nothing}
 use Rattle.host_values.specs.WorldCalls.{IsCalled}
 use Rattle.host_worlds.specs.Keeps.{with_main_input}
@@ -38,7 +38,7 @@ use Rattle.host_worlds.proofs.Silent.{silent_trap}
 
 pub skip_trapped : (tells : Type 0) (f : HostForm) (words : List Word) (memory : List ℕ) (k : TrapKind) → f.fault ≡ None → no_more words ≡ Err k
     → IsCalled tells (OfPrimitive row.NextFile) f words memory (Err (why.Trap k)) f []
-skip_trapped tells f words memory k none ends = silent_trap tells (OfPrimitive row.NextFile) f words memory k refl none (λ g p.
+skip_trapped tells f words memory k none ends = silent_trap tells (OfPrimitive row.NextFile) f words memory k none (λ g p.
     let s = state_of g p in
     ap (λ (r : Result (Unit {0}) TrapKind). carry (OfPrimitive row.NextFile) s (and_then r (λ end. Ok (end, s.names)))) ends)
 
@@ -64,23 +64,10 @@ module _ (t : Texts) (i : Input) (m : Mains) (old new : State) (nothing : m.read
   abbrev seen : Inner → MainInput → List (List ℕ × Source) → Inner
   seen inner z rs = record (unseen_inner (with_tables t (with_main_input m i) (Over new) inner)) { main = z; readers = rs }
 
-  given_up : (inner : Inner) (r : Reading) → i.main.reading ≡ r → unseen_inner (gives_up (reading_of r old) (with_tables t i (Over old) inner))
-      ≡ seen inner (idle_main i.main.next i.main.found i.main.ended) (names_alone (readers_in i.files.readers.items old))
-  given_up inner reading.Nothing e =
-      ap (λ r. seen inner (record (idle_main i.main.next i.main.found i.main.ended) { reading = unseen_reading (reading_of r old) }) (names_alone (readers_in i.files.readers.items old))) e
-  given_up inner reading.Standard e = refl
-  given_up inner (reading.File f) e = refl
-
   main_after : unseen_main (main_of m new) ≡ idle_main i.main.next i.main.found i.main.ended
   main_after =
       ap (λ r. record (idle_main m.next m.found m.ended) { reading = unseen_reading (reading_of r new) }) nothing
       ∙ ap (λ n. idle_main n m.found m.ended) next ∙ ap (λ g. idle_main i.main.next g m.ended) found ∙ ap (λ b. idle_main i.main.next i.main.found b) ended
-
-  same_seen : (inner : Inner) → unseen_inner (next_file_row (with_tables t i (Over old) inner)).0 ≡ unseen_inner (with_tables t (with_main_input m i) (Over new) inner)
-  same_seen inner =
-      given_up inner i.main.reading refl
-      ∙ ap (λ z. seen inner z (names_alone (readers_in i.files.readers.items old))) (sym main_after)
-      ∙ ap (λ rs. seen inner (unseen_main (main_of m new)) rs) (same_names i.files.readers.items old new)
 
   module _ (tells : Type 0) (f : HostForm) (memory : List ℕ) (none : f.fault ≡ None)
       (told_so : tells → (inner : Inner) → next_file_row (with_tables t i (Over old) inner) ≡ (with_tables t (with_main_input m i) (Over new) inner, tt)) (outside : tells → new.outside ≡ old.outside) where
@@ -105,22 +92,6 @@ module _ (t : Texts) (i : Input) (m : Mains) (old new : State) (nothing : m.read
         (same_acts names (told_so y inner))
         tt refl
         (ap (λ (u : Outside). record at_last { shared = record at_last.shared { outside = u; output = o } }) (sym (outside y)) ∙ ap (λ (q : List Action). with_output q at_last) (sym (append-nil o)))
-
-    -- in some world the definition's own step
-    abbrev given_state : Past → HostState
-    given_state p = state_with (state_of before p).names (next_file_row (state_of before p).shared.inner).0 before
-
-    skip_in_any_world : (p : Past) → IsStepInSomeWorld (OfPrimitive row.NextFile) (state_of before p) [] memory (told.Done (Some (I32 0))) (state_of later p)
-    skip_in_any_world p =
-        let s = unseen (state_of later p) in
-        record {
-          old = state_of before p;
-          new = given_state p;
-          output = [];
-          same_before = refl;
-          same_after = ap (λ (z : Inner). record s { shared = record s.shared { inner = z } }) (same_seen (inner_of f.shared.inner p.arrays p.iterators));
-          step = goes (OfPrimitive row.NextFile) before p (given_state p) [] memory (state_of before p).names (next_file_row (state_of before p).shared.inner).0 tt 0 (Some (I32 0)) (unrefused (OfPrimitive row.NextFile) f.fault none) refl tt refl refl;
-        }
 
     -- where others change what names hold too
     module _ (finds : List Entry) (o : Outside) (so_far : List Action) where
@@ -157,6 +128,6 @@ module _ (t : Texts) (i : Input) (m : Mains) (old new : State) (nothing : m.read
     pub skip_called : (words : List Word) → no_more words ≡ Ok tt → IsCalled tells (OfPrimitive row.NextFile) before words memory (Ok (Some (I32 0))) later []
     skip_called words ends =
         subst (λ ws. IsCalled tells (OfPrimitive row.NextFile) before ws memory (Ok (Some (I32 0))) later []) (sym (no_word words ends)) (
-          leads_in tells (OfPrimitive row.NextFile) before later [] memory (told.Done (Some (I32 0))) refl refl (λ p past. record { typed = refl; step = λ y o. skip_step y p o; in_any_world = skip_in_any_world p }),
+          leads_in tells (OfPrimitive row.NextFile) before later [] memory (told.Done (Some (I32 0))) refl refl (λ p past. record { typed = refl; step = λ y o. skip_step y p o }),
           led_nothing (OfPrimitive row.NextFile) before later [] memory (told.Done (Some (I32 0))) skip_there,
         )

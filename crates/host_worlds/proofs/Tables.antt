@@ -1,5 +1,5 @@
 -- From what the code put out, to what its call is on the host's tables.
-use Rattle.std.proofs.Common.{◌≡◌, ℕ, false, List, [], ◌∷◌, ◌++◌, map, take, Option, Some, None, Result, Ok, Err, refl, sym, ap, subst, ◌∙◌}
+use Rattle.std.proofs.Common.{◌≡◌, ℕ, List, [], ◌∷◌, ◌++◌, map, take, Option, Some, None, Result, Ok, Err, refl, sym, ap, subst, ◌∙◌}
 use Rattle.std.proofs.lemmas.List.{length-map}
 use Rattle.awk_values.specs.declared.fault.Fault.{Fault}
 use Rattle.awk_values.specs.declared.fault.Stop.{Stop}
@@ -18,7 +18,7 @@ use Rattle.host_step.specs.Answers.{refusal}
 use Rattle.host_step.specs.HostState.{HostState}
 use Rattle.host_step.specs.HostStep.{StepOf}
 use Rattle.host_imports.specs.Imports.{import_answer}
-use Rattle.host_step.specs.Worlds.{Called, Wanted, reads, unseen, with_output}
+use Rattle.host_step.specs.Worlds.{Called, Wanted, with_output}
 use Rattle.host_imports.specs.declared.import.Import.{Import}
 use Rattle.host_step.specs.declared.refusal.Refusal.TheVariants as why
 use Rattle.host_values.specs.Forms.{HostForm, Past, Stands, state_of}
@@ -68,20 +68,6 @@ module _ (g : HostForm) (arguments now : List Value) (streams streams' : Streams
         ∙ ap (λ (inner : Inner). shape inner state'.outside (fault_by g.fault r)) (sym only)
         ∙ ap (λ (o : Outside). shape d.inner o (fault_by g.fault r)) done.outside
         ∙ ap (λ (x : Result (Unit {0}) Fault). shape d.inner (after d.added state.outside) (fault_by g.fault x)) (sym done.answer_is)
-
-    -- what is seen then, with these files open for reading
-    abbrev blind : Option Fault → List (List ℕ × Source) → HostState
-    blind fault xs =
-        let base = unseen (shape (inner_at [] (names_of streams'.writers.items)) state.outside fault) in
-        record base { shared = record base.shared { inner = record base.shared.inner { readers = xs } } }
-
-    seen_after : (r : Result (Unit {0}) Fault) → map name_alone (readers_in streams.readers.items state) ≡ map name_alone (readers_in streams'.readers.items state') → d.answer ≡ r → d.inner.writers ≡ names_of streams'.writers.items
-        → unseen (after_put (state_of before p) d now) ≡ unseen (state_of (later (fault_by g.fault r)) p)
-    seen_after r readers answer names =
-        ap (λ (inner : Inner). unseen (shape inner state.outside (fault_by g.fault d.answer))) only
-        ∙ ap (λ ws. unseen (shape (inner_at (readers_in streams.readers.items state) ws) state.outside (fault_by g.fault d.answer))) names
-        ∙ ap (λ (x : Result (Unit {0}) Fault). unseen (shape (inner_at (readers_in streams.readers.items state) (names_of streams'.writers.items)) state.outside (fault_by g.fault x))) answer
-        ∙ ap (λ xs. blind (fault_by g.fault r) xs) readers
 
   -- where these are found
   module _ (p : Past) (finds rest : List Entry) (outside : Outside) (so_far added : List Action) where
@@ -149,7 +135,7 @@ begins_at tells is does (Err (stop.Fault fault)) state state' shared i begun = t
 begins_at tells is does (Err stop.NoMemory) state state' shared i begun = (begun.0, λ t. begun.1 t shared i)
 
 -- an import that puts a text out
-module _ (tells : Type 0) (i : Import) (words : List Word) (memory : List ℕ) (writes : reads i ≡ false) (refusing : refusal (import_answer i) ≡ refusal answer.Done)
+module _ (tells : Type 0) (i : Import) (words : List Word) (memory : List ℕ) (refusing : refusal (import_answer i) ≡ refusal answer.Done)
     (g : HostForm) (arguments now : List Value) (streams streams' : Streams) (state state' : State) (does : Shared → Puts)
     (steps : (p : Past) (shared : Shared) → StepOf i (sharing (state_of (writing arguments streams state g) p) shared) words memory (done_by (does shared).answer)
     (after_put (sharing (state_of (writing arguments streams state g) p) shared) (does shared) now) (does shared).added)
@@ -176,21 +162,18 @@ module _ (tells : Type 0) (i : Import) (words : List Word) (memory : List ℕ) (
       → LeadsIn tells i (writing arguments streams state g) words memory a (form_after (fault_by g.fault r)) own.added
   leads_so r a answered done some s st =
       let p = st.past in
-      let there = finding (some.0 ++ []) (shared_at p) in
       let could = some.2 [] (shared_at p) (record { readers = length-map streams.readers.items _; writers = refl }) (fit p) in (
         state_of (form_after (fault_by g.fault r)) p,
         record { past = p; state = refl; arrays = st.arrays; iterators = st.iterators; first = st.first },
         subst (λ (t : HostState). Called tells (Some i) t words memory a (state_of (form_after (fault_by g.fault r)) p) own.added) (sym st.state)
             (subst (λ (out : List Action). Called tells (Some i) (state_of (writing arguments streams state g) p) words memory a (state_of (form_after (fault_by g.fault r)) p) out) (alike p)
-            (called_found i (state_of (writing arguments streams state g) p) words memory now does (steps p) same tells a (state_of (form_after (fault_by g.fault r)) p) (some.0 ++ []) writes
+            (called_found i (state_of (writing arguments streams state g) p) words memory now does (steps p) same tells a (state_of (form_after (fault_by g.fault r)) p) (some.0 ++ [])
             (λ t. (
               answered ∙ ap done_by (sym (done t p).0.answer_is),
               state_after g arguments now streams streams' state state' p (does (shared_at p)) (finds_by (does (shared_at p)).answer None) (only (shared_at p)) r
                   (none_by (does (shared_at p)).answer) (readers t) (done t p).0 (done t p).1,
             ))
-            (answered ∙ ap done_by (sym could.answer_is))
-            (seen_after g arguments now streams streams' state state' p (does there) (finds_by (does there).answer (Some (some.0 ++ []))) (only there) r
-            (names_stay streams streams' state state' kept) could.answer_is could.writers))),
+            (answered ∙ ap done_by (sym could.answer_is)))),
       )
 
   finds_so : (r : Result (Unit {0}) Fault) (a : HostAnswer) → a ≡ done_by r → SomeAt does fits streams streams' r

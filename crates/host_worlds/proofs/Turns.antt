@@ -24,7 +24,7 @@ use Rattle.host_streams.specs.declared.main_input.Reading.TheVariants as reading
 use Rattle.host_names.specs.Forms.{with_pending as names_pending}
 use Rattle.host_names.specs.declared.names.Names.{Names}
 use Rattle.host_worlds.specs.Givens.{AssignLive, GivesMain, NextPasses, TurnGives, faulted_by, stopped_by, may_follow}
-use Rattle.host_worlds.specs.Keeps.{IsMoved, TurnPends, with_main_input, with_pending}
+use Rattle.host_worlds.specs.Keeps.{IsMoved, with_main_input, with_pending}
 use Rattle.host_worlds.specs.States.{Around, Finding, Over, main_by}
 use Rattle.host_worlds.specs.declared.input.Given.{Given}
 use Rattle.host_worlds.specs.declared.input.Input.{Input}
@@ -149,9 +149,6 @@ turn_some given wanted outside new e h = subst (λ (x : Option Given). TurnGives
 
 pub turn_none : {o : Option Given} (wanted : Result (Inner × Main) Fault) (outside : Outside) (new : Inner) → o ≡ None → TurnGives wanted (Ok o) outside new → wanted ≡ main_input outside new
 turn_none wanted outside new e h = subst (λ (x : Option Given). TurnGives wanted (Ok x) outside new) e h
-
-pub none_pends : {o : Option Given} (old new : Input) → o ≡ None → TurnPends (Ok o) old new → new.names.pending ≡ old.names.pending
-none_pends old new e h = subst (λ (x : Option Given). TurnPends (Ok x) old new) e h
 
 pub moved_on : (first now then : Input) → IsMoved first now → IsMoved now then → IsMoved first then
 moved_on first now then a b = b ∙ ap (λ x. with_pending then.names.pending (with_main_input then.main x)) a

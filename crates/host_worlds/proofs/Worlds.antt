@@ -1,5 +1,5 @@
 -- From the steps of an import that writes, to what is said of its call over a world.
-use Rattle.std.proofs.Common.{◌≡◌, ◌≢◌, ℕ, Bool, false, List, [], ◌++◌, take, drop, Some, Result, Ok, Err, refl, sym, ap, subst}
+use Rattle.std.proofs.Common.{◌≡◌, ◌≢◌, ℕ, List, [], ◌++◌, take, drop, Some, Result, Ok, Err, sym, ap, subst}
 use Rattle.std.proofs.lemmas.List.{append-nil, take-append-drop}
 use Rattle.awk_values.specs.declared.fault.Fault.{Fault}
 use Rattle.awk_values.specs.declared.value.Value.{Value}
@@ -12,7 +12,7 @@ use Rattle.world_core.specs.WorldState.{Action, Entry, after}
 use Rattle.host_step.specs.HostLaws.{step_typed}
 use Rattle.host_step.specs.HostState.{HostState}
 use Rattle.host_step.specs.HostStep.{StepOf}
-use Rattle.host_step.specs.Worlds.{InAnyWorldIf, Called, IsStepInSomeWorld, Wanted, reads, unseen, with_output}
+use Rattle.host_step.specs.Worlds.{Called, Wanted, with_output}
 use Rattle.host_imports.specs.declared.import.Import.{Import}
 use Rattle.host_worlds.specs.OutputCalls.{finding}
 use Rattle.host_worlds.proofs.Puts.{so_far_in}
@@ -22,34 +22,20 @@ use Rattle.host_worlds.proofs.Steps.{Puts, after_put, done_by}
 abbrev pub sharing : HostState → Shared → HostState
 sharing s shared = record s { shared = shared }
 
--- A call in every world, where it is a step in modelled worlds.
-pub called_by : (tells : Type 0) (i : Import) (s s' : HostState) (words : List Word) (memory : List ℕ) (a : HostAnswer) (out : List Action) → reads i ≡ false
-    → (tells → (so_far : List Action) → StepOf i (with_output so_far s) words memory a (with_output (so_far ++ out) s') out)
-    → IsStepInSomeWorld i s words memory a s' → Called tells (Some i) s words memory a s' out
-called_by tells i s s' words memory a out writes step world = record {
-  typed = step_typed (Some i) world.old words memory a world.new world.output world.step;
-  step = step;
-  in_any_world = subst (λ (b : Bool). InAnyWorldIf b i s words memory a s') (sym writes) world;
+-- A call that puts nothing out; some step, over any state, gives its answer.
+pub silent_called : (tells : Type 0) (i : Import) (s s' old new : HostState) (words : List Word) (memory : List ℕ) (a : HostAnswer) → StepOf i old words memory a new []
+    → (tells → (so_far : List Action) → StepOf i (with_output so_far s) words memory a (with_output so_far s') [])
+    → Called tells (Some i) s words memory a s' []
+silent_called tells i s s' old new words memory a some step = record {
+  typed = step_typed (Some i) old words memory a new [] some;
+  step = λ t so_far. subst (λ (out : List Action). StepOf i (with_output so_far s) words memory a (with_output out s') []) (sym (append-nil so_far)) (step t so_far);
 }
 
--- where the world tells, the world itself is one
-pub world_itself : (i : Import) (s s' : HostState) (words : List Word) (memory : List ℕ) (a : HostAnswer) (out : List Action)
-    → StepOf i (with_output [] s) words memory a (with_output out s') out → IsStepInSomeWorld i s words memory a s'
-world_itself i s s' words memory a out step = record { old = with_output [] s; new = with_output out s'; output = out; same_before = refl; same_after = refl; step = step }
-
--- a call that puts nothing out
-pub silent_called : (tells : Type 0) (i : Import) (s s' : HostState) (words : List Word) (memory : List ℕ) (a : HostAnswer) → reads i ≡ false
-    → (tells → (so_far : List Action) → StepOf i (with_output so_far s) words memory a (with_output so_far s') [])
-    → IsStepInSomeWorld i s words memory a s' → Called tells (Some i) s words memory a s' []
-silent_called tells i s s' words memory a writes step world =
-    called_by tells i s s' words memory a [] writes
-    (λ t so_far. subst (λ (out : List Action). StepOf i (with_output so_far s) words memory a (with_output out s') []) (sym (append-nil so_far)) (step t so_far)) world
-
 -- a trap
-pub trap_called : (tells : Type 0) (i : Import) (s : HostState) (words : List Word) (memory : List ℕ) (k : TrapKind) → reads i ≡ false
+pub trap_called : (tells : Type 0) (i : Import) (s : HostState) (words : List Word) (memory : List ℕ) (k : TrapKind)
     → ((so_far : List Action) → StepOf i (with_output so_far s) words memory (told.Trap k) (with_output so_far s) []) → Called tells (Some i) s words memory (told.Trap k) s []
-trap_called tells i s words memory k writes step =
-    silent_called tells i s s words memory (told.Trap k) writes (λ t. step) (world_itself i s s words memory (told.Trap k) [] (step []))
+trap_called tells i s words memory k step =
+    silent_called tells i s s (with_output [] s) (with_output [] s) words memory (told.Trap k) (step []) (λ t. step)
 
 -- What putting a text out does, over the shared states of one state.
 module _ (i : Import) (s : HostState) (words : List Word) (memory : List ℕ) (left : List Value) (does : Shared → Puts)
@@ -67,19 +53,17 @@ module _ (i : Import) (s : HostState) (words : List Word) (memory : List ℕ) (l
       (subst (λ (d : Puts). StepOf i (with_output so_far s) words memory (done_by d.answer) (after_put (with_output so_far s) d left) d.added) (same s.shared so_far)
       (steps (so_far_in so_far s.shared))))
 
-  -- in every world, where it ends so if these are found, but for what only the world knows
-  pub called_found : (tells : Type 0) (a : HostAnswer) (s' : HostState) (finds : List Entry) → reads i ≡ false → (tells → Ends a s') → a ≡ done_by (does (finding finds s.shared)).answer
-      → unseen (after_put s (does (finding finds s.shared)) left) ≡ unseen s' → Called tells (Some i) s words memory a s' (does s.shared).added
-  called_found tells a s' finds writes ends answer seen =
+  -- in every world, with the answer that it gives if these are found
+  pub called_found : (tells : Type 0) (a : HostAnswer) (s' : HostState) (finds : List Entry) → (tells → Ends a s') → a ≡ done_by (does (finding finds s.shared)).answer
+      → Called tells (Some i) s words memory a s' (does s.shared).added
+  called_found tells a s' finds ends answer =
       let there = finding finds s.shared in
-      called_by tells i s s' words memory a (does s.shared).added writes (λ t. step_so a s' (ends t)) (record {
-        old = sharing s there;
-        new = after_put (sharing s there) (does there) left;
-        output = (does there).added;
-        same_before = refl;
-        same_after = seen;
-        step = subst (λ (x : HostAnswer). StepOf i (sharing s there) words memory x (after_put (sharing s there) (does there) left) (does there).added) (sym answer) (steps there);
-      })
+      let new = after_put (sharing s there) (does there) left in
+      record {
+        typed = step_typed (Some i) (sharing s there) words memory a new (does there).added
+            (subst (λ (x : HostAnswer). StepOf i (sharing s there) words memory x new (does there).added) (sym answer) (steps there));
+        step = λ t. step_so a s' (ends t);
+      }
 
   -- what is not done yet, where memory was wanting
   pub wanted_part : (s' : HostState) (n : ℕ) → s'.shared.outside ≡ after (take n (does s.shared).added) s.shared.outside → Wanted (Some i) s words memory s' (take n (does s.shared).added)

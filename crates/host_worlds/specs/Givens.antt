@@ -1,5 +1,5 @@
 -- What reading comes to, by what the definition gives.
-use Rattle.std.specs.Prelude.{◌≡◌, ◌≢◌, ℕ, ◌+◌, ◌*◌, ◌-◌, ◌<◌, List, Bool, false, Option, Some, None, Result, Ok, Err}
+use Rattle.std.specs.Prelude.{◌≡◌, ℕ, ◌+◌, ◌*◌, ◌-◌, ◌<◌, List, Bool, false, Option, Some, None, Result, Ok, Err}
 use Rattle.awk_values.specs.declared.fault.Fault.{Fault}
 use Rattle.awk_values.specs.declared.fault.Fault.TheVariants.{OpenInput, ReadFailed}
 use Rattle.awk_values.specs.declared.fault.Stop.{Stop}
@@ -104,11 +104,6 @@ failed_by (Getline to) fault = Ok input.Failed
 abbrev pub is_over : MainRead → Bool → Bool
 is_over Loop in_end = false
 is_over (Getline to) in_end = in_end
-
--- that an assignment is pending is told, and told of nothing else
-abbrev pub AnswerTells : Given → Result InputAnswer Stop → Type 0
-AnswerTells given.Pending answer = answer ≡ Ok input.Pending
-AnswerTells g answer = answer ≢ Ok input.Pending
 
 -- the imports
 

@@ -1,24 +1,14 @@
 -- What reading leaves alone, in every world.
-use Rattle.std.specs.Prelude.{◌≡◌, ℕ, Bool, Option, Some, None, IsSome, Result, Ok, Err}
-use Rattle.awk_values.specs.declared.fault.Stop.{Stop}
+use Rattle.std.specs.Prelude.{◌≡◌, ℕ, Bool, Option}
 use Rattle.awk_values.specs.declared.value.Value.{Value}
-use Rattle.sem_primitives.specs.declared.answers.InputAnswer.{InputAnswer}
-use Rattle.sem_primitives.specs.declared.answers.InputAnswer.TheVariants.{Read, Pending}
 use Rattle.host_streams.specs.declared.main_input.MainInput.{MainInput}
 use Rattle.host_streams.specs.declared.streams.Streams.{Streams}
-use Rattle.host_texts.specs.declared.texts.Texts.{Texts}
 use Rattle.host_names.specs.Forms.{with_pending as names_pending}
-use Rattle.host_worlds.specs.declared.input.Given.{Given}
-use Rattle.host_worlds.specs.declared.input.Given.TheVariants as given
 use Rattle.host_worlds.specs.declared.input.Input.{Input}
 use Rattle.host_worlds.specs.declared.input.ReadInto.{ReadInto}
-use Rattle.host_worlds.specs.declared.input.ReadInto.TheVariants.{Variable, Record}
+use Rattle.host_worlds.specs.declared.input.ReadInto.TheVariants.{Record}
 use Rattle.host_worlds.specs.declared.input.MainRead.{MainRead}
 use Rattle.host_worlds.specs.declared.input.MainRead.TheVariants.{Loop, Getline}
-
--- the text of a substitution stays
-abbrev pub KeepsSubstituted : Texts → Texts → Type 0
-KeepsSubstituted old new = new.substituted ≡ old.substituted
 
 -- nothing changes but these
 
@@ -49,34 +39,7 @@ IsMovedOn old new = new ≡ with_line new.line (with_pending new.names.pending (
 abbrev pub IsReadOn : Input → Input → Type 0
 IsReadOn old new = new ≡ with_line new.line (with_files new.files old)
 
--- an assignment is pending now, or what is pending is as it was
-
-abbrev pub GivenPends : Result Given Stop → Input → Input → Type 0
-GivenPends (Ok given.Pending) old new = IsSome new.names.pending
-GivenPends (Ok g) old new = new.names.pending ≡ old.names.pending
-GivenPends (Err stop) old new = Unit {0}
-
-abbrev pub TurnPends : Result (Option Given) Stop → Input → Input → Type 0
-TurnPends (Ok (Some g)) old new = GivenPends (Ok g) old new
-TurnPends (Ok None) old new = new.names.pending ≡ old.names.pending
-TurnPends (Err stop) old new = Unit {0}
-
-abbrev pub AnswerPends : Result InputAnswer Stop → Input → Input → Type 0
-AnswerPends (Ok Pending) old new = IsSome new.names.pending
-AnswerPends (Ok answer) old new = new.names.pending ≡ old.names.pending
-AnswerPends (Err stop) old new = Unit {0}
-
--- a line is there now, or it is as it was
-
-abbrev pub HasLineBy : ReadInto → Input → Input → Type 0
-HasLineBy Variable old new = IsSome new.line
-HasLineBy Record old new = new.line ≡ old.line
-
+-- where an import keeps what it read
 abbrev pub keep_of : MainRead → ReadInto
 keep_of Loop = Record
 keep_of (Getline to) = to
-
-abbrev pub AnswerLine : ReadInto → Result InputAnswer Stop → Input → Input → Type 0
-AnswerLine to (Ok Read) old new = HasLineBy to old new
-AnswerLine to (Ok answer) old new = new.line ≡ old.line
-AnswerLine to (Err stop) old new = Unit {0}

@@ -41,7 +41,7 @@ pub fn close<W: World>(
     ensures step { (f : HostForm) (memory : List ℕ) → f.fault ≡ None → IsCalled W.is_modelled
         (Import.OfPrimitive row.Close) (closing handles.old streams.old (W.state world.old) f) words.now
         memory result (closing handles.new streams.new (W.state world.new) f) [] }
-    ensures spare { map.get handles.old reserved_handle ≡ None → map.get handles.new reserved_handle ≡ None }
+    ensures reserved { map.get handles.old reserved_handle ≡ None → map.get handles.new reserved_handle ≡ None }
     ensures held { HoldsOpen streams.new (W.kinds world.new) }
     ensures goes { W.is_modelled → WritersGo streams.new.writers.items (W.state world.new) }
     ensures count { W.count world.new ≡ W.count world.old }

@@ -9,7 +9,7 @@ ghost use Rattle.sem_primitives.specs.declared.answers.InputAnswer.{InputAnswer 
 ghost use Rattle.host_streams.specs.OpenFiles.{WritersGo};
 ghost use Rattle.host_worlds.specs.Finds.{FindsFile, FindsFileRow};
 ghost use Rattle.host_worlds.specs.Givens.{FileGives, RowGives, file_row};
-ghost use Rattle.host_worlds.specs.Keeps.{AnswerLine, IsReadOn, KeepsSubstituted, with_files};
+ghost use Rattle.host_worlds.specs.Keeps.{IsReadOn, with_files};
 ghost use Rattle.host_worlds.specs.States.{HoldsInput, Over, with_tables};
 
 use crate::input::{Input, ReadInto};
@@ -68,9 +68,6 @@ pub(crate) fn read<W: World>(
     ensures outside { W.is_modelled → (W.state world.new).outside ≡ (W.state world.old).outside }
     ensures rest { IsReadOn input.old input.new }
     ensures writers { input.new.files.writers ≡ input.old.files.writers }
-    ensures line { AnswerLine to result input.old input.new }
-    ensures other { result ≢ Ok InputAnswer.Pending }
-    ensures substituted { KeepsSubstituted texts.old texts.new }
     ensures finds { FindsFileRow to name.now texts.old input.old result
         texts.new input.new }
 {

@@ -31,7 +31,7 @@ pub fn flush(
     ensures step { (f : HostForm) (memory : List ℕ) → f.fault ≡ None → IsTableCall
         (Import.OfPrimitive row.Flush) (flushing handles.old streams.now f) words.now memory result
         (flushing handles.new streams.now f) }
-    ensures spare { map.get handles.old reserved_handle ≡ None → map.get handles.new reserved_handle ≡ None }
+    ensures reserved { map.get handles.old reserved_handle ≡ None → map.get handles.new reserved_handle ≡ None }
 {
     let (handle, value) = match only_handle(handles, words) {
         Ok(read) => read,

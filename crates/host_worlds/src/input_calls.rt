@@ -110,7 +110,7 @@ pub fn read_file<W: World>(
     ensures goes { W.is_modelled → WritersGo input.new.files.writers.items (W.state world.new) }
     ensures outside { W.is_modelled → (W.state world.new).outside ≡ (W.state world.old).outside }
     ensures rest { IsReadOn input.old input.new }
-    ensures spare { map.get handles.old reserved_handle ≡ None → map.get handles.new reserved_handle ≡ None }
+    ensures reserved { map.get handles.old reserved_handle ≡ None → map.get handles.new reserved_handle ≡ None }
     ensures called { (f : HostForm) (memory : List ℕ) → f.fault ≡ None
         → IsCalled W.is_modelled (Import.OfPrimitive (file_primitive to)) (with_values handles.old
         (over_world texts.old input.old (W.state world.old) f)) words.now memory result (shown_after
@@ -140,7 +140,7 @@ pub fn line(
 ) -> Result<Option<Word>, Refusal>
     requires { map.get handles.old reserved_handle ≡ None }
     ensures rest { input.new ≡ with_line input.new.line input.old }
-    ensures spare { map.get handles.new reserved_handle ≡ None }
+    ensures reserved { map.get handles.new reserved_handle ≡ None }
     ensures step { (f : HostForm) (memory : List ℕ) → f.fault ≡ None → IsTableCall
         (Import.OfPrimitive row.Line) (form_line handles.old input.old.line f) words.now memory result
         (form_line handles.new input.new.line f) }

@@ -5,8 +5,8 @@ ghost use Rattle.sem_primitives.specs.SharedState.{Inner};
 ghost use Rattle.host_format.specs.Outcomes.{IsStopOf};
 ghost use Rattle.host_streams.specs.OpenFiles.{WritersGo};
 ghost use Rattle.host_worlds.specs.Finds.{FindsGiven, FindsRow};
-ghost use Rattle.host_worlds.specs.Givens.{AnswerTells, GivesMain, OffersTexts, RowGives, answer_of, failed_by, is_over, kept_by, main_of_given, main_row};
-ghost use Rattle.host_worlds.specs.Keeps.{AnswerLine, AnswerPends, GivenPends, HasLineBy, IsMoved, IsMovedOn, KeepsSubstituted, keep_of, with_line};
+ghost use Rattle.host_worlds.specs.Givens.{GivesMain, OffersTexts, RowGives, answer_of, failed_by, is_over, kept_by, main_of_given, main_row};
+ghost use Rattle.host_worlds.specs.Keeps.{IsMoved, IsMovedOn, keep_of, with_line};
 ghost use Rattle.host_worlds.specs.States.{Around, HoldsInput, Over, with_tables};
 
 use crate::input::{Given, Input, MainRead, ReadInto};
@@ -37,8 +37,6 @@ fn given<W: World, O: Operands>(
         (with_tables texts.new input.new (Over (W.state world.new)) inner) }
     ensures outside { W.is_modelled → (W.state world.new).outside ≡ (W.state world.old).outside }
     ensures rest { IsMoved input.old input.new }
-    ensures substituted { KeepsSubstituted texts.old texts.new }
-    ensures pending { GivenPends result input.old input.new }
     ensures finds { FindsGiven (O.text operands.now) texts.old input.old result
         texts.new input.new }
 {
@@ -66,8 +64,6 @@ pub(crate) fn keep(
     ensures err { IfErr result (λ stop. (around : Around) (inner : Inner)
         → IsStopOf (kept_by to text (with_tables texts.old input.old around inner)) stop) }
     ensures rest { input.new ≡ with_line input.new.line input.old }
-    ensures line { OnOk result (HasLineBy to input.old input.new) }
-    ensures substituted { KeepsSubstituted texts.old texts.new }
 {
     match to {
         ReadInto::Record => put_record(alloc, texts, text),
@@ -103,8 +99,6 @@ fn take(
     ensures err { IfErr result (λ stop. (around : Around) (inner : Inner) → IsStopOf (answer_of how
         (with_tables texts.old input.old around inner, main_of_given (Given.Taken text))) stop) }
     ensures rest { input.new ≡ with_line input.new.line input.old }
-    ensures line { OnOk result (HasLineBy (keep_of how) input.old input.new) }
-    ensures substituted { KeepsSubstituted texts.old texts.new }
 {
     match count_record(texts) {
         Ok(()) => keep(alloc, texts, input, text, keep_of(how)),
@@ -134,9 +128,6 @@ fn answer(
         (answer_of how (with_tables texts.old input.old around inner, main_of_given given)) result
         (with_tables texts.new input.new around inner) }
     ensures rest { input.new ≡ with_line input.new.line input.old }
-    ensures line { AnswerLine (keep_of how) result input.old input.new }
-    ensures pends { AnswerTells given result }
-    ensures substituted { KeepsSubstituted texts.old texts.new }
 {
     match given {
         Given::Taken(text) => match take(alloc, texts, input, text, how) {
@@ -179,9 +170,6 @@ pub(crate) fn read<W: World, O: Operands>(
         (with_tables texts.new input.new (Over (W.state world.new)) inner) }
     ensures outside { W.is_modelled → (W.state world.new).outside ≡ (W.state world.old).outside }
     ensures rest { IsMovedOn input.old input.new }
-    ensures line { AnswerLine (keep_of how) result input.old input.new }
-    ensures pending { AnswerPends result input.old input.new }
-    ensures substituted { KeepsSubstituted texts.old texts.new }
     ensures finds { FindsRow how (O.text operands.now) texts.old input.old result
         texts.new input.new }
 {

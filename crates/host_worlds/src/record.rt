@@ -6,7 +6,6 @@ ghost use Rattle.sem_primitives.specs.SharedState.{Inner, with_special};
 ghost use Rattle.host_worlds.specs.Counts.{IsCounted, count_after, next_count};
 ghost use Rattle.sem_primitives.specs.Constants.{special_number};
 ghost use Rattle.host_texts.specs.States.{specials_of, with_texts};
-ghost use Rattle.host_worlds.specs.Keeps.{KeepsSubstituted};
 
 use awk_text::MAX_NUMBER;
 use awk_values::{Fault, Value, to_number};
@@ -26,9 +25,8 @@ fn put(values: &mut [Value; 14], special: Special, value: Value)
 
 /// Gives a special variable another value; NF is not kept so.
 pub(crate) fn give(texts: &mut Texts, special: Special, value: Value)
-    ensures set { (inner : Inner) → with_texts texts.new inner
+    ensures { (inner : Inner) → with_texts texts.new inner
         ≡ with_special special value (with_texts texts.old inner) }
-    ensures substituted { KeepsSubstituted texts.old texts.new }
 {
     put(&mut texts.specials.values, special, value);
 }
@@ -95,7 +93,6 @@ fn count_by(texts: &mut Texts, special: Special) -> Result<(), Fault>
     ensures err { IfErr result
         (λ fault. (inner : Inner) → counted_by special (with_texts texts.old inner) ≡ Err fault) }
     ensures refused { OnErr result (texts.new ≡ texts.old) }
-    ensures substituted { KeepsSubstituted texts.old texts.new }
 {
     count_in(&mut texts.specials.values, special)
 }
@@ -107,7 +104,6 @@ pub(crate) fn count_record(texts: &mut Texts) -> Result<(), Fault>
         ≡ Ok (with_texts texts.new inner)) }
     ensures err { IfErr result
         (λ fault. (inner : Inner) → counted_record (with_texts texts.old inner) ≡ Err fault) }
-    ensures substituted { KeepsSubstituted texts.old texts.new }
 {
     count_by(texts, Special::Nr)?;
     count_by(texts, Special::Fnr)

@@ -10,7 +10,7 @@ ghost use Rattle.host_streams.specs.Passing.{RestsAfter};
 ghost use Rattle.host_streams.specs.OpenFiles.{WritersGo};
 ghost use Rattle.host_worlds.specs.Finds.{FindsNext, FindsTurn};
 ghost use Rattle.host_worlds.specs.Givens.{AssignLive, NextPasses, OffersTexts, TurnGives, TurnPasses, stopped_by};
-ghost use Rattle.host_worlds.specs.Keeps.{IsMoved, KeepsSubstituted, TurnPends, with_main_input};
+ghost use Rattle.host_worlds.specs.Keeps.{IsMoved, with_main_input};
 ghost use Rattle.host_texts.specs.States.{with_texts};
 ghost use Rattle.host_worlds.specs.States.{HoldsInput, Over, with_tables};
 
@@ -27,10 +27,9 @@ use world_core::World;
 
 /// A file, or the standard input, is opened: FILENAME and FNR are set.
 fn begin(texts: &mut Texts, name: Bytes)
-    ensures set { (inner : Inner) → with_texts texts.new inner
+    ensures { (inner : Inner) → with_texts texts.new inner
         ≡ with_special AnySpecial.Fnr (AnyValue.Num (pos 0))
         (with_special AnySpecial.Filename (AnyValue.StrNum name) (with_texts texts.old inner)) }
-    ensures substituted { KeepsSubstituted texts.old texts.new }
 {
     give(texts, Special::Filename, Value::StrNum(name));
     give(texts, Special::Fnr, Value::Num(0));
@@ -94,8 +93,6 @@ pub(crate) fn turn<W: World, O: Operands>(
         (with_tables texts.new input.new (Over (W.state world.new)) inner) }
     ensures outside { W.is_modelled → (W.state world.new).outside ≡ (W.state world.old).outside }
     ensures rest { IsMoved input.old input.new }
-    ensures substituted { KeepsSubstituted texts.old texts.new }
-    ensures pending { TurnPends result input.old input.new }
     ensures passes { TurnPasses input.old.main result input.new.main }
     ensures finds { FindsTurn (O.text operands.now) texts.old input.old result
         texts.new input.new }

@@ -27,7 +27,7 @@ use Rattle.module_decoder.specs.declared.body.Opener.{Opener}
 use Rattle.module_decoder.specs.declared.body.Opener.TheVariants as opener
 use Rattle.module_decoder.specs.declared.body.Ending.{Ending}
 use Rattle.module_decoder.specs.declared.body.Ending.TheVariants as ending
-use Rattle.module_decoder.specs.Readings.{Checked, FailsBy, Made, Reads, Stands, StandsAfter, Took, opener_by, tag_at}
+use Rattle.module_decoder.specs.Readings.{Checked, RecordsFault, Made, Reads, Stands, StandsAfter, Took, opener_by, tag_at}
 use Rattle.module_decoder.proofs.Loops.{fails_bind, with_items, items_step, run_front, with_front, front_step, body_some, body_end, front_nil}
 
 -- nothing is read
@@ -57,10 +57,10 @@ after {Z} {a} {b} {c} {left} {between} {all} h k = record { span = k.span ∙ h.
     by None (Some e) f g = subst (λ (now : Option DecodeFault). Stands now left all) (sym g) f
 
 -- a fault
-pub fails : {Z : Type 0} {a b : Reader} {left : Result Z DecodeFault} (fault : DecodeFault) (all : Result Z DecodeFault) → b.span ≡ a.span → FailsBy fault a.fault b.fault → Fails fault all → Reads a b left all
+pub fails : {Z : Type 0} {a b : Reader} {left : Result Z DecodeFault} (fault : DecodeFault) (all : Result Z DecodeFault) → b.span ≡ a.span → RecordsFault fault a.fault b.fault → Fails fault all → Reads a b left all
 fails {Z} {a} {b} {left} fault all same f h = record { span = same; stands = by a.fault f }
   where
-    by : (was : Option DecodeFault) → FailsBy fault was b.fault → StandsAfter was b.fault left all
+    by : (was : Option DecodeFault) → RecordsFault fault was b.fault → StandsAfter was b.fault left all
     by None g = rw g h
     by (Some e) g = g
 
@@ -125,7 +125,7 @@ utf8_bad c text rest u = by (is_utf8 text) refl
 pub name_is : {a b c : Reader} {text : List ℕ} (name : List ℕ) → IsUtf8 text → Reads a b (Ok (text, b.rest.now)) (bytes_at a.span a.rest.now) → Reads {Z = List ℕ × List ℕ} b c (Ok (name, c.rest.now)) (Ok (text, b.rest.now)) → Reads a c (Ok (name, c.rest.now)) (name_at a.span a.rest.now)
 name_is {a} {b} {c} {text} name u h k = next_part (bytes_at a.span a.rest.now) utf8 h (rw (utf8_ok b.span text b.rest.now u) k)
 
-pub name_bad : {a b c : Reader} {text : List ℕ} {left : Read (List ℕ)} → (IsUtf8 text → ⊥) → Reads a b (Ok (text, b.rest.now)) (bytes_at a.span a.rest.now) → c.span ≡ b.span → FailsBy (BadSection b.span.section) b.fault c.fault → Reads a c left (name_at a.span a.rest.now)
+pub name_bad : {a b c : Reader} {text : List ℕ} {left : Read (List ℕ)} → (IsUtf8 text → ⊥) → Reads a b (Ok (text, b.rest.now)) (bytes_at a.span a.rest.now) → c.span ≡ b.span → RecordsFault (BadSection b.span.section) b.fault c.fault → Reads a c left (name_at a.span a.rest.now)
 name_bad {a} {b} {c} {text} {left} u h same f = next_part (bytes_at a.span a.rest.now) utf8 h (fails (BadSection b.span.section) (utf8 b.span (text, b.rest.now)) same f (utf8_bad b.span text b.rest.now u))
 
 -- ---- elements
@@ -187,7 +187,7 @@ one_run {a} {b} {c} {d} {e} {n} {t} {new} front count i left lt small so_far h g
     (rw step (next_part (val_type_at c.span c.rest.now) (λ s y. go (front ++ replicate n y.0) y.1) g filled))))
 
 pub too_many : {a b c d : Reader} {n : ℕ} {other all : Read (List ValType)} (front : List ValType) (count i left : ℕ) → i < count → left < n
-    → Reads a b (with_items front (runs_at a.span (count - i) left b.rest.now)) all → Reads b c (Ok (n, c.rest.now)) (index_at b.span b.rest.now) → d.span ≡ c.span → FailsBy TooLarge c.fault d.fault → Reads a d other all
+    → Reads a b (with_items front (runs_at a.span (count - i) left b.rest.now)) all → Reads b c (Ok (n, c.rest.now)) (index_at b.span b.rest.now) → d.span ≡ c.span → RecordsFault TooLarge c.fault d.fault → Reads a d other all
 too_many {a} {b} {c} {d} {n} front count i left lt large so_far h kept f =
     let past : run_by a.span (runs_at a.span (count - (i + 1))) left (n, c.rest.now) ≡ Err TooLarge = rw (lt-leb n left large) refl in
     after so_far (rw (runs_step a.span b.span front count i left b.rest.now lt so_far.span)

@@ -28,9 +28,9 @@ pub record Reads {Z : Type 0} (before after : Reader) (left all : Result Z Decod
   pub stands : StandsAfter before.fault after.fault left all
 
 -- the reader has this fault, or one from before
-abbrev pub FailsBy : DecodeFault → Option DecodeFault → Option DecodeFault → Type 0
-FailsBy fault None now = now ≡ Some fault
-FailsBy fault (Some e) now = now ≡ Some e
+abbrev pub RecordsFault : DecodeFault → Option DecodeFault → Option DecodeFault → Type 0
+RecordsFault fault None now = now ≡ Some fault
+RecordsFault fault (Some e) now = now ≡ Some e
 
 -- the reader goes on after what was read, or has its fault
 abbrev pub Took : {T : Type 0} → Option DecodeFault → Option DecodeFault → Result (T × Bor (List ℕ)) DecodeFault → T → List ℕ → Type 0

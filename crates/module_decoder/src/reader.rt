@@ -3,7 +3,7 @@
 ghost use Rattle.std.specs.Prelude.{◌≡◌, ℕ, List, Ok, Err, None, MatchOption, is_some, [], ◌∷◌, ◌++◌, string_bytes};
 ghost use Rattle.module_decoder.specs.Readers.{Gives, bytes_at, ended_by, index_at};
 ghost use Rattle.module_decoder.specs.Reading.{mem_arg_at, mut_at, name_at, reserved_at, val_type_at};
-ghost use Rattle.module_decoder.specs.Readings.{Checked, FailsBy, Made, Reads, Took, tag_at};
+ghost use Rattle.module_decoder.specs.Readings.{Checked, RecordsFault, Made, Reads, Took, tag_at};
 
 use crate::basics::{Span, counted, ended, flag, index, reserved, tag, val_type};
 use crate::fault::DecodeFault;
@@ -46,7 +46,7 @@ impl<'a> Reader<'a> {
     pub(crate) fn fail(&mut self, fault: DecodeFault)
         ensures span { self.new.span ≡ self.old.span }
         ensures rest { self.new.rest.now ≡ self.old.rest.now }
-        ensures fault { FailsBy fault self.old.fault self.new.fault }
+        ensures fault { RecordsFault fault self.old.fault self.new.fault }
     {
         if self.fault.is_none() {
             self.fault = Some(fault);

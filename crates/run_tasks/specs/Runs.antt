@@ -1,13 +1,19 @@
 -- What a task runs, and what is told of a script that is not compiled.
-use Rattle.std.specs.Prelude.{ℕ, List}
+use Rattle.std.specs.Prelude.{ℕ, List, Option, IfSome}
 use Rattle.world_core.specs.WorldState.{State}
 use Rattle.command_line.specs.declared.Task.{Task}
+use Rattle.awk_run.specs.Counted.{IsCountedIn}
 use Rattle.awk_run.specs.ModuleRun.{Answers}
+use Rattle.awk_run.specs.ModuleSeen.{IsModuleSeenIn}
 use Rattle.awk_run.specs.ScriptRuns.{ScriptAnswers}
+use Rattle.awk_run.specs.Seen.{IsSeenIn}
+use Rattle.awk_run.specs.declared.module_sights.ModuleWhereabouts.{ModuleWhereabouts}
+use Rattle.run_report.specs.declared.counts.RunCounts.{RunCounts}
 use Rattle.run_report.specs.declared.end.Refusal.TheVariants.{Compile}
 use Rattle.run_report.specs.declared.end.RunEnd.{RunEnd}
 use Rattle.run_report.specs.declared.end.RunEnd.TheVariants.{Refused}
 use Rattle.run_report.specs.declared.end.RunEnd.TheVariants as end
+use Rattle.run_report.specs.declared.whereabouts.Whereabouts.{Whereabouts}
 use Rattle.run_tasks.specs.Jobs.{files_of_task, job_of_task}
 use Rattle.script_compiler.specs.Refusals.{IsNotCompiled}
 use Rattle.script_lines.specs.Lined.{IsNotLined}
@@ -30,6 +36,18 @@ pub record RunsText (task : Task) (script : List ℕ) (environment : List (List 
 pub record RunsModule (task : Task) (bytes : List ℕ) (environment : List (List ℕ × List ℕ)) (e : RunEnd) : Type 0 where
   pub after : State
   pub answers : Answers Told bytes (job_of_task task environment) task.steps (files_of_task task) e after
+
+-- what is told of where the task's script was in such a run, if anything is
+abbrev pub SeesScript : Task → List (List ℕ × List ℕ) → Option Whereabouts → Type 0
+SeesScript task environment found = IfSome found (IsSeenIn Told task.subject.now (job_of_task task environment) task.steps (files_of_task task))
+
+-- what is counted of a run of a script of these bytes, if anything is
+abbrev pub CountsText : Task → List ℕ → List (List ℕ × List ℕ) → Option RunCounts → Type 0
+CountsText task script environment counts = IfSome counts (IsCountedIn Told script (job_of_task task environment) task.steps (files_of_task task))
+
+-- what is told of where the module of these bytes was, if anything is
+abbrev pub SeesModule : Task → List ℕ → List (List ℕ × List ℕ) → Option ModuleWhereabouts → Type 0
+SeesModule task bytes environment found = IfSome found (IsModuleSeenIn Told bytes (job_of_task task environment) task.steps (files_of_task task))
 
 -- the refusal of the compiler, or want of memory
 abbrev pub IsUncompiled : List ℕ → RunEnd → Type 0

@@ -1,9 +1,10 @@
 //! Scripts of tasks, run and counted.
-ghost use Rattle.std.specs.Prelude.{◌≡◌, map};
+ghost use Rattle.std.specs.Prelude.{◌≡◌, map, IfSome};
+ghost use Rattle.awk_run.specs.Counted.{IsCountedIn};
 ghost use Rattle.awk_run.specs.ScriptRuns.{ScriptAnswers};
 ghost use Rattle.host_names.specs.Forms.{pair_of};
 ghost use Rattle.run_tasks.specs.Jobs.{fence_of_task, job_of_task};
-ghost use Rattle.run_tasks.specs.Runs.{RunsText};
+ghost use Rattle.run_tasks.specs.Runs.{CountsText, RunsText};
 ghost use Rattle.world_os.specs.Behind.{behind};
 ghost use Rattle.world_os.specs.Fences.{form_of, lets_read};
 
@@ -31,10 +32,13 @@ fn counted_behind<'a, W: World>(
     world: FencedWorld<W, FileFence<'a>>,
 ) -> (RunEnd, Option<RunCounts>, FencedWorld<W, FileFence<'a>>)
     requires { form_of world.fence ≡ fence_of_task task.now }
-    ensures { ScriptAnswers (W.is_modelled × ⊥) script.now
+    ensures answers { ScriptAnswers (W.is_modelled × ⊥) script.now
         (job_of_task task.now (map pair_of environment.items)) task.now.steps
         (behind (lets_read (fence_of_task task.now)) (W.state world.entry.inner)) result.0
         (behind (lets_read (form_of result.2.fence)) (W.state result.2.inner)) }
+    ensures counted { IfSome result.1 (IsCountedIn (W.is_modelled × ⊥) script.now
+        (job_of_task task.now (map pair_of environment.items)) task.now.steps
+        (behind (lets_read (fence_of_task task.now)) (W.state world.entry.inner))) }
 {
     match job_on(alloc, task, environment) {
         Ok(job) => count_script(alloc, script, &job, state, world, task.steps),
@@ -50,7 +54,10 @@ pub fn script_counted<R: Files, I: Read + Drop, O: Write + Drop, E: Write + Drop
     script: &[u8],
     around: Surroundings<'_, R, I, O, E>,
 ) -> (RunEnd, Option<RunCounts>)
-    ensures { RunsText task.now script.now (map pair_of around.entry.environment.items) result.0 }
+    ensures answers { RunsText task.now script.now (map pair_of around.entry.environment.items)
+        result.0 }
+    ensures counted { CountsText task.now script.now (map pair_of around.entry.environment.items)
+        result.1 }
 {
     let streams = (around.input, around.output, around.errors);
     match os_world_of(alloc, around.files, streams, task) {

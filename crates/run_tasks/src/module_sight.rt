@@ -1,9 +1,10 @@
 //! What a task of a module runs, and where the module was.
-ghost use Rattle.std.specs.Prelude.{◌≡◌, map};
+ghost use Rattle.std.specs.Prelude.{◌≡◌, map, IfSome};
 ghost use Rattle.awk_run.specs.ModuleRun.{Answers};
+ghost use Rattle.awk_run.specs.ModuleSeen.{IsModuleSeenIn};
 ghost use Rattle.host_names.specs.Forms.{pair_of};
 ghost use Rattle.run_tasks.specs.Jobs.{fence_of_task, job_of_task};
-ghost use Rattle.run_tasks.specs.Runs.{RunsModule};
+ghost use Rattle.run_tasks.specs.Runs.{RunsModule, SeesModule};
 ghost use Rattle.world_os.specs.Behind.{behind};
 ghost use Rattle.world_os.specs.Fences.{form_of, lets_read};
 
@@ -34,10 +35,13 @@ fn module_seen_behind<'a, W: World>(
     FencedWorld<W, FileFence<'a>>,
 )
     requires { form_of world.fence ≡ fence_of_task task.now }
-    ensures { Answers (W.is_modelled × ⊥) bytes.now
+    ensures answers { Answers (W.is_modelled × ⊥) bytes.now
         (job_of_task task.now (map pair_of environment.items)) task.now.steps
         (behind (lets_read (fence_of_task task.now)) (W.state world.entry.inner)) result.0
         (behind (lets_read (form_of result.2.fence)) (W.state result.2.inner)) }
+    ensures seen { IfSome result.1 (IsModuleSeenIn (W.is_modelled × ⊥) bytes.now
+        (job_of_task task.now (map pair_of environment.items)) task.now.steps
+        (behind (lets_read (fence_of_task task.now)) (W.state world.entry.inner))) }
 {
     match job_on(alloc, task, environment) {
         Ok(job) => run_module_where(alloc, bytes, &job, state, world, task.steps),
@@ -52,7 +56,10 @@ pub fn module_seen<R: Files, I: Read + Drop, O: Write + Drop, E: Write + Drop>(
     bytes: &[u8],
     around: Surroundings<'_, R, I, O, E>,
 ) -> (RunEnd, Option<ModuleWhereabouts>)
-    ensures { RunsModule task.now bytes.now (map pair_of around.entry.environment.items) result.0 }
+    ensures answers { RunsModule task.now bytes.now (map pair_of around.entry.environment.items)
+        result.0 }
+    ensures seen { SeesModule task.now bytes.now (map pair_of around.entry.environment.items)
+        result.1 }
 {
     let streams = (around.input, around.output, around.errors);
     match os_world_of(alloc, around.files, streams, task) {

@@ -1,10 +1,11 @@
 //! What a task runs: its script or a module, over real files, behind its fence.
-ghost use Rattle.std.specs.Prelude.{◌≡◌, map, IfErr, IfOk};
+ghost use Rattle.std.specs.Prelude.{◌≡◌, map, IfErr, IfOk, IfSome};
 ghost use Rattle.awk_run.specs.ModuleRun.{Answers};
 ghost use Rattle.awk_run.specs.ScriptRuns.{ScriptAnswers};
+ghost use Rattle.awk_run.specs.Seen.{IsSeenIn};
 ghost use Rattle.host_names.specs.Forms.{pair_of};
 ghost use Rattle.run_tasks.specs.Jobs.{fence_of_task, job_of_task};
-ghost use Rattle.run_tasks.specs.Runs.{IsUncompiled, RunsModule, RunsScript};
+ghost use Rattle.run_tasks.specs.Runs.{IsUncompiled, RunsModule, RunsScript, SeesScript};
 ghost use Rattle.script_compiler.specs.Compiled.{IsCompiled};
 ghost use Rattle.world_os.specs.Behind.{behind};
 ghost use Rattle.world_os.specs.Fences.{form_of, lets_read};
@@ -69,10 +70,13 @@ fn script_seen_behind<'a, W: World>(
     world: FencedWorld<W, FileFence<'a>>,
 ) -> (RunEnd, Option<Whereabouts>, FencedWorld<W, FileFence<'a>>)
     requires { form_of world.fence ≡ fence_of_task task.now }
-    ensures { ScriptAnswers (W.is_modelled × ⊥) task.now.subject.now
+    ensures answers { ScriptAnswers (W.is_modelled × ⊥) task.now.subject.now
         (job_of_task task.now (map pair_of environment.items)) task.now.steps
         (behind (lets_read (fence_of_task task.now)) (W.state world.entry.inner)) result.0
         (behind (lets_read (form_of result.2.fence)) (W.state result.2.inner)) }
+    ensures seen { IfSome result.1 (IsSeenIn (W.is_modelled × ⊥) task.now.subject.now
+        (job_of_task task.now (map pair_of environment.items)) task.now.steps
+        (behind (lets_read (fence_of_task task.now)) (W.state world.entry.inner))) }
 {
     let script = task.subject.as_bytes();
     match job_on(alloc, task, environment) {
@@ -126,7 +130,8 @@ pub fn script_seen<R: Files, I: Read + Drop, O: Write + Drop, E: Write + Drop>(
     task: &Task<'_>,
     around: Surroundings<'_, R, I, O, E>,
 ) -> (RunEnd, Option<Whereabouts>)
-    ensures { RunsScript task.now (map pair_of around.entry.environment.items) result.0 }
+    ensures answers { RunsScript task.now (map pair_of around.entry.environment.items) result.0 }
+    ensures seen { SeesScript task.now (map pair_of around.entry.environment.items) result.1 }
 {
     let streams = (around.input, around.output, around.errors);
     match os_world_of(alloc, around.files, streams, task) {

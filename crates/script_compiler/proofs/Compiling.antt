@@ -75,6 +75,7 @@ compiled bytes v p t m agreement typed main main_is segments runs places keeps q
       agreement = agreement_as (mid_run_in p) (resolved_run (resolved c.script)) (module_of p) c.same agreement;
       code = p;
       code_is = c.code;
+      sorted = c.sorted;
       whole_is = refl;
       places = places;
       keeps = keeps;

@@ -6,6 +6,7 @@ use Rattle.awk_grammar.specs.Item.{Item}
 use Rattle.world_core.specs.WorldState.{Source}
 use Rattle.sem_scripts.specs.Kinds.{resolved}
 use Rattle.mid_program.specs.Mid.{Program, Routine}
+use Rattle.mid_program.specs.Sorted.{IsSorted}
 use Rattle.sem_scripts.specs.Names.{Resolved}
 use Rattle.sem_scripts.specs.ScriptRun.{resolved_run}
 use Rattle.mid_program.specs.Translation.{program_of}
@@ -49,7 +50,8 @@ pub record Links (m : ModuleForm) : Type 0 where
   pub segments : SegmentsFit m
 
 -- A module keeps nothing: where a statement begins, and where `main` has returned, names, parameters, loops over keys and callers that wait hold what
--- is alive in the host. The code is the script's: it says which names and functions there are, and of what kinds.
+-- is alive in the host. How much that is follows, by `little_is_alive` and `names_alone_are_alive` of agreement. The code is the script's: it says which
+-- names and functions there are, and of what kinds.
 pub record KeepsNothing (code : Program) (m : ModuleForm) : Type 0 where
   pub statement : (job : JobForm) (input : Source) (outside : Environment) (a : MachineForm) (c : Conf) (s : HostState)
       → Reached m job input outside a c s → begins_statement c.frame.code ≡ true → AtStatement code c s
@@ -86,8 +88,8 @@ pub record HasPlaces (code : Program) : Type 0 where
 
 -- THE MAIN THEOREM, of a script and the bytes that it is compiled to: they are a module, which the rules type, which links with the host, which has
 -- runs, which agrees with the script in every job and world, and which keeps nothing, and whose runs pass the places of statements as the script
--- executes them. It is the module of the script's code, so that a script has one module; in this code a scalar into which the script stores numbers
--- alone is unboxed.
+-- executes them. It is the module of the script's code, so that a script has one module; this code is well sorted, and a scalar into which the script stores
+-- numbers alone is unboxed in it.
 pub record IsCompiled (bytes : List ℕ) (compiled : List ℕ) : Type 0 where
   pub short : length bytes ≤ most_script_bytes
   pub tokens : List Spelled
@@ -102,6 +104,7 @@ pub record IsCompiled (bytes : List ℕ) (compiled : List ℕ) : Type 0 where
   pub agreement : Agreement (resolved_run (resolved script)) whole
   pub code : Program
   pub code_is : code ≡ unboxed (program_of (resolved script))
+  pub sorted : IsSorted code
   pub whole_is : whole ≡ module_of code
   pub places : HasPlaces code
   pub keeps : KeepsNothing code whole

@@ -25,6 +25,7 @@ same_compiled script bytes all same h = record {
   agreement = h.agreement;
   code = h.code;
   code_is = h.code_is;
+  sorted = h.sorted;
   whole_is = h.whole_is;
   places = h.places;
   keeps = h.keeps;

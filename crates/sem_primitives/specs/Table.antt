@@ -9,7 +9,7 @@ use Rattle.sem_primitives.specs.SharedState.{Shared, HostResult, gives, changes,
 use Rattle.sem_primitives.specs.ValueMeaning.{number_of_row, truncated_row, comparison_row, concat_row, power_row}
 use Rattle.sem_primitives.specs.FieldMeaning.{set_special_row, field_row, set_field_row}
 use Rattle.sem_primitives.specs.ArrayMeaning.{new_array_row, element_row, set_element_row, has_row, delete_row, join_row, iterate_row, next_key_row, clear_row}
-use Rattle.sem_primitives.specs.TextMeaning.{length_row, matches_row, match_row, substitute_row, substituted_row, split_row, part_row, part_from_row, index_row, lower_row, upper_row}
+use Rattle.sem_primitives.specs.TextMeaning.{length_row, matches_row, match_row, substitute_row, substituted_row, split_row, substr_row, substr_from_row, index_row, lower_row, upper_row}
 use Rattle.sem_primitives.specs.InputMeaning.{next_main_row, getline_row, getline_line_row, getline_file_row, getline_line_file_row, line_row, declare_row, start_assign_row, pending_name_row, pending_value_row, begin_end_row, close_row, next_file_row}
 use Rattle.sem_primitives.specs.OutputMeaning.{sprintf_row, print_row, printf_row, flush_row}
 use Rattle.sem_primitives.specs.declared.sorts.Sort.TheVariants as sort
@@ -122,8 +122,8 @@ meaning Match (text, (ere, _)) state = settles state (match_row text ere state.i
 meaning Sub (ere, (replacement, (target, (all, _)))) state = settles state (substitute_row ere replacement target all state.inner)
 meaning SubResult _ state = changes (substituted_row state.inner)
 meaning Split (text, (array, (separator, (is_ere, _)))) state = settles state (split_row text array separator is_ere state.inner)
-meaning Substr (text, (start, (count, _))) state = gives state (part_row text start count)
-meaning SubstrFrom (text, (start, _)) state = gives state (part_from_row text start)
+meaning Substr (text, (start, (count, _))) state = gives state (substr_row text start count)
+meaning SubstrFrom (text, (start, _)) state = gives state (substr_from_row text start)
 meaning Index (text, (part, _)) state = gives state (index_row text part)
 meaning Lower (text, _) state = gives state (lower_row text)
 meaning Upper (text, _) state = gives state (upper_row text)

@@ -27,11 +27,11 @@ chosen test p [] = []
 chosen test p (c ∷ cs) = kept_if (test p) c (chosen test (p + 1) cs)
 
 -- the bytes at the places from m on, and below m + n
-abbrev pub part_row : Value → Number → Number → Value
-part_row v m n = Text (chosen (λ p. int_le m.number (pos p) && int_lt (pos p) (m.number +ℤ n.number)) 1 (text_of_value v))
+abbrev pub substr_row : Value → Number → Number → Value
+substr_row v m n = Text (chosen (λ p. int_le m.number (pos p) && int_lt (pos p) (m.number +ℤ n.number)) 1 (text_of_value v))
 
-abbrev pub part_from_row : Value → Number → Value
-part_from_row v m = Text (chosen (λ p. int_le m.number (pos p)) 1 (text_of_value v))
+abbrev pub substr_from_row : Value → Number → Value
+substr_from_row v m = Text (chosen (λ p. int_le m.number (pos p)) 1 (text_of_value v))
 
 -- the first place, counted from p on, at which one text begins the rest of another
 abbrev pub place_from : ℕ → List ℕ → List ℕ → ℕ

@@ -9,8 +9,10 @@ use Rattle.lower_model.specs.Functions.{main_callee, routine_callee}
 use Rattle.lower_model.specs.Machine.{Callee, answers_to}
 use Rattle.lower_model.specs.Modules.{all_callees, called_imports}
 use Rattle.agreement.proofs.RefinedLemmas.ImportAnswers.{some_of}
-use Rattle.agreement.specs.Places.NoLeaks.{AtStatement, CallerWaits, CallersWait, values_waiting}
+use Rattle.agreement.specs.Places.Alive.{values_waiting}
+use Rattle.agreement.specs.Places.NoLeaks.{AtStatement, CallerWaits, CallersWait}
 use Rattle.agreement.specs.Places.Pending.{AllFewPending, FewAlive, FewPending, values_within}
+use Rattle.agreement.proofs.PlacesLemmas.Alive.{values_alive}
 use Rattle.agreement.proofs.PlacesLemmas.Pending.{PartsFew, RoutinesFew, call_within, calls_fit, limit_of}
 use Rattle.agreement.proofs.PlacesLemmas.Stepping.{main_few, routine_few}
 use Rattle.agreement.proofs.PlacesLemmas.Waiting.{answers_same}
@@ -66,7 +68,7 @@ module _ (p : Program) where
   few_alive ns m few parts c s here =
       let fit = all_fit ns m few parts in
       let limits = ns ++ m ∷ [] in
-      let v = here.few_values in
+      let v = values_alive p c s here in
       let pending = callers_few limits fit here.waiting c.callers here.waits in
       let w = values_few limits p here.waiting c.callers here.waits pending in
       record { pending = pending; few_values = omega (arith, v, w) }

@@ -1,5 +1,5 @@
 -- Rows: what a caller that waits holds, marks, and assignments of the command line.
-use Rattle.std.proofs.Common.{◌≡◌, inl, inr, ℕ, zero, false, List, [], ◌∷◌, Option, Some, None, refl, ap, arith}
+use Rattle.std.proofs.Common.{◌≡◌, inl, inr, ℕ, zero, false, List, [], ◌∷◌, Option, Some, None, pos, refl, ap, arith}
 use Rattle.std.specs.Fmt.{digits}
 use Rattle.std.specs.Prelude.{codes}
 use Rattle.awk_values.specs.declared.value.Value.{Value}
@@ -22,7 +22,7 @@ use Rattle.mid_program.specs.Mid.{Boxed, Unboxed, Code as MidCode, Do, Call, Get
 use Rattle.lower_model.specs.Small.{minus_one, text_beside}
 use Rattle.agreement.specs.Modules.TableMeaning.{table_meaning}
 use Rattle.agreement.specs.Places.Assigned.{IsPending, IsWord, Somewhere}
-use Rattle.agreement.specs.Places.NoLeaks.{BareParameters, IsMarked, LocalsWait, count}
+use Rattle.agreement.specs.Places.NoLeaks.{BareParameters, EachPlace, IsMarked, LocalsWait, StandOnce, count}
 use Rattle.agreement.proofs.PlacesLemmas.Pending.{Few}
 
 -- a boxed and an unboxed parameter, the answer's local, one operand that is pending, and an iterator
@@ -38,6 +38,16 @@ held_by_caller = refl
 -- where no operand is pending this is one value too many
 pub too_much : LocalsWait 0 (Boxed ∷ (Unboxed ∷ [])) caller → ⊥
 too_much h = elim h.1.1.1.0 [ inl e ↦ cc | inr q ↦ elim q [ inl e ↦ cc | inr e ↦ cc ] ]
+
+-- a number stands for one thing, and an i64 is not a handle
+pub stands_once : StandOnce {A = ℕ} 8 ((pos 0, 0) ∷ ((pos 1, 1) ∷ []))
+stands_once = (0, refl, omega arith, refl, (1, refl, omega arith, refl, tt))
+
+pub stands_twice : StandOnce {A = ℕ} 8 ((pos 1, 0) ∷ ((pos 1, 1) ∷ [])) → ⊥
+stands_twice h = let e = h.3 in cc
+
+pub not_a_handle : EachPlace (Some sort.Value ∷ []) (I64 7 ∷ []) → ⊥
+not_a_handle h = let e = h.0 in cc
 
 -- a name without a handle has a number that is not the mark; one with a handle has the mark
 pub unmarked : IsMarked Unboxed (I32 minus_one) (I64 7)

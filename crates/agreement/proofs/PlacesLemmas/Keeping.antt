@@ -1,10 +1,8 @@
 -- NOTHING IS KEPT: where a statement begins the machine over values is not stuck, so it is tidy there; and the numbers that the host has are those that its places own.
-use Rattle.std.proofs.Common.{◌≡◌, inl, inr, ℕ, zero, suc, ◌+◌, ◌^◌, ◌≤◌, Bool, true, false, ◌&&◌, nat_eq, List, [], ◌∷◌, drop, length, Some, refl, sym, ap, ◌∙◌, subst, arith}
+use Rattle.std.proofs.Common.{◌≡◌, inl, inr, ℕ, zero, suc, ◌+◌, Bool, true, false, ◌&&◌, nat_eq, List, [], ◌∷◌, drop, length, Some, refl, sym, ap, ◌∙◌, subst, arith}
 use Rattle.std.specs.List.{All}
 use Rattle.std.proofs.lemmas.Bool.{and_parts, eqb-true}
 use Rattle.sem_primitives.specs.Jobs.{JobForm, Environment}
-use Rattle.sem_primitives.specs.declared.sorts.Sort.{Sort}
-use Rattle.sem_primitives.specs.declared.sorts.Sort.TheVariants as sort
 use Rattle.world_core.specs.WorldState.{Source}
 use Rattle.wasm_types.specs.Syntax.{BrTable, Block, Done, If, Instructions, Loop, Plain, Then}
 use Rattle.wasm_types.specs.declared.instr.Simple.{Simple}
@@ -21,33 +19,33 @@ use Rattle.host_step.specs.Starts.{state_in}
 use Rattle.mid_program.specs.Mid.{Kind, Program}
 use Rattle.sem_scripts.specs.ScriptRun.{Setting, setting_in}
 use Rattle.lower_model.specs.Cells.{Cell, globals_by, iterators_in, marks_fit, tidy_locals, tidy_name}
+use Rattle.lower_model.specs.Functions.{main_callee}
 use Rattle.lower_model.specs.Machine.{Code, Conf, Deep, Frame, Label, Look, Over, Run, Store, Stuck, at, ending_at, go, guarded, is_empty, loops_walked, noted, step, tidy, ending_name}
 use Rattle.lower_model.specs.Modules.{all_callees, called_imports, globals_of, module_of, renumbered, renumbered_simple}
 use Rattle.lower_model.specs.Runs.{begun, code_of}
 use Rattle.lower_model.proofs.Runs.{go_add}
-use Rattle.agreement.specs.Refined.Owners.{OwnedOnce, wanted}
+use Rattle.agreement.specs.Refined.Owners.{OwnedOnce}
 use Rattle.agreement.specs.Refined.Refined.{As, EndAs, LeftAs, RunAs}
 use Rattle.agreement.specs.Modules.TableMeaning.{table_meaning}
 use Rattle.agreement.specs.Refined.Words.{ArraysFit, WordsAs, arrays_made}
 use Rattle.agreement.proofs.RefinedLemmas.Beginning.{begins, begun_as, in_main, steps_after}
 use Rattle.agreement.proofs.RefinedLemmas.Growing.{arrays_grow}
 use Rattle.agreement.proofs.RefinedLemmas.Links.{linked, program, program_is, stays}
-use Rattle.agreement.proofs.RefinedLemmas.Room.{total}
 use Rattle.agreement.proofs.RefinedLemmas.Running.{steps_as}
 use Rattle.agreement.proofs.RefinedLemmas.Stepping.{step_as}
 use Rattle.agreement.specs.Modules.ValueAgreement.{ValueAgreement}
-use Rattle.agreement.specs.Places.NoLeaks.{AtReturn, AtStatement, BareParameters, CallersWait, LocalsHold, Reached, begins_statement, boxed}
+use Rattle.agreement.specs.Places.NoLeaks.{AtReturn, AtStatement, BareParameters, CallersWait, IsCalled, LocalsHold, NumbersStand, Reached, begins_statement}
 use Rattle.agreement.proofs.PlacesLemmas.Begun.{OfFunction, fits_on, some_within}
-use Rattle.agreement.proofs.PlacesLemmas.Counting.{ending_globals, exact_globals, global_arrays, global_arrays_are, global_iterators, global_values, globals_may, held, held_waiting, holders_same, local_arrays, local_iterators, local_values, tidy_globals, tidy_held, waiting_same}
+use Rattle.agreement.proofs.PlacesLemmas.Counting.{ending_globals, exact_globals, held, held_waiting, holders_same, local_iterators, tidy_globals, tidy_held, waiting_same}
 use Rattle.agreement.proofs.PlacesLemmas.Fitting.{Fits}
 use Rattle.agreement.proofs.PlacesLemmas.Marks.{names_marked, parameters_bare, words_behind}
 use Rattle.std.specs.List.{Contains}
 use Rattle.agreement.specs.Places.Places.{IsWithin}
 use Rattle.agreement.specs.Places.Statements.{starts_in}
 use Rattle.agreement.proofs.PlacesLemmas.Working.{Stands, stands_at, stands_on}
-use Rattle.agreement.proofs.PlacesLemmas.Waiting.{callers_wait, iterators_counted, values_counted, walks_same}
-use Rattle.agreement.proofs.PlacesLemmas.Numbers.{AreTables, first_tables, length_counted, steps_tables}
-use Rattle.agreement.proofs.PlacesLemmas.Totals.{arrays_exact, held_each, names_exact, wanted_exact}
+use Rattle.agreement.proofs.PlacesLemmas.Waiting.{callers_wait, each_called, walks_same}
+use Rattle.agreement.proofs.PlacesLemmas.Numbers.{AreTables, first_tables, steps_tables}
+use Rattle.agreement.proofs.PlacesLemmas.Totals.{held_each}
 
 none_empty : {A : Type 0} → (xs : List A) → is_empty xs ≡ true → xs ≡ []
 none_empty [] e = refl
@@ -113,52 +111,33 @@ module _ (p : Program) where
   no_words made N [] (w ∷ ws) e a = absurd a
   no_words made N (v ∷ vs) ws e a = cc
 
-  module _ (N : Names) (tables : AreTables N) where
-    values_few : (m : ℕ) → total (λ q. wanted N sort.Value q) 0 (2 ^ 31) ≤ m → length N.values ≤ m
-    values_few m h = let l = length_counted (2 ^ 31) N.values tables.values in omega (arith, l, h)
-
-    arrays_are : (made : ℕ) → ArraysFit made N.arrays → length N.arrays ≡ 2 + total (λ q. wanted N sort.Array q) 0 (2 ^ 31)
-    arrays_are made fit = length_counted (2 ^ 31) N.arrays tables.arrays ∙ arrays_exact made N fit
-
-    iterators_are : length N.iterators ≡ total (λ q. wanted N sort.Iterator q) 0 (2 ^ 31)
-    iterators_are = length_counted (2 ^ 31) N.iterators tables.iterators
+  numbers_stand : (made : ℕ) (N : Names) → AreTables N → ArraysFit made N.arrays → NumbersStand N
+  numbers_stand made N tables fit = record { values = tables.values; arrays = tables.arrays; iterators = tables.iterators; argv = fit.argv; environ = fit.environ }
 
   -- where a statement begins
   at_statement : (ks : List Kind) (K : List Label) (L : List Cell) (F : List Frame) (code : Instructions) (G : Store) (ws : List Word) (rcode : Instructions) (c : real.Conf) (s : HostState) →
-      RunAs (stays p) (called_imports p) u [] K L F code G ws rcode c s → c.frame.values ≡ [] → TidyAt ks [] K L G → (own : OfFunction p ks) → Contains (starts_in own.0.body) code → c.frame.code ≡ renumbered (called_imports p) code → CallersWait p (held_waiting F) c.callers → AreTables s.names → AtStatement p c s
-  at_statement ks K L F code G ws rcode c s a none tidy-is own place same callers tables =
+      RunAs (stays p) (called_imports p) u [] K L F code G ws rcode c s → c.frame.values ≡ [] → TidyAt ks [] K L G → (own : OfFunction p ks) →
+      Contains (starts_in own.0.body) code → c.frame.code ≡ renumbered (called_imports p) code → (callers : CallersWait p (held_waiting F) c.callers) →
+      IsCalled p own.0 (held_waiting F) c.callers callers → AreTables s.names → AtStatement p c s
+  at_statement ks K L F code G ws rcode c s a none tidy-is own place same callers chain tables =
       let split = and_parts (is_empty {A = Cell} [] && is_empty G.host.arguments) ((tidy_locals ks L && nat_eq (iterators_in L) (loops_walked K)) && (globals_by tidy_name u.before u.names G.globals && marks_fit u.names (drop u.before G.globals))) tidy-is in
       let inner = and_parts (tidy_locals ks L && nat_eq (iterators_in L) (loops_walked K)) (globals_by tidy_name u.before u.names G.globals && marks_fit u.names (drop u.before G.globals)) split.1 in
       let named = and_parts (globals_by tidy_name u.before u.names G.globals) (marks_fit u.names (drop u.before G.globals)) inner.1 in
       let walks = and_parts (tidy_locals ks L) (nat_eq (iterators_in L) (loops_walked K)) inner.0 in
       let names = tidy_globals u.before u.names G.globals named.0 in
-      let may = globals_may u.before u.names (held G.globals) names in
       let locals = tidy_held ks L walks.0 in
       let once : OwnedOnce s.names [] [] L c.frame.locals G.globals c.globals F c.callers = (λ t q. a.once t q) in
       let made = arrays_made G.host in
-      let exact = λ (t : Sort). wanted_exact made s.names t (stays p) (called_imports p) L G.globals c.frame.locals c.globals F c.callers a.rest.locals a.rest.globals a.rest.callers once in
-      let v = exact sort.Value in
-      let r = exact sort.Array in
-      let i = exact sort.Iterator in
-      let r0 = arrays_are s.names tables made a.rest.arrays in
-      let i5 = iterators_are s.names tables in
-      let v0 = values_counted p F c.callers callers in
-      let i0 = iterators_counted p F c.callers callers in
-      let v1 = local_values ks (held L) locals in
-      let v2 = global_values u.before u.names (held G.globals) may in
-      let r1 = local_arrays ks (held L) locals in
-      let r2 = global_arrays_are u.before u.names (held G.globals) names in
       let i1 = local_iterators L in
-      let i2 = global_iterators u.before u.names (held G.globals) may in
       let i3 = eqb-true (iterators_in L) (loops_walked K) walks.1 in
       let i4 = walks_same p (arrays_made G.host) s.names K c.frame.labels a.rest.labels in
-      let kinds = ap boxed own.2 in
       record {
         operands = none;
         arguments = ap (λ (z : HostState). z.arguments) a.rest.host ∙ none_empty G.host.arguments split.0;
         globals = held G.globals;
         own = held L;
         waiting = held_waiting F;
+        numbers = numbers_stand made s.names tables a.rest.arrays;
         once = λ t q.
             let x = holders_same t q L c.frame.locals in
             let y = holders_same t q G.globals c.globals in
@@ -176,11 +155,9 @@ module _ (p : Program) where
         locals_hold = subst (λ k. LocalsHold k (held L)) (sym own.2) locals;
         walked = i1 ∙ (i3 ∙ sym i4);
         waits = callers;
+        is_called = chain;
         bare = subst (λ k. BareParameters k c.frame.locals) (sym own.2) (parameters_bare (arrays_made G.host) s.names ks L c.frame.locals a.rest.locals walks.0);
         marked = names_marked (arrays_made G.host) s.names u.names (drop u.before G.globals) (drop u.before c.globals) (words_behind (arrays_made G.host) s.names u.before G.globals c.globals a.rest.globals) named.1;
-        few_values = values_few s.names tables _ (omega (arith, v, v0, v1, v2, kinds));
-        live_arrays_are = omega (arith, r0, r, r1, r2);
-        live_iterators_are = omega (arith, i5, i, i0, i1, i2, i3, i4);
       }
 
   -- where `main` has returned
@@ -188,30 +165,20 @@ module _ (p : Program) where
   at_return v G c s a ended tables =
       let names = ending_globals G.host.fault u.before u.names G.globals ended in
       let made = arrays_made G.host in
-      let exact = λ (t : Sort). names_exact made s.names t G.globals c.globals a.globals a.once in
-      let v = exact sort.Value in
-      let r = exact sort.Array in
-      let i = exact sort.Iterator in
-      let r0 = arrays_are s.names tables made a.arrays in
-      let i0 = iterators_are s.names tables in
-      let v1 = global_values u.before u.names (held G.globals) names in
-      let r1 = global_arrays u.before u.names (held G.globals) names in
-      let i1 = global_iterators u.before u.names (held G.globals) names in
       record {
         globals = held G.globals;
+        numbers = numbers_stand made s.names tables a.arrays;
         once = λ t q. let x = holders_same t q G.globals c.globals in let e = a.once t q in omega (arith, x, e);
         each_global = held_each made s.names G.globals c.globals a.globals;
         names_hold = names;
         exact = λ q. exact_globals G.host.fault u.before u.names G.globals (sym (ap (λ (z : HostState). z.fault) a.host) ∙ q) ended;
-        few_values = values_few s.names tables _ (omega (arith, v, v1));
-        few_arrays = omega (arith, r0, r, r1);
-        few_iterators = omega (arith, i0, i, i1);
       }
 
   abbrev FitsAt : ℕ → ℕ → Conf → Type 0
   FitsAt instructions places P = Fits u instructions places (length (globals_of p)) (OfFunction p) P
 
-  begins_as : (P : Conf) (c : real.Conf) (s : HostState) (instructions places : ℕ) → AsThere P c s → FitsAt instructions places P → Stands u (Contains (all_callees p)) P → (step u P ≡ Stuck → ⊥) → AreTables s.names → begins_statement c.frame.code ≡ true → AtStatement p c s
+  begins_as : (P : Conf) (c : real.Conf) (s : HostState) (instructions places : ℕ) → AsThere P c s → FitsAt instructions places P →
+      Stands u (Contains (all_callees p)) (λ f. f ≡ main_callee p) P → (step u P ≡ Stuck → ⊥) → AreTables s.names → begins_statement c.frame.code ≡ true → AtStatement p c s
   begins_as (Run ks vs K L F code G) c s instructions places a fits stands alive tables e =
       let same = begins_same (called_imports p) code in
       let begins : begins_statement code ≡ true = sym same ∙ ap begins_statement (sym a.code-is.same ∙ settled_nop c.frame.code e) ∙ e in
@@ -222,7 +189,8 @@ module _ (p : Program) where
       let no_more = no_words (arrays_made G.host) s.names vs ws none a.operands in
       let here = subst (λ (z : List Cell). RunAs (stays p) (called_imports p) u z K L F code G ws (settled_code c.frame.code) c s × TidyAt ks z K L G) none (a, tidy-is) in
       at_statement ks K L F code G ws (settled_code c.frame.code) c s here.0 (sym (operands_nop c.frame.values c.frame.code e) ∙ no_more) here.1 (stands.0.function, stands.0.is, stands.0.kinds) (stands_at stands.0.function.body code stands.0.code begins) (sym (settled_nop c.frame.code e) ∙ a.code-is.same)
-      (callers_wait p u refl instructions places (length (globals_of p)) (arrays_made G.host) s.names F c.callers a.rest.callers fits.1.frames stands.1) tables
+      (callers_wait p u refl instructions places (length (globals_of p)) (arrays_made G.host) s.names stands.0.function F c.callers a.rest.callers fits.1.frames stands.1)
+      (each_called p u refl instructions places (length (globals_of p)) (arrays_made G.host) s.names stands.0.function F c.callers a.rest.callers fits.1.frames stands.1) tables
   begins_as (Look x ks vs K L F code G) c s instructions places a fits stands alive tables e =
       absurd (no_look u x ks vs K L F code G (sym (begins_same (called_imports p) code) ∙ ap begins_statement (sym a.run.code-is.same) ∙ e) alive)
   begins_as (Over v G) c s instructions places a fits stands alive tables e = let h : false ≡ true = sym (ap (λ (f : FrameForm). begins_statement f.code) a.frame) ∙ e in cc

@@ -1,5 +1,5 @@
 -- The host's tables through a run: their numbers differ and are below 2^31, so a table is as long as there are numbers that stand for something.
-use Rattle.std.proofs.Common.{◌≡◌, ℕ, zero, suc, ◌+◌, ◌^◌, ◌<◌, Bool, true, false, not, cond, nat_eq, ℤ, pos, List, [], ◌∷◌, length, Option, Some, None, Result, Ok, Err, refl, sym, ap, ◌∙◌, subst, arith}
+use Rattle.std.proofs.Common.{◌≡◌, ℕ, zero, suc, ◌+◌, ◌^◌, ◌<◌, ◌≤◌, Bool, true, false, not, cond, nat_eq, ℤ, pos, List, [], ◌∷◌, length, Option, Some, None, Result, Ok, Err, refl, sym, ap, ◌∙◌, subst, arith}
 use Rattle.std.proofs.lemmas.Bool.{eqb-false, eqb-true}
 use Rattle.std.proofs.lemmas.Option.{none-some}
 use Rattle.std.specs.Cmp.{int_cmp_total, signed_Decides}
@@ -31,14 +31,10 @@ use Rattle.host_step.specs.Tables.{Table, entered, look, without}
 use Rattle.host_imports.specs.declared.import.Import.{Import}
 use Rattle.agreement.specs.Refined.Owners.{there}
 use Rattle.agreement.specs.Modules.TableMeaning.{table_meaning}
+use Rattle.agreement.specs.Places.NoLeaks.{StandOnce}
 use Rattle.agreement.proofs.RefinedLemmas.Replying.{KeptBy, comes_keeps}
 use Rattle.agreement.proofs.RefinedLemmas.Room.{owns_one, total, total_none, total_sum}
 use Rattle.agreement.proofs.PlacesLemmas.Totals.{one_exactly, total_same}
-
--- each number is below a bound, and stands there once
-abbrev pub IsTable : {A : Type 0} → ℕ → Table A → Type 0
-IsTable n [] = Unit {0}
-IsTable n (e ∷ t) = (q : ℕ) × (e.0 ≡ pos q) × (q < n) × (look t e.0 ≡ None) × IsTable n t
 
 -- What is taken away.
 
@@ -54,22 +50,22 @@ still_none k q t e =
     find-where_key int_cmp (passes k) q (λ x h. ap (passes k) (sym ((signed_Decides q x).0 (ap is_eq h)))) t
     ∙ (ap (λ o. cond (passes k q) o None) e ∙ either_none (passes k q))
 
-without_table : {A : Type 0} → (n : ℕ) (k : ℤ) (t : Table A) → IsTable n t → IsTable n (without k t)
+without_table : {A : Type 0} → (n : ℕ) (k : ℤ) (t : Table A) → StandOnce n t → StandOnce n (without k t)
 without_table n k [] h = tt
 without_table n k (e ∷ t) h = by (passes k e.0) (without_table n k t h.4)
   where
-    by : (b : Bool) → IsTable n (without k t) → IsTable n (cond b (e ∷ without k t) (without k t))
+    by : (b : Bool) → StandOnce n (without k t) → StandOnce n (cond b (e ∷ without k t) (without k t))
     by true later = (h.0, h.1, h.2, still_none k e.0 t h.3, later)
     by false later = later
 
-removed_table : {A : Type 0} → (n : ℕ) (t : Table A) (ws : List Word) → IsTable n t → IsTable n (removed_front t ws)
+removed_table : {A : Type 0} → (n : ℕ) (t : Table A) (ws : List Word) → StandOnce n t → StandOnce n (removed_front t ws)
 removed_table n t [] h = h
 removed_table n t (I64 m ∷ rest) h = h
 removed_table n t (I32 m ∷ rest) h = without_table n (cast_signed w32 m) t h
 
 -- What is entered.
 
-entered_table : {A : Type 0} → (n q : ℕ) (x : A) (t : Table A) → q < n → look t (pos q) ≡ None → IsTable n t → IsTable n (entered (pos q) x t)
+entered_table : {A : Type 0} → (n q : ℕ) (x : A) (t : Table A) → q < n → look t (pos q) ≡ None → StandOnce n t → StandOnce n (entered (pos q) x t)
 entered_table n q x [] l free h = (q, refl, l, refl, tt)
 entered_table n q x (e ∷ t) l free h = by (int_cmp (pos q) e.0) refl free (λ f. entered_table n q x t l f h.4)
   where
@@ -78,8 +74,8 @@ entered_table n q x (e ∷ t) l free h = by (int_cmp (pos q) e.0) refl free (λ 
     apart false d r = h.3
     apart true d r = let s = (signed_Decides (pos q) e.0).1 (sym ((signed_Decides e.0 (pos q)).0 d)) in let f = sym (ap is_eq r) ∙ s in cc
 
-    by : (o : Ordering) → int_cmp (pos q) e.0 ≡ o → cond (is_eq o) (Some e.1) (look t (pos q)) ≡ None → (look t (pos q) ≡ None → IsTable n (entered (pos q) x t)) →
-        IsTable n (by_order o ((pos q, x) ∷ (e ∷ t)) ((e.0, x) ∷ t) (e ∷ entered (pos q) x t))
+    by : (o : Ordering) → int_cmp (pos q) e.0 ≡ o → cond (is_eq o) (Some e.1) (look t (pos q)) ≡ None → (look t (pos q) ≡ None → StandOnce n (entered (pos q) x t)) →
+        StandOnce n (by_order o ((pos q, x) ∷ (e ∷ t)) ((e.0, x) ∷ t) (e ∷ entered (pos q) x t))
     by Less r f later = (q, refl, l, free, h)
     by Equal r f later = absurd (none-some e.1 (sym f))
     by Greater r f later = (h.0, h.1, h.2, find-put int_cmp int_cmp_total e.0 (pos q) x t ∙ apart (int_eq e.0 (pos q)) refl r, later f)
@@ -87,9 +83,9 @@ entered_table n q x (e ∷ t) l free h = by (int_cmp (pos q) e.0) refl free (λ 
 -- All tables.
 
 pub record AreTables (N : Names) : Type 0 where
-  pub values : IsTable (2 ^ 31) N.values
-  pub arrays : IsTable (2 ^ 31) N.arrays
-  pub iterators : IsTable (2 ^ 31) N.iterators
+  pub values : StandOnce (2 ^ 31) N.values
+  pub arrays : StandOnce (2 ^ 31) N.arrays
+  pub iterators : StandOnce (2 ^ 31) N.iterators
 
 front_tables : (s : Sort) (ws : List Word) (N : Names) → AreTables N → AreTables (without_front s ws N)
 front_tables sort.Value ws N h = record { values = removed_table (2 ^ 31) N.values ws h.values; arrays = h.arrays; iterators = h.iterators }
@@ -177,7 +173,7 @@ one_more e t m number none q = by (nat_eq q m) refl
         other true f = absurd (eqb-false q m d (ap number_in ((signed_Decides (pos q) e.0).0 f ∙ number)))
 
 -- A TABLE IS as long as so many numbers stand for something
-pub length_counted : {A : Type 0} (n : ℕ) (t : Table A) → IsTable n t → length t ≡ total (λ q. there (look t (pos q))) 0 n
+pub length_counted : {A : Type 0} (n : ℕ) (t : Table A) → StandOnce n t → length t ≡ total (λ q. there (look t (pos q))) 0 n
 length_counted n [] h = sym (total_none (λ q. 0) 0 n (λ q l. refl))
 length_counted n (e ∷ t) h =
     let l = length_counted n t h.4 in
@@ -185,3 +181,12 @@ length_counted n (e ∷ t) h =
     let w = total_same (λ q. there (look (e ∷ t) (pos q))) (λ q. owns_one true h.0 q + there (look t (pos q))) 0 n (one_more e t h.0 h.1 h.3) in
     let c = one_exactly h.0 n h.2 in
     omega (arith, l, s, w, c)
+
+-- what stands for something is below the limit
+pub found_below : {A : Type 0} (n : ℕ) (t : Table A) (q : ℕ) → StandOnce n t → 1 ≤ there (look t (pos q)) → q < n
+found_below n [] q h l = absurd (omega (arith, l))
+found_below n (e ∷ t) q h l = by (nat_eq q h.0) refl (found_below n t q h.4)
+  where
+    by : (b : Bool) → nat_eq q h.0 ≡ b → (1 ≤ there (look t (pos q)) → q < n) → q < n
+    by true d later = let x = eqb-true q h.0 d in let y = h.2 in omega (arith, x, y)
+    by false d later = let x = one_more e t h.0 h.1 h.3 q in let y = ap (λ z. cond {A = ℕ} z 1 0) d in later (omega (arith, l, x, y))

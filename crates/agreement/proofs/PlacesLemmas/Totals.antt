@@ -1,6 +1,7 @@
--- How much is alive, exactly: a place that holds something has a number below 2^31 that no other place has, and each number that stands for something is in such a place.
-use Rattle.std.proofs.Common.{◌≡◌, ℕ, zero, suc, ◌+◌, ◌^◌, ◌<◌, Bool, true, false, cond, nat_lt, pos, List, [], ◌∷◌, length, None, refl, sym, ap, ap₂, ◌∙◌, arith}
-use Rattle.std.proofs.lemmas.Bool.{ltb-true, ne_eqb}
+-- How much is alive, exactly: a place that holds something has a number below 2^31 that no other place has, and each number that stands for something is in
+-- such a place.
+use Rattle.std.proofs.Common.{◌≡◌, ℕ, zero, suc, ◌+◌, ◌^◌, ◌<◌, ◌≤◌, Bool, true, false, ◌&&◌, cond, nat_lt, pos, List, [], ◌∷◌, Option, Some, None, refl, sym, ap, ap₂, ◌∙◌, arith}
+use Rattle.std.proofs.lemmas.Bool.{eq-eqb, ltb-true, ne_eqb}
 use Rattle.sem_primitives.specs.declared.sorts.Sort.{Sort}
 use Rattle.sem_primitives.specs.declared.sorts.Sort.TheVariants as sort
 use Rattle.wasm_store.specs.declared.word.Word.{Word}
@@ -8,14 +9,14 @@ use Rattle.wasm_store.specs.declared.word.Word.TheVariants.{I32, I64}
 use Rattle.wasm_model.specs.Machines.{CallerForm}
 use Rattle.host_step.specs.HostState.{Names}
 use Rattle.host_step.specs.Tables.{look}
+use Rattle.mid_program.specs.Mid.{Program}
 use Rattle.lower_model.specs.Cells.{Cell, Bits, Held, IteratorOf, OwnedArray, LentArray, Gone}
-use Rattle.lower_model.specs.Machine.{Frame}
-use Rattle.agreement.specs.Refined.Owners.{OwnedOnce, owner, owners, owns_sort, there, waiting, wanted}
-use Rattle.agreement.specs.Refined.Refined.{FramesAs}
-use Rattle.agreement.specs.Refined.Words.{ArraysFit, WordAs, WordsAs}
+use Rattle.agreement.specs.Refined.Owners.{there, wanted}
+use Rattle.agreement.specs.Refined.Words.{WordAs, WordsAs}
 use Rattle.agreement.proofs.RefinedLemmas.Room.{counted_once, one_most, owns_one, total, total_less, total_none, total_sum}
-use Rattle.agreement.specs.Places.NoLeaks.{count, count_waiting, holds, one}
-use Rattle.agreement.proofs.PlacesLemmas.Counting.{held, held_in, held_waiting, none_counted, same_sort}
+use Rattle.agreement.specs.Places.Alive.{count_waiting}
+use Rattle.agreement.specs.Places.NoLeaks.{CallersWait, EachPlace, count, holders, holders_waiting, holds, one}
+use Rattle.agreement.proofs.PlacesLemmas.Counting.{held, held_in, none_counted}
 
 pub total_same : (f g : ℕ → ℕ) (a n : ℕ) → ((q : ℕ) → f q ≡ g q) → total f a n ≡ total g a n
 total_same f g a n h =
@@ -26,71 +27,67 @@ total_same f g a n h =
 pub one_exactly : (m n : ℕ) → m < n → total (owns_one true m) 0 n ≡ 1
 one_exactly m n l = let x = one_most true m 0 n in let y = counted_once m 0 n (omega arith) (omega (arith, l)) in omega (arith, x, y)
 
-none_held : (t : Sort) → holds t None ≡ false
-none_held sort.Value = refl
-none_held sort.Number = refl
-none_held sort.Array = refl
-none_held sort.Iterator = refl
+-- Where the number of each place that holds something is below 2^31, the numbers together have as many holders as there are such places.
 
-module _ (made : ℕ) (N : Names) (t : Sort) where
-  -- what a place holds has a number below 2^31
-  number_below : (c : Cell) (m : ℕ) → WordAs made N c (I32 m) → holds t (held_in c) ≡ true → m < 2 ^ 31
-  number_below (Held v) m a e = a.0
-  number_below (IteratorOf i) m a e = a.0
-  number_below (OwnedArray b) m a e = a.1.0
-  number_below (Bits w) m a e = let z = sym (none_held t) ∙ e in cc
-  number_below (LentArray b) m a e = let z = sym (none_held t) ∙ e in cc
-  number_below Gone m a e = let z = sym (none_held t) ∙ e in cc
-
-  long_holds_none : (c : Cell) (m : ℕ) → WordAs made N c (I64 m) → one t (held_in c) ≡ 0
-  long_holds_none (Held v) m a = absurd a
-  long_holds_none (IteratorOf i) m a = absurd a
-  long_holds_none (OwnedArray b) m a = absurd a.1
-  long_holds_none (Bits w) m a = none_counted t
-  long_holds_none (LentArray b) m a = none_counted t
-  long_holds_none Gone m a = none_counted t
-
-  owner_exact : (c : Cell) (w : Word) → WordAs made N c w → total (λ q. owner t q c w) 0 (2 ^ 31) ≡ one t (held_in c)
-  owner_exact c (I32 m) a = by (owns_sort t c) refl
+module _ (t : Sort) where
+  place_exact : (o : Option Sort) (n : ℕ) → (holds t o ≡ true → n < 2 ^ 31) → total (owns_one (holds t o) n) 0 (2 ^ 31) ≡ one t o
+  place_exact o n h = by (holds t o) h
     where
-      by : (b : Bool) → owns_sort t c ≡ b → total (λ q. owner t q c (I32 m)) 0 (2 ^ 31) ≡ one t (held_in c)
-      by true e =
-          let h : holds t (held_in c) ≡ true = same_sort t c ∙ e in
-          ap (λ b. total (owns_one b m) 0 (2 ^ 31)) e ∙ (one_exactly m (2 ^ 31) (number_below c m a h) ∙ sym (ap (λ b. cond {A = ℕ} b 1 0) h))
-      by false e =
-          let h : holds t (held_in c) ≡ false = same_sort t c ∙ e in
-          ap (λ b. total (owns_one b m) 0 (2 ^ 31)) e ∙ (total_none (owns_one false m) 0 (2 ^ 31) (λ q l. refl) ∙ sym (ap (λ b. cond {A = ℕ} b 1 0) h))
-  owner_exact c (I64 m) a = total_none (λ q. owner t q c (I64 m)) 0 (2 ^ 31) (λ q l. refl) ∙ sym (long_holds_none c m a)
+      by : (b : Bool) → (b ≡ true → n < 2 ^ 31) → total (owns_one b n) 0 (2 ^ 31) ≡ cond {A = ℕ} b 1 0
+      by true l = one_exactly n (2 ^ 31) (l refl)
+      by false l = total_none (owns_one false n) 0 (2 ^ 31) (λ q k. refl)
 
-  owners_exact : (cs : List Cell) (ws : List Word) → WordsAs made N cs ws → total (λ q. owners t q cs ws) 0 (2 ^ 31) ≡ count t (held cs)
-  owners_exact [] ws a = total_none (λ q. owners t q [] ws) 0 (2 ^ 31) (λ q l. refl)
-  owners_exact (c ∷ cs) [] a = absurd a
-  owners_exact (c ∷ cs) (w ∷ ws) a = total_sum (λ q. owner t q c w) (λ q. owners t q cs ws) 0 (2 ^ 31) ∙ ap₂ (λ x y. x + y) (owner_exact c w a.0) (owners_exact cs ws a.1)
+  -- a place that holds something is a holder of its number
+  holds_itself : (o : Option Sort) (n : ℕ) (os : List (Option Sort)) (ws : List Word) → holds t o ≡ true → 1 ≤ holders t n (o ∷ os) (I32 n ∷ ws)
+  holds_itself o n os ws e = let x = ap (λ b. cond {A = ℕ} b 1 0) (ap₂ (λ a b. a && b) e (eq-eqb n n refl)) in omega (arith, x)
 
-  module _ (used : ℕ → Bool) (bs : List Bool) where
-    waiting_exact : (F : List Frame) (rs : List CallerForm) → FramesAs used bs made N F rs → total (λ q. waiting t q F rs) 0 (2 ^ 31) ≡ count_waiting t (held_waiting F)
-    waiting_exact [] rs a = total_none (λ q. waiting t q [] rs) 0 (2 ^ 31) (λ q l. refl)
-    waiting_exact (f ∷ F) [] a = absurd a
-    waiting_exact (f ∷ F) (r ∷ rs) a =
-        total_sum (λ q. owners t q f.locals r.frame.locals) (λ q. waiting t q F rs) 0 (2 ^ 31) ∙ ap₂ (λ x y. x + y) (owners_exact f.locals r.frame.locals a.0.locals) (waiting_exact F rs a.1)
+  holders_exact : (os : List (Option Sort)) (ws : List Word) → EachPlace os ws → ((q : ℕ) → 1 ≤ holders t q os ws → q < 2 ^ 31) →
+      total (λ q. holders t q os ws) 0 (2 ^ 31) ≡ count t os
+  holders_exact [] [] h below = total_none (λ q. holders t q [] []) 0 (2 ^ 31) (λ q l. refl)
+  holders_exact [] (w ∷ ws) h below = absurd h
+  holders_exact (o ∷ os) [] h below = absurd h
+  holders_exact (o ∷ os) (I32 n ∷ ws) h below =
+      total_sum (owns_one (holds t o) n) (λ q. holders t q os ws) 0 (2 ^ 31)
+      ∙ ap₂ (λ x y. x + y) (place_exact o n (λ e. below n (holds_itself o n os ws e))) (holders_exact os ws h (λ q l. below q (omega (arith, l))))
+  holders_exact (o ∷ os) (I64 n ∷ ws) h below = holders_exact os ws h.1 below ∙ (let e = ap (one t) h.0 in let z = none_counted t in omega (arith, e, z))
 
-    -- SO MUCH IS WANTED, where nothing is on the operands
-    pub wanted_exact : (L G : List Cell) (ls gs : List Word) (F : List Frame) (rs : List CallerForm) → WordsAs made N L ls → WordsAs made N G gs → FramesAs used bs made N F rs →
-        OwnedOnce N [] [] L ls G gs F rs → total (λ q. wanted N t q) 0 (2 ^ 31) ≡ count t (held L) + (count t (held G) + count_waiting t (held_waiting F))
-    wanted_exact L G ls gs F rs a b c once =
-        total_same (λ q. wanted N t q) (λ q. owners t q L ls + (owners t q G gs + waiting t q F rs)) 0 (2 ^ 31) (λ q. let e = once t q in omega (arith, e))
-        ∙ (total_sum (λ q. owners t q L ls) (λ q. owners t q G gs + waiting t q F rs) 0 (2 ^ 31)
-        ∙ ap₂ (λ x y. x + y) (owners_exact L ls a) (total_sum (λ q. owners t q G gs) (λ q. waiting t q F rs) 0 (2 ^ 31) ∙ ap₂ (λ x y. x + y) (owners_exact G gs b) (waiting_exact F rs c)))
+  waiting_exact : (p : Program) (rest : List (List (Option Sort))) (rs : List CallerForm) → CallersWait p rest rs →
+      ((q : ℕ) → 1 ≤ holders_waiting t q rest rs → q < 2 ^ 31) → total (λ q. holders_waiting t q rest rs) 0 (2 ^ 31) ≡ count_waiting t rest
+  waiting_exact p [] rs h below = total_none (λ q. holders_waiting t q [] rs) 0 (2 ^ 31) (λ q l. refl)
+  waiting_exact p (os ∷ rest) [] h below = absurd h
+  waiting_exact p (os ∷ rest) (r ∷ rs) h below =
+      total_sum (λ q. holders t q os r.frame.locals) (λ q. holders_waiting t q rest rs) 0 (2 ^ 31)
+      ∙ ap₂ (λ x y. x + y) (holders_exact os r.frame.locals h.0.each (λ q l. below q (omega (arith, l))))
+      (waiting_exact p rest rs h.1 (λ q l. below q (omega (arith, l))))
+
+module _ (N : Names) (t : Sort) (below : (q : ℕ) → 1 ≤ wanted N t q → q < 2 ^ 31) where
+  -- SO MUCH IS WANTED where a statement begins
+  pub wanted_exact : (p : Program) (own globals : List (Option Sort)) (waiting : List (List (Option Sort))) (ls gs : List Word) (rs : List CallerForm) →
+      EachPlace own ls → EachPlace globals gs → CallersWait p waiting rs →
+      ((q : ℕ) → holders t q own ls + (holders t q globals gs + holders_waiting t q waiting rs) ≡ wanted N t q) →
+      total (λ q. wanted N t q) 0 (2 ^ 31) ≡ count t own + (count t globals + count_waiting t waiting)
+  wanted_exact p own globals waiting ls gs rs a b c once =
+      let least : (q m : ℕ) → 1 ≤ m → m ≤ holders t q own ls + (holders t q globals gs + holders_waiting t q waiting rs) → q < 2 ^ 31 =
+      (λ q m l k. below q (let e = once q in omega (arith, e, l, k))) in
+      let x = holders_exact t own ls a (λ q l. least q (holders t q own ls) l (omega arith)) in
+      let y = holders_exact t globals gs b (λ q l. least q (holders t q globals gs) l (omega arith)) in
+      let z = waiting_exact t p waiting rs c (λ q l. least q (holders_waiting t q waiting rs) l (omega arith)) in
+      total_same (λ q. wanted N t q) (λ q. holders t q own ls + (holders t q globals gs + holders_waiting t q waiting rs)) 0 (2 ^ 31) (λ q. sym (once q))
+      ∙ (total_sum (λ q. holders t q own ls) (λ q. holders t q globals gs + holders_waiting t q waiting rs) 0 (2 ^ 31)
+      ∙ ap₂ (λ m n. m + n) x (total_sum (λ q. holders t q globals gs) (λ q. holders_waiting t q waiting rs) 0 (2 ^ 31) ∙ ap₂ (λ m n. m + n) y z))
 
   -- where `main` has returned
-  pub names_exact : (G : List Cell) (gs : List Word) → WordsAs made N G gs → OwnedOnce N [] [] [] [] G gs [] [] → total (λ q. wanted N t q) 0 (2 ^ 31) ≡ count t (held G)
-  names_exact G gs a once = total_same (λ q. wanted N t q) (λ q. owners t q G gs) 0 (2 ^ 31) (λ q. let e = once t q in omega (arith, e)) ∙ owners_exact G gs a
+  pub names_exact : (globals : List (Option Sort)) (gs : List Word) → EachPlace globals gs → ((q : ℕ) → holders t q globals gs ≡ wanted N t q) →
+      total (λ q. wanted N t q) 0 (2 ^ 31) ≡ count t globals
+  names_exact globals gs a once =
+      total_same (λ q. wanted N t q) (λ q. holders t q globals gs) 0 (2 ^ 31) (λ q. sym (once q))
+      ∙ holders_exact t globals gs a (λ q l. below q (let e = once q in omega (arith, e, l)))
 
 -- ARGV and ENVIRON have no owner among these
-module _ (made : ℕ) (N : Names) (fit : ArraysFit made N.arrays) where
+module _ (N : Names) (argv : look N.arrays (pos 0) ≡ Some 0) (environ : look N.arrays (pos 1) ≡ Some 1) where
   array_wanted : (q : ℕ) → there (look N.arrays (pos q)) ≡ wanted N sort.Array q + (owns_one true 0 q + owns_one true 1 q)
-  array_wanted zero = ap there fit.argv
-  array_wanted (suc zero) = ap there fit.environ
+  array_wanted zero = ap there argv
+  array_wanted (suc zero) = ap there environ
   array_wanted (suc (suc q)) = by (nat_lt (suc (suc q)) 2) refl
     where
       here : ℕ
@@ -112,9 +109,18 @@ module _ (made : ℕ) (N : Names) (fit : ArraysFit made N.arrays) where
       let e = one_exactly 1 (2 ^ 31) (omega arith) in
       omega (arith, a, b, c, d, e)
 
--- as many places are told as there are words
-pub held_each : (made : ℕ) (N : Names) (cs : List Cell) (ws : List Word) → WordsAs made N cs ws → length (held cs) ≡ length ws
-held_each made N [] [] a = refl
+-- what stands for a cell that owns something is a handle
+long_holds_none : (made : ℕ) (N : Names) (c : Cell) (n : ℕ) → WordAs made N c (I64 n) → held_in c ≡ None
+long_holds_none made N (Held v) n a = absurd a
+long_holds_none made N (IteratorOf i) n a = absurd a
+long_holds_none made N (OwnedArray b) n a = absurd a.1
+long_holds_none made N (Bits w) n a = refl
+long_holds_none made N (LentArray b) n a = refl
+long_holds_none made N Gone n a = refl
+
+pub held_each : (made : ℕ) (N : Names) (cs : List Cell) (ws : List Word) → WordsAs made N cs ws → EachPlace (held cs) ws
+held_each made N [] [] a = tt
 held_each made N [] (w ∷ ws) a = absurd a
 held_each made N (c ∷ cs) [] a = absurd a
-held_each made N (c ∷ cs) (w ∷ ws) a = ap suc (held_each made N cs ws a.1)
+held_each made N (c ∷ cs) (I32 n ∷ ws) a = held_each made N cs ws a.1
+held_each made N (c ∷ cs) (I64 n ∷ ws) a = (long_holds_none made N c n a.0, held_each made N cs ws a.1)

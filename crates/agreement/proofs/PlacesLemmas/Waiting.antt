@@ -1,5 +1,5 @@
 -- What a caller that waits holds, and the loops over keys that are walked.
-use Rattle.std.proofs.Common.{◌≡◌, ◌⊎◌, inl, inr, ℕ, zero, suc, ◌+◌, ◌-◌, ◌≤◌, Bool, true, false, not, ◌&&◌, ◌||◌, cond, nat_eq, nat_le, nat_lt, List, [], ◌∷◌, length, map, get_or, slice_get, Option, Some, None, refl, sym, ap, ap₂, ◌∙◌, subst, arith}
+use Rattle.std.proofs.Common.{◌≡◌, ◌⊎◌, inl, inr, ℕ, zero, suc, ◌+◌, ◌-◌, ◌≤◌, Bool, true, false, not, ◌&&◌, ◌||◌, cond, nat_eq, nat_le, nat_lt, List, [], ◌∷◌, ◌++◌, length, map, get_or, slice_get, Option, Some, None, refl, sym, ap, ap₂, ◌∙◌, subst, arith}
 use Rattle.std.proofs.lemmas.Bool.{and_parts, eq-eqb, eqb-true, leb-true, ltb-false, ltb-true, ne_eqb}
 use Rattle.std.proofs.lemmas.List.{length-map}
 use Rattle.std.proofs.lemmas.Option.{none-some, slice_get-get_or, slice_get_past}
@@ -15,7 +15,7 @@ use Rattle.host_step.specs.HostState.{Names}
 use Rattle.mid_program.specs.Mid.{Kind, Boxed, Unboxed, ArrayKind, Program, Routine, parameters_at}
 use Rattle.lower_model.specs.Cells.{Cell, Bits, Held, IteratorOf, OwnedArray, LentArray, Gone, arrays_owned, is_held, is_operand, is_owned, iterators_in, locals_wait, no_value, operands_wait}
 use Rattle.lower_model.specs.Emission.{function_number}
-use Rattle.lower_model.specs.Functions.{routine_callee}
+use Rattle.lower_model.specs.Functions.{main_callee, routine_callee}
 use Rattle.host_imports.specs.Imports.{import_count, import_number, imports}
 use Rattle.lower_model.specs.Machine.{Callee, Code, Frame, Label, answers_to, array_kinds, freed_next, is_walk, loops_walked}
 use Rattle.lower_model.specs.Modules.{all_callees, called_imports, calls_in, imports_of, new_number, renumbered, renumbered_simple}
@@ -24,7 +24,8 @@ use Rattle.agreement.proofs.TypedLemmas.Chosen.{functions_behind}
 use Rattle.agreement.specs.Refined.Refined.{AgainAs, FrameAs, FramesAs, LabelsAs}
 use Rattle.agreement.proofs.RefinedLemmas.ImportAnswers.{some_of}
 use Rattle.agreement.proofs.RefinedLemmas.Links.{number_there, stays}
-use Rattle.agreement.specs.Places.NoLeaks.{CallerWaits, CallersWait, LocalsWait, NoValues, OperandsHold, boxed, count, count_waiting, is_keys, is_next, numbers_of, one, values_waiting, walks, walks_waiting}
+use Rattle.agreement.specs.Places.Alive.{count_waiting, values_waiting, walks_waiting}
+use Rattle.agreement.specs.Places.NoLeaks.{CallerWaits, CallersWait, IsCalled, LocalsWait, NoValues, OperandsHold, boxed, count, is_keys, is_next, numbers_of, one, walks}
 use Rattle.agreement.proofs.PlacesLemmas.Begun.{OfFunction}
 use Rattle.agreement.proofs.PlacesLemmas.Counting.{held, held_in, held_waiting, local_iterators, owned_arrays}
 use Rattle.std.specs.List.{Contains}
@@ -142,6 +143,12 @@ answers_same bs (Then (Block r a) k) = refl
 answers_same bs (Then (Loop r a) k) = refl
 answers_same bs (Then (If r a c) k) = refl
 
+-- what is in a list stays where it is when more comes after it
+still_there : {A : Type 0} (xs ys : List A) (n : ℕ) (x : A) → slice_get xs n ≡ Some x → slice_get (xs ++ ys) n ≡ Some x
+still_there [] ys n x e = absurd (none-some x e)
+still_there (y ∷ xs) ys zero x e = e
+still_there (y ∷ xs) ys (suc n) x e = still_there xs ys n x e
+
 module _ (p : Program) where
   abbrev bs : List Bool
   bs = called_imports p
@@ -218,8 +225,15 @@ module _ (p : Program) where
   kinds_called (r ∷ rs) (suc k) f e = kinds_called rs k f e
 
   module _ (u : Code) (callees : u.callees ≡ map (routine_callee p) p.routines) (instructions places globals : ℕ) (made : ℕ) (N : Names) where
-    caller_waits : (f : Frame) (r : CallerForm) → FrameAs (stays p) bs made N f r → FrameFits u instructions places globals (OfFunction p) f → (y : Waits u (Contains (all_callees p)) f.kinds f.rest f.labels) → HasMadeFew u (Contains (all_callees p)) y.called f.locals → CallerWaits p (held f.locals) r
-    caller_waits f r a b y z =
+    abbrev Fun : Callee → Type 0
+    Fun = Contains (all_callees p)
+
+    abbrev First : Callee → Type 0
+    First g = g ≡ main_callee p
+
+    caller_waits : (f : Frame) (r : CallerForm) → FrameAs (stays p) bs made N f r → FrameFits u instructions places globals (OfFunction p) f →
+        (y : Waits u Fun First f.kinds f.rest f.labels) (g : Callee) → HasMadeFew u Fun First g y.called f.locals → CallerWaits p (held f.locals) r
+    caller_waits f r a b y g z =
         let w = and_parts (locals_wait (answers_to f.rest) f.kinds f.locals) (nat_eq (iterators_in f.locals) (loops_walked f.labels) && nat_le (arrays_owned f.locals) (freed_next f.rest)) b.waits in
         let v = and_parts (nat_eq (iterators_in f.locals) (loops_walked f.labels)) (nat_le (arrays_owned f.locals) (freed_next f.rest)) w.1 in
         let h = locals_hold (answers_to f.rest) f.kinds f.locals w.0 in
@@ -237,31 +251,44 @@ module _ (p : Program) where
           walked = local_iterators f.locals ∙ (eqb-true (iterators_in f.locals) (loops_walked f.labels) v.0 ∙ sym (walks_same made N f.labels r.frame.labels a.labels));
           fresh =
               (let e = owned_arrays f.locals in
-              let le = leb-true (arrays_owned f.locals) (array_kinds z.callee.kinds) z.few in
+              let le = leb-true (arrays_owned f.locals) (array_kinds g.kinds) z.few in
               let is_called = sym (ap (λ (fs : List Callee). slice_get fs y.called) callees) ∙ z.is_callee in
-              let k = ap array_kinds (kinds_called p.routines y.called z.callee is_called) in
+              let k = ap array_kinds (kinds_called p.routines y.called g is_called) in
               omega (arith, e, le, k));
           freed = (let e = owned_arrays f.locals in let le = leb-true (arrays_owned f.locals) (freed_next f.rest) v.1 in omega (arith, e, le));
         }
 
-    pub callers_wait : (F : List Frame) (rs : List CallerForm) → FramesAs (stays p) bs made N F rs → FramesFit u instructions places globals (OfFunction p) F → FramesWork u (Contains (all_callees p)) F → CallersWait p (held_waiting F) rs
-    callers_wait [] [] a b y = absurd a
-    callers_wait [] (r ∷ []) a b y = a
-    callers_wait [] (r ∷ (q ∷ rs)) a b y = absurd a
-    callers_wait (f ∷ F) [] a b y = absurd a
-    callers_wait (f ∷ F) (r ∷ rs) a b y = (caller_waits f r a.0 b.0 y.0.0 y.0.1, callers_wait F rs a.1 b.1 y.1)
+    pub callers_wait : (g : Callee) (F : List Frame) (rs : List CallerForm) → FramesAs (stays p) bs made N F rs →
+        FramesFit u instructions places globals (OfFunction p) F → FramesWork u Fun First g F → CallersWait p (held_waiting F) rs
+    callers_wait g [] [] a b y = absurd a
+    callers_wait g [] (r ∷ []) a b y = a
+    callers_wait g [] (r ∷ (q ∷ rs)) a b y = absurd a
+    callers_wait g (f ∷ F) [] a b y = absurd a
+    callers_wait g (f ∷ F) (r ∷ rs) a b y = (caller_waits f r a.0 b.0 y.0 g y.1, callers_wait y.0.function F rs a.1 b.1 y.2)
 
-  pub values_counted : (F : List Frame) (rs : List CallerForm) (h : CallersWait p (held_waiting F) rs) → count_waiting sort.Value (held_waiting F) ≤ values_waiting p (held_waiting F) rs h
+    -- EACH IS THE ONE THAT ITS CALLER CALLED
+    pub each_called : (g : Callee) (F : List Frame) (rs : List CallerForm) (a : FramesAs (stays p) bs made N F rs)
+        (b : FramesFit u instructions places globals (OfFunction p) F) (y : FramesWork u Fun First g F) → IsCalled p g (held_waiting F) rs (callers_wait g F rs a b y)
+    unfolding callers_wait caller_waits
+    each_called g [] [] a b y = absurd a
+    each_called g [] (r ∷ []) a b y = y
+    each_called g [] (r ∷ (q ∷ rs)) a b y = absurd a
+    each_called g (f ∷ F) [] a b y = absurd a
+    each_called g (f ∷ F) (r ∷ rs) a b y =
+        let at = sym (ap (λ (fs : List Callee). slice_get fs y.0.called) callees) ∙ y.1.is_callee in
+        (still_there (map (routine_callee p) p.routines) (main_callee p ∷ []) y.0.called g at, each_called y.0.function F rs a.1 b.1 y.2)
+
+  pub values_counted : (rest : List (List (Option Sort))) (rs : List CallerForm) (h : CallersWait p rest rs) → count_waiting sort.Value rest ≤ values_waiting p rest rs h
   values_counted [] rs h = omega arith
-  values_counted (f ∷ F) [] h = absurd h
-  values_counted (f ∷ F) (r ∷ rs) h =
-      let x = values_few h.0.operands h.0.function.kinds (held f.locals) h.0.locals_hold in
-      let y = values_counted F rs h.1 in
+  values_counted (os ∷ rest) [] h = absurd h
+  values_counted (os ∷ rest) (r ∷ rs) h =
+      let x = values_few h.0.operands h.0.function.kinds os h.0.locals_hold in
+      let y = values_counted rest rs h.1 in
       omega (arith, x, y)
 
-  pub iterators_counted : (F : List Frame) (rs : List CallerForm) → CallersWait p (held_waiting F) rs → count_waiting sort.Iterator (held_waiting F) ≡ walks_waiting (numbers_of p) rs
+  pub iterators_counted : (rest : List (List (Option Sort))) (rs : List CallerForm) → CallersWait p rest rs → count_waiting sort.Iterator rest ≡ walks_waiting (numbers_of p) rs
   iterators_counted [] [] h = absurd h
   iterators_counted [] (r ∷ []) h = ap (λ (z : CallerForm). walks (numbers_of p) z.frame.labels + 0) (sym h)
   iterators_counted [] (r ∷ (q ∷ rs)) h = absurd h
-  iterators_counted (f ∷ F) [] h = absurd h
-  iterators_counted (f ∷ F) (r ∷ rs) h = ap₂ (λ x y. x + y) h.0.walked (iterators_counted F rs h.1)
+  iterators_counted (os ∷ rest) [] h = absurd h
+  iterators_counted (os ∷ rest) (r ∷ rs) h = ap₂ (λ x y. x + y) h.0.walked (iterators_counted rest rs h.1)

@@ -18,10 +18,9 @@ use Rattle.wasm_model.proofs.Chains.{no_memory}
 use Rattle.world_core.specs.WorldState.{Action, Entry, Outside, Source, absent, after as outside_after}
 use Rattle.host_step.specs.HostState.{HostState}
 use Rattle.host_step.specs.Starts.{state_at_start, state_in}
-use Rattle.host_step.specs.Worlds.{unseen_inner}
 use Rattle.host_imports.specs.Imports.{import_at}
 use Rattle.host_values.specs.Forms.{HostForm}
-use Rattle.host_values.specs.Findings.{IsFound, form_finding}
+use Rattle.host_values.specs.Findings.{IsFound, form_finding, unseen_inner}
 use Rattle.host_values.specs.FormMeaning.{FormState, Told, Untold, form_meaning}
 use Rattle.host_values.specs.Shown.{SharesBy, Shown}
 use Rattle.host_values.proofs.Showing.{shown_fault}

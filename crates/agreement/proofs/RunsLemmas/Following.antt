@@ -1,4 +1,4 @@
--- Calls that are told by tables are calls over a host of the table, where the world tells what it holds; and calls as every world has them.
+-- Calls that are told by tables are calls over a host of the table, where the world tells what it holds.
 use Rattle.std.proofs.Common.{◌≢◌, ℕ, List, ◌++◌, Option, Some, None, Result, Ok, Err, refl}
 use Rattle.awk_values.specs.declared.fault.Fault.{Fault}
 use Rattle.sem_primitives.specs.Sorts.{InAnswer}
@@ -17,7 +17,6 @@ use Rattle.host_values.specs.Forms.{HostForm}
 use Rattle.host_values.specs.FormMeaning.{FormCalled, FormMeans, Told, form_meaning}
 use Rattle.host_values.specs.Shown.{Shown, form_with_output}
 use Rattle.agreement.specs.Modules.TableMeaning.{table_meaning}
-use Rattle.host_step.specs.Worlds.{in_any_world_meaning}
 
 -- so much came before
 abbrev pub ShownAfter : List Action → HostForm → HostState → Type 0
@@ -36,14 +35,6 @@ pub table_follows : (tells : Type 0) → tells → (f f1 : HostForm) (n : ℕ) (
 table_follows tells t f f1 n words mem a mem1 output so_far s ne m h =
     let x = (means_called tells (import_at n) f words mem.bytes a f1 output ne m.1).step t so_far s h in
     (x.state, x.shown, (m.0, x.step))
-
--- a call as every world has it: of what was put out nothing is said
-pub in_any_world_follows : (tells : Type 0) (f f1 : HostForm) (n : ℕ) (words : List Word) (mem : MemoryForm) (a : HostAnswer) (mem1 : MemoryForm)
-    (output so_far : List Action) (s : HostState) → a ≢ told.NoMemory → form_meaning tells (Told f) n words mem a (Told f1) mem1 output → Shown f s
-    → (s1 : HostState) × Shown f1 s1 × in_any_world_meaning s n words mem a s1 mem1 output
-in_any_world_follows tells f f1 n words mem a mem1 output so_far s ne m h =
-    let x = (means_called tells (import_at n) f words mem.bytes a f1 output ne m.1).in_any_world s h in
-    (x.state, x.shown, (m.0, x.in_any_world))
 
 -- A host of the table wants no memory.
 

@@ -32,14 +32,13 @@ use Rattle.host_values.specs.FormMeaning.{Told, form_meaning}
 use Rattle.host_values.specs.Shown.{Shown, form_with_output}
 use Rattle.host_values.proofs.Showing.{shown_fault, shown_outside, shown_output}
 use Rattle.agreement.specs.Modules.TableMeaning.{table_meaning}
-use Rattle.host_step.specs.Worlds.{in_any_world_meaning}
 use Rattle.agreement.specs.Modules.Agreement.{Like, MayEnd, ModuleEnding, Trapped, ended_with, ending_told, output_in}
 use Rattle.sem_scripts.specs.ScriptRun.{Exhausted, GoesOn}
 use Rattle.sem_scripts.specs.MoreTurns.{output_of}
-use Rattle.agreement.specs.Runs.ToldRuns.{InAnyWorldRun, FoundRun, Tells, TellsEnding, ToldRun}
+use Rattle.agreement.specs.Runs.ToldRuns.{FoundRun, Tells, TellsEnding, ToldRun}
 use Rattle.agreement.proofs.RunsLemmas.Carried.{run_carried}
 use Rattle.agreement.proofs.RunsLemmas.Finding.{finds_more, finds_run, from_start}
-use Rattle.agreement.proofs.RunsLemmas.Following.{ShownAfter, in_any_world_follows, table_follows}
+use Rattle.agreement.proofs.RunsLemmas.Following.{ShownAfter, table_follows}
 use Rattle.agreement.proofs.RunsLemmas.Outsides.{run_makes}
 use Rattle.agreement.proofs.RunsLemmas.Wanting.{wanted}
 
@@ -187,10 +186,3 @@ module _ (m : ModuleForm) (typed : ModuleOk m) (a : MachineForm) (new : IsNew ho
       by NoMemory q ran = found_so (some_same machine.NoMemory e q) (wanted_there k d.0 c1 f1 ran)
       by OutOfSteps q ran = found_there k d.0 OutOfSteps c1 f1 (λ z. cc) ran e q (not_wanting OutOfSteps e q (λ z. cc))
       by (Ended x) q ran = found_there k d.0 (Ended x) c1 f1 (λ z. cc) ran e q (not_wanting (Ended x) e q (λ z. cc))
-
--- A run over any world.
-pub in_any_world_run : (tells : Type 0) (m : ProgramForm) (n : ℕ) (c : Conf) (f : HostForm) (output : List Action) (r : RunEnd) (c1 : Conf) (f1 : HostForm) (s : HostState)
-    → Shown f s → r ≢ NoMemory → Ran (form_meaning tells) m n c (Told f) output r c1 (Told f1) → InAnyWorldRun m n c s output r c1 f1
-in_any_world_run tells m n c f output r c1 f1 s h ne ran =
-    let x = run_carried tells in_any_world_meaning (λ so_far. Shown) (in_any_world_follows tells) m n c f output c1 f1 [] s h r ne ran in
-    record { state' = x.state; shown = x.shows; ran = x.ran }

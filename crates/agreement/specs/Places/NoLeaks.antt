@@ -1,6 +1,6 @@
 -- Nothing is kept: what is alive in the host where a statement begins, and where `main` has returned. Each number that stands for a value, an array
--- or an iterator is in exactly one place: a global, a local of the function at work, or a local of a caller that waits.
-use Rattle.std.specs.Prelude.{ℕ, zero, suc, ◌+◌, ◌≡◌, ◌≢◌, ◌⊎◌, ◌≤◌, nat_eq, Bool, true, false, ◌&&◌, cond, List, [], ◌∷◌, drop, length, map, slice_get, Option, Some, None}
+-- or an iterator stands for that alone, and is in exactly one place: a global, a local of the function at work, or a local of a caller that waits.
+use Rattle.std.specs.Prelude.{ℕ, zero, suc, ◌+◌, ◌^◌, ◌≡◌, ◌≢◌, ◌⊎◌, ◌<◌, ◌≤◌, nat_eq, pos, Bool, true, false, ◌&&◌, cond, List, [], ◌∷◌, drop, length, map, slice_get, Option, Some, None}
 use Rattle.std.specs.List.{Contains}
 use Rattle.sem_primitives.specs.Jobs.{JobForm, Environment}
 use Rattle.sem_primitives.specs.declared.sorts.Sort.{Sort}
@@ -15,14 +15,16 @@ use Rattle.wasm_model.specs.Frames.{LabelForm}
 use Rattle.wasm_model.specs.Links.{IsNew}
 use Rattle.wasm_model.specs.Machines.{CallerForm, Conf}
 use Rattle.wasm_model.specs.Runs.{MachineForm, Steps}
-use Rattle.host_step.specs.HostState.{HostState, live_arrays, live_iterators, live_values}
+use Rattle.host_step.specs.HostState.{HostState, Names}
 use Rattle.host_imports.specs.Imports.{host_finds}
 use Rattle.host_step.specs.Starts.{state_in}
+use Rattle.host_step.specs.Tables.{Table, look}
 use Rattle.mid_program.specs.Mid.{Kind, Boxed, Unboxed, ArrayKind, Program, parameters_at}
 use Rattle.mid_program.specs.Sorted.{calls_of, kinds_of}
 use Rattle.sem_primitives.specs.declared.table.Primitive.TheVariants as row
 use Rattle.lower_model.specs.Emission.{function_number}
 use Rattle.host_imports.specs.Imports.{import_number}
+use Rattle.lower_model.specs.Functions.{main_callee}
 use Rattle.lower_model.specs.Machine.{Callee, answers_to, array_kinds, freed_next}
 use Rattle.lower_model.specs.Modules.{all_callees, called_imports, imports_of, renumbered}
 use Rattle.lower_model.specs.Small.{minus_one, text_beside}
@@ -32,6 +34,20 @@ use Rattle.agreement.specs.Places.Statements.{starts_in}
 use Rattle.agreement.specs.Refined.Owners.{wanted}
 use Rattle.agreement.specs.Modules.TableMeaning.{table_meaning}
 
+-- The host's numbers: each is below a limit, and stands for one thing.
+
+abbrev pub StandOnce : {A : Type 0} → (limit : ℕ) → Table A → Type 0
+StandOnce limit [] = Unit {0}
+StandOnce limit (e ∷ table) = (q : ℕ) × (e.0 ≡ pos q) × (q < limit) × (look table e.0 ≡ None) × StandOnce limit table
+
+-- 0 stands for ARGV, and 1 for ENVIRON, all the time
+pub record NumbersStand (N : Names) : Type 0 where
+  pub values : StandOnce (2 ^ 31) N.values
+  pub arrays : StandOnce (2 ^ 31) N.arrays
+  pub iterators : StandOnce (2 ^ 31) N.iterators
+  pub argv : look N.arrays (pos 0) ≡ Some 0
+  pub environ : look N.arrays (pos 1) ≡ Some 1
+
 -- Places and what they hold: the number of a value, of an array with the right to free it, of an iterator, or none of these.
 
 abbrev pub holds : Sort → Option Sort → Bool
@@ -39,6 +55,13 @@ holds sort.Value (Some sort.Value) = true
 holds sort.Array (Some sort.Array) = true
 holds sort.Iterator (Some sort.Iterator) = true
 holds _ _ = false
+
+-- each place has a word, and what holds something is a handle
+abbrev pub EachPlace : List (Option Sort) → List Word → Type 0
+EachPlace [] [] = Unit {0}
+EachPlace (o ∷ os) (I32 n ∷ ws) = EachPlace os ws
+EachPlace (o ∷ os) (I64 n ∷ ws) = (o ≡ None) × EachPlace os ws
+EachPlace _ _ = ⊥
 
 -- how many of these places hold number q of this sort
 abbrev pub holders : Sort → ℕ → List (Option Sort) → List Word → ℕ
@@ -107,10 +130,6 @@ abbrev pub count : Sort → List (Option Sort) → ℕ
 count t [] = 0
 count t (o ∷ os) = one t o + count t os
 
-abbrev pub count_waiting : Sort → List (List (Option Sort)) → ℕ
-count_waiting t [] = 0
-count_waiting t (os ∷ rest) = count t os + count_waiting t rest
-
 -- Loops over keys that are walked: such a loop begins with the call for its next key. `numbers` are those of the module's imports in the table.
 
 abbrev pub numbers_of : Program → List ℕ
@@ -127,10 +146,6 @@ is_keys numbers _ = false
 abbrev pub walks : List ℕ → List LabelForm → ℕ
 walks numbers [] = 0
 walks numbers (l ∷ ls) = cond (is_keys numbers l.again) (suc (walks numbers ls)) (walks numbers ls)
-
-abbrev pub walks_waiting : List ℕ → List CallerForm → ℕ
-walks_waiting numbers [] = 0
-walks_waiting numbers (r ∷ rs) = walks numbers r.frame.labels + walks_waiting numbers rs
 
 -- What the locals of a caller that waits hold: a boxed parameter its value; so many operands that are pending a value each, or nothing; after them
 -- iterators, and arrays that were made for this call.
@@ -164,7 +179,7 @@ pub record CallerWaits (p : Program) (os : List (Option Sort)) (r : CallerForm) 
   pub at_place : r.frame.code ≡ renumbered (called_imports p) place
   pub operands : ℕ
   pub answer_to : answers_to r.frame.code ≡ suc (length function.kinds) + (operands + operands)
-  pub each : length os ≡ length r.frame.locals
+  pub each : EachPlace os r.frame.locals
   pub locals_hold : LocalsWait operands function.kinds os
   pub walked : count sort.Iterator os ≡ walks (numbers_of p) r.frame.labels
   pub fresh : count sort.Array os ≤ array_kinds (parameters_at (calls_of p) called)
@@ -179,10 +194,11 @@ CallersWait p [] (r ∷ []) = r ≡ first_caller
 CallersWait p (os ∷ rest) (r ∷ rs) = CallerWaits p os r × CallersWait p rest rs
 CallersWait p _ _ = ⊥
 
-abbrev pub values_waiting : (p : Program) (rest : List (List (Option Sort))) (rs : List CallerForm) → CallersWait p rest rs → ℕ
-values_waiting p [] rs h = 0
-values_waiting p (os ∷ rest) [] h = 0
-values_waiting p (os ∷ rest) (r ∷ rs) h = (boxed h.0.function.kinds + h.0.operands) + values_waiting p rest rs h.1
+-- The caller that waits has called this function, and each other caller the one before it; the last one is `main`.
+abbrev pub IsCalled : (p : Program) → Callee → (rest : List (List (Option Sort))) (rs : List CallerForm) → CallersWait p rest rs → Type 0
+IsCalled p f [] rs h = f ≡ main_callee p
+IsCalled p f (os ∷ rest) [] h = ⊥
+IsCalled p f (os ∷ rest) (r ∷ rs) h = (slice_get (all_callees p) h.0.called ≡ Some f) × IsCalled p h.0.function rest rs h.1
 
 -- Texts beside numbers: an unboxed parameter has none, and a name's number says whether there is one, by a number of its own.
 
@@ -203,44 +219,42 @@ NamesMarked [] ws = Unit {0}
 NamesMarked (k ∷ ks) (h ∷ (n ∷ ws)) = IsMarked k h n × NamesMarked ks ws
 NamesMarked (k ∷ ks) _ = ⊥
 
--- WHERE A STATEMENT BEGINS: the code at work is that of a statement of a function, with what comes after it. Nothing is on the operands or the
--- argument list; each number that stands for something is in one place, and what is in none stands for nothing; names hold what their kinds say, and
--- so do the parameters of the function at work, whose other locals hold nothing but an iterator for each loop over keys that is walked. Callers that
--- wait hold their parameters, operands that are pending, and an iterator for each such loop. So at most so much is alive.
+-- WHERE A STATEMENT BEGINS: the code at work is that of a statement of a function, with what comes after it, and that is the function that the caller
+-- that waits has called. Nothing is on the operands or the argument list; each number that stands for something is in one place, and what is in none
+-- stands for nothing; names hold what their kinds say, and so do the parameters of the function at work, whose other locals hold nothing but an iterator
+-- for each loop over keys that is walked. Callers that wait hold their parameters, operands that are pending, and an iterator for each such loop. So at
+-- most so much is alive: the theorem `little_is_alive`.
 pub record AtStatement (p : Program) (c : Conf) (s : HostState) : Type 0 where
   pub operands : c.frame.values ≡ []
   pub arguments : s.arguments ≡ []
   pub globals : List (Option Sort)
   pub own : List (Option Sort)
   pub waiting : List (List (Option Sort))
+  pub numbers : NumbersStand s.names
   pub once : (t : Sort) (q : ℕ) → holders t q own c.frame.locals + (holders t q globals c.globals + holders_waiting t q waiting c.callers) ≡ wanted s.names t q
-  pub each_global : length globals ≡ length c.globals
+  pub each_global : EachPlace globals c.globals
   pub names_hold : GlobalsHold NameHolds (suc (suc (suc p.ranges))) (kinds_of p.globals) globals
   pub function : Callee
   pub is_function : Contains (all_callees p) function
   pub statement : Instructions
   pub is_statement : Contains (starts_in function.body) statement
   pub at_work : c.frame.code ≡ renumbered (called_imports p) statement
-  pub each_local : length own ≡ length c.frame.locals
+  pub each_local : EachPlace own c.frame.locals
   pub locals_hold : LocalsHold function.kinds own
   pub walked : count sort.Iterator own ≡ walks (numbers_of p) c.frame.labels
   pub waits : CallersWait p waiting c.callers
+  pub is_called : IsCalled p function waiting c.callers waits
   pub bare : BareParameters function.kinds c.frame.locals
   pub marked : NamesMarked (kinds_of p.globals) (drop (suc (suc (suc p.ranges))) c.globals)
-  pub few_values : live_values s ≤ scalars (kinds_of p.globals) + (boxed function.kinds + values_waiting p waiting c.callers waits)
-  pub live_arrays_are : live_arrays s ≡ 2 + (array_kinds (kinds_of p.globals) + count_waiting sort.Array waiting)
-  pub live_iterators_are : live_iterators s ≡ walks (numbers_of p) c.frame.labels + walks_waiting (numbers_of p) c.callers
 
--- WHERE `main` HAS RETURNED: names alone hold something.
+-- WHERE `main` HAS RETURNED: names alone hold something. So at most so much is alive: the theorem `names_alone_are_alive`.
 pub record AtReturn (p : Program) (c : Conf) (s : HostState) : Type 0 where
   pub globals : List (Option Sort)
+  pub numbers : NumbersStand s.names
   pub once : (t : Sort) (q : ℕ) → holders t q globals c.globals ≡ wanted s.names t q
-  pub each_global : length globals ≡ length c.globals
+  pub each_global : EachPlace globals c.globals
   pub names_hold : GlobalsHold NameMayHold (suc (suc (suc p.ranges))) (kinds_of p.globals) globals
   pub exact : s.fault ≡ None → GlobalsHold NameHolds (suc (suc (suc p.ranges))) (kinds_of p.globals) globals
-  pub few_values : live_values s ≤ scalars (kinds_of p.globals)
-  pub few_arrays : live_arrays s ≤ 2 + array_kinds (kinds_of p.globals)
-  pub few_iterators : live_iterators s ≡ 0
 
 -- each statement begins with a `nop`, and so does the test of a `do` loop
 abbrev pub begins_statement : Instructions → Bool

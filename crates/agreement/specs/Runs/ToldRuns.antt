@@ -5,15 +5,9 @@ use Rattle.sem_primitives.specs.InputMeaning.{nothing_left}
 use Rattle.sem_primitives.specs.Jobs.{Opened, JobForm, Closed, Environment}
 use Rattle.world_core.specs.WorldState.{Action, Entry, Outside, Source, after as outside_after}
 use Rattle.wasm_types.specs.Syntax.{ModuleForm}
-use Rattle.wasm_model.specs.Machines.{Conf, ProgramForm}
-use Rattle.wasm_model.specs.Runs.{Ran}
-use Rattle.wasm_model.specs.declared.ends.RunEnd.{RunEnd}
 use Rattle.wasm_model.specs.declared.ends.MachineEnd.{MachineEnd}
 use Rattle.wasm_model.specs.declared.ends.MachineEnd.TheVariants as machine
-use Rattle.host_step.specs.HostState.{HostState}
 use Rattle.host_values.specs.Forms.{HostForm}
-use Rattle.host_values.specs.Shown.{Shown}
-use Rattle.host_step.specs.Worlds.{in_any_world_meaning}
 use Rattle.sem_scripts.specs.MoreTurns.{Grows, output_of}
 use Rattle.sem_scripts.specs.ScriptRun.{Ending, Exhausted, Setting, setting_in, setting_of}
 use Rattle.agreement.specs.Modules.Agreement.{MayEnd, ModuleEnding, ended_with, ending_told, output_in}
@@ -43,13 +37,6 @@ pub record FoundRun (m : ModuleForm) (job : JobForm) (steps : ℕ) (e : MachineE
   pub finds : List Entry
   pub output : List Action
   pub tells : Tells m job nothing_left (Opened finds) steps after-run.fault e output
-
--- A run over any world: each of its calls is as it is said of every world, from one state that is shown to another.
-pub record InAnyWorldRun (m : ProgramForm) (steps : ℕ) (conf : Conf) (state : HostState) (output : List Action) (e : RunEnd) (conf' : Conf)
-    (after-run : HostForm) : Type 0 where
-  pub state' : HostState
-  pub shown : Shown after-run state'
-  pub ran : Ran in_any_world_meaning m steps conf state output e conf' state'
 
 -- What is told of a script: how it ends; that it puts something out, where steps or memory did not suffice; or what no script does.
 pub data Told : Type 0 where

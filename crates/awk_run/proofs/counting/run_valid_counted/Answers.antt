@@ -1,8 +1,7 @@
 use Rattle.std.proofs.Common.{◌≡◌, sym, ap, ◌∙◌, subst, Option}
 use Rattle.awk_values.specs.declared.fault.Fault.{Fault}
-use Rattle.agreement.proofs.RunsLemmas.Telling.{in_any_world_run, did_find, did_tell}
+use Rattle.agreement.proofs.RunsLemmas.Telling.{did_find, did_tell}
 use Rattle.host_calls.specs.Forms.{host_form}
-use Rattle.host_step.specs.Starts.{state_at_start}
 use Rattle.wasm_types.specs.Syntax.{ModuleForm}
 use Rattle.wasm_types.specs.declared.module.Module.{Module}
 use Rattle.wasm_types.specs.View.{view_module}
@@ -37,8 +36,7 @@ returns-clause-answers g c = λ job shown.
     (did_answers tells whole job c.args.steps before after a n start shown end conf left did
     (ap (λ w. (told w).outside) c.into_world-2.ensures)
     (λ t. did_tell whole c.requires a n job (before.readers 0) before.outside tells t start shown c.args.steps end conf left did)
-    (did_find whole c.requires a n job (before.readers 0) before.outside tells start shown c.args.steps end conf left did)
-    (λ out r ne ran. in_any_world_run tells a.program c.args.steps a.conf start out r conf left (state_at_start job (before.readers 0) before.outside) shown ne ran))
+    (did_find whole c.requires a n job (before.readers 0) before.outside tells start shown c.args.steps end conf left did))
 
 pub returns-clause-counted : goal.returns-clause-counted
 returns-clause-counted g c = λ job shown.

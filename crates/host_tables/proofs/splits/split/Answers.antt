@@ -5,7 +5,7 @@ use Rattle.sem_primitives.specs.ArrayMeaning.{numbered}
 use Rattle.sem_primitives.specs.TextMeaning.{splits_at}
 use Rattle.host_format.specs.Spans.{span_text}
 use Rattle.host_values.specs.Calls.{reserved_handle}
-use Rattle.host_values.proofs.Spare.{spare_removed}
+use Rattle.host_values.proofs.ReservedHandle.{reserved_removed}
 use Rattle.host_values.specs.ElementCalls.{with_arrays}
 use Rattle.host_tables.specs.Splits.{IsFilled, IsFound}
 use Rattle.host_tables.proofs.Splitting.{split_call, split_fault, split_memory, split_traps}
@@ -28,8 +28,8 @@ returns-in-Ok-found-clause-step c f memory none =
     split_call (with_arrays c.args.handles.now c.args.arrays.now f) c.args.words.now memory none _ (sym c.in-Ok.ensures.value) c.in-Ok.ensures.there _ _ c.in-Ok-found.text c.in-Ok-found.spans.items c.take_pieces.result
     (left ∙ ap (λ m. map.remove m said.3) gone) are filled
 
-pub returns-in-Ok-found-clause-spare : goal.returns-in-Ok-found-clause-spare
-returns-in-Ok-found-clause-spare c free = ap (λ m. map.get m reserved_handle) c.take-2.ensures.rest ∙ spare_removed c.take.new.self _ (ap (λ m. map.get m reserved_handle) c.take.ensures.rest ∙ spare_removed c.args.handles.now _ free)
+pub returns-in-Ok-found-clause-reserved : goal.returns-in-Ok-found-clause-reserved
+returns-in-Ok-found-clause-reserved c free = ap (λ m. map.get m reserved_handle) c.take-2.ensures.rest ∙ reserved_removed c.take.new.self _ (ap (λ m. map.get m reserved_handle) c.take.ensures.rest ∙ reserved_removed c.args.handles.now _ free)
 
 pub returns-in-Err-found-clause-step : goal.returns-in-Err-found-clause-step
 returns-in-Err-found-clause-step c f memory none =
@@ -40,5 +40,5 @@ returns-in-Err-found-clause-step c f memory none =
     let fault = subst (IsFound (text_of_value said.1.now) outcome) c.in-Err-found.is c.in-Ok-split_outcome.ensures in
     split_fault (with_arrays c.args.handles.now c.args.arrays.now f) c.args.words.now memory none _ (sym c.in-Ok.ensures.value) c.in-Ok.ensures.there _ c.in-Err-found.fault fault (left ∙ ap (λ m. map.remove m said.3) gone)
 
-pub returns-in-Err-found-clause-spare : goal.returns-in-Err-found-clause-spare
-returns-in-Err-found-clause-spare c free = ap (λ m. map.get m reserved_handle) c.take-2.ensures.rest ∙ spare_removed c.take.new.self _ (ap (λ m. map.get m reserved_handle) c.take.ensures.rest ∙ spare_removed c.args.handles.now _ free)
+pub returns-in-Err-found-clause-reserved : goal.returns-in-Err-found-clause-reserved
+returns-in-Err-found-clause-reserved c free = ap (λ m. map.get m reserved_handle) c.take-2.ensures.rest ∙ reserved_removed c.take.new.self _ (ap (λ m. map.get m reserved_handle) c.take.ensures.rest ∙ reserved_removed c.args.handles.now _ free)

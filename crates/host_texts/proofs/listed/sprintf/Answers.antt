@@ -3,7 +3,7 @@ use Rattle.host_imports.specs.declared.import.Import.TheVariants.{Variadic}
 use Rattle.host_imports.specs.declared.import.VariadicImport.TheVariants.{Sprintf}
 use Rattle.host_values.specs.Singles.{with_arguments}
 use Rattle.host_texts.specs.LastFormatted.{Formats, formatting}
-use Rattle.host_texts.proofs.LastFormats.{matched_last, matching_last, refused_last, spare_last, taken_last}
+use Rattle.host_texts.proofs.LastFormats.{matched_last, matching_last, refused_last, reserved_last, taken_last}
 use Rattle.host_values.proofs.Steps.{fault_step, given_step, refused_step}
 use Rattle.host_texts.proofs.listed.sprintf.Goals as goal
 
@@ -11,7 +11,7 @@ pub returns-in-Err-clause-step : goal.returns-in-Err-clause-step
 returns-in-Err-clause-step c = λ s memory none.
     let t = with_arguments c.args.arguments.now.items s in
     refused_step (Variadic Sprintf) t c.args.handles.now c.args.words.now memory none (formatting c.args.handles.now t c.args.words.now) t c.in-Err.refusal
-    (spare_last c.args.handles.now t c.args.words.now c.requires) (matching_last t c.args.handles.now c.args.words.now memory)
+    (reserved_last c.args.handles.now t c.args.words.now c.requires) (matching_last t c.args.handles.now c.args.words.now memory)
     (refused_last c.args.handles.now t c.in-Err.refusal (formatting c.args.handles.now t c.args.words.now) (subst (λ xs. Formats c.args.handles.now (with_arguments xs s) (Err c.in-Err.refusal) (formatting c.args.handles.now (with_arguments xs s) c.args.words.now)) c.as_slice.ensures (c.in-Err.ensures.step c.args.handles.now s)))
 
 pub returns-in-Ok-outcome-clause-step : goal.returns-in-Ok-outcome-clause-step

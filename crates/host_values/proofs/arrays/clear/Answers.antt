@@ -15,7 +15,7 @@ returns-clause-step c f memory none =
     let cleared : c.clear.new.self ≡ map.insert c.args.arrays.now c.in-Ok.number [] = search rules in
     clear_call (with_arrays f.values c.args.arrays.now f) c.clear.new.self c.args.words.now memory _ none (sym c.in-Ok.ensures.number) c.in-Ok.ensures.there cleared
 
-pub returns-clause-spare : goal.returns-clause-spare
-returns-clause-spare c free =
+pub returns-clause-reserved : goal.returns-clause-reserved
+returns-clause-reserved c free =
     let cleared : c.clear.new.self ≡ map.insert c.args.arrays.now c.in-Ok.number [] = search rules in
     ap (λ m. map.get m reserved_handle) cleared ∙ free_still c.args.arrays.now c.in-Ok.number _ reserved_handle c.in-Ok.ensures.there free

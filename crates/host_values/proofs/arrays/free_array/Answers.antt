@@ -1,7 +1,7 @@
 use Rattle.std.proofs.Common.{rules, ◌≡◌, sym, ap, ◌∙◌}
 use Rattle.std.specs.FinMap as map
 use Rattle.host_values.specs.Calls.{reserved_handle}
-use Rattle.host_values.proofs.Spare.{spare_removed}
+use Rattle.host_values.proofs.ReservedHandle.{reserved_removed}
 use Rattle.host_values.specs.ElementCalls.{with_arrays}
 use Rattle.host_values.proofs.KeyCalls.{argv_traps, environ_traps, free_call}
 use Rattle.host_values.proofs.KeySteps.{free_traps}
@@ -22,5 +22,5 @@ returns-clause-step c f memory =
     let freed : c.free.new.self ≡ map.remove c.args.arrays.now c.in-Ok.number = search rules in
     free_call (with_arrays f.values c.args.arrays.now f) c.free.new.self c.args.words.now memory _ (sym c.in-Ok.ensures.number) c.in-Ok.ensures.there (search rules) (search rules) freed
 
-pub returns-clause-spare : goal.returns-clause-spare
-returns-clause-spare c free = ap (λ m. map.get m reserved_handle) c.free.ensures ∙ spare_removed c.args.arrays.now _ free
+pub returns-clause-reserved : goal.returns-clause-reserved
+returns-clause-reserved c free = ap (λ m. map.get m reserved_handle) c.free.ensures ∙ reserved_removed c.args.arrays.now _ free

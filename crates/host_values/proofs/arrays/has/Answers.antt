@@ -1,7 +1,7 @@
 use Rattle.std.proofs.Common.{rules, ◌≡◌, sym, ap, ◌∙◌}
 use Rattle.std.specs.FinMap as map
 use Rattle.host_values.specs.Calls.{reserved_handle}
-use Rattle.host_values.proofs.Spare.{spare_removed}
+use Rattle.host_values.proofs.ReservedHandle.{reserved_removed}
 use Rattle.host_values.specs.ElementCalls.{with_arrays}
 use Rattle.host_values.proofs.ArrayCalls.{has_call}
 use Rattle.host_values.proofs.ArraySteps.{has_traps}
@@ -15,5 +15,5 @@ returns-clause-step c f memory none =
     let gone : c.take.new.self ≡ map.remove c.args.handles.now c.in-Ok.read.1 = search rules in
     has_call (with_arrays c.args.handles.now c.args.arrays.now f) c.args.words.now memory none _ _ _ (sym c.in-Ok.ensures.value) c.in-Ok.ensures.there _ _ _ gone (c.as_slice.ensures ∙ c.key_text-key.ensures) (search rules)
 
-pub returns-clause-spare : goal.returns-clause-spare
-returns-clause-spare c free = ap (λ m. map.get m reserved_handle) c.take.ensures.rest ∙ spare_removed c.args.handles.now _ free
+pub returns-clause-reserved : goal.returns-clause-reserved
+returns-clause-reserved c free = ap (λ m. map.get m reserved_handle) c.take.ensures.rest ∙ reserved_removed c.args.handles.now _ free

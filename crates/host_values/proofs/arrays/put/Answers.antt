@@ -6,8 +6,8 @@ use Rattle.host_values.specs.Calls.{reserved_handle}
 use Rattle.host_values.proofs.Places.{free_still}
 use Rattle.host_values.proofs.arrays.put.Goals as goal
 
-pub returns-clause-spare_array : goal.returns-clause-spare_array
-returns-clause-spare_array c free =
+pub returns-clause-reserved_array : goal.returns-clause-reserved_array
+returns-clause-reserved_array c free =
     let put : OnOk c.set.result (c.set.new.self ≡ map.insert c.args.arrays.now c.args.array (set_pair c.args.key.now c.args.value (pairs_at c.args.arrays.now c.args.array))) = search rules in
     by c.set.result put c.set.ensures.refused
   where

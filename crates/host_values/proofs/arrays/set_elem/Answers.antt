@@ -2,7 +2,7 @@ use Rattle.std.proofs.Common.{rules, ◌≡◌, Some, None, sym, ap, ◌∙◌}
 use Rattle.std.specs.FinMap as map
 use Rattle.awk_values.specs.Values.{text_of_value}
 use Rattle.host_values.specs.Calls.{reserved_handle}
-use Rattle.host_values.proofs.Spare.{spare_removed}
+use Rattle.host_values.proofs.ReservedHandle.{reserved_removed}
 use Rattle.host_arrays.specs.Pairs.{pairs_at, set_pair}
 use Rattle.host_values.specs.ElementCalls.{IsPut, with_arrays}
 use Rattle.host_values.specs.Reads.{array_and_two}
@@ -42,5 +42,5 @@ returns-clause-step c f memory none =
     set_call (with_arrays c.args.handles.now c.args.arrays.now f) c.args.words.now memory none _ _ _ _ w.0 w.1 c.in-Ok.ensures.there _ _ _ _ c.put.result (left ∙ ap (λ m. map.remove m c.in-Ok.read.3) gone) (c.as_slice.ensures ∙ c.key_text-text.ensures ∙ ap text_of_value key)
     (same_some _ _ (sym held ∙ ap (λ m. map.get m c.in-Ok.read.3) gone ∙ value_held c.args.arrays.now c.args.handles.now c.args.words.now _ w.1)) put
 
-pub returns-clause-spare : goal.returns-clause-spare
-returns-clause-spare c free = ap (λ m. map.get m reserved_handle) c.take-2.ensures.rest ∙ spare_removed c.take.new.self _ (ap (λ m. map.get m reserved_handle) c.take.ensures.rest ∙ spare_removed c.args.handles.now _ free)
+pub returns-clause-reserved : goal.returns-clause-reserved
+returns-clause-reserved c free = ap (λ m. map.get m reserved_handle) c.take-2.ensures.rest ∙ reserved_removed c.take.new.self _ (ap (λ m. map.get m reserved_handle) c.take.ensures.rest ∙ reserved_removed c.args.handles.now _ free)

@@ -1,7 +1,7 @@
 use Rattle.std.proofs.Common.{rules, ◌≡◌, sym, ap, ◌∙◌}
 use Rattle.std.specs.FinMap as map
 use Rattle.host_values.specs.Calls.{reserved_handle}
-use Rattle.host_values.proofs.Spare.{spare_removed}
+use Rattle.host_values.proofs.ReservedHandle.{reserved_removed}
 use Rattle.host_values.specs.ElementCalls.{with_iterators}
 use Rattle.host_values.proofs.KeyCalls.{iter_free_call}
 use Rattle.host_values.proofs.KeySteps.{iter_free_traps}
@@ -15,5 +15,5 @@ returns-clause-step c f memory =
     let freed : c.free.new.self ≡ map.remove c.args.iterators.now c.in-Ok.number = search rules in
     iter_free_call (with_iterators f.values c.args.iterators.now f) c.free.new.self c.args.words.now memory _ (sym c.in-Ok.ensures.number) freed
 
-pub returns-clause-spare : goal.returns-clause-spare
-returns-clause-spare c free = ap (λ m. map.get m reserved_handle) c.free.ensures ∙ spare_removed c.args.iterators.now _ free
+pub returns-clause-reserved : goal.returns-clause-reserved
+returns-clause-reserved c free = ap (λ m. map.get m reserved_handle) c.free.ensures ∙ reserved_removed c.args.iterators.now _ free

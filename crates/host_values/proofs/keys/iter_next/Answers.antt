@@ -26,12 +26,12 @@ returns-in-Ok-None-clause-step c f memory none =
 pub returns-in-Err-next-clause-step : goal.returns-in-Err-next-clause-step
 returns-in-Err-next-clause-step c f memory none = next_memory (with_iterators c.args.handles.now c.args.iterators.now f) c.args.words.now memory none _ (sym c.in-Ok.ensures.number) c.in-Ok.ensures.there c.requires f
 
-pub returns-in-Ok-Some-clause-spare_iterator : goal.returns-in-Ok-Some-clause-spare_iterator
-returns-in-Ok-Some-clause-spare_iterator c free =
+pub returns-in-Ok-Some-clause-reserved_iterator : goal.returns-in-Ok-Some-clause-reserved_iterator
+returns-in-Ok-Some-clause-reserved_iterator c free =
     let left : c.next.new.self ≡ map.insert c.args.iterators.now c.in-Ok.number (other_keys (keys_at c.args.iterators.now c.in-Ok.number)) = search rules in
     ap (λ m. map.get m reserved_handle) left ∙ free_still c.args.iterators.now c.in-Ok.number _ reserved_handle c.in-Ok.ensures.there free
 
-pub returns-in-Ok-None-clause-spare_iterator : goal.returns-in-Ok-None-clause-spare_iterator
-returns-in-Ok-None-clause-spare_iterator c free =
+pub returns-in-Ok-None-clause-reserved_iterator : goal.returns-in-Ok-None-clause-reserved_iterator
+returns-in-Ok-None-clause-reserved_iterator c free =
     let left : c.next.new.self ≡ map.insert c.args.iterators.now c.in-Ok.number (other_keys (keys_at c.args.iterators.now c.in-Ok.number)) = search rules in
     ap (λ m. map.get m reserved_handle) left ∙ free_still c.args.iterators.now c.in-Ok.number _ reserved_handle c.in-Ok.ensures.there free

@@ -3,7 +3,7 @@ use Rattle.std.specs.FinMap as map
 use Rattle.sem_primitives.specs.declared.table.Primitive.TheVariants as row
 use Rattle.host_imports.specs.declared.import.Import.TheVariants.{OfPrimitive}
 use Rattle.host_values.specs.Calls.{reserved_handle}
-use Rattle.host_values.proofs.Spare.{spare_removed}
+use Rattle.host_values.proofs.ReservedHandle.{reserved_removed}
 use Rattle.host_values.specs.WorldCalls.{IsCalled}
 use Rattle.host_worlds.specs.Forms.{closing}
 use Rattle.host_worlds.proofs.Closings.{close_closes, close_traps, close_wants}
@@ -26,5 +26,5 @@ returns-clause-step g c = λ f memory none.
     (c.as_slice.ensures.value ∙ c.in-Ok-to_text.ensures.ok) c.take.new.self gone files after c.close-closed.result c.close-closed.ensures.answer
     c.close-closed.ensures.reader_names c.close-closed.ensures.writer_names c.close-closed.ensures.told c.close-closed.ensures.outside)
 
-pub returns-clause-spare : goal.returns-clause-spare
-returns-clause-spare g c free = ap (λ m. map.get m reserved_handle) c.take.ensures.rest ∙ spare_removed c.args.handles.now _ free
+pub returns-clause-reserved : goal.returns-clause-reserved
+returns-clause-reserved g c free = ap (λ m. map.get m reserved_handle) c.take.ensures.rest ∙ reserved_removed c.args.handles.now _ free

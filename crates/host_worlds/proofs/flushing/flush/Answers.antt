@@ -3,7 +3,7 @@ use Rattle.std.specs.FinMap as map
 use Rattle.sem_primitives.specs.declared.table.Primitive.TheVariants as row
 use Rattle.host_imports.specs.declared.import.Import.TheVariants.{OfPrimitive}
 use Rattle.host_values.specs.Calls.{reserved_handle}
-use Rattle.host_values.proofs.Spare.{spare_removed}
+use Rattle.host_values.proofs.ReservedHandle.{reserved_removed}
 use Rattle.host_values.specs.ElementCalls.{IsTableCall}
 use Rattle.host_worlds.specs.Forms.{flushing}
 use Rattle.host_worlds.proofs.Flushes.{flush_call, flush_memory, flush_traps}
@@ -25,5 +25,5 @@ returns-clause-step c = λ f memory none.
     (flush_call before c.args.words.now memory none c.in-Ok.read.0 c.in-Ok.read.1.now (sym c.in-Ok.ensures) c.take.new.self c.as_slice.result.now c.is_out.result gone
     (c.as_slice.ensures.value ∙ c.in-Ok-to_text.ensures.ok) c.is_out.ensures)
 
-pub returns-clause-spare : goal.returns-clause-spare
-returns-clause-spare c free = ap (λ m. map.get m reserved_handle) c.take.ensures.rest ∙ spare_removed c.args.handles.now _ free
+pub returns-clause-reserved : goal.returns-clause-reserved
+returns-clause-reserved c free = ap (λ m. map.get m reserved_handle) c.take.ensures.rest ∙ reserved_removed c.args.handles.now _ free

@@ -2,7 +2,7 @@ use Rattle.std.proofs.Common.{rules, ◌≡◌, [], ap, subst, sym, ◌∙◌}
 use Rattle.std.specs.FinMap as map
 use Rattle.host_imports.specs.declared.import.Import.TheVariants.{OfPrimitive}
 use Rattle.host_values.specs.Calls.{reserved_handle}
-use Rattle.host_values.proofs.Spare.{spare_removed}
+use Rattle.host_values.proofs.ReservedHandle.{reserved_removed}
 use Rattle.host_values.specs.WorldCalls.{IsCalled}
 use Rattle.host_worlds.specs.Calls.{shown_after, with_values}
 use Rattle.host_worlds.specs.Givens.{file_primitive}
@@ -18,8 +18,8 @@ pub returns-in_default-clause-called : goal.returns-in_default-clause-called
 returns-in_default-clause-called g c = λ f memory none.
     file_wanted g.W.World.is_modelled c.args.to f c.args.words.now memory none c.args.handles.now c.args.texts.now c.args.input.now (g.W.World.state c.args.world.now) c.in-Ok.read.0 c.in-Ok.read.1.now (sym c.in-Ok.ensures)
 
-pub returns-clause-spare : goal.returns-clause-spare
-returns-clause-spare g c = λ free. ap (λ m. map.get m reserved_handle) c.take.ensures.rest ∙ spare_removed c.args.handles.now _ free
+pub returns-clause-reserved : goal.returns-clause-reserved
+returns-clause-reserved g c = λ free. ap (λ m. map.get m reserved_handle) c.take.ensures.rest ∙ reserved_removed c.args.handles.now _ free
 
 pub returns-clause-called : goal.returns-clause-called
 returns-clause-called g c = λ f memory none.
@@ -28,4 +28,4 @@ returns-clause-called g c = λ f memory none.
     let new = with_values c.take.new.self (over_world c.read.new.texts c.read.new.input (g.W.World.state c.read.new.world) f) in
     subst (λ r. IsCalled g.W.World.is_modelled (OfPrimitive (file_primitive c.args.to)) old c.args.words.now memory r (shown_after r old new) []) (sym c.answered.ensures)
     (file_answers g.W.World.is_modelled c.args.to f c.args.words.now memory none c.args.handles.now c.args.texts.now c.args.input.now (g.W.World.state c.args.world.now) c.in-Ok.read.0 c.in-Ok.read.1.now (sym c.in-Ok.ensures) c.take.new.self gone
-    c.read.new.texts c.read.new.input (g.W.World.state c.read.new.world) c.read.result (λ y inner. c.read.ensures.told y inner c.in-Ok.read.1.now (sym (c.as_slice.ensures.value ∙ c.in-Ok-to_text.ensures.ok))) c.read.ensures.outside _ (sym (c.as_slice.ensures.value ∙ c.in-Ok-to_text.ensures.ok)) c.read.ensures.finds c.read.ensures.rest c.read.ensures.writers c.read.ensures.line c.read.ensures.other c.read.ensures.substituted)
+    c.read.new.texts c.read.new.input (g.W.World.state c.read.new.world) c.read.result (λ y inner. c.read.ensures.told y inner c.in-Ok.read.1.now (sym (c.as_slice.ensures.value ∙ c.in-Ok-to_text.ensures.ok))) c.read.ensures.outside _ (sym (c.as_slice.ensures.value ∙ c.in-Ok-to_text.ensures.ok)) c.read.ensures.finds)

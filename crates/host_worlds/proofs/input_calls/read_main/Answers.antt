@@ -21,4 +21,4 @@ returns-clause-called g c = λ f memory none same.
     let new = over_world c.read.new.texts c.read.new.input (g.W.World.state c.read.new.world) f in
     subst (λ r. IsCalled g.W.World.is_modelled (OfPrimitive (main_primitive c.args.how)) old c.args.words.now memory r (shown_after r old new) []) (sym c.answered.ensures)
     (main_answers g.W.World.is_modelled c.args.how f memory none c.args.texts.now c.args.input.now (g.W.World.state c.args.world.now) c.args.arrays.now same (sym c.if-is_pending.ensures) c.read.new.texts c.read.new.input (g.W.World.state c.read.new.world) c.read.result
-    c.read.ensures.told c.read.ensures.outside c.read.ensures.finds c.read.ensures.rest c.read.ensures.line c.read.ensures.pending c.read.ensures.substituted c.args.words.now (sym c.in_default.ensures))
+    c.read.ensures.told c.read.ensures.outside c.read.ensures.finds c.args.words.now (sym c.in_default.ensures))

@@ -2,7 +2,7 @@ use Rattle.std.proofs.Common.{ap, sym, ◌∙◌}
 use Rattle.sem_primitives.specs.InputMeaning.{main_input}
 use Rattle.host_worlds.specs.States.{Over, with_tables}
 use Rattle.host_worlds.proofs.MainFound.{found_given, found_on, found_stop}
-use Rattle.host_worlds.proofs.Turns.{moved_on, none_pends, turn_none, turn_some}
+use Rattle.host_worlds.proofs.Turns.{moved_on, turn_none, turn_some}
 use Rattle.host_worlds.proofs.main_record.given.Goals as goal
 
 pub returns-in-Ok-Some-clause-told : goal.returns-in-Ok-Some-clause-told
@@ -28,8 +28,6 @@ turns-preserved g c =
       goes = step.goes;
       outside = λ tells. step.outside tells ∙ before.outside tells;
       rest = moved_on c.args.input.now c.turns.input c.turn.new.input before.rest step.rest;
-      substituted = step.substituted ∙ before.substituted;
-      pending = none_pends c.turns.input c.turn.new.input c.in-Ok-None.field-0-is step.pending ∙ before.pending;
       finds = found_on (g.O.Operands.text c.args.operands.now) c.args.texts.now c.turns.texts c.turn.new.texts c.args.input.now c.turns.input c.turn.new.input c.in-Ok-None.field-0-is before.finds step.finds;
       told = λ tells inner offered.
           before.told tells inner offered

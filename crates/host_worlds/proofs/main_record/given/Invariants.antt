@@ -3,7 +3,7 @@ use Rattle.sem_primitives.specs.InputMeaning.{main_input}
 use Rattle.sem_primitives.specs.SharedState.{Inner}
 use Rattle.host_streams.specs.OpenFiles.{WritersGo}
 use Rattle.host_worlds.specs.Givens.{OffersTexts, left_to_open}
-use Rattle.host_worlds.specs.Keeps.{IsMoved, KeepsSubstituted}
+use Rattle.host_worlds.specs.Keeps.{IsMoved}
 use Rattle.host_worlds.specs.States.{HoldsInput, Over, with_tables}
 use Rattle.host_worlds.proofs.MainFound.{FoundSoFar}
 use Rattle.host_worlds.proofs.main_record.given.Given as goal
@@ -16,8 +16,6 @@ invariant-turns g l =
       goes : w.is_modelled → WritersGo l.input.files.writers.items (w.state l.world);
       outside : w.is_modelled → (w.state l.world).outside ≡ (w.state l.fn.world).outside;
       rest : IsMoved l.fn.input l.input;
-      substituted : KeepsSubstituted l.fn.texts l.texts;
-      pending : l.input.names.pending ≡ l.fn.input.names.pending;
       finds : FoundSoFar (g.O.Operands.text l.operands) l.fn.texts l.fn.input l.texts l.input;
       told : w.is_modelled → (inner : Inner) → OffersTexts (g.O.Operands.text l.operands) inner →
           main_input (w.state l.fn.world).outside (with_tables l.fn.texts l.fn.input (Over (w.state l.fn.world)) inner) ≡ main_input (w.state l.fn.world).outside (with_tables l.texts l.input (Over (w.state l.world)) inner);

@@ -4,7 +4,6 @@ use Rattle.host_streams.specs.declared.main_input.MainNext.TheVariants as main
 use Rattle.host_worlds.specs.Givens.{TurnGives}
 use Rattle.host_worlds.specs.States.{Finding, Over, with_input, with_tables}
 use Rattle.host_worlds.proofs.Turns.{moved_main, moved_names, assign_made, assign_pends, assign_stops, goes_on, next_found, next_told, renamed, renamed_stop, stop_found, stopped_gives, told_live, told_rests}
-use Rattle.host_worlds.specs.declared.input.Input.{Input}
 use Rattle.host_worlds.proofs.turn.turn.Goals as goal
 
 pub returns-in-Ok-Record-clause-told : goal.returns-in-Ok-Record-clause-told
@@ -16,7 +15,7 @@ returns-in-Ok-End-clause-told g c = λ tells inner offered. next_told main.End _
 pub returns-in-Ok-Opened-clause-told : goal.returns-in-Ok-Opened-clause-told
 returns-in-Ok-Opened-clause-told g c = λ tells inner offered.
     next_told (main.Opened c.in-Ok-Opened.name) _ _ _ _ c.in-Ok-Opened.field-0-is (c.in-Ok-Opened.ensures.told tells inner offered)
-    ∙ ap (main_input (g.W.World.state c.args.world.now).outside) (sym (c.begin.ensures.set (with_input c.next.new.input (Over (g.W.World.state c.next.new.world)) inner)))
+    ∙ ap (main_input (g.W.World.state c.args.world.now).outside) (sym (c.begin.ensures (with_input c.next.new.input (Over (g.W.World.state c.next.new.world)) inner)))
 
 pub returns-in-Ok-true-clause-told : goal.returns-in-Ok-true-clause-told
 returns-in-Ok-true-clause-told g c = λ tells inner offered.
@@ -64,7 +63,7 @@ returns-in-Ok-Opened-clause-finds g c =
     let finds = c.in-Ok-Opened.ensures.finds in (
       finds.0,
       λ later outside inner offered. next_found (main.Opened c.in-Ok-Opened.name) _ outside _ c.in-Ok-Opened.field-0-is (finds.1 later outside inner offered)
-          ∙ ap (main_input outside) (sym (c.begin.ensures.set (with_input c.next.new.input (Finding later) inner))),
+          ∙ ap (main_input outside) (sym (c.begin.ensures (with_input c.next.new.input (Finding later) inner))),
     )
 
 pub returns-in-Ok-true-clause-finds : goal.returns-in-Ok-true-clause-finds
@@ -193,24 +192,3 @@ returns-in-Ok-false-clause-rest g c = moved_names c.args.input.now c.next.new.in
 
 pub returns-in-Ok-Assign-clause-rest : goal.returns-in-Ok-Assign-clause-rest
 returns-in-Ok-Assign-clause-rest g c = moved_names c.args.input.now c.next.new.input c.assign.new.names c.next.ensures.rest c.assign.ensures.rest
-
-pub returns-in-Ok-Record-clause-pending : goal.returns-in-Ok-Record-clause-pending
-returns-in-Ok-Record-clause-pending g c = ap (λ (i : Input). i.names.pending) c.next.ensures.rest
-
-pub returns-in-Ok-End-clause-pending : goal.returns-in-Ok-End-clause-pending
-returns-in-Ok-End-clause-pending g c = ap (λ (i : Input). i.names.pending) c.next.ensures.rest
-
-pub returns-in-Ok-Opened-clause-pending : goal.returns-in-Ok-Opened-clause-pending
-returns-in-Ok-Opened-clause-pending g c = ap (λ (i : Input). i.names.pending) c.next.ensures.rest
-
-pub returns-in-Ok-Opened-clause-substituted : goal.returns-in-Ok-Opened-clause-substituted
-returns-in-Ok-Opened-clause-substituted g c = c.begin.ensures.substituted
-
-pub returns-in-Ok-true-clause-substituted : goal.returns-in-Ok-true-clause-substituted
-returns-in-Ok-true-clause-substituted g c = c.assign.ensures.substituted
-
-pub returns-in-Ok-false-clause-substituted : goal.returns-in-Ok-false-clause-substituted
-returns-in-Ok-false-clause-substituted g c = c.assign.ensures.substituted
-
-pub returns-in-Ok-Assign-clause-substituted : goal.returns-in-Ok-Assign-clause-substituted
-returns-in-Ok-Assign-clause-substituted g c = c.assign.ensures.substituted

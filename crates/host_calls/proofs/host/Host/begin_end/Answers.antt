@@ -16,6 +16,6 @@ returns g c memory =
     let before = form_in host.tables host.input state in
     let after = form_in host.tables (with_end c.begin_end.new.input.in_end host.input) state in
     subst (λ i. ComesTo g.W.World.is_modelled (OfPrimitive row.BeginEnd) before c.args.words.now memory c.begin_end.result (form_in host.tables i state)) (sym c.begin_end.ensures.rest)
-    (plain_comes g.W.World.is_modelled (OfPrimitive row.BeginEnd) c.args.words.now memory refl before after c.begin_end.result c.requires refl refl
+    (plain_comes g.W.World.is_modelled (OfPrimitive row.BeginEnd) c.args.words.now memory before after c.begin_end.result c.requires refl
     (λ so_far. c.begin_end.ensures.step (form_with_output so_far before) memory c.requires)
     (λ finds outside so_far. c.begin_end.ensures.step (form_finding finds outside so_far before) memory c.requires))

@@ -1,4 +1,4 @@
-use Rattle.std.proofs.Common.{[], refl}
+use Rattle.std.proofs.Common.{[]}
 use Rattle.sem_primitives.specs.declared.table.Primitive.TheVariants as row
 use Rattle.host_imports.specs.declared.import.Import.TheVariants.{OfPrimitive}
 use Rattle.host_worlds.proofs.Apart.{holds_file}
@@ -12,7 +12,7 @@ invariant_of-self g c =
     let was = c.args.self.now in
     let held = holds_file was.input c.close.new.streams (g.W.World.kinds was.world) (g.W.World.kinds c.close.new.world)
     was.held c.close.ensures.held c.close.ensures.others in
-    ((c.close.ensures.spare was.tables.free_handle, (was.tables.free_array, (was.tables.free_iterator, tt))), (held, (c.close.ensures.goes, tt)))
+    ((c.close.ensures.reserved was.tables.free_handle, (was.tables.free_array, (was.tables.free_iterator, tt))), (held, (c.close.ensures.goes, tt)))
 
 pub returns : goal.returns
 returns g c = λ memory.
@@ -20,7 +20,7 @@ returns g c = λ memory.
     let old = g.W.World.state was.world in
     let new = g.W.World.state c.close.new.world in
     let before = host_form g.W.World.state was in
-    files_come g.W.World.is_modelled (OfPrimitive row.Close) c.args.words.now memory refl
+    files_come g.W.World.is_modelled (OfPrimitive row.Close) c.args.words.now memory
     was.input (g.W.World.kinds was.world) was.held (g.met.W.World.input was.world) old new
     c.close.ensures.places before
     (closing c.close.new.handles c.close.new.streams new before) c.close.result c.requires

@@ -13,6 +13,6 @@ returns g c =
     let state = g.W.World.state host.world in
     let before = form_in host.tables host.input state in
     let after = form_in host.tables (record host.input { names = c.declare.new.names }) state in
-    plain_comes g.W.World.is_modelled (OfPrimitive row.Declare) c.args.words.now c.args.memory.now refl before after c.declare.result c.requires refl refl
+    plain_comes g.W.World.is_modelled (OfPrimitive row.Declare) c.args.words.now c.args.memory.now before after c.declare.result c.requires refl
     (λ so_far. c.declare.ensures.step (form_with_output so_far before) c.requires)
     (λ finds outside so_far. c.declare.ensures.step (form_finding finds outside so_far before) c.requires)

@@ -14,6 +14,6 @@ returns g c memory =
     let state = g.W.World.state host.world in
     let before = form_in host.tables host.input state in
     let after = flushing c.flush.new.handles host.input.files before in
-    plain_comes g.W.World.is_modelled (OfPrimitive row.Flush) c.args.words.now memory refl before after c.flush.result c.requires refl refl
+    plain_comes g.W.World.is_modelled (OfPrimitive row.Flush) c.args.words.now memory before after c.flush.result c.requires refl
     (λ so_far. c.flush.ensures.step (form_with_output so_far before) memory c.requires)
     (λ finds outside so_far. c.flush.ensures.step (form_finding finds outside so_far before) memory c.requires)

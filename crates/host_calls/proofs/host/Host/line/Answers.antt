@@ -18,6 +18,6 @@ returns g c memory =
     let after : HostForm = record (form_in host.tables (with_line c.line.new.input.line host.input) state) { values = c.line.new.handles } in
     subst (λ i. let left : HostForm = record (form_in host.tables i state) { values = c.line.new.handles } in
     ComesTo g.W.World.is_modelled (OfPrimitive row.Line) before c.args.words.now memory c.line.result left) (sym c.line.ensures.rest)
-    (plain_comes g.W.World.is_modelled (OfPrimitive row.Line) c.args.words.now memory refl before after c.line.result c.requires refl refl
+    (plain_comes g.W.World.is_modelled (OfPrimitive row.Line) c.args.words.now memory before after c.line.result c.requires refl
     (λ so_far. c.line.ensures.step (form_with_output so_far before) memory c.requires)
     (λ finds outside so_far. c.line.ensures.step (form_finding finds outside so_far before) memory c.requires))

@@ -10,6 +10,6 @@ arg-outcome-requires g c = none_kept Arg c.args.self.now.tables.fault refl c.req
 pub returns : goal.returns
 returns g c memory =
     let host = c.args.self.now in
-    plain_told g.W.World.is_modelled Arg refl c.args.words.now memory host.tables c.arg-outcome.new.self host.input (g.W.World.state host.world)
+    plain_told g.W.World.is_modelled Arg c.args.words.now memory host.tables c.arg-outcome.new.self host.input (g.W.World.state host.world)
     c.arg-outcome.result c.tell.result (host_form g.W.World.state c.tell.new.self) c.tell.ensures.told c.tell.ensures.kept
     (none_kept Arg host.tables.fault refl c.requires) (λ f. c.arg-outcome.ensures f memory)

@@ -11,6 +11,6 @@ clear-outcome-requires g c = none_kept (OfPrimitive row.Clear) c.args.self.now.t
 pub returns : goal.returns
 returns g c memory =
     let host = c.args.self.now in
-    plain_told g.W.World.is_modelled (OfPrimitive row.Clear) refl c.args.words.now memory host.tables c.clear-outcome.new.self host.input (g.W.World.state host.world)
+    plain_told g.W.World.is_modelled (OfPrimitive row.Clear) c.args.words.now memory host.tables c.clear-outcome.new.self host.input (g.W.World.state host.world)
     c.clear-outcome.result c.tell.result (host_form g.W.World.state c.tell.new.self) c.tell.ensures.told c.tell.ensures.kept
     (none_kept (OfPrimitive row.Clear) host.tables.fault refl c.requires) (λ f. c.clear-outcome.ensures f memory)

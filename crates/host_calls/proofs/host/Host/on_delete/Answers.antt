@@ -11,6 +11,6 @@ delete-outcome-requires g c = none_kept (OfPrimitive row.Delete) c.args.self.now
 pub returns : goal.returns
 returns g c memory =
     let host = c.args.self.now in
-    plain_told g.W.World.is_modelled (OfPrimitive row.Delete) refl c.args.words.now memory host.tables c.delete-outcome.new.self host.input (g.W.World.state host.world)
+    plain_told g.W.World.is_modelled (OfPrimitive row.Delete) c.args.words.now memory host.tables c.delete-outcome.new.self host.input (g.W.World.state host.world)
     c.delete-outcome.result c.tell.result (host_form g.W.World.state c.tell.new.self) c.tell.ensures.told c.tell.ensures.kept
     (none_kept (OfPrimitive row.Delete) host.tables.fault refl c.requires) (λ f. c.delete-outcome.ensures f memory)

@@ -11,6 +11,6 @@ elem-outcome-requires g c = none_kept (OfPrimitive row.Elem) c.args.self.now.tab
 pub returns : goal.returns
 returns g c memory =
     let host = c.args.self.now in
-    plain_told g.W.World.is_modelled (OfPrimitive row.Elem) refl c.args.words.now memory host.tables c.elem-outcome.new.self host.input (g.W.World.state host.world)
+    plain_told g.W.World.is_modelled (OfPrimitive row.Elem) c.args.words.now memory host.tables c.elem-outcome.new.self host.input (g.W.World.state host.world)
     c.elem-outcome.result c.tell.result (host_form g.W.World.state c.tell.new.self) c.tell.ensures.told c.tell.ensures.kept
     (none_kept (OfPrimitive row.Elem) host.tables.fault refl c.requires) (λ f. c.elem-outcome.ensures f memory)

@@ -11,6 +11,6 @@ has-outcome-requires g c = none_kept (OfPrimitive row.Has) c.args.self.now.table
 pub returns : goal.returns
 returns g c memory =
     let host = c.args.self.now in
-    plain_told g.W.World.is_modelled (OfPrimitive row.Has) refl c.args.words.now memory host.tables c.has-outcome.new.self host.input (g.W.World.state host.world)
+    plain_told g.W.World.is_modelled (OfPrimitive row.Has) c.args.words.now memory host.tables c.has-outcome.new.self host.input (g.W.World.state host.world)
     c.has-outcome.result c.tell.result (host_form g.W.World.state c.tell.new.self) c.tell.ensures.told c.tell.ensures.kept
     (none_kept (OfPrimitive row.Has) host.tables.fault refl c.requires) (λ f. c.has-outcome.ensures f memory)

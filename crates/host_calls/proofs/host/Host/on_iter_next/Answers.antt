@@ -11,6 +11,6 @@ iter_next-outcome-requires g c = none_kept (OfPrimitive row.IterNext) c.args.sel
 pub returns : goal.returns
 returns g c memory =
     let host = c.args.self.now in
-    plain_told g.W.World.is_modelled (OfPrimitive row.IterNext) refl c.args.words.now memory host.tables c.iter_next-outcome.new.self host.input (g.W.World.state host.world)
+    plain_told g.W.World.is_modelled (OfPrimitive row.IterNext) c.args.words.now memory host.tables c.iter_next-outcome.new.self host.input (g.W.World.state host.world)
     c.iter_next-outcome.result c.tell.result (host_form g.W.World.state c.tell.new.self) c.tell.ensures.told c.tell.ensures.kept
     (none_kept (OfPrimitive row.IterNext) host.tables.fault refl c.requires) (λ f. c.iter_next-outcome.ensures f memory)

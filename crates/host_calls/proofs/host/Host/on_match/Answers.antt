@@ -1,4 +1,4 @@
-use Rattle.std.proofs.Common.{refl}
+use Rattle.std.proofs.Common.{Ok, Err, refl}
 use Rattle.sem_primitives.specs.declared.table.Primitive.TheVariants as row
 use Rattle.host_imports.specs.declared.import.Import.TheVariants.{OfPrimitive}
 use Rattle.host_texts.specs.Evaluations.{match_evaluation}
@@ -7,12 +7,22 @@ use Rattle.host_calls.specs.Forms.{host_form}
 use Rattle.host_calls.proofs.Comes.{none_kept, settled_means}
 use Rattle.host_calls.proofs.host.Host.on_match.Goals as goal
 
-pub returns : goal.returns
-returns g c memory =
+pub returns-in-Ok : goal.returns-in-Ok
+returns-in-Ok g c memory =
     let host = c.args.self.now in
     let t = host.tables in
-    settled_means g.W.World.is_modelled (OfPrimitive row.Match) refl c.args.words.now memory t c.match_at-evaluated.new.texts host.input (g.W.World.state host.world)
-    c.match_at-evaluated.result match_evaluation
+    settled_means g.W.World.is_modelled (OfPrimitive row.Match) c.args.words.now memory t c.match_at.new.texts host.input (g.W.World.state host.world)
+    (Ok c.in-Ok.evaluated) match_evaluation
     (none_kept (OfPrimitive row.Match) t.fault refl c.requires)
-    (λ s. match_comes s t.handles c.args.words.now memory) (c.match_at-evaluated.ensures)
+    (λ s. match_comes s t.handles c.args.words.now memory) (c.in-Ok.ensures)
     c.settle.result (host_form g.W.World.state c.settle.new.self) c.settle.ensures
+
+pub returns-in-Err : goal.returns-in-Err
+returns-in-Err g c memory =
+    let host = c.args.self.now in
+    let t = host.tables in
+    settled_means g.W.World.is_modelled (OfPrimitive row.Match) c.args.words.now memory t c.match_at.new.texts host.input (g.W.World.state host.world)
+    (Err c.in-Err.refusal) match_evaluation
+    (none_kept (OfPrimitive row.Match) t.fault refl c.requires)
+    (λ s. match_comes s t.handles c.args.words.now memory) (c.in-Err.ensures)
+    c.tell.result (host_form g.W.World.state c.tell.new.self) (Err c.in-Err.refusal, t.handles, (refl, refl), c.tell.ensures.told, c.tell.ensures.kept)

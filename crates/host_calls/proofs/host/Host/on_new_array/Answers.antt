@@ -11,6 +11,6 @@ new_array-outcome-requires g c = none_kept (OfPrimitive row.NewArray) c.args.sel
 pub returns : goal.returns
 returns g c memory =
     let host = c.args.self.now in
-    plain_told g.W.World.is_modelled (OfPrimitive row.NewArray) refl c.args.words.now memory host.tables c.new_array-outcome.new.self host.input (g.W.World.state host.world)
+    plain_told g.W.World.is_modelled (OfPrimitive row.NewArray) c.args.words.now memory host.tables c.new_array-outcome.new.self host.input (g.W.World.state host.world)
     c.new_array-outcome.result c.tell.result (host_form g.W.World.state c.tell.new.self) c.tell.ensures.told c.tell.ensures.kept
     (none_kept (OfPrimitive row.NewArray) host.tables.fault refl c.requires) (λ f. c.new_array-outcome.ensures f memory)

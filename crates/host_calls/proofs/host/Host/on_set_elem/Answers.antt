@@ -11,6 +11,6 @@ set_elem-outcome-requires g c = none_kept (OfPrimitive row.SetElem) c.args.self.
 pub returns : goal.returns
 returns g c memory =
     let host = c.args.self.now in
-    plain_told g.W.World.is_modelled (OfPrimitive row.SetElem) refl c.args.words.now memory host.tables c.set_elem-outcome.new.self host.input (g.W.World.state host.world)
+    plain_told g.W.World.is_modelled (OfPrimitive row.SetElem) c.args.words.now memory host.tables c.set_elem-outcome.new.self host.input (g.W.World.state host.world)
     c.set_elem-outcome.result c.tell.result (host_form g.W.World.state c.tell.new.self) c.tell.ensures.told c.tell.ensures.kept
     (none_kept (OfPrimitive row.SetElem) host.tables.fault refl c.requires) (λ f. c.set_elem-outcome.ensures f memory)

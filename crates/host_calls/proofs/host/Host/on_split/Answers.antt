@@ -11,6 +11,6 @@ split-outcome-requires g c = none_kept (OfPrimitive row.Split) c.args.self.now.t
 pub returns : goal.returns
 returns g c memory =
     let host = c.args.self.now in
-    plain_told g.W.World.is_modelled (OfPrimitive row.Split) refl c.args.words.now memory host.tables c.split-outcome.new.self host.input (g.W.World.state host.world)
+    plain_told g.W.World.is_modelled (OfPrimitive row.Split) c.args.words.now memory host.tables c.split-outcome.new.self host.input (g.W.World.state host.world)
     c.split-outcome.result c.tell.result (host_form g.W.World.state c.tell.new.self) c.tell.ensures.told c.tell.ensures.kept
     (none_kept (OfPrimitive row.Split) host.tables.fault refl c.requires) (λ f. c.split-outcome.ensures f memory)

@@ -11,6 +11,6 @@ sprintf-outcome-requires g c = none_kept (Variadic listing.Sprintf) c.args.self.
 pub returns : goal.returns
 returns g c memory =
     let host = c.args.self.now in
-    plain_told g.W.World.is_modelled (Variadic listing.Sprintf) refl c.args.words.now memory host.tables c.sprintf-outcome.new.self host.input (g.W.World.state host.world)
+    plain_told g.W.World.is_modelled (Variadic listing.Sprintf) c.args.words.now memory host.tables c.sprintf-outcome.new.self host.input (g.W.World.state host.world)
     c.sprintf-outcome.result c.tell.result (host_form g.W.World.state c.tell.new.self) c.tell.ensures.told c.tell.ensures.kept
     (none_kept (Variadic listing.Sprintf) host.tables.fault refl c.requires) (λ f. c.sprintf-outcome.ensures f memory)

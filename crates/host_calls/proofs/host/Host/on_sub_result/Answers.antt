@@ -1,4 +1,4 @@
-use Rattle.std.proofs.Common.{refl}
+use Rattle.std.proofs.Common.{Ok, Err, refl}
 use Rattle.sem_primitives.specs.declared.table.Primitive.TheVariants as row
 use Rattle.host_imports.specs.declared.import.Import.TheVariants.{OfPrimitive}
 use Rattle.host_texts.specs.Evaluations.{sub_result_evaluation}
@@ -7,12 +7,22 @@ use Rattle.host_calls.specs.Forms.{host_form}
 use Rattle.host_calls.proofs.Comes.{none_kept, settled_means}
 use Rattle.host_calls.proofs.host.Host.on_sub_result.Goals as goal
 
-pub returns : goal.returns
-returns g c memory =
+pub returns-in-Ok : goal.returns-in-Ok
+returns-in-Ok g c memory =
     let host = c.args.self.now in
     let t = host.tables in
-    settled_means g.W.World.is_modelled (OfPrimitive row.SubResult) refl c.args.words.now memory t c.sub_result-evaluated.new.texts host.input (g.W.World.state host.world)
-    c.sub_result-evaluated.result sub_result_evaluation
+    settled_means g.W.World.is_modelled (OfPrimitive row.SubResult) c.args.words.now memory t c.sub_result.new.texts host.input (g.W.World.state host.world)
+    (Ok c.in-Ok.evaluated) sub_result_evaluation
     (none_kept (OfPrimitive row.SubResult) t.fault refl c.requires)
-    (λ s. sub_result_comes s t.handles c.args.words.now memory) (c.sub_result-evaluated.ensures)
+    (λ s. sub_result_comes s t.handles c.args.words.now memory) (c.in-Ok.ensures)
     c.settle.result (host_form g.W.World.state c.settle.new.self) c.settle.ensures
+
+pub returns-in-Err : goal.returns-in-Err
+returns-in-Err g c memory =
+    let host = c.args.self.now in
+    let t = host.tables in
+    settled_means g.W.World.is_modelled (OfPrimitive row.SubResult) c.args.words.now memory t c.sub_result.new.texts host.input (g.W.World.state host.world)
+    (Err c.in-Err.refusal) sub_result_evaluation
+    (none_kept (OfPrimitive row.SubResult) t.fault refl c.requires)
+    (λ s. sub_result_comes s t.handles c.args.words.now memory) (c.in-Err.ensures)
+    c.tell.result (host_form g.W.World.state c.tell.new.self) (Err c.in-Err.refusal, t.handles, (refl, refl), c.tell.ensures.told, c.tell.ensures.kept)

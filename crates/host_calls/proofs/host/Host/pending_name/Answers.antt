@@ -11,6 +11,6 @@ pub returns : goal.returns
 returns g c memory =
     let host = c.args.self.now in
     let before = form_in host.tables host.input (g.W.World.state host.world) in
-    plain_comes g.W.World.is_modelled (OfPrimitive row.PendingName) c.args.words.now memory refl before before c.pending_name.result c.requires refl refl
+    plain_comes g.W.World.is_modelled (OfPrimitive row.PendingName) c.args.words.now memory before before c.pending_name.result c.requires refl
     (λ so_far. c.pending_name.ensures.step (form_with_output so_far before) memory c.requires)
     (λ finds outside so_far. c.pending_name.ensures.step (form_finding finds outside so_far before) memory c.requires)

@@ -15,6 +15,6 @@ returns g c memory =
     let before = form_in host.tables host.input state in
     let input = record host.input { names = c.pending_value.new.names } in
     let after : HostForm = record (form_in host.tables input state) { values = c.pending_value.new.handles } in
-    plain_comes g.W.World.is_modelled (OfPrimitive row.PendingValue) c.args.words.now memory refl before after c.pending_value.result c.requires refl refl
+    plain_comes g.W.World.is_modelled (OfPrimitive row.PendingValue) c.args.words.now memory before after c.pending_value.result c.requires refl
     (λ so_far. c.pending_value.ensures.step (form_with_output so_far before) memory c.requires)
     (λ finds outside so_far. c.pending_value.ensures.step (form_finding finds outside so_far before) memory c.requires)

@@ -1,4 +1,3 @@
-use Rattle.std.proofs.Common.{refl}
 use Rattle.host_imports.specs.declared.import.Import.TheVariants.{Variadic}
 use Rattle.host_imports.specs.declared.import.VariadicImport.TheVariants.{Printf}
 use Rattle.host_worlds.proofs.Apart.{holds_file}
@@ -22,7 +21,7 @@ returns g c = λ memory.
     let old = g.W.World.state was.world in
     let new = g.W.World.state c.printf.new.world in
     let before = host_form g.W.World.state was in
-    files_come g.W.World.is_modelled (Variadic Printf) c.args.words.now memory refl
+    files_come g.W.World.is_modelled (Variadic Printf) c.args.words.now memory
     was.input (g.W.World.kinds was.world) was.held (g.met.W.World.input was.world) old new
     (λ t. others_keep was.input (g.W.World.kinds was.world) old new (c.printf.ensures.keeps.spares t)) before
     (writing c.printf.new.arguments.items c.printf.new.streams new before) c.printf.result c.requires

@@ -13,7 +13,7 @@ returns g c memory =
     let state = g.W.World.state host.world in
     let before = form_in host.tables host.input state in
     let after = form_in (record host.tables { texts = c.start_assign.new.texts }) (record host.input { names = c.start_assign.new.names }) state in
-    left_comes g.W.World.is_modelled (OfPrimitive row.StartAssign) c.args.words.now memory refl before after c.start_assign.result c.requires refl refl
+    left_comes g.W.World.is_modelled (OfPrimitive row.StartAssign) c.args.words.now memory before after c.start_assign.result c.requires refl
     (λ f. record { values = refl; arrays = refl; iterators = refl; fault = refl; outside = refl; output = refl })
     (λ so_far. c.start_assign.ensures.step (form_with_output so_far before) memory c.requires)
     (λ finds outside so_far. c.start_assign.ensures.step (form_finding finds outside so_far before) memory c.requires)

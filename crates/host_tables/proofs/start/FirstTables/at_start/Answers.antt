@@ -4,7 +4,7 @@ use Rattle.sem_primitives.specs.SharedState.{specials_at_start}
 use Rattle.host_names.specs.Forms.{pair_of}
 use Rattle.host_tables.specs.Starts.{job_of}
 use Rattle.host_tables.specs.declared.start.FirstTables.{FirstTables}
-use Rattle.host_tables.proofs.Starting.{none_there, spare_first, stands}
+use Rattle.host_tables.proofs.Starting.{none_there, reserved_first, stands}
 use Rattle.host_values.specs.Calls.{reserved_handle}
 use Rattle.host_tables.proofs.start.FirstTables.at_start.Goals as goal
 
@@ -32,7 +32,7 @@ pub returns-clause-values : goal.returns-clause-values
 returns-clause-values c = ap (λ m. maps.get m reserved_handle) c.new.ensures ∙ none_there reserved_handle
 
 pub returns-clause-arrays : goal.returns-clause-arrays
-returns-clause-arrays c = ap (λ m. maps.get m reserved_handle) c.in_ok-arrays.ensures ∙ spare_first _ _
+returns-clause-arrays c = ap (λ m. maps.get m reserved_handle) c.in_ok-arrays.ensures ∙ reserved_first _ _
 
 pub returns-clause-iterators : goal.returns-clause-iterators
 returns-clause-iterators c = ap (λ m. maps.get m reserved_handle) c.new-2.ensures ∙ none_there reserved_handle

@@ -21,24 +21,24 @@ put_by m h v below free = map.get-insert int_cmp_total m h v reserved_handle ∙
     by false e = free
 
 -- what was put
-pub spare_put : {E V : Type 0} (r : Result ℤ E) (old new : FinMap int_cmp V) (v : V) → IfOk r (λ h. h <ℤ reserved_handle) → IfOk r (λ h. new
+pub reserved_put : {E V : Type 0} (r : Result ℤ E) (old new : FinMap int_cmp V) (v : V) → IfOk r (λ h. h <ℤ reserved_handle) → IfOk r (λ h. new
     ≡ map.insert old h v) → OnErr r (new ≡ old) → map.get old reserved_handle ≡ None → map.get new reserved_handle ≡ None
-spare_put (Ok h) old new v below stored refused free = ap (λ m. map.get m reserved_handle) stored ∙ put_by old h v below free
-spare_put (Err e) old new v below stored refused free = ap (λ m. map.get m reserved_handle) refused ∙ free
+reserved_put (Ok h) old new v below stored refused free = ap (λ m. map.get m reserved_handle) stored ∙ put_by old h v below free
+reserved_put (Err e) old new v below stored refused free = ap (λ m. map.get m reserved_handle) refused ∙ free
 
 -- a number that is spent
-pub spare_removed : {V : Type 0} (m : FinMap int_cmp V) (h : ℤ) → map.get m reserved_handle ≡ None → map.get (map.remove m h) reserved_handle ≡ None
-spare_removed m h free = map.get-remove int_cmp_total m h reserved_handle ∙ by (eq_by_cmp int_cmp reserved_handle h)
+pub reserved_removed : {V : Type 0} (m : FinMap int_cmp V) (h : ℤ) → map.get m reserved_handle ≡ None → map.get (map.remove m h) reserved_handle ≡ None
+reserved_removed m h free = map.get-remove int_cmp_total m h reserved_handle ∙ by (eq_by_cmp int_cmp reserved_handle h)
   where
     by : (b : Bool) → cond b None (map.get m reserved_handle) ≡ None
     by true = refl
     by false = free
 
-pub spare_left : (t : Spent) (m : Values) → map.get m reserved_handle ≡ None → map.get (left_by t m) reserved_handle ≡ None
-spare_left Nothing m free = free
-spare_left (One h) m free = spare_removed m h free
-spare_left (Two a b) m free = spare_removed (map.remove m a) b (spare_removed m a free)
-spare_left (Three a b c) m free = spare_removed (map.remove (map.remove m a) b) c (spare_removed (map.remove m a) b (spare_removed m a free))
+pub reserved_left : (t : Spent) (m : Values) → map.get m reserved_handle ≡ None → map.get (left_by t m) reserved_handle ≡ None
+reserved_left Nothing m free = free
+reserved_left (One h) m free = reserved_removed m h free
+reserved_left (Two a b) m free = reserved_removed (map.remove m a) b (reserved_removed m a free)
+reserved_left (Three a b c) m free = reserved_removed (map.remove (map.remove m a) b) c (reserved_removed (map.remove m a) b (reserved_removed m a free))
 
 -- What an evaluation leaves.
 
