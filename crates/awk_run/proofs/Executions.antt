@@ -161,7 +161,7 @@ module _ (tells : Type 0) (t : tells) (bytes : List ℕ) (job : JobForm) (steps 
 
   pub executed : ComesToEnd (end_of run) → (chosen : Choice) → Executes (script_run run) setting chosen (begun_in run chosen)
   executed comes chosen =
-      executes bytes run.compiled run.is_compiled run.run.whole run.run.read tells t job before of.machine of.is_new of.start of.begins chosen
+      executes bytes run.compiled run.is_compiled run.run.whole run.run.read tells t job before of.machine of.is_new of.start of.begins.kept chosen
       of.counted.moments of.counted.end of.counted.conf of.counted.left of.counted.stepped comes
 
   pub cut_off : end_of run ≡ OutOfSteps → (chosen : Choice) → ExecutesSoFar run chosen (begun_in run chosen)
@@ -171,7 +171,7 @@ module _ (tells : Type 0) (t : tells) (bytes : List ℕ) (job : JobForm) (steps 
           → ExecutesSoFar run chosen
           (times_begun tells of.machine.program of.machine.conf of.start chosen of.counted.moments e of.counted.conf of.counted.left r)
       by OutOfSteps q r =
-          let x = has_executed bytes run.compiled run.is_compiled run.run.whole run.run.read tells t job before of.machine of.is_new of.start of.begins chosen
+          let x = has_executed bytes run.compiled run.is_compiled run.run.whole run.run.read tells t job before of.machine of.is_new of.start of.begins.kept chosen
           of.counted.moments of.counted.conf of.counted.left r in
           record { output = x.0; holds = x.1; has_executed = x.2 }
       by (Returned n) q r = cc
@@ -181,7 +181,7 @@ module _ (tells : Type 0) (t : tells) (bytes : List ℕ) (job : JobForm) (steps 
 
   same : (chosen : Choice) → begun_in run chosen ≡ passed_by run chosen
   same chosen =
-      sym (passed_begin bytes run.compiled run.is_compiled run.run.whole run.run.read tells t job before of.machine of.is_new of.start of.begins chosen of.counted.moments
+      sym (passed_begin bytes run.compiled run.is_compiled run.run.whole run.run.read tells t job before of.machine of.is_new of.start of.begins.kept chosen of.counted.moments
       of.counted.end of.counted.conf of.counted.left of.counted.stepped)
 
   pub executed_as_passed : ComesToEnd (end_of run) → (chosen : Choice) → Executes (script_run run) setting chosen (passed_by run chosen)

@@ -1,5 +1,5 @@
 -- The places of functions with their counts, one more at a time.
-use Rattle.std.proofs.Common.{◌≡◌, ℕ, suc, ◌+◌, ◌<◌, List, [], ◌∷◌, ◌++◌, add-one, append_assoc, drop, drop-cons, get_or, length, refl, sym, ap, ◌∙◌}
+use Rattle.std.proofs.Common.{◌≡◌, ℕ, suc, ◌+◌, ◌<◌, List, [], ◌∷◌, ◌++◌, add-one, append_assoc, drop, drop-cons, get_or, length, sym, ap, ◌∙◌}
 use Rattle.awk_grammar.specs.Item.{Item}
 use Rattle.awk_tree.specs.Lines.{places_in}
 use Rattle.run_report.specs.declared.counts.PlaceCount.{PlaceCount}

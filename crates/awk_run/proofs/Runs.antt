@@ -15,12 +15,10 @@ use Rattle.module_decoder.specs.Reading.{module_at}
 use Rattle.module_decoder.specs.declared.fault.DecodeFault.{DecodeFault}
 use Rattle.module_decoder.specs.declared.fault.DecodeFault.TheVariants as decoding
 use Rattle.module_decoder.proofs.CompleteModule.{module_again}
-use Rattle.host_step.specs.HostState.{HostState}
 use Rattle.host_imports.specs.Imports.{host_finds}
-use Rattle.host_step.specs.Starts.{state_at_start}
 use Rattle.host_values.specs.Forms.{HostForm}
 use Rattle.host_values.specs.FormMeaning.{Told, form_meaning}
-use Rattle.host_values.specs.Shown.{Shown}
+use Rattle.host_values.specs.Findings.{ShownFirst}
 use Rattle.agreement.specs.Runs.ToldRuns.{FoundRun, ToldRun}
 use Rattle.awk_run.specs.ModuleRun.{run_end, undecoded, IsRefused, IsRunOf, RunAnswers, Answers, IsTyped, Unread}
 use Rattle.run_report.specs.declared.end.Refusal.TheVariants.{Compile, Decode, Invalid, Link}
@@ -38,10 +36,7 @@ module _ (tells : Type 0) (whole : ModuleForm) (job : JobForm) (steps : ℕ) (be
   told kept machine.Exhausted r = r
   told kept machine.NoMemory r = inl r
 
-  abbrev start : HostState
-  start = state_at_start job (before.readers 0) before.outside
-
-  pub did_answers : (a : MachineForm) → IsNew host_finds whole a → (f : HostForm) → Shown f start → (t : MachineEnd) (c : Conf) (g : HostForm)
+  pub did_answers : (a : MachineForm) → IsNew host_finds whole a → (f : HostForm) → ShownFirst f job (before.readers 0) before.outside → (t : MachineEnd) (c : Conf) (g : HostForm)
       → Did (form_meaning tells) a.program steps a.conf (Told f) t c (Told g) → after.outside ≡ g.shared.outside
       → (tells → ToldRun whole job (before.readers 0) before.outside steps t g) → FoundRun whole job steps t g
       → RunAnswers tells whole job steps before (run_end g.fault t) after

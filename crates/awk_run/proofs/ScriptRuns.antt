@@ -1,7 +1,7 @@
 -- What the module of a script did is what the script does.
 use Rattle.std.proofs.Common.{◌≡◌, inl, inr, ℕ, ◌+◌, List, [], ◌∷◌, map, Option, Some, None, refl, sym, ap, ◌∙◌, subst}
 use Rattle.awk_values.specs.declared.fault.Fault.{Fault}
-use Rattle.sem_primitives.specs.InputMeaning.{nothing_left}
+use Rattle.sem_primitives.specs.InputMeaning.{to_come}
 use Rattle.sem_primitives.specs.Jobs.{Opened, JobForm}
 use Rattle.world_core.specs.WorldState.{Action, Entry, State}
 use Rattle.sem_scripts.specs.MoreTurns.{output_of}
@@ -66,7 +66,7 @@ there tells bytes v c job steps before after e r =
     record {
       turns = d.turns;
       output = d.output;
-      says = subst (λ (x : RunEnd). Says (told_of x) d.output (resolved_run (resolved c.script) (setting_in job nothing_left (Opened r.there.finds)) d.turns)) (sym r.answered)
+      says = subst (λ (x : RunEnd). Says (told_of x) d.output (resolved_run (resolved c.script) (setting_in job to_come (Opened r.there.finds)) d.turns)) (sym r.answered)
           (says r.left.fault r.told d.output _ d.says);
     }
 
@@ -115,7 +115,7 @@ module _ (tells : Type 0) (bytes v : List ℕ) (job : JobForm) (steps : ℕ) (be
   unbegun_there = record {
     turns = 0;
     output = [];
-    says = (output_of (resolved_run (resolved c.script) (setting_in job nothing_left (Opened [])) 0), refl);
+    says = (output_of (resolved_run (resolved c.script) (setting_in job to_come (Opened [])) 0), refl);
   }
 
   wanting_is_no_end : run.NoMemory ≡ run.OutOfSteps → ⊥

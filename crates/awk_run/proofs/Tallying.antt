@@ -1,7 +1,7 @@
 -- Tables with one more step counted.
 use Rattle.std.proofs.Common.{◌≡◌, ℕ, zero, suc, ◌+◌, ◌-◌, ◌^◌, ◌<◌, ◌≤◌, ◌&&◌, Bool, true, false, cond, List, [], ◌∷◌, ◌++◌, Option, Some, None, length, get_or, set, map, refl, sym, ap, ◌∙◌, subst, arith}
-use Rattle.std.specs.Prelude.{IfSome, if◌then◌else◌, min, nat_eq, option_map, option_and_then, replicate, slice_get}
-use Rattle.std.specs.List.{All, count_by}
+use Rattle.std.specs.Prelude.{IfSome, if◌then◌else◌, nat_eq, option_map, replicate, slice_get}
+use Rattle.std.specs.List.{count_by}
 use Rattle.std.specs.declared.vec.Vec.{Vec}
 use Rattle.std.specs.declared.alloc.Global.{Global}
 use Rattle.std.proofs.lemmas.Bool.{eq-eqb, eqb-false, eqb-true, ne_eqb}

@@ -20,10 +20,9 @@ use Rattle.wasm_model.specs.declared.ends.MachineEnd.TheVariants.{OutOfSteps}
 use Rattle.wasm_machine.specs.Places.{StandsAt}
 use Rattle.wasm_machine.specs.declared.places.Place.{Place}
 use Rattle.host_imports.specs.Imports.{host_finds}
-use Rattle.host_step.specs.Starts.{state_at_start}
 use Rattle.host_values.specs.Forms.{HostForm}
 use Rattle.host_values.specs.FormMeaning.{Told, form_meaning}
-use Rattle.host_values.specs.Shown.{Shown}
+use Rattle.host_values.specs.Findings.{ShownFirst}
 use Rattle.lower_model.specs.Boundaries.{is_nop}
 use Rattle.run_report.specs.CountTexts.{at_line}
 use Rattle.run_report.specs.declared.counts.PlaceCount.{PlaceCount}
@@ -147,7 +146,7 @@ pub record IsCountedOf (tells : Type 0) (bytes : List ℕ) (whole : ModuleForm) 
   pub machine : MachineForm
   pub is_new : IsNew host_finds whole machine
   pub start : HostForm
-  pub begins : Shown start (state_at_start job (before.readers 0) before.outside)
+  pub begins : ShownFirst start job (before.readers 0) before.outside
   pub counted : IsCounted tells bytes machine.program steps machine.conf start counts
 
 -- which some bytes are

@@ -22,10 +22,9 @@ use Rattle.wasm_model.specs.declared.ends.MachineEnd.{MachineEnd}
 use Rattle.wasm_model.specs.declared.ends.MachineEnd.TheVariants as machine
 use Rattle.sem_primitives.specs.Jobs.{JobForm}
 use Rattle.host_imports.specs.Imports.{host_finds}
-use Rattle.host_step.specs.Starts.{state_at_start}
 use Rattle.host_values.specs.Forms.{HostForm}
 use Rattle.host_values.specs.FormMeaning.{Told, form_meaning}
-use Rattle.host_values.specs.Shown.{Shown}
+use Rattle.host_values.specs.Findings.{ShownFirst}
 use Rattle.agreement.specs.Runs.ToldRuns.{FoundRun, ToldRun}
 use Rattle.run_report.specs.declared.end.Refusal.{Refusal}
 use Rattle.run_report.specs.declared.end.Refusal.TheVariants.{Decode, Invalid, Link}
@@ -73,7 +72,7 @@ pub record IsRunOf (tells : Type 0) (whole : ModuleForm) (job : JobForm) (steps 
   pub machine : MachineForm
   pub is_new : IsNew host_finds whole machine
   pub start : HostForm
-  pub begins : Shown start (state_at_start job (before.readers 0) before.outside)
+  pub begins : ShownFirst start job (before.readers 0) before.outside
   pub run-end : MachineRunEnd
   pub told : MachineEnd
   pub telling : told_run run-end ≡ Some told

@@ -1,5 +1,5 @@
 -- Where a module was: what is told of a run at some point of it, by the lines that its bytes have.
-use Rattle.std.specs.Prelude.{◌≡◌, ◌≢◌, ◌≤◌, ◌+◌, ◌<◌, ℕ, true, List, Option, Some, None, is_some, length, option_and_then, slice_get}
+use Rattle.std.specs.Prelude.{◌≡◌, ◌≢◌, ◌≤◌, ◌+◌, ℕ, true, List, Option, Some, None, is_some, length, option_and_then, slice_get}
 use Rattle.awk_values.specs.Values.{text_of_value}
 use Rattle.sem_primitives.specs.Jobs.{JobForm}
 use Rattle.sem_primitives.specs.declared.constants.Special.TheVariants.{Filename, Fnr, Nr}
@@ -14,10 +14,9 @@ use Rattle.wasm_model.specs.declared.ends.MachineEnd.TheVariants.{OutOfSteps}
 use Rattle.wasm_machine.specs.Places.{HasStatement, StandsAt, frame_at}
 use Rattle.wasm_machine.specs.declared.places.Place.{Place}
 use Rattle.host_imports.specs.Imports.{host_finds}
-use Rattle.host_step.specs.Starts.{state_at_start}
 use Rattle.host_values.specs.Forms.{HostForm}
 use Rattle.host_values.specs.FormMeaning.{Told, form_meaning}
-use Rattle.host_values.specs.Shown.{Shown}
+use Rattle.host_values.specs.Findings.{ShownFirst}
 use Rattle.script_lines.specs.Lines.{FunctionForm, line_in, name_in}
 use Rattle.script_lines.specs.Reading.{table_in}
 use Rattle.run_report.specs.declared.whereabouts.CallSite.{CallSite}
@@ -77,7 +76,7 @@ pub record IsModuleSeenOf (tells : Type 0) (table : Option (List FunctionForm)) 
   pub machine : MachineForm
   pub is_new : IsNew host_finds whole machine
   pub start : HostForm
-  pub begins : Shown start (state_at_start job (before.readers 0) before.outside)
+  pub begins : ShownFirst start job (before.readers 0) before.outside
   pub seen : IsModuleSeen tells table (length whole.imports) machine.program steps machine.conf start found
 
 -- which some bytes are, by the lines that the bytes have

@@ -1,5 +1,5 @@
 -- Where a script was: what is told of a run at some point of it.
-use Rattle.std.specs.Prelude.{◌≡◌, ◌≢◌, ◌≤◌, ◌+◌, ◌⊎◌, ℕ, Bool, true, List, Option, None, Some, Ok, Err, IfSome, is_some, length, option_and_then, slice_get}
+use Rattle.std.specs.Prelude.{◌≡◌, ◌≢◌, ◌≤◌, ◌+◌, ◌⊎◌, ℕ, true, List, Option, None, Some, Ok, Err, IfSome, is_some, length, option_and_then, slice_get}
 use Rattle.awk_grammar.specs.Item.{Item}
 use Rattle.awk_parse.specs.Parsing.{IsParsed}
 use Rattle.awk_tokens.specs.Cutting.{IsTokens, Spelled}
@@ -24,10 +24,9 @@ use Rattle.wasm_machine.specs.Places.{HasStatement, StandsAt, frame_at}
 use Rattle.wasm_machine.specs.declared.places.Place.{Place}
 use Rattle.host_imports.specs.Imports.{host_finds, import_number}
 use Rattle.host_imports.specs.declared.import.Import.TheVariants.{OfPrimitive}
-use Rattle.host_step.specs.Starts.{state_at_start}
 use Rattle.host_values.specs.Forms.{HostForm}
 use Rattle.host_values.specs.FormMeaning.{Told, form_meaning}
-use Rattle.host_values.specs.Shown.{Shown}
+use Rattle.host_values.specs.Findings.{ShownFirst}
 use Rattle.awk_run.specs.FaultStep.{FaultStep}
 use Rattle.run_report.specs.declared.subject.Subject.{Subject}
 use Rattle.run_report.specs.declared.subject.Subject.TheVariants.{Expression, File, StandardInput, StandardOutput, Value}
@@ -109,7 +108,7 @@ pub record IsSeenOf (tells : Type 0) (bytes : List ℕ) (whole : ModuleForm) (jo
   pub machine : MachineForm
   pub is_new : IsNew host_finds whole machine
   pub start : HostForm
-  pub begins : Shown start (state_at_start job (before.readers 0) before.outside)
+  pub begins : ShownFirst start job (before.readers 0) before.outside
   pub seen : IsSeen tells bytes machine.program steps machine.conf start found
 
 -- which some bytes are

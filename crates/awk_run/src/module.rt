@@ -2,9 +2,8 @@
 ghost use Rattle.std.specs.Prelude.{◌≡◌, IfOk, IfErr};
 ghost use Rattle.awk_run.specs.ModuleRun.{undecoded, Answers, IsTyped, RunAnswers, Unread};
 ghost use Rattle.sem_primitives.specs.Jobs.{JobForm};
-ghost use Rattle.host_values.specs.Shown.{Shown};
+ghost use Rattle.host_values.specs.Findings.{ShownFirst};
 ghost use Rattle.host_calls.specs.Forms.{host_form};
-ghost use Rattle.host_step.specs.Starts.{state_at_start};
 ghost use Rattle.host_tables.specs.Starts.{job_of};
 ghost use Rattle.wasm_types.specs.Typing.{ModuleOk};
 ghost use Rattle.wasm_types.specs.View.{view_module};
@@ -49,8 +48,8 @@ pub(crate) fn read(alloc: Global, bytes: &[u8]) -> Result<ValidModule, RunEnd>
 /// Links a module with a host, and runs it.
 fn run_valid<W: World>(alloc: Global, valid: ValidModule, host: Host<W>, steps: u64) -> (RunEnd, W)
     requires { ModuleOk (view_module valid) }
-    ensures { (job : JobForm) → Shown (host_form W.state host)
-        (state_at_start job ((W.state host.world).readers 0) (W.state host.world).outside)
+    ensures { (job : JobForm) → ShownFirst (host_form W.state host)
+        job ((W.state host.world).readers 0) (W.state host.world).outside
         → RunAnswers W.is_modelled (view_module valid) job steps (W.state host.world) result.0
         (W.state result.1) }
 {

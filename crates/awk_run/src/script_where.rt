@@ -4,9 +4,8 @@ ghost use Rattle.awk_run.specs.ModuleRun.{Answers, RunAnswers};
 ghost use Rattle.awk_run.specs.ScriptRuns.{ScriptAnswers};
 ghost use Rattle.awk_run.specs.Seen.{IsSeenIn, IsSeenOf, IsSeenOfBytes};
 ghost use Rattle.host_calls.specs.Forms.{host_form};
-ghost use Rattle.host_step.specs.Starts.{state_at_start};
 ghost use Rattle.host_tables.specs.Starts.{job_of};
-ghost use Rattle.host_values.specs.Shown.{Shown};
+ghost use Rattle.host_values.specs.Findings.{ShownFirst};
 ghost use Rattle.sem_primitives.specs.Jobs.{JobForm};
 ghost use Rattle.wasm_types.specs.Typing.{ModuleOk};
 ghost use Rattle.wasm_types.specs.View.{view_module};
@@ -33,12 +32,12 @@ fn run_valid_where<W: World + KnowsFailed>(
     steps: u64,
 ) -> (RunEnd, Option<Whereabouts>, W)
     requires { ModuleOk (view_module valid) }
-    ensures answers { (job : JobForm) → Shown (host_form W.state host)
-        (state_at_start job ((W.state host.world).readers 0) (W.state host.world).outside)
+    ensures answers { (job : JobForm) → ShownFirst (host_form W.state host)
+        job ((W.state host.world).readers 0) (W.state host.world).outside
         → RunAnswers W.is_modelled (view_module valid) job steps (W.state host.world) result.0
         (W.state result.2) }
-    ensures seen { (job : JobForm) → Shown (host_form W.state host)
-        (state_at_start job ((W.state host.world).readers 0) (W.state host.world).outside)
+    ensures seen { (job : JobForm) → ShownFirst (host_form W.state host)
+        job ((W.state host.world).readers 0) (W.state host.world).outside
         → IfSome result.1 (IsSeenOf W.is_modelled script.now (view_module valid) job steps
         (W.state host.world)) }
 {

@@ -1,5 +1,5 @@
 -- What holds of the words that are handed to clap holds of the words of the line.
-use Rattle.std.proofs.Common.{◌≡◌, ◌∙◌, List, ℕ, ap, subst, sym, true}
+use Rattle.std.proofs.Common.{◌≡◌, ◌∙◌, List, ℕ, ap, subst, true}
 use Rattle.std.specs.Prelude.{IfSome}
 use Rattle.clap.specs.Words.{Text, subcommand_of, takes}
 use Rattle.command_line.specs.Line.{line_app}

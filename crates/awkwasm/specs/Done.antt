@@ -1,5 +1,5 @@
 -- What became of what a command line asks for: what each command answers, and the exit status.
-use Rattle.std.specs.Prelude.{◌≡◌, ◌⊎◌, ℕ, Bool, true, false, List, map, Result, Ok, Err, IfErr, IfOk}
+use Rattle.std.specs.Prelude.{◌≡◌, ◌⊎◌, ℕ, Bool, true, false, List, map, Result, Ok, Err}
 use Rattle.command_line.specs.declared.Request.{Request}
 use Rattle.command_line.specs.declared.Request.TheVariants.{Check, Compile, Run, Count, Exec, Imports, Explain}
 use Rattle.command_line.specs.declared.Task.{Task}

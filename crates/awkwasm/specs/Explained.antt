@@ -1,6 +1,6 @@
 -- What `explain` prints.
-use Rattle.std.specs.Prelude.{ℕ, ◌≡◌, List, [], ◌∷◌, ◌++◌, Option, None, Some, codes}
-use Rattle.run_report.specs.Topics.{Shows, all_topics, topic_name}
+use Rattle.std.specs.Prelude.{ℕ, ◌≡◌, List, [], ◌∷◌, ◌++◌, codes}
+use Rattle.run_report.specs.Topics.{Shows, topic_name}
 use Rattle.run_report.specs.declared.topic.Topic.{Topic}
 use Rattle.awkwasm.specs.Printed.{line}
 

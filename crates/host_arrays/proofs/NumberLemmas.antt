@@ -1,36 +1,13 @@
--- The numbers that have an array: from 0 on, and none changed where its array stays the same.
-use Rattle.std.proofs.Common.{◌≡◌, ℕ, ℤ, pos, negsuc, ◌≤ℤ◌, ◌<ℤ◌, List, Option, Some, None, is_some, Bool, true, false, cond, get_or, option_copied, Bor, refl, sym, ap, ◌∙◌, arith, true≢false}
+-- An array that stays the same leaves the others and itself.
+use Rattle.std.proofs.Common.{◌≡◌, ℤ, Option, Some, None, is_some, true, refl, sym, true≢false}
 use Rattle.std.specs.FinMap as map
-use Rattle.std.specs.FinMap.{int_cmp-IsAntisymmetric}
-use Rattle.std.specs.Ordering.{int_cmp, int_eq}
-use Rattle.std.specs.Cmp.{int_cmp_total, signed_Decides}
-use Rattle.host_handles.specs.Tables.{table}
-use Rattle.host_handles.proofs.TableLemmas.{get-table, get-table-below_zero}
+use Rattle.std.specs.Ordering.{int_cmp}
+use Rattle.host_handles.proofs.NumberLemmas.{insert_same}
 use Rattle.host_arrays.specs.Pairs.{Pairs, pairs_at, pairs_or_none}
 
--- an array's number is at least 0
-pub taken_from_zero : {V : Type 0} (slots : List (Option V)) (h : ℤ) → map.contains_key (table slots) h ≡ true → pos 0 ≤ℤ h
-taken_from_zero slots (pos k) taken = grind (arith)
-taken_from_zero slots (negsuc n) taken =
-    let below : negsuc n <ℤ pos 0 = grind (arith) in
-    absurd (true≢false (sym taken ∙ ap is_some (get-table-below_zero slots (negsuc n) below)))
-
--- and its slot has it
-pub taken_slot : {V : Type 0} (slots : List (Option V)) (h : ℤ) (k : ℕ) → h ≡ pos k → map.contains_key (table slots) h ≡ true → is_some (get_or slots k None) ≡ true
-taken_slot slots h k key taken = sym (ap (λ q. map.contains_key (table slots) q) key ∙ ap is_some (get-table slots k)) ∙ taken
-
-pub shown_some : {V : Type 0} (found : Option (Bor V)) → is_some found ≡ is_some (option_copied found)
-shown_some None = refl
-shown_some (Some v) = refl
-
--- an array that stays the same leaves the others and itself
 pub insert-same : (arrays : map.FinMap int_cmp Pairs) (h : ℤ) → map.contains_key arrays h ≡ true → map.insert arrays h (pairs_at arrays h) ≡ arrays
-insert-same arrays h taken = map.same_map int_cmp_total int_cmp-IsAntisymmetric _ _ (λ q. map.get-insert int_cmp_total arrays h (pairs_at arrays h) q ∙ by q (int_eq q h) refl)
+insert-same arrays h taken = insert_same arrays h (pairs_at arrays h) (there (map.get arrays h) taken)
   where
-    there : (o : Option Pairs) → map.get arrays h ≡ o → is_some o ≡ true → Some (pairs_or_none o) ≡ o
-    there None e some = absurd (true≢false (sym some))
-    there (Some pairs) e some = refl
-
-    by : (q : ℤ) (b : Bool) → int_eq q h ≡ b → cond b (Some (pairs_at arrays h)) (map.get arrays q) ≡ map.get arrays q
-    by q true e = there (map.get arrays h) refl taken ∙ ap (map.get arrays) (sym ((signed_Decides q h).0 e))
-    by q false e = refl
+    there : (o : Option Pairs) → is_some o ≡ true → o ≡ Some (pairs_or_none o)
+    there None some = absurd (true≢false (sym some))
+    there (Some pairs) some = refl

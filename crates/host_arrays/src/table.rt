@@ -9,8 +9,7 @@ ghost use Rattle.host_arrays.specs.Pairs.{Pairs, get_pair, set_pair, delete_pair
 use crate::array::Array;
 use crate::stored::stored;
 use awk_values::{Bytes, Value};
-use host_handles::MAX_SLOTS;
-use slab::Slab;
+use host_handles::Numbered;
 use std::alloc::{AllocError, Global};
 use std::hash::RandomState;
 use std::marker::Model;
@@ -20,7 +19,7 @@ use std::marker::Model;
 /// Contracts see a finite map from numbers to lists of pairs of key and value, in the order of insertion.
 #[derive(Drop)]
 pub struct Arrays {
-    slab: Slab<Array>,
+    numbered: Numbered<Array>,
     alloc: Global,
     state: RandomState,
 }
@@ -31,13 +30,12 @@ impl Model for Arrays {
     ghost use Rattle.std.specs.Coded.{coded_ℤ};
     ghost use Rattle.host_arrays.specs.Pairs.{Pairs};
     ghost use Rattle.host_arrays.specs.contracts.array.Array as stored;
-    ghost use Rattle.host_handles.specs.Tables.{table};
 
     ghost Value = { map.FinMap int_cmp Pairs };
 
     ghost coded = { map.code coded_ℤ stored.the_row.coded };
 
-    ghost view = { λ t. table t.slab.slots };
+    ghost view = { λ t. t.numbered };
 }
 
 /// The same value, to be stored where texts may be parts of others of up to `longest` bytes; or handed back where there is no memory.
@@ -60,13 +58,6 @@ fn to_keep(alloc: Global, value: Value, longest: usize) -> Result<Value, Value>
     }
 }
 
-fn slot_of(number: i32) -> usize
-    requires { pos 0 ≤ℤ number }
-    ensures { number ≡ pos result }
-{
-    number as usize
-}
-
 impl Arrays {
     ghost use Rattle.host_arrays.specs.contracts.array.Array as one;
     ghost use Rattle.host_arrays.specs.contracts.table.Arrays.{the_row};
@@ -87,7 +78,7 @@ impl Arrays {
         ensures { IfOk result (λ arrays. arrays ≡ first_arrays) }
     {
         let mut arrays = Arrays {
-            slab: Slab::new(alloc),
+            numbered: Numbered::new(alloc),
             alloc,
             state,
         };
@@ -111,40 +102,28 @@ impl Arrays {
         ensures added { IfOk result (λ number. self.new ≡ map.insert self.old number []) }
         ensures refused { OnErr result (self.new ≡ self.old) }
     {
-        let slab = &mut self.slab;
-        if slab.vacant_key() >= MAX_SLOTS {
-            return Err(AllocError);
-        }
-        let Ok(key) = slab.insert(Array::new(self.alloc, self.state)) else {
-            return Err(AllocError);
-        };
-        Ok(key as i32)
+        self.numbered.add(Array::new(self.alloc, self.state))
     }
 
     /// How many arrays there are, ARGV and ENVIRON counted.
     pub fn live(&self) -> usize
         ensures { result ≡ map.len self.now }
     {
-        self.slab.len()
+        self.numbered.live()
     }
 
     /// Whether a number is that of an array.
     pub fn is_array(&self, number: i32) -> bool
         ensures { result ≡ map.contains_key self.now number }
     {
-        let slab = &self.slab;
-        if number < 0 {
-            return false;
-        }
-        slab.get(slot_of(number)).is_some()
+        self.numbered.contains(number)
     }
 
     fn array(&self, number: i32) -> &Array
         requires { map.contains_key self.now number ≡ true }
         ensures { result.now ≡ pairs_at self.now number }
     {
-        let slab = &self.slab;
-        &slab[slot_of(number)]
+        self.numbered.at(number)
     }
 
     fn array_mut(&mut self, number: i32) -> &mut Array
@@ -153,7 +132,7 @@ impl Arrays {
             (Lends the_row one.the_row self.entry result (map.insert self.old number)) }
         ensures value { result.now ≡ pairs_at self.old number }
     {
-        &mut self.slab[slot_of(number)]
+        self.numbered.at_mut(number)
     }
 
     /// Whether the array has the key (`key in a`). It creates nothing.
@@ -252,6 +231,6 @@ impl Arrays {
         requires { map.contains_key self.old number ≡ true }
         ensures { self.new ≡ map.remove self.old number }
     {
-        self.slab.remove(slot_of(number));
+        self.numbered.remove(number);
     }
 }

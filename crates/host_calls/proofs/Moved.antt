@@ -1,20 +1,15 @@
 -- Where a call writes, what is left of the main input stays as it was; in a world that is not modelled, nobody sees whether it does.
-use Rattle.std.proofs.Common.{◌≡◌, ℕ, List, ◌++◌, Option, Some, None, Result, Ok, Err, refl, sym, ap, subst}
+use Rattle.std.proofs.Common.{◌≡◌, ℕ, List, ◌++◌, Option, Some, None, Result, Ok, Err, refl, sym, subst}
 use Rattle.awk_values.specs.declared.fault.Fault.{Fault}
 use Rattle.sem_primitives.specs.SharedState.{MainInput}
 use Rattle.wasm_model.specs.declared.host.HostAnswer.{HostAnswer}
 use Rattle.wasm_model.specs.declared.host.HostAnswer.TheVariants as told
 use Rattle.wasm_store.specs.declared.word.Word.{Word}
-use Rattle.world_core.specs.WorldState.{Action, Entry, Outside, State, after as outside_after}
+use Rattle.world_core.specs.WorldState.{Action}
 use Rattle.host_imports.specs.declared.import.Import.{Import}
 use Rattle.host_step.specs.declared.refusal.Refusal.{Refusal}
 use Rattle.host_step.specs.declared.refusal.Refusal.TheVariants as why
 use Rattle.host_values.specs.Forms.{HostForm}
-use Rattle.host_streams.specs.Mains.{main_of, reading_of}
-use Rattle.host_streams.specs.declared.main_input.MainInput.{MainInput as Mains}
-use Rattle.host_streams.specs.declared.main_input.Reading.{Reading}
-use Rattle.host_streams.specs.declared.main_input.Reading.TheVariants as reading
-use Rattle.host_values.specs.Findings.{form_finding, unseen_main, unseen_reading}
 use Rattle.host_values.specs.FormMeaning.{FormCalled, FormMeans, StepShown}
 use Rattle.host_values.specs.Shown.{form_with_output}
 use Rattle.host_values.specs.TableCalls.{left_by_call}
@@ -27,24 +22,9 @@ use Rattle.host_calls.specs.Calls.{ComesTo}
 abbrev pub with_main : MainInput → HostForm → HostForm
 with_main m f = record f { shared = record f.shared { inner = record f.shared.inner { main = m } } }
 
--- what is not seen of the main input is all that the world decides
-
-unseen_by : (r : Reading) (old new : State) → unseen_reading (reading_of r old) ≡ unseen_reading (reading_of r new)
-unseen_by reading.Nothing old new = refl
-unseen_by reading.Standard old new = refl
-unseen_by (reading.File r) old new = refl
-
-pub unseen_of : (m : Mains) (old new : State) → unseen_main (main_of m old) ≡ unseen_main (main_of m new)
-unseen_of m old new = ap (λ r. record (unseen_main (main_of m old)) { reading = r }) (unseen_by m.reading old new)
-
 module _ (tells : Type 0) (i : Import) (before f : HostForm) (words : List Word) (memory : List ℕ) (old new : MainInput)
-    (hidden : unseen_main old ≡ unseen_main new) (same : tells → old ≡ new) where
-  -- in an environment that others change too it is the same
-  same_finding : (finds : List Entry) (outside : Outside) (so_far : List Action) → form_finding finds outside so_far (with_main old f) ≡ form_finding finds outside so_far (with_main new f)
-  same_finding finds outside so_far = ap (λ (z : MainInput). record (form_finding finds outside so_far f) {
-    shared = record (form_finding finds outside so_far f).shared { inner = record (form_finding finds outside so_far f).shared.inner { main = z } };
-  }) hidden
-
+    (same : tells → old ≡ new) where
+  -- in an environment that others change too the form has its own
   called_moved : (a : HostAnswer) (output : List Action) → FormCalled tells (Some i) before words memory a (with_main old f) output
       → FormCalled tells (Some i) before words memory a (with_main new f) output
   called_moved a output c = record {
@@ -54,12 +34,7 @@ module _ (tells : Type 0) (i : Import) (before f : HostForm) (words : List Word)
     finds = record {
       found = c.finds.found;
       output = c.finds.output;
-      leads = λ finds later is outside so_far s h. let x = c.finds.leads finds later is outside so_far s h in record {
-        rest = x.rest;
-        left = x.left;
-        to = subst (λ (z : HostForm). StepShown (Some i) s words memory a z c.finds.output)
-            (same_finding x.rest (outside_after c.finds.output outside) (so_far ++ c.finds.output)) x.to;
-      };
+      leads = λ finds later is outside so_far s h. let x = c.finds.leads finds later is outside so_far s h in record { rest = x.rest; left = x.left; to = x.to };
     };
   }
 
@@ -78,13 +53,13 @@ left_with_main (Err why.NoMemory) m f = refl
 
 -- A call that writes: the family tells the main input as it was before.
 pub wrote_comes : (tells : Type 0) (i : Import) (words : List Word) (memory : List ℕ) (before f : HostForm) (old new : MainInput)
-    → unseen_main old ≡ unseen_main new → (tells → old ≡ new)
+    → (tells → old ≡ new)
     → (r : Result (Option Word) Refusal) → before.fault ≡ None → (output : List Action) → IsCalled tells i before words memory r (with_main old f) output
     → ComesTo tells i before words memory r (with_main new f)
-wrote_comes tells i words memory before f old new hidden same r none output calls = (
+wrote_comes tells i words memory before f old new same r none output calls = (
   output,
   subst (λ z. FormMeans tells (Some i) before words memory (told_as i r) z output) (sym (left_with_main r new f))
-      (means_moved tells i before (left_by_call r f) words memory old new hidden same (told_as i r) output
+      (means_moved tells i before (left_by_call r f) words memory old new same (told_as i r) output
       (subst (λ z. FormMeans tells (Some i) before words memory (told_as i r) z output) (left_with_main r old f)
       (world_told tells i words memory before none output (with_main old f) r calls))),
 )

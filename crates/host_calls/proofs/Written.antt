@@ -14,7 +14,7 @@ use Rattle.host_worlds.specs.declared.input.Input.{Input}
 use Rattle.host_worlds.proofs.Apart.{main_stays}
 use Rattle.host_values.specs.WorldCalls.{IsCalled}
 use Rattle.host_calls.specs.Calls.{ComesTo}
-use Rattle.host_calls.proofs.Moved.{unseen_of, with_main, wrote_comes}
+use Rattle.host_calls.proofs.Moved.{with_main, wrote_comes}
 
 pub others_keep : (i : Input) (kinds : ℕ → Kind) (old new : State) → Spares kinds old new → OthersKeep i.files kinds old new
 others_keep i kinds old new spares k none is = (spares.readers k is, spares.writers k is)
@@ -27,5 +27,5 @@ module _ (tells : Type 0) (i : Import) (words : List Word) (memory : List ℕ)
       → (output : List Action) × IsCalled tells i before words memory r (with_main (main_of input.main old) f) output
       → ComesTo tells i before words memory r (with_main (main_of input.main new) f)
   files_come before f r none calls =
-      wrote_comes tells i words memory before f (main_of input.main old) (main_of input.main new) (unseen_of input.main old new)
+      wrote_comes tells i words memory before f (main_of input.main old) (main_of input.main new)
       (λ t. main_stays input kinds held standard old new (keeps t)) r none calls.0 calls.1

@@ -1,11 +1,11 @@
 //! The host's beginning and its end.
 ghost use Rattle.std.specs.Prelude.{◌≡◌, IfErr, IfOk};
 ghost use Rattle.std.specs.FinMap as map;
+ghost use Rattle.host_values.specs.Findings.{ShownFirst};
 ghost use Rattle.host_values.specs.Shown.{Shown};
 ghost use Rattle.awk_values.specs.Values.{text_of_value};
 ghost use Rattle.host_calls.specs.Forms.{host_form};
 ghost use Rattle.host_step.specs.HostState.{HostState, live_arrays, live_iterators, live_values};
-ghost use Rattle.host_step.specs.Starts.{state_at_start};
 ghost use Rattle.host_tables.specs.Starts.{job_of};
 
 use crate::host::Host;
@@ -34,8 +34,8 @@ impl<W: World> Host<W> {
     ///
     /// The world is handed back unless memory suffices.
     pub fn new(alloc: Global, job: &Job, state: RandomState, world: W) -> Result<Host<W>, W>
-        ensures started { IfOk result (λ host. Shown (host_form W.state host)
-            (state_at_start (job_of job.now) ((W.state world).readers 0) (W.state world).outside)) }
+        ensures started { IfOk result (λ host. ShownFirst (host_form W.state host)
+            (job_of job.now) ((W.state world).readers 0) (W.state world).outside) }
         ensures world { IfOk result (λ host. host.world ≡ world) }
         ensures handed_back { IfErr result (λ given. given ≡ world) }
     {

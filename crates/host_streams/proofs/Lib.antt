@@ -13,3 +13,4 @@ pub mod MainSteps
 pub mod MainFound
 pub mod Passed
 pub mod Skipped
+pub mod Moves

@@ -2,7 +2,7 @@
 use Rattle.std.proofs.Common.{◌≡◌, ◌≢◌, List, [], ℕ, refl, sym, ap, subst, ◌∙◌}
 use Rattle.world_core.specs.declared.world.Ending.TheVariants.{End}
 use Rattle.world_core.specs.WorldState.{Source, State}
-use Rattle.sem_primitives.specs.InputMeaning.{gives_up, next_file_row}
+use Rattle.sem_primitives.specs.InputMeaning.{gives_up, next_file_row, to_come}
 use Rattle.sem_primitives.specs.SharedState.{Inner, MainInput, Standard}
 use Rattle.host_streams.specs.declared.main_input.MainInput.{MainInput as Mains}
 use Rattle.host_streams.specs.declared.main_input.Reading.{Reading}
@@ -11,8 +11,10 @@ use Rattle.host_streams.specs.declared.reader.Phase.{Phase}
 use Rattle.host_streams.specs.declared.reader.Phase.TheVariants.{Broken, Ended}
 use Rattle.host_streams.specs.declared.reader.Reader.{Reader}
 use Rattle.host_streams.specs.Mains.{StandardIs, idle, left_main, main_of, reading_of, with_main}
+use Rattle.host_streams.specs.MainFinds.{main_found, reading_found}
 use Rattle.host_streams.specs.Passing.{StandardSkips}
-use Rattle.host_streams.specs.Readers.{left, left_in, unread}
+use Rattle.host_streams.specs.Readers.{coming, left, left_in, unread}
+use Rattle.host_streams.proofs.MainFound.{found_idle, found_rest}
 
 -- the standard input has failed only where it is read
 pub not_read : (r : Reading) (p : Phase) → StandardIs r p → r ≢ reading.Standard → p ≢ Broken
@@ -54,3 +56,19 @@ pub skipped_file : (m new : Mains) (state later : State) (inner : Inner) → m.r
     → next_file_row (with_main (main_of m state) inner) ≡ (with_main (main_of new later) inner, tt)
 skipped_file m new state later inner other told =
     ap done_with (given_up m state inner m.reading refl other) ∙ ap (λ (x : MainInput). done_with (with_main x inner)) (sym told)
+
+-- The same where nothing is known of what is to come: the standard input is at its end for ever.
+pub skipped_found : (old new : Mains) (inner : Inner) → new.reading ≡ reading.Nothing → new.ended ≡ old.ended → new.next ≡ old.next → new.found ≡ old.found
+    → StandardSkips old.reading old.standard new.standard → next_file_row (with_main (main_found old) inner) ≡ (with_main (main_found new) inner, tt)
+skipped_found old new inner nothing ended next found standard = by old.reading refl standard
+  where
+    file : old.reading ≢ reading.Standard → new.standard ≡ old.standard → next_file_row (with_main (main_found old) inner) ≡ (with_main (main_found new) inner, tt)
+    file other same = skipped_file old new coming coming inner other (found_idle old new nothing ended next found same)
+
+    by : (r : Reading) → old.reading ≡ r → StandardSkips r old.standard new.standard → next_file_row (with_main (main_found old) inner) ≡ (with_main (main_found new) inner, tt)
+    by reading.Nothing e same = file (λ is. cc (sym e ∙ is)) same
+    by reading.Standard e skips =
+        ap (λ r. done_with (gives_up (reading_found r) (with_main (main_found old) inner))) e
+        ∙ ap (λ (x : Source). done_with (with_main (record (idle (main_found old)) { standard = x }) inner)) (sym (nothing_left new.standard to_come skips.1 skips.2))
+        ∙ ap (λ (x : MainInput). done_with (with_main x inner)) (sym (found_rest old new nothing ended next found))
+    by (reading.File f) e same = file (λ is. cc (sym e ∙ is)) same

@@ -5,5 +5,6 @@ pub mod Puts
 pub mod Outputs
 pub mod Closing
 pub mod Mains
-pub mod MainFinds
 pub mod Passing
+pub mod MainFinds
+pub mod MainMoves

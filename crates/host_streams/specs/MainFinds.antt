@@ -6,32 +6,39 @@ use Rattle.awk_values.specs.declared.fault.Fault.TheVariants.{OpenInput, ReadFai
 use Rattle.awk_values.specs.declared.fault.Stop.{Stop}
 use Rattle.awk_values.specs.declared.fault.Stop.TheVariants.{Fault as IsFault, NoMemory}
 use Rattle.awk_values.specs.declared.value.Value.{Value}
-use Rattle.world_core.specs.WorldState.{Entry, Outside}
-use Rattle.world_core.specs.declared.world.Ending.TheVariants.{End}
+use Rattle.world_core.specs.WorldState.{Entry, Outside, Source}
 use Rattle.sem_primitives.specs.Finds.{shut}
-use Rattle.sem_primitives.specs.InputMeaning.{Main, NotOpened, Failed as ReadingFailed, follows, main_input, nothing_left, taken}
+use Rattle.sem_primitives.specs.InputMeaning.{Main, NotOpened, Failed as ReadingFailed, follows, main_input, taken, to_come}
 use Rattle.sem_primitives.specs.SharedState.{Inner, MainInput, MainReader, Standard, File}
 use Rattle.host_streams.specs.declared.main_input.MainInput.{MainInput as Mains}
 use Rattle.host_streams.specs.declared.main_input.MainNext.{MainNext}
 use Rattle.host_streams.specs.declared.main_input.MainNext.TheVariants.{Opened}
 use Rattle.host_streams.specs.declared.main_input.Reading.{Reading}
 use Rattle.host_streams.specs.declared.main_input.Reading.TheVariants as reading
-use Rattle.host_streams.specs.Mains.{GivenIs, IsAsked, IsOffered, operands_of, passed, rest_of, with_main}
+use Rattle.host_streams.specs.declared.reader.Reader.{Reader}
+use Rattle.host_streams.specs.Mains.{GivenIs, IsAsked, IsOffered, left_main, main_of, passed, phase_at, reading_of, rest_of, with_main}
+use Rattle.host_streams.specs.Passing.{kept_at}
+use Rattle.host_streams.specs.Readers.{coming, left, left_in}
 
--- what a reader has left is not known, since each read finds it anew
+-- What readers have left where nothing is known of what the world has for them, but that something is to come: after an end, or a failure, nothing is.
 abbrev pub reading_found : Reading → Option MainReader
-reading_found reading.Nothing = None
-reading_found reading.Standard = Some Standard
-reading_found (reading.File r) = Some (File nothing_left)
+reading_found reading = reading_of reading coming
 
 abbrev pub main_found : Mains → MainInput
-main_found m = record {
-  standard = nothing_left;
-  next = m.next;
-  operands = operands_of m.found;
-  reading = reading_found m.reading;
-  ended = m.ended;
-}
+main_found m = main_of m coming
+
+-- the reader at hand, and what it has left
+abbrev pub reader_at : Reading → MainReader
+reader_at reading.Nothing = Standard
+reader_at reading.Standard = Standard
+reader_at (reading.File r) = File (left r to_come)
+
+abbrev pub left_at : Reading → Reader → Source
+left_at reading standard = left_in (phase_at reading standard) (kept_at reading standard) to_come
+
+-- the same main input, where the reader at hand has left what it has after a read
+abbrev pub left_found : Mains → Reading → Reader → MainInput
+left_found m reading standard = left_main (reader_at m.reading) (left_at reading standard) (main_found m)
 
 -- these are found
 abbrev pub found_in : List Entry → Inner → Inner
@@ -57,9 +64,13 @@ abbrev pub as_step : Result MainNext Stop → Result (Option MainNext) Stop
 as_step (Ok answer) = Ok (Some answer)
 as_step (Err stop) = Err stop
 
+-- what is found where these bytes are read
+abbrev pub entry_of : Source → Entry
+entry_of source = record { bytes = Some source.rest; ending = source.ending; room = None; opens = true }
+
 -- what is found by an operand
 abbrev pub entry_of_reading : Reading → Entry
-entry_of_reading (reading.File r) = record { bytes = Some []; ending = End; room = None; opens = true }
+entry_of_reading (reading.File r) = entry_of (left r to_come)
 entry_of_reading r = shut
 
 abbrev pub found_by_name : List ℕ → Reading → List Entry

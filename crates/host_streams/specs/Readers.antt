@@ -6,7 +6,8 @@ use Rattle.awk_values.specs.declared.fault.Stop.TheVariants.{Fault as IsFault, N
 use Rattle.world_core.specs.declared.world.Ending.TheVariants.{End as IsEnd, Fails as IsFailure}
 use Rattle.world_core.specs.declared.world.WorldFault.{WorldFault}
 use Rattle.world_core.specs.declared.world.WorldFault.TheVariants.{Failed as DeviceFailed, NoMemory}
-use Rattle.world_core.specs.WorldState.{State, Source}
+use Rattle.world_core.specs.WorldState.{State, Source, Standard, absent}
+use Rattle.sem_primitives.specs.InputMeaning.{to_come}
 use Rattle.sem_primitives.specs.Limits.{most_text}
 use Rattle.sem_primitives.specs.Records.{first_record}
 use Rattle.sem_primitives.specs.Records.{Record as GotRecord, AtEnd as GotEnd, Broken as GotFailure}
@@ -35,6 +36,10 @@ left_in Broken kept source = record { rest = []; ending = IsFailure }
 
 abbrev pub left : Reader → Source → Source
 left r source = left_in r.phase (unread r) source
+
+-- A state of which nothing is known but that for each reader something is to come.
+abbrev pub coming : State
+coming = record { outside = λ target. absent; readers = λ id. to_come; writers = λ id. Standard }
 
 -- no other reader moves, and nothing outside changes
 pub record OnlyReads (id : ℕ) (old new : State) : Type 0 where

@@ -1,5 +1,5 @@
 //! The main input: the files that the operands name, or else the standard input (POSIX.1-2017 awk, "OPERANDS", "INPUT FILES").
-ghost use Rattle.std.specs.Prelude.{◌≡◌, ◌≢◌, ◌≤◌, ℕ, ℤ, Result, List, [], None, Some, false, length, IfErr, IfOk, OnErr};
+ghost use Rattle.std.specs.Prelude.{◌≡◌, ◌≢◌, ◌≤◌, ℕ, Result, List, [], None, Some, false, length, IfErr, IfOk, OnErr};
 ghost use Rattle.std.specs.List.{prefix_len};
 ghost use Rattle.world_core.specs.WorldState.{State};
 ghost use Rattle.world_core.specs.Calls.{Kind};
@@ -11,9 +11,10 @@ ghost use Rattle.sem_primitives.specs.Records.{record_separator};
 ghost use Rattle.sem_primitives.specs.SharedState.{Inner};
 ghost use Rattle.host_streams.specs.declared.reader.Phase.TheVariants.{Broken, Open};
 ghost use Rattle.host_streams.specs.Readers.{NextCounts, NextPhase, OnlyLimit};
-ghost use Rattle.host_streams.specs.Mains.{FileIsOpen, GivenIs, GivesMain, GivesOperand, GivesStep, GoesOn, HoldsMain, IsApartFrom, IsAsked, IsFresh, IsOfNumber, IsOffered, MainCounts, MainEnds, MainPhase, NameLen, OpensNoOther, OperandCounts, ReadsMain, SkipsMain, SparesKinds, SparesOthers, SparesPlaces, StandardIs, StepEnds, begins, has_operand, idle, is_equals, main_at_start, main_in, main_of, main_phase, phase_at, reading_of};
-ghost use Rattle.host_streams.specs.MainFinds.{FindsFollowing, FindsMain, FindsOperand, FindsReach, FindsSomeOn, FindsStep, entry_of_reading, main_found, reading_found};
-ghost use Rattle.host_streams.specs.Passing.{AreThere, FollowsAll, HandsAt, HandsMain, HandsStep, IdleAfter, IsOfOperands, IsOfReader, IsOne, NoneMore, Passes, RestsAfter, StandardSkips, StandardStays, StepNoneMore, StepPasses, StepRests};
+ghost use Rattle.host_streams.specs.Mains.{FileIsOpen, GivenIs, GivesMain, GivesOperand, GivesStep, HoldsMain, IsApartFrom, IsAsked, IsFresh, IsOfNumber, IsOffered, MainCounts, MainEnds, MainPhase, NameLen, OpensNoOther, OperandCounts, ReadsMain, SkipsMain, SparesKinds, SparesOthers, SparesPlaces, StandardIs, begins, has_operand, idle, is_equals, main_at_start, main_in, main_of, main_phase, phase_at, reading_of};
+ghost use Rattle.host_streams.specs.MainFinds.{FindsFollowing, FindsMain, FindsReach, FindsSomeOn, FindsStep, entry_of_reading, left_found, main_found, reading_found};
+ghost use Rattle.host_streams.specs.MainMoves.{MovesMain, StepsMain, TakesOperand};
+ghost use Rattle.host_streams.specs.Passing.{AreThere, FollowsAll, HandsAt, HandsMain, HandsStep, IdleAfter, IsOfOperands, IsOfReader, NoneMore, Passes, RestsAfter, StandardSkips, StandardStays, StepNoneMore, StepPasses};
 
 use crate::reader::{FileNext, Reader};
 use crate::streams::first_byte;
@@ -190,7 +191,8 @@ impl MainInput {
     fn read<W: World>(&mut self, world: &mut W, rs: Option<u8>) -> Result<FileNext, Stop>
         requires held { HoldsMain self.old (W.kinds world.old) }
         requires busy { self.old.reading ≢ Reading.Nothing }
-        ensures held { HoldsMain self.new (W.kinds world.new) }
+        ensures moves { MovesMain W.is_modelled self.old self.new (W.kinds world.old)
+            (W.kinds world.new) (W.state world.old) (W.state world.new) }
         ensures kinds { W.kinds world.new ≡ W.kinds world.old }
         ensures ended { self.new.ended ≡ self.old.ended }
         ensures count { NextCounts (phase_at self.old.reading self.old.standard) result
@@ -202,16 +204,12 @@ impl MainInput {
         ensures busy { self.new.reading ≢ Reading.Nothing }
         ensures told { W.is_modelled → ReadsMain rs (main_of self.old (W.state world.old)) result
             (main_of self.new (W.state world.new)) }
-        ensures spares { SparesOthers self.old self.new (W.kinds world.old) (W.kinds world.new) }
-        ensures no_others { OpensNoOther self.old self.new (W.kinds world.old) (W.kinds world.new) }
-        ensures places { W.is_modelled → SparesPlaces self.old.reading (W.kinds world.old)
-            (W.state world.old) (W.state world.new) }
-        ensures outside { W.is_modelled → (W.state world.new).outside ≡ (W.state world.old).outside }
         ensures found { self.new.found ≡ self.old.found }
         ensures standard { StandardStays self.old.reading self.old.standard self.new.standard }
         ensures handed { HandsAt rs self.old.reading self.old.standard result self.new.reading
             self.new.standard }
-        ensures same { main_found self.new ≡ main_found self.old }
+        ensures leaves { main_found self.new
+            ≡ left_found self.old self.new.reading self.new.standard }
     {
         match &mut self.reading {
             Reading::Nothing => Ok(FileNext::End),
@@ -224,18 +222,14 @@ impl MainInput {
     fn stop_reading<W: World>(&mut self, world: &mut W)
         requires held { HoldsMain self.old (W.kinds world.old) }
         requires whole { self.old.standard.phase ≢ Broken }
-        ensures held { HoldsMain self.new (W.kinds world.new) }
+        ensures moves { MovesMain W.is_modelled self.old self.new (W.kinds world.old)
+            (W.kinds world.new) (W.state world.old) (W.state world.new) }
         ensures nothing { self.new.reading ≡ Reading.Nothing }
         ensures ended { self.new.ended ≡ self.old.ended }
         ensures next { self.new.next ≡ self.old.next }
         ensures count { W.count world.new ≡ W.count world.old }
         ensures told { W.is_modelled → main_of self.new (W.state world.new)
             ≡ idle (main_of self.old (W.state world.old)) }
-        ensures spares { SparesOthers self.old self.new (W.kinds world.old) (W.kinds world.new) }
-        ensures no_others { OpensNoOther self.old self.new (W.kinds world.old) (W.kinds world.new) }
-        ensures places { W.is_modelled → SparesPlaces self.old.reading (W.kinds world.old)
-            (W.state world.old) (W.state world.new) }
-        ensures outside { W.is_modelled → (W.state world.new).outside ≡ (W.state world.old).outside }
         ensures found { self.new.found ≡ self.old.found }
         ensures standard { self.new.standard ≡ self.old.standard }
     {
@@ -250,25 +244,17 @@ impl MainInput {
         requires held { HoldsMain self.old (W.kinds world.old) }
         requires busy { self.old.reading ≢ Reading.Nothing }
         requires live { self.old.ended ≡ false }
-        ensures held { HoldsMain self.new (W.kinds world.new) }
+        ensures moves { MovesMain W.is_modelled self.old self.new (W.kinds world.old)
+            (W.kinds world.new) (W.state world.old) (W.state world.new) }
         ensures told { W.is_modelled → (inner : Inner) → IsAsked rs inner
             → GivesStep inner self.old (W.state world.old) result self.new (W.state world.new) }
-        ensures goes_on { GoesOn result self.old self.new }
-        ensures count { MainCounts (main_phase self.old) result (W.count world.old)
+        ensures steps { StepsMain (main_phase self.old) self.old result self.new (W.count world.old)
             (W.count world.new) }
-        ensures phase { MainPhase (main_phase self.old) result (main_phase self.new) }
-        ensures ends { StepEnds self.old.ended result self.new.ended }
-        ensures spares { SparesOthers self.old self.new (W.kinds world.old) (W.kinds world.new) }
-        ensures no_others { OpensNoOther self.old self.new (W.kinds world.old) (W.kinds world.new) }
-        ensures places { W.is_modelled → SparesPlaces self.old.reading (W.kinds world.old)
-            (W.state world.old) (W.state world.new) }
-        ensures outside { W.is_modelled → (W.state world.new).outside ≡ (W.state world.old).outside }
         ensures next { self.new.next ≡ self.old.next }
         ensures found { self.new.found ≡ self.old.found }
         ensures standard { StandardStays self.old.reading self.old.standard self.new.standard }
         ensures handed { HandsStep rs self.old result self.new }
         ensures answers { IsOfReader result }
-        ensures rests { StepRests result self.new.reading self.new.found }
         ensures finds { FindsSomeOn rs self.old result self.new }
     {
         match self.read(world, rs) {
@@ -294,13 +280,9 @@ impl MainInput {
         ensures told { (state : State) (inner : Inner)
             → GivenIs (follows (main_of self.old state).operands (main_in self.old state inner))
             result state.outside (main_in self.old state inner) (main_in self.new state inner) }
-        ensures goes_on { GoesOn result self.old self.new }
-        ensures count { (n : ℕ) → MainCounts Open result n n }
-        ensures phase { MainPhase Open result (main_phase self.new) }
-        ensures ends { StepEnds self.old.ended result self.new.ended }
+        ensures steps { (n : ℕ) → StepsMain Open self.old result self.new n n }
         ensures next { self.new.next ≡ self.old.next }
         ensures follows { FollowsAll self.old.found result self.new.found }
-        ensures rests { StepRests result self.new.reading self.new.found }
         ensures finds { FindsFollowing self.old result self.new }
     {
         if let Found::NoFile = self.found {
@@ -322,29 +304,13 @@ impl MainInput {
         requires plain { name ≢ [] }
         requires file { assignment_of name ≡ None }
         requires left { self.old.found ≢ Found.NoneLeft }
-        ensures held { HoldsMain self.new (W.kinds world.new) }
+        ensures moves { MovesMain W.is_modelled self.old self.new (W.kinds world.old)
+            (W.kinds world.new) (W.state world.old) (W.state world.new) }
         ensures told { W.is_modelled → (inner : Inner) → GivesOperand name inner self.old
             (W.state world.old) result self.new (W.state world.new) }
-        ensures spares { SparesOthers self.old self.new (W.kinds world.old) (W.kinds world.new) }
-        ensures no_others { OpensNoOther self.old self.new (W.kinds world.old) (W.kinds world.new) }
-        ensures places { W.is_modelled → SparesPlaces self.old.reading (W.kinds world.old)
-            (W.state world.old) (W.state world.new) }
-        ensures outside { W.is_modelled → (W.state world.new).outside ≡ (W.state world.old).outside }
-        ensures goes_on { GoesOn result self.old self.new }
-        ensures count { MainCounts Open result (W.count world.old) (W.count world.new) }
-        ensures phase { MainPhase Open result (main_phase self.new) }
-        ensures ends { StepEnds self.old.ended result self.new.ended }
-        ensures passes { (texts : ℕ → List ℕ) → texts self.old.next ≡ name
-            → StepPasses texts self.old.next self.old.found result self.new.next self.new.found }
-        ensures standard { self.new.standard ≡ self.old.standard }
-        ensures one { IsOne self.old.next self.new.next }
-        ensures answers { IsOfOperands result }
-        ensures idle { IdleAfter result self.new.reading }
-        ensures rests { StepRests result self.new.reading self.new.found }
-        ensures named { self.new.found ≢ Found.NoneLeft }
-        ensures more { (count : Result ℤ Fault)
-            → StepNoneMore count false self.old.found result self.new.next self.new.found }
-        ensures finds { FindsOperand name self.old result self.new }
+        ensures steps { StepsMain Open self.old result self.new (W.count world.old)
+            (W.count world.new) }
+        ensures operand { TakesOperand name self.old result self.new }
     {
         let opened = open_operand(world, self.alloc, name.as_slice())?;
         self.next += 1;
@@ -363,24 +329,11 @@ impl MainInput {
         requires name { NameLen text.now (Some len) }
         requires next { self.old.next ≤ most_operands }
         requires left { self.old.found ≢ Found.NoneLeft }
-        ensures standard { self.new.standard ≡ self.old.standard }
         ensures reading { self.new.reading ≡ self.old.reading }
         ensures told { (state : State) (inner : Inner)
             → GivesOperand text.now inner self.old state result self.new state }
-        ensures goes_on { GoesOn result self.old self.new }
-        ensures count { (n : ℕ) → MainCounts Open result n n }
-        ensures phase { MainPhase Open result (main_phase self.new) }
-        ensures ends { StepEnds self.old.ended result self.new.ended }
-        ensures passes { (texts : ℕ → List ℕ) → texts self.old.next ≡ text.now
-            → StepPasses texts self.old.next self.old.found result self.new.next self.new.found }
-        ensures one { IsOne self.old.next self.new.next }
-        ensures answers { IsOfOperands result }
-        ensures idle { IdleAfter result self.new.reading }
-        ensures rests { StepRests result self.new.reading self.new.found }
-        ensures named { self.new.found ≢ Found.NoneLeft }
-        ensures more { (count : Result ℤ Fault)
-            → StepNoneMore count false self.old.found result self.new.next self.new.found }
-        ensures finds { FindsOperand text.now self.old result self.new }
+        ensures steps { (n : ℕ) → StepsMain Open self.old result self.new n n }
+        ensures operand { TakesOperand text.now self.old result self.new }
     {
         let name = Bytes::from_slice(self.alloc, &text[..len])?;
         let value = Bytes::from_slice(self.alloc, &text[len + 1..])?;
@@ -399,29 +352,13 @@ impl MainInput {
         requires next { self.old.next ≤ most_operands }
         requires left { self.old.found ≢ Found.NoneLeft }
         requires held { HoldsMain self.old (W.kinds world.old) }
-        ensures held { HoldsMain self.new (W.kinds world.new) }
+        ensures moves { MovesMain W.is_modelled self.old self.new (W.kinds world.old)
+            (W.kinds world.new) (W.state world.old) (W.state world.new) }
         ensures told { W.is_modelled → (inner : Inner) → GivesOperand (O.text operands.now self.old.next)
             inner self.old (W.state world.old) result self.new (W.state world.new) }
-        ensures goes_on { GoesOn result self.old self.new }
-        ensures count { MainCounts Open result (W.count world.old) (W.count world.new) }
-        ensures phase { MainPhase Open result (main_phase self.new) }
-        ensures ends { StepEnds self.old.ended result self.new.ended }
-        ensures spares { SparesOthers self.old self.new (W.kinds world.old) (W.kinds world.new) }
-        ensures no_others { OpensNoOther self.old self.new (W.kinds world.old) (W.kinds world.new) }
-        ensures places { W.is_modelled → SparesPlaces self.old.reading (W.kinds world.old)
-            (W.state world.old) (W.state world.new) }
-        ensures outside { W.is_modelled → (W.state world.new).outside ≡ (W.state world.old).outside }
-        ensures passes { StepPasses (O.text operands.now) self.old.next self.old.found result
-            self.new.next self.new.found }
-        ensures standard { self.new.standard ≡ self.old.standard }
-        ensures one { IsOne self.old.next self.new.next }
-        ensures answers { IsOfOperands result }
-        ensures idle { IdleAfter result self.new.reading }
-        ensures rests { StepRests result self.new.reading self.new.found }
-        ensures named { self.new.found ≢ Found.NoneLeft }
-        ensures more { (count : Result ℤ Fault)
-            → StepNoneMore count false self.old.found result self.new.next self.new.found }
-        ensures finds { FindsOperand (O.text operands.now self.old.next) self.old result self.new }
+        ensures steps { StepsMain Open self.old result self.new (W.count world.old)
+            (W.count world.new) }
+        ensures operand { TakesOperand (O.text operands.now self.old.next) self.old result self.new }
     {
         let text = operands.operand(self.next)?;
         if text.as_slice().is_empty() {
@@ -444,18 +381,12 @@ impl MainInput {
         requires idle { self.old.reading ≡ Reading.Nothing }
         requires live { self.old.ended ≡ false }
         requires held { HoldsMain self.old (W.kinds world.old) }
-        ensures held { HoldsMain self.new (W.kinds world.new) }
+        ensures moves { MovesMain W.is_modelled self.old self.new (W.kinds world.old)
+            (W.kinds world.new) (W.state world.old) (W.state world.new) }
         ensures told { W.is_modelled → (inner : Inner) → IsOffered argc.now (O.text operands.now) inner
             → GivesStep inner self.old (W.state world.old) result self.new (W.state world.new) }
-        ensures goes_on { GoesOn result self.old self.new }
-        ensures count { MainCounts Open result (W.count world.old) (W.count world.new) }
-        ensures phase { MainPhase Open result (main_phase self.new) }
-        ensures ends { StepEnds self.old.ended result self.new.ended }
-        ensures spares { SparesOthers self.old self.new (W.kinds world.old) (W.kinds world.new) }
-        ensures no_others { OpensNoOther self.old self.new (W.kinds world.old) (W.kinds world.new) }
-        ensures places { W.is_modelled → SparesPlaces self.old.reading (W.kinds world.old)
-            (W.state world.old) (W.state world.new) }
-        ensures outside { W.is_modelled → (W.state world.new).outside ≡ (W.state world.old).outside }
+        ensures steps { StepsMain Open self.old result self.new (W.count world.old)
+            (W.count world.new) }
         ensures passes { StepPasses (O.text operands.now) self.old.next self.old.found result
             self.new.next self.new.found }
         ensures there { AreThere (number_of_value argc.now) self.old.next self.new.next }
@@ -464,7 +395,6 @@ impl MainInput {
         ensures standard { self.new.standard ≡ self.old.standard }
         ensures answers { IsOfOperands result }
         ensures idle { IdleAfter result self.new.reading }
-        ensures rests { StepRests result self.new.reading self.new.found }
         ensures finds { FindsReach argc.now (O.text operands.now) self.old result self.new }
     {
         if let Found::NoneLeft = self.found {
@@ -486,27 +416,19 @@ impl MainInput {
         rs: Option<u8>,
     ) -> Result<Option<MainNext>, Stop>
         requires held { HoldsMain self.old (W.kinds world.old) }
-        ensures held { HoldsMain self.new (W.kinds world.new) }
+        ensures moves { MovesMain W.is_modelled self.old self.new (W.kinds world.old)
+            (W.kinds world.new) (W.state world.old) (W.state world.new) }
         ensures told { W.is_modelled → (inner : Inner) → IsAsked rs inner
             → IsOffered argc.now (O.text operands.now) inner
             → GivesStep inner self.old (W.state world.old) result self.new (W.state world.new) }
-        ensures goes_on { GoesOn result self.old self.new }
-        ensures count { MainCounts (main_phase self.old) result (W.count world.old)
+        ensures steps { StepsMain (main_phase self.old) self.old result self.new (W.count world.old)
             (W.count world.new) }
-        ensures phase { MainPhase (main_phase self.old) result (main_phase self.new) }
-        ensures ends { StepEnds self.old.ended result self.new.ended }
-        ensures spares { SparesOthers self.old self.new (W.kinds world.old) (W.kinds world.new) }
-        ensures no_others { OpensNoOther self.old self.new (W.kinds world.old) (W.kinds world.new) }
-        ensures places { W.is_modelled → SparesPlaces self.old.reading (W.kinds world.old)
-            (W.state world.old) (W.state world.new) }
-        ensures outside { W.is_modelled → (W.state world.new).outside ≡ (W.state world.old).outside }
         ensures handed { HandsStep rs self.old result self.new }
         ensures passes { StepPasses (O.text operands.now) self.old.next self.old.found result
             self.new.next self.new.found }
         ensures there { AreThere (number_of_value argc.now) self.old.next self.new.next }
         ensures more { StepNoneMore (number_of_value argc.now) self.old.ended self.old.found result
             self.new.next self.new.found }
-        ensures rests { StepRests result self.new.reading self.new.found }
         ensures standard { StandardStays self.old.reading self.old.standard self.new.standard }
         ensures finds { FindsStep rs argc.now (O.text operands.now) self.old result self.new }
     {

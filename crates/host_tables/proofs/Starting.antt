@@ -14,7 +14,7 @@ use Rattle.host_values.specs.Calls.{reserved_handle}
 use Rattle.host_values.proofs.Entries.{entries_insert}
 use Rattle.host_arrays.specs.Pairs.{first_arrays as no_pairs}
 use Rattle.host_texts.specs.States.{no_record, specials_of}
-use Rattle.host_values.specs.Forms.{Arrays, IsHeld, Past, Shows, Stands, state_of}
+use Rattle.host_values.specs.Forms.{Arrays, Coming, IsHeld, Past, Shows, Stands, state_of}
 use Rattle.host_values.proofs.Places.{added, inserted}
 use Rattle.host_names.specs.Forms.{announced, left_of}
 use Rattle.host_tables.specs.Starts.{argv_and_environ, form_of}
@@ -95,7 +95,7 @@ pub record Begins (t : FirstTables) (job : JobForm) : Type 0 where
   pub arguments : t.arguments.items ≡ []
   pub fault : t.fault ≡ fault_of_job job
 
-module _ (t : FirstTables) (job : JobForm) (b : Begins t job) (input : Source) (outside : Outside) where
+module _ (t : FirstTables) (job : JobForm) (b : Begins t job) (input : Source) (outside : Outside) (coming : Coming) where
   abbrev argv : Pairs
   argv = arguments_from 0 (codes "awk" ∷ job.operands)
 
@@ -105,7 +105,7 @@ module _ (t : FirstTables) (job : JobForm) (b : Begins t job) (input : Source) (
   abbrev past : Past
   past = record { array_places = first_places; arrays = argv ∷ environ ∷ []; iterator_places = nothing; iterators = [] }
 
-  state_is : state_of (form_of t (shared_at_start job input outside)) past ≡ state_at_start job input outside
+  state_is : state_of (form_of t (shared_at_start job input outside) coming) past ≡ state_at_start job input outside
   state_is i = record {
     names = record { values = (ap map.entries b.handles ∙ entries_empty) i; arrays = entries_first i; iterators = entries_empty {A = ℕ} i };
     shared = record (shared_at_start job input outside) {
@@ -123,7 +123,7 @@ module _ (t : FirstTables) (job : JobForm) (b : Begins t job) (input : Source) (
     fault = b.fault i;
   }
 
-  pub stands : Stands (form_of t (shared_at_start job input outside)) (state_at_start job input outside)
+  pub stands : Stands (form_of t (shared_at_start job input outside) coming) (state_at_start job input outside)
   stands = record {
     past = past;
     state = sym state_is;

@@ -1,5 +1,5 @@
 -- What is told of a call is what it means.
-use Rattle.std.proofs.Common.{◌≡◌, ℕ, Bool, true, false, true≢false, not, cond, List, [], Option, Some, None, Result, Ok, Err, refl, sym, ap, ◌∙◌, subst}
+use Rattle.std.proofs.Common.{◌≡◌, ℕ, Bool, true, false, true≢false, not, cond, List, [], Option, Some, None, Result, Ok, Err, refl, sym, ap, ◌∙◌}
 use Rattle.awk_values.specs.declared.fault.Fault.{Fault}
 use Rattle.sem_primitives.specs.declared.sorts.Answer.{Answer}
 use Rattle.sem_primitives.specs.declared.sorts.Answer.TheVariants as answer
@@ -73,13 +73,6 @@ module _ (tells : Type 0) (i : Import) (words : List Word) (memory : List ℕ) (
     where
       fits_none : (x : Refusal) → Fits i (Err x)
       fits_none x = tt
-
--- the same once a fault is kept
-pub call_means : (tells : Type 0) (i : Import) (words : List Word) (memory : List ℕ) (before between after-call : HostForm) (r : Result (Option Word) Refusal)
-    → between.shared.outside ≡ before.shared.outside → TableCalls i before words memory r between
-    → after-call ≡ left_by_call r between → FormMeans tells (Some i) before words memory (told_as i r) after-call []
-call_means tells i words memory before between after-call r outside calls e =
-    subst (λ (z : HostForm). FormMeans tells (Some i) before words memory (told_as i r) z []) (sym e) (told_means tells i words memory before between outside r calls)
 
 -- a call that is refused
 pub refused_means : (tells : Type 0) (i : Import) (f : HostForm) (words : List Word) (memory : List ℕ) → refuses i f.fault ≡ true

@@ -12,6 +12,7 @@ of_tables t f = record {
   arrays = t.arrays;
   iterators = t.iterators;
   shared = record f.shared { inner = with_texts t.texts f.shared.inner };
+  coming = f.coming;
   arguments = t.arguments.items;
   fault = t.fault;
 }

@@ -3,7 +3,7 @@ use Rattle.std.specs.Prelude.{◌||◌, Bool, [], ◌∷◌, codes, map as map_l
 use Rattle.std.specs.FinMap as map
 use Rattle.sem_primitives.specs.Jobs.{JobForm, is_long, arguments_from, environment_in}
 use Rattle.sem_primitives.specs.SharedState.{Shared}
-use Rattle.host_values.specs.Forms.{Arrays, HostForm}
+use Rattle.host_values.specs.Forms.{Arrays, Coming, HostForm}
 use Rattle.host_names.specs.Forms.{pair_of, with_all}
 use Rattle.host_names.specs.declared.names.NamedText.{NamedText}
 use Rattle.host_tables.specs.declared.job.Job.{Job}
@@ -21,12 +21,13 @@ abbrev pub is_long_pair : NamedText → Bool
 is_long_pair p = is_long p.name || is_long p.text
 
 -- these tables, where all else that is shared is that of a state
-abbrev pub form_of : FirstTables → Shared → HostForm
-form_of t shared = record {
+abbrev pub form_of : FirstTables → Shared → Coming → HostForm
+form_of t shared coming = record {
   values = t.handles;
   arrays = t.arrays;
   iterators = t.iterators;
   shared = record shared { inner = with_all t.texts t.names shared.inner };
+  coming = coming;
   arguments = t.arguments.items;
   fault = t.fault;
 }

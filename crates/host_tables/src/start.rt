@@ -2,7 +2,7 @@
 ghost use Rattle.std.specs.Prelude.{◌≡◌, ◌∷◌, [], IfOk, None, OnOk, codes, map, pos, true};
 ghost use Rattle.std.specs.FinMap as maps;
 ghost use Rattle.sem_primitives.specs.Jobs.{arguments_from, environment_in, shared_at_start};
-ghost use Rattle.host_values.specs.Forms.{Stands};
+ghost use Rattle.host_values.specs.Forms.{Coming, Stands};
 ghost use Rattle.host_names.specs.Forms.{pair_of};
 ghost use Rattle.host_step.specs.Starts.{state_at_start};
 ghost use Rattle.host_tables.specs.Starts.{argv_and_environ, form_of, job_of};
@@ -110,8 +110,8 @@ impl FirstTables {
     ///
     /// There is no memory.
     pub fn at_start(alloc: Global, job: &Job, state: RandomState) -> Result<FirstTables, AllocError>
-        ensures stands { IfOk result (λ t. (input : Source) (outside : Outside)
-            → Stands (form_of t (shared_at_start (job_of job.now) input outside))
+        ensures stands { IfOk result (λ t. (input : Source) (outside : Outside) (coming : Coming)
+            → Stands (form_of t (shared_at_start (job_of job.now) input outside) coming)
             (state_at_start (job_of job.now) input outside)) }
         ensures values { IfOk result (λ t. maps.get t.handles reserved_handle ≡ None) }
         ensures arrays { IfOk result (λ t. maps.get t.arrays reserved_handle ≡ None) }

@@ -20,7 +20,7 @@ impl Tables {
         requires arrays { map.get first.arrays reserved_handle ≡ None }
         requires iterators { map.get first.iterators reserved_handle ≡ None }
         ensures form { (f : HostForm) → of_tables_and_names result.0 result.1 f
-            ≡ form_of first f.shared }
+            ≡ form_of first f.shared f.coming }
         ensures names { result.1 ≡ first.names }
         ensures fault { result.0.fault ≡ first.fault }
     {

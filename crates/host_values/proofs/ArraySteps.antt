@@ -34,7 +34,8 @@ use Rattle.host_values.specs.ElementCalls.{IsTableCall, with_arrays}
 use Rattle.host_values.specs.Forms.{Arrays, HostForm, IsHeld, Past, inner_of, state_of}
 use Rattle.host_values.specs.Reads.{array_and_two, array_and_value, only_number}
 use Rattle.host_values.proofs.Elements.{at_place, created_new, created_old, element-get_pair, stored-set_pair}
-use Rattle.host_values.proofs.Places.{HasPlace, a_place, added, changed, insert_held, inserted, no_place}
+use Rattle.host_handles.proofs.NumberLemmas.{insert_same}
+use Rattle.host_values.proofs.Places.{HasPlace, a_place, added, changed, inserted, no_place}
 use Rattle.host_values.proofs.Reading.{array_alone, both_decoded, both_row, key_decoded, key_row, number_row, place_at}
 use Rattle.host_values.proofs.ElementSteps.{GoesOn, IsPast, acts_of, goes, state_with, trapped, unrefused}
 
@@ -178,7 +179,7 @@ read_past f p a k left None e past there = (
 read_past f p a k left (Some v) e past there =
     let h = a_place f.arrays p.array_places p.arrays a past.arrays there in
     let same : map.insert f.arrays a (created k (pairs_at f.arrays a)) ≡ f.arrays
-    = ap (map.insert f.arrays a) (created_old k (pairs_at f.arrays a) v e ∙ ap pairs_or_none h.holds) ∙ insert_held f.arrays a h.item h.holds in (
+    = ap (map.insert f.arrays a) (created_old k (pairs_at f.arrays a) v e ∙ ap pairs_or_none h.holds) ∙ insert_same f.arrays a h.item h.holds in (
       p.arrays,
       record {
         arrays = subst (λ (m : Arrays). IsHeld m p.array_places p.arrays) (sym same) past.arrays;

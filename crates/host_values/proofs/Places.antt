@@ -4,9 +4,10 @@ use Rattle.std.specs.Prelude.{slice_get, slice_set}
 use Rattle.std.specs.Ordering.{int_cmp, int_eq}
 use Rattle.std.specs.Cmp.{int_cmp_total, signed_Decides}
 use Rattle.std.specs.FinMap as map
-use Rattle.std.specs.FinMap.{FinMap, int_cmp-IsAntisymmetric}
+use Rattle.std.specs.FinMap.{FinMap}
 use Rattle.std.proofs.lemmas.Option.{slice_get-get_or, slice_get_past, slice_get_within}
 use Rattle.std.proofs.lemmas.Bool.{cases_lt}
+use Rattle.host_handles.proofs.NumberLemmas.{insert_same}
 use Rattle.host_values.specs.Forms.{IsHeld, Iterators, Keys, Shows}
 use Rattle.host_values.specs.Turns.{keys_at, keys_or_none}
 
@@ -77,14 +78,6 @@ inserted m q v r = map.get-insert int_cmp_total m q v r
 pub removed_at : {V : Type 0} (m : FinMap int_cmp V) (q r : ℤ) → map.get (map.remove m q) r ≡ cond (int_eq r q) None (map.get m r)
 removed_at m q r = map.get-remove int_cmp_total m q r
 
--- what is put where it stands changes nothing
-pub insert_held : {V : Type 0} (m : FinMap int_cmp V) (q : ℤ) (v : V) → map.get m q ≡ Some v → map.insert m q v ≡ m
-insert_held m q v there = map.same_map int_cmp_total int_cmp-IsAntisymmetric _ _ (λ r. inserted m q v r ∙ by r (int_eq r q) refl)
-  where
-    by : (r : ℤ) (b : Bool) → int_eq r q ≡ b → cond b (Some v) (map.get m r) ≡ map.get m r
-    by r true e = sym (ap (map.get m) ((signed_Decides r q).0 e) ∙ there)
-    by r false e = refl
-
 -- what is put where something stands gives nothing else something
 pub free_still : {V : Type 0} (m : FinMap int_cmp V) (q : ℤ) (v : V) (r : ℤ) → map.contains_key m q ≡ true → map.get m r ≡ None
     → map.get (map.insert m q v) r ≡ None
@@ -95,7 +88,7 @@ free_still m q v r there none = inserted m q v r ∙ by (int_eq r q) refl
     by false e = none
 
 pub insert_keys : (m : Iterators) (q : ℤ) → map.contains_key m q ≡ true → map.insert m q (keys_at m q) ≡ m
-insert_keys m q there = insert_held m q (keys_at m q) (by (map.get m q) there)
+insert_keys m q there = insert_same m q (keys_at m q) (by (map.get m q) there)
   where
     by : (o : Option Keys) → is_some o ≡ true → o ≡ Some (keys_or_none o)
     by None e = cc

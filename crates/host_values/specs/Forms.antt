@@ -6,7 +6,8 @@ use Rattle.std.specs.FinMap as map
 use Rattle.std.specs.FinMap.{FinMap}
 use Rattle.awk_values.specs.declared.fault.Fault.{Fault}
 use Rattle.awk_values.specs.declared.value.Value.{Value}
-use Rattle.sem_primitives.specs.SharedState.{Pairs, Shared, Inner}
+use Rattle.world_core.specs.WorldState.{Source}
+use Rattle.sem_primitives.specs.SharedState.{Pairs, Shared, Inner, MainInput}
 use Rattle.host_step.specs.HostState.{HostState}
 use Rattle.host_values.specs.Evaluations.{Values}
 
@@ -20,13 +21,20 @@ Keys = List (List ℕ)
 abbrev pub Iterators : Type 0
 Iterators = FinMap int_cmp Keys
 
+-- What the files that are read, by their names, and the main input have left where others change what names hold too: there nothing is known of what is to
+-- come, so what a reader keeps, and how far it is, tells all.
+pub record Coming : Type 0 where
+  pub readers : List (List ℕ × Source)
+  pub main : MainInput
+
 -- The host as its tables have it: values, arrays and iterators by their numbers; all else that a script and its host share, where the lists of arrays and
--- iterators are not looked at; the argument list; the fault that is kept.
+-- iterators are not looked at; what readers have left where others change what they read; the argument list; the fault that is kept.
 pub record HostForm : Type 0 where
   pub values : Values
   pub arrays : Arrays
   pub iterators : Iterators
   pub shared : Shared
+  pub coming : Coming
   pub arguments : List Value
   pub fault : Option Fault
 

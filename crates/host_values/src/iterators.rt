@@ -6,8 +6,7 @@ ghost use Rattle.host_handles.specs.Tables.{most_slots};
 ghost use Rattle.host_values.specs.Turns.{first_key, keys_at, other_keys};
 
 use awk_values::Bytes;
-use host_handles::MAX_SLOTS;
-use slab::Slab;
+use host_handles::Numbered;
 use std::alloc::{AllocError, Global};
 use std::marker::Model;
 
@@ -45,7 +44,7 @@ impl Visit {
 /// Iterators, each under a number from 0 to 2^31 - 2. Contracts see a finite map from numbers to the keys that are left.
 #[derive(Drop)]
 pub struct Iterators {
-    slab: Slab<Visit>,
+    numbered: Numbered<Visit>,
 }
 
 impl Model for Iterators {
@@ -53,20 +52,12 @@ impl Model for Iterators {
     ghost use Rattle.std.specs.Ordering.{int_cmp};
     ghost use Rattle.std.specs.FinMap as map;
     ghost use Rattle.std.specs.Coded.{coded_ℤ, coded_list, coded_ℕ};
-    ghost use Rattle.host_handles.specs.Tables.{table};
 
     ghost Value = { map.FinMap int_cmp (List (List ℕ)) };
 
     ghost coded = { map.code coded_ℤ (coded_list (coded_list coded_ℕ)) };
 
-    ghost view = { λ t. table t.slab.slots };
-}
-
-fn slot_of(number: i32) -> usize
-    requires { pos 0 ≤ℤ number }
-    ensures { number ≡ pos result }
-{
-    number as usize
+    ghost view = { λ t. t.numbered };
 }
 
 impl Iterators {
@@ -78,7 +69,7 @@ impl Iterators {
         ensures { result ≡ map.empty }
     {
         Iterators {
-            slab: Slab::new(alloc),
+            numbered: Numbered::new(alloc),
         }
     }
 
@@ -94,32 +85,21 @@ impl Iterators {
         ensures added { IfOk result (λ number. self.new ≡ map.insert self.old number keys.items) }
         ensures refused { OnErr result (self.new ≡ self.old) }
     {
-        let slab = &mut self.slab;
-        if slab.vacant_key() >= MAX_SLOTS {
-            return Err(AllocError);
-        }
-        let Ok(key) = slab.insert(Visit { keys, visited: 0 }) else {
-            return Err(AllocError);
-        };
-        Ok(key as i32)
+        self.numbered.add(Visit { keys, visited: 0 })
     }
 
     /// How many iterators there are.
     pub fn live(&self) -> usize
         ensures { result ≡ map.len self.now }
     {
-        self.slab.len()
+        self.numbered.live()
     }
 
     /// Whether a number is that of an iterator.
     pub fn is_iterator(&self, number: i32) -> bool
         ensures { result ≡ map.contains_key self.now number }
     {
-        let slab = &self.slab;
-        if number < 0 {
-            return false;
-        }
-        slab.get(slot_of(number)).is_some()
+        self.numbered.contains(number)
     }
 
     fn visit(&mut self, number: i32) -> &mut Visit
@@ -128,7 +108,7 @@ impl Iterators {
             (Lends the_row one.the_row self.entry result (map.insert self.old number)) }
         ensures value { result.now ≡ keys_at self.old number }
     {
-        &mut self.slab[slot_of(number)]
+        self.numbered.at_mut(number)
     }
 
     /// The next key of an iterator; none where none is left.
@@ -151,6 +131,6 @@ impl Iterators {
         requires { map.contains_key self.old number ≡ true }
         ensures { self.new ≡ map.remove self.old number }
     {
-        self.slab.remove(slot_of(number));
+        self.numbered.remove(number);
     }
 }

@@ -1,11 +1,11 @@
 -- Closing a file is a step.
-use Rattle.std.proofs.Common.{◌≡◌, ℕ, ℤ, Bool, true, false, cond, List, [], ◌∷◌, map, not, Option, Some, None, Ok, Err, refl, sym, ap, subst, ◌∙◌, if◌then◌else◌}
+use Rattle.std.proofs.Common.{◌≡◌, ℕ, ℤ, Bool, true, false, cond, List, [], ◌∷◌, not, Option, Some, None, Ok, Err, refl, sym, ap, subst, ◌∙◌, if◌then◌else◌}
 use Rattle.std.specs.Prelude.{◌||◌}
 use Rattle.std.specs.FinMap as table
 use Rattle.awk_values.specs.Values.{text_of_value}
 use Rattle.awk_values.specs.declared.value.Value.{Value}
 use Rattle.awk_values.specs.declared.value.Value.TheVariants.{Text}
-use Rattle.sem_primitives.specs.InputMeaning.{close_row, is_open, is_reading, nothing_left, reader_named, without_reader, without_writer}
+use Rattle.sem_primitives.specs.InputMeaning.{close_row, is_open, is_reading, reader_named, without_reader, without_writer}
 use Rattle.sem_primitives.specs.OutputMeaning.{is_writing}
 use Rattle.sem_primitives.specs.SharedState.{Inner, Shared}
 use Rattle.sem_primitives.specs.Texts.{same_text}
@@ -33,30 +33,30 @@ use Rattle.host_values.specs.ElementCalls.{Leads}
 use Rattle.host_values.specs.Forms.{HostForm, Past, state_of}
 use Rattle.host_values.proofs.ElementSteps.{acts_of, goes, state_with, traps, unrefused}
 use Rattle.host_streams.specs.Closing.{ClosesBy}
-use Rattle.host_streams.specs.OpenFiles.{names_of, reader_names, readers_in}
+use Rattle.host_streams.specs.OpenFiles.{names_of, reader_names, readers_beside, readers_in}
 use Rattle.host_streams.specs.Outputs.{IsOf}
+use Rattle.host_streams.specs.Readers.{coming, left}
 use Rattle.host_streams.specs.declared.streams.NamedReader.{NamedReader}
 use Rattle.host_streams.specs.declared.streams.Streams.{Streams}
 use Rattle.host_values.specs.Findings.{form_finding}
 use Rattle.host_values.specs.WorldCalls.{IsCalled, LeadsIn}
 use Rattle.host_values.proofs.Found.{led_nothing}
 use Rattle.host_worlds.specs.Forms.{closed_code, closing}
-use Rattle.host_worlds.proofs.Names.{as_reader, name_alone, names_only}
 use Rattle.host_worlds.proofs.Worlds.{silent_called, trap_called}
 
 -- Names.
 
-beside_first : (name : List ℕ) (b : Bool) (x : List ℕ × Source) (xs : List (List ℕ × Source)) (ns : List (List ℕ))
-    → map name_alone (without_reader name xs) ≡ map as_reader (without_writer name ns)
-    → map name_alone (if not b then x ∷ without_reader name xs else without_reader name xs)
-    ≡ map as_reader (if not b then x.0 ∷ without_writer name ns else without_writer name ns)
-beside_first name true x xs ns e = e
-beside_first name false x xs ns e = ap (λ ys. (x.0, nothing_left) ∷ ys) e
-
-beside_names : (name : List ℕ) (rs : List NamedReader) (state : State)
-    → map name_alone (without_reader name (readers_in rs state)) ≡ map as_reader (without_writer name (reader_names rs))
-beside_names name [] state = refl
-beside_names name (r ∷ rs) state = beside_first name (same_text name r.name) _ (readers_in rs state) (reader_names rs) (beside_names name rs state)
+-- the readers of other names
+beside_readers : (name : List ℕ) (rs : List NamedReader) (state : State) → without_reader name (readers_in rs state) ≡ readers_in (readers_beside name rs) state
+beside_readers name [] state = refl
+beside_readers name (r ∷ rs) state = by (same_text name r.name) (beside_readers name rs state)
+  where
+    by : (b : Bool) → without_reader name (readers_in rs state) ≡ readers_in (readers_beside name rs) state
+        → cond (not b) ((r.name, left r.reader (state.readers r.reader.id)) ∷ without_reader name (readers_in rs state))
+        (without_reader name (readers_in rs state))
+        ≡ readers_in (cond (not b) (r ∷ readers_beside name rs) (readers_beside name rs)) state
+    by true e = e
+    by false e = ap (λ xs. (r.name, left r.reader (state.readers r.reader.id)) ∷ xs) e
 
 -- whether a name is open for reading
 reading_first : (name : List ℕ) (b : Bool) (source : Source) (o : Option Source) (c : Bool) → is_reading o ≡ c → is_reading (cond b (Some source) o) ≡ cond b true c
@@ -66,26 +66,6 @@ reading_first name false source o c e = e
 reading_named : (name : List ℕ) (rs : List NamedReader) (state : State) → is_reading (reader_named name (readers_in rs state)) ≡ is_writing name (reader_names rs)
 reading_named name [] state = refl
 reading_named name (r ∷ rs) state = reading_first name (same_text name r.name) _ (reader_named name (readers_in rs state)) _ (reading_named name rs state)
-
--- the same of names alone
-
-alone_first : (b : Bool) (x : List ℕ × Source) (ys zs : List (List ℕ × Source)) → ys ≡ map name_alone zs
-    → (if not b then name_alone x ∷ ys else ys) ≡ map name_alone (if not b then x ∷ zs else zs)
-alone_first true x ys zs e = e
-alone_first false x ys zs e = ap (λ ws. name_alone x ∷ ws) e
-
-alone_beside : (name : List ℕ) (xs : List (List ℕ × Source)) → without_reader name (map name_alone xs) ≡ map name_alone (without_reader name xs)
-alone_beside name [] = refl
-alone_beside name (x ∷ xs) = alone_first (same_text name x.0) x (without_reader name (map name_alone xs)) (without_reader name xs) (alone_beside name xs)
-
-alone_named : (b : Bool) (s t : Source) (o u : Option Source) → is_reading o ≡ is_reading u → is_reading (cond b (Some s) o) ≡ is_reading (cond b (Some t) u)
-alone_named true s t o u e = refl
-alone_named false s t o u e = e
-
-reading_alone : (name : List ℕ) (xs : List (List ℕ × Source)) → is_reading (reader_named name (map name_alone xs)) ≡ is_reading (reader_named name xs)
-reading_alone name [] = refl
-reading_alone name (x ∷ xs) =
-    alone_named (same_text name x.0) nothing_left x.1 (reader_named name (map name_alone xs)) (reader_named name xs) (reading_alone name xs)
 
 pub code_by : (b : Bool) → I32 (stream_code (if b then stream.Done else stream.NotOpen)) ≡ closed_code b
 code_by true = refl
@@ -156,7 +136,7 @@ module _ (tells : Type 0) (f : HostForm) (words : List Word) (memory : List ℕ)
 
   module _ (h : ℤ) (v : Value) (name : List ℕ) (is : only_handle values words ≡ Ok (h, v)) (text : name ≡ text_of_value v) (values' : Values) (left : values' ≡ table.remove values h) (streams' : Streams) (state' : State) (closed : Bool)
       (answer : closed ≡ (is_writing name (reader_names streams.readers.items) || is_writing name (names_of streams.writers.items)))
-      (reader_names' : reader_names streams'.readers.items ≡ without_writer name (reader_names streams.readers.items))
+      (readers' : streams'.readers.items ≡ readers_beside name streams.readers.items)
       (writer_names' : names_of streams'.writers.items ≡ without_writer name (names_of streams.writers.items))
       (told_so : tells → (shared : Shared) → IsOf streams state shared → ClosesBy (close_row (Text name) shared.inner) closed streams' state')
       (outside : tells → state'.outside ≡ state.outside) where
@@ -199,15 +179,14 @@ module _ (tells : Type 0) (f : HostForm) (words : List Word) (memory : List ℕ)
     abbrev there : List Entry → Outside → List Action → HostForm
     there finds o so_far = form_finding finds o so_far at_first
 
-    abbrev names_alone : List (List ℕ × Source)
-    names_alone = map name_alone (readers_in streams.readers.items state)
+    abbrev readers_there : List (List ℕ × Source)
+    readers_there = readers_in streams.readers.items coming
 
     code_there : (finds : List Entry) (o : Outside) (so_far : List Action) (p : Past) → I32 (stream_code (closes (there finds o so_far) p words memory v).1) ≡ closed_code closed
     code_there finds o so_far p =
         code_by (is_open (text_of_value v) (state_of (there finds o so_far) p).shared.inner)
         ∙ ap (λ n. closed_code (is_open n (state_of (there finds o so_far) p).shared.inner)) (sym text)
-        ∙ ap (λ b. closed_code (b || is_writing name (names_of streams.writers.items)))
-        (reading_alone name (readers_in streams.readers.items state) ∙ reading_named name streams.readers.items state)
+        ∙ ap (λ b. closed_code (b || is_writing name (names_of streams.writers.items))) (reading_named name streams.readers.items coming)
         ∙ ap closed_code (sym answer)
 
     abbrev shape_there : List Entry → Outside → List Action → Past → Values → List (List ℕ × Source) → List (List ℕ) → HostState
@@ -220,12 +199,13 @@ module _ (tells : Type 0) (f : HostForm) (words : List Word) (memory : List ℕ)
         → state_with (names_with (table.remove values h) (state_of (there finds o so_far) p)) (closes (there finds o so_far) p words memory v).0 (there finds o so_far)
         ≡ state_of (form_finding finds o so_far at_last) p
     same_there finds o so_far p =
-        ap (λ n. shape_there finds o so_far p (table.remove values h) (without_reader n names_alone) (without_writer n (names_of streams.writers.items))) (sym text)
-        ∙ ap (λ (m : Values). shape_there finds o so_far p m (without_reader name names_alone) (without_writer name (names_of streams.writers.items))) (sym left)
-        ∙ ap (λ ws. shape_there finds o so_far p values' (without_reader name names_alone) ws) (sym writer_names')
+        ap (λ n. shape_there finds o so_far p (table.remove values h) (without_reader n readers_there) (without_writer n (names_of streams.writers.items)))
+        (sym text)
+        ∙ ap (λ (m : Values). shape_there finds o so_far p m (without_reader name readers_there) (without_writer name (names_of streams.writers.items)))
+        (sym left)
+        ∙ ap (λ ws. shape_there finds o so_far p values' (without_reader name readers_there) ws) (sym writer_names')
         ∙ ap (λ rs. shape_there finds o so_far p values' rs (names_of streams'.writers.items))
-        (alone_beside name (readers_in streams.readers.items state) ∙ beside_names name streams.readers.items state ∙ ap (λ ns. map as_reader ns) (sym reader_names')
-        ∙ sym (names_only streams'.readers.items state'))
+        (beside_readers name streams.readers.items coming ∙ ap (λ rs. readers_in rs coming) (sym readers'))
 
     closes_there : (finds : List Entry) (o : Outside) (so_far : List Action)
         → Leads (OfPrimitive row.Close) (there finds o so_far) words memory (told.Done (Some (closed_code closed))) (form_finding finds o so_far at_last)

@@ -14,7 +14,6 @@ use Rattle.sem_primitives.specs.Formats.{Conversion, Converts, Fixed, Char, Spec
 use Rattle.sem_primitives.specs.OutputMeaning.{formatted_values}
 use Rattle.sem_primitives.specs.SharedState.{◌>>=◌}
 use Rattle.host_format.specs.Outcomes.{IsStopOf}
-use Rattle.host_streams.specs.Puts.{PutCounts}
 use Rattle.host_worlds.specs.OutputCalls.{CountsFailure, answer_of}
 
 abbrev IsOther : Fault → Type 0
@@ -94,13 +93,6 @@ other_counts : (fault : Fault) (n : ℕ) → IsOther fault → CountsFailure (an
 other_counts WriteFailed n h = absurd h
 other_counts OpenOutput n h = absurd h
 other_counts fault n h = refl
-
-pub put_counts : (r : Result (Unit {0}) Stop) (n m : ℕ) → PutCounts r n m → CountsFailure (answer_of r) n m
-put_counts (Ok u) n m h = h
-put_counts (Err (stop.Fault WriteFailed)) n m h = h
-put_counts (Err (stop.Fault OpenOutput)) n m h = h
-put_counts (Err (stop.Fault fault)) n m h = h.1
-put_counts (Err stop.NoMemory) n m h = h
 
 pub stop_counts : (values : List Value) (why : Stop) (n : ℕ) → IsStopOf (formatted_values values) why → CountsFailure (answer_of (Err why)) n n
 stop_counts values (stop.Fault fault) n is = other_counts fault n (subst (λ (r : Result (List ℕ) Fault). Others r) is (values_others values))

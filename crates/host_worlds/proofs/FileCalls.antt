@@ -31,7 +31,7 @@ use Rattle.host_step.specs.declared.refusal.Refusal.TheVariants as why
 use Rattle.host_values.proofs.OneHandle.{as_row, decoded}
 use Rattle.host_values.specs.Forms.{HostForm, Past, inner_of, state_of}
 use Rattle.host_values.proofs.ElementSteps.{state_with}
-use Rattle.host_values.specs.Findings.{form_finding, unseen_inner}
+use Rattle.host_values.specs.Findings.{form_finding}
 use Rattle.host_values.specs.WorldCalls.{IsCalled}
 use Rattle.host_worlds.specs.Calls.{answered_by, shown_after, with_values}
 use Rattle.host_worlds.specs.Finds.{FindsFileRow}
@@ -41,7 +41,7 @@ use Rattle.host_worlds.specs.declared.input.Input.{Input}
 use Rattle.host_worlds.specs.declared.input.ReadInto.{ReadInto}
 use Rattle.host_worlds.specs.declared.input.ReadInto.TheVariants.{Variable, Record}
 use Rattle.host_worlds.proofs.MainCalls.{acts_given}
-use Rattle.host_worlds.proofs.ReadFound.{answers_found, faults_found, seen_found, traps_found}
+use Rattle.host_worlds.proofs.ReadFound.{answers_found, faults_found, traps_found}
 use Rattle.host_worlds.proofs.ReadSteps.{Carries, IsReading, answer_called, fault_called, form_output, leads_in, memory_wanted, trap_called}
 
 -- The two imports.
@@ -128,16 +128,9 @@ module _ (tells : Type 0) (to : ReadInto) (f : HostForm) (words : List Word) (me
     old_left x = record old { values = x }
 
     -- where others change what names hold too
-    row_found : (later : List Entry) (o : Outside) (p : Past)
-        → file_row to v o (record (unseen_inner (with_tables t i (Over s) (inner_at p))) { finds = Some (finds.0 ++ later) }) ≡ file_row to v o (with_tables t i (Finding (finds.0 ++ later)) (inner_at p))
-    row_found later o p = ap (file_row to v o) (seen_found t i s (finds.0 ++ later) (inner_at p))
-
     state_found : (later : List Entry) (o : Outside) (so_far : List Action) (p : Past)
         → state_with (spent p) (with_tables t' i' (Finding later) (inner_at p)) (form_finding (finds.0 ++ later) o so_far old) ≡ state_of (form_finding later o so_far new) p
-    state_found later o so_far p =
-        let last = λ (x : Values). state_of (form_finding later o so_far (with_values x new)) p in
-        ap (λ (z : Inner). record (last (map.remove m h)) { shared = record (last (map.remove m h)).shared { inner = z } }) (sym (seen_found t' i' s' later (inner_at p)))
-        ∙ ap last (sym taken)
+    state_found later o so_far p = ap (λ (x : Values). state_of (form_finding later o so_far (with_values x new)) p) (sym taken)
 
     file_called : (x : Result InputAnswer Stop) → r ≡ x → IsCalled tells (OfPrimitive (file_primitive to)) old words memory (answered_by x) (shown_after (answered_by x) old new) []
     file_called (Ok x) e = (
@@ -149,7 +142,8 @@ module _ (tells : Type 0) (to : ReadInto) (f : HostForm) (words : List Word) (me
         file_row to v o (state_of (form_finding (finds.0 ++ later) o so_far old) p).shared.inner,
         file_carries (form_finding (finds.0 ++ later) o so_far old) p words memory none h v reads to,
         with_tables t' i' (Finding later) (inner_at p),
-        row_found later o p ∙ subst (λ a. RowGives (file_row to v o (with_tables t i (Finding (finds.0 ++ later)) (inner_at p))) a (with_tables t' i' (Finding later) (inner_at p))) e (finds.1 later o (inner_at p) v same),
+        subst (λ a. RowGives (file_row to v o (with_tables t i (Finding (finds.0 ++ later)) (inner_at p))) a (with_tables t' i' (Finding later) (inner_at p)))
+            e (finds.1 later o (inner_at p) v same),
         state_found later o so_far p,
       )),
     )
@@ -162,7 +156,8 @@ module _ (tells : Type 0) (to : ReadInto) (f : HostForm) (words : List Word) (me
         spent p,
         file_row to v o (state_of (form_finding (finds.0 ++ later) o so_far old) p).shared.inner,
         file_carries (form_finding (finds.0 ++ later) o so_far old) p words memory none h v reads to,
-        row_found later o p ∙ subst (λ a. RowGives (file_row to v o (with_tables t i (Finding (finds.0 ++ later)) (inner_at p))) a (with_tables t' i' (Finding later) (inner_at p))) e (finds.1 later o (inner_at p) v same),
+        subst (λ a. RowGives (file_row to v o (with_tables t i (Finding (finds.0 ++ later)) (inner_at p))) a (with_tables t' i' (Finding later) (inner_at p)))
+            e (finds.1 later o (inner_at p) v same),
         ap (λ (x : Values). state_of (form_finding (finds.0 ++ later) o so_far (record (old_left x) { fault = Some fault })) p) (sym taken),
       )),
     )

@@ -11,7 +11,7 @@ use Rattle.awk_values.specs.declared.fault.Stop.{Stop}
 use Rattle.awk_values.specs.declared.fault.Stop.TheVariants.{Fault as IsFault, NoMemory}
 use Rattle.world_core.specs.WorldState.{Entry, Outside, Named, Source, State}
 use Rattle.sem_primitives.specs.FieldMeaning.{special_text}
-use Rattle.sem_primitives.specs.InputMeaning.{getline_file_by, got_file, nothing_left, open_or_read, opened_file, read_file, reader_named, source_of, with_reader}
+use Rattle.sem_primitives.specs.InputMeaning.{getline_file_by, got_file, open_or_read, opened_file, read_file, reader_named, source_of, to_come, with_reader}
 use Rattle.sem_primitives.specs.OutputMeaning.{has_room}
 use Rattle.sem_primitives.specs.Records.{Got, first_record, record_separator}
 use Rattle.sem_primitives.specs.SharedState.{Inner, ◌>>=◌}
@@ -151,5 +151,6 @@ file_got b to wanted new e h = subst (λ (x : FileNext). FileGives wanted (kept_
 pub room_found : (texts : Texts) (i : Input) (finds : List Entry) (inner : Inner) → has_room (with_tables texts i (Finding finds) inner) ≡ open_room i.files
 room_found texts i finds inner =
     sym (less_is (length i.files.readers.items + length i.files.writers.items)
-    ∙ ap (λ n. nat_le (n + length i.files.writers.items + 1) 256) (sym (length-map i.files.readers.items (λ (r : NamedReader). (r.name, nothing_left))))
+    ∙ ap (λ n. nat_le (n + length i.files.writers.items + 1) 256)
+    (sym (length-map i.files.readers.items (λ (r : NamedReader). (r.name, left r.reader to_come))))
     ∙ ap (λ n. nat_le (length (readers_by i.files.readers.items (Finding finds)) + n + 1) 256) (sym (length-map i.files.writers.items (λ (w : NamedWriter). w.name))))

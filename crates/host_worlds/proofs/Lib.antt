@@ -17,7 +17,6 @@ mod EndCalls
 pub mod Joined
 pub mod Lasts
 pub mod Puts
-pub mod Names
 pub mod Steps
 pub mod Worlds
 pub mod Found

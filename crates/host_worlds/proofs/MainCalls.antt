@@ -29,7 +29,7 @@ use Rattle.host_arrays.specs.Pairs.{pairs_or_none}
 use Rattle.host_step.specs.declared.refusal.Refusal.TheVariants as why
 use Rattle.host_values.specs.Forms.{Arrays, HostForm, Past, Shows, inner_of, state_of}
 use Rattle.host_values.proofs.ElementSteps.{IsPast, state_with}
-use Rattle.host_values.specs.Findings.{form_finding, unseen_inner}
+use Rattle.host_values.specs.Findings.{form_finding}
 use Rattle.host_values.specs.WorldCalls.{IsCalled}
 use Rattle.host_worlds.specs.Calls.{answered_by, shown_after}
 use Rattle.host_worlds.specs.Finds.{FindsRow}
@@ -39,7 +39,7 @@ use Rattle.host_worlds.specs.declared.input.Input.{Input}
 use Rattle.host_worlds.specs.declared.input.ReadInto.TheVariants.{Variable, Record}
 use Rattle.host_worlds.specs.declared.input.MainRead.{MainRead}
 use Rattle.host_worlds.specs.declared.input.MainRead.TheVariants.{Loop, Getline}
-use Rattle.host_worlds.proofs.ReadFound.{answers_found, faults_found, seen_found, traps_found}
+use Rattle.host_worlds.proofs.ReadFound.{answers_found, faults_found, traps_found}
 use Rattle.host_worlds.proofs.ReadSteps.{Carries, IsReading, answer_called, fault_called, form_output, leads_in, memory_wanted, trap_called}
 
 -- The three imports.
@@ -152,20 +152,10 @@ module _ (tells : Type 0) (how : MainRead) (f : HostForm) (memory : List ℕ) (n
     offered : (p : Past) → IsPast old p → OffersTexts (argv_texts arrays) (inner_at p)
     offered p past = offers arrays f p f.shared.inner (record { arrays = past.arrays; iterators = past.iterators; first = past.first }) same
 
-    row_found : (later : List Entry) (o : Outside) (p : Past) → IsPast old p
-        → main_row how o (record (unseen_inner (with_tables t i (Over s) (inner_at p))) { finds = Some (finds.0 ++ later) }) ≡ main_row how o (with_tables t i (Finding (finds.0 ++ later)) (inner_at p))
-    row_found later o p past = ap (main_row how o) (seen_found t i s (finds.0 ++ later) (inner_at p))
-
     gives_found : (x : InputAnswer) → r ≡ Ok x → (later : List Entry) (o : Outside) (p : Past) → IsPast old p
         → main_row how o (with_tables t i (Finding (finds.0 ++ later)) (inner_at p)) ≡ Ok (with_tables t' i' (Finding later) (inner_at p), x)
     gives_found x e later o p past =
         subst (λ a. RowGives (main_row how o (with_tables t i (Finding (finds.0 ++ later)) (inner_at p))) a (with_tables t' i' (Finding later) (inner_at p))) e (finds.1 later o (inner_at p) (offered p past))
-
-    state_found : (later : List Entry) (o : Outside) (so_far : List Action) (p : Past)
-        → state_with (state_of old p).names (with_tables t' i' (Finding later) (inner_at p)) (form_finding (finds.0 ++ later) o so_far old) ≡ state_of (form_finding later o so_far new) p
-    state_found later o so_far p =
-        let last = state_of (form_finding later o so_far new) p in
-        ap (λ (z : Inner). record last { shared = record last.shared { inner = z } }) (sym (seen_found t' i' s' later (inner_at p)))
 
     main_called : (x : Result InputAnswer Stop) → r ≡ x → IsCalled tells (OfPrimitive (main_primitive how)) old [] memory (answered_by x) (shown_after (answered_by x) old new) []
     main_called (Ok x) e = (
@@ -178,8 +168,8 @@ module _ (tells : Type 0) (how : MainRead) (f : HostForm) (memory : List ℕ) (n
         main_row how o (state_of (form_finding (finds.0 ++ later) o so_far old) p).shared.inner,
         main_carries (form_finding (finds.0 ++ later) o so_far old) p memory none how (ap not waits),
         with_tables t' i' (Finding later) (inner_at p),
-        row_found later o p past ∙ gives_found x e later o p past,
-        state_found later o so_far p,
+        gives_found x e later o p past,
+        refl,
       )),
     )
     main_called (Err (IsFault fault)) e = (
@@ -192,7 +182,8 @@ module _ (tells : Type 0) (how : MainRead) (f : HostForm) (memory : List ℕ) (n
         (state_of old p).names,
         main_row how o (state_of (form_finding (finds.0 ++ later) o so_far old) p).shared.inner,
         main_carries (form_finding (finds.0 ++ later) o so_far old) p memory none how (ap not waits),
-        row_found later o p past ∙ subst (λ a. RowGives (main_row how o (with_tables t i (Finding (finds.0 ++ later)) (inner_at p))) a (with_tables t' i' (Finding later) (inner_at p))) e (finds.1 later o (inner_at p) (offered p past)),
+        subst (λ a. RowGives (main_row how o (with_tables t i (Finding (finds.0 ++ later)) (inner_at p))) a (with_tables t' i' (Finding later) (inner_at p)))
+            e (finds.1 later o (inner_at p) (offered p past)),
         refl,
       )),
     )

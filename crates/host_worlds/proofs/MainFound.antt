@@ -1,5 +1,5 @@
 -- Turns of the main input, one after the other, where others change what names hold too.
-use Rattle.std.proofs.Common.{◌≡◌, ℕ, List, [], ◌++◌, append_assoc, Option, Some, None, Result, Ok, Err, refl, sym, ap, subst, ◌∙◌}
+use Rattle.std.proofs.Common.{◌≡◌, ℕ, List, ◌++◌, append_assoc, Option, Some, None, Result, Ok, Err, sym, ap, subst, ◌∙◌}
 use Rattle.awk_values.specs.declared.fault.Fault.{Fault}
 use Rattle.awk_values.specs.declared.fault.Stop.{Stop}
 use Rattle.world_core.specs.WorldState.{Entry, Outside}
@@ -17,9 +17,6 @@ use Rattle.host_worlds.proofs.Turns.{turn_none, turn_some}
 abbrev pub FoundSoFar : (ℕ → List ℕ) → Texts → Input → Texts → Input → Type 0
 FoundSoFar offered texts first texts' old = (found : List Entry) × ((later : List Entry) (outside : Outside) (inner : Inner) → OffersTexts offered inner
     → main_input outside (with_tables texts first (Finding (found ++ later)) inner) ≡ main_input outside (with_tables texts' old (Finding later) inner))
-
-pub found_so_far : (offered : ℕ → List ℕ) (texts : Texts) (input : Input) → FoundSoFar offered texts input texts input
-found_so_far offered texts input = ([], λ later outside inner same. refl)
 
 module _ (offered : ℕ → List ℕ) (texts texts' texts'' : Texts) (first old new : Input) where
   before_is : (before : FoundSoFar offered texts first texts' old) (found later : List Entry) (outside : Outside) (inner : Inner) → OffersTexts offered inner

@@ -1,15 +1,14 @@
 -- Reads are calls where others change what names hold too.
-use Rattle.std.proofs.Common.{◌≡◌, ℕ, List, [], ◌∷◌, ◌++◌, map, Option, Some, None, Result, Ok, Err, refl, sym, ap, subst, ◌∙◌}
+use Rattle.std.proofs.Common.{◌≡◌, ℕ, List, [], ◌++◌, Some, None, Result, Ok, Err, sym, subst}
 use Rattle.std.proofs.lemmas.List.{append-nil}
 use Rattle.awk_values.specs.declared.fault.Fault.{Fault}
-use Rattle.sem_primitives.specs.InputMeaning.{nothing_left}
-use Rattle.sem_primitives.specs.SharedState.{Inner, MainReader}
+use Rattle.sem_primitives.specs.SharedState.{Inner}
 use Rattle.sem_primitives.specs.declared.answers.InputAnswer.{InputAnswer}
 use Rattle.wasm_model.specs.declared.host.HostAnswer.TheVariants as told
 use Rattle.wasm_store.specs.declared.trap.TrapKind.{TrapKind}
 use Rattle.wasm_store.specs.declared.word.Word.{Word}
 use Rattle.wasm_store.specs.declared.word.Word.TheVariants.{I32}
-use Rattle.world_core.specs.WorldState.{Action, Entry, Outside, Source, State}
+use Rattle.world_core.specs.WorldState.{Action, Entry, Outside}
 use Rattle.host_imports.specs.Codes.{input_code}
 use Rattle.host_imports.specs.Imports.{import_answer}
 use Rattle.host_imports.specs.declared.import.Import.{Import}
@@ -17,44 +16,12 @@ use Rattle.host_step.specs.Answers.{refusal}
 use Rattle.host_step.specs.HostState.{Names}
 use Rattle.host_step.specs.HostStep.{StepOf, carried}
 use Rattle.host_step.specs.Worlds.{with_output}
-use Rattle.host_streams.specs.MainFinds.{main_found, reading_found}
-use Rattle.host_streams.specs.Mains.{reading_of}
-use Rattle.host_streams.specs.OpenFiles.{readers_in}
-use Rattle.host_streams.specs.declared.main_input.Reading.{Reading}
-use Rattle.host_streams.specs.declared.main_input.Reading.TheVariants as reading
-use Rattle.host_streams.specs.declared.streams.NamedReader.{NamedReader}
-use Rattle.host_texts.specs.declared.texts.Texts.{Texts}
 use Rattle.host_values.specs.Forms.{HostForm, IsHeld, Past, state_of}
 use Rattle.host_values.proofs.ElementSteps.{IsPast, leads, state_with, trapped, unrefused}
-use Rattle.host_values.specs.Findings.{IsFound, form_finding, unseen_inner, unseen_reading}
+use Rattle.host_values.specs.Findings.{IsFound, form_finding}
 use Rattle.host_values.specs.WorldCalls.{LeadsFinding}
 use Rattle.host_values.proofs.Found.{led_found, led_nothing, none_left}
-use Rattle.host_worlds.specs.States.{Finding, Over, with_tables}
-use Rattle.host_worlds.specs.declared.input.Input.{Input}
 use Rattle.host_worlds.proofs.ReadSteps.{Carries, IsReading, answer_step, fault_step}
-
--- What the tables show then: what is left is not known.
-
-reading_unseen : (r : Reading) (s : State) → unseen_reading (reading_of r s) ≡ reading_found r
-reading_unseen reading.Nothing s = refl
-reading_unseen reading.Standard s = refl
-reading_unseen (reading.File f) s = refl
-
-abbrev alone : List ℕ × Source → List ℕ × Source
-alone r = (r.0, nothing_left)
-
-abbrev named : NamedReader → List ℕ × Source
-named r = (r.name, nothing_left)
-
-readers_unseen : (rs : List NamedReader) (s : State) → map alone (readers_in rs s) ≡ map named rs
-readers_unseen [] s = refl
-readers_unseen (r ∷ rs) s = ap (λ (xs : List (List ℕ × Source)). (r.name, nothing_left) ∷ xs) (readers_unseen rs s)
-
-pub seen_found : (t : Texts) (i : Input) (s : State) (finds : List Entry) (inner : Inner) → record (unseen_inner (with_tables t i (Over s) inner)) { finds = Some finds } ≡ with_tables t i (Finding finds) inner
-seen_found t i s finds inner =
-    ap (λ (r : Option MainReader). record (with_tables t i (Finding finds) inner) { main = record (main_found i.main) { reading = r }; readers = map alone (readers_in i.files.readers.items s) })
-    (reading_unseen i.main.reading s)
-    ∙ ap (λ (rs : List (List ℕ × Source)). record (with_tables t i (Finding finds) inner) { readers = rs }) (readers_unseen i.files.readers.items s)
 
 module _ (i : Import) (is : IsReading i) (before : HostForm) (words : List Word) (memory : List ℕ) (none : before.fault ≡ None) where
   abbrev pub there : List Entry → Outside → List Action → HostForm

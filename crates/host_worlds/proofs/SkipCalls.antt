@@ -1,33 +1,29 @@
 -- Giving up what the main input reads is a call.
-use Rattle.std.proofs.Common.{◌≡◌, ℕ, Bool, false, List, [], ◌∷◌, ◌++◌, map, Some, None, Result, Ok, Err, refl, sym, ap, subst, ◌∙◌}
+use Rattle.std.proofs.Common.{◌≡◌, ℕ, false, List, [], ◌++◌, Some, None, Result, Ok, Err, refl, sym, ap, subst, ◌∙◌}
 use Rattle.std.proofs.lemmas.List.{append-nil}
-use Rattle.sem_primitives.specs.InputMeaning.{gives_up, next_file_row, nothing_left}
-use Rattle.sem_primitives.specs.SharedState.{Inner, MainInput, changes}
+use Rattle.sem_primitives.specs.InputMeaning.{next_file_row}
+use Rattle.sem_primitives.specs.SharedState.{Inner, changes}
 use Rattle.sem_primitives.specs.declared.table.Primitive.TheVariants as row
 use Rattle.wasm_model.specs.declared.host.HostAnswer.TheVariants as told
 use Rattle.wasm_store.specs.declared.trap.TrapKind.{TrapKind}
 use Rattle.wasm_store.specs.declared.word.Word.{Word}
 use Rattle.wasm_store.specs.declared.word.Word.TheVariants.{I32}
-use Rattle.world_core.specs.WorldState.{Action, Entry, Outside, Source, State}
+use Rattle.world_core.specs.WorldState.{Action, Entry, Outside, State}
 use Rattle.host_step.specs.Arguments.{and_then, no_more}
 use Rattle.host_step.specs.HostState.{Names}
 use Rattle.host_step.specs.HostStep.{Acts, StepOf, primitive_acts}
 use Rattle.host_step.specs.Worlds.{with_output}
 use Rattle.host_imports.specs.declared.import.Import.TheVariants.{OfPrimitive}
-use Rattle.host_streams.specs.Mains.{main_of, operands_of, reading_of}
-use Rattle.host_streams.specs.OpenFiles.{readers_in}
-use Rattle.host_streams.specs.declared.main_input.Found.{Found}
+use Rattle.host_streams.specs.MainFinds.{main_found}
+use Rattle.host_streams.specs.Mains.{with_main}
 use Rattle.host_streams.specs.declared.main_input.MainInput.{MainInput as Mains}
-use Rattle.host_streams.specs.declared.main_input.Reading.{Reading}
-use Rattle.host_streams.specs.declared.main_input.Reading.TheVariants as reading
-use Rattle.host_streams.specs.declared.streams.NamedReader.{NamedReader}
 use Rattle.host_texts.specs.declared.texts.Texts.{Texts}
 use Rattle.host_step.specs.declared.refusal.Refusal.TheVariants as why
 use Rattle.host_values.specs.ElementCalls.{Leads}
 use Rattle.host_values.specs.Forms.{HostForm, Past, inner_of, state_of}
 use Rattle.host_values.proofs.ArraySteps.{carry, no_word}
 use Rattle.host_values.proofs.ElementSteps.{goes, leads, unrefused}
-use Rattle.host_values.specs.Findings.{form_finding, unseen_inner, unseen_main, unseen_reading}
+use Rattle.host_values.specs.Findings.{form_finding}
 use Rattle.host_values.proofs.Found.{led_nothing}
 use Rattle.host_values.specs.WorldCalls.{IsCalled}
 use Rattle.host_worlds.specs.Keeps.{with_main_input}
@@ -46,31 +42,11 @@ skip_trapped tells f words memory k none ends = silent_trap tells (OfPrimitive r
 pub given_as : (a b c : Inner) → next_file_row a ≡ (b, tt) → b ≡ c → next_file_row a ≡ (c, tt)
 given_as a b c row same = subst (λ (i : Inner). next_file_row a ≡ (i, tt)) same row
 
--- What only the world knows is not seen: the names alone of files that are read, and of the main input what is its own.
-
-abbrev names_alone : List (List ℕ × Source) → List (List ℕ × Source)
-names_alone rs = map (λ r. (r.0, nothing_left)) rs
-
-same_names : (rs : List NamedReader) (old new : State) → names_alone (readers_in rs old) ≡ names_alone (readers_in rs new)
-same_names [] old new = refl
-same_names (r ∷ rs) old new = ap (λ (xs : List (List ℕ × Source)). (r.name, nothing_left) ∷ xs) (same_names rs old new)
-
--- where nothing is read
-abbrev idle_main : ℕ → Found → Bool → MainInput
-idle_main next found ended = record { standard = nothing_left; next = next; operands = operands_of found; reading = None; ended = ended }
-
-module _ (t : Texts) (i : Input) (m : Mains) (old new : State) (nothing : m.reading ≡ reading.Nothing) (next : m.next ≡ i.main.next) (found : m.found ≡ i.main.found) (ended : m.ended ≡ i.main.ended) where
-  -- what is seen after the call, with this main input and these files
-  abbrev seen : Inner → MainInput → List (List ℕ × Source) → Inner
-  seen inner z rs = record (unseen_inner (with_tables t (with_main_input m i) (Over new) inner)) { main = z; readers = rs }
-
-  main_after : unseen_main (main_of m new) ≡ idle_main i.main.next i.main.found i.main.ended
-  main_after =
-      ap (λ r. record (idle_main m.next m.found m.ended) { reading = unseen_reading (reading_of r new) }) nothing
-      ∙ ap (λ n. idle_main n m.found m.ended) next ∙ ap (λ g. idle_main i.main.next g m.ended) found ∙ ap (λ b. idle_main i.main.next i.main.found b) ended
-
+module _ (t : Texts) (i : Input) (m : Mains) (old new : State) where
   module _ (tells : Type 0) (f : HostForm) (memory : List ℕ) (none : f.fault ≡ None)
-      (told_so : tells → (inner : Inner) → next_file_row (with_tables t i (Over old) inner) ≡ (with_tables t (with_main_input m i) (Over new) inner, tt)) (outside : tells → new.outside ≡ old.outside) where
+      (told_so : tells → (inner : Inner) → next_file_row (with_tables t i (Over old) inner) ≡ (with_tables t (with_main_input m i) (Over new) inner, tt))
+      (outside : tells → new.outside ≡ old.outside)
+      (found_so : (inner : Inner) → next_file_row (with_main (main_found i.main) inner) ≡ (with_main (main_found m) inner, tt)) where
     abbrev before : HostForm
     before = over_world t i old f
 
@@ -94,36 +70,18 @@ module _ (t : Texts) (i : Input) (m : Mains) (old new : State) (nothing : m.read
         (ap (λ (u : Outside). record at_last { shared = record at_last.shared { outside = u; output = o } }) (sym (outside y)) ∙ ap (λ (q : List Action). with_output q at_last) (sym (append-nil o)))
 
     -- where others change what names hold too
-    module _ (finds : List Entry) (o : Outside) (so_far : List Action) where
-      abbrev there : Inner → Inner
-      there inner = record (unseen_inner (with_tables t i (Over old) inner)) { finds = Some finds }
-
-      abbrev seen_there : Inner → MainInput → List (List ℕ × Source) → Inner
-      seen_there inner z rs = record (seen inner z rs) { finds = Some finds }
-
-      given_there : (inner : Inner) (r : Reading) → i.main.reading ≡ r → gives_up (unseen_reading (reading_of r old)) (there inner)
-          ≡ seen_there inner (idle_main i.main.next i.main.found i.main.ended) (names_alone (readers_in i.files.readers.items old))
-      given_there inner reading.Nothing e =
-          ap (λ r. seen_there inner (record (idle_main i.main.next i.main.found i.main.ended) { reading = unseen_reading (reading_of r old) }) (names_alone (readers_in i.files.readers.items old))) e
-      given_there inner reading.Standard e = refl
-      given_there inner (reading.File f) e = refl
-
-      row_there : (inner : Inner) → (next_file_row (there inner)).0 ≡ record (unseen_inner (with_tables t (with_main_input m i) (Over new) inner)) { finds = Some finds }
-      row_there inner =
-          given_there inner i.main.reading refl
-          ∙ ap (λ z. seen_there inner z (names_alone (readers_in i.files.readers.items old))) (sym main_after)
-          ∙ ap (λ rs. seen_there inner (unseen_main (main_of m new)) rs) (same_names i.files.readers.items old new)
-
-      skip_there : Leads (OfPrimitive row.NextFile) (form_finding finds o so_far before) [] memory (told.Done (Some (I32 0))) (form_finding finds o so_far later)
-      skip_there = leads (OfPrimitive row.NextFile) (form_finding finds o so_far before) [] memory (told.Done (Some (I32 0))) (form_finding finds o so_far later) (λ p past.
-          let g = form_finding finds o so_far before in
-          let last = state_of (form_finding finds o so_far later) p in
-          record {
-            now = p;
-            is = record { arrays = past.arrays; iterators = past.iterators; first = past.first };
-            step = goes (OfPrimitive row.NextFile) g p last [] memory (state_of g p).names last.shared.inner tt 0 (Some (I32 0)) (unrefused (OfPrimitive row.NextFile) f.fault none)
-                (same_acts (state_of g p).names (ap (λ (z : Inner). (z, tt)) (row_there (inner_of f.shared.inner p.arrays p.iterators)))) tt refl refl;
-          })
+    skip_there : (finds : List Entry) (o : Outside) (so_far : List Action)
+        → Leads (OfPrimitive row.NextFile) (form_finding finds o so_far before) [] memory (told.Done (Some (I32 0))) (form_finding finds o so_far later)
+    skip_there finds o so_far = leads (OfPrimitive row.NextFile) (form_finding finds o so_far before) [] memory (told.Done (Some (I32 0)))
+        (form_finding finds o so_far later) (λ p past.
+        let g = form_finding finds o so_far before in
+        let last = state_of (form_finding finds o so_far later) p in
+        record {
+          now = p;
+          is = record { arrays = past.arrays; iterators = past.iterators; first = past.first };
+          step = goes (OfPrimitive row.NextFile) g p last [] memory (state_of g p).names last.shared.inner tt 0 (Some (I32 0))
+              (unrefused (OfPrimitive row.NextFile) f.fault none) (same_acts (state_of g p).names (found_so (state_of g p).shared.inner)) tt refl refl;
+        })
 
     pub skip_called : (words : List Word) → no_more words ≡ Ok tt → IsCalled tells (OfPrimitive row.NextFile) before words memory (Ok (Some (I32 0))) later []
     skip_called words ends =

@@ -25,14 +25,13 @@ use Rattle.host_values.specs.Forms.{HostForm, Past, Stands, state_of}
 use Rattle.host_streams.specs.OpenFiles.{AreOpen, names_of, reader_handle, readers_in}
 use Rattle.host_streams.specs.Outputs.{PutsIs}
 use Rattle.host_streams.specs.Puts.{OutputPrefix, HasDone, Spares}
-use Rattle.host_streams.specs.Readers.{left}
+use Rattle.host_streams.specs.Readers.{coming, left}
 use Rattle.host_streams.specs.declared.streams.NamedReader.{NamedReader}
 use Rattle.host_streams.specs.declared.streams.Streams.{Streams}
 use Rattle.host_values.specs.Findings.{IsFound, form_finding}
 use Rattle.host_values.specs.WorldCalls.{IsCalled, LeadsFinding, LeadsIn, LedFinding}
 use Rattle.host_worlds.specs.OutputCalls.{PossibleOutcome, HasFiles, PutsFound, SomeFound, answer_of, finding, left_by}
 use Rattle.host_worlds.specs.Forms.{writing}
-use Rattle.host_worlds.proofs.Names.{name_alone, names_stay}
 use Rattle.host_worlds.proofs.Puts.{OnlyWriters, none_by, so_far_in, with_writers}
 use Rattle.host_worlds.proofs.Steps.{Puts, after_put, done_by, fault_by}
 use Rattle.host_worlds.proofs.Worlds.{called_found, sharing, wanted_part}
@@ -83,16 +82,17 @@ module _ (g : HostForm) (arguments now : List Value) (streams streams' : Streams
     }
 
     found_after : (d : Puts) (r : Result (Unit {0}) Fault) (fs : Option (List Entry)) → d.inner ≡ with_writers there.shared.inner d.inner.writers fs
-        → map name_alone (readers_in streams.readers.items state) ≡ map name_alone (readers_in streams'.readers.items state') → PutsFound d streams' r added rest
+        → streams'.readers ≡ streams.readers → PutsFound d streams' r added rest
         → after_put there d now ≡ state_of (form_finding rest (after added outside) (so_far ++ added) (later (fault_by g.fault r))) p
-    found_after d r fs only readers x =
+    found_after d r fs only kept x =
         ap (λ (inner : Inner). there_after inner d.added (fault_by g.fault d.answer)) only
         ∙ ap (λ ws. there_after (with_writers there.shared.inner ws fs) d.added (fault_by g.fault d.answer)) x.writers
         ∙ ap (λ f. there_after (with_writers there.shared.inner (names_of streams'.writers.items) f) d.added (fault_by g.fault d.answer))
         (sym (ap (λ (inner : Inner). inner.finds) only) ∙ x.finds)
         ∙ ap (λ out. there_after (with_writers there.shared.inner (names_of streams'.writers.items) (Some rest)) out (fault_by g.fault d.answer)) x.added_is
         ∙ ap (λ (q : Result (Unit {0}) Fault). there_after (with_writers there.shared.inner (names_of streams'.writers.items) (Some rest)) added (fault_by g.fault q)) x.answer_is
-        ∙ ap (λ xs. there_after (record (with_writers there.shared.inner (names_of streams'.writers.items) (Some rest)) { readers = xs }) added (fault_by g.fault r)) readers
+        ∙ ap (λ v. there_after (record (with_writers there.shared.inner (names_of streams'.writers.items) (Some rest)) { readers = readers_in v.items coming })
+        added (fault_by g.fault r)) (sym kept)
 
 -- Something is found where it answers so, over shared states that have these files open and fit.
 abbrev SomeAt : (Shared → Puts) → (Shared → Type 0) → Streams → Streams → Result (Unit {0}) Fault → Type 0
@@ -187,10 +187,10 @@ module _ (tells : Type 0) (i : Import) (words : List Word) (memory : List ℕ) (
         let rest = left_by r some.0 more in
         let last = state_of (form_finding rest (after some.1 outside) (so_far ++ some.1) (form_after (fault_by g.fault r))) p in
         let d = does there.shared in
-        let x = some.2 more there.shared (record { readers = length-map (readers_in streams.readers.items state) _ ∙ length-map streams.readers.items _; writers = refl })
+        let x = some.2 more there.shared (record { readers = length-map streams.readers.items _; writers = refl })
         (fit_there p (some.0 ++ more) outside so_far) in
         let state_is = found_after g arguments now streams streams' state state' p (some.0 ++ more) rest outside so_far some.1 d r (finds_by d.answer (Some (some.0 ++ more)))
-        (only there.shared) (names_stay streams streams' state state' kept) x in
+        (only there.shared) kept x in
         record {
           rest = rest;
           left = left_found g.fault r some.0 more;

@@ -54,15 +54,9 @@ module _ (to : Destination) (values : List Value) (specials : Specials) (line : 
 
 -- A text of printf.
 
-could_same : (does does' : Shared → Puts) (streams streams' : Streams) (r : Result (Unit {0}) Stop) → ((shared : Shared) → does shared ≡ does' shared) → PossibleOutcome does streams streams' r → PossibleOutcome does' streams streams' r
-could_same does does' streams streams' r same some = subst (λ (f : Shared → Puts). PossibleOutcome f streams streams' r) (λ i shared. same shared i) some
-
 module _ (to : Destination) (values : List Value) (text : List ℕ) (is : formatted_values (operands_of to values) ≡ Ok text) where
   same_text_row : (shared : Shared) → put_text to (file_name to values) text shared ≡ printf_row to values shared
   same_text_row shared = ap (λ r. printf_by r to (file_name to values) shared) (sym is)
-
-  pub could_text : (streams streams' : Streams) (r : Result (Unit {0}) Stop) → PossibleOutcome (put_text to (file_name to values) text) streams streams' r → PossibleOutcome (printf_row to values) streams streams' r
-  could_text streams streams' r some = could_same (put_text to (file_name to values) text) (printf_row to values) streams streams' r same_text_row some
 
   pub begins_text : (tells : Type 0) (streams : Streams) (s t : State) (r : Result (Unit {0}) Stop) → OutputPrefix tells (IsOf streams s) (put_text to (file_name to values) text) r s t → OutputPrefix tells (IsOf streams s) (printf_row to values) r s t
   begins_text tells streams s t r begun = subst (λ (f : Shared → Puts). OutputPrefix tells (IsOf streams s) f r s t) (λ i shared. same_text_row shared i) begun

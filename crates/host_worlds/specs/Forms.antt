@@ -8,6 +8,7 @@ use Rattle.wasm_store.specs.declared.word.Word.TheVariants.{I32}
 use Rattle.world_core.specs.WorldState.{State}
 use Rattle.host_imports.specs.Codes.{stream_code}
 use Rattle.host_streams.specs.OpenFiles.{names_of, readers_in}
+use Rattle.host_streams.specs.Readers.{coming}
 use Rattle.host_streams.specs.declared.streams.Streams.{Streams}
 use Rattle.host_texts.specs.States.{specials_of}
 use Rattle.host_texts.specs.declared.specials.Specials.{Specials}
@@ -32,7 +33,10 @@ abbrev pub with_specials : Specials → HostForm → HostForm
 with_specials specials f = record f { shared = shared_with specials f.shared }
 
 abbrev pub with_streams : Streams → State → HostForm → HostForm
-with_streams streams state f = record f { shared = shared_over streams state f.shared }
+with_streams streams state f = record f {
+  shared = shared_over streams state f.shared;
+  coming = record f.coming { readers = readers_in streams.readers.items coming };
+}
 
 abbrev pub with_arguments : List Value → HostForm → HostForm
 with_arguments arguments f = record f { arguments = arguments }

@@ -4,12 +4,13 @@ use Rattle.awk_values.specs.declared.value.Value.{Value}
 use Rattle.world_core.specs.WorldState.{Entry, Source, State}
 use Rattle.world_core.specs.Calls.{Kind}
 use Rattle.sem_primitives.specs.ArrayMeaning.{element}
-use Rattle.sem_primitives.specs.InputMeaning.{nothing_left, text_or_none}
+use Rattle.sem_primitives.specs.InputMeaning.{text_or_none}
 use Rattle.sem_primitives.specs.SharedState.{Inner, MainInput as MainForm}
 use Rattle.host_arrays.specs.Pairs.{pairs_at}
 use Rattle.host_streams.specs.MainFinds.{main_found}
 use Rattle.host_streams.specs.Mains.{HoldsMain, IsApartFrom, main_at_start, main_of}
 use Rattle.host_streams.specs.OpenFiles.{HoldsOpen, names_of, reader_handle, readers_in, writer_handle}
+use Rattle.host_streams.specs.Readers.{coming}
 use Rattle.host_streams.specs.declared.main_input.MainInput.{MainInput}
 use Rattle.host_streams.specs.declared.main_input.Reading.{Reading}
 use Rattle.host_streams.specs.declared.streams.NamedReader.{NamedReader}
@@ -17,7 +18,7 @@ use Rattle.host_streams.specs.declared.streams.Streams.{Streams}
 use Rattle.host_texts.specs.States.{with_texts}
 use Rattle.host_texts.specs.declared.texts.Texts.{Texts}
 use Rattle.host_values.specs.Evaluations.{Values}
-use Rattle.host_values.specs.Forms.{Arrays, HostForm}
+use Rattle.host_values.specs.Forms.{Arrays, Coming, HostForm}
 use Rattle.host_names.specs.Forms.{with_names}
 use Rattle.host_names.specs.declared.names.Names.{Names}
 use Rattle.host_worlds.specs.declared.input.Input.{Input}
@@ -27,10 +28,10 @@ pub data Around : Type 0 where
   Over : State → Around
   Finding : List Entry → Around
 
--- what is left of files is the world's, or it is not known
+-- what the world has for files is known, or that it is to come
 abbrev pub readers_by : List NamedReader → Around → List (List ℕ × Source)
 readers_by readers (Over state) = readers_in readers state
-readers_by readers (Finding finds) = map (λ r. (r.name, nothing_left)) readers
+readers_by readers (Finding finds) = readers_in readers coming
 
 abbrev pub main_by : MainInput → Around → MainForm
 main_by m (Over state) = main_of m state
@@ -60,9 +61,16 @@ input_at_start names state inner = with_names names
 abbrev pub with_tables : Texts → Input → Around → Inner → Inner
 with_tables texts input around inner = with_texts texts (with_input input around inner)
 
+-- what these have left where nothing is known of what is to come
+abbrev pub coming_of : Input → Coming
+coming_of i = record { readers = readers_in i.files.readers.items coming; main = main_found i.main }
+
 -- the host's tables, over a world
 abbrev pub over_world : Texts → Input → State → HostForm → HostForm
-over_world texts input state f = record f { shared = record f.shared { inner = with_tables texts input (Over state) f.shared.inner; outside = state.outside } }
+over_world texts input state f = record f {
+  shared = record f.shared { inner = with_tables texts input (Over state) f.shared.inner; outside = state.outside };
+  coming = coming_of input;
+}
 
 -- what begin_end looks at, and what line does
 abbrev pub form_ending : Bool → HostForm → HostForm

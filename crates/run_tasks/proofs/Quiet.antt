@@ -4,7 +4,7 @@ use Rattle.awk_values.specs.declared.fault.Fault.{Fault}
 use Rattle.sem_primitives.specs.InTurn.{in_turn}
 use Rattle.sem_primitives.specs.SharedState.{Inner, Shared, settles}
 use Rattle.sem_primitives.specs.Sorts.{InAnswer, Row}
-use Rattle.sem_primitives.specs.Table.{arguments_of, listed_meaning, meaning}
+use Rattle.sem_primitives.specs.Table.{arguments_of, meaning}
 use Rattle.sem_primitives.specs.Table as table
 use Rattle.sem_primitives.specs.declared.sorts.Answer.{Answer}
 use Rattle.sem_primitives.specs.declared.table.Primitive.{Primitive}

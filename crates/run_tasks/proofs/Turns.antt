@@ -17,7 +17,7 @@ use Rattle.wasm_store.specs.declared.word.Word.{Word}
 use Rattle.wasm_store.specs.declared.word.Word.TheVariants.{I32, I64}
 use Rattle.wasm_model.specs.Machines.{CallerForm, Asks, Conf, Ends, Goes, ProgramForm, Turn, agree, asked, asked_if, call_at, called, called_by, entered_if, global_set, memory_grow, memory_load, memory_store, returned_with, to_caller, turn, turn_by, with_frame, with_grown, with_loaded, with_operands, with_stored, with_value}
 use Rattle.wasm_model.specs.Stacks.{taken}
-use Rattle.wasm_model.specs.Frames.{FrameForm, LabelForm, Local, act, at_end, branch, branch_at, branch_if, branch_table, branch_to, called_through, chosen, dropped, jump, local_set, local_step, local_tee, next_at, of_one, of_two, of_two_or, pushed, pushed_or, selected, settled, simple, with_values}
+use Rattle.wasm_model.specs.Frames.{FrameForm, LabelForm, Local, act, at_end, branch, branch_at, branch_if, branch_table, branch_to, called_through, chosen, dropped, jump, local_set, local_tee, next_at, of_one, of_two, of_two_or, pushed, pushed_or, selected, settled, simple, with_values}
 use Rattle.wasm_model.specs.Frames as form
 use Rattle.wasm_model.specs.declared.ends.End.TheVariants as ends
 use Rattle.run_tasks.specs.Calls.{IsOneOf}

@@ -1,15 +1,15 @@
 -- What is written behind the bytes of a module is found.
-use Rattle.std.proofs.Common.{◌≡◌, ℕ, zero, suc, ◌+◌, ◌<◌, ◌≤◌, ◌^◌, Some, None, Option, List, [], ◌∷◌, ◌++◌, length, take, drop, refl, sym, ap, ◌∙◌, subst, arith, append_assoc, length-append, le-leb, take_at, drop_at}
+use Rattle.std.proofs.Common.{◌≡◌, ℕ, zero, suc, ◌+◌, ◌<◌, ◌≤◌, ◌^◌, Some, None, Option, List, [], ◌∷◌, ◌++◌, length, take, drop, refl, ap, ◌∙◌, subst, arith, append_assoc, length-append, le-leb, take_at, drop_at}
 use Rattle.std.proofs.lemmas.List.{append-nil}
 use Rattle.std.specs.List.{AllByRecursion, flat_map}
-use Rattle.wasm_types.specs.Leb128.{IsU32, and_then, u32_at, u32_text}
+use Rattle.wasm_types.specs.Leb128.{IsU32, u32_at, u32_text}
 use Rattle.wasm_types.specs.ModuleGrammar.{AreSections, Custom, IsModule, IsSection, Section, contents, header, section_id}
 use Rattle.wasm_types.specs.Profile.{most_module_bytes}
 use Rattle.wasm_types.specs.Syntax.{ModuleForm}
 use Rattle.wasm_types.proofs.Groups.{u32_is, u32_written, unsigned_again}
 use Rattle.module_writer.specs.Names.{counted}
-use Rattle.script_lines.specs.Lines.{FunctionForm, function_text, lines_contents, lines_text, own_name, table_text}
-use Rattle.script_lines.specs.Reading.{AllFit, Fits, IsWord, Read, counted_at, cut_at, function_at, items_at, lines_at, own_by, own_in, own_of, own_section, section_at, table_at, table_in, table_of}
+use Rattle.script_lines.specs.Lines.{FunctionForm, function_text, lines_contents, lines_text, table_text}
+use Rattle.script_lines.specs.Reading.{AllFit, Fits, IsWord, Read, counted_at, cut_at, function_at, items_at, lines_at, own_by, own_in, own_of, own_section, section_at, table_at, table_in}
 
 -- a number by any of its spellings
 number_back : (text : List ℕ) (n : ℕ) (rest : List ℕ) → IsU32 text n → u32_at (text ++ rest) ≡ Some (n, rest)

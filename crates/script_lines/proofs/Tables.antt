@@ -1,12 +1,12 @@
 -- Tables of scripts, row by row.
-use Rattle.std.proofs.Common.{◌≡◌, ℕ, zero, suc, ◌+◌, ◌-◌, ◌<◌, ◌≤◌, Option, Some, None, List, [], ◌∷◌, ◌++◌, length, map, refl, sym, ap, ◌∙◌, subst, arith, append_assoc, true, false, lt-ltb, le-ltb, ltb, ◌⊎◌, inl, inr}
+use Rattle.std.proofs.Common.{◌≡◌, ℕ, zero, suc, ◌+◌, ◌-◌, ◌<◌, ◌≤◌, Some, None, List, [], ◌∷◌, ◌++◌, length, map, refl, sym, ap, ◌∙◌, arith, append_assoc, lt-ltb, le-ltb, ltb, ◌⊎◌, inl, inr}
 use Rattle.std.proofs.lemmas.Bool.{cases_lt}
 use Rattle.std.specs.Prelude.{codes, slice_get, unwrap_or}
 use Rattle.awk_grammar.specs.Item.{Item}
 use Rattle.awk_tokens.specs.Cutting.{Spelled}
 use Rattle.awk_tree.specs.Lines.{function_names, line_at, line_of, places_in}
 use Rattle.script_lines.specs.Lines.{FunctionForm, line_in, line_told, name_in}
-use Rattle.script_lines.specs.Lined.{line_number, lines_of, name_of, row_of, rows_from, table_of, told_line}
+use Rattle.script_lines.specs.Lined.{line_number, row_of, rows_from, table_of, told_line}
 
 module _ (tokens : List Spelled) (script : List Item) where
   -- one row more

@@ -1,6 +1,6 @@
 -- The sections of a module, in a loop.
-use Rattle.std.proofs.Common.{◌≡◌, ℕ, zero, suc, ◌+◌, ◌-◌, ◌<◌, ◌≤◌, Option, Some, None, List, refl, arith}
-use Rattle.script_lines.specs.Reading.{own_by, own_in, own_of, section_at}
+use Rattle.std.proofs.Common.{◌≡◌, ℕ, suc, ◌+◌, ◌-◌, ◌<◌, ◌≤◌, Option, Some, None, List, refl, arith}
+use Rattle.script_lines.specs.Reading.{own_in, own_of, section_at}
 
 module _ (found : Option (List ℕ)) (i n : ℕ) (bytes : List ℕ) where
   pub next_section : (id : ℕ) (contents rest : List ℕ) → i < n → section_at bytes ≡ Some (id, contents, rest)

@@ -1,5 +1,5 @@
 -- Reading the section `awk.lines` of a module from the left. Of bytes that are no table nothing is read.
-use Rattle.std.specs.Prelude.{ℕ, zero, suc, ◌==◌, ◌^◌, ◌<◌, ◌&&◌, Bool, List, [], ◌∷◌, ◌++◌, length, take, drop, Option, Some, None, nat_le, if◌then◌else◌}
+use Rattle.std.specs.Prelude.{ℕ, zero, suc, ◌==◌, ◌^◌, ◌<◌, ◌&&◌, Bool, List, [], ◌∷◌, length, take, drop, Option, Some, None, nat_le, if◌then◌else◌}
 use Rattle.std.specs.Borrow.{Bor}
 use Rattle.std.specs.List.{AllByRecursion, starts_with}
 use Rattle.wasm_types.specs.Leb128.{and_then, u32_at}

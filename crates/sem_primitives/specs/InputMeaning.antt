@@ -35,10 +35,19 @@ nothing_left = record { rest = []; ending = End }
 abbrev pub source_found : Entry → Source
 source_found entry = record { rest = bytes_of entry.bytes; ending = entry.ending }
 
--- Of what is left; or of what is found in its place, and then what is left is not known, since the next read finds it anew.
+-- Something is to come, where others change what names hold too. Which bytes these are does not matter, since a read finds them anew.
+abbrev pub to_come : Source
+to_come = record { rest = 0 ∷ []; ending = End }
+
+-- What a read finds in the place of what was left. Where nothing was left nothing is found: at its end, or failing, a source stays so.
+abbrev pub found_anew : List ℕ → Source → Entry → Source
+found_anew [] source entry = source
+found_anew (b ∷ bs) source entry = source_found entry
+
+-- Of what is left; or of what is found in its place, and then what that leaves is left.
 abbrev pub record_by : Option (List Entry) → Option ℕ → Source → Result (Got × Source) Fault
 record_by None rs source = first_record rs source
-record_by (Some finds) rs source = first_record rs (source_found (first_found finds)) >>= λ got. Ok (got.0, nothing_left)
+record_by (Some finds) rs source = first_record rs (found_anew source.rest source (first_found finds))
 
 -- RS as it is now says what the next record is
 abbrev pub next_record : Inner → Source → Result (Got × Source) Fault

@@ -147,7 +147,6 @@ module _ (p : Program) where
         each_global = held_each made s.names G.globals c.globals a.rest.globals;
         names_hold = names;
         function = own.0;
-        is_function = own.1;
         statement = code;
         is_statement = place;
         at_work = same;

@@ -1,7 +1,7 @@
 -- What was told of a run is what the script does, where it and the module agree.
 use Rattle.std.proofs.Common.{◌≡◌, ℕ, List, ◌++◌, Option, Some, None, refl, sym, ◌∙◌, subst, append_assoc, arith}
 use Rattle.awk_values.specs.declared.fault.Fault.{Fault}
-use Rattle.sem_primitives.specs.InputMeaning.{nothing_left}
+use Rattle.sem_primitives.specs.InputMeaning.{to_come}
 use Rattle.sem_primitives.specs.Jobs.{Opened, JobForm, Closed, Environment}
 use Rattle.world_core.specs.WorldState.{Action, Outside, Source}
 use Rattle.wasm_types.specs.Syntax.{ModuleForm}
@@ -51,7 +51,7 @@ does_so script m agree job input outside steps e f r =
 pub does_so_there : (script : Setting → ℕ → Ending) (m : ModuleForm) → Agreement script m → (job : JobForm) (steps : ℕ) (e : MachineEnd) (f : HostForm)
     (r : FoundRun m job steps e f) → DoesSoThere script job r.finds (told_by f.fault e)
 does_so_there script m agree job steps e f r =
-    let d = does script m agree job nothing_left (Opened r.finds) steps f.fault e r.output r.tells in
+    let d = does script m agree job to_come (Opened r.finds) steps f.fault e r.output r.tells in
     record { turns = d.0; output = r.output; says = d.1 }
 
 same_ending : (output : List Action) (e : Ending) → Like (GoesOn output) ≡ Like e → e ≡ GoesOn output
@@ -63,9 +63,9 @@ pub goes_on_there : (script : Setting → ℕ → Ending) (m : ModuleForm) (agre
 goes_on_there script m agree job steps e q f r turns enough over =
     let s : Environment = Opened r.finds in
     let out : ModuleEnding = Like (GoesOn r.output) in
-    let ends : Ending = script (setting_in job nothing_left s) turns in
-    let t : TellsEnding m job nothing_left s steps f.fault machine.OutOfSteps r.output =
-    subst (λ (x : MachineEnd). Tells m job nothing_left s steps f.fault x r.output) q r.tells in
-    let x = agree.forward job nothing_left s turns ends over refl in
-    let same = x.2 steps out (omega (arith, x.1)) (the_ending script m agree job nothing_left s steps f.fault machine.OutOfSteps r.output out refl t) in
+    let ends : Ending = script (setting_in job to_come s) turns in
+    let t : TellsEnding m job to_come s steps f.fault machine.OutOfSteps r.output =
+    subst (λ (x : MachineEnd). Tells m job to_come s steps f.fault x r.output) q r.tells in
+    let x = agree.forward job to_come s turns ends over refl in
+    let same = x.2 steps out (omega (arith, x.1)) (the_ending script m agree job to_come s steps f.fault machine.OutOfSteps r.output out refl t) in
     subst IsOver (same_ending r.output ends same) over

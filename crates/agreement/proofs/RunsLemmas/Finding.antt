@@ -2,7 +2,7 @@
 -- of a list. The list is read off the run, from its end to its beginning.
 use Rattle.std.proofs.Common.{◌≡◌, ◌≢◌, ℕ, zero, suc, Bool, true, false, List, [], ◌++◌, Option, Some, None, refl, sym, ap, ◌∙◌, subst, append-nil, append_assoc}
 use Rattle.awk_values.specs.declared.fault.Fault.{Fault}
-use Rattle.sem_primitives.specs.InputMeaning.{nothing_left}
+use Rattle.sem_primitives.specs.InputMeaning.{to_come}
 use Rattle.sem_primitives.specs.Jobs.{Opened, JobForm}
 use Rattle.wasm_store.specs.Memories.{MemoryForm}
 use Rattle.wasm_store.specs.declared.word.Word.{Word}
@@ -15,14 +15,14 @@ use Rattle.wasm_model.specs.declared.ends.End.{End}
 use Rattle.wasm_model.specs.declared.ends.RunEnd.{RunEnd}
 use Rattle.wasm_model.specs.declared.ends.RunEnd.TheVariants.{Ended, NoMemory, OutOfSteps}
 use Rattle.wasm_model.proofs.Chains.{no_memory}
-use Rattle.world_core.specs.WorldState.{Action, Entry, Outside, Source, absent, after as outside_after}
+use Rattle.world_core.specs.WorldState.{Action, Entry, Outside, Source, after as outside_after}
 use Rattle.host_step.specs.HostState.{HostState}
-use Rattle.host_step.specs.Starts.{state_at_start, state_in}
+use Rattle.host_step.specs.Starts.{state_in}
 use Rattle.host_imports.specs.Imports.{import_at}
 use Rattle.host_values.specs.Forms.{HostForm}
-use Rattle.host_values.specs.Findings.{IsFound, form_finding, unseen_inner}
+use Rattle.host_values.specs.Findings.{IsFound, ShownFirst, form_finding, nowhere}
 use Rattle.host_values.specs.FormMeaning.{FormState, Told, Untold, form_meaning}
-use Rattle.host_values.specs.Shown.{SharesBy, Shown}
+use Rattle.host_values.specs.Shown.{Shown}
 use Rattle.host_values.proofs.Showing.{shown_fault}
 use Rattle.agreement.specs.Modules.TableMeaning.{table_meaning}
 use Rattle.agreement.proofs.RunsLemmas.Carried.{over_untold, same_state, steps_untold}
@@ -221,39 +221,11 @@ all_found : (o : Option Fault) (found : List Entry) → IsFound o found [] (foun
 all_found None found = refl
 all_found (Some f) found = tt
 
-abbrev nowhere : Outside
-nowhere = λ target. absent
-
-finding_by : (finds : List Entry) (o : Option Fault) (form f : HostForm) → SharesBy o form f
-    → SharesBy o (form_finding finds nowhere [] form) (form_finding finds nowhere [] f)
-finding_by finds None form f e = ap (form_finding finds nowhere []) e
-finding_by finds (Some fault) form f e =
-    record { values = e.values; arrays = e.arrays; iterators = e.iterators; fault = e.fault; outside = refl; output = refl }
-
-abbrev state_finding : List Entry → HostState → HostState
-state_finding finds s = record s {
-  shared = record { inner = record (unseen_inner s.shared.inner) { finds = Some finds }; outside = nowhere; output = [] };
-}
-
-begins_finding : (finds : List Entry) (job : JobForm) (input : Source) (outside : Outside) (f : HostForm) → Shown f (state_at_start job input outside)
-    → Shown (form_finding finds nowhere [] f) (state_in job nothing_left (Opened finds))
-begins_finding finds job input outside f h = record {
-  form = form_finding finds nowhere [] h.form;
-  same = finding_by finds f.fault h.form f h.same;
-  stands = record {
-    past = h.stands.past;
-    state = ap (state_finding finds) h.stands.state;
-    arrays = h.stands.arrays;
-    iterators = h.stands.iterators;
-    first = h.stands.first;
-  };
-}
-
 -- what is found in a run, from the beginning of a job
 pub from_start : (f f1 : HostForm) (Runs : HostState → List Action → HostState → Type 0) (job : JobForm) (input : Source) (outside : Outside)
-    → Shown f (state_at_start job input outside) → Finds f f1 Runs → (finds : List Entry) × (output : List Action) × (state : HostState)
-    × (state.fault ≡ f1.fault) × Runs (state_in job nothing_left (Opened finds)) output state
+    → ShownFirst f job input outside → Finds f f1 Runs → (finds : List Entry) × (output : List Action) × (state : HostState)
+    × (state.fault ≡ f1.fault) × Runs (state_in job to_come (Opened finds)) output state
 from_start f f1 Runs job input outside begins x =
     let finds = x.found ++ [] in
-    let y = x.leads finds [] (all_found f.fault x.found) nowhere [] (state_in job nothing_left (Opened finds)) (begins_finding finds job input outside f begins) in
+    let y = x.leads finds [] (all_found f.fault x.found) nowhere [] (state_in job to_come (Opened finds)) (begins.found finds) in
     (finds, x.output, y.state, shown_fault (form_finding y.rest (outside_after x.output nowhere) x.output f1) y.state y.shown, y.runs)

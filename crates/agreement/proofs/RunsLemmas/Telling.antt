@@ -2,7 +2,7 @@
 use Rattle.std.proofs.Common.{◌≡◌, ◌≢◌, ℕ, ℤ, List, [], ◌++◌, Option, Some, None, refl, sym, ap, ◌∙◌, subst}
 use Rattle.std.specs.Int.{w32, cast_signed}
 use Rattle.awk_values.specs.declared.fault.Fault.{Fault}
-use Rattle.sem_primitives.specs.InputMeaning.{nothing_left}
+use Rattle.sem_primitives.specs.InputMeaning.{to_come}
 use Rattle.sem_primitives.specs.Jobs.{Opened, JobForm, Closed, Environment}
 use Rattle.world_core.specs.WorldState.{Action, Outside, Source}
 use Rattle.wasm_types.specs.Syntax.{ModuleForm}
@@ -29,6 +29,7 @@ use Rattle.host_imports.specs.Imports.{host_finds, host_types, import_at}
 use Rattle.host_step.specs.Starts.{state_at_start, state_in}
 use Rattle.host_values.specs.Forms.{HostForm}
 use Rattle.host_values.specs.FormMeaning.{Told, form_meaning}
+use Rattle.host_values.specs.Findings.{ShownFirst}
 use Rattle.host_values.specs.Shown.{Shown, form_with_output}
 use Rattle.host_values.proofs.Showing.{shown_fault, shown_outside, shown_output}
 use Rattle.agreement.specs.Modules.TableMeaning.{table_meaning}
@@ -111,13 +112,13 @@ not_wanting (Ended ends.Stuck) e q ne is = cc
 
 -- over a modelled world
 module _ (m : ModuleForm) (typed : ModuleOk m) (a : MachineForm) (new : IsNew host_finds m a) (job : JobForm) (input : Source) (outside : Outside)
-    (tells : Type 0) (t : tells) (f : HostForm) (begins : Shown f (state_at_start job input outside)) where
+    (tells : Type 0) (t : tells) (f : HostForm) (begins : ShownFirst f job input outside) where
   abbrev first : HostState
   first = state_at_start job input outside
 
   -- the form at the start keeps no output
   begins_so : ShownAfter [] f first
-  begins_so = subst (λ (o : List Action). Shown (form_with_output o f) first) (sym (shown_output f first begins)) begins
+  begins_so = subst (λ (o : List Action). Shown (form_with_output o f) first) (sym (shown_output f first begins.kept)) begins.kept
 
   wanted_run : (k : ℕ) (out : List Action) (c1 : Conf) (f1 : HostForm) → Ran (form_meaning tells) a.program k a.conf (Told f) out NoMemory c1 (Told f1)
       → ToldRun m job input outside k machine.NoMemory f1
@@ -155,22 +156,22 @@ module _ (m : ModuleForm) (typed : ModuleOk m) (a : MachineForm) (new : IsNew ho
 
 -- A run over any world, as one in an environment that others change too.
 module _ (m : ModuleForm) (typed : ModuleOk m) (a : MachineForm) (new : IsNew host_finds m a) (job : JobForm) (input : Source) (outside : Outside)
-    (tells : Type 0) (f : HostForm) (begins : Shown f (state_at_start job input outside)) where
+    (tells : Type 0) (f : HostForm) (begins : ShownFirst f job input outside) where
   wanted_there : (k : ℕ) (out : List Action) (c1 : Conf) (f1 : HostForm) → Ran (form_meaning tells) a.program k a.conf (Told f) out NoMemory c1 (Told f1)
       → FoundRun m job k machine.NoMemory f1
   wanted_there k out c1 f1 r =
       let w = finds_more tells a.program k a.conf f out c1 f1 r in
       let x = from_start f w.0 (λ s o s1. HasMore table_meaning a.program k a.conf s o) job input outside begins w.1 in
       let h = x.4 in
-      let y = has_ending m typed a new job nothing_left (Opened x.0) h.0 (x.1 ++ h.2) h.3 h.4 h.5 h.6
-      (safe m typed a new job nothing_left (Opened x.0) h.0 (x.1 ++ h.2) h.3 h.4 h.5 h.7) h.7 in
+      let y = has_ending m typed a new job to_come (Opened x.0) h.0 (x.1 ++ h.2) h.3 h.4 h.5 h.6
+      (safe m typed a new job to_come (Opened x.0) h.0 (x.1 ++ h.2) h.3 h.4 h.5 h.7) h.7 in
       record { finds = x.0; output = x.1; tells = (h.0, h.1, y.0, h.2, y.1, y.2) }
 
   found_there : (k : ℕ) (out : List Action) (r : RunEnd) (c1 : Conf) (f1 : HostForm) → r ≢ NoMemory → Ran (form_meaning tells) a.program k a.conf (Told f) out r c1 (Told f1)
       → (e : MachineEnd) → told_run r ≡ Some e → e ≢ machine.NoMemory → FoundRun m job k e f1
   found_there k out r c1 f1 ne ran e told other =
       let x = from_start f f1 (λ s o s1. Ran table_meaning a.program k a.conf s o r c1 s1) job input outside begins (finds_run tells a.program k a.conf f out c1 f1 r ne ran) in
-      record { finds = x.0; output = x.1; tells = tells_ending m typed a new job nothing_left (Opened x.0) k x.1 r c1 x.2 f1.fault x.3 x.4 e told other }
+      record { finds = x.0; output = x.1; tells = tells_ending m typed a new job to_come (Opened x.0) k x.1 r c1 x.2 f1.fault x.3 x.4 e told other }
 
   -- WHAT A MACHINE DID, over any world
   pub did_find : (k : ℕ) (e : MachineEnd) (c1 : Conf) (f1 : HostForm) → Did (form_meaning tells) a.program k a.conf (Told f) e c1 (Told f1) → FoundRun m job k e f1

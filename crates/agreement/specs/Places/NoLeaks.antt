@@ -235,7 +235,6 @@ pub record AtStatement (p : Program) (c : Conf) (s : HostState) : Type 0 where
   pub each_global : EachPlace globals c.globals
   pub names_hold : GlobalsHold NameHolds (suc (suc (suc p.ranges))) (kinds_of p.globals) globals
   pub function : Callee
-  pub is_function : Contains (all_callees p) function
   pub statement : Instructions
   pub is_statement : Contains (starts_in function.body) statement
   pub at_work : c.frame.code ≡ renumbered (called_imports p) statement

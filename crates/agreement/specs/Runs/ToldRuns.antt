@@ -1,7 +1,7 @@
 -- What a machine tells of a run whose host is told by its tables.
 use Rattle.std.specs.Prelude.{◌≡◌, ℕ, ◌+◌, ◌*◌, ◌≤◌, List, ◌++◌, Option, Some}
 use Rattle.awk_values.specs.declared.fault.Fault.{Fault}
-use Rattle.sem_primitives.specs.InputMeaning.{nothing_left}
+use Rattle.sem_primitives.specs.InputMeaning.{to_come}
 use Rattle.sem_primitives.specs.Jobs.{Opened, JobForm, Closed, Environment}
 use Rattle.world_core.specs.WorldState.{Action, Entry, Outside, Source, after as outside_after}
 use Rattle.wasm_types.specs.Syntax.{ModuleForm}
@@ -36,7 +36,7 @@ pub record ToldRun (m : ModuleForm) (job : JobForm) (input : Source) (outside : 
 pub record FoundRun (m : ModuleForm) (job : JobForm) (steps : ℕ) (e : MachineEnd) (after-run : HostForm) : Type 0 where
   pub finds : List Entry
   pub output : List Action
-  pub tells : Tells m job nothing_left (Opened finds) steps after-run.fault e output
+  pub tells : Tells m job to_come (Opened finds) steps after-run.fault e output
 
 -- What is told of a script: how it ends; that it puts something out, where steps or memory did not suffice; or what no script does.
 pub data Told : Type 0 where
@@ -62,12 +62,12 @@ pub record DoesSo (script : Setting → ℕ → Ending) (job : JobForm) (input :
 pub record DoesSoThere (script : Setting → ℕ → Ending) (job : JobForm) (finds : List Entry) (told : Told) : Type 0 where
   pub turns : ℕ
   pub output : List Action
-  pub says : Says told output (script (setting_in job nothing_left (Opened finds)) turns)
+  pub says : Says told output (script (setting_in job to_come (Opened finds)) turns)
 
 -- The script goes on there: within so many turns as these steps suffice for, so many for each turn, it is not over.
 abbrev pub GoesOnThere : (Setting → ℕ → Ending) → JobForm → List Entry → (bound steps : ℕ) → Type 0
 GoesOnThere script job finds bound steps = (turns : ℕ) → bound * (turns + 1) ≤ steps
-    → IsOver (script (setting_in job nothing_left (Opened finds)) turns) → ⊥
+    → IsOver (script (setting_in job to_come (Opened finds)) turns) → ⊥
 
 -- what a machine's end tells, with this fault kept; a script never traps
 abbrev pub told_by : Option Fault → MachineEnd → Told

@@ -1,9 +1,8 @@
 use Rattle.std.proofs.Common.{subst}
 use Rattle.std.specs.Prelude.{IfSome}
 use Rattle.host_tables.specs.Starts.{job_of}
-use Rattle.host_values.specs.Shown.{Shown}
+use Rattle.host_values.specs.Findings.{ShownFirst}
 use Rattle.host_calls.specs.Forms.{host_form}
-use Rattle.host_step.specs.Starts.{state_at_start}
 use Rattle.wasm_types.specs.View.{view_module}
 use Rattle.awk_run.specs.Counted.{IsCountedOf}
 use Rattle.awk_run.specs.ModuleRun.{RunAnswers}
@@ -21,7 +20,7 @@ returns-clause-answers g c =
     let whole = view_module c.in-Ok.valid in
     let h = c.in-Ok-new.host in
     typed_answers tells c.args.bytes.now job c.args.steps before after whole c.run_valid_counted.result.0 c.in-Ok.ensures.ok
-    (subst (λ w. Shown (host_form told h) (state_at_start job ((told w).readers 0) (told w).outside)
+    (subst (λ w. ShownFirst (host_form told h) job ((told w).readers 0) (told w).outside
     → RunAnswers tells whole job c.args.steps (told w) c.run_valid_counted.result.0 after)
     c.in-Ok-new.ensures.world (c.run_valid_counted.ensures.answers job) c.in-Ok-new.ensures.started)
 
@@ -33,6 +32,6 @@ returns-clause-counted g c =
     let whole = view_module c.in-Ok.valid in
     let h = c.in-Ok-new.host in
     of_some c.run_valid_counted.result.1 (λ w r. record { whole = whole; read = c.in-Ok.ensures.ok.0; run = r })
-    (subst (λ w. Shown (host_form told h) (state_at_start job ((told w).readers 0) (told w).outside)
+    (subst (λ w. ShownFirst (host_form told h) job ((told w).readers 0) (told w).outside
     → IfSome c.run_valid_counted.result.1 (IsCountedOf tells c.args.script.now whole job c.args.steps (told w)))
     c.in-Ok-new.ensures.world (c.run_valid_counted.ensures.counted job) c.in-Ok-new.ensures.started)

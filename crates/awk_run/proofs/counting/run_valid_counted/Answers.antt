@@ -2,7 +2,6 @@ use Rattle.std.proofs.Common.{◌≡◌, sym, ap, ◌∙◌, subst, Option}
 use Rattle.awk_values.specs.declared.fault.Fault.{Fault}
 use Rattle.agreement.proofs.RunsLemmas.Telling.{did_find, did_tell}
 use Rattle.host_calls.specs.Forms.{host_form}
-use Rattle.wasm_types.specs.Syntax.{ModuleForm}
 use Rattle.wasm_types.specs.declared.module.Module.{Module}
 use Rattle.wasm_types.specs.View.{view_module}
 use Rattle.awk_run.specs.Counted.{nops_in}

@@ -1,9 +1,8 @@
-use Rattle.std.proofs.Common.{◌≡◌, ◌++◌, ◌∙◌, List, ap, length, arith}
-use Rattle.std.proofs.lemmas.List.{length-map}
+use Rattle.std.proofs.Common.{◌++◌, ◌∙◌, List, ap}
 use Rattle.awk_grammar.specs.ViewStmt.{view_script}
 use Rattle.awk_tree.specs.Lines.{places_in}
 use Rattle.run_report.specs.declared.counts.PlaceCount.{PlaceCount}
-use Rattle.awk_run.specs.Counted.{counted_from, counted_in}
+use Rattle.awk_run.specs.Counted.{counted_from}
 use Rattle.awk_run.specs.Tallied.{rows_of}
 use Rattle.awk_run.proofs.Listed.{one_function}
 use Rattle.awk_run.proofs.line_counts.places_in.Goals as goal

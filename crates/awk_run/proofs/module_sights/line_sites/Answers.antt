@@ -1,4 +1,4 @@
-use Rattle.std.proofs.Common.{◌≡◌, ◌∷◌, ◌++◌, [], ap, length, length-append, map, subst, sym, arith}
+use Rattle.std.proofs.Common.{◌∷◌, [], ap, length, length-append, map, subst, sym, arith}
 use Rattle.script_lines.specs.Lines.{form_of}
 use Rattle.wasm_machine.specs.Places.{StandsAt, frame_at}
 use Rattle.awk_run.specs.ModuleSeen.{AreLineSites}

@@ -1,9 +1,8 @@
 use Rattle.std.proofs.Common.{List, Option, map, option_map, subst}
 use Rattle.std.specs.Prelude.{IfSome}
 use Rattle.host_tables.specs.Starts.{job_of}
-use Rattle.host_values.specs.Shown.{Shown}
+use Rattle.host_values.specs.Findings.{ShownFirst}
 use Rattle.host_calls.specs.Forms.{host_form}
-use Rattle.host_step.specs.Starts.{state_at_start}
 use Rattle.wasm_types.specs.View.{view_module}
 use Rattle.awk_run.specs.ModuleRun.{RunAnswers}
 use Rattle.awk_run.specs.ModuleSeen.{IsModuleSeenOf}
@@ -23,7 +22,7 @@ returns-clause-answers g c =
     let whole = view_module c.in-Ok.valid in
     let h = c.in-Ok-new.host in
     typed_answers tells c.args.bytes.now job c.args.steps before after whole c.run_valid_seen.result.0 c.in-Ok.ensures.ok
-    (subst (λ w. Shown (host_form told h) (state_at_start job ((told w).readers 0) (told w).outside)
+    (subst (λ w. ShownFirst (host_form told h) job ((told w).readers 0) (told w).outside
     → RunAnswers tells whole job c.args.steps (told w) c.run_valid_seen.result.0 after)
     c.in-Ok-new.ensures.world (c.run_valid_seen.ensures.answers job) c.in-Ok-new.ensures.started)
 
@@ -41,6 +40,6 @@ returns-clause-seen g c =
       read = c.in-Ok.ensures.ok.0;
       run = subst (λ (t : Option (List FunctionForm)). IsModuleSeenOf tells t whole job c.args.steps before w) c.in-Ok-table_in.ensures r;
     })
-    (subst (λ w. Shown (host_form told h) (state_at_start job ((told w).readers 0) (told w).outside)
+    (subst (λ w. ShownFirst (host_form told h) job ((told w).readers 0) (told w).outside
     → IfSome c.run_valid_seen.result.1 (IsModuleSeenOf tells table whole job c.args.steps (told w)))
     c.in-Ok-new.ensures.world (c.run_valid_seen.ensures.seen job) c.in-Ok-new.ensures.started)

@@ -1,4 +1,4 @@
-use Rattle.std.proofs.Common.{◌≡◌, ◌∷◌, ◌++◌, [], ◌∙◌, ap, length, length-append, map, subst, sym, arith}
+use Rattle.std.proofs.Common.{◌∷◌, [], ap, length, length-append, map, subst, sym, arith}
 use Rattle.awk_grammar.specs.ViewStmt.{view_script}
 use Rattle.awk_tokens.specs.Views.{spelled}
 use Rattle.wasm_machine.specs.Places.{StandsAt, frame_at}

@@ -1,4 +1,4 @@
-use Rattle.std.proofs.Common.{◌≡◌, ◌∙◌, ap, List, ℕ, string_bytes}
+use Rattle.std.proofs.Common.{◌∙◌, ap, List, ℕ, string_bytes}
 use Rattle.std.proofs.lemmas.Result.{IfOk-weaker}
 use Rattle.awkwasm.specs.Explained.{Explains, explanation_text}
 use Rattle.awkwasm.proofs.explanations.explanation_text.Goals as goal

@@ -24,7 +24,7 @@ returns-clause-step g c = λ f memory none.
     subst (λ w. IsCalled g.W.World.is_modelled (OfPrimitive row.Close) (closing c.args.handles.now c.args.streams.now before f) c.args.words.now memory (Ok (Some w)) (closing c.take.new.self files after f) []) (sym c.code.ensures)
     (close_closes g.W.World.is_modelled f c.args.words.now memory none c.args.handles.now c.args.streams.now before c.in-Ok.read.0 c.in-Ok.read.1.now c.as_slice.result.now (sym c.in-Ok.ensures)
     (c.as_slice.ensures.value ∙ c.in-Ok-to_text.ensures.ok) c.take.new.self gone files after c.close-closed.result c.close-closed.ensures.answer
-    c.close-closed.ensures.reader_names c.close-closed.ensures.writer_names c.close-closed.ensures.told c.close-closed.ensures.outside)
+    c.close-closed.ensures.readers c.close-closed.ensures.writer_names c.close-closed.ensures.told c.close-closed.ensures.outside)
 
 pub returns-clause-reserved : goal.returns-clause-reserved
 returns-clause-reserved g c free = ap (λ m. map.get m reserved_handle) c.take.ensures.rest ∙ reserved_removed c.args.handles.now _ free

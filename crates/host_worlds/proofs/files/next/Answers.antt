@@ -28,7 +28,8 @@ returns-clause-told g c = λ tells inner keep value same.
 pub returns-clause-finds : goal.returns-clause-finds
 returns-clause-finds g c =
     let old = c.args.input.now in
-    let finds = file_finds c.args.name.now _ old.files.readers.items c.file_next.new.self.readers.items (has_room old.files) c.file_next.result c.file_next.ensures.readers c.file_next.ensures.handed in (
+    let finds = file_finds c.args.name.now _ (g.W.World.kinds c.args.world.now) old.files.readers.items c.file_next.new.self.readers.items
+    c.requires.held.files.0 c.file_next.ensures.kept (has_room old.files) c.file_next.result c.file_next.ensures.readers c.file_next.ensures.handed in (
       finds.0,
       λ later outside inner keep value same.
           subst (λ n. FileGives (open_or_read keep n outside (reader_named n (readers_found old.files.readers.items)) (with_tables c.args.texts.now old (Finding (finds.0 ++ later)) inner)) keep c.file_next.result

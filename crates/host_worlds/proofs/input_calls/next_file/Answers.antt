@@ -1,4 +1,5 @@
 use Rattle.std.proofs.Common.{sym}
+use Rattle.host_streams.proofs.Skipped.{skipped_found}
 use Rattle.host_worlds.specs.States.{Over, over_world, with_tables}
 use Rattle.host_worlds.proofs.Apart.{holds_next, tables_next, writers_stay}
 use Rattle.host_worlds.proofs.SkipCalls.{given_as, skip_called, skip_trapped}
@@ -21,7 +22,10 @@ pub returns-clause-called : goal.returns-clause-called
 returns-clause-called g c = λ f memory texts none.
     let old = g.W.World.state c.args.world.now in
     let new = g.W.World.state c.skip.new.world in
-    skip_called texts c.args.input.now c.skip.new.self old new c.skip.ensures.nothing c.skip.ensures.next c.skip.ensures.found c.skip.ensures.ended g.W.World.is_modelled f memory none
+    skip_called texts c.args.input.now c.skip.new.self old new g.W.World.is_modelled f memory none
     (λ tells inner. given_as (with_tables texts c.args.input.now (Over old) inner) _ _ (c.skip.ensures.told tells (with_tables texts c.args.input.now (Over old) inner))
     (tables_next texts c.args.input.now c.skip.new.self (g.W.World.kinds c.args.world.now) old new inner c.requires.held (c.skip.ensures.places tells)))
-    c.skip.ensures.outside c.args.words.now (sym c.in_default.ensures)
+    c.skip.ensures.outside
+    (λ inner. skipped_found c.args.input.now.main c.skip.new.self inner c.skip.ensures.nothing c.skip.ensures.ended c.skip.ensures.next
+    c.skip.ensures.found c.skip.ensures.standard)
+    c.args.words.now (sym c.in_default.ensures)

@@ -1,6 +1,5 @@
 use Rattle.std.proofs.Common.{◌≡◌, ◌++◌, drop, map}
-use Rattle.std.specs.Global.{Vec}
-use Rattle.script_lines.specs.Lines.{FunctionForm, form_of}
+use Rattle.script_lines.specs.Lines.{form_of}
 use Rattle.script_lines.proofs.compiling.names_of.Given as goal
 
 abbrev pub invariant-loop-function : goal.invariant-loop-function

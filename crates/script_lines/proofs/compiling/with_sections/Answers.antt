@@ -1,8 +1,5 @@
-use Rattle.std.proofs.Common.{◌≡◌, List, Some, map, subst, sym, ℕ}
-use Rattle.script_lines.specs.Lines.{form_of}
-use Rattle.script_lines.specs.Reading.{table_in}
+use Rattle.std.proofs.Common.{List, subst, sym, ℕ}
 use Rattle.wasm_types.specs.ModuleGrammar.{IsModule}
-use Rattle.wasm_types.specs.Syntax.{ModuleForm}
 use Rattle.script_lines.proofs.SectionsLemmas.{of_ok}
 use Rattle.script_lines.proofs.compiling.with_sections.Goals as goal
 

@@ -1,22 +1,10 @@
-use Rattle.std.proofs.Common.{◌≤ℤ◌, ℤ, pos, w32, ap, sym, subst, ◌∙◌}
+use Rattle.std.proofs.Common.{w32, ap, sym, ◌∙◌}
 use Rattle.std.proofs.lemmas.Int.{to_z-of_z}
 use Rattle.std.specs.FinMap as map
-use Rattle.host_handles.proofs.TableLemmas.{get-table}
 use Rattle.host_arrays.specs.Pairs.{pairs_or_none}
-use Rattle.host_arrays.proofs.NumberLemmas.{taken_from_zero, taken_slot}
 use Rattle.host_arrays.proofs.table.Arrays.array.Goals as goal
-
-pub slot_of-requires : goal.slot_of-requires
-slot_of-requires c =
-    subst (λ (h : ℤ). pos 0 ≤ℤ h) (sym (to_z-of_z w32 _ c.ranges.number))
-    (taken_from_zero c.self.inside.slab.slots c.args.number (ap (λ m. map.contains_key m c.args.number) c.self.view_is ∙ c.requires))
-
-pub index-requires : goal.index-requires
-index-requires c =
-    taken_slot c.self.inside.slab.slots c.args.number c.slot_of.result (sym (to_z-of_z w32 _ c.ranges.number) ∙ c.slot_of.ensures)
-    (ap (λ m. map.contains_key m c.args.number) c.self.view_is ∙ c.requires)
 
 pub returns : goal.returns
 returns c =
-    let key = sym (to_z-of_z w32 _ c.ranges.number) ∙ c.slot_of.ensures in
-    rw (← c.self.view_is, key) (sym (ap pairs_or_none (get-table c.self.inside.slab.slots c.slot_of.result ∙ c.index.ensures)))
+    let number = to_z-of_z w32 _ c.ranges.number in
+    sym (ap pairs_or_none (ap (λ m. map.get m c.args.number) (sym c.self.view_is) ∙ ap (map.get c.self.inside.numbered) (sym number) ∙ c.at.ensures))

@@ -1,33 +1,13 @@
-use Rattle.std.proofs.Common.{◌≤ℤ◌, ℤ, pos, w32, refl, ap, sym, subst, ◌∙◌}
+use Rattle.std.proofs.Common.{w32, ap, refl, sym, ◌∙◌}
 use Rattle.std.proofs.lemmas.Int.{to_z-of_z}
 use Rattle.std.specs.FinMap as map
-use Rattle.slab.specs.Slab.{with_value}
-use Rattle.slab.proofs.SlabLemmas.{Updates-with_value}
-use Rattle.host_handles.proofs.TableLemmas.{get-table, table-insert, writes_slot}
 use Rattle.host_arrays.specs.Pairs.{pairs_or_none}
-use Rattle.host_arrays.proofs.NumberLemmas.{taken_from_zero, taken_slot}
 use Rattle.host_arrays.proofs.table.Arrays.array_mut.Goals as goal
-
-pub slot_of-requires : goal.slot_of-requires
-slot_of-requires c =
-    subst (λ (h : ℤ). pos 0 ≤ℤ h) (sym (to_z-of_z w32 _ c.ranges.number))
-    (taken_from_zero c.self.inside.slab.slots c.args.number (ap (λ m. map.contains_key m c.args.number) c.self.view_is ∙ c.requires))
-
-pub index_mut-requires : goal.index_mut-requires
-index_mut-requires c =
-    taken_slot c.self.inside.slab.slots c.args.number c.slot_of.result (sym (to_z-of_z w32 _ c.ranges.number) ∙ c.slot_of.ensures)
-    (ap (λ m. map.contains_key m c.args.number) c.self.view_is ∙ c.requires)
 
 pub returns : goal.returns
 returns c =
-    let slab = c.self.inside.slab in
-    let slot = c.slot_of.result in
-    let key = sym (to_z-of_z w32 _ c.ranges.number) ∙ c.slot_of.ensures in
-    let taken = taken_slot slab.slots c.args.number slot key (ap (λ m. map.contains_key m c.args.number) c.self.view_is ∙ c.requires) in (
-      (
-        refl,
-        λ pairs. rw (← c.self.view_is, key)
-            (table-insert slot pairs slab.slots (with_value slab slot pairs).slots (writes_slot slab (with_value slab slot pairs) slot _ (Updates-with_value slab slot pairs taken))),
-      ),
-      record { writes_back = tt; value = rw (← c.self.view_is, key) (sym (ap pairs_or_none (get-table slab.slots slot ∙ c.index_mut.ensures.value))) },
+    let numbered = c.self.inside.numbered in
+    let number = to_z-of_z w32 _ c.ranges.number in (
+      (refl, λ pairs. ap (λ k. map.insert numbered k pairs) number ∙ ap (λ m. map.insert m c.args.number pairs) c.self.view_is),
+      record { writes_back = tt; value = sym (ap pairs_or_none (ap (λ m. map.get m c.args.number) (sym c.self.view_is) ∙ ap (map.get numbered) (sym number) ∙ c.at_mut.ensures.value)) },
     )

@@ -10,5 +10,5 @@ invariant_of-result g c = record {
 
 pub returns-clause-started : goal.returns-clause-started
 returns-clause-started g c =
-    starts c.new-tables.result.0 c.new-2.result c.new-tables.result.1 c.in-Ok-at_start.first (job_of c.args.job.now) (g.W.World.state c.args.world)
-    c.new-tables.ensures.form c.new-2.ensures.begins c.in-Ok-at_start.ensures.stands
+    starts c.new-tables.result.0 c.new-2.result c.new-tables.result.1 c.in-Ok-at_start.first (job_of c.args.job.now)
+    c.new-tables.ensures.form c.new-2.ensures.begins c.in-Ok-at_start.ensures.stands (g.W.World.state c.args.world)

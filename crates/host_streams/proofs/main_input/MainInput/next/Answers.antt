@@ -4,6 +4,7 @@ use Rattle.host_streams.specs.Mains.{main_in, main_phase}
 use Rattle.host_streams.specs.Passing.{HandsMain}
 use Rattle.host_streams.specs.declared.main_input.MainNext.{MainNext}
 use Rattle.host_streams.specs.MainFinds.{FindsStep}
+use Rattle.host_streams.proofs.Moves.{moves_on}
 use Rattle.host_streams.proofs.MainFound.{finds_since, found_on}
 use Rattle.host_streams.proofs.MainSteps.{none_since, phase_since, same_break, told_since}
 use Rattle.host_streams.proofs.Passed.{hands_since, more_since, none_hands, none_skips, passes_since, skips_since, so_far_on, some_hands, some_passes, standard_since, there_since}
@@ -13,20 +14,13 @@ pub steps-preserved : goal.steps-preserved
 steps-preserved g c =
     let step = c.in-Ok-None.ensures in
     let before = c.steps.invariant in
-    let ends = none_since c.in-Ok-None.field-0-is step.ends in
+    let ends = none_since c.in-Ok-None.field-0-is step.steps.ends in
     let passes = none_skips (g.O.Operands.text c.args.operands.now) c.steps.self.next c.step.new.self.next c.steps.self.found c.step.new.self.found c.in-Ok-None.field-0-is step.passes in
     let so = so_far_on _ c.args.self.now c.steps.self c.step.new.self before.so step.standard (none_hands _ c.steps.self c.step.new.self c.in-Ok-None.field-0-is step.handed) in record {
-      held = step.held;
-      spares = λ k apart was. let s = before.spares k apart was in let t = step.spares k s.1 (λ e. was (sym s.0 ∙ e)) in (t.0 ∙ s.0, t.1);
-      no_others = λ k apart is. let t = step.no_others k apart is in let s = before.no_others k t.1 (λ e. is (sym t.0 ∙ e)) in (s.0 ∙ t.0, s.1);
-      count = step.count ∙ before.count;
-      phase = same_break _ _ step.phase ∙ before.phase;
+      moves = moves_on before.moves step.moves;
+      count = step.steps.count ∙ before.count;
+      phase = same_break _ _ step.steps.phase ∙ before.phase;
       ended = ends.1 ∙ sym ends.0 ∙ before.ended;
-      places = λ tells k own apart was.
-          let s = before.spares k apart was in
-          let now = step.places tells k own s.1 (λ e. was (sym s.0 ∙ e)) in
-          let first = before.places tells k own apart was in (now.0 ∙ first.0, now.1 ∙ first.1);
-      outside = λ tells. step.outside tells ∙ before.outside tells;
       so = so;
       standard = standard_since _ c.args.self.now c.steps.self c.step.new.self before.so before.standard step.standard;
       skips = skips_since (g.O.Operands.text c.args.operands.now) c.args.self.now.next c.steps.self.next c.step.new.self.next before.skips passes.0;
@@ -34,11 +28,13 @@ steps-preserved g c =
       there = there_since (number_of_value c.args.argc.now) c.args.self.now.next c.steps.self.next c.step.new.self.next before.there step.there;
       finds = found_on _ c.args.argc.now (g.O.Operands.text c.args.operands.now) c.args.self.now c.steps.self c.step.new.self c.in-Ok-None.field-0-is before.finds step.finds;
       told = λ tells inner asked offered.
-          told_since (main_in c.steps.self (g.W.World.state c.steps.world) inner) (main_in c.step.new.self (g.W.World.state c.step.new.world) inner) c.in-Ok-None.field-0-is (before.outside tells) (before.told tells inner asked offered) (step.told tells inner asked offered);
+          told_since (main_in c.steps.self (g.W.World.state c.steps.world) inner)
+          (main_in c.step.new.self (g.W.World.state c.step.new.world) inner) c.in-Ok-None.field-0-is
+          (before.moves.outside tells) (before.told tells inner asked offered) (step.told tells inner asked offered);
     }
 
 pub returns-in-Err-clause-phase : goal.returns-in-Err-clause-phase
-returns-in-Err-clause-phase g c = phase_since _ (main_phase c.args.self.now) (main_phase c.steps.self) _ c.steps.invariant.phase c.in-Err.ensures.phase
+returns-in-Err-clause-phase g c = phase_since _ (main_phase c.args.self.now) (main_phase c.steps.self) _ c.steps.invariant.phase c.in-Err.ensures.steps.phase
 
 pub returns-in-Err-clause-handed : goal.returns-in-Err-clause-handed
 returns-in-Err-clause-handed g c =
@@ -75,45 +71,29 @@ returns-in-Ok-Some-clause-passes g c =
     let passes = some_passes (g.O.Operands.text c.args.operands.now) c.steps.self.next c.step.new.self.next c.steps.self.found c.step.new.self.found c.in-Ok-Some.answer some c.in-Ok-Some.ensures.passes in
     passes_since _ (g.O.Operands.text c.args.operands.now) c.args.self.now c.steps.self c.step.new.self (Ok c.in-Ok-Some.answer) c.steps.invariant.so c.steps.invariant.skips c.steps.invariant.found (some_hands _ c.steps.self c.step.new.self c.in-Ok-Some.answer some c.in-Ok-Some.ensures.handed) passes
 
-pub returns-in-Ok-Some-clause-held : goal.returns-in-Ok-Some-clause-held
-returns-in-Ok-Some-clause-held g c = c.step.ensures.held
-
 pub returns-in-Ok-Some-clause-spares : goal.returns-in-Ok-Some-clause-spares
-returns-in-Ok-Some-clause-spares g c = λ k apart was.
-    let s = c.steps.invariant.spares k apart was in let t = c.step.ensures.spares k s.1 (λ e. was (sym s.0 ∙ e)) in (t.0 ∙ s.0, t.1)
+returns-in-Ok-Some-clause-spares g c = (moves_on c.steps.invariant.moves c.step.ensures.moves).spares
 
 pub returns-in-Ok-Some-clause-no_others : goal.returns-in-Ok-Some-clause-no_others
-returns-in-Ok-Some-clause-no_others g c = λ k apart is.
-    let t = c.step.ensures.no_others k apart is in let s = c.steps.invariant.no_others k t.1 (λ e. is (sym t.0 ∙ e)) in (s.0 ∙ t.0, s.1)
+returns-in-Ok-Some-clause-no_others g c = (moves_on c.steps.invariant.moves c.step.ensures.moves).no_others
 
 pub returns-in-Ok-Some-clause-outside : goal.returns-in-Ok-Some-clause-outside
-returns-in-Ok-Some-clause-outside g c = λ tells. c.step.ensures.outside tells ∙ c.steps.invariant.outside tells
+returns-in-Ok-Some-clause-outside g c = (moves_on c.steps.invariant.moves c.step.ensures.moves).outside
 
 pub returns-in-Ok-Some-clause-places : goal.returns-in-Ok-Some-clause-places
-returns-in-Ok-Some-clause-places g c = λ tells k own apart was.
-    let s = c.steps.invariant.spares k apart was in
-    let now = c.step.ensures.places tells k own s.1 (λ e. was (sym s.0 ∙ e)) in
-    let first = c.steps.invariant.places tells k own apart was in (now.0 ∙ first.0, now.1 ∙ first.1)
-
-pub returns-in-Err-clause-held : goal.returns-in-Err-clause-held
-returns-in-Err-clause-held g c = c.step.ensures.held
+returns-in-Ok-Some-clause-places g c = (moves_on c.steps.invariant.moves c.step.ensures.moves).places
 
 pub returns-in-Err-clause-spares : goal.returns-in-Err-clause-spares
-returns-in-Err-clause-spares g c = λ k apart was.
-    let s = c.steps.invariant.spares k apart was in let t = c.step.ensures.spares k s.1 (λ e. was (sym s.0 ∙ e)) in (t.0 ∙ s.0, t.1)
+returns-in-Err-clause-spares g c = (moves_on c.steps.invariant.moves c.step.ensures.moves).spares
 
 pub returns-in-Err-clause-no_others : goal.returns-in-Err-clause-no_others
-returns-in-Err-clause-no_others g c = λ k apart is.
-    let t = c.step.ensures.no_others k apart is in let s = c.steps.invariant.no_others k t.1 (λ e. is (sym t.0 ∙ e)) in (s.0 ∙ t.0, s.1)
+returns-in-Err-clause-no_others g c = (moves_on c.steps.invariant.moves c.step.ensures.moves).no_others
 
 pub returns-in-Err-clause-outside : goal.returns-in-Err-clause-outside
-returns-in-Err-clause-outside g c = λ tells. c.step.ensures.outside tells ∙ c.steps.invariant.outside tells
+returns-in-Err-clause-outside g c = (moves_on c.steps.invariant.moves c.step.ensures.moves).outside
 
 pub returns-in-Err-clause-places : goal.returns-in-Err-clause-places
-returns-in-Err-clause-places g c = λ tells k own apart was.
-    let s = c.steps.invariant.spares k apart was in
-    let now = c.step.ensures.places tells k own s.1 (λ e. was (sym s.0 ∙ e)) in
-    let first = c.steps.invariant.places tells k own apart was in (now.0 ∙ first.0, now.1 ∙ first.1)
+returns-in-Err-clause-places g c = (moves_on c.steps.invariant.moves c.step.ensures.moves).places
 
 pub returns-in-Ok-Some-clause-standard : goal.returns-in-Ok-Some-clause-standard
 returns-in-Ok-Some-clause-standard g c = standard_since _ c.args.self.now c.steps.self c.step.new.self c.steps.invariant.so c.steps.invariant.standard c.step.ensures.standard

@@ -1,7 +1,8 @@
 use Rattle.std.proofs.Common.{◌≡◌}
 use Rattle.sem_primitives.specs.InputMeaning.{main_input}
 use Rattle.sem_primitives.specs.SharedState.{Inner}
-use Rattle.host_streams.specs.Mains.{HoldsMain, IsAsked, IsOffered, SparesKinds, SparesPlaces, main_in, main_phase, work}
+use Rattle.host_streams.specs.Mains.{IsAsked, IsOffered, main_in, main_phase, work}
+use Rattle.host_streams.specs.MainMoves.{MovesMain}
 use Rattle.awk_values.specs.Values.{number_of_value}
 use Rattle.host_streams.specs.Passing.{AreThere, Skips, StandardStays}
 use Rattle.host_streams.proofs.Held.{is_broken}
@@ -13,14 +14,10 @@ abbrev pub invariant-steps : goal.invariant-steps
 invariant-steps g l =
     let w = g.W.World in
     record {
-      held : HoldsMain l.self (w.kinds l.world);
-      spares : SparesKinds l.fn.self.reading l.self.reading (w.kinds l.fn.world) (w.kinds l.world);
-      no_others : SparesKinds l.self.reading l.fn.self.reading (w.kinds l.world) (w.kinds l.fn.world);
+      moves : MovesMain w.is_modelled l.fn.self l.self (w.kinds l.fn.world) (w.kinds l.world) (w.state l.fn.world) (w.state l.world);
       count : w.count l.world ≡ w.count l.fn.world;
       phase : is_broken (main_phase l.self) ≡ is_broken (main_phase l.fn.self);
       ended : l.self.ended ≡ l.fn.self.ended;
-      places : w.is_modelled → SparesPlaces l.fn.self.reading (w.kinds l.fn.world) (w.state l.fn.world) (w.state l.world);
-      outside : w.is_modelled → (w.state l.world).outside ≡ (w.state l.fn.world).outside;
       so : SoFarMain l.separator l.fn.self l.self;
       standard : StandardStays l.fn.self.reading l.fn.self.standard l.self.standard;
       skips : Skips (g.O.Operands.text l.operands) l.fn.self.next l.self.next;

@@ -5,6 +5,7 @@ use Rattle.host_streams.specs.declared.reader.FileNext.{FileNext}
 use Rattle.host_streams.proofs.MainFound.{end_finds, failure_finds, found_idle, record_finds, refusal_finds}
 use Rattle.host_streams.specs.Mains.{ReadsMain, main_of}
 use Rattle.host_streams.proofs.MainSteps.{reads_end, reads_failure, reads_record, reads_refused}
+use Rattle.host_streams.proofs.Moves.{moves_on}
 use Rattle.host_streams.proofs.Passed.{refused_hands}
 use Rattle.awk_values.specs.declared.fault.Stop.{Stop}
 use Rattle.awk_values.specs.declared.fault.Stop.TheVariants.{Fault as IsFault, NoMemory}
@@ -73,92 +74,101 @@ less_work : (old new : Mains) → new.next ≡ old.next → new.reading ≡ read
 less_work old new next nothing some = omega (arith, ap busy nothing, some_busy old.reading some, next)
 
 pub returns-in-Ok-Record : goal.returns-in-Ok-Record
-returns-in-Ok-Record g c = record {
-  held = c.read.ensures.held;
-  told = λ tells inner asked.
-      let old = main_of c.args.self.now (g.W.World.state c.args.world.now) in
-      let new = main_of c.read.new.self (g.W.World.state c.read.new.world) in
-      reads_record (g.W.World.state c.args.world.now).outside old inner c.args.rs c.requires.live asked.separator c.in-Ok-Record.text new
-      (subst (λ (o : FileNext). ReadsMain c.args.rs old (Ok o) new) c.in-Ok-Record.field-0-is (c.in-Ok-Record.ensures.told tells));
-  goes_on = tt;
-  count = counted (phase_at c.args.self.now.reading c.args.self.now.standard) c.in-Ok-Record.text (g.W.World.count c.args.world.now) (g.W.World.count c.read.new.world) (subst (λ (o : FileNext). NextCounts (phase_at c.args.self.now.reading c.args.self.now.standard) (Ok o) (g.W.World.count c.args.world.now) (g.W.World.count c.read.new.world)) c.in-Ok-Record.field-0-is c.in-Ok-Record.ensures.count);
-  phase = on_phase c.args.self.now c.read.new.self c.requires.live c.read.ensures.ended false (subst (λ (o : FileNext). NextPhase (phase_at c.args.self.now.reading c.args.self.now.standard) (Ok o) (phase_at c.read.new.self.reading c.read.new.self.standard)) c.in-Ok-Record.field-0-is c.in-Ok-Record.ensures.phase);
-  ends = (c.requires.live, c.read.ensures.ended ∙ c.requires.live);
-  spares = c.read.ensures.spares;
-  no_others = c.read.ensures.no_others;
-  places = c.read.ensures.places;
-  outside = c.read.ensures.outside;
-  next = c.read.ensures.next;
-  found = c.read.ensures.found;
-  standard = c.read.ensures.standard;
-  handed = record {
-    live = c.requires.live;
-    busy = c.requires.busy;
-    handed = subst (λ (o : FileNext). HandsAt c.args.rs c.args.self.now.reading c.args.self.now.standard (Ok o) c.read.new.self.reading c.read.new.self.standard)
-        c.in-Ok-Record.field-0-is c.in-Ok-Record.ensures.handed;
-  };
-  answers = tt;
-  rests = tt;
-  finds = record_finds c.args.rs c.args.self.now c.read.new.self c.requires.live c.requires.busy c.read.new.self.reading c.read.new.self.standard c.in-Ok-Record.text
-      (subst (λ (o : FileNext). HandsAt c.args.rs c.args.self.now.reading c.args.self.now.standard (Ok o) c.read.new.self.reading c.read.new.self.standard)
-      c.in-Ok-Record.field-0-is c.in-Ok-Record.ensures.handed) c.read.ensures.same;
-}
+returns-in-Ok-Record g c =
+    let old = c.args.self.now in
+    let new = c.read.new.self in
+    let read = c.read.ensures in
+    let answer = c.in-Ok-Record.ensures in
+    let is = c.in-Ok-Record.field-0-is in
+    let p = phase_at old.reading old.standard in
+    let n = g.W.World.count c.args.world.now in
+    let m = g.W.World.count c.read.new.world in
+    let handed = subst (λ (o : FileNext). HandsAt c.args.rs old.reading old.standard (Ok o) new.reading new.standard) is answer.handed in
+    record {
+      moves = read.moves;
+      told = λ tells inner asked.
+          let before = main_of old (g.W.World.state c.args.world.now) in
+          let after = main_of new (g.W.World.state c.read.new.world) in
+          reads_record (g.W.World.state c.args.world.now).outside before inner c.args.rs c.requires.live asked.separator c.in-Ok-Record.text after
+          (subst (λ (o : FileNext). ReadsMain c.args.rs before (Ok o) after) is (answer.told tells));
+      steps = record {
+        goes_on = tt;
+        count = counted p c.in-Ok-Record.text n m (subst (λ (o : FileNext). NextCounts p (Ok o) n m) is answer.count);
+        phase = on_phase old new c.requires.live read.ended false
+            (subst (λ (o : FileNext). NextPhase p (Ok o) (phase_at new.reading new.standard)) is answer.phase);
+        ends = (c.requires.live, read.ended ∙ c.requires.live);
+        rests = tt;
+      };
+      next = read.next;
+      found = read.found;
+      standard = read.standard;
+      handed = record { live = c.requires.live; busy = c.requires.busy; handed = handed };
+      answers = tt;
+      finds = record_finds c.args.rs old new c.requires.live c.requires.busy new.reading new.standard c.in-Ok-Record.text handed read.leaves;
+    }
 
 pub returns-in-Ok-Failed : goal.returns-in-Ok-Failed
-returns-in-Ok-Failed g c = record {
-  held = c.read.ensures.held;
-  told = λ tells inner asked.
-      let old = main_of c.args.self.now (g.W.World.state c.args.world.now) in
-      let new = main_of c.read.new.self (g.W.World.state c.read.new.world) in
-      reads_failure (g.W.World.state c.args.world.now).outside old inner c.args.rs c.requires.live asked.separator new
-      (subst (λ (o : FileNext). ReadsMain c.args.rs old (Ok o) new) c.in-Ok-Failed.field-0-is (c.in-Ok-Failed.ensures.told tells));
-  goes_on = tt;
-  count = subst (λ p. NextCounts p (Ok Failed) (g.W.World.count c.args.world.now) (g.W.World.count c.read.new.world)) (same_phase c.args.self.now c.requires.live) (subst (λ (o : FileNext). NextCounts (phase_at c.args.self.now.reading c.args.self.now.standard) (Ok o) (g.W.World.count c.args.world.now) (g.W.World.count c.read.new.world)) c.in-Ok-Failed.field-0-is c.in-Ok-Failed.ensures.count);
-  phase = on_broken c.read.new.self (c.read.ensures.ended ∙ c.requires.live) (subst (λ (o : FileNext). NextPhase (phase_at c.args.self.now.reading c.args.self.now.standard) (Ok o) (phase_at c.read.new.self.reading c.read.new.self.standard)) c.in-Ok-Failed.field-0-is c.in-Ok-Failed.ensures.phase);
-  ends = (c.requires.live, c.read.ensures.ended ∙ c.requires.live);
-  spares = c.read.ensures.spares;
-  no_others = c.read.ensures.no_others;
-  places = c.read.ensures.places;
-  outside = c.read.ensures.outside;
-  next = c.read.ensures.next;
-  found = c.read.ensures.found;
-  standard = c.read.ensures.standard;
-  handed = record {
-    live = c.requires.live;
-    busy = c.requires.busy;
-    handed = subst (λ (o : FileNext). HandsAt c.args.rs c.args.self.now.reading c.args.self.now.standard (Ok o) c.read.new.self.reading c.read.new.self.standard)
-        c.in-Ok-Failed.field-0-is c.in-Ok-Failed.ensures.handed;
-  };
-  answers = inl refl;
-  rests = tt;
-  finds = failure_finds c.args.rs c.args.self.now c.read.new.self c.requires.live c.requires.busy c.read.new.self.reading c.read.new.self.standard
-      (subst (λ (o : FileNext). HandsAt c.args.rs c.args.self.now.reading c.args.self.now.standard (Ok o) c.read.new.self.reading c.read.new.self.standard)
-      c.in-Ok-Failed.field-0-is c.in-Ok-Failed.ensures.handed) c.read.ensures.same;
-}
+returns-in-Ok-Failed g c =
+    let old = c.args.self.now in
+    let new = c.read.new.self in
+    let read = c.read.ensures in
+    let answer = c.in-Ok-Failed.ensures in
+    let is = c.in-Ok-Failed.field-0-is in
+    let p = phase_at old.reading old.standard in
+    let n = g.W.World.count c.args.world.now in
+    let m = g.W.World.count c.read.new.world in
+    let handed = subst (λ (o : FileNext). HandsAt c.args.rs old.reading old.standard (Ok o) new.reading new.standard) is answer.handed in
+    record {
+      moves = read.moves;
+      told = λ tells inner asked.
+          let before = main_of old (g.W.World.state c.args.world.now) in
+          let after = main_of new (g.W.World.state c.read.new.world) in
+          reads_failure (g.W.World.state c.args.world.now).outside before inner c.args.rs c.requires.live asked.separator after
+          (subst (λ (o : FileNext). ReadsMain c.args.rs before (Ok o) after) is (answer.told tells));
+      steps = record {
+        goes_on = tt;
+        count = subst (λ q. NextCounts q (Ok Failed) n m) (same_phase old c.requires.live) (subst (λ (o : FileNext). NextCounts p (Ok o) n m) is answer.count);
+        phase = on_broken new (read.ended ∙ c.requires.live) (subst (λ (o : FileNext). NextPhase p (Ok o) (phase_at new.reading new.standard)) is answer.phase);
+        ends = (c.requires.live, read.ended ∙ c.requires.live);
+        rests = tt;
+      };
+      next = read.next;
+      found = read.found;
+      standard = read.standard;
+      handed = record { live = c.requires.live; busy = c.requires.busy; handed = handed };
+      answers = inl refl;
+      finds = failure_finds c.args.rs old new c.requires.live c.requires.busy new.reading new.standard handed read.leaves;
+    }
 
 pub returns-in-Err : goal.returns-in-Err
-returns-in-Err g c = record {
-  held = c.read.ensures.held;
-  told = λ tells inner asked.
-      reads_refused (g.W.World.state c.args.world.now).outside (main_of c.args.self.now (g.W.World.state c.args.world.now)) inner c.args.rs c.requires.live asked.separator c.in-Err.stop (main_of c.read.new.self (g.W.World.state c.read.new.world))
-      c.in-Err.ensures.limit (c.in-Err.ensures.told tells);
-  goes_on = tt;
-  count = counted_refused (phase_at c.args.self.now.reading c.args.self.now.standard) (main_phase c.args.self.now) c.in-Err.stop (g.W.World.count c.args.world.now) (g.W.World.count c.read.new.world) c.in-Err.ensures.limit c.in-Err.ensures.count;
-  phase = phase_refused c.in-Err.stop (main_phase c.args.self.now) (main_phase c.read.new.self) c.in-Err.ensures.limit (on_phase c.args.self.now c.read.new.self c.requires.live c.read.ensures.ended false c.in-Err.ensures.phase);
-  ends = (c.requires.live, c.read.ensures.ended ∙ c.requires.live);
-  spares = c.read.ensures.spares;
-  no_others = c.read.ensures.no_others;
-  places = c.read.ensures.places;
-  outside = c.read.ensures.outside;
-  next = c.read.ensures.next;
-  found = c.read.ensures.found;
-  standard = c.read.ensures.standard;
-  handed = refused_hands c.args.rs c.args.self.now c.read.new.self c.in-Err.stop c.in-Err.ensures.limit (record { live = c.requires.live; busy = c.requires.busy; handed = c.in-Err.ensures.handed });
-  answers = of_reader c.in-Err.stop c.in-Err.ensures.limit;
-  rests = tt;
-  finds = refusal_finds c.args.rs c.args.self.now c.read.new.self c.requires.live c.requires.busy c.read.new.self.reading c.read.new.self.standard c.in-Err.stop
-      c.in-Err.ensures.limit c.in-Err.ensures.handed;
-}
+returns-in-Err g c =
+    let old = c.args.self.now in
+    let new = c.read.new.self in
+    let read = c.read.ensures in
+    let answer = c.in-Err.ensures in
+    let p = phase_at old.reading old.standard in
+    let n = g.W.World.count c.args.world.now in
+    let m = g.W.World.count c.read.new.world in
+    record {
+      moves = read.moves;
+      told = λ tells inner asked.
+          let before = g.W.World.state c.args.world.now in
+          reads_refused before.outside (main_of old before) inner c.args.rs c.requires.live asked.separator c.in-Err.stop
+          (main_of new (g.W.World.state c.read.new.world)) answer.limit (answer.told tells);
+      steps = record {
+        goes_on = tt;
+        count = counted_refused p (main_phase old) c.in-Err.stop n m answer.limit answer.count;
+        phase = phase_refused c.in-Err.stop (main_phase old) (main_phase new) answer.limit (on_phase old new c.requires.live read.ended false answer.phase);
+        ends = (c.requires.live, read.ended ∙ c.requires.live);
+        rests = tt;
+      };
+      next = read.next;
+      found = read.found;
+      standard = read.standard;
+      handed = refused_hands c.args.rs old new c.in-Err.stop answer.limit (record { live = c.requires.live; busy = c.requires.busy; handed = answer.handed });
+      answers = of_reader c.in-Err.stop answer.limit;
+      finds = refusal_finds c.args.rs old new c.requires.live c.requires.busy new.reading new.standard c.in-Err.stop answer.limit answer.handed;
+    }
 
 pub returns-in-Ok-End-clause-finds : goal.returns-in-Ok-End-clause-finds
 returns-in-Ok-End-clause-finds g c =
@@ -166,17 +176,15 @@ returns-in-Ok-End-clause-finds g c =
     end_finds c.args.rs c.args.self.now c.stop_reading.new.self c.requires.live c.requires.busy c.read.new.self.reading c.read.new.self.standard
     (subst (λ (o : FileNext). HandsAt c.args.rs c.args.self.now.reading c.args.self.now.standard (Ok o) c.read.new.self.reading c.read.new.self.standard)
     c.in-Ok-End.field-0-is c.in-Ok-End.ensures.handed)
-    (found_idle c.read.new.self c.stop_reading.new.self stops.nothing stops.ended stops.next stops.found ∙ ap idle c.read.ensures.same)
+    (found_idle c.read.new.self c.stop_reading.new.self stops.nothing stops.ended stops.next stops.found stops.standard ∙ ap idle c.read.ensures.leaves)
 
 pub returns-in-Ok-End-clause-told : goal.returns-in-Ok-End-clause-told
 returns-in-Ok-End-clause-told g c = λ tells inner asked.
     let old = main_of c.args.self.now (g.W.World.state c.args.world.now) in
     let new = main_of c.read.new.self (g.W.World.state c.read.new.world) in
-    reads_end (g.W.World.state c.args.world.now).outside old inner c.args.rs c.requires.live asked.separator new (main_of c.stop_reading.new.self (g.W.World.state c.stop_reading.new.world))
+    reads_end (g.W.World.state c.args.world.now).outside old inner c.args.rs c.requires.live asked.separator new
+    (main_of c.stop_reading.new.self (g.W.World.state c.stop_reading.new.world))
     (subst (λ (o : FileNext). ReadsMain c.args.rs old (Ok o) new) c.in-Ok-End.field-0-is (c.in-Ok-End.ensures.told tells)) (c.stop_reading.ensures.told tells)
-
-pub returns-in-Ok-End-clause-held : goal.returns-in-Ok-End-clause-held
-returns-in-Ok-End-clause-held g c = c.stop_reading.ensures.held
 
 pub returns-in-Ok-End-clause-next : goal.returns-in-Ok-End-clause-next
 returns-in-Ok-End-clause-next g c = c.stop_reading.ensures.next ∙ c.read.ensures.next
@@ -184,40 +192,31 @@ returns-in-Ok-End-clause-next g c = c.stop_reading.ensures.next ∙ c.read.ensur
 pub returns-in-Ok-End-clause-found : goal.returns-in-Ok-End-clause-found
 returns-in-Ok-End-clause-found g c = c.stop_reading.ensures.found ∙ c.read.ensures.found
 
-pub returns-in-Ok-End-clause-outside : goal.returns-in-Ok-End-clause-outside
-returns-in-Ok-End-clause-outside g c = λ tells. c.stop_reading.ensures.outside tells ∙ c.read.ensures.outside tells
-
-pub returns-in-Ok-End-clause-goes_on : goal.returns-in-Ok-End-clause-goes_on
-returns-in-Ok-End-clause-goes_on g c = less_work c.args.self.now c.stop_reading.new.self (c.stop_reading.ensures.next ∙ c.read.ensures.next) c.stop_reading.ensures.nothing c.requires.busy
-
-pub returns-in-Ok-End-clause-count : goal.returns-in-Ok-End-clause-count
-returns-in-Ok-End-clause-count g c = c.stop_reading.ensures.count ∙ counted_end (phase_at c.args.self.now.reading c.args.self.now.standard) (g.W.World.count c.args.world.now) (g.W.World.count c.read.new.world) (subst (λ (o : FileNext). NextCounts (phase_at c.args.self.now.reading c.args.self.now.standard) (Ok o) (g.W.World.count c.args.world.now) (g.W.World.count c.read.new.world)) c.in-Ok-End.field-0-is c.in-Ok-End.ensures.count)
-
-pub returns-in-Ok-End-clause-ends : goal.returns-in-Ok-End-clause-ends
-returns-in-Ok-End-clause-ends g c = (c.requires.live, c.stop_reading.ensures.ended ∙ c.read.ensures.ended ∙ c.requires.live)
-
-pub returns-in-Ok-End-clause-phase : goal.returns-in-Ok-End-clause-phase
-returns-in-Ok-End-clause-phase g c =
-    let read = (subst (λ (o : FileNext). NextPhase (phase_at c.args.self.now.reading c.args.self.now.standard) (Ok o) (phase_at c.read.new.self.reading c.read.new.self.standard)) c.in-Ok-End.field-0-is c.in-Ok-End.ensures.phase) in
-    (λ is. read.0 (same_phase c.args.self.now c.requires.live ∙ is), is_idle c.stop_reading.new.self (c.stop_reading.ensures.ended ∙ c.read.ensures.ended ∙ c.requires.live) c.stop_reading.ensures.nothing)
-
-pub returns-in-Ok-End-clause-spares : goal.returns-in-Ok-End-clause-spares
-returns-in-Ok-End-clause-spares g c = λ k apart was. let s = c.read.ensures.spares k apart was in let t = c.stop_reading.ensures.spares k s.1 (λ e. was (sym s.0 ∙ e)) in (t.0 ∙ s.0, t.1)
-
-pub returns-in-Ok-End-clause-no_others : goal.returns-in-Ok-End-clause-no_others
-returns-in-Ok-End-clause-no_others g c = λ k apart is. let t = c.stop_reading.ensures.no_others k apart is in let s = c.read.ensures.no_others k t.1 (λ e. is (sym t.0 ∙ e)) in (s.0 ∙ t.0, s.1)
-
-pub returns-in-Ok-End-clause-places : goal.returns-in-Ok-End-clause-places
-returns-in-Ok-End-clause-places g c = λ tells k own apart was.
-    let s = c.read.ensures.spares k apart was in
-    let now = c.stop_reading.ensures.places tells k own s.1 (λ e. was (sym s.0 ∙ e)) in
-    let first = c.read.ensures.places tells k own apart was in (now.0 ∙ first.0, now.1 ∙ first.1)
-
 pub returns-in-Ok-End-clause-standard : goal.returns-in-Ok-End-clause-standard
-returns-in-Ok-End-clause-standard g c = subst (λ (x : Reader). StandardStays c.args.self.now.reading c.args.self.now.standard x) (sym c.stop_reading.ensures.standard) c.read.ensures.standard
-
-pub returns-in-Ok-End-clause-rests : goal.returns-in-Ok-End-clause-rests
-returns-in-Ok-End-clause-rests g c = tt
+returns-in-Ok-End-clause-standard g c =
+    subst (λ (x : Reader). StandardStays c.args.self.now.reading c.args.self.now.standard x) (sym c.stop_reading.ensures.standard) c.read.ensures.standard
 
 pub returns-in-Ok-End-clause-answers : goal.returns-in-Ok-End-clause-answers
 returns-in-Ok-End-clause-answers g c = tt
+
+pub returns-in-Ok-End-clause-moves : goal.returns-in-Ok-End-clause-moves
+returns-in-Ok-End-clause-moves g c = moves_on c.read.ensures.moves c.stop_reading.ensures.moves
+
+pub returns-in-Ok-End-clause-steps : goal.returns-in-Ok-End-clause-steps
+returns-in-Ok-End-clause-steps g c =
+    let old = c.args.self.now in
+    let read = c.read.ensures in
+    let stops = c.stop_reading.ensures in
+    let answer = c.in-Ok-End.ensures in
+    let is = c.in-Ok-End.field-0-is in
+    let p = phase_at old.reading old.standard in
+    let n = g.W.World.count c.args.world.now in
+    let m = g.W.World.count c.read.new.world in
+    let phase = subst (λ (o : FileNext). NextPhase p (Ok o) (phase_at c.read.new.self.reading c.read.new.self.standard)) is answer.phase in
+    record {
+      goes_on = less_work old c.stop_reading.new.self (stops.next ∙ read.next) stops.nothing c.requires.busy;
+      count = stops.count ∙ counted_end p n m (subst (λ (o : FileNext). NextCounts p (Ok o) n m) is answer.count);
+      phase = (λ is. phase.0 (same_phase old c.requires.live ∙ is), is_idle c.stop_reading.new.self (stops.ended ∙ read.ended ∙ c.requires.live) stops.nothing);
+      ends = (c.requires.live, stops.ended ∙ read.ended ∙ c.requires.live);
+      rests = tt;
+    }

@@ -9,7 +9,7 @@ use Rattle.host_values.specs.Calls.{reserved_handle}
 use Rattle.host_tables.proofs.start.FirstTables.at_start.Goals as goal
 
 pub returns-clause-stands : goal.returns-clause-stands
-returns-clause-stands c input outside =
+returns-clause-stands c input outside coming =
     let t : FirstTables = record { handles = c.new.result; arrays = c.in_ok-arrays.arrays; iterators = c.new-2.result; texts = c.in_ok-texts.texts; names = c.at_start-2.result; arguments = c.new-3.result; fault = c.fault_of-fault.result } in
     let count : c.in-Ok.operands ≡ length c.args.job.now.operands.items = search rules in
     stands t (job_of c.args.job.now)
@@ -26,7 +26,7 @@ returns-clause-stands c input outside =
       arguments = c.new-3.ensures.items;
       fault = c.fault_of-fault.ensures;
     })
-    input outside
+    input outside coming
 
 pub returns-clause-values : goal.returns-clause-values
 returns-clause-values c = ap (λ m. maps.get m reserved_handle) c.new.ensures ∙ none_there reserved_handle

@@ -2,20 +2,20 @@ use Rattle.std.proofs.Common.{◌≤ℤ◌, ℤ, pos, w32, None, ap, sym, subst,
 use Rattle.std.proofs.lemmas.Int.{to_z-of_z}
 use Rattle.std.specs.FinMap as map
 use Rattle.host_handles.proofs.TableLemmas.{table-remove, writes_slot}
-use Rattle.host_arrays.proofs.NumberLemmas.{taken_from_zero, taken_slot}
-use Rattle.host_values.proofs.iterators.Iterators.free.Goals as goal
+use Rattle.host_handles.proofs.NumberLemmas.{taken_from_zero, taken_slot}
+use Rattle.host_handles.proofs.numbered.Numbered.remove.Goals as goal
 
 pub slot_of-requires : goal.slot_of-requires
-slot_of-requires c =
+slot_of-requires g c =
     subst (λ (h : ℤ). pos 0 ≤ℤ h) (sym (to_z-of_z w32 _ c.ranges.number))
     (taken_from_zero c.self.inside.slab.slots c.args.number (ap (λ m. map.contains_key m c.args.number) c.self.view_is ∙ c.requires))
 
 pub remove-requires : goal.remove-requires
-remove-requires c =
+remove-requires g c =
     taken_slot c.self.inside.slab.slots c.args.number c.slot_of.result (sym (to_z-of_z w32 _ c.ranges.number) ∙ c.slot_of.ensures)
     (ap (λ m. map.contains_key m c.args.number) c.self.view_is ∙ c.requires)
 
 pub returns : goal.returns
-returns c =
+returns g c =
     let key = sym (to_z-of_z w32 _ c.ranges.number) ∙ c.slot_of.ensures in
     rw (← c.self.view_is, key) (table-remove c.slot_of.result c.self.inside.slab.slots c.remove.new.self.slots (writes_slot c.self.inside.slab c.remove.new.self c.slot_of.result None c.remove.ensures.updates))
