@@ -11,9 +11,11 @@ ghost use Rattle.wasm_types.specs.Syntax.{ModuleForm};
 ghost use Rattle.wasm_types.specs.Typing.{ModuleOk};
 ghost use Rattle.world_core.specs.WorldState.{Outside, Source};
 ghost use Rattle.host_imports.specs.Imports.{host_finds};
+ghost use Rattle.host_step.specs.Starts.{state_at_start};
 ghost use Rattle.host_values.specs.Forms.{HostForm};
 ghost use Rattle.host_values.specs.FormMeaning.{FormState, form_meaning};
 ghost use Rattle.host_values.specs.Findings.{ShownFirst};
+ghost use Rattle.host_values.specs.Shown.{Shown};
 ghost use Rattle.sem_scripts.specs.ScriptRun.{Ending, Setting};
 ghost use Rattle.agreement.specs.Modules.Agreement.{Agreement};
 ghost use Rattle.agreement.specs.Runs.ToldRuns.{DoesSo, DoesSoThere, FoundRun, GoesOnThere, ToldRun, told_by};
@@ -26,7 +28,7 @@ use world_core::World;
 pub fn did<W: World>()
     ensures { W.is_modelled → (m : ModuleForm) → ModuleOk m → (a : MachineForm) → IsNew host_finds m a
         → (job : JobForm) (input : Source) (outside : Outside)
-        → (f : HostForm) → ShownFirst f job input outside
+        → (f : HostForm) → Shown f (state_at_start job input outside)
         → (steps : ℕ) (e : MachineEnd) (c : Conf) (g : HostForm)
         → Did (form_meaning W.is_modelled) a.program steps a.conf (FormState.Told f) e c
         (FormState.Told g)

@@ -15,7 +15,7 @@ use Rattle.awk_values.specs.declared.fault.Fault.TheVariants as fault
 use Rattle.awk_values.specs.declared.value.Value.{Value}
 use Rattle.sem_primitives.specs.Limits.{most_text}
 use Rattle.sem_primitives.specs.SharedState.{◌>>=◌}
-use Rattle.sem_primitives.specs.Formats.{Conversion, Specifier, Signed, Octal, Unsigned, LowerHex, UpperHex, Fixed, String, Char, Piece, Ordinary, Converts, Malformed, conversion_at, converted, formatted, formatted_from, is_flag, is_narrow, piece_at, pieces_from, precise, precision_at, specified, specifier_of, then_text, wide}
+use Rattle.sem_primitives.specs.Formats.{Conversion, Specifier, Signed, Octal, Unsigned, LowerHex, UpperHex, Fixed, String, Char, Piece, Ordinary, Converts, Malformed, conversion_at, formatted, formatted_from, is_flag, is_narrow, pieces_from, precise, precision_at, specified, specifier_of, then_text, wide}
 use Rattle.sem_primitives.specs.Formats as formats
 use Rattle.agreement.specs.Formats.Read.{AreFlags, IsConversion, IsFormatted, ends, byte, percent_sign, conversion, IsPrecision, no_precision, precision, IsWidth, OneOf, letters}
 use Rattle.agreement.proofs.FormatsLemmas.Reading.{after_flags, conversion_of, joined, same_value, taken}

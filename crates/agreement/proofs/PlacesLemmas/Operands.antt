@@ -3,7 +3,7 @@ use Rattle.std.proofs.Common.{ℕ, zero, suc, ◌+◌, ◌≤◌, ◌≡◌, Boo
 use Rattle.std.specs.Prelude.{if◌then◌else◌}
 use Rattle.awk_tokens.specs.declared.reserved_words.Builtin.{Builtin}
 use Rattle.awk_tokens.specs.declared.reserved_words.Builtin.TheVariants as builtin
-use Rattle.awk_grammar.specs.Token.{Matching, Matches, Differs, Plus, Minus, Prefix, Not, Signed, Over as Divided, Assigning, Set as Put_, SetSum, SetProduct, SetPower, Assign, Or, And as Both, Match, Compare as Compared, Mul, Pow, Number as Numeral, Quoted, Ere}
+use Rattle.awk_grammar.specs.Token.{Matching, Matches, Differs, Plus, Minus, Not, Signed, Over as Divided, Assigning, Set as Put_, SetSum, SetProduct, SetPower, Assign, Or, And as Both, Match, Compare as Compared, Mul, Pow, Number as Numeral, Quoted, Ere}
 use Rattle.awk_grammar.specs.Token as token
 use Rattle.awk_grammar.specs.Tree as tree
 use Rattle.awk_grammar.specs.Tree.{Tree, Leaf, Length, Var, Index, Field, Group, Apply, Unary, Pre, Post, Bin, Join, Add, Other, Has, HasList, Cond, GetInto, GetFrom, GetIntoFrom, Trees, NoTree}
@@ -13,10 +13,10 @@ use Rattle.awk_grammar.specs.Item as item
 use Rattle.awk_grammar.specs.Item.{Item, Pattern, One, Between}
 use Rattle.mid_program.specs.declared.mid.Operation.{Operation}
 use Rattle.sem_scripts.specs.Names as names
-use Rattle.sem_scripts.specs.Names.{Function, Name, Resolved, Reserved, Scope, Variable, array_of, function_at, function_number, is_array, variable_of}
+use Rattle.sem_scripts.specs.Names.{Function, Name, Resolved, Reserved, Scope, Variable, function_at, function_number, is_array, variable_of}
 use Rattle.sem_scripts.specs.Items.{pattern_ranges, print_record, top}
 use Rattle.mid_program.specs.Mid as mid
-use Rattle.mid_program.specs.Mid.{AskLine, Bound, Code, Codes, FileLine, Routine, Steps}
+use Rattle.mid_program.specs.Mid.{AskLine, Bound, Code, FileLine, Routine, Steps}
 use Rattle.sem_scripts.specs.Statements.{operands_of, scope_in, with_last, with_target}
 use Rattle.sem_scripts.specs.Steps.{ere_in}
 use Rattle.mid_program.specs.Texts.{texts_of_script}

@@ -112,13 +112,13 @@ not_wanting (Ended ends.Stuck) e q ne is = cc
 
 -- over a modelled world
 module _ (m : ModuleForm) (typed : ModuleOk m) (a : MachineForm) (new : IsNew host_finds m a) (job : JobForm) (input : Source) (outside : Outside)
-    (tells : Type 0) (t : tells) (f : HostForm) (begins : ShownFirst f job input outside) where
+    (tells : Type 0) (t : tells) (f : HostForm) (begins : Shown f (state_at_start job input outside)) where
   abbrev first : HostState
   first = state_at_start job input outside
 
   -- the form at the start keeps no output
   begins_so : ShownAfter [] f first
-  begins_so = subst (λ (o : List Action). Shown (form_with_output o f) first) (sym (shown_output f first begins.kept)) begins.kept
+  begins_so = subst (λ (o : List Action). Shown (form_with_output o f) first) (sym (shown_output f first begins)) begins
 
   wanted_run : (k : ℕ) (out : List Action) (c1 : Conf) (f1 : HostForm) → Ran (form_meaning tells) a.program k a.conf (Told f) out NoMemory c1 (Told f1)
       → ToldRun m job input outside k machine.NoMemory f1

@@ -29,7 +29,7 @@ returns-clause-answers g c = λ job shown.
     subst (λ (z : RunEnd). RunAnswers tells whole job c.args.steps before z after) (sym e)
     (did_answers tells whole job c.args.steps before after a n start shown end conf left did
     (ap (λ w. (told w).outside) c.into_world-2.ensures)
-    (λ t. did_tell whole c.requires a n job (before.readers 0) before.outside tells t start shown c.args.steps end conf left did)
+    (λ t. did_tell whole c.requires a n job (before.readers 0) before.outside tells t start shown.kept c.args.steps end conf left did)
     (did_find whole c.requires a n job (before.readers 0) before.outside tells start shown c.args.steps end conf left did))
 
 pub returns-clause-seen : goal.returns-clause-seen
