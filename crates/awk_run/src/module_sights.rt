@@ -1,5 +1,5 @@
 //! Where a module was.
-ghost use Rattle.std.specs.Prelude.{◌≡◌, ◌+◌, ◌≤◌, IfOk, IfSome, None, length, map, option_and_then, option_map};
+ghost use Rattle.std.specs.Prelude.{◌≡◌, ◌≤◌, IfOk, IfSome, None, length, map, option_and_then, option_map};
 ghost use Rattle.awk_run.specs.ModuleSeen.{AreLineSites, IsLineSite, IsModuleSeen, TellsLines, TellsModule, TellsUnlined};
 ghost use Rattle.host_calls.specs.Forms.{host_form};
 ghost use Rattle.host_imports.specs.Imports.{host_types};

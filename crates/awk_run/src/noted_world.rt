@@ -180,6 +180,8 @@ impl<W: World> World for NotedWorld<W> {
 
     ghost count = { λ w. W.count w.inner };
 
+    ghost did = { λ old call new. W.did old.inner call new.inner };
+
     fn open_read(&mut self, name: &[u8]) -> Result<u32, WorldFault> {
         let opened = self.inner.open_read(name);
         match opened {

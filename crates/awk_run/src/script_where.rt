@@ -1,5 +1,5 @@
 //! Scripts in the sandbox, with where they were.
-ghost use Rattle.std.specs.Prelude.{◌≡◌, IfSome};
+ghost use Rattle.std.specs.Prelude.{IfSome};
 ghost use Rattle.awk_run.specs.ModuleRun.{Answers, RunAnswers};
 ghost use Rattle.awk_run.specs.ScriptRuns.{ScriptAnswers};
 ghost use Rattle.awk_run.specs.Seen.{IsSeenIn, IsSeenOf, IsSeenOfBytes};

@@ -2,7 +2,6 @@
 use Rattle.std.specs.Prelude.{◌≡◌, ◌⊎◌, ℕ, Bool, true, false, List, map, Result, Ok, Err}
 use Rattle.command_line.specs.declared.Request.{Request}
 use Rattle.command_line.specs.declared.Request.TheVariants.{Check, Compile, Run, Count, Exec, Imports, Explain}
-use Rattle.command_line.specs.declared.Task.{Task}
 use Rattle.script_compiler.specs.Compiled.{IsCompiled}
 use Rattle.script_lines.specs.Lined.{IsLined}
 use Rattle.run_report.specs.declared.end.RunEnd.{RunEnd}

@@ -1,5 +1,6 @@
 -- From calls of the families to what a call of the host comes to.
-use Rattle.std.proofs.Common.{◌≡◌, ℕ, false, true≢false, not, List, [], Option, Some, None, Result, Ok, Err, refl, subst, sym, ap, ◌∙◌}
+use Rattle.std.proofs.Common.{◌≡◌, ℕ, false, true, true≢false, not, List, [], Option, Some, None, Result, Ok, Err, refl, subst, sym, ap, ◌∙◌}
+use Rattle.std.specs.Prelude.{IsSome}
 use Rattle.wasm_model.specs.declared.host.HostAnswer.{HostAnswer}
 use Rattle.awk_values.specs.declared.fault.Fault.{Fault}
 use Rattle.wasm_store.specs.declared.word.Word.{Word}
@@ -131,3 +132,8 @@ found tells i k before words memory a after-call is means = subst (λ (j : Impor
 pub none_kept : (i : Import) (o : Option Fault) → lets_go i ≡ false → refuses i o ≡ false → o ≡ None
 none_kept i None keeps goes = refl
 none_kept i (Some f) keeps goes = absurd (true≢false (sym (ap not keeps) ∙ goes))
+
+-- and one that does not let something go is, once a fault is kept
+pub refused_kept : (i : Import) (o : Option Fault) → lets_go i ≡ false → IsSome o → refuses i o ≡ true
+refused_kept i None keeps kept = absurd (true≢false (sym kept))
+refused_kept i (Some f) keeps kept = ap not keeps

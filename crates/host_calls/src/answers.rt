@@ -1,16 +1,15 @@
 //! The answer to a call.
-ghost use Rattle.std.specs.Prelude.{◌≡◌, Ok};
+ghost use Rattle.std.specs.Prelude.{◌≡◌, List, ℕ, IsSome, Ok};
 ghost use Rattle.host_calls.specs.Calls.{Means, Settles};
 ghost use Rattle.host_calls.specs.Forms.{host_form};
 ghost use Rattle.host_imports.specs.Imports.{import_answer};
 ghost use Rattle.host_step.specs.Answers.{refusal};
-ghost use Rattle.host_step.specs.HostStep.{refuses};
 ghost use Rattle.host_values.specs.TableCalls.{left_by_call};
 ghost use Rattle.host_tables.specs.Answers.{told_as};
 
 use crate::host::Host;
 use host_imports::{Import, VariadicImport};
-use host_tables::{refusal, refuses, told};
+use host_tables::{refusal, told};
 use host_values::{Evaluated, Refusal, carry_out};
 use sem_primitives::Primitive;
 use wasm_model::HostAnswer;
@@ -50,16 +49,30 @@ impl<W: World> Host<W> {
         self.tell(import, outcome)
     }
 
-    /// Answers a call of an import. Once a fault is kept every import but those that let something go only refuses. It stands apart, so that the machine's
-    /// loop has one call for all imports.
+    /// Answers a call once a fault is kept: every import but those that let something go only refuses. It stands apart, so that the other calls look at
+    /// nothing but whether a fault is kept.
     #[inline(never)]
-    pub(crate) fn answer(&mut self, import: Import, words: &[Word], memory: &[u8]) -> HostAnswer
+    fn answer_faulted(&mut self, words: &[Word], import: Import) -> HostAnswer
+        requires { IsSome self.old.tables.fault }
+        ensures { (memory : List ℕ) → Means W.is_modelled W.state import self.old words.now memory result
+            self.new }
+    {
+        match import {
+            Import::Drop => self.on_drop(words),
+            Import::IterFree => self.on_iter_free(words),
+            Import::FreeArray => self.on_free_array(words),
+            Import::OfPrimitive(_) | Import::Variadic(_) | Import::Arg => refused(import),
+        }
+    }
+
+    /// Answers a call of an import. Once a fault is kept every import but those that let something go only refuses. It stands apart, so that the machine's
+    /// loop has one call for all imports. The words come first, so that they stand where each import takes them.
+    #[inline(never)]
+    pub(crate) fn answer(&mut self, words: &[Word], memory: &[u8], import: Import) -> HostAnswer
         ensures { Means W.is_modelled W.state import self.old words.now memory.now result self.new }
     {
-        if refuses(import, self.tables.fault()) {
-            return refused(import);
-        }
         match import {
+            _ if self.tables.fault().is_some() => self.answer_faulted(words, import),
             Import::Drop => self.on_drop(words),
             Import::Arg => self.on_arg(words),
             Import::IterFree => self.on_iter_free(words),

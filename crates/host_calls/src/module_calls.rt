@@ -45,7 +45,7 @@ impl<W: World> HostCalls for Host<W> {
     #[inline(always)]
     fn call(&mut self, import: u32, args: &[Word], memory: &mut Memory) -> HostAnswer {
         match Import::of_number(import) {
-            Some(import) => self.answer(import, args, memory.bytes()),
+            Some(import) => self.answer(args, memory.bytes(), import),
             None => unknown(),
         }
     }

@@ -70,7 +70,7 @@ impl Handles {
     /// # Errors
     ///
     /// The value is handed back, and nothing changes, where there is no memory or no number is left.
-    #[inline(always)]
+    #[inline]
     pub fn put(&mut self, value: Value) -> Result<i32, Value>
         ensures free { IfOk result (λ handle. map.get self.old handle ≡ None) }
         ensures from_zero { IfOk result (λ handle. pos 0 ≤ℤ handle) }

@@ -1,5 +1,5 @@
 //! Which names take an assignment (POSIX.1-2017 awk, "OPTIONS", -v; "OPERANDS", assignment).
-ghost use Rattle.std.specs.Prelude.{◌≡◌, codes, drop, length, take_while};
+ghost use Rattle.std.specs.Prelude.{◌≡◌, drop, length, take_while};
 ghost use Rattle.sem_primitives.specs.Assignments.{begins_name, continues_name, is_name, takes_none};
 ghost use Rattle.sem_primitives.specs.Texts.{is_empty};
 

@@ -102,7 +102,7 @@ pub may_by : (s : Streams) → length s.readers.items + length s.writers.items <
 may_by s few = grind (arith, nat_tests, few)
 
 -- no more may be opened
-no_room : (s : Streams) (state : State) (shared : Shared) → IsOf s state shared → 256 ≤ length s.readers.items + length s.writers.items → has_room shared.inner ≡ false
+pub no_room : (s : Streams) (state : State) (shared : Shared) → IsOf s state shared → 256 ≤ length s.readers.items + length s.writers.items → has_room shared.inner ≡ false
 no_room s state shared is many =
     let readers : length shared.inner.readers ≡ length s.readers.items = ap length is.readers ∙ length-map s.readers.items _ in
     let writers : length shared.inner.writers ≡ length s.writers.items = ap length is.writers ∙ length-map s.writers.items _ in

@@ -1,3 +1,5 @@
+pub mod Given
+pub mod GivenTexts
 pub mod Cuts
 pub mod Finding
 pub mod Turns

@@ -6,6 +6,7 @@ use Rattle.std.proofs.lemmas.List.{take_all}
 use Rattle.std.proofs.Common.{take-add, length-drop}
 use Rattle.sem_primitives.specs.Finds.{found_or, seen}
 use Rattle.sem_primitives.specs.SharedState.{Shared}
+use Rattle.host_streams.specs.Given.{SizeFits}
 use Rattle.host_streams.specs.Puts.{IsOver, PutsText}
 use Rattle.sem_primitives.specs.OutputMeaning.{all_fits, what_fits}
 use Rattle.std.proofs.lemmas.Bool.{le-leb, lt-leb}
@@ -147,6 +148,21 @@ put_all at id text s t a b fits part =
       all_fit room text whole,
       subst (λ (xs : List ℕ). Does (puts (s.writers id) xs) s t) (take_all at text b ∙ sym (what_fit room text whole)) part,
     )
+
+-- so many bytes went out
+pub size_fails : (at id : ℕ) (text : List ℕ) (s t u : State) (e : WorldFault) → at < length text → Fits at (s.outside (s.writers id)) → PutsPart at id text s t →
+    Writes id (drop at text) t (Err e) u → SizeFits (free (s.outside (s.writers id))) text at (Err e) × PutsPart at id text s u
+size_fails at id text s t u Failed h fits part w =
+    let full : free (s.outside (s.writers id)) ≡ Some at = filled (free (s.outside (s.writers id))) at fits (sym (part-free at id text s t (omega arith) part) ∙ w.full) in
+    (ap (λ room. what_fits room text) (sym full), subst (λ (x : State). PutsPart at id text s x) (sym w.unchanged) part)
+size_fails at id text s t u NoMemory h fits part w =
+    (part_is (free (s.outside (s.writers id))) at text fits, subst (λ (x : State). PutsPart at id text s x) (sym w) part)
+
+pub size_all : (at id : ℕ) (text : List ℕ) (s : State) → at ≤ length text → length text ≤ at → Fits at (s.outside (s.writers id)) → take at text ≡ what_fits (free (s.outside (s.writers id))) text
+size_all at id text s a b fits =
+    let room : Option ℕ = free (s.outside (s.writers id)) in
+    let whole : IfSome room (λ r. length text ≤ r) = subst (λ (n : ℕ). IfSome room (λ r. n ≤ r)) (let e : at ≡ length text = omega arith in e) fits in
+    take_all at text b ∙ sym (what_fit room text whole)
 
 -- `&text[at..]`
 pub rest_is : (at : ℕ) (text : List ℕ) → take (length text - at) (drop at text) ≡ drop at text

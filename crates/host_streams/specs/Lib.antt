@@ -2,6 +2,7 @@ pub mod Looks
 pub mod Readers
 pub mod OpenFiles
 pub mod Puts
+pub mod Given
 pub mod Outputs
 pub mod Closing
 pub mod Mains

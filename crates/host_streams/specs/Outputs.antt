@@ -1,9 +1,11 @@
 -- Texts that go to files by their names, as the definition of printing has it.
-use Rattle.std.specs.Prelude.{◌≡◌, ℕ, List, [], ◌∷◌, ◌++◌, if◌then◌else◌, Bool, true, None, Result, Ok, Err}
+use Rattle.std.specs.Prelude.{◌≡◌, ℕ, List, [], ◌∷◌, ◌++◌, if◌then◌else◌, Bool, true, false, None, Result, Ok, Err}
 use Rattle.awk_values.specs.declared.fault.Fault.{Fault}
 use Rattle.awk_values.specs.declared.fault.Stop.{Stop}
 use Rattle.awk_values.specs.declared.fault.Stop.TheVariants.{Fault as IsFault, NoMemory}
-use Rattle.world_core.specs.WorldState.{State}
+use Rattle.world_core.specs.Traces.{Call}
+use Rattle.world_core.specs.WorldState.{Action, State, Named}
+use Rattle.world_core.specs.WorldState as world
 use Rattle.sem_primitives.specs.SharedState.{Shared, HostResult}
 use Rattle.sem_primitives.specs.OutputMeaning.{is_writing, put_text}
 use Rattle.sem_primitives.specs.declared.constants.Destination.{Destination}
@@ -11,6 +13,7 @@ use Rattle.sem_primitives.specs.declared.constants.Destination.TheVariants as de
 use Rattle.host_streams.specs.declared.output.Target.{Target}
 use Rattle.host_streams.specs.declared.output.Target.TheVariants.{Standard, Emptied, Appended}
 use Rattle.host_streams.specs.declared.streams.Streams.{Streams}
+use Rattle.host_streams.specs.Given.{GivesText, PutsGiven, opening_of}
 use Rattle.host_streams.specs.OpenFiles.{has_room, names_of, readers_in}
 use Rattle.host_streams.specs.Puts.{OutputPrefix, EndsPut, HasBegun, HasDone}
 
@@ -69,3 +72,22 @@ BeginsPutTo tells target text old before answer after =
 abbrev pub EndsPutTo : Target → List ℕ → Streams → Result (Unit {0}) Stop → Type 0
 EndsPutTo target text old answer =
     EndsPut (open_before target (names_of old.writers.items)) (has_room old) text answer
+
+-- the name that is opened, if one is, and where the text goes
+abbrev pub opening_to : Target → List (List ℕ) → List Action
+opening_to Standard names = []
+opening_to (Emptied name) names = opening_of name.now false names
+opening_to (Appended name) names = opening_of name.now true names
+
+abbrev pub target_of : Target → world.Target
+target_of Standard = world.Standard
+target_of (Emptied name) = Named name.now
+target_of (Appended name) = Named name.now
+
+-- what was given where a text was put to a target
+abbrev pub PutsGivenTo : {W : Type 0} → Type 0 → (W → Call → W → Type 0) → Target → List ℕ → W → W → Streams → Streams → State → State
+    → Result (Unit {0}) Stop → Type 0
+PutsGivenTo tells did target text before after old new state state' answer =
+    PutsGiven tells did before after old.writers.items new.writers.items
+    (GivesText (opening_to target (names_of old.writers.items)) (target_of target) text answer) state state' answer
+    (IsOf old state) (put_text (destination_of target) (name_of target) text)

@@ -2,6 +2,7 @@
 ghost use Rattle.std.specs.Prelude.{◌≡◌};
 ghost use Rattle.sem_primitives.specs.InputMeaning.{without_reader, without_writer};
 ghost use Rattle.sem_primitives.specs.OutputMeaning.{is_writing};
+ghost use Rattle.host_streams.specs.Given.{GivesNone};
 ghost use Rattle.host_streams.specs.Closing.{ClosesName, is_open};
 ghost use Rattle.host_streams.specs.OpenFiles.{HoldsOpen, OthersKeep, OthersStay, WritersGo, names_of, reader_names, readers_beside, readers_in, writers_beside};
 
@@ -29,6 +30,7 @@ impl Streams {
         ensures no_others { OthersStay self.new self.old (W.kinds world.new) (W.kinds world.old) }
         ensures places { W.is_modelled
             → OthersKeep self.old (W.kinds world.old) (W.state world.old) (W.state world.new) }
+        ensures gives { GivesNone W.did world.old world.new }
     {
         match find_reader(self.readers.as_slice(), name) {
             Some(at) => {
@@ -59,6 +61,7 @@ impl Streams {
         ensures no_others { OthersStay self.new self.old (W.kinds world.new) (W.kinds world.old) }
         ensures places { W.is_modelled
             → OthersKeep self.old (W.kinds world.old) (W.state world.old) (W.state world.new) }
+        ensures gives { GivesNone W.did world.old world.new }
     {
         match find_writer(self.writers.as_slice(), name) {
             Some(at) => {
@@ -92,6 +95,7 @@ impl Streams {
         ensures no_others { OthersStay self.new self.old (W.kinds world.new) (W.kinds world.old) }
         ensures places { W.is_modelled
             → OthersKeep self.old (W.kinds world.old) (W.state world.old) (W.state world.new) }
+        ensures gives { GivesNone W.did world.old world.new }
     {
         let reading = self.close_reader(world, name);
         let writing = self.close_writer(world, name);

@@ -11,6 +11,7 @@ ghost use Rattle.sem_primitives.specs.Records.{record_separator};
 ghost use Rattle.sem_primitives.specs.SharedState.{Inner};
 ghost use Rattle.host_streams.specs.declared.reader.Phase.TheVariants.{Broken, Open};
 ghost use Rattle.host_streams.specs.Readers.{NextCounts, NextPhase, OnlyLimit};
+ghost use Rattle.host_streams.specs.Given.{GivesNone};
 ghost use Rattle.host_streams.specs.Mains.{FileIsOpen, GivenIs, GivesMain, GivesOperand, GivesStep, HoldsMain, IsApartFrom, IsAsked, IsFresh, IsOfNumber, IsOffered, MainCounts, MainEnds, MainPhase, NameLen, OpensNoOther, OperandCounts, ReadsMain, SkipsMain, SparesKinds, SparesOthers, SparesPlaces, StandardIs, begins, has_operand, idle, is_equals, main_at_start, main_in, main_of, main_phase, phase_at, reading_of};
 ghost use Rattle.host_streams.specs.MainFinds.{FindsFollowing, FindsMain, FindsReach, FindsSomeOn, FindsStep, entry_of_reading, left_found, main_found, reading_found};
 ghost use Rattle.host_streams.specs.MainMoves.{MovesMain, StepsMain, TakesOperand};
@@ -149,6 +150,7 @@ fn open_operand<W: World>(world: &mut W, alloc: Global, name: &[u8]) -> Result<R
     ensures outside { W.is_modelled → (W.state world.new).outside ≡ (W.state world.old).outside }
     ensures finds { IfOk result (λ r. reader_of (λ target. entry_of_reading r) name.now
         ≡ reading_found r) }
+    ensures gives { GivesNone W.did world.old world.new }
 {
     if name == b"-".as_slice() {
         return Ok(Reading::Standard);
@@ -210,6 +212,7 @@ impl MainInput {
             self.new.standard }
         ensures leaves { main_found self.new
             ≡ left_found self.old self.new.reading self.new.standard }
+        ensures gives { GivesNone W.did world.old world.new }
     {
         match &mut self.reading {
             Reading::Nothing => Ok(FileNext::End),
@@ -232,6 +235,7 @@ impl MainInput {
             ≡ idle (main_of self.old (W.state world.old)) }
         ensures found { self.new.found ≡ self.old.found }
         ensures standard { self.new.standard ≡ self.old.standard }
+        ensures gives { GivesNone W.did world.old world.new }
     {
         if let Reading::File(reader) = &self.reading {
             world.close(reader.id);
@@ -256,6 +260,7 @@ impl MainInput {
         ensures handed { HandsStep rs self.old result self.new }
         ensures answers { IsOfReader result }
         ensures finds { FindsSomeOn rs self.old result self.new }
+        ensures gives { GivesNone W.did world.old world.new }
     {
         match self.read(world, rs) {
             Ok(FileNext::Record(text)) => Ok(Some(MainNext::Record(text))),
@@ -311,6 +316,7 @@ impl MainInput {
         ensures steps { StepsMain Open self.old result self.new (W.count world.old)
             (W.count world.new) }
         ensures operand { TakesOperand name self.old result self.new }
+        ensures gives { GivesNone W.did world.old world.new }
     {
         let opened = open_operand(world, self.alloc, name.as_slice())?;
         self.next += 1;
@@ -359,6 +365,7 @@ impl MainInput {
         ensures steps { StepsMain Open self.old result self.new (W.count world.old)
             (W.count world.new) }
         ensures operand { TakesOperand (O.text operands.now self.old.next) self.old result self.new }
+        ensures gives { GivesNone W.did world.old world.new }
     {
         let text = operands.operand(self.next)?;
         if text.as_slice().is_empty() {
@@ -396,6 +403,7 @@ impl MainInput {
         ensures answers { IsOfOperands result }
         ensures idle { IdleAfter result self.new.reading }
         ensures finds { FindsReach argc.now (O.text operands.now) self.old result self.new }
+        ensures gives { GivesNone W.did world.old world.new }
     {
         if let Found::NoneLeft = self.found {
             return self.follow();
@@ -431,6 +439,7 @@ impl MainInput {
             self.new.next self.new.found }
         ensures standard { StandardStays self.old.reading self.old.standard self.new.standard }
         ensures finds { FindsStep rs argc.now (O.text operands.now) self.old result self.new }
+        ensures gives { GivesNone W.did world.old world.new }
     {
         if self.ended {
             return Ok(Some(MainNext::End));
@@ -459,6 +468,7 @@ impl MainInput {
         ensures places { W.is_modelled → SparesPlaces self.old.reading (W.kinds world.old)
             (W.state world.old) (W.state world.new) }
         ensures outside { W.is_modelled → (W.state world.new).outside ≡ (W.state world.old).outside }
+        ensures gives { GivesNone W.did world.old world.new }
     {
         if let Reading::Standard = &self.reading {
             self.standard.skip();
@@ -504,6 +514,7 @@ impl MainInput {
         ensures standard { StandardStays self.old.reading self.old.standard self.new.standard }
         ensures finds { FindsMain (record_separator rs.now) argc.now (O.text operands.now)
             self.old result self.new }
+        ensures gives { GivesNone W.did world.old world.new }
     {
         let separator = first_byte(rs);
         'steps: loop {

@@ -1,12 +1,14 @@
 //! Texts that go to the standard output and to files.
-ghost use Rattle.std.specs.Prelude.{◌≡◌, [], None, true, false, take, vec_len, IfOk, OnErr, OnOk};
-ghost use Rattle.world_core.specs.WorldState.{Named};
+ghost use Rattle.std.specs.Prelude.{◌≡◌, [], ◌∷◌, None, true, false, take, vec_len, IfOk, OnErr, OnOk};
+ghost use Rattle.world_core.specs.WorldState.{Named, Open};
+ghost use Rattle.world_core.specs.Traces.{opening};
 ghost use Rattle.world_core.specs.Calls.{Opens, Writing};
 ghost use Rattle.sem_primitives.specs.Finds.{seen};
 ghost use Rattle.sem_primitives.specs.SharedState.{Shared};
 ghost use Rattle.sem_primitives.specs.OutputMeaning.{all_out, is_writing, opened_if, written_by};
+ghost use Rattle.host_streams.specs.Given.{GivesText, PutsGiven, PutsNew, opening_of};
 ghost use Rattle.host_streams.specs.OpenFiles.{HoldsOpen, OthersStay, WritersGo, has_room, names_of, writer_place};
-ghost use Rattle.host_streams.specs.Outputs.{BeginsPutTo, EndsPutTo, IsOf, PutsTo, writers_to, with_writer};
+ghost use Rattle.host_streams.specs.Outputs.{BeginsPutTo, EndsPutTo, IsOf, PutsGivenTo, PutsTo, writers_to, with_writer};
 ghost use Rattle.host_streams.specs.Puts.{OutputPrefix, EndsPut, IsOver, OpensOr, PutCounts, PutsBy, Spares};
 
 use crate::put::put_open;
@@ -41,6 +43,7 @@ fn open_file<W: World>(world: &mut W, name: &[u8], append: bool) -> Result<u32, 
     ensures ends { EndsPut false true [] result }
     ensures told { W.is_modelled
         → OpensOr name.now append (W.state world.old) result (W.state world.new) }
+    ensures did { W.did world.old (opening name.now append result) world.new }
 {
     match world.open_write(name, append) {
         Ok(id) => Ok(id),
@@ -64,6 +67,10 @@ fn put_new<W: World>(world: &mut W, name: &[u8], append: bool, text: &[u8]) -> R
     ensures told { W.is_modelled → (shared : Shared) → IsOver (W.state world.old) shared
         → PutsBy (opened_if true (seen shared.inner shared.outside (Named name.now)).opens name.now
         append text.now shared) result (W.state world.old) (W.state world.new) }
+    ensures given { PutsNew W.is_modelled W.did world.old world.new (W.kinds world.old) name.now
+        (GivesText (Open name.now append ∷ []) (Named name.now) text.now result) (W.state world.old)
+        (W.state world.new) result (λ shared. opened_if true (seen shared.inner shared.outside
+        (Named name.now)).opens name.now append text.now shared) }
 {
     let id = open_file(world, name, append)?;
     match put_open(world, id, text) {
@@ -118,6 +125,10 @@ impl Streams {
         ensures told { W.is_modelled → (shared : Shared) → IsOf self.old (W.state world.old) shared
             → PutsBy (written_by false name.now append text.now shared) result (W.state world.old)
             (W.state world.new) }
+        ensures given { PutsGiven W.is_modelled W.did world.old world.new self.old.writers.items
+            self.new.writers.items (GivesText
+            (Open name.now append ∷ []) (Named name.now) text.now result) (W.state world.old)
+            (W.state world.new) result (IsOf self.old (W.state world.old)) (written_by false name.now append text.now) }
     {
         if self.readers.as_slice().len() + self.writers.as_slice().len() >= MAX_STREAMS {
             return Err(Stop::Fault(Fault::TooManyStreams));
@@ -160,6 +171,12 @@ impl Streams {
         ensures told { W.is_modelled → (shared : Shared) → IsOf self.old (W.state world.old) shared
             → PutsBy (written_by (is_writing name.now shared.inner.writers) name.now append text.now
             shared) result (W.state world.old) (W.state world.new) }
+        ensures given { PutsGiven W.is_modelled W.did world.old world.new self.old.writers.items
+            self.new.writers.items
+            (GivesText (opening_of name.now append (names_of self.old.writers.items))
+            (Named name.now) text.now result) (W.state world.old) (W.state world.new) result
+            (IsOf self.old (W.state world.old)) (λ shared. written_by (is_writing name.now
+            shared.inner.writers) name.now append text.now shared) }
     {
         match find_writer(self.writers.as_slice(), name) {
             Some(at) => put_open(world, self.writers[at].id, text),
@@ -201,6 +218,8 @@ impl Streams {
             result (W.state world.new) }
         ensures told { W.is_modelled → PutsTo target.entry text.now self.old (W.state world.old) result
             self.new (W.state world.new) }
+        ensures given { PutsGivenTo W.is_modelled W.did target.entry text.now world.old world.new
+            self.old self.new (W.state world.old) (W.state world.new) result }
     {
         match target {
             Target::Standard => put_open(world, 1, text),

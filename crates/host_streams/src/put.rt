@@ -3,6 +3,7 @@ ghost use Rattle.std.specs.Prelude.{◌≡◌, ◌<◌, OnErr, length, true};
 ghost use Rattle.world_core.specs.Calls.{Writing, next_count};
 ghost use Rattle.sem_primitives.specs.SharedState.{Shared};
 ghost use Rattle.sem_primitives.specs.OutputMeaning.{written};
+ghost use Rattle.host_streams.specs.Given.{PutsSize, WritesSize};
 ghost use Rattle.host_streams.specs.Puts.{OutputPrefix, TextPrefix, EndsPut, IsOver, PutCounts, PutsBy, PutsText};
 
 use awk_values::{Fault, Stop};
@@ -16,6 +17,8 @@ fn write_all<W: World>(world: &mut W, id: u32, text: &[u8]) -> Result<(), WorldF
     ensures told { W.is_modelled → PutsText id text.now (W.state world.old) result (W.state world.new) }
     ensures some { OnErr result (0 < length text.now) }
     ensures begun { TextPrefix W.is_modelled id text.now (W.state world.old) result (W.state world.new) }
+    ensures given { WritesSize W.is_modelled W.did world.old world.new id text.now (W.state world.old)
+        (W.state world.new) result }
 {
     let mut at = 0;
     while at < text.len() {
@@ -38,6 +41,8 @@ pub(crate) fn put_open<W: World>(world: &mut W, id: u32, text: &[u8]) -> Result<
         ((W.state world.old).writers id) text.now) result (W.state world.old) (W.state world.new) }
     ensures readers { W.is_modelled → (W.state world.new).readers ≡ (W.state world.old).readers }
     ensures writers { W.is_modelled → (W.state world.new).writers ≡ (W.state world.old).writers }
+    ensures given { PutsSize W.is_modelled W.did world.old world.new id text.now (W.state world.old)
+        (W.state world.new) result }
 {
     match write_all(world, id, text) {
         Ok(()) => Ok(()),

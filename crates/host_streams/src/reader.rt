@@ -4,6 +4,7 @@ ghost use Rattle.awk_values.specs.declared.fault.Stop.TheVariants.{NoMemory};
 ghost use Rattle.sem_primitives.specs.Limits.{most_text};
 ghost use Rattle.sem_primitives.specs.Records.{record_separator};
 ghost use Rattle.world_core.specs.Calls.{Reading, next_count};
+ghost use Rattle.host_streams.specs.Given.{GivesNone};
 ghost use Rattle.host_streams.specs.Looks.{IsOpen, IsScanned};
 ghost use Rattle.host_streams.specs.Readers.{Answers, EndStays, Fills, GoesOn, HandsMore, HandsOver, HandsTurn, IsLast, MoreCounts, MoreIs, MoreKeeps, NextCounts, NextPhase, OnlyLimit, OnlyReads, ScannedAgain, TurnCounts, TurnPhase, Turns, fresh, left, unread, work};
 
@@ -137,6 +138,7 @@ fn fill<W: World>(
     ensures failed { OnErr result (kept.new.items ≡ kept.old.items) }
     ensures told { W.is_modelled
         → Fills id (W.state world.old) kept.old.items result kept.new.items (W.state world.new) }
+    ensures gives { GivesNone W.did world.old world.new }
 {
     provide(piece)?;
     kept.reserve(piece.as_slice().len())?;
@@ -204,6 +206,7 @@ impl Reader {
             → MoreIs (unread self.old) (left self.old ((W.state world.old).readers self.old.id))
             result (left self.new ((W.state world.new).readers self.old.id)) }
         ensures only { W.is_modelled → OnlyReads self.old.id (W.state world.old) (W.state world.new) }
+        ensures gives { GivesNone W.did world.old world.new }
     {
         self.compact(alloc)?;
         match fill(world, self.id, &mut self.piece, &mut self.kept) {
@@ -243,6 +246,7 @@ impl Reader {
         ensures told { W.is_modelled → Turns rs (left self.old ((W.state world.old).readers self.old.id))
             result (left self.new ((W.state world.new).readers self.old.id)) }
         ensures only { W.is_modelled → OnlyReads self.old.id (W.state world.old) (W.state world.new) }
+        ensures gives { GivesNone W.did world.old world.new }
     {
         match seen(self.unread(), rs, known) {
             Look::Record(from, to, next) => {
@@ -318,6 +322,7 @@ impl Reader {
         ensures told { W.is_modelled → Answers rs (left self.old ((W.state world.old).readers
             self.old.id)) result (left self.new ((W.state world.new).readers self.old.id)) }
         ensures only { W.is_modelled → OnlyReads self.old.id (W.state world.old) (W.state world.new) }
+        ensures gives { GivesNone W.did world.old world.new }
     {
         if let Phase::Broken = self.phase {
             return Ok(FileNext::Failed);

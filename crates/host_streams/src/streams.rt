@@ -7,6 +7,7 @@ ghost use Rattle.sem_primitives.specs.OutputMeaning.{is_writing};
 ghost use Rattle.sem_primitives.specs.Records.{record_separator};
 ghost use Rattle.host_streams.specs.declared.reader.Phase.TheVariants.{Broken, Open};
 ghost use Rattle.host_streams.specs.declared.reader.FileNext.TheVariants.{Failed};
+ghost use Rattle.host_streams.specs.Given.{GivesNone};
 ghost use Rattle.host_streams.specs.OpenFiles.{FileBreaks, FileCounts, FileGoesOnFailing, FileHands, FileReaders, HandsFile, HoldsOpen, IsMissing, OpensFile, OpensReader, OpenCounts, OthersKeep, OthersStay, ReadersAfter, ReadsFile, ReadsNext, StartsFile, WritersGo, has_room, kept_named, phase_named, reader_handle, reader_names, reader_place, readers_beside, readers_in};
 ghost use Rattle.host_streams.specs.Readers.{HandsOver, NextCounts, NextPhase, OnlyLimit};
 
@@ -94,6 +95,7 @@ impl Streams {
         ensures no_others { OthersStay self.new self.old (W.kinds world.new) (W.kinds world.old) }
         ensures places { W.is_modelled
             → OthersKeep self.old (W.kinds world.old) (W.state world.old) (W.state world.new) }
+        ensures gives { GivesNone W.did world.old world.new }
     {
         if self.readers.as_slice().len() + self.writers.as_slice().len() >= MAX_STREAMS {
             return Err(Stop::Fault(Fault::TooManyStreams));
@@ -145,6 +147,7 @@ impl Streams {
         ensures no_others { OthersStay self.new self.old (W.kinds world.new) (W.kinds world.old) }
         ensures places { W.is_modelled
             → OthersKeep self.old (W.kinds world.old) (W.state world.old) (W.state world.new) }
+        ensures gives { GivesNone W.did world.old world.new }
     {
         let _ = name;
         let named = &mut self.readers[at];
@@ -182,6 +185,7 @@ impl Streams {
         ensures no_others { OthersStay self.new self.old (W.kinds world.new) (W.kinds world.old) }
         ensures places { W.is_modelled
             → OthersKeep self.old (W.kinds world.old) (W.state world.old) (W.state world.new) }
+        ensures gives { GivesNone W.did world.old world.new }
     {
         match self.open_reader(world, name) {
             Ok(Some(at)) => self.next_at(world, name, at, rs),
@@ -226,6 +230,7 @@ impl Streams {
         ensures no_others { OthersStay self.new self.old (W.kinds world.new) (W.kinds world.old) }
         ensures places { W.is_modelled
             → OthersKeep self.old (W.kinds world.old) (W.state world.old) (W.state world.new) }
+        ensures gives { GivesNone W.did world.old world.new }
     {
         let separator = first_byte(rs);
         match find_reader(self.readers.as_slice(), name) {

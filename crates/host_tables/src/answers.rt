@@ -1,10 +1,8 @@
 //! What is answered to a call.
 ghost use Rattle.std.specs.Prelude.{◌≡◌};
 ghost use Rattle.host_step.specs.Answers.{refusal};
-ghost use Rattle.host_step.specs.HostStep.{refuses};
 ghost use Rattle.host_tables.specs.Answers.{fits, told_as};
 
-use awk_values::Fault;
 use host_imports::Import;
 use host_values::Refusal;
 use sem_primitives::{Answer, Sort};
@@ -24,14 +22,6 @@ pub fn refusal(answer: Answer) -> Option<Word>
         Answer::Of(Sort::Number) => Some(Word::I64(FAULTED)),
         _ => Some(Word::I32(u32::MAX)),
     }
-}
-
-/// Whether an import only refuses: after a fault every one does but those that let something go.
-#[inline(always)]
-pub fn refuses(import: Import, kept: Option<Fault>) -> bool
-    ensures { result ≡ refuses import kept }
-{
-    kept.is_some() && !import.lets_go()
 }
 
 /// Whether a word is as wide as this answer's.

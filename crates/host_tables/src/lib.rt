@@ -17,7 +17,7 @@ mod starts;
 mod table_families;
 mod tables;
 
-pub use answers::{refusal, refuses, told};
+pub use answers::{refusal, told};
 pub use byte_texts::ByteTexts;
 pub use job::Job;
 pub use splits::split;

@@ -1,11 +1,11 @@
 -- Tables of the definition are what finite maps list.
-use Rattle.std.proofs.Common.{◌≡◌, ℤ, Bool, true, false, cond, not, List, Option, None, refl, sym, ap, ◌∙◌}
+use Rattle.std.proofs.Common.{◌≡◌, ℤ, Bool, true, false, cond, not, Option, None, refl, sym, ap, ◌∙◌}
 use Rattle.std.specs.Ordering.{eq_by_cmp, int_cmp, is_eq}
 use Rattle.std.specs.Cmp.{alike_right, eq_by_cmp_equiv, int_cmp_total}
 use Rattle.std.specs.FinMap as map
 use Rattle.std.specs.FinMap.{FinMap, int_cmp-IsAntisymmetric}
-use Rattle.std.specs.FinMap.Entries.{find, find-where_key, is_sorted-where_key, same_entries}
-use Rattle.host_step.specs.Tables.{Table, look, entered, without}
+use Rattle.std.specs.FinMap.Entries.{find-where_key, is_sorted-where_key, same_entries}
+use Rattle.host_step.specs.Tables.{look, entered, without}
 
 turned : {V : Type 0} (b : Bool) (x y : Option V) → cond (not b) x y ≡ cond b y x
 turned true x y = refl

@@ -18,10 +18,9 @@ use Rattle.wasm_store.specs.declared.word.Word.{Word}
 use Rattle.wasm_store.specs.declared.word.Word.TheVariants.{I32, I64}
 use Rattle.host_step.specs.Arguments.{and_then, decode, said, spent_if}
 use Rattle.host_step.specs.HostState.{HostState, Names}
-use Rattle.host_step.specs.HostStep.{Acts, Refuses, StepBy, StepOf, acts, carried, come, only_answers}
+use Rattle.host_step.specs.HostStep.{Acts, Refuses, StepBy, StepOf, acts, carried, come}
 use Rattle.host_imports.specs.Imports.{spends}
-use Rattle.host_step.specs.Tables.{Table, look}
-use Rattle.host_imports.specs.declared.import.Import.{Import}
+use Rattle.host_step.specs.Tables.{Table}
 use Rattle.host_imports.specs.declared.import.Import.TheVariants.{Arg, Drop}
 use Rattle.host_values.specs.Calls.{names_with, reserved_handle, with_values}
 use Rattle.host_values.specs.Evaluations.{Values}
@@ -32,7 +31,7 @@ use Rattle.host_step.specs.declared.refusal.Refusal.{Refusal}
 use Rattle.host_step.specs.declared.refusal.Refusal.TheVariants as why
 use Rattle.host_values.proofs.Entries.{entries_remove, look_entries}
 use Rattle.host_values.proofs.ReservedHandle.{reserved_removed}
-use Rattle.host_values.proofs.Steps.{state_by, unshared}
+use Rattle.host_values.proofs.Steps.{unshared}
 
 -- a value and the tables without its handle
 abbrev pub as_row : HostState → Values → Result (ℤ × Value) TrapKind → Result (Row (argument.Of sort.Value ∷ []) × Names) TrapKind

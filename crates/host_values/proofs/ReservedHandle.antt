@@ -1,5 +1,5 @@
 -- Nothing is ever under the greatest number.
-use Rattle.std.proofs.Common.{◌≡◌, ◌<ℤ◌, ℕ, ℤ, pos, Bool, true, false, cond, List, Option, Some, None, Result, Ok, Err, IfOk, OnErr, refl, ap, ◌∙◌, arith}
+use Rattle.std.proofs.Common.{◌≡◌, ◌<ℤ◌, ℤ, Bool, true, false, cond, List, Some, None, Result, Ok, Err, IfOk, OnErr, refl, ap, ◌∙◌, arith}
 use Rattle.std.specs.Ordering.{eq_by_cmp, int_cmp, int_eq}
 use Rattle.std.specs.Cmp.{int_cmp_total, signed_Decides}
 use Rattle.std.specs.FinMap as map

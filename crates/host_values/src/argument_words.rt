@@ -1,5 +1,5 @@
 //! What the words of a call say: each function takes one argument from their front, and gives the words behind it.
-ghost use Rattle.std.specs.Prelude.{◌≡◌, ◌<◌, ◌≤◌, ◌^◌, IfOk, IsOk, IfSome, option_copied, slice_get, unsigned_abs};
+ghost use Rattle.std.specs.Prelude.{◌≡◌, ◌<◌, IfOk, option_copied, slice_get, unsigned_abs};
 ghost use Rattle.sem_primitives.specs.Constants.{comparison_at, fault_at, faults};
 ghost use Rattle.sem_primitives.specs.declared.sorts.Constant.{Constant};
 ghost use Rattle.std.specs.FinMap as map;

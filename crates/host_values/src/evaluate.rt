@@ -219,13 +219,21 @@ pub fn comparison(handles: &Handles, words: &[Word]) -> Result<Evaluated, Refusa
     })
 }
 
+/// The length of a number's text. It stands apart, so that the length of a text is told with few registers.
+#[inline(never)]
+fn number_len(number: i64) -> usize
+    ensures { result ≡ length (text_of_value (Value.Num number)) }
+{
+    text_of(number).as_bytes().len()
+}
+
 /// The length of a value's text.
 pub fn text_len(value: &Value) -> usize
     ensures { result ≡ length (text_of_value value.now) }
 {
     match value {
         Value::Uninit => 0,
-        Value::Num(number) => text_of(*number).as_bytes().len(),
+        Value::Num(number) => number_len(*number),
         Value::Text(text) | Value::StrNum(text) => text.len(),
     }
 }
@@ -260,7 +268,10 @@ fn fits(left: usize, right: usize) -> bool
     ensures value { result ≡ nat_le (left + right) most_text }
     ensures within { result ≡ true → left + right ≤ most_text }
 {
-    left <= MAX_TEXT && right <= MAX_TEXT && left + right <= MAX_TEXT
+    match left.checked_add(right) {
+        Some(both) => both <= MAX_TEXT,
+        None => false,
+    }
 }
 
 /// The texts of two values as one, where that is within the limit.

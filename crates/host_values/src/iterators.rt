@@ -1,5 +1,5 @@
 //! The iterators by number.
-ghost use Rattle.std.specs.Prelude.{◌≡◌, ◌≢◌, ◌≤ℤ◌, ◌<ℤ◌, ◌∷◌, [], pos, true, List, ℕ, None, Some, IfOk, OnOk, OnErr};
+ghost use Rattle.std.specs.Prelude.{◌≡◌, ◌≤ℤ◌, ◌<ℤ◌, [], pos, true, List, ℕ, None, Some, IfOk, OnOk, OnErr};
 ghost use Rattle.std.specs.Borrow.{Lends, sem};
 ghost use Rattle.std.specs.FinMap as map;
 ghost use Rattle.host_handles.specs.Tables.{most_slots};

@@ -9,8 +9,7 @@ ghost use Rattle.host_values.specs.Forms.{HostForm};
 
 use crate::element_words::{only_array, only_iterator};
 use crate::iterators::Iterators;
-use crate::reply::Reply;
-use crate::value_calls::give;
+use crate::value_calls::give_value;
 use awk_values::{Bytes, Value};
 use host_arrays::Arrays;
 use host_handles::Handles;
@@ -81,7 +80,7 @@ pub fn iter_next(
         Err(kind) => return Err(Refusal::Trap(kind)),
     };
     match iterators.next(number) {
-        Ok(Some(key)) => give(handles, Reply::Value(Value::Text(key))),
+        Ok(Some(key)) => give_value(handles, Value::Text(key)),
         Ok(None) => Ok(Some(END)),
         Err(_) => Err(Refusal::NoMemory),
     }

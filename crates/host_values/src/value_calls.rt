@@ -4,9 +4,27 @@ ghost use Rattle.std.specs.FinMap as map;
 ghost use Rattle.host_values.specs.Calls.{CarriesOut, Gives, reserved_handle};
 
 use crate::reply::{Evaluated, Reply};
+use awk_values::Value;
 use host_handles::Handles;
 use host_step::Refusal;
 use wasm_store::Word;
+
+/// Gives a value under a new handle.
+///
+/// # Errors
+///
+/// There is no memory; nothing changes.
+#[inline(always)]
+pub(crate) fn give_value(handles: &mut Handles, value: Value) -> Result<Option<Word>, Refusal>
+    requires { map.get handles.old reserved_handle ≡ None }
+    ensures answer { Gives (Reply.Value value) handles.old result handles.new }
+    ensures reserved { map.get handles.new reserved_handle ≡ None }
+{
+    match handles.put(value) {
+        Ok(handle) => Ok(Some(Word::I32(handle.cast_unsigned()))),
+        Err(_) => Err(Refusal::NoMemory),
+    }
+}
 
 /// Gives an answer: a value under a new handle.
 ///
@@ -20,10 +38,7 @@ pub fn give(handles: &mut Handles, reply: Reply) -> Result<Option<Word>, Refusal
     ensures reserved { map.get handles.new reserved_handle ≡ None }
 {
     match reply {
-        Reply::Value(value) => match handles.put(value) {
-            Ok(handle) => Ok(Some(Word::I32(handle.cast_unsigned()))),
-            Err(_) => Err(Refusal::NoMemory),
-        },
+        Reply::Value(value) => give_value(handles, value),
         Reply::Number(number) => Ok(Some(Word::I64(number.cast_unsigned()))),
         Reply::Truth(truth) => Ok(Some(Word::I32(u32::from(truth)))),
         Reply::Done => Ok(Some(Word::I32(0))),

@@ -1,5 +1,5 @@
 //! The next record of a file, as an import asks for it.
-ghost use Rattle.std.specs.Prelude.{◌≡◌, ◌≢◌, ℕ, List, Ok, Result};
+ghost use Rattle.std.specs.Prelude.{◌≡◌, ℕ, List, Ok, Result};
 ghost use Rattle.awk_values.specs.Values.{text_of_value};
 ghost use Rattle.awk_values.specs.declared.fault.Fault.{Fault as AnyFault};
 ghost use Rattle.awk_values.specs.declared.value.Value.{Value as AnyValue};

@@ -1,5 +1,5 @@
 //! The record, and the special variables that count and hold.
-ghost use Rattle.std.specs.Prelude.{◌≡◌, ◌≢◌, ◌==◌, cond, Err, IfErr, IfOk, Ok, OnErr, OnOk, pos};
+ghost use Rattle.std.specs.Prelude.{◌≡◌, ◌≢◌, ◌==◌, cond, Err, IfErr, Ok, OnErr, OnOk, pos};
 ghost use Rattle.awk_values.specs.Operators.{sum};
 ghost use Rattle.sem_primitives.specs.InputMeaning.{counted_by, counted_record};
 ghost use Rattle.sem_primitives.specs.SharedState.{Inner, with_special};

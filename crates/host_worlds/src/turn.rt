@@ -1,6 +1,5 @@
 //! What the main input gives once, with what it is told of an operand.
-ghost use Rattle.std.specs.Prelude.{◌≡◌, Err, IfErr, IfOk, Ok, pos};
-ghost use Rattle.world_core.specs.WorldState.{State};
+ghost use Rattle.std.specs.Prelude.{◌≡◌, Err, Ok, pos};
 ghost use Rattle.sem_primitives.specs.InputMeaning.{main_input};
 ghost use Rattle.sem_primitives.specs.SharedState.{Inner, with_special};
 ghost use Rattle.sem_primitives.specs.declared.constants.Special.{Special as AnySpecial};

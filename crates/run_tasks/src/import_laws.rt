@@ -3,7 +3,7 @@ ghost use Rattle.std.specs.Prelude.{◌≡◌, ℕ, List, [], false};
 ghost use Rattle.host_step.specs.HostState.{HostState};
 ghost use Rattle.host_step.specs.HostStep.{StepOf};
 ghost use Rattle.host_imports.specs.declared.import.Import.{Import};
-ghost use Rattle.run_tasks.specs.Calls.{IsOneOf, only};
+ghost use Rattle.run_tasks.specs.Calls.{only};
 ghost use Rattle.run_tasks.specs.Powers.{writes};
 ghost use Rattle.wasm_model.specs.Machines.{Conf, ProgramForm};
 ghost use Rattle.wasm_model.specs.Runs.{Ran};

@@ -1,7 +1,4 @@
 //! Limits on bytes, and names that a fence lets through.
-ghost use Rattle.std.specs.Prelude.{◌≡◌};
-ghost use Rattle.world_core.specs.Calls.{Reading, Writing};
-
 use std::alloc::{AllocError, Global};
 use std::test::Fail;
 use world_core::{MemFile, MemWorld, World, WorldFault};

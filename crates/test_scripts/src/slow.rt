@@ -29,6 +29,8 @@ impl<W: World> World for SlowWorld<W> {
 
     ghost count = { λ w. W.count w.inner };
 
+    ghost did = { λ old call new. W.did old.inner call new.inner };
+
     fn open_read(&mut self, name: &[u8]) -> Result<u32, WorldFault> {
         self.inner.open_read(name)
     }

@@ -25,3 +25,4 @@ pub mod Turning
 pub mod Placed
 pub mod Searching
 pub mod WorkingCode
+pub mod WithCodes

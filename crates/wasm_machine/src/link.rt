@@ -1,21 +1,23 @@
 //! Linking: from a module and a host to the beginning of a run (Core 1.0, section 4.5.4).
 ghost use Rattle.std.specs.List.{All};
-ghost use Rattle.std.specs.Prelude.{ℕ, ◌≡◌, ◌↔◌, ◌*◌, ◌≤◌, ◌^◌, IfErr, IfOk, IsTrue, None, OnErr, Some, length, map, MatchResult};
-ghost use Rattle.wasm_loader.specs.Flat.{flat};
+ghost use Rattle.std.specs.Prelude.{ℕ, ◌≡◌, ◌↔◌, ◌*◌, ◌≤◌, IfErr, IfOk, IsTrue, None, Some, length, map};
+ghost use Rattle.wasm_loader.specs.Laid.{code_at};
 ghost use Rattle.wasm_model.specs.Frames.{constant_in, constant_of};
-ghost use Rattle.wasm_model.specs.Links.{first_some, first_none, main_at, main_of, number_for, numbers_for, place_of, value_of, least, ElemFits, DataFits, SegmentsFit, filled, poured, limits_or_none, entry_code, beginning, Numbers, Refuses};
+ghost use Rattle.wasm_model.specs.Links.{first_some, main_at, main_of, number_for, numbers_for, place_of, value_of, least, ElemFits, DataFits, SegmentsFit, filled, poured, limits_or_none, entry_code, beginning, Numbers, Refuses};
 ghost use Rattle.wasm_model.specs.Machines.{agree};
 ghost use Rattle.wasm_machine.specs.Standing.{Stand};
 ghost use Rattle.wasm_machine.specs.Confs.{conf_of};
-ghost use Rattle.wasm_machine.specs.ViewConf.{Begins, Lays};
-ghost use Rattle.wasm_types.specs.Typing.{callee_in, typed_in};
+ghost use Rattle.wasm_machine.specs.ViewConf.{Begins, Lays, module_with};
+ghost use Rattle.wasm_types.specs.Typing.{typed_in};
 ghost use Rattle.wasm_types.specs.View.{signature_of, view, view_data, view_elem, view_export, view_import, view_module, views};
 
 use crate::frames::Frames;
 use crate::program::{callee, typed};
 use crate::state::State;
-use latched::push;
+use latched::{push, shared};
 use std::alloc::{AllocError, Global};
+use std::mem::replace;
+use std::rc::Rc;
 use wasm_loader::Code;
 use wasm_model::{HostCalls, LinkFault};
 use wasm_store::{Globals, Memory, Table, Word};
@@ -266,9 +268,22 @@ fn limits_of(memories: &[Limits]) -> Limits
     }
 }
 
-/// The code of a function, which has so many locals.
-fn code_of(alloc: Global, whole: &Module, func: &Func) -> Result<Code, AllocError>
-    ensures body { IfOk result (λ c. c.forms ≡ flat 0 (views func.now.body.value.items)) }
+/// The body of a function, which has another one then.
+fn body_of(func: &mut Func, other: Rc<Vec<Instr>>) -> Rc<Vec<Instr>>
+    ensures body { result ≡ func.old.body }
+    ensures func { func.new ≡ record func.old { body = other } }
+{
+    replace(&mut func.body, other)
+}
+
+/// The code of a function that had this body.
+fn code_of(
+    alloc: Global,
+    whole: &Module,
+    func: &Func,
+    body: Rc<Vec<Instr>>,
+) -> Result<Code, AllocError>
+    ensures body { IfOk result (λ c. code_at c 0 ≡ views body.value.items) }
     ensures begins { IfOk result Begins }
 {
     let Some(ty) = typed(whole, func.ty) else {
@@ -277,21 +292,38 @@ fn code_of(alloc: Global, whole: &Module, func: &Func) -> Result<Code, AllocErro
     let Ok(locals) = u32::try_from(ty.params.len() + func.locals.len()) else {
         return Err(AllocError);
     };
-    let code = Code::new(alloc, whole, locals, ty.result, &func.body)?;
+    let code = Code::new(alloc, whole, locals, ty.result, body)?;
     let _layout = code.layout();
     Ok(code)
 }
 
-/// The code of each function, and after them that of the first frame.
-pub(crate) fn codes_of(alloc: Global, whole: &Module, main: u32) -> Result<Vec<Code>, AllocError>
-    ensures codes { IfOk result
-        (λ v. Lays (whole.now.funcs.items) (entry_code whole.now.start main) v.items) }
+/// The code of each function, whose body is empty then.
+fn own_codes(alloc: Global, whole: &mut Module) -> Result<Vec<Code>, AllocError>
+    ensures begin { IfOk result (λ v. All Begins v.items) }
+    ensures count { IfOk result (λ v. length v.items ≡ length whole.new.funcs.items) }
+    ensures whole { IfOk result (λ v. module_with whole.new v.items ≡ view_module whole.old) }
 {
+    let none = shared(alloc, Vec::new(alloc))?;
     let mut codes = Vec::new(alloc);
-    for func in &whole.funcs {
-        let code = code_of(alloc, whole, func)?;
+    for number in 0..whole.funcs.len() {
+        let body = body_of(&mut whole.funcs[number], none.clone()?);
+        let code = code_of(alloc, whole, &whole.funcs[number], body)?;
         push(&mut codes, code)?;
     }
+    Ok(codes)
+}
+
+/// The code of each function, whose body is empty then, and after them that of the first frame.
+pub(crate) fn codes_of(
+    alloc: Global,
+    whole: &mut Module,
+    main: u32,
+) -> Result<Vec<Code>, AllocError>
+    ensures codes { IfOk result (λ v. Lays (length whole.new.funcs.items)
+        (entry_code whole.old.start main) v.items) }
+    ensures whole { IfOk result (λ v. module_with whole.new v.items ≡ view_module whole.old) }
+{
+    let mut codes = own_codes(alloc, whole)?;
     let first = first_code(alloc, whole, main)?;
     push(&mut codes, first)?;
     Ok(codes)
@@ -299,13 +331,13 @@ pub(crate) fn codes_of(alloc: Global, whole: &Module, main: u32) -> Result<Vec<C
 
 /// The code of the first frame.
 fn first_code(alloc: Global, whole: &Module, main: u32) -> Result<Code, AllocError>
-    ensures body { IfOk result (λ c. c.forms ≡ flat 0 (entry_code whole.now.start main)) }
+    ensures body { IfOk result (λ c. code_at c 0 ≡ entry_code whole.now.start main) }
     ensures begins { IfOk result Begins }
     ensures locals { IfOk result (λ c. c.locals ≡ 0) }
     ensures gives { IfOk result (λ c. c.gives ≡ Some ValType.I32) }
 {
-    let calls = entry(alloc, whole.start, main)?;
-    let code = Code::new(alloc, whole, 0, Some(ValType::I32), &calls)?;
+    let calls = shared(alloc, entry(alloc, whole.start, main)?)?;
+    let code = Code::new(alloc, whole, 0, Some(ValType::I32), calls)?;
     let _layout = code.layout();
     Ok(code)
 }
@@ -319,10 +351,10 @@ pub(crate) fn first_state(
     requires fit { SegmentsFit (view_module whole.now) }
     requires pages { (limits_or_none whole.now.memories.items).min ≤ 65536 }
     ensures begins { IfOk result
-        (λ s. (main : ℕ) → Lays whole.now.funcs.items (entry_code whole.now.start main) codes.now
+        (λ s. (main : ℕ) → Lays (length whole.now.funcs.items) (entry_code whole.now.start main) codes.now
         → conf_of codes.now s ≡ beginning (view_module whole.now) main) }
     ensures stands { IfOk result
-        (λ s. (main : ℕ) → Lays whole.now.funcs.items (entry_code whole.now.start main) codes.now
+        (λ s. (main : ℕ) → Lays (length whole.now.funcs.items) (entry_code whole.now.start main) codes.now
         → Stand codes.now s.frames) }
 {
     let first = whole.funcs.len();

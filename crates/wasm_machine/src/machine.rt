@@ -37,8 +37,8 @@ fn tell(end: RunEnd) -> MachineEnd
     }
 }
 
-/// A machine that runs one module. `lines` has the operations of each code that was entered, of as many instructions as are known together. A contract sees its
-/// module with the numbers of its imports, its configuration, and how it ended.
+/// A machine that runs one module. `lines` has the operations of each code that was entered, of as many instructions as are known together; codes past its end
+/// have none. A contract sees its module with the numbers of its imports, its configuration, and how it ended.
 #[derive(Drop)]
 pub struct Machine {
     program: Program,
@@ -92,21 +92,20 @@ impl Machine {
             Ok(linked) => linked,
             Err(fault) => return Err(fault),
         };
-        let Ok(codes) = codes_of(alloc, valid.get(), main) else {
+        let mut whole = valid.into_module();
+        let Ok(codes) = codes_of(alloc, &mut whole, main) else {
             return Err(LinkFault::NoMemory);
         };
-        let Ok(state) = first_state(alloc, valid.get(), &codes) else {
+        let Ok(state) = first_state(alloc, &whole, &codes) else {
             return Err(LinkFault::NoMemory);
         };
         let fused = fused_of(&codes);
-        let whole = valid.into_module();
         let program = Program {
             whole,
             numbers,
             codes,
-            fused,
         };
-        let Ok(lines) = no_lines(alloc, &program) else {
+        let Ok(lines) = no_lines(alloc, &program, fused) else {
             return Err(LinkFault::NoMemory);
         };
         Ok(Machine {

@@ -1,7 +1,7 @@
 //! Which statement is at work at a place of a function's code.
 ghost use Rattle.std.specs.List.{count_by};
 ghost use Rattle.std.specs.Prelude.{◌≡◌, ◌<◌, false, slice_get, take, true};
-ghost use Rattle.wasm_loader.specs.Laid.{form_of, laid};
+ghost use Rattle.wasm_loader.specs.Laid.{laid};
 ghost use Rattle.wasm_machine.specs.StatementAt.{BeginsAt, CalledAt, CalledBetween, IsStatementAt, LoopBefore, is_nop, nop_over, opened_over};
 
 use wasm_loader::layout::{Layout, Op};

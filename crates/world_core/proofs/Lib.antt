@@ -1,3 +1,4 @@
+pub mod TraceLemmas
 pub mod NameLemmas
 pub mod StateLemmas
 pub mod StreamLemmas

@@ -2,6 +2,7 @@
 ghost use Rattle.std.specs.Prelude.{◌≡◌, ◌≢◌, ◌↔◌, ◌<◌, ◌≤◌, ◌-◌, ◌+◌, ◌%◌, ◌^◌, length, Err, IsTrue, IsFalse, IfOk, OnErr};
 ghost use Rattle.world_core.specs.Calls.{Closed, Closes, Opens, OpensToRead, OpensToWrite, Reading, Reads, Writes, Writing, next_count, set_kind};
 ghost use Rattle.world_core.specs.Faulty.{calls_left, failed_here, inside};
+ghost use Rattle.world_core.specs.Traces.{IsHandedOn, Other, opening, writing};
 
 use crate::{World, WorldFault};
 
@@ -56,6 +57,7 @@ impl<W: World> FaultyWorld<W> {
 /// Every other call is handed on: what the trait says of it is so of the inner world (`counted_inside`, `handed_on`).
 impl<W: World> World for FaultyWorld<W> {
     ghost use Rattle.world_core.specs.Faulty.{Fails, calls_left, failed_here, failures_of, inside};
+    ghost use Rattle.world_core.specs.Traces.{IsHandedOn};
 
     ghost is_modelled = { ⊥ };
 
@@ -65,10 +67,13 @@ impl<W: World> World for FaultyWorld<W> {
 
     ghost count = { failures_of W.count };
 
+    ghost did = { λ old call new. IsHandedOn W.did (inside old) call (inside new) };
+
     fn open_read(&mut self, name: &[u8]) -> Result<u32, WorldFault>
         ensures opened { IfOk result
             (λ id. Opens Reading id (W.kinds (inside self.old)) (W.kinds (inside self.new))) }
         ensures not_opened { OnErr result (W.kinds (inside self.new) ≡ W.kinds (inside self.old)) }
+        ensures did { IsHandedOn W.did (inside self.old) Other (inside self.new) }
         ensures count { failures_of W.count self.new
             ≡ next_count result (failures_of W.count self.old) }
         ensures calls { calls_left self.new ≡ calls_left self.old - 1 }
@@ -89,6 +94,7 @@ impl<W: World> World for FaultyWorld<W> {
         ensures opened { IfOk result
             (λ id. Opens Writing id (W.kinds (inside self.old)) (W.kinds (inside self.new))) }
         ensures not_opened { OnErr result (W.kinds (inside self.new) ≡ W.kinds (inside self.old)) }
+        ensures did { IsHandedOn W.did (inside self.old) (opening name.now append result) (inside self.new) }
         ensures count { failures_of W.count self.new
             ≡ next_count result (failures_of W.count self.old) }
         ensures calls { calls_left self.new ≡ calls_left self.old - 1 }
@@ -110,6 +116,7 @@ impl<W: World> World for FaultyWorld<W> {
         requires { W.kinds (inside self.old) id ≡ Reading }
         ensures within { IfOk result (λ n. n ≤ length buffer.old) }
         ensures kinds { W.kinds (inside self.new) ≡ W.kinds (inside self.old) }
+        ensures did { IsHandedOn W.did (inside self.old) Other (inside self.new) }
         ensures count { failures_of W.count self.new
             ≡ next_count result (failures_of W.count self.old) }
         ensures calls { calls_left self.new ≡ calls_left self.old - 1 }
@@ -132,6 +139,7 @@ impl<W: World> World for FaultyWorld<W> {
         ensures within { IfOk result (λ n. n ≤ length text.now) }
         ensures some { IfOk result (λ n. 0 < length text.now → 0 < n) }
         ensures kinds { W.kinds (inside self.new) ≡ W.kinds (inside self.old) }
+        ensures did { IsHandedOn W.did (inside self.old) (writing id text.now result) (inside self.new) }
         ensures count { failures_of W.count self.new
             ≡ next_count result (failures_of W.count self.old) }
         ensures calls { calls_left self.new ≡ calls_left self.old - 1 }
@@ -152,6 +160,7 @@ impl<W: World> World for FaultyWorld<W> {
         requires open { W.kinds (inside self.old) id ≢ Closed }
         requires own { 1 < id }
         ensures kinds { W.kinds (inside self.new) ≡ set_kind id Closed (W.kinds (inside self.old)) }
+        ensures did { IsHandedOn W.did (inside self.old) Other (inside self.new) }
         ensures count { failures_of W.count self.new ≡ failures_of W.count self.old }
         ensures handed_on { W.is_modelled
             → Closes id (W.state (inside self.old)) (W.state (inside self.new)) }

@@ -2,6 +2,7 @@
 ghost use Rattle.std.specs.Prelude.{refl, ◌≡◌, [], OnErr, OnOk, option_copied};
 ghost use Rattle.world_core.specs.WorldState.{Standard, Named, bytes_of};
 ghost use Rattle.world_core.specs.Calls.{next_count};
+ghost use Rattle.world_core.specs.Traces.{DoesCall};
 ghost use Rattle.world_core.specs.Memory.{count_of, entry_of, kinds_of, only_standard, open_for, source_at_start, state_of, with_entry};
 
 use crate::file::{MemSource, read_source, write_file};
@@ -100,6 +101,8 @@ impl World for MemWorld {
     ghost kinds = { open_for };
 
     ghost count = { count_of };
+
+    ghost did = { λ old call new. DoesCall call (state_of old) (state_of new) };
 
     fn open_read(&mut self, name: &[u8]) -> Result<u32, WorldFault> {
         let opened = open_to_read(&self.files, &mut self.streams, self.alloc, name);

@@ -2,6 +2,7 @@
 ghost use Rattle.std.specs.Prelude.{◌≡◌, ◌≢◌, ◌<◌, ◌≤◌, ℕ, length, IfOk, OnErr};
 ghost use Rattle.world_core.specs.WorldState.{Standard, State};
 ghost use Rattle.world_core.specs.Calls.{Kind, Closed, Reading, Writing, Opens, set_kind, Closes, next_count, Reads, Writes, OpensToRead, OpensToWrite};
+ghost use Rattle.world_core.specs.Traces.{Call, Other, opening, writing};
 
 use std::alloc::AllocError;
 use thiserror::Error;
@@ -52,6 +53,9 @@ pub trait World {
     /// How many calls have failed, modulo 2^64.
     ghost count: { Self → ℕ };
 
+    /// What a world is after a call. Who knows nothing else of a world knows this only of calls that were made of it.
+    ghost did: { Self → Call → Self → Type 0 };
+
     /// Opens a name for reading, and gives the stream's number.
     ///
     /// # Errors
@@ -61,6 +65,7 @@ pub trait World {
         ensures opened { IfOk result (λ id. Opens Reading id (kinds self.old) (kinds self.new)) }
         ensures not_opened { OnErr result (kinds self.new ≡ kinds self.old) }
         ensures count { count self.new ≡ next_count result (count self.old) }
+        ensures did { did self.old Other self.new }
         ensures told { is_modelled → OpensToRead name.now (state self.old) result (state self.new) };
 
     /// Opens a name for writing, at its end (`append`) or emptied, and gives the stream's number. An absent name is created.
@@ -72,6 +77,7 @@ pub trait World {
         ensures opened { IfOk result (λ id. Opens Writing id (kinds self.old) (kinds self.new)) }
         ensures not_opened { OnErr result (kinds self.new ≡ kinds self.old) }
         ensures count { count self.new ≡ next_count result (count self.old) }
+        ensures did { did self.old (opening name.now append result) self.new }
         ensures told { is_modelled
             → OpensToWrite name.now append (state self.old) result (state self.new) };
 
@@ -85,6 +91,7 @@ pub trait World {
         ensures within { IfOk result (λ n. n ≤ length buffer.old) }
         ensures kinds { kinds self.new ≡ kinds self.old }
         ensures count { count self.new ≡ next_count result (count self.old) }
+        ensures did { did self.old Other self.new }
         ensures told { is_modelled
             → Reads id (state self.old) buffer.old result buffer.new (state self.new) };
 
@@ -99,6 +106,7 @@ pub trait World {
         ensures some { IfOk result (λ n. 0 < length text.now → 0 < n) }
         ensures kinds { kinds self.new ≡ kinds self.old }
         ensures count { count self.new ≡ next_count result (count self.old) }
+        ensures did { did self.old (writing id text.now result) self.new }
         ensures told { is_modelled → Writes id text.now (state self.old) result (state self.new) };
 
     /// Closes a stream that is open and not a standard one. It takes no memory.
@@ -107,6 +115,7 @@ pub trait World {
         requires own { 1 < id }
         ensures kinds { kinds self.new ≡ set_kind id Closed (kinds self.old) }
         ensures count { count self.new ≡ count self.old }
+        ensures did { did self.old Other self.new }
         ensures told { is_modelled → Closes id (state self.old) (state self.new) };
 
     /// How many calls have failed, modulo 2^64. It takes no memory.

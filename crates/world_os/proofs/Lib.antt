@@ -1,3 +1,4 @@
+pub mod GivenLemmas
 pub mod OsStreamLemmas
 pub mod PathLemmas
 mod BehindLemmas

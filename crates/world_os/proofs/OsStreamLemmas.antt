@@ -9,7 +9,7 @@ use Rattle.world_os.specs.declared.world.OsStream.{OsStream}
 use Rattle.world_os.specs.declared.world.OsStream.TheVariants.{Closed}
 
 -- a stream that is open stands in the list
-below : {F : Type 0} (streams : List (OsStream F)) (i : ℕ) (kind : Kind) → (NotOpen ≡ kind → ⊥) → os_kind (get_or streams i Closed) ≡ kind → i < length streams
+pub below : {F : Type 0} (streams : List (OsStream F)) (i : ℕ) (kind : Kind) → (NotOpen ≡ kind → ⊥) → os_kind (get_or streams i Closed) ≡ kind → i < length streams
 below [] i kind apart e = absurd (apart e)
 below (s ∷ rest) zero kind apart e = omega arith
 below (s ∷ rest) (suc i) kind apart e = omega (arith, below rest i kind apart e)

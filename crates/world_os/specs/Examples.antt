@@ -1,9 +1,13 @@
--- What fences let through, and what is seen behind them, computed.
-use Rattle.std.specs.Prelude.{◌≡◌, [], ◌∷◌, codes, true, false, None, Some, refl}
+-- What fences let through, what is seen behind them, and what calls give to streams, computed.
+use Rattle.std.specs.Prelude.{◌≡◌, ℕ, List, [], ◌∷◌, codes, true, false, None, Some, refl}
 use Rattle.world_core.specs.WorldState.{Named, Standard}
 use Rattle.world_core.specs.Examples.{with_small}
+use Rattle.world_core.specs.Traces.{Opened, Wrote}
 use Rattle.world_os.specs.Behind.{outside_behind}
 use Rattle.world_os.specs.Fences.{FenceForm, lets_read, lets_write, no_name}
+use Rattle.world_os.specs.OsStreams.{ToErrors, ToFile, ToOutput, bytes_to, sink_meant, written_as}
+use Rattle.world_os.specs.declared.world.OsStream.{OsStream}
+use Rattle.world_os.specs.declared.world.OsStream.TheVariants.{Errors, Output, Writer}
 
 -- `f` holds `ab`, and opens
 pub it_opens : (with_small (Named (codes "f"))).opens ≡ true
@@ -110,3 +114,35 @@ input_not_written = refl
 
 pub stream_is_a_file : lets_write no_files (codes "/dev/stdout") ≡ false
 stream_is_a_file = refl
+
+-- The bytes that a call gives, where stream 2 is the program's own output, 3 a file, and 4 the standard error.
+abbrev pub three : List (OsStream ℕ)
+three = Output ∷ Writer 7 ∷ Errors ∷ []
+
+pub own_output : bytes_to ToOutput three (Wrote 2 (codes "a")) ≡ codes "a"
+own_output = refl
+
+pub standard_too : bytes_to ToOutput three (Wrote 1 (codes "b")) ≡ codes "b"
+standard_too = refl
+
+pub its_file : bytes_to (ToFile 3) three (Wrote 3 (codes "c")) ≡ codes "c"
+its_file = refl
+
+pub no_other_file : bytes_to (ToFile 3) three (Wrote 2 (codes "a")) ≡ []
+no_other_file = refl
+
+pub not_the_output : bytes_to ToOutput three (Wrote 3 (codes "c")) ≡ []
+not_the_output = refl
+
+pub its_errors : bytes_to ToErrors three (Wrote 4 (codes "d")) ≡ codes "d"
+its_errors = refl
+
+pub nothing_opened : bytes_to (ToFile 3) three (Opened (codes "f") false 3) ≡ []
+nothing_opened = refl
+
+-- where names mean streams, `/dev/stdout` is the output
+pub output_named : sink_meant 5 (written_as true (codes "/dev/stdout")) ≡ ToOutput
+output_named = refl
+
+pub output_is_a_file : sink_meant 5 (written_as false (codes "/dev/stdout")) ≡ ToFile 5
+output_is_a_file = refl

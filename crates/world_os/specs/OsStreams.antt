@@ -1,9 +1,11 @@
 -- The streams of a world over real files: what each is open for, and which names are paths.
-use Rattle.std.specs.Prelude.{◌≡◌, ◌≢◌, ℕ, zero, suc, ◌<◌, List, [], length, get_or, Bool, true, ◌&&◌, not, if◌then◌else◌, Option, None, Some}
+use Rattle.std.specs.Prelude.{◌≡◌, ◌≢◌, ◌⊎◌, ℕ, zero, suc, ◌<◌, ◌==◌, List, [], length, get_or, Bool, true, false, ◌&&◌, not, cond, if◌then◌else◌, Option, None, Some}
 use Rattle.std.specs.Fs.{new_options, with_append, with_create, with_truncate, with_write}
 use Rattle.std.specs.declared.fs.options.OpenOptions.{OpenOptions}
+use Rattle.std.specs.Io.KnownBytes.{Appends}
 use Rattle.std.specs.Str.{IsUtf8}
 use Rattle.world_core.specs.Calls.{Kind, Closed as NotOpen, Reading, Writing}
+use Rattle.world_core.specs.Traces.{Call, Opened, Wrote, Other}
 use Rattle.world_core.specs.WorldState.{State, Standard, absent}
 use Rattle.world_core.specs.declared.world.Ending.TheVariants.{End}
 use Rattle.world_os.specs.declared.world.OsStream.{OsStream}
@@ -90,3 +92,59 @@ no_state = record {
   readers = λ k. record { rest = []; ending = End };
   writers = λ k. Standard;
 }
+
+-- What a world over real files gives where a call is made, by what the kit tells of what each stream holds.
+
+-- where the bytes of a stream go: to one of the program's own streams, or to the file of a number
+pub data Sink : Type 0 where
+  Nowhere : Sink
+  ToOutput : Sink
+  ToErrors : Sink
+  ToFile : (id : ℕ) → Sink
+
+abbrev pub sink_of : {F : Type 0} → ℕ → OsStream F → Sink
+sink_of id Closed = Nowhere
+sink_of id (Reader file) = Nowhere
+sink_of id (Writer file) = ToFile id
+sink_of id Input = Nowhere
+sink_of id Output = ToOutput
+sink_of id Errors = ToErrors
+
+abbrev pub sink_at : {F : Type 0} → List (OsStream F) → ℕ → Sink
+sink_at streams zero = Nowhere
+sink_at streams (suc zero) = ToOutput
+sink_at streams (suc (suc k)) = sink_of (suc (suc k)) (get_or streams k Closed)
+
+-- where the bytes of a name go that is opened for writing
+abbrev pub sink_meant : ℕ → Meaning → Sink
+sink_meant id File = ToFile id
+sink_meant id OwnInput = Nowhere
+sink_meant id OwnOutput = ToOutput
+sink_meant id OwnErrors = ToErrors
+
+abbrev pub same_sink : Sink → Sink → Bool
+same_sink ToOutput ToOutput = true
+same_sink ToErrors ToErrors = true
+same_sink (ToFile a) (ToFile b) = a == b
+same_sink a b = false
+
+-- the bytes that a call gives to a sink
+abbrev pub bytes_to : {F : Type 0} → Sink → List (OsStream F) → Call → List ℕ
+bytes_to sink streams (Opened name append id) = []
+bytes_to sink streams (Wrote id bytes) = cond (same_sink sink (sink_at streams id)) bytes []
+bytes_to sink streams Other = []
+
+-- Which numbers mean what: a name that is opened for writing is meant by a number that meant no writer, and else a number keeps its meaning, or is closed.
+abbrev pub SinksGo : {F : Type 0} → Bool → Call → List (OsStream F) → List (OsStream F) → Type 0
+SinksGo named (Opened name append id) old new = (sink_at old id ≡ Nowhere) × (sink_at new id ≡ sink_meant id (written_as named name)) × OthersStay id old new
+SinksGo named (Wrote id bytes) old new = (k : ℕ) → sink_at new k ≡ sink_at old k
+SinksGo named Other old new = (k : ℕ) → (sink_at new k ≡ sink_at old k) ⊎ (sink_at new k ≡ Nowhere)
+
+-- Each sink has got the bytes that the call gave it, and no others: the standard output and the standard error, and each file that stays open.
+pub record Gives {F : Type 0} (contents : F → Option (List ℕ)) (named : Bool) (call : Call) (old new : List (OsStream F))
+    (output output' errors errors' : Option (List ℕ)) : Type 0 where
+  pub to_output : Appends output output' (bytes_to ToOutput old call)
+  pub to_errors : Appends errors errors' (bytes_to ToErrors old call)
+  pub to_files : (k : ℕ) → sink_at old k ≡ ToFile k → sink_at new k ≡ ToFile k
+      → Appends (held_by contents (stream_at old k)) (held_by contents (stream_at new k)) (bytes_to (ToFile k) old call)
+  pub sinks : SinksGo named call old new

@@ -1,6 +1,7 @@
 //! A world behind a fence.
 ghost use Rattle.std.specs.Prelude.{◌≡◌, ◌<◌, ◌≤◌, ◌+◌, ◌%◌, ◌^◌, ◌≢◌, true, false, length, Err, IfOk, OnErr};
 ghost use Rattle.world_core.specs.Calls.{Closed, Closes, Opens, OpensToRead, OpensToWrite, Reading, Reads, Writes, Writing, next_count, set_kind};
+ghost use Rattle.world_core.specs.Traces.{IsHandedOn, Other, opening, writing};
 ghost use Rattle.world_os.specs.Behind.{behind};
 
 use crate::fence::Fence;
@@ -52,6 +53,7 @@ impl<W: World, F: Fence> FencedWorld<FaultyWorld<W>, F> {
 
 impl<W: World, F: Fence> World for FencedWorld<W, F> {
     ghost use Rattle.std.specs.Prelude.{◌+◌, ◌%◌, ◌^◌};
+    ghost use Rattle.world_core.specs.Traces.{IsHandedOn};
     ghost use Rattle.world_os.specs.Behind.{behind};
 
     ghost is_modelled = { W.is_modelled × F.alike };
@@ -62,10 +64,13 @@ impl<W: World, F: Fence> World for FencedWorld<W, F> {
 
     ghost count = { λ w. (W.count w.inner + w.kept_out) % 2 ^ 64 };
 
+    ghost did = { λ old call new. IsHandedOn W.did old.inner call new.inner };
+
     fn open_read(&mut self, name: &[u8]) -> Result<u32, WorldFault>
         ensures opened { IfOk result
             (λ id. Opens Reading id (W.kinds self.old.inner) (W.kinds self.new.inner)) }
         ensures not_opened { OnErr result (W.kinds self.new.inner ≡ W.kinds self.old.inner) }
+        ensures did { IsHandedOn W.did self.old.inner Other self.new.inner }
         ensures count { (W.count self.new.inner + self.new.kept_out) % 2 ^ 64
             ≡ next_count result ((W.count self.old.inner + self.old.kept_out) % 2 ^ 64) }
         ensures told { W.is_modelled × F.alike
@@ -87,6 +92,7 @@ impl<W: World, F: Fence> World for FencedWorld<W, F> {
         ensures opened { IfOk result
             (λ id. Opens Writing id (W.kinds self.old.inner) (W.kinds self.new.inner)) }
         ensures not_opened { OnErr result (W.kinds self.new.inner ≡ W.kinds self.old.inner) }
+        ensures did { IsHandedOn W.did self.old.inner (opening name.now append result) self.new.inner }
         ensures count { (W.count self.new.inner + self.new.kept_out) % 2 ^ 64
             ≡ next_count result ((W.count self.old.inner + self.old.kept_out) % 2 ^ 64) }
         ensures told { W.is_modelled × F.alike → OpensToWrite name.now append
@@ -108,6 +114,7 @@ impl<W: World, F: Fence> World for FencedWorld<W, F> {
         requires { W.kinds self.old.inner id ≡ Reading }
         ensures within { IfOk result (λ n. n ≤ length buffer.old) }
         ensures kinds { W.kinds self.new.inner ≡ W.kinds self.old.inner }
+        ensures did { IsHandedOn W.did self.old.inner Other self.new.inner }
         ensures count { (W.count self.new.inner + self.new.kept_out) % 2 ^ 64
             ≡ next_count result ((W.count self.old.inner + self.old.kept_out) % 2 ^ 64) }
         ensures told { W.is_modelled × F.alike
@@ -125,6 +132,7 @@ impl<W: World, F: Fence> World for FencedWorld<W, F> {
         ensures within { IfOk result (λ n. n ≤ length text.now) }
         ensures some { IfOk result (λ n. 0 < length text.now → 0 < n) }
         ensures kinds { W.kinds self.new.inner ≡ W.kinds self.old.inner }
+        ensures did { IsHandedOn W.did self.old.inner (writing id text.now result) self.new.inner }
         ensures count { (W.count self.new.inner + self.new.kept_out) % 2 ^ 64
             ≡ next_count result ((W.count self.old.inner + self.old.kept_out) % 2 ^ 64) }
         ensures told { W.is_modelled × F.alike
@@ -141,6 +149,7 @@ impl<W: World, F: Fence> World for FencedWorld<W, F> {
         requires open { W.kinds self.old.inner id ≢ Closed }
         requires own { 1 < id }
         ensures kinds { W.kinds self.new.inner ≡ set_kind id Closed (W.kinds self.old.inner) }
+        ensures did { IsHandedOn W.did self.old.inner Other self.new.inner }
         ensures count { (W.count self.new.inner + self.new.kept_out) % 2 ^ 64
             ≡ (W.count self.old.inner + self.old.kept_out) % 2 ^ 64 }
         ensures told { W.is_modelled × F.alike → Closes id (behind (F.reads self.old.fence)

@@ -1,6 +1,7 @@
 //! A world of which so many bytes are read and written at most.
 ghost use Rattle.std.specs.Prelude.{◌≡◌, ◌<◌, ◌≤◌, ◌+◌, ◌%◌, ◌^◌, ◌≢◌, ℕ, true, take, length, Err, IfOk, OnErr};
 ghost use Rattle.world_core.specs.Calls.{Closed, Closes, Opens, OpensToRead, OpensToWrite, Reading, Reads, Writes, Writing, next_count, set_kind};
+ghost use Rattle.world_core.specs.Traces.{IsHandedOn, Other, opening, writing};
 ghost use Rattle.world_os.specs.Limits.{AtLimit, MayPass, StartsWith, left, moved};
 
 use crate::meter::Meter;
@@ -53,6 +54,7 @@ impl<W: World> LimitedWorld<W> {
         ensures kinds { W.kinds self.new.inner ≡ W.kinds self.old.inner }
         ensures count { (W.count self.new.inner + self.new.refused) % 2 ^ 64
             ≡ next_count result ((W.count self.old.inner + self.old.refused) % 2 ^ 64) }
+        ensures did { IsHandedOn W.did self.old.inner Other self.new.inner }
         ensures told { W.is_modelled → AtLimit id (W.state self.old.inner) self.old.input_is_over result }
         ensures over { self.old.input_is_over ≡ true
             → (result ≡ Err WorldFault.Failed) × (self.new.inner ≡ self.old.inner) }
@@ -76,6 +78,7 @@ impl<W: World> LimitedWorld<W> {
 
 impl<W: World> World for LimitedWorld<W> {
     ghost use Rattle.std.specs.Prelude.{◌+◌, ◌%◌, ◌^◌};
+    ghost use Rattle.world_core.specs.Traces.{IsHandedOn};
 
     ghost is_modelled = { ⊥ };
 
@@ -85,10 +88,13 @@ impl<W: World> World for LimitedWorld<W> {
 
     ghost count = { λ w. (W.count w.inner + w.refused) % 2 ^ 64 };
 
+    ghost did = { λ old call new. IsHandedOn W.did old.inner call new.inner };
+
     fn open_read(&mut self, name: &[u8]) -> Result<u32, WorldFault>
         ensures opened { IfOk result
             (λ id. Opens Reading id (W.kinds self.old.inner) (W.kinds self.new.inner)) }
         ensures not_opened { OnErr result (W.kinds self.new.inner ≡ W.kinds self.old.inner) }
+        ensures did { IsHandedOn W.did self.old.inner Other self.new.inner }
         ensures count { (W.count self.new.inner + self.new.refused) % 2 ^ 64
             ≡ next_count result ((W.count self.old.inner + self.old.refused) % 2 ^ 64) }
         ensures inner { W.is_modelled
@@ -104,6 +110,7 @@ impl<W: World> World for LimitedWorld<W> {
         ensures opened { IfOk result
             (λ id. Opens Writing id (W.kinds self.old.inner) (W.kinds self.new.inner)) }
         ensures not_opened { OnErr result (W.kinds self.new.inner ≡ W.kinds self.old.inner) }
+        ensures did { IsHandedOn W.did self.old.inner (opening name.now append result) self.new.inner }
         ensures count { (W.count self.new.inner + self.new.refused) % 2 ^ 64
             ≡ next_count result ((W.count self.old.inner + self.old.refused) % 2 ^ 64) }
         ensures inner { W.is_modelled → OpensToWrite name.now append (W.state self.old.inner) result
@@ -119,6 +126,7 @@ impl<W: World> World for LimitedWorld<W> {
         requires { W.kinds self.old.inner id ≡ Reading }
         ensures within { IfOk result (λ n. n ≤ length buffer.old) }
         ensures kinds { W.kinds self.new.inner ≡ W.kinds self.old.inner }
+        ensures did { IsHandedOn W.did self.old.inner Other self.new.inner }
         ensures count { (W.count self.new.inner + self.new.refused) % 2 ^ 64
             ≡ next_count result ((W.count self.old.inner + self.old.refused) % 2 ^ 64) }
         ensures read { self.new.input.passed ≡ self.old.input.passed + moved result }
@@ -149,6 +157,7 @@ impl<W: World> World for LimitedWorld<W> {
         ensures within { IfOk result (λ n. n ≤ length text.now) }
         ensures some { IfOk result (λ n. 0 < length text.now → 0 < n) }
         ensures kinds { W.kinds self.new.inner ≡ W.kinds self.old.inner }
+        ensures did { IsHandedOn W.did self.old.inner (writing id text.now result) self.new.inner }
         ensures count { (W.count self.new.inner + self.new.refused) % 2 ^ 64
             ≡ next_count result ((W.count self.old.inner + self.old.refused) % 2 ^ 64) }
         ensures written { self.new.output.passed ≡ self.old.output.passed + moved result }
@@ -175,6 +184,7 @@ impl<W: World> World for LimitedWorld<W> {
         requires open { W.kinds self.old.inner id ≢ Closed }
         requires own { 1 < id }
         ensures kinds { W.kinds self.new.inner ≡ set_kind id Closed (W.kinds self.old.inner) }
+        ensures did { IsHandedOn W.did self.old.inner Other self.new.inner }
         ensures count { (W.count self.new.inner + self.new.refused) % 2 ^ 64
             ≡ (W.count self.old.inner + self.old.refused) % 2 ^ 64 }
         ensures inner { W.is_modelled → Closes id (W.state self.old.inner) (W.state self.new.inner) }

@@ -1,6 +1,7 @@
 //! A world over real files, which tells nothing of what they hold.
 ghost use Rattle.std.specs.Prelude.{◌≡◌, ◌≢◌, ◌<◌, ◌≤◌, [], length, Err, IfErr, IfNone, IfOk, IfSome, MatchOption, OnErr, Some};
-ghost use Rattle.world_os.specs.OsStreams.{File, held_by, IsPath, left_of, meaning_of, os_kind, os_kinds, OthersStay, read_as, stream_at, writing, written_as};
+ghost use Rattle.world_core.specs.Traces.{Other, opening, writing as wrote};
+ghost use Rattle.world_os.specs.OsStreams.{File, Gives, held_by, IsPath, left_of, meaning_of, os_kind, os_kinds, OthersStay, read_as, stream_at, writing, written_as};
 ghost use Rattle.std.specs.Io.KnownBytes.{ReadConsumes, WriteAppends};
 ghost use Rattle.world_core.specs.Calls.{Closed, next_count, Opens, Reading, set_kind, Writing};
 
@@ -202,7 +203,7 @@ impl<'a, R: Files, I: Read + Drop, O: Write + Drop, E: Write + Drop> OsWorld<'a,
 impl<'a, R: Files, I: Read + Drop, O: Write + Drop, E: Write + Drop> World
     for OsWorld<'a, R, I, O, E> {
     ghost use Rattle.std.specs.Prelude.{refl};
-    ghost use Rattle.world_os.specs.OsStreams.{os_kinds, no_state};
+    ghost use Rattle.world_os.specs.OsStreams.{Gives, os_kinds, no_state};
 
     ghost is_modelled = { ⊥ };
 
@@ -212,12 +213,19 @@ impl<'a, R: Files, I: Read + Drop, O: Write + Drop, E: Write + Drop> World
 
     ghost count = { λ w. w.failures };
 
+    ghost did = { λ old call new. Gives R.File.contents old.named call old.streams.items new.streams.items
+        (O.contents old.output) (O.contents new.output) (E.contents old.errors)
+        (E.contents new.errors) };
+
     fn open_read(&mut self, name: &[u8]) -> Result<u32, WorldFault>
         ensures opened { IfOk result (λ id. Opens Reading id (os_kinds self.old.streams.items)
             (os_kinds self.new.streams.items)) }
         ensures not_opened { OnErr result
             (os_kinds self.new.streams.items ≡ os_kinds self.old.streams.items) }
         ensures count { self.new.failures ≡ next_count result self.old.failures }
+        ensures did { Gives R.File.contents self.old.named Other self.old.streams.items
+            self.new.streams.items (O.contents self.old.output) (O.contents self.new.output)
+            (E.contents self.old.errors) (E.contents self.new.errors) }
         ensures not_path { ¬ (IsPath name.now) → (result ≡ Err WorldFault.Failed)
             × (self.new.streams.items ≡ self.old.streams.items) }
         ensures others { IfOk result
@@ -243,6 +251,9 @@ impl<'a, R: Files, I: Read + Drop, O: Write + Drop, E: Write + Drop> World
         ensures not_opened { OnErr result
             (os_kinds self.new.streams.items ≡ os_kinds self.old.streams.items) }
         ensures count { self.new.failures ≡ next_count result self.old.failures }
+        ensures did { Gives R.File.contents self.old.named (opening name.now append result) self.old.streams.items
+            self.new.streams.items (O.contents self.old.output) (O.contents self.new.output)
+            (E.contents self.old.errors) (E.contents self.new.errors) }
         ensures not_path { ¬ (IsPath name.now) → (result ≡ Err WorldFault.Failed)
             × (self.new.streams.items ≡ self.old.streams.items) }
         ensures others { IfOk result
@@ -267,6 +278,9 @@ impl<'a, R: Files, I: Read + Drop, O: Write + Drop, E: Write + Drop> World
         ensures within { IfOk result (λ n. n ≤ length buffer.old) }
         ensures kinds { os_kinds self.new.streams.items ≡ os_kinds self.old.streams.items }
         ensures count { self.new.failures ≡ next_count result self.old.failures }
+        ensures did { Gives R.File.contents self.old.named Other self.old.streams.items
+            self.new.streams.items (O.contents self.old.output) (O.contents self.new.output)
+            (E.contents self.old.errors) (E.contents self.new.errors) }
         ensures standard { id ≡ 0 → ReadConsumes (I.remaining self.old.input)
             (I.remaining self.new.input) result buffer.new }
         ensures own { 1 < id
@@ -298,6 +312,9 @@ impl<'a, R: Files, I: Read + Drop, O: Write + Drop, E: Write + Drop> World
         ensures some { IfOk result (λ n. 0 < length text.now → 0 < n) }
         ensures kinds { os_kinds self.new.streams.items ≡ os_kinds self.old.streams.items }
         ensures count { self.new.failures ≡ next_count result self.old.failures }
+        ensures did { Gives R.File.contents self.old.named (wrote id text.now result) self.old.streams.items
+            self.new.streams.items (O.contents self.old.output) (O.contents self.new.output)
+            (E.contents self.old.errors) (E.contents self.new.errors) }
         ensures standard { id ≡ 1 → WriteAppends (O.contents self.old.output)
             (O.contents self.new.output) result text.now }
         ensures own { 1 < id
@@ -332,6 +349,9 @@ impl<'a, R: Files, I: Read + Drop, O: Write + Drop, E: Write + Drop> World
         ensures kinds { os_kinds self.new.streams.items
             ≡ set_kind id Closed (os_kinds self.old.streams.items) }
         ensures count { self.new.failures ≡ self.old.failures }
+        ensures did { Gives R.File.contents self.old.named Other self.old.streams.items
+            self.new.streams.items (O.contents self.old.output) (O.contents self.new.output)
+            (E.contents self.old.errors) (E.contents self.new.errors) }
         ensures others { OthersStay id self.old.streams.items self.new.streams.items }
         ensures input { self.new.input ≡ self.old.input }
         ensures output { self.new.output ≡ self.old.output }

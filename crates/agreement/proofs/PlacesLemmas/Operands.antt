@@ -16,7 +16,7 @@ use Rattle.sem_scripts.specs.Names as names
 use Rattle.sem_scripts.specs.Names.{Function, Name, Resolved, Reserved, Scope, Variable, function_at, function_number, is_array, variable_of}
 use Rattle.sem_scripts.specs.Items.{pattern_ranges, print_record, top}
 use Rattle.mid_program.specs.Mid as mid
-use Rattle.mid_program.specs.Mid.{AskLine, Bound, Code, FileLine, Routine, Steps}
+use Rattle.mid_program.specs.Mid.{AskLine, Bound, Code, FileLine}
 use Rattle.sem_scripts.specs.Statements.{operands_of, scope_in, with_last, with_target}
 use Rattle.sem_scripts.specs.Steps.{ere_in}
 use Rattle.mid_program.specs.Texts.{texts_of_script}

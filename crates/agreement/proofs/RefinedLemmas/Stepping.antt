@@ -12,7 +12,7 @@ use Rattle.wasm_store.specs.declared.word.Word.{Word}
 use Rattle.wasm_store.specs.declared.word.Word.TheVariants.{I32}
 use Rattle.wasm_model.specs.Frames.{FrameForm, next_at, pushed, settled}
 use Rattle.wasm_model.specs.Frames as form
-use Rattle.wasm_model.specs.Machines.{Goes, ProgramForm, Turn, asked, called, turn, turn_by, with_frame}
+use Rattle.wasm_model.specs.Machines.{Goes, ProgramForm, Turn, called, turn, turn_by, with_frame}
 use Rattle.wasm_model.specs.Machines as real
 use Rattle.mid_program.specs.Mid.{Kind}
 use Rattle.host_step.specs.HostState.{HostState}

@@ -1,6 +1,6 @@
 -- A run over any world is a run over a host of the table in an environment that others change too: in which each opening, read and write finds the next
 -- of a list. The list is read off the run, from its end to its beginning.
-use Rattle.std.proofs.Common.{◌≡◌, ◌≢◌, ℕ, zero, suc, Bool, true, false, List, [], ◌++◌, Option, Some, None, refl, sym, ap, ◌∙◌, subst, append-nil, append_assoc}
+use Rattle.std.proofs.Common.{◌≡◌, ◌≢◌, ℕ, zero, suc, Bool, true, false, List, [], ◌++◌, Option, Some, None, refl, sym, ◌∙◌, subst, append-nil, append_assoc}
 use Rattle.awk_values.specs.declared.fault.Fault.{Fault}
 use Rattle.sem_primitives.specs.InputMeaning.{to_come}
 use Rattle.sem_primitives.specs.Jobs.{Opened, JobForm}

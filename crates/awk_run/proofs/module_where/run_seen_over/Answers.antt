@@ -7,7 +7,6 @@ use Rattle.wasm_types.specs.View.{view_module}
 use Rattle.awk_run.specs.ModuleRun.{RunAnswers}
 use Rattle.awk_run.specs.ModuleSeen.{IsModuleSeenOf}
 use Rattle.script_lines.specs.Lines.{FunctionForm, form_of}
-use Rattle.script_lines.specs.Reading.{table_in}
 use Rattle.awk_run.proofs.Pausing.{of_some}
 use Rattle.awk_run.proofs.Runs.{typed_answers}
 use Rattle.awk_run.proofs.module_where.run_seen_over.Goals as goal

@@ -9,6 +9,7 @@ use Rattle.world_core.specs.Calls.{Reads, ReadsSome, next_count}
 use Rattle.world_core.specs.declared.world.WorldFault.{WorldFault}
 use Rattle.world_core.specs.declared.world.WorldFault.TheVariants.{Failed, NoMemory}
 use Rattle.host_streams.specs.Readers.{Fills}
+use Rattle.host_streams.proofs.Given.{none_one, none_still}
 use Rattle.host_streams.proofs.reader.fill.Goals as goal
 
 no_bytes : (n : ℕ) → false ≡ ltb 0 n → n ≡ 0
@@ -34,6 +35,7 @@ fails NoMemory id old new before kept grown now e h = h
 
 pub returns-in_err-provide : goal.returns-in_err-provide
 returns-in_err-provide g c = rw (is_fault c.from_residual.result c.from_residual.ensures.1) (record {
+  gives = none_still g.W.World.did c.args.world.now;
   kinds = refl;
   count = refl;
   front = take-length c.args.kept.now.items;
@@ -45,6 +47,7 @@ returns-in_err-provide g c = rw (is_fault c.from_residual.result c.from_residual
 
 pub returns-in_err-reserve : goal.returns-in_err-reserve
 returns-in_err-reserve g c = rw (is_fault c.from_residual-in_err-reserve.result c.from_residual-in_err-reserve.ensures.1) (record {
+  gives = none_still g.W.World.did c.args.world.now;
   kinds = refl;
   count = refl;
   front = ap (take (length c.args.kept.now.items)) c.reserve.ensures.items ∙ take-length c.args.kept.now.items;
@@ -60,6 +63,7 @@ same_count NoMemory n = refl
 
 pub returns-in-Err : goal.returns-in-Err
 returns-in-Err g c = record {
+  gives = none_one g.W.World.did _ _ c.in-Err.ensures.did;
   kinds = c.in-Err.ensures.kinds;
   count = c.in-Err.ensures.count ∙ same_count c.in-Err.e (g.W.World.count c.args.world.now);
   front = ap (take (length c.args.kept.now.items)) c.reserve.ensures.items ∙ take-length c.args.kept.now.items;
@@ -86,3 +90,6 @@ returns-in-Ok-clause-told g c = λ tells.
     reads (ltb 0 c.in-Ok.n) c.args.id c.in-Ok.n _ _ c.as_mut_slice.result.now c.read.new.buffer c.args.kept.now.items c.append.new.kept.items refl low (c.in-Ok.ensures.told tells)
     (c.append.ensures.items ∙ ap (λ xs. xs ++ take c.in-Ok.n c.as_slice-in-Ok.result.now) c.reserve.ensures.items
     ∙ ap (λ xs. c.args.kept.now.items ++ xs) (ap (take c.in-Ok.n) c.as_slice-in-Ok.ensures.value ∙ front_of c.in-Ok.n c.provide.new.piece.len c.read.new.buffer _ (omega (arith, c.in-Ok.ensures.within, c.as_mut_slice.ensures.len, c.read.auto.buffer)) (omega (arith, c.in-Ok.ensures.within, c.as_mut_slice.ensures.len, c.read.auto.buffer))))
+
+pub returns-in-Ok-clause-gives : goal.returns-in-Ok-clause-gives
+returns-in-Ok-clause-gives g c = none_one g.W.World.did _ _ c.in-Ok.ensures.did

@@ -15,7 +15,7 @@ pub returns-in-Ok-Some-clause-step : goal.returns-in-Ok-Some-clause-step
 returns-in-Ok-Some-clause-step c f memory none =
     let first : Some c.in-Ok-Some.key ≡ first_key (keys_at c.args.iterators.now c.in-Ok.number) = search rules in
     let left : c.next.new.self ≡ map.insert c.args.iterators.now c.in-Ok.number (other_keys (keys_at c.args.iterators.now c.in-Ok.number)) = search rules in
-    next_call (with_iterators c.args.handles.now c.args.iterators.now f) c.args.words.now memory none _ (sym c.in-Ok.ensures.number) c.in-Ok.ensures.there c.requires _ _ c.in-Ok-Some.key c.give.result first left c.give.ensures.answer
+    next_call (with_iterators c.args.handles.now c.args.iterators.now f) c.args.words.now memory none _ (sym c.in-Ok.ensures.number) c.in-Ok.ensures.there c.requires _ _ c.in-Ok-Some.key c.give_value.result first left c.give_value.ensures.answer
 
 pub returns-in-Ok-None-clause-step : goal.returns-in-Ok-None-clause-step
 returns-in-Ok-None-clause-step c f memory none =

@@ -1,4 +1,4 @@
-use Rattle.std.proofs.Common.{◌≡◌, ap, ◌∙◌, ℕ, cond, refl, eq-eqb}
+use Rattle.std.proofs.Common.{ap, ◌∙◌, ℕ, cond, refl, eq-eqb}
 use Rattle.world_core.specs.Calls.{Kind, Reading}
 use Rattle.world_core.specs.Memory.{open_for}
 use Rattle.test_hosts.proofs.worlds.a_reader_has_the_bytes_of_its_opening.Goals as goal

@@ -1,4 +1,4 @@
-use Rattle.std.proofs.Common.{◌≡◌, ap, ◌∙◌, ℕ}
+use Rattle.std.proofs.Common.{ap, ◌∙◌, ℕ}
 use Rattle.world_core.specs.Calls.{Kind}
 use Rattle.test_hosts.proofs.worlds.replaces.Goals as goal
 

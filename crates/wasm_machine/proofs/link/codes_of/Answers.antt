@@ -1,65 +1,33 @@
-use Rattle.std.proofs.Common.{◌≡◌, ◌∷◌, ◌++◌, [], List, Some, length, map, take, ap, sym, ◌∙◌, subst, arith}
+use Rattle.std.proofs.Common.{◌≡◌, ◌∷◌, ◌++◌, ◌∙◌, [], List, Option, Some, ℕ, length, length-append, ap, sym, subst, arith}
 use Rattle.std.specs.List.{All}
 use Rattle.std.specs.Prelude.{slice_get}
-use Rattle.std.proofs.lemmas.List.{length-map, map_more, map_push, take_all}
-use Rattle.std.proofs.lemmas.List.Elements.{All-nil, All-push}
-use Rattle.wasm_types.specs.declared.module.Func.{Func}
-use Rattle.wasm_types.specs.View.{views}
-use Rattle.wasm_loader.specs.Flat.{Form, flat}
-use Rattle.wasm_loader.specs.Laid.{Laid}
-use Rattle.wasm_machine.specs.ViewConf.{Begins}
+use Rattle.std.proofs.lemmas.List.Elements.{All-push}
+use Rattle.wasm_types.specs.Syntax.{ModuleForm}
+use Rattle.wasm_model.specs.Links.{entry_code}
+use Rattle.wasm_loader.specs.Laid.{Laid, code_at}
+use Rattle.wasm_machine.specs.ViewConf.{Begins, module_with}
 use Rattle.wasm_machine.proofs.Laying.{slice_get_last}
+use Rattle.wasm_machine.proofs.WithCodes.{whole_more}
 use Rattle.wasm_machine.proofs.link.codes_of.Goals as goal
-
-abbrev body : Func → List Form
-body f = flat 0 (views f.body.value.items)
-
-abbrev first : Laid → List Form
-first f = f.forms
-
-pub loop-func-init : goal.loop-func-init
-loop-func-init c = (subst (All Begins) (sym c.new-codes.ensures.items) (All-nil Begins), ap (map first) c.new-codes.ensures.items)
-
-pub loop-func-preserved : goal.loop-func-preserved
-loop-func-preserved c =
-    let inv = c.loop-func.invariant in
-    let old = c.loop-func.codes.items in
-    let code = c.in_ok-code.code in
-    let funcs = c.deref-func-items.result.now in
-    let i = c.loop-func.func-index in
-    let func = c.func-item.result in
-    let items = c.in_ok-push.ensures.items in (
-      subst (All Begins) (sym items) (All-push Begins old code inv.0 c.in_ok-code.ensures.begins),
-      ap (map first) items
-          ∙ (map_push first old code
-          ∙ (ap (λ (is : List (List Form)). is ++ first code ∷ []) inv.1
-          ∙ (ap (λ (b : List Form). map body (take i funcs) ++ b ∷ []) (c.in_ok-code.ensures.body ∙ ap body c.func-item.is)
-          ∙ sym (map_more body funcs i func c.loop-func-test.true)))),
-    )
 
 pub returns : goal.returns
 returns c =
-    let inv = c.loop-func.invariant in
-    let old = c.loop-func.codes.items in
+    let m = c.own_codes.new.whole in
+    let old = c.in_ok-codes.codes.items in
     let code = c.in_ok-first.first in
-    let whole = c.args.whole.now in
-    let funcs = c.deref-func-items.result.now in
-    let i = c.loop-func.func-index in
-    let items = c.in_ok-push-2.ensures.items in
-    let value = c.deref-func-items.ensures.value in
-    let all : map first old ≡ map body whole.funcs.items = inv.1 ∙ ap (map body) (take_all i funcs (omega (arith, c.loop-func-test.false)) ∙ value) in
-    let size : length old ≡ length whole.funcs.items =
-    sym (length-map old first) ∙ (ap (λ (is : List (List Form)). length is) all ∙ length-map whole.funcs.items body) in
+    let items = c.in_ok-push.ensures.items in
+    let count = c.in_ok-codes.ensures.count in
+    let start : m.start ≡ c.args.whole.now.start = ap (λ (x : ModuleForm). x.start) c.in_ok-codes.ensures.whole in
     record {
       codes = record {
-        begin = subst (All Begins) (sym items) (All-push Begins old code inv.0 c.in_ok-first.ensures.begins);
-        bodies = ap (map first) items
-            ∙ (map_push first old code ∙ (ap (λ (is : List (List Form)). is ++ first code ∷ []) all
-            ∙ ap (λ (b : List Form). map body whole.funcs.items ++ b ∷ []) c.in_ok-first.ensures.body));
+        begin = subst (All Begins) (sym items) (All-push Begins old code c.in_ok-codes.ensures.begin c.in_ok-first.ensures.begins);
+        count = (let size = ap (λ (fs : List Laid). length fs) items in let more = length-append old (code ∷ []) in omega (arith, size, more, count));
         first = λ f e.
-            let there : slice_get c.push-2.new.items.items (length whole.funcs.items) ≡ Some code = ap (λ (xs : List Laid). slice_get xs (length whole.funcs.items)) items ∙ (ap (slice_get (old ++ code ∷ [])) (sym size) ∙ slice_get_last old code) in
+            let there : slice_get c.push.new.items.items (length m.funcs.items) ≡ Some code =
+            ap (λ (fs : List Laid). slice_get fs (length m.funcs.items)) items ∙ (ap (slice_get (old ++ code ∷ [])) (sym count) ∙ slice_get_last old code) in
             let same : Some f ≡ Some code = sym e ∙ there in
             let is : f ≡ code = cc in
-            (ap (λ (x : Laid). x.locals) is ∙ c.in_ok-first.ensures.locals, ap (λ (x : Laid). x.gives) is ∙ c.in_ok-first.ensures.gives);
+            (ap (λ (x : Laid). code_at x 0) is ∙ (c.in_ok-first.ensures.body ∙ ap (λ (s : Option ℕ). entry_code s c.args.main) start), ap (λ (x : Laid). x.locals) is ∙ c.in_ok-first.ensures.locals, ap (λ (x : Laid). x.gives) is ∙ c.in_ok-first.ensures.gives);
       };
+      whole = ap (module_with m) items ∙ (whole_more m old (code ∷ []) count ∙ c.in_ok-codes.ensures.whole);
     }

@@ -21,7 +21,7 @@ use Rattle.wasm_loader.specs.Landings.{framed_at}
 use Rattle.wasm_machine.specs.declared.frames.Frame.{Frame}
 use Rattle.wasm_machine.specs.Standing.{code_of, code_with, nothing}
 use Rattle.wasm_machine.proofs.Waiting.{conf_is, parts}
-use Rattle.wasm_machine.proofs.Laying.{begin_of, begun_frame, entry_of}
+use Rattle.wasm_machine.proofs.Laying.{begin_of, begun_frame}
 use Rattle.wasm_machine.proofs.link.first_state.Goals as goal
 
 pub pour-requires-clause-fit : goal.pour-requires-clause-fit
@@ -42,13 +42,13 @@ pub returns-clause-begins : goal.returns-clause-begins
 returns-clause-begins c = λ main lays.
     let m = c.args.whole.now in
     let codes = c.args.codes.now in
-    let funcs = m.funcs.items in
+    let count = length m.funcs.items in
     let entry = entry_code m.start main in
     let n = c.len-first.result in
     let code = c.in-Some.code.now in
-    let size : n ≡ length funcs = omega (arith, c.len-first.ensures) in
+    let size : n ≡ count = omega (arith, c.len-first.ensures) in
     let found : slice_get codes n ≡ Some code = slice_get_read codes (length codes) n code refl c.in-Some.ensures.lookup.3.0 c.in-Some.ensures.lookup.1 in
-    let code_is : slice_get codes (length funcs) ≡ Some code = ap (slice_get codes) (sym size) ∙ found in
+    let code_is : slice_get codes count ≡ Some code = ap (slice_get codes) (sym size) ∙ found in
     let frames = c.in_ok-frames.frames in
     let now = c.in_ok-frames.ensures.first in
     let with : code_with codes n ≡ code = get_or_from_slice_get codes n code nothing found in
@@ -58,12 +58,12 @@ returns-clause-begins c = λ main lays.
     let w : Frame = record { function = n; at = 0; base = 0 } in
     let items = frames.words.items in
     let frame : framed_at (code_with codes n) items 0 ≡ begun entry =
-    ap (λ (x : Laid). framed_at x items 0) with ∙ begun_frame code items entry b.1 b.2 first.0 (entry_of funcs entry codes lays code code_is) in
+    ap (λ (x : Laid). framed_at x items 0) with ∙ begun_frame code items entry b.1 b.2 first.1 first.0 in
     let table = c.fill.new.table in
     let memory = c.pour.new.memory in
     let globals = c.new-globals.result in
     let all : Conf = record { frame = begun entry; result = None; callers = []; memory = memory; table = table; globals = globals } in
-    let gives : (code_with codes n).gives ≡ Some ty.I32 = ap (λ (x : Laid). x.gives) with ∙ first.1 in
+    let gives : (code_with codes n).gives ≡ Some ty.I32 = ap (λ (x : Laid). x.gives) with ∙ first.2 in
     conf_is codes frames all w items [] now.0 refl (ap reverse now.1)
     ∙ (ap (λ (r : Option ValType). parts all (framed_at (code_with codes n) items 0) r []) gives
     ∙ beginning_is (view_module m) main (framed_at (code_with codes n) items 0) globals [] memory table frame refl
@@ -73,15 +73,10 @@ returns-clause-begins c = λ main lays.
 
 pub returns-clause-stands : goal.returns-clause-stands
 returns-clause-stands c = λ main lays.
-    let m = c.args.whole.now in
     let codes = c.args.codes.now in
-    let funcs = m.funcs.items in
-    let entry = entry_code m.start main in
     let n = c.len-first.result in
     let code = c.in-Some.code.now in
-    let size : n ≡ length funcs = omega (arith, c.len-first.ensures) in
     let found : slice_get codes n ≡ Some code = slice_get_read codes (length codes) n code refl c.in-Some.ensures.lookup.3.0 c.in-Some.ensures.lookup.1 in
-    let code_is : slice_get codes (length funcs) ≡ Some code = ap (slice_get codes) (sym size) ∙ found in
     let frames = c.in_ok-frames.frames in
     let now = c.in_ok-frames.ensures.first in
     let with : code_with codes n ≡ code = get_or_from_slice_get codes n code nothing found in

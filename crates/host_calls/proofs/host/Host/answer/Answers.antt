@@ -1,25 +1,10 @@
-use Rattle.std.proofs.Common.{[], ap, rules, subst, sym, ◌∙◌}
+use Rattle.std.proofs.Common.{rules}
 use Rattle.sem_primitives.specs.declared.table.Primitive.TheVariants as row
-use Rattle.wasm_model.specs.declared.host.HostAnswer.{HostAnswer}
-use Rattle.host_step.specs.HostStep.{refuses}
 use Rattle.host_imports.specs.declared.import.Import.TheVariants as import
 use Rattle.host_imports.specs.declared.import.VariadicImport.TheVariants as listing
-use Rattle.host_tables.proofs.Tellings.{refused_means}
-use Rattle.host_calls.specs.Calls.{MeansSome}
 use Rattle.host_calls.specs.Forms.{host_form}
 use Rattle.host_calls.proofs.Comes.{found}
 use Rattle.host_calls.proofs.host.Host.answer.Goals as goal
-
-pub returns-then-refuses : goal.returns-then-refuses
-returns-then-refuses g c =
-    let before = host_form g.W.World.state c.args.self.now in
-    let words = c.args.words.now in
-    let memory = c.args.memory.now in
-    subst (λ (a : HostAnswer). MeansSome g.W.World.is_modelled c.args.import before words memory a before) (sym c.refused.ensures) (
-      [],
-      refused_means g.W.World.is_modelled c.args.import before words memory
-          (ap (refuses c.args.import) (sym c.fault.ensures) ∙ (sym c.refuses.ensures ∙ c.if-refuses.true)),
-    )
 
 pub returns-in-Drop : goal.returns-in-Drop
 returns-in-Drop g c =

@@ -8,6 +8,7 @@ use Rattle.host_streams.proofs.Moves.{moves_on}
 use Rattle.host_streams.proofs.MainFound.{finds_since, found_on}
 use Rattle.host_streams.proofs.MainSteps.{none_since, phase_since, same_break, told_since}
 use Rattle.host_streams.proofs.Passed.{hands_since, more_since, none_hands, none_skips, passes_since, skips_since, so_far_on, some_hands, some_passes, standard_since, there_since}
+use Rattle.host_streams.proofs.Given.{none_then}
 use Rattle.host_streams.proofs.main_input.MainInput.next.Goals as goal
 
 pub steps-preserved : goal.steps-preserved
@@ -17,6 +18,7 @@ steps-preserved g c =
     let ends = none_since c.in-Ok-None.field-0-is step.steps.ends in
     let passes = none_skips (g.O.Operands.text c.args.operands.now) c.steps.self.next c.step.new.self.next c.steps.self.found c.step.new.self.found c.in-Ok-None.field-0-is step.passes in
     let so = so_far_on _ c.args.self.now c.steps.self c.step.new.self before.so step.standard (none_hands _ c.steps.self c.step.new.self c.in-Ok-None.field-0-is step.handed) in record {
+      gives = none_then g.W.World.did _ _ _ c.steps.invariant.gives c.in-Ok-None.ensures.gives;
       moves = moves_on before.moves step.moves;
       count = step.steps.count ∙ before.count;
       phase = same_break _ _ step.steps.phase ∙ before.phase;
@@ -100,3 +102,9 @@ returns-in-Ok-Some-clause-standard g c = standard_since _ c.args.self.now c.step
 
 pub returns-in-Ok-Some-clause-there : goal.returns-in-Ok-Some-clause-there
 returns-in-Ok-Some-clause-there g c = there_since (number_of_value c.args.argc.now) c.args.self.now.next c.steps.self.next c.step.new.self.next c.steps.invariant.there c.step.ensures.there
+
+pub returns-in-Err-clause-gives : goal.returns-in-Err-clause-gives
+returns-in-Err-clause-gives g c = none_then g.W.World.did _ _ _ c.steps.invariant.gives c.in-Err.ensures.gives
+
+pub returns-in-Ok-Some-clause-gives : goal.returns-in-Ok-Some-clause-gives
+returns-in-Ok-Some-clause-gives g c = none_then g.W.World.did _ _ _ c.steps.invariant.gives c.in-Ok-Some.ensures.gives

@@ -5,6 +5,7 @@ use Rattle.host_streams.specs.Mains.{IsAsked, IsOffered, main_in, main_phase, wo
 use Rattle.host_streams.specs.MainMoves.{MovesMain}
 use Rattle.awk_values.specs.Values.{number_of_value}
 use Rattle.host_streams.specs.Passing.{AreThere, Skips, StandardStays}
+use Rattle.host_streams.specs.Given.{GivesNone}
 use Rattle.host_streams.proofs.Held.{is_broken}
 use Rattle.host_streams.proofs.MainFound.{FoundSoFar}
 use Rattle.host_streams.proofs.Passed.{SoFarMain}
@@ -15,6 +16,7 @@ invariant-steps g l =
     let w = g.W.World in
     record {
       moves : MovesMain w.is_modelled l.fn.self l.self (w.kinds l.fn.world) (w.kinds l.world) (w.state l.fn.world) (w.state l.world);
+      gives : GivesNone w.did l.fn.world l.world;
       count : w.count l.world ≡ w.count l.fn.world;
       phase : is_broken (main_phase l.self) ≡ is_broken (main_phase l.fn.self);
       ended : l.self.ended ≡ l.fn.self.ended;

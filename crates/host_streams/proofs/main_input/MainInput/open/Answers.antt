@@ -71,6 +71,7 @@ returns g c =
     let whole = fresh_phase old r kinds c.requires.idle c.requires.held c.requires.live is.fresh in
     let count = opened_counts r (w.count c.args.world.now) (w.count c.open_operand.new.world) c.in_default.not-Nothing is.count in
     record {
+      gives = c.in_ok-opened.ensures.gives;
       moves = opens old r kinds (w.kinds c.open_operand.new.world) before after c.requires.idle c.requires.held is.held is.opened is.no_others
           is.places is.outside;
       told = λ tells inner.
@@ -105,6 +106,7 @@ returns-in-Nothing g c =
     let whole = fresh_phase old r kinds c.requires.idle c.requires.held c.requires.live is.fresh in
     let count = subst (λ (r : Reading). OperandCounts (Ok r) (w.count c.args.world.now) (w.count c.open_operand.new.world)) c.in-Nothing.is is.count in
     record {
+      gives = c.in_ok-opened.ensures.gives;
       moves = opens old r kinds (w.kinds c.open_operand.new.world) before after c.requires.idle c.requires.held is.held is.opened is.no_others
           is.places is.outside;
       told = λ tells inner.
@@ -137,6 +139,7 @@ returns-in_err-opened g c =
     let call = c.in_err-opened.ensures in
     let p = err_from_is_err_and c.from_residual.result c.from_residual.ensures.1 in
     rw (p.1, p.2, call.memory, call.not_opened, call.count) (record {
+      gives = c.in_err-opened.ensures.gives;
       moves = still c.requires.held (λ k h. h) (λ k h. h) call.refused;
       told = λ tells inner. ap (λ (t : State). main_input (w.state c.args.world.now).outside (main_in c.args.self.now t inner)) (sym (call.refused tells));
       steps = short_step c.args.self.now c.requires.live c.requires.idle (w.count c.args.world.now);

@@ -8,6 +8,7 @@ use Rattle.host_streams.proofs.MainFound.{follow_finds, found_later, number_foun
 use Rattle.host_streams.proofs.MainSteps.{given_later, number_counts, number_given, number_phase, has_fault, has_none, has_one, none_left, rests}
 use Rattle.host_streams.proofs.Moves.{still}
 use Rattle.host_streams.proofs.Passed.{follow_answers, follow_idle, follow_more, follow_passes, none_there, number_answers, number_more, number_passes, one_there}
+use Rattle.host_streams.proofs.Given.{none_still}
 use Rattle.host_streams.proofs.main_input.MainInput.reach.Goals as goal
 
 pub returns-in-NoneLeft-clause-told : goal.returns-in-NoneLeft-clause-told
@@ -17,6 +18,7 @@ returns-in-NoneLeft-clause-told g c = λ tells inner offered.
 
 pub returns-in-Ok-true : goal.returns-in-Ok-true
 returns-in-Ok-true g c = record {
+  gives = c.take.ensures.gives;
   moves = c.take.ensures.moves;
   told = λ tells inner offered.
       given_later _ _ c.take.result _ _ _ (has_one (g.W.World.state c.args.world.now).outside (kept_in inner) (main_of c.args.self.now (g.W.World.state c.args.world.now)) _ c.args.self.now.next c.args.self.now.found (rests c.args.self.now (g.W.World.state c.args.world.now) c.requires.idle c.requires.live) c.in_default.not-NoneLeft (number_of_value c.args.argc.now) _
@@ -38,6 +40,7 @@ returns-in-Ok-true g c = record {
 
 pub returns-in-Ok-false : goal.returns-in-Ok-false
 returns-in-Ok-false g c = record {
+  gives = none_still g.W.World.did c.args.world.now;
   moves = let follow = c.follow-in-Ok-false.ensures in
       still (ap (λ r. r.id) follow.standard ∙ c.requires.held.0, follow.held (g.W.World.kinds c.args.world.now), follow.whole)
       (λ k apart. follow.apart k) (λ k apart. subst (IsApartFrom k) (sym c.requires.idle) tt) (λ tells. refl);
@@ -62,6 +65,7 @@ returns-in-Ok-false g c = record {
 
 pub returns-in-Err : goal.returns-in-Err
 returns-in-Err g c = record {
+  gives = none_still g.W.World.did c.args.world.now;
   moves = still c.requires.held (λ k h. h) (λ k h. h) (λ tells. refl);
   told = λ tells inner offered.
       let e = has_fault (g.W.World.state c.args.world.now).outside (kept_in inner) (main_of c.args.self.now (g.W.World.state c.args.world.now)) _ c.args.self.now.next c.args.self.now.found (rests c.args.self.now (g.W.World.state c.args.world.now) c.requires.idle c.requires.live) c.in_default.not-NoneLeft (number_of_value c.args.argc.now) c.in-Err.fault (ap number_of_value offered.count) (sym c.in-Err.ensures.value) in
@@ -115,3 +119,6 @@ returns-in-NoneLeft-clause-answers g c = follow_answers c.args.self.now.found c.
 
 pub returns-in-NoneLeft-clause-idle : goal.returns-in-NoneLeft-clause-idle
 returns-in-NoneLeft-clause-idle g c = follow_idle c.args.self.now.found c.follow.new.self.found c.follow.new.self.reading c.follow.result c.follow.ensures.follows
+
+pub returns-in-NoneLeft-clause-gives : goal.returns-in-NoneLeft-clause-gives
+returns-in-NoneLeft-clause-gives g c = none_still g.W.World.did c.args.world.now

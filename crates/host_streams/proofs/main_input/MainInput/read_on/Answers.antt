@@ -20,6 +20,7 @@ use Rattle.host_streams.specs.declared.reader.FileNext.TheVariants.{End, Failed,
 use Rattle.host_streams.specs.declared.reader.Phase.{Phase}
 use Rattle.host_streams.specs.declared.reader.Phase.TheVariants.{Open, Ended, Broken}
 use Rattle.host_streams.specs.declared.reader.Reader.{Reader}
+use Rattle.host_streams.proofs.Given.{none_then}
 use Rattle.host_streams.proofs.main_input.MainInput.read_on.Goals as goal
 
 -- the phase of the reader at hand is that of the main input
@@ -85,6 +86,7 @@ returns-in-Ok-Record g c =
     let m = g.W.World.count c.read.new.world in
     let handed = subst (λ (o : FileNext). HandsAt c.args.rs old.reading old.standard (Ok o) new.reading new.standard) is answer.handed in
     record {
+      gives = c.in-Ok-Record.ensures.gives;
       moves = read.moves;
       told = λ tells inner asked.
           let before = main_of old (g.W.World.state c.args.world.now) in
@@ -119,6 +121,7 @@ returns-in-Ok-Failed g c =
     let m = g.W.World.count c.read.new.world in
     let handed = subst (λ (o : FileNext). HandsAt c.args.rs old.reading old.standard (Ok o) new.reading new.standard) is answer.handed in
     record {
+      gives = c.in-Ok-Failed.ensures.gives;
       moves = read.moves;
       told = λ tells inner asked.
           let before = main_of old (g.W.World.state c.args.world.now) in
@@ -150,6 +153,7 @@ returns-in-Err g c =
     let n = g.W.World.count c.args.world.now in
     let m = g.W.World.count c.read.new.world in
     record {
+      gives = c.in-Err.ensures.gives;
       moves = read.moves;
       told = λ tells inner asked.
           let before = g.W.World.state c.args.world.now in
@@ -220,3 +224,6 @@ returns-in-Ok-End-clause-steps g c =
       ends = (c.requires.live, stops.ended ∙ read.ended ∙ c.requires.live);
       rests = tt;
     }
+
+pub returns-in-Ok-End-clause-gives : goal.returns-in-Ok-End-clause-gives
+returns-in-Ok-End-clause-gives g c = none_then g.W.World.did _ _ _ c.in-Ok-End.ensures.gives c.stop_reading.ensures.gives

@@ -6,6 +6,7 @@ use Rattle.host_streams.proofs.MainSteps.{no_bytes, skip_given}
 use Rattle.host_streams.proofs.Moves.{short_operand, short_step, still}
 use Rattle.host_streams.proofs.Passed.{one_skipped}
 use Rattle.host_streams.proofs.Refused.{is_stop}
+use Rattle.host_streams.proofs.Given.{none_still}
 use Rattle.host_streams.proofs.main_input.MainInput.take.Goals as goal
 
 pub returns-then-is_empty : goal.returns-then-is_empty
@@ -15,6 +16,7 @@ returns-then-is_empty g c =
     let no = c.if-is_empty.true in
     let empty = no_bytes c.as_slice.result.now c.in_ok-text.text text c.is_empty.result c.as_slice.ensures.value c.in_ok-text.ensures c.is_empty.ensures no in
     record {
+      gives = none_still g.W.World.did c.args.world.now;
       moves = still c.requires.held (λ k h. h) (λ k h. h) (λ tells. refl);
       told = λ tells inner. skip_given old (g.W.World.state c.args.world.now) text inner c.requires.idle c.requires.live c.requires.left empty;
       steps = record {
@@ -42,6 +44,7 @@ returns-in-None g c =
     let opened = c.open.ensures in
     let same = c.in_ok-text.ensures in
     record {
+      gives = c.open.ensures.gives;
       moves = opened.moves;
       told = λ tells inner.
           subst (λ (text : List ℕ). GivesOperand text inner c.args.self.now (w.state c.args.world.now) c.open.result c.open.new.self (w.state c.open.new.world))
@@ -56,6 +59,7 @@ returns-in-Some g c =
     let assigned = c.assign.ensures in
     let same = c.as_slice-in-Some.ensures.value ∙ c.in_ok-text.ensures in
     record {
+      gives = none_still g.W.World.did c.args.world.now;
       moves = still (rw (assigned.operand.standard, assigned.reading) c.requires.held) (λ k apart. subst (IsApartFrom k) (sym assigned.reading) apart)
           (λ k apart. subst (IsApartFrom k) assigned.reading apart) (λ tells. refl);
       told = λ tells inner.
@@ -68,6 +72,7 @@ returns-in-Some g c =
 
 pub returns-in_err-text : goal.returns-in_err-text
 returns-in_err-text g c = rw (is_stop c.from_residual.result c.from_residual.ensures.1) (record {
+  gives = none_still g.W.World.did c.args.world.now;
   moves = still c.requires.held (λ k h. h) (λ k h. h) (λ tells. refl);
   told = λ tells inner. refl;
   steps = short_step c.args.self.now c.requires.live c.requires.idle (g.W.World.count c.args.world.now);

@@ -8,6 +8,7 @@ use Rattle.host_streams.specs.declared.reader.Phase.TheVariants.{Ended, Broken}
 use Rattle.host_streams.specs.Readers.{Fills, OnlyReads, handed, left_in, unread}
 use Rattle.host_streams.proofs.Refused.{is_stop}
 use Rattle.host_streams.proofs.Turns.{end_handed, left_end, left_lost, left_more, less_work, more_handed, none_since, some_work}
+use Rattle.host_streams.proofs.Given.{none_still}
 use Rattle.host_streams.proofs.reader.Reader.more.Goals as goal
 
 same_only : (id : ℕ) (old new : State) → new ≡ old → OnlyReads id old new
@@ -31,6 +32,7 @@ returns-in-Ok-true g c =
     let all : drop c.compact.new.self.start now ≡ now = ap (λ n. drop n now) was.start in
     let does = λ (tells : w.is_modelled). filled {is = id} true (w.state c.args.world.now) (w.state c.fill.new.world) c.compact.new.self.kept.items now was.id c.in-Ok-true.field-0-test (fill.told tells) in
     let grows : length kept < length (drop c.compact.new.self.start now) = omega (arith, fill.grows c.in-Ok-true.field-0-test, ap length was.whole, ap length all, c.fill.new.kept.ok.0, c.compact.new.self.kept.ok.0) in record {
+      gives = c.in-Ok-true.ensures.gives;
       id = was.id;
       kinds = fill.kinds;
       count = fill.count;
@@ -57,6 +59,7 @@ returns-in-Ok-false g c =
     let all : drop c.compact.new.self.start now ≡ now = ap (λ n. drop n now) was.start in
     let same = all ∙ (fill.ended c.in-Ok-false.field-0-test ∙ was.whole) in
     let does = λ (tells : w.is_modelled). filled {is = id} false (w.state c.args.world.now) (w.state c.fill.new.world) c.compact.new.self.kept.items now was.id c.in-Ok-false.field-0-test (fill.told tells) in record {
+      gives = c.in-Ok-false.ensures.gives;
       id = was.id;
       kinds = fill.kinds;
       count = fill.count;
@@ -80,6 +83,7 @@ returns-in-Err-Failed g c =
     let was = c.in_ok-compact.ensures in
     let fill = c.in-Err-Failed.ensures in
     let does = λ (tells : w.is_modelled). not_filled {is = id} world_fault.Failed (w.state c.args.world.now) (w.state c.fill.new.world) c.compact.new.self.kept.items c.fill.new.kept.items was.id c.in-Err-Failed.field-0-is (fill.told tells) in record {
+      gives = c.in-Err-Failed.ensures.gives;
       id = was.id;
       kinds = fill.kinds;
       count = fill.count ∙ ap (λ (x : WorldFault). next_count {T = Bool} (Err x) (w.count c.args.world.now)) c.in-Err-Failed.field-0-is;
@@ -100,6 +104,7 @@ returns-in-Err-NoMemory g c =
     let rest = drop c.compact.new.self.start c.fill.new.kept.items in
     let same : rest ≡ kept = ap (λ n. drop n c.fill.new.kept.items) was.start ∙ (fill.failed ∙ was.whole) in
     let does = λ (tells : w.is_modelled). not_filled {is = id} world_fault.NoMemory (w.state c.args.world.now) (w.state c.fill.new.world) c.compact.new.self.kept.items c.fill.new.kept.items was.id c.in-Err-NoMemory.field-0-is (fill.told tells) in record {
+      gives = c.in-Err-NoMemory.ensures.gives;
       id = was.id;
       kinds = fill.kinds;
       count = fill.count ∙ ap (λ (x : WorldFault). next_count {T = Bool} (Err x) (w.count c.args.world.now)) c.in-Err-NoMemory.field-0-is;
@@ -116,6 +121,7 @@ pub returns-in_err-compact : goal.returns-in_err-compact
 returns-in_err-compact g c =
     let was = c.in_err-compact.ensures in
     rw (is_stop c.from_residual.result c.from_residual.ensures.1) (record {
+      gives = none_still g.W.World.did c.args.world.now;
       id = was.id;
       kinds = refl;
       count = refl;

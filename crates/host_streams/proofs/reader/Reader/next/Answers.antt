@@ -10,6 +10,7 @@ use Rattle.host_streams.specs.declared.reader.Turn.TheVariants.{Answer}
 use Rattle.host_streams.specs.declared.reader.Turn.{Turn}
 use Rattle.host_streams.specs.Readers.{left, unread, Answers, NextCounts, NextPhase, OnlyLimit, ScannedAgain, TurnCounts, TurnPhase, Turns}
 use Rattle.host_streams.proofs.Turns.{only_again, so_far_again, so_far_answered, so_far_refused}
+use Rattle.host_streams.proofs.Given.{none_then}
 use Rattle.host_streams.proofs.reader.Reader.next.Goals as goal
 
 counts_on : (p : Phase) (answer : FileNext) (n m : ℕ) → p ≢ Broken → TurnCounts (Ok (Answer answer)) n m → NextCounts p (Ok answer) n m
@@ -44,6 +45,7 @@ returns-in-Ok-Answer g c =
     let id = c.args.self.now.id in
     let first = w.count c.args.world.now in
     let last = w.count c.turn.new.world in record {
+      gives = none_then g.W.World.did _ _ _ c.turns.invariant.gives c.in-Ok-Answer.ensures.gives;
       id = turn.id ∙ was.id;
       kinds = turn.kinds ∙ was.kinds;
       count = counts_on c.args.self.now.phase c.in-Ok-Answer.answer first last was.started
@@ -67,6 +69,7 @@ returns-in-Err g c =
     let was = c.turns.invariant in
     let turn = c.in-Err.ensures in
     let id = c.args.self.now.id in record {
+      gives = none_then g.W.World.did _ _ _ c.turns.invariant.gives c.in-Err.ensures.gives;
       id = turn.id ∙ was.id;
       kinds = turn.kinds ∙ was.kinds;
       count = counts_refused c.args.self.now.phase c.in-Err.stop (w.count c.args.world.now) (w.count c.turn.new.world) (turn.count ∙ was.count);
@@ -89,6 +92,7 @@ turns-preserved g c =
     let turn = c.in-Ok-Again.ensures in
     let again = c.in-Ok-Again.field-0-is in
     let id = c.args.self.now.id in record {
+      gives = none_then g.W.World.did _ _ _ c.turns.invariant.gives c.in-Ok-Again.ensures.gives;
       id = turn.id ∙ was.id;
       live = subst (λ (t : Turn). TurnPhase (Ok t) c.turn.new.self.phase) again turn.phase;
       stays = λ e. turn.stays (was.stays e);

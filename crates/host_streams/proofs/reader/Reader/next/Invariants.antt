@@ -2,6 +2,7 @@ use Rattle.std.proofs.Common.{◌≡◌, ◌≢◌}
 use Rattle.host_streams.specs.declared.reader.Phase.TheVariants.{Broken}
 use Rattle.host_streams.specs.Looks.{IsScanned}
 use Rattle.host_streams.specs.Readers.{left, unread, EndStays, OnlyReads, work}
+use Rattle.host_streams.specs.Given.{GivesNone}
 use Rattle.host_streams.proofs.Turns.{SoFar}
 use Rattle.host_streams.proofs.reader.Reader.next.Given as goal
 
@@ -14,6 +15,7 @@ invariant-turns g l =
       stays : EndStays l.fn.self.phase l.self.phase;
       handed : SoFar l.fn.self.phase (unread l.fn.self) l.self.phase (unread l.self);
       known : IsScanned l.rs (unread l.self) l.known;
+      gives : GivesNone w.did l.fn.world l.world;
       kinds : w.kinds l.world ≡ w.kinds l.fn.world;
       count : w.count l.world ≡ w.count l.fn.world;
       started : l.fn.self.phase ≢ Broken;

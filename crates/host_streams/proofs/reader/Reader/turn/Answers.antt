@@ -13,6 +13,7 @@ use Rattle.world_core.specs.declared.world.Ending.TheVariants.{End as IsEnd, Fai
 use Rattle.host_streams.proofs.Cuts.{scanned_kept}
 use Rattle.host_streams.proofs.Turns.{again_handed, first_left, last_answers, last_counts, last_phase, last_rest, left_long, long_handed, lost, lost_handed, none_handed, record_handed, refused_handed}
 use Rattle.host_streams.proofs.Refused.{is_stop}
+use Rattle.host_streams.proofs.Given.{none_still}
 use Rattle.host_streams.proofs.reader.Reader.turn.Goals as goal
 
 told_refused : (rs : Option ℕ) {old new : Source} {stop : Stop} → stop ≡ NoMemory → new ≡ old → Answers rs old (Err stop) new
@@ -31,6 +32,7 @@ pub returns-in_ok-text-in-Record : goal.returns-in_ok-text-in-Record
 returns-in_ok-text-in-Record g c =
     let found = first_left c.args.self.now.phase c.args.rs (unread c.args.self.now) _ _ c.in_ok-text-in-Record.text _ c.in-Record.from c.in-Record.to c.in-Record.next c.requires.live c.unread.ensures c.in-Record.ensures c.in_ok-text-in-Record.ensures (c.unread_of.ensures ∙ ap (drop c.args.self.now.start) c.as_slice.ensures.value)
     (sym (drop-drop c.in-Record.next c.args.self.now.start c.args.self.now.kept.items)) in record {
+      gives = none_still g.W.World.did c.args.world.now;
       id = refl;
       kinds = refl;
       count = refl;
@@ -47,6 +49,7 @@ returns-in_ok-text-in-Record g c =
 pub returns-in-Long : goal.returns-in-Long
 returns-in-Long g c =
     let long = subst (λ (xs : List ℕ). IsLong c.args.rs xs) c.unread.ensures c.in-Long.ensures in record {
+      gives = none_still g.W.World.did c.args.world.now;
       id = refl;
       kinds = refl;
       count = refl;
@@ -67,6 +70,7 @@ returns-in-Ended g c =
     let last = c.last.ensures in
     let rest = last_rest c.args.rs text c.args.self.now c.last.result c.last.new.self last.answer in
     let answers = last_answers c.args.rs text c.args.self.now c.last.result c.last.new.self c.in-Ended.is (open_now.rest IsEnd) last.phase last.answer in record {
+      gives = none_still g.W.World.did c.args.world.now;
       id = last.id;
       kinds = refl;
       count = last_counts c.args.rs text c.args.self.now c.last.result c.last.new.self (g.W.World.count c.args.world.now) last.answer;
@@ -86,6 +90,7 @@ returns-in-Ok-false g c =
     let more = c.in-Ok-false.ensures in
     let test = c.in-Ok-false.field-0-test in
     let w = g.W.World in record {
+      gives = c.in-Ok-false.ensures.gives;
       id = more.id;
       kinds = more.kinds;
       count = subst (λ (b : Bool). MoreCounts (Ok b) (w.count c.args.world.now) (w.count c.more.new.world)) test more.count;
@@ -103,6 +108,7 @@ pub returns-in-Err : goal.returns-in-Err
 returns-in-Err g c =
     let more = c.in-Err.ensures in
     let none = more.keeps.0 in record {
+      gives = c.in-Err.ensures.gives;
       id = more.id;
       kinds = more.kinds;
       count = more.count;
@@ -120,6 +126,7 @@ pub returns-in-Ok-true : goal.returns-in-Ok-true
 returns-in-Ok-true g c =
     let open_now = subst (λ (xs : List ℕ). IsOpen c.args.rs xs c.in-More.from c.in-More.to (record { skipped = c.in-More.from; searched = c.in-More.searched })) c.unread.ensures c.in-More.ensures in
     let keeps : MoreKeeps c.args.self.now (Ok true) c.more.new.self = subst (λ (b : Bool). MoreKeeps c.args.self.now (Ok b) c.more.new.self) c.in-Ok-true.field-0-test c.in-Ok-true.ensures.keeps in record {
+      gives = c.in-Ok-true.ensures.gives;
       id = c.in-Ok-true.ensures.id;
       kinds = c.in-Ok-true.ensures.kinds;
       count = counts_true c.in-Ok-true.field-0-test c.in-Ok-true.ensures.count;
@@ -135,6 +142,7 @@ returns-in-Ok-true g c =
 
 pub returns-in_err-text-in-Record : goal.returns-in_err-text-in-Record
 returns-in_err-text-in-Record g c = rw (is_stop c.from_residual.result c.from_residual.ensures.1) (record {
+  gives = none_still g.W.World.did c.args.world.now;
   id = refl;
   kinds = refl;
   count = refl;

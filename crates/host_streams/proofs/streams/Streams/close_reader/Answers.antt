@@ -2,6 +2,7 @@ use Rattle.std.proofs.Common.{◌∙◌, sym, ap}
 use Rattle.host_streams.specs.OpenFiles.{reader_handle, reader_place, is_reader}
 use Rattle.host_streams.proofs.Places.{all_fail}
 use Rattle.host_streams.proofs.Closed.{beside_same, reader_kept, reader_was, shut_apart, shut_stays, in_same, names_fail, names_same, reader_apart, reader_go, reader_held, reader_names_left, reader_none, reader_open, reader_own, reader_there, reader_told}
+use Rattle.host_streams.proofs.Given.{none_one, none_still}
 use Rattle.host_streams.proofs.streams.Streams.close_reader.Goals as goal
 
 pub close-requires-clause-open : goal.close-requires-clause-open
@@ -86,3 +87,9 @@ returns-in-Some-clause-no_others g c = λ k none was.
       sym (rw c.close.ensures.kinds (shut_stays k c.remove-closed.result.reader.id (g.W.World.kinds c.args.world.now) apart)),
       (reader_was c.args.name.now c.args.self.now.readers.items c.args.self.now.writers.items c.in-Some.at found c.remove-closed.result c.remove-closed.ensures.value (g.W.World.kinds c.args.world.now) c.requires.held k apart (rw c.remove-closed.ensures.items at none.0), none.1),
     )
+
+pub returns-in-Some-clause-gives : goal.returns-in-Some-clause-gives
+returns-in-Some-clause-gives g c = none_one g.W.World.did _ _ c.close.ensures.did
+
+pub returns-in-None-clause-gives : goal.returns-in-None-clause-gives
+returns-in-None-clause-gives g c = none_still g.W.World.did c.args.world.now

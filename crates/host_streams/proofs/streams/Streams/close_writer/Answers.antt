@@ -2,6 +2,7 @@ use Rattle.std.proofs.Common.{◌∙◌, sym, ap}
 use Rattle.host_streams.specs.OpenFiles.{writer_handle, writer_place, is_writer}
 use Rattle.host_streams.proofs.Places.{all_fail}
 use Rattle.host_streams.proofs.Closed.{beside_same, writer_kept, writer_was, shut_apart, shut_stays, names_fail, names_same, readers_stay, writer_apart, writer_go, writer_held, writer_names_left, writer_none, writer_opened, writer_own, writer_there}
+use Rattle.host_streams.proofs.Given.{none_one, none_still}
 use Rattle.host_streams.proofs.streams.Streams.close_writer.Goals as goal
 
 pub close-requires-clause-open : goal.close-requires-clause-open
@@ -81,3 +82,9 @@ returns-in-Some-clause-no_others g c = λ k none was.
       sym (rw c.close.ensures.kinds (shut_stays k c.remove-closed.result.id (g.W.World.kinds c.args.world.now) apart)),
       (none.0, writer_was c.args.name.now c.args.self.now.readers.items c.args.self.now.writers.items c.in-Some.at found c.remove-closed.result c.remove-closed.ensures.value (g.W.World.kinds c.args.world.now) c.requires.held k apart (rw c.remove-closed.ensures.items at none.1)),
     )
+
+pub returns-in-Some-clause-gives : goal.returns-in-Some-clause-gives
+returns-in-Some-clause-gives g c = none_one g.W.World.did _ _ c.close.ensures.did
+
+pub returns-in-None-clause-gives : goal.returns-in-None-clause-gives
+returns-in-None-clause-gives g c = none_still g.W.World.did c.args.world.now

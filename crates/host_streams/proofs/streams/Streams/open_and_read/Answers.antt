@@ -11,6 +11,7 @@ use Rattle.host_streams.specs.declared.reader.Phase.{Phase}
 use Rattle.host_streams.specs.declared.reader.Phase.TheVariants.{Open}
 use Rattle.host_streams.specs.declared.streams.NamedReader.{NamedReader}
 use Rattle.host_streams.proofs.Opened.{not_added, not_opened}
+use Rattle.host_streams.proofs.Given.{none_then}
 use Rattle.host_streams.proofs.streams.Streams.open_and_read.Goals as goal
 
 -- it does not open
@@ -67,6 +68,7 @@ returns-in-Ok-None g c =
     let is = c.in-Ok-None.field-0-is in
     let old = c.args.self.now.readers.items in
     let new = c.open_reader.new.self.readers.items in record {
+      gives = c.in-Ok-None.ensures.gives;
       held = opened.held;
       writers = opened.writers;
       count = subst (λ (x : Option ℕ). OpenCounts (Ok x) (w.count c.args.world.now) (w.count c.open_reader.new.world)) is opened.count;
@@ -88,6 +90,7 @@ returns-in-Err g c =
     let opened = c.in-Err.ensures in
     let old = c.args.self.now.readers.items in
     let new = c.open_reader.new.self.readers.items in record {
+      gives = c.in-Err.ensures.gives;
       held = opened.held;
       writers = opened.writers;
       count = opened.count;
@@ -120,6 +123,7 @@ returns-in-Ok-Some g c =
     let last = w.count c.next_at.new.world in
     let same = subst (λ (x : Option ℕ). OpenCounts (Ok x) (w.count c.args.world.now) (w.count c.open_reader.new.world)) is opened.count in
     let next = subst (λ (p : Phase). NextPhase p answer (phase_named name new)) phase read.phase in record {
+      gives = none_then g.W.World.did _ _ _ c.in-Ok-Some.ensures.gives c.next_at.ensures.gives;
       held = read.held;
       writers = read.writers ∙ opened.writers;
       count = subst (λ (n : ℕ). NextCounts Open answer n last) same (subst (λ (p : Phase). NextCounts p answer (w.count c.open_reader.new.world) last) phase read.count);

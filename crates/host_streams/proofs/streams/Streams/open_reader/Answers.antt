@@ -16,6 +16,7 @@ use Rattle.world_core.specs.declared.world.WorldFault.{WorldFault}
 use Rattle.sem_primitives.specs.InputMeaning.{source_if, source_of}
 use Rattle.host_streams.specs.OpenFiles.{WritersGo}
 use Rattle.host_streams.proofs.Refused.{is_stop}
+use Rattle.host_streams.proofs.Given.{none_one, none_still}
 use Rattle.host_streams.proofs.streams.Streams.open_reader.Goals as goal
 
 shut_named : (name : List ℕ) (state : State) → IsShut (state.outside (Named name)) → source_of (state.outside (Named name)) ≡ None
@@ -146,6 +147,7 @@ pub returns-in_err-own : goal.returns-in_err-own
 returns-in_err-own g c =
     let room = may_by c.args.self.now (few_streams c.args.self.now (length c.as_slice.result.now) (length c.as_slice-2.result.now) (ap length c.as_slice.ensures.value) (ap length c.as_slice-2.ensures.value) c.if-as_slice-ge-MAX_STREAMS.false) in
     rw (is_stop c.from_residual.result c.from_residual.ensures.1) (record {
+      gives = none_still g.W.World.did c.args.world.now;
       held = c.requires.held;
       writers = refl;
       count = refl;
@@ -166,6 +168,7 @@ pub returns-in_err-reserve : goal.returns-in_err-reserve
 returns-in_err-reserve g c =
     let room = may_by c.args.self.now (few_streams c.args.self.now (length c.as_slice.result.now) (length c.as_slice-2.result.now) (ap length c.as_slice.ensures.value) (ap length c.as_slice-2.ensures.value) c.if-as_slice-ge-MAX_STREAMS.false) in
     rw (is_stop c.from_residual-in_err-reserve.result c.from_residual-in_err-reserve.ensures.1, c.reserve.ensures.items) (record {
+      gives = none_still g.W.World.did c.args.world.now;
       held = c.requires.held;
       writers = refl;
       count = refl;
@@ -190,6 +193,7 @@ returns-in-Err-Failed g c =
     let call = c.in-Err-Failed.ensures in
     let shut = λ (tells : w.is_modelled). subst (λ (x : WorldFault). OpensToRead c.args.name.now before (Err x) (w.state c.open_read.new.self)) c.in-Err-Failed.field-0-is (call.told tells) in
     rw (c.reserve.ensures.items, call.not_opened) (record {
+      gives = none_one g.W.World.did _ _ c.in-Err-Failed.ensures.did;
       held = c.requires.held;
       writers = refl;
       count = call.count ∙ ap (λ (x : WorldFault). next_count {T = ℕ} (Err x) (w.count c.args.world.now)) c.in-Err-Failed.field-0-is;
@@ -214,6 +218,7 @@ returns g c =
     let call = c.in-Err-NoMemory.ensures in
     let shut = λ (tells : w.is_modelled). subst (λ (x : WorldFault). OpensToRead c.args.name.now before (Err x) (w.state c.open_read.new.self)) c.in-Err-NoMemory.field-0-is (call.told tells) in
     rw (c.reserve.ensures.items, call.not_opened) (record {
+      gives = none_one g.W.World.did _ _ c.in-Err-NoMemory.ensures.did;
       held = c.requires.held;
       writers = refl;
       count = call.count ∙ ap (λ (x : WorldFault). next_count {T = ℕ} (Err x) (w.count c.args.world.now)) c.in-Err-NoMemory.field-0-is;
@@ -229,3 +234,9 @@ returns g c =
       no_others = λ k none was. (refl, none);
       places = λ tells k none was. (ap (λ (t : State). t.readers k) (shut tells), ap (λ (t : State). t.writers k) (shut tells));
     })
+
+pub returns-in-Ok-clause-gives : goal.returns-in-Ok-clause-gives
+returns-in-Ok-clause-gives g c = none_one g.W.World.did _ _ c.in-Ok.ensures.did
+
+pub returns-then-as_slice-ge-MAX_STREAMS-clause-gives : goal.returns-then-as_slice-ge-MAX_STREAMS-clause-gives
+returns-then-as_slice-ge-MAX_STREAMS-clause-gives g c = none_still g.W.World.did c.args.world.now

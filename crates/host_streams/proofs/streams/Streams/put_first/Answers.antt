@@ -1,15 +1,15 @@
-use Rattle.std.proofs.Common.{◌≡◌, ◌∙◌, ◌++◌, ◌∷◌, ◌+◌, ◌<◌, [], ℕ, List, Bool, Result, Err, take, Ok, true, false, length, refl, sym, subst, ap, arith}
+use Rattle.std.proofs.Common.{inl, ◌≡◌, ◌∙◌, ◌++◌, ◌∷◌, ◌+◌, ◌<◌, [], ℕ, List, Bool, Result, Err, take, Ok, true, false, length, refl, sym, subst, ap, arith}
 use Rattle.std.proofs.lemmas.Result.{err_from_is_err_and}
 use Rattle.sem_primitives.specs.Finds.{seen}
 use Rattle.sem_primitives.specs.OutputMeaning.{opened_if, written_by}
-use Rattle.world_core.specs.WorldState.{Named}
+use Rattle.world_core.specs.WorldState.{Named, Open}
 use Rattle.host_streams.specs.declared.streams.NamedWriter.{NamedWriter}
 use Rattle.host_streams.specs.OpenFiles.{has_room, names_of, writer_place}
 use Rattle.host_streams.specs.Outputs.{IsOf}
 use Rattle.awk_values.specs.declared.fault.Fault.TheVariants.{TooManyStreams}
 use Rattle.awk_values.specs.declared.fault.Stop.TheVariants.{Fault as IsFault, NoMemory}
 use Rattle.host_streams.specs.Puts.{EndsPut, IsOver}
-use Rattle.host_streams.proofs.Begun.{begins_first, few_streams, many_streams, may_by, may_not, nothing_ends, put_refused, put_room, room_is}
+use Rattle.host_streams.proofs.Begun.{begins_first, few_streams, many_streams, may_by, may_not, no_room, nothing_ends, put_refused, put_room, room_is}
 use Rattle.host_streams.proofs.Outputs.{go_last, go_spared, none_but_last, was_kind, held_written, kind_stays, names_last, none_more, other_number, with_missing, writer_missing}
 use Rattle.std.proofs.lemmas.List.{take_all}
 use Rattle.host_streams.proofs.Refused.{is_stop}
@@ -19,6 +19,7 @@ use Rattle.awk_values.specs.declared.fault.Stop.{Stop}
 use Rattle.world_core.specs.WorldState.{State}
 use Rattle.sem_primitives.specs.SharedState.{HostResult}
 use Rattle.host_streams.specs.Puts.{PutCounts, PutsBy}
+use Rattle.host_streams.proofs.GivenTexts.{first_failed, first_given, none_given}
 use Rattle.host_streams.proofs.streams.Streams.put_first.Goals as goal
 
 -- a refusal is the same whatever would be answered else
@@ -121,6 +122,7 @@ returns-in_err-own g c = rw (is_stop c.from_residual.result c.from_residual.ensu
   spares = λ tells. record { readers = λ k was. refl; writers = λ k was. refl };
   ends = nothing_ends (Unit {0}) (has_room c.args.self.now) c.args.text.now;
   begun = (0, λ tells shared is. refl);
+  given = none_given g.W.World.is_modelled g.W.World.did c.args.world.now c.args.self.now.writers.items _ (g.W.World.state c.args.world.now) (Err NoMemory) _ _ (inl refl) (λ tells shared is. (0, refl));
   told = λ tells shared is. (0, refl);
 })
 
@@ -138,6 +140,7 @@ returns-in_err-reserve g c = rw (is_stop c.from_residual-in_err-reserve.result c
   spares = λ tells. record { readers = λ k was. refl; writers = λ k was. refl };
   ends = nothing_ends (Unit {0}) (has_room c.args.self.now) c.args.text.now;
   begun = (0, λ tells shared is. refl);
+  given = none_given g.W.World.is_modelled g.W.World.did c.args.world.now c.args.self.now.writers.items _ (g.W.World.state c.args.world.now) (Err NoMemory) _ _ (inl refl) (λ tells shared is. (0, refl));
   told = λ tells shared is. (0, refl);
 })
 
@@ -229,3 +232,30 @@ returns-then-as_slice-ge-MAX_STREAMS-clause-spares g c = λ tells. record { read
 
 pub returns-then-as_slice-ge-MAX_STREAMS-clause-begun : goal.returns-then-as_slice-ge-MAX_STREAMS-clause-begun
 returns-then-as_slice-ge-MAX_STREAMS-clause-begun g c = tt
+
+pub returns-then-as_slice-ge-MAX_STREAMS-clause-given : goal.returns-then-as_slice-ge-MAX_STREAMS-clause-given
+returns-then-as_slice-ge-MAX_STREAMS-clause-given g c =
+    let many = many_streams c.args.self.now (length c.as_slice.result.now) (length c.as_slice-2.result.now) (ap length c.as_slice.ensures.value) (ap length c.as_slice-2.ensures.value) c.if-as_slice-ge-MAX_STREAMS.true in
+    none_given g.W.World.is_modelled g.W.World.did c.args.world.now c.args.self.now.writers.items _ (g.W.World.state c.args.world.now) (Err (IsFault TooManyStreams)) _ _ refl
+    (λ tells shared is. ap (λ (b : Bool). (opened_if b (seen shared.inner shared.outside (Named c.args.name.now)).opens c.args.name.now c.args.append c.args.text.now shared).added) (sym (no_room c.args.self.now (g.W.World.state c.args.world.now) shared is many)))
+
+pub returns-in_err-id-clause-given : goal.returns-in_err-id-clause-given
+returns-in_err-id-clause-given g c =
+    let p = err_from_is_err_and c.from_residual-in_err-id.result c.from_residual-in_err-id.ensures.1 in
+    let few = few_streams c.args.self.now (length c.as_slice.result.now) (length c.as_slice-2.result.now) (ap length c.as_slice.ensures.value) (ap length c.as_slice-2.ensures.value) c.if-as_slice-ge-MAX_STREAMS.false in
+    let state = g.W.World.state c.args.world.now in
+    rw (p.1, p.2, c.reserve.ensures.items) (first_failed g.W.World.is_modelled g.W.World.did _ _ (g.W.World.kinds c.args.world.now) c.args.self.now.writers.items c.args.name.now (Open c.args.name.now c.args.append ∷ []) c.args.text.now c.in_err-id.field-0.0 state _
+    (IsOf c.args.self.now state) _ (written_by false c.args.name.now c.args.append c.args.text.now) (g.met.W.World.output c.args.world.now) c.requires.held.1
+    (λ tells shared is. (record { kept = is.kept; outside = is.outside }, sym (ap (λ b. (opened_if b (seen shared.inner shared.outside (Named c.args.name.now)).opens c.args.name.now c.args.append c.args.text.now shared).added) (room_is c.args.self.now state shared is few))))
+    c.in_err-id.ensures.given)
+
+pub returns-clause-given : goal.returns-clause-given
+returns-clause-given g c =
+    let w : NamedWriter = record { name = c.in_ok-own.own; id = c.in_ok-id.id } in
+    let items = c.push_reserved.ensures.items ∙ ap (λ xs. xs ++ w ∷ []) c.reserve.ensures.items in
+    let few = few_streams c.args.self.now (length c.as_slice.result.now) (length c.as_slice-2.result.now) (ap length c.as_slice.ensures.value) (ap length c.as_slice-2.ensures.value) c.if-as_slice-ge-MAX_STREAMS.false in
+    let state = g.W.World.state c.args.world.now in
+    rw items (first_given g.W.World.is_modelled g.W.World.did _ _ (g.W.World.kinds c.args.world.now) c.args.self.now.writers.items w c.args.name.now (Open c.args.name.now c.args.append ∷ []) c.args.text.now c.in_ok-id.id state _
+    (IsOf c.args.self.now state) _ (written_by false c.args.name.now c.args.append c.args.text.now) (g.met.W.World.output c.args.world.now) c.requires.held.1 c.in_ok-own.ensures refl
+    (λ tells shared is. (record { kept = is.kept; outside = is.outside }, sym (ap (λ b. (opened_if b (seen shared.inner shared.outside (Named c.args.name.now)).opens c.args.name.now c.args.append c.args.text.now shared).added) (room_is c.args.self.now state shared is few))))
+    c.in_ok-id.ensures.given)

@@ -1,12 +1,14 @@
-use Rattle.std.proofs.Common.{[], ap, false, true}
+use Rattle.std.proofs.Common.{[], ap, false, true, refl}
 use Rattle.sem_primitives.specs.OutputMeaning.{put_text, written}
 use Rattle.sem_primitives.specs.declared.constants.Destination.TheVariants as destination
+use Rattle.world_core.specs.WorldState.{Standard}
 use Rattle.host_streams.specs.OpenFiles.{has_room}
 use Rattle.host_streams.specs.Outputs.{IsOf}
 use Rattle.host_streams.specs.Puts.{IsOver}
 use Rattle.host_streams.proofs.Begun.{begins_as, ends_open}
 use Rattle.host_streams.proofs.Held.{go_same}
 use Rattle.host_streams.proofs.Outputs.{puts_file, puts_standard}
+use Rattle.host_streams.proofs.GivenTexts.{open_given}
 use Rattle.host_streams.proofs.streams.Streams.put_text.Goals as goal
 
 pub returns-in-Standard-clause-goes : goal.returns-in-Standard-clause-goes
@@ -38,3 +40,15 @@ returns-in-Emptied-clause-begun g c = rw c.in-Emptied.is c.put_file.ensures.begu
 
 pub returns-in-Appended-clause-begun : goal.returns-in-Appended-clause-begun
 returns-in-Appended-clause-begun g c = rw c.in-Appended.is c.put_file-in-Appended.ensures.begun
+
+pub returns-in-Standard-clause-given : goal.returns-in-Standard-clause-given
+returns-in-Standard-clause-given g c =
+    let state = g.W.World.state c.args.world.now in
+    rw c.in-Standard.is (open_given g.W.World.is_modelled g.W.World.did _ _ c.args.self.now.writers.items 1 Standard c.args.text.now state _ c.put_open.result (IsOf c.args.self.now state) (put_text destination.Standard [] c.args.text.now)
+    c.put_open.ensures.given c.put_open.ensures.ends (λ targets are. are.standard) (λ tells. g.met.W.World.standard c.args.world.now) (λ tells shared is. (record { kept = is.kept; outside = is.outside }, refl)))
+
+pub returns-in-Emptied-clause-given : goal.returns-in-Emptied-clause-given
+returns-in-Emptied-clause-given g c = rw c.in-Emptied.is c.put_file.ensures.given
+
+pub returns-in-Appended-clause-given : goal.returns-in-Appended-clause-given
+returns-in-Appended-clause-given g c = rw c.in-Appended.is c.put_file-in-Appended.ensures.given

@@ -2,7 +2,6 @@ use Rattle.std.proofs.Common.{◌-◌, ◌∙◌, ap, Some, rules}
 use Rattle.wasm_machine.specs.Confs.{conf_of}
 use Rattle.wasm_machine.specs.ViewConf.{program_of}
 use Rattle.wasm_machine.proofs.Stretching.{told_out}
-use Rattle.wasm_model.proofs.Reduced.{did_is}
 use Rattle.wasm_model.proofs.Whole.{ran_safe, out_of_steps}
 use Rattle.wasm_machine.proofs.machine.Machine.run_to_pause.Goals as goal
 

@@ -1,4 +1,4 @@
-use Rattle.std.proofs.Common.{◌≡◌, ◌∙◌, ap, sym, length, take}
+use Rattle.std.proofs.Common.{◌∙◌, ap, sym, length, take}
 use Rattle.wasm_model.specs.Runs.{MachineForm}
 use Rattle.wasm_machine.proofs.Waiting.{waiting_below}
 use Rattle.wasm_machine.proofs.machine.Machine.waiting.Goals as goal

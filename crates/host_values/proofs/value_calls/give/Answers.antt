@@ -1,5 +1,0 @@
-use Rattle.host_values.proofs.ReservedHandle.{reserved_put}
-use Rattle.host_values.proofs.value_calls.give.Goals as goal
-
-pub returns-after-put-clause-reserved : goal.returns-after-put-clause-reserved
-returns-after-put-clause-reserved c = reserved_put c.put.result _ _ _ c.put.ensures.below c.put.ensures.stored c.put.ensures.refused c.requires
