@@ -78,7 +78,7 @@ single_made all entry first stepped row f made = elim (cases_lt 1 row.count) [
   | inr few ↦ few
 ]
 
-place_last : (text : List ℕ) (i : ℕ) (first : Bool) → first ≡ nat_eq i 0 → i ≡ length text → IsAt text i first true
+pub place_last : (text : List ℕ) (i : ℕ) (first : Bool) → first ≡ nat_eq i 0 → i ≡ length text → IsAt text i first true
 place_last text i first is e = record {
   near = record { is_first = λ k. eqb-true i 0 (sym is ∙ k); is_last = λ _. e };
   first_is = λ k. is ∙ eq-eqb i 0 k;
@@ -86,8 +86,8 @@ place_last text i first is e = record {
 }
 
 -- threads of the row of those that were led on
-made_in : (all : List Node) (text : List ℕ) (entry j p s : ℕ) (first : Bool) (stepped : Set) (row : Row) (f : ℕ → ℕ) → (made : IsMade all entry false first 0 stepped row f) → SetRuns all text j p made.begun s → (k : ℕ) × SetRuns all text j p (threads_of row) k
-made_in all text entry j p s first stepped row f made r =
+pub made_in : (all : List Node) (text : List ℕ) (entry j p s n : ℕ) (found first : Bool) (stepped : Set) (row : Row) (f : ℕ → ℕ) → (made : IsMade all entry found first n stepped row f) → SetRuns all text j p made.begun s → (k : ℕ) × SetRuns all text j p (threads_of row) k
+made_in all text entry j p s n found first stepped row f made r =
     let h = made.closes.within.at r.id s r.holds in
     let o = spread_holds f (threads_of row) r.id h.first h.holds in
     (o.number, record { steps = r.steps; id = r.id; holds = o.holds; run = r.run })
@@ -96,7 +96,7 @@ made_in all text entry j p s first stepped row f made r =
 begun_in : (all : List Node) (text : List ℕ) (entry j p m : ℕ) (first : Bool) (stepped : Set) (row : Row) (f : ℕ → ℕ) → length stepped ≡ length all → IsMade all entry false first 0 stepped row f → Runs all text j m entry p → (k : ℕ) × SetRuns all text j p (threads_of row) k
 begun_in all text entry j p m first stepped row f len made run =
     let h = made.begins.here (omega (arith, runs_within all text j m entry p run, len)) in
-    made_in all text entry j p h.first first stepped row f made (record { steps = m; id = entry; holds = h.holds; run = run })
+    made_in all text entry j p h.first 0 false first stepped row f made (record { steps = m; id = entry; holds = h.holds; run = run })
 
 pub crowded_begins : (all : List Node) (text : List ℕ) (entry from to : ℕ) (crowd : Crowd) → HasGathered all entry (nat_eq from 0) crowd to → IsCrowded all text entry from from to crowd
 crowded_begins all text entry from to crowd g = record {
@@ -166,7 +166,7 @@ module _ (all : List Node) (text : List ℕ) (entry from i state : ℕ) (classes
           let held = holds_cut row.count (threads_of row) o.1.id o.0 o.1.holds (let x = known.few o.1.id o.0 o.1.holds in omega (arith, x)) in
           let n = step_on all text j i byte row.first false (cut row.count (threads_of row)) l.leap.stepped (place_in text i row.first is_first inside) here (omega (arith, r)) (length_cut row.count (threads_of row) ∙ len) (closed_cut all row.first false 0 row.count (threads_of row) known.closed) st o.0 (record { steps = o.1.steps; id = o.1.id; holds = held; run = o.1.run }) in
           let w = l.leap.made.begins.within.at n.runs.id n.first n.runs.holds in
-          made_in all text entry j (i + 1) w.first false l.leap.stepped l.leap.row l.leap.f l.leap.made (record { steps = n.runs.steps; id = n.runs.id; holds = w.holds; run = n.runs.run }))
+          made_in all text entry j (i + 1) w.first 0 false false l.leap.stepped l.leap.row l.leap.f l.leap.made (record { steps = n.runs.steps; id = n.runs.id; holds = w.holds; run = n.runs.run }))
     ];
   }
     where

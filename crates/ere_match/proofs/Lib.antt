@@ -16,3 +16,4 @@ pub mod Tested
 pub mod Firsts
 pub mod Crowds
 pub mod Sweeps
+pub mod Ends

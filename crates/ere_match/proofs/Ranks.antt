@@ -55,6 +55,20 @@ rank_holds (suc m ∷ xs) zero n e = ap (λ i. Some (Some i)) (let x : m ≡ n =
 rank_holds (zero ∷ xs) (suc k) n e = rank_holds xs k n e
 rank_holds (suc m ∷ xs) (suc k) n e = rank_holds xs k n e
 
+pub rank_thread : (xs : List ℕ) (k : ℕ) → 0 < get_or xs k 0 → (n : ℕ) × Holds (numbers xs) k n
+rank_thread xs k more = by (get_or xs k 0) refl
+  where
+    by : (r : ℕ) → get_or xs k 0 ≡ r → (n : ℕ) × Holds (numbers xs) k n
+    by zero e = absurd (omega (arith, e, more))
+    by (suc n) e = (n, record { is = rank_holds xs k n e })
+
+pub holds_rank : (xs : List ℕ) (k n : ℕ) → Holds (numbers xs) k n → 0 < get_or xs k 0
+holds_rank [] k n h = absurd (let e = h.is in cc)
+holds_rank (zero ∷ xs) zero n h = absurd (let e = h.is in cc)
+holds_rank (suc m ∷ xs) zero n h = omega arith
+holds_rank (zero ∷ xs) (suc k) n h = holds_rank xs k n (record { is = h.is })
+holds_rank (suc m ∷ xs) (suc k) n h = holds_rank xs k n (record { is = h.is })
+
 pub rank_small : (xs : List ℕ) (k bound : ℕ) → ((id s : ℕ) → Holds (numbers xs) id s → s < bound) → get_or xs k 0 ≤ bound
 rank_small xs k bound few = by (get_or xs k 0) refl
   where

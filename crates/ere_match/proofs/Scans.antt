@@ -6,7 +6,7 @@ use Rattle.std.proofs.lemmas.Option.{slice_get_past}
 use Rattle.ere_match.specs.declared.node.Node.{Node}
 use Rattle.ere_match.specs.declared.node.Node.TheVariants as nodes
 use Rattle.ere_match.specs.Runs.{Runs}
-use Rattle.ere_match.specs.Threads.{IsAt, IsNear, Holds, IsSeeded, IsClosure, IsClosedFrom, IsStepped, IsAccepted, IsBest, IsOpen, AreThreads, IsSettled, better_of}
+use Rattle.ere_match.specs.Threads.{IsAt, IsNear, Holds, IsSeeded, IsClosure, IsClosedFrom, IsStepped, IsAccepted, IsBest, IsOpen, AreThreads, IsSettled, SetRuns, better_of}
 use Rattle.ere_match.proofs.Paths.{go}
 use Rattle.ere_match.proofs.Steps.{runs_le, runs_within, AcceptsBy, step_on, step_back, ends_in}
 
@@ -92,8 +92,8 @@ module _ (all : List Node) (text : List ℕ) (entry from i : ℕ) where
         (w.first, omega (arith, o.1, w.early), record { steps = o.2.steps; id = o.2.id; holds = w.holds; run = o.2.run }));
   }
 
-  -- no thread is left
-  pub best_done : (new : Set) (p : ℕ × ℕ) (at : ℕ) → at ≤ i + 1 → AreThreads all text entry from at (i + 1) new (Some p) → ((id s : ℕ) → Holds new id s → ⊥) → IsBest all text entry from (i + 1) (Some p) → i < length text → IsBest all text entry from (length text + 1) (Some p)
+  -- no thread comes to an end
+  pub best_done : (new : Set) (p : ℕ × ℕ) (at : ℕ) → at ≤ i + 1 → AreThreads all text entry from at (i + 1) new (Some p) → ((j s : ℕ) → j ≤ length text → SetRuns all text j at new s → ⊥) → IsBest all text entry from (i + 1) (Some p) → i < length text → IsBest all text entry from (length text + 1) (Some p)
   best_done new p at near th empty b inside = (
     b.0,
     b.1,
@@ -104,7 +104,7 @@ module _ (all : List Node) (text : List ℕ) (entry from i : ℕ) where
       | inl before ↦ b.5 s j m above before run
       | inr later ↦ elim (cases_lt p.0 s) [
         | inl past ↦ (omega arith, λ e. absurd (omega arith))
-        | inr open' ↦ (let o = th.on s j m above (omega (arith, b.2, b.3)) (omega (arith, later, near)) open' run in absurd (empty o.2.id o.0 o.2.holds))
+        | inr open' ↦ (let o = th.on s j m above (omega (arith, b.2, b.3)) (omega (arith, later, near)) open' run in absurd (empty j o.0 (omega (arith, below)) o.2))
       ]
     ],
   )

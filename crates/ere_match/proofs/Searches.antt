@@ -6,6 +6,7 @@ use Rattle.std.proofs.lemmas.Bool.{cases_lt, eq-eqb, eqb-true, eqb-false, leb-fa
 use Rattle.ere_match.specs.declared.node.Node.{Node}
 use Rattle.ere_match.specs.declared.row.Row.{Row}
 use Rattle.ere_match.specs.declared.row.Table.{Table}
+use Rattle.ere_match.specs.Ends.{LeadsNowhere}
 use Rattle.ere_match.specs.Threads.{AreThreads, Holds, IsAt, IsBest, IsNear, IsOpen, IsSeeded, IsSettled, better_of}
 use Rattle.ere_match.specs.Rows.{Begins, HasBegun, HasMoved, IsIncreasing, IsMade, IsRow, IsSearching, IsSearchingAt, IsTable, cut, last_number, limit_of, spread, started_with, threads_of, with_new}
 use Rattle.ere_match.proofs.Ranks.{length_cut, length_spread}
@@ -15,7 +16,7 @@ use Rattle.ere_match.proofs.Spreads.{AreBelow, accepted_spread, closed_cut, clos
 abbrev Set : Type 0
 Set = List (Option ℕ)
 
-row_in : (a b : Row) → Some a ≡ Some b → a ≡ b
+pub row_in : (a b : Row) → Some a ≡ Some b → a ≡ b
 row_in a b e = cc
 
 with_old : (f : ℕ → ℕ) (n at k : ℕ) → k < n → with_new f n at k ≡ f k
@@ -177,12 +178,13 @@ module _ (all : List Node) (text : List ℕ) (entry from i : ℕ) (best : Option
       opens_less None t u le h = tt
       opens_less (Some p) t u le h = omega (arith, le, h)
 
-  pub search_over : (p : ℕ × ℕ) → row.count ≡ 0 → i < length text → better_of (started_with (λ k. get_or starts k 0) row.inside) i best ≡ Some p → IsBest all text entry from (length text + 1) (Some p)
+  pub search_over : (p : ℕ × ℕ) → LeadsNowhere all text i row → i < length text → better_of (started_with (λ k. get_or starts k 0) row.inside) i best ≡ Some p → IsBest all text entry from (length text + 1) (Some p)
   search_over p none inside is =
       let h = search_settled inside in
       let th = subst (AreThreads all text entry from i (i + 1) (spread (λ k. get_or starts k 0) (threads_of row))) is h.threads in
       let b = subst (IsBest all text entry from (i + 1)) is h.best in
-      best_done all text entry from i (spread (λ k. get_or starts k 0) (threads_of row)) p i (omega arith) th (λ id t holds. (let o = spread_holds (λ k. get_or starts k 0) (threads_of row) id t holds in let x = s.known.few id o.number o.holds in omega (arith, x, none))) b inside
+      best_done all text entry from i (spread (λ k. get_or starts k 0) (threads_of row)) p i (omega arith) th (λ j t within r.
+      (let o = spread_holds (λ k. get_or starts k 0) (threads_of row) r.id t r.holds in none j o.number within (record { steps = r.steps; id = r.id; holds = o.holds; run = r.run }))) b inside
 
 -- ---- the search goes on
 

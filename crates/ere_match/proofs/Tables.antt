@@ -66,14 +66,14 @@ get_past [] k le = refl
 get_past (x ∷ xs) zero le = absurd (omega (arith, le))
 get_past (x ∷ xs) (suc k) le = get_past xs k (omega (arith, le))
 
-slice_other : {X : Type 0} (xs : List X) (i k : ℕ) (x : X) → (k ≡ i → ⊥) → slice_get (set xs i x) k ≡ slice_get xs k
+pub slice_other : {X : Type 0} (xs : List X) (i k : ℕ) (x : X) → (k ≡ i → ⊥) → slice_get (set xs i x) k ≡ slice_get xs k
 slice_other [] i k x out = refl
 slice_other (y ∷ xs) zero zero x out = absurd (out refl)
 slice_other (y ∷ xs) zero (suc k) x out = refl
 slice_other (y ∷ xs) (suc i) zero x out = refl
 slice_other (y ∷ xs) (suc i) (suc k) x out = slice_other xs i k x (λ e. out (ap suc e))
 
-slice_here : {X : Type 0} (xs : List X) (i : ℕ) (x : X) → i < length xs → slice_get (set xs i x) i ≡ Some x
+pub slice_here : {X : Type 0} (xs : List X) (i : ℕ) (x : X) → i < length xs → slice_get (set xs i x) i ≡ Some x
 slice_here [] i x below = absurd (omega (arith, below))
 slice_here (y ∷ xs) zero x below = refl
 slice_here (y ∷ xs) (suc i) x below = slice_here xs i x (omega (arith, below))
@@ -170,7 +170,7 @@ slice_left [] x y k e = absurd cc
 slice_left (z ∷ xs) x y zero e = e
 slice_left (z ∷ xs) x y (suc k) e = slice_left xs x y k e
 
-slice_last : {X : Type 0} (xs : List X) (x y : X) (k : ℕ) → slice_get (xs ++ x ∷ []) k ≡ Some y → (slice_get xs k ≡ Some y) ⊎ (x ≡ y)
+pub slice_last : {X : Type 0} (xs : List X) (x y : X) (k : ℕ) → slice_get (xs ++ x ∷ []) k ≡ Some y → (slice_get xs k ≡ Some y) ⊎ (x ≡ y)
 slice_last [] x y zero e = inr (some_in x y e)
 slice_last [] x y (suc k) e = absurd cc
 slice_last (z ∷ xs) x y zero e = inl e

@@ -5,3 +5,4 @@ pub mod Leads
 pub mod Autos
 pub mod Rows
 pub mod Crowds
+pub mod Ends

@@ -4,11 +4,13 @@ ghost use Rattle.ere_syntax.specs.Tree.{Tree};
 ghost use Rattle.ere_syntax.specs.View.{view};
 ghost use Rattle.ere_syntax.specs.declared.fault.EreFault.TheVariants.{NoMemory};
 ghost use Rattle.ere_match.specs.Autos.{IsAutoOf};
+ghost use Rattle.ere_match.specs.Ends.{AreDeadEnds};
 ghost use Rattle.ere_syntax.specs.FirstMatch.{IsFirstMatch, IsMatch};
 
 use crate::assemble::{add, build as build_nodes};
 use crate::automaton::Auto;
 use crate::classes::classes_of;
+use crate::dead_ends::DeadEnds;
 use crate::lead::lead_of;
 use crate::node::Node;
 use crate::row::Table;
@@ -59,6 +61,29 @@ pub fn first_match(
         → IfOk result (λ found. IsFirstMatch t text.now from found) }
     ensures kept { (t : Tree) → IsAutoOf auto.old t → IsAutoOf auto.new t }
 {
+    let alloc = *auto.table.sources.allocator();
+    next_match(auto, text, from, &mut DeadEnds::none(alloc))
+}
+
+/// The match that `first_match` gives. All matches of one text, each looked for from the end of the one before, take linear time
+/// together if each call is given the same `ends`, which keep what the calls have found out.
+///
+/// # Errors
+///
+/// There is no memory; nothing is known of `ends` then.
+pub fn next_match(
+    auto: &mut Auto,
+    text: &[u8],
+    from: usize,
+    ends: &mut DeadEnds,
+) -> Result<Option<(usize, usize)>, AllocError>
+    requires inside { from ≤ length text.now }
+    requires ends { AreDeadEnds auto.old text.now ends.old }
+    ensures found { (t : Tree) → IsAutoOf auto.old t
+        → IfOk result (λ found. IsFirstMatch t text.now from found) }
+    ensures kept { (t : Tree) → IsAutoOf auto.old t → IsAutoOf auto.new t }
+    ensures ends { IfOk result (λ found. AreDeadEnds auto.new text.now ends.new) }
+{
     search(
         &auto.nodes,
         auto.entry,
@@ -67,6 +92,7 @@ pub fn first_match(
         &mut auto.table,
         text,
         from,
+        ends,
     )
 }
 

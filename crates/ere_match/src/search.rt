@@ -1,17 +1,19 @@
 //! A search by rows: the threads of all starts at once, as `scan` leads them, with a table of where each byte leads.
-ghost use Rattle.std.specs.Prelude.{◌≡◌, ◌+◌, ◌<◌, ◌≤◌, ◌^◌, ℕ, List, IfOk, None, length, true};
+ghost use Rattle.std.specs.Prelude.{◌≡◌, ◌+◌, ◌<◌, ◌≤◌, ◌^◌, ℕ, Bool, List, IfOk, None, Some, length, nat_eq, true};
 ghost use Rattle.std.proofs.Common.{get_or};
+ghost use Rattle.ere_match.specs.Ends.{AreDead, AreTails};
 ghost use Rattle.ere_match.specs.Leads.{IsLead};
-ghost use Rattle.ere_match.specs.Rows.{AreClasses, IsSearching, IsTable, is_soon, started};
-ghost use Rattle.ere_match.specs.Threads.{IsBest};
+ghost use Rattle.ere_match.specs.Rows.{AreClasses, IsRow, IsSearching, IsTable, is_soon, started};
+ghost use Rattle.ere_match.specs.Threads.{IsBest, SpecNode, better_of};
 
 use crate::advance::{advance, begin};
 use crate::crowd::may_match;
+use crate::dead_ends::DeadEnds;
 use crate::haste::hasten;
 use crate::lead::Lead;
 use crate::node::Node;
 use crate::numbers::unload;
-use crate::row::Table;
+use crate::row::{Row, Table};
 use crate::scan::{better, scan_on};
 use std::alloc::AllocError;
 
@@ -95,6 +97,26 @@ fn go_on(
     )
 }
 
+/// The best match at the end of the text.
+fn last(
+    row: &Row,
+    starts: &[usize],
+    end: usize,
+    best: Option<(usize, usize)>,
+    ends: &mut DeadEnds,
+) -> Option<(usize, usize)>
+    requires { (k : ℕ) → row.now.at_end ≡ Some k → k < length starts.now }
+    ensures best { result ≡ better_of (started starts.now row.now.at_end) end best }
+    ensures ends { (all : List SpecNode) (text : List ℕ) (on : Bool) → IsRow all row.now
+        → row.now.first ≡ nat_eq end 0 → end ≡ length text
+        → AreTails all text end end on row.now ends.old → AreDead all text ends.new }
+{
+    if row.at_end.is_some() {
+        ends.forget(end);
+    }
+    better(start_of(row.at_end, starts), end, best)
+}
+
 /// The least start not before a place, and its greatest end, of the runs from the entry. Where the table is emptied again and
 /// again, each time after few bytes, threads go on without it.
 pub(crate) fn search(
@@ -105,14 +127,17 @@ pub(crate) fn search(
     table: &mut Table,
     text: &[u8],
     from: usize,
+    ends: &mut DeadEnds,
 ) -> Result<Option<(usize, usize)>, AllocError>
     requires inside { from ≤ length text.now }
     requires lead { IsLead nodes.now entry lead.now }
     requires classes { AreClasses nodes.now classes.now }
     requires table { ∥ IsTable nodes.now entry classes.now table.old ∥₁ }
+    requires ends { AreDead nodes.now text.now ends.old }
     ensures best { IfOk result
         (λ found. ∥ IsBest nodes.now text.now entry from (length text.now + 1) found ∥₁) }
     ensures table { ∥ IsTable nodes.now entry classes.now table.new ∥₁ }
+    ensures ends { IfOk result (λ found. AreDead nodes.now text.now ends.new) }
 {
     let mut at = lead.find(text, from);
     let mut state = begin(nodes, entry, classes, table, at)?;
@@ -120,10 +145,10 @@ pub(crate) fn search(
     let mut emptied = None;
     while at < text.len() {
         let row = &table.rows[state];
-        let none = row.count == 0;
         best = better(start_of(row.inside, &table.starts), at, best);
         let found = best.is_some();
-        if found && none {
+        let done = ends.is_done(found, row, at)?;
+        if done {
             return Ok(best);
         }
         let rows = table.rows.len();
@@ -131,6 +156,7 @@ pub(crate) fn search(
         at += 1;
         if table.rows.len() < rows {
             if is_soon(emptied, at, rows) {
+                ends.forget(at);
                 return Ok(go_on(nodes, entry, classes, table, text, from, at, state, best));
             }
             emptied = Some(at);
@@ -141,6 +167,5 @@ pub(crate) fn search(
             state = next.1;
         }
     }
-    let accepted = table.rows[state].at_end;
-    Ok(better(start_of(accepted, &table.starts), text.len(), best))
+    Ok(last(&table.rows[state], &table.starts, text.len(), best, ends))
 }

@@ -2,12 +2,13 @@
 ghost use Rattle.std.specs.Prelude.{◌≡◌, ◌+◌, ◌≤◌, ℕ, IfErr, IfOk, IfSome, length};
 ghost use Rattle.ere_syntax.specs.Tree.{Tree};
 ghost use Rattle.ere_match.specs.Autos.{IsAutoOf};
+ghost use Rattle.ere_match.specs.Ends.{AreDeadEnds};
 ghost use Rattle.sem_primitives.specs.FirstMatch.{expression_of, first_match, longest};
 ghost use Rattle.host_format.specs.Outcomes.{IsStopOf};
 ghost use Rattle.host_format.specs.Expressions.{IsAuto, IsExpression, IsFirstBy, is_stop_of_ere, not_empty};
 
 use awk_values::{Fault, Stop};
-use ere_match::{Auto, build, first_match};
+use ere_match::{Auto, DeadEnds, build, next_match};
 use ere_syntax::{EreFault, read_ere};
 use std::alloc::{AllocError, Global};
 
@@ -46,17 +47,20 @@ pub(crate) fn first(
     auto: &mut Auto,
     text: &[u8],
     from: usize,
+    ends: &mut DeadEnds,
 ) -> Result<Option<(usize, usize)>, AllocError>
     requires auto { IsAuto auto.old }
     requires within { from ≤ length text.now }
+    requires ends { AreDeadEnds auto.old text.now ends.old }
     ensures found { (t : Tree) → IsAutoOf auto.old t
         → IfOk result (λ found. found ≡ first_match t text.now from) }
     ensures inside { IfOk result
         (λ found. IfSome found (λ m. (from ≤ m.0) × (m.0 ≤ m.1) × (m.1 ≤ length text.now))) }
     ensures kept { (t : Tree) → IsAutoOf auto.old t → IsAutoOf auto.new t }
     ensures auto { IsAuto auto.new }
+    ensures ends { IfOk result (λ found. AreDeadEnds auto.new text.now ends.new) }
 {
-    first_match(auto, text, from)
+    next_match(auto, text, from, ends)
 }
 
 /// The first match from a place on that is not empty.
@@ -64,18 +68,21 @@ pub(crate) fn first_not_empty(
     auto: &mut Auto,
     text: &[u8],
     from: usize,
+    ends: &mut DeadEnds,
 ) -> Result<Option<(usize, usize)>, AllocError>
     requires auto { IsAuto auto.old }
     requires within { from ≤ length text.now }
+    requires ends { AreDeadEnds auto.old text.now ends.old }
     ensures found { (t : Tree) → IsAutoOf auto.old t
         → IfOk result (λ found. IsFirstBy (not_empty t text.now) from (length text.now) found) }
     ensures inside { IfOk result
         (λ found. IfSome found (λ m. (from ≤ m.0) × (m.0 + 1 ≤ m.1) × (m.1 ≤ length text.now))) }
     ensures kept { (t : Tree) → IsAutoOf auto.old t → IsAutoOf auto.new t }
     ensures auto { IsAuto auto.new }
+    ensures ends { IfOk result (λ found. AreDeadEnds auto.new text.now ends.new) }
 {
     let mut at = from;
-    while let Some((start, end)) = first(auto, text, at)? {
+    while let Some((start, end)) = first(auto, text, at, ends)? {
         if start < end {
             return Ok(Some((start, end)));
         }

@@ -16,7 +16,7 @@ use crate::marks::Marks;
 use crate::sep::{Plain, Sep};
 use crate::span::{Span, push, put};
 use awk_values::Stop;
-use ere_match::Auto;
+use ere_match::{Auto, DeadEnds};
 use memchr::memchr;
 use std::alloc::{AllocError, Global};
 
@@ -111,8 +111,9 @@ fn split_by_ere(
         (AreSpans text.now spans.new.items (pieces (Expression t) newlines text.now)) }
     ensures kept { (t : Tree) → IsAutoOf auto.old t → IsAutoOf auto.new t }
 {
+    let mut ends = DeadEnds::new(*spans.allocator(), auto);
     let mut from = 0;
-    while let Some((start, end)) = first_not_empty(auto, text, from)? {
+    while let Some((start, end)) = first_not_empty(auto, text, from, &mut ends)? {
         let line = push_lines(spans, text, from, start, newlines)?;
         push(spans, line, start)?;
         from = end;

@@ -2,6 +2,7 @@
 ghost use Rattle.std.specs.Prelude.{◌≡◌, ℕ, ◌^◌, ◌<◌, ◌≤◌, ◌++◌, true, Bool, IfErr, IfOk, IfSome, List, None, Ok, Some, length, slice_range};
 ghost use Rattle.ere_syntax.specs.Tree.{Tree};
 ghost use Rattle.ere_match.specs.Autos.{IsAutoOf};
+ghost use Rattle.ere_match.specs.Ends.{AreDeadEnds};
 ghost use Rattle.sem_primitives.specs.TextMeaning.{behind, is_empty_at, replacement};
 ghost use Rattle.host_format.specs.Expressions.{IsAuto};
 ghost use Rattle.host_format.specs.Growing.{Grows};
@@ -12,7 +13,7 @@ use crate::eres::first;
 use crate::growing::Growing;
 use crate::replacement::put_replacement;
 use awk_values::{Bytes, Fault, Stop};
-use ere_match::Auto;
+use ere_match::{Auto, DeadEnds};
 use sem_primitives::MAX_TEXT;
 use std::alloc::{AllocError, Global};
 
@@ -41,19 +42,22 @@ fn next_place(
     text: &[u8],
     at: usize,
     last: Option<usize>,
+    ends: &mut DeadEnds,
 ) -> Result<Option<(usize, usize)>, AllocError>
     requires auto { IsAuto auto.old }
+    requires ends { AreDeadEnds auto.old text.now ends.old }
     ensures found { (t : Tree) → IsAutoOf auto.old t
         → IfOk result (IsNextPlace t text.now at last) }
     ensures inside { IfOk result
         (λ found. IfSome found (λ m. (at ≤ m.0) × (m.0 ≤ m.1) × (m.1 ≤ length text.now))) }
     ensures kept { (t : Tree) → IsAutoOf auto.old t → IsAutoOf auto.new t }
     ensures auto { IsAuto auto.new }
+    ensures ends { IfOk result (λ found. AreDeadEnds auto.new text.now ends.new) }
 {
     if at > text.len() {
         return Ok(None);
     }
-    let Some(place) = first(auto, text, at)? else {
+    let Some(place) = first(auto, text, at, ends)? else {
         return Ok(None);
     };
     if !is_repeated(place, last) {
@@ -62,7 +66,7 @@ fn next_place(
     if place.0 == text.len() {
         return Ok(None);
     }
-    let found = first(auto, text, place.0 + 1)?;
+    let found = first(auto, text, place.0 + 1, ends)?;
     Ok(found)
 }
 
@@ -97,8 +101,10 @@ fn put_all(
     by: &[u8],
     text: &[u8],
     first: (usize, usize),
+    ends: &mut DeadEnds,
 ) -> Result<usize, AllocError>
     requires auto { IsAuto auto.old }
+    requires ends { AreDeadEnds auto.old text.now ends.old }
     requires order { first.0 ≤ first.1 }
     requires inside { first.1 ≤ length text.now }
     ensures ok { (t : Tree) → IsAutoOf auto.old t → IsNextPlace t text.now 0 None (Some first)
@@ -114,7 +120,7 @@ fn put_all(
         count += 1;
         from = place.1;
         at = behind(place);
-        found = next_place(auto, text, at, Some(from))?;
+        found = next_place(auto, text, at, Some(from), ends)?;
     }
     out.put(&text[from..]);
     Ok(count)
@@ -128,8 +134,10 @@ fn put_replaced(
     text: &[u8],
     all: bool,
     first: (usize, usize),
+    ends: &mut DeadEnds,
 ) -> Result<usize, AllocError>
     requires auto { IsAuto auto.old }
+    requires ends { AreDeadEnds auto.old text.now ends.old }
     requires order { first.0 ≤ first.1 }
     requires inside { first.1 ≤ length text.now }
     ensures ok { (t : Tree) → IsAutoOf auto.old t → IsNextPlace t text.now 0 None (Some first)
@@ -137,7 +145,7 @@ fn put_replaced(
     ensures kept { (t : Tree) → IsAutoOf auto.old t → IsAutoOf auto.new t }
 {
     if all {
-        return put_all(out, auto, by, text, first);
+        return put_all(out, auto, by, text, first, ends);
     }
     put_place(out, by, text, 0, first);
     out.put(&text[first.1..]);
@@ -188,12 +196,13 @@ pub fn substitute(
     ensures err { (t : Tree) → IsAutoOf auto.old t
         → IfErr result (IsStopOf (substitution t by.now text.now all)) }
 {
-    let Some(first) = next_place(auto, text.as_slice(), 0, None)? else {
+    let mut ends = DeadEnds::new(alloc, auto);
+    let Some(first) = next_place(auto, text.as_slice(), 0, None, &mut ends)? else {
         return unchanged(text);
     };
     let bytes = Vec::with_capacity(alloc, text.len())?;
     let mut out = Growing { bytes, stop: None };
-    let count = put_replaced(&mut out, auto, by, text.as_slice(), all, first)?;
+    let count = put_replaced(&mut out, auto, by, text.as_slice(), all, first, &mut ends)?;
     let text = text_of(alloc, out.all()?)?;
     Ok(Substituted { count, text })
 }

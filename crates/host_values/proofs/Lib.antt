@@ -4,6 +4,7 @@ pub mod Matching
 pub mod ReservedHandle
 pub mod Steps
 pub mod ValueRows
+pub mod Powers
 pub mod OneHandle
 pub mod Places
 pub mod Reading

@@ -4,11 +4,13 @@ ghost use Rattle.sem_primitives.specs.Limits.{most_text};
 ghost use Rattle.sem_primitives.specs.ValueMeaning.{within_limit};
 ghost use Rattle.std.specs.Ordering.{int_cmp};
 ghost use Rattle.awk_values.specs.Comparison.{comparison, holds};
+ghost use Rattle.awk_values.specs.Operators.{power};
 ghost use Rattle.awk_values.specs.Values.{number_of_value, text_of_value};
+ghost use Rattle.awk_text.specs.NumberText.{InRange};
 ghost use Rattle.host_values.specs.declared.spent.Spent.{Spent};
 ghost use Rattle.host_step.specs.HostState.{HostState};
 ghost use Rattle.host_values.specs.Evaluations.{Evaluates, Values};
-ghost use Rattle.host_values.specs.ValueEvaluations.{compare_evaluation, concat_evaluation, dup_evaluation, fail_evaluation, int_of_evaluation, lit_evaluation, num_evaluation, pow_evaluation, to_num_evaluation, truth_evaluation, uninit_evaluation, value_reply};
+ghost use Rattle.host_values.specs.ValueEvaluations.{compare_evaluation, concat_evaluation, dup_evaluation, fail_evaluation, int_of_evaluation, lit_evaluation, num_evaluation, number_reply, pow_evaluation, to_num_evaluation, truth_evaluation, uninit_evaluation, value_reply};
 
 use crate::argument_words::{
     comparison_front, expect_end, fault_front, number_front, place_front, value_after, value_front,
@@ -243,6 +245,7 @@ pub fn text_len(value: &Value) -> usize
 /// # Errors
 ///
 /// There is no memory.
+#[inline(always)]
 pub fn push_text(out: &mut Vec<u8>, value: &Value) -> Result<(), AllocError>
     ensures { OnOk result (out.new.items ≡ out.old.items ++ text_of_value value.now) }
 {
@@ -312,6 +315,19 @@ pub fn concat(alloc: Global, handles: &Handles, words: &[Word]) -> Result<Evalua
     })
 }
 
+/// A power as an answer. It is in range without a test.
+#[inline(always)]
+fn power_reply(base: i64, exponent: i64) -> Result<Reply, Fault>
+    requires base { InRange base }
+    requires exponent { InRange exponent }
+    ensures { result ≡ number_reply (power base exponent) }
+{
+    match pow(base, exponent) {
+        Ok(number) => Ok(Reply::Number(number)),
+        Err(fault) => Err(fault),
+    }
+}
+
 /// A power of numbers.
 ///
 /// # Errors
@@ -325,7 +341,7 @@ pub fn power(words: &[Word]) -> Result<Evaluated, Refusal>
     let (base, behind_base) = number_front(words)?;
     let (exponent, rest) = number_front(behind_base)?;
     expect_end(rest)?;
-    Ok(unspent(number_reply(pow(base, exponent))))
+    Ok(unspent(power_reply(base, exponent)))
 }
 
 /// The fault that the script meets.

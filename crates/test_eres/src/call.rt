@@ -9,6 +9,7 @@ pub(crate) enum Call {
     First,
     Match,
     Threads,
+    All,
     Read,
     Found,
     Long,
@@ -25,12 +26,13 @@ fn long_of(kind: u8) -> Call {
 }
 
 /// The names of calls.
-static CALLS: [(&str, Call); 9] = [
+static CALLS: [(&str, Call); 10] = [
     ("tree", Call::Tree),
     ("set", Call::Set),
     ("first", Call::First),
     ("match", Call::Match),
     ("threads", Call::Threads),
+    ("all", Call::All),
     ("read", Call::Read),
     ("found", Call::Found),
     ("long", Call::Long),

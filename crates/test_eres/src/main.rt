@@ -6,6 +6,7 @@
 //! - `first ERE TEXT FROM`: where the first match from a place on begins and ends;
 //! - `match ERE TEXT`: whether there is a match, asked twice;
 //! - `threads ERE TEXT`: whether threads find the same first matches, from each place of the text on;
+//! - `all ERE PART COUNT ..`: how many matches the text has, which is the parts, each so many times, and whether each is found if it is looked for alone;
 //! - `read PART COUNT ..`: whether the parts, each so many times, have a tree; `found TEXT PART COUNT ..`: their first match in a text;
 //! - `long KIND LENGTH ERE`: how many matches of a long text are found, and where the first begins and ends;
 //! - `reversed`: the first match of an expression that is repeated at least three times and at most twice.

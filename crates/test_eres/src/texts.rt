@@ -20,6 +20,7 @@ pub(crate) fn expression_of(alloc: Global, call: Call, line: &str) -> Result<Vec
 
 pub(crate) fn text_of(alloc: Global, call: Call, line: &str) -> Result<Vec<u8>, AllocError> {
     match call {
+        Call::All => built(alloc, line, 2),
         Call::Found => bytes(alloc, line, 1),
         Call::Long | Call::LongAll => long_text(alloc, letter(line, 1), number(line, 2)),
         Call::Reversed => vec![in alloc; b'a'; 4],

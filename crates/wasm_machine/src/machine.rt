@@ -160,6 +160,8 @@ impl Machine {
             → H.halts (H.state host.old) ≡ false → H.halts (H.state host.new) ≡ true
             → CalledLast H.meaning self.old.program H.halts steps result.1 self.old.conf
             (H.state host.old) self.new.conf (H.state host.new) }
+        ensures again { IfSome self.old.ended
+            (λ e. (result ≡ (e, steps)) × (self.new ≡ self.old) × (host.new ≡ host.old)) }
         ensures ended { self.old.ended ≡ None → self.new.ended ≡ lasting result.0 }
     {
         if let Some(end) = self.ended {

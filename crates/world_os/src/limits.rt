@@ -1,5 +1,5 @@
 //! A world of which so many bytes are read and written at most.
-ghost use Rattle.std.specs.Prelude.{◌≡◌, ◌<◌, ◌≤◌, ◌+◌, ◌%◌, ◌^◌, ◌≢◌, ℕ, true, take, length, Err, IfOk, OnErr};
+ghost use Rattle.std.specs.Prelude.{◌≡◌, ◌<◌, ◌≤◌, ◌+◌, ◌%◌, ◌^◌, ◌≢◌, ℕ, true, take, length, Err, IfOk, OnErr, OnOk};
 ghost use Rattle.world_core.specs.Calls.{Closed, Closes, Opens, OpensToRead, OpensToWrite, Reading, Reads, Writes, Writing, next_count, set_kind};
 ghost use Rattle.world_core.specs.Traces.{IsHandedOn, Other, opening, writing};
 ghost use Rattle.world_os.specs.Limits.{AtLimit, MayPass, StartsWith, left, moved};
@@ -59,6 +59,8 @@ impl<W: World> LimitedWorld<W> {
         ensures over { self.old.input_is_over ≡ true
             → (result ≡ Err WorldFault.Failed) × (self.new.inner ≡ self.old.inner) }
         ensures stays { self.old.input_is_over ≡ true → self.new.input_is_over ≡ true }
+        ensures ended { OnOk result (self.new.input_is_over ≡ self.old.input_is_over) }
+        ensures refused { self.new.refused ≢ self.old.refused → self.new.input_is_over ≡ true }
         ensures output { self.new.output ≡ self.old.output }
         ensures input { self.new.input ≡ self.old.input }
     {
@@ -141,6 +143,9 @@ impl<W: World> World for LimitedWorld<W> {
             → 0 < length buffer.old
             → (result ≡ Err WorldFault.Failed) × (self.new.inner ≡ self.old.inner) }
         ensures stays { self.old.input_is_over ≡ true → self.new.input_is_over ≡ true }
+        ensures earlier { 0 < left self.old.input → self.new.input_is_over ≡ self.old.input_is_over }
+        ensures ended { OnOk result (self.new.input_is_over ≡ self.old.input_is_over) }
+        ensures refused { self.new.refused ≢ self.old.refused → self.new.input_is_over ≡ true }
         ensures output { self.new.output ≡ self.old.output }
     {
         let room = self.input.room(buffer.len());

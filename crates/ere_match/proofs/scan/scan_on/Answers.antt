@@ -10,7 +10,7 @@ returns-in-Some c = λ from above th0 b0.
     let t = subst (λ (o : Option (ℕ × ℕ)). AreThreads c.args.nodes.now c.args.text.now c.args.entry from (s.place + 1) (s.place + 1) c.cross-best.new.next o) c.in-Some.is (c.cross-best.ensures.threads from (omega (arith, above)) now.0 now.1) in
     let b = subst (λ (o : Option (ℕ × ℕ)). IsBest c.args.nodes.now c.args.text.now c.args.entry from (s.place + 1) o) c.in-Some.is (c.cross-best.ensures.best from (omega (arith, above)) now.0 now.1) in
     subst (λ (o : Option (ℕ × ℕ)). IsBest c.args.nodes.now c.args.text.now c.args.entry from (length c.args.text.now + 1) o) (sym c.in-Some.is)
-    (best_done c.args.nodes.now c.args.text.now c.args.entry from s.place c.cross-best.new.next _ (s.place + 1) (omega arith) t (c.is_empty.ensures (search rules)) b (omega arith)))
+    (best_done c.args.nodes.now c.args.text.now c.args.entry from s.place c.cross-best.new.next _ (s.place + 1) (omega arith) t (λ j n _ r. c.is_empty.ensures (search rules) r.id n r.holds) b (omega arith)))
 
 pub loop-place-preserved : goal.loop-place-preserved
 loop-place-preserved c =

@@ -11,6 +11,7 @@ returns-then-start-end c =
       inside = full_in c.args.from c.loop-start.at (length c.args.text.now) c.in-Some.start c.in-Some.end found c.in-Some.is c.in_ok-start.ensures.inside i.low c.if-start-end.true;
       kept = λ t a. c.first.ensures.kept t (i.kept t a);
       auto = c.first.ensures.auto;
+      ends = c.in_ok-start.ensures.ends;
     }
 
 pub returns-then-start-text : goal.returns-then-start-text
@@ -21,6 +22,7 @@ returns-then-start-text c =
       inside = tt;
       kept = λ t a. c.first.ensures.kept t (i.kept t a);
       auto = c.first.ensures.auto;
+      ends = c.in_ok-start.ensures.ends;
     }
 
 pub loop-start-preserved : goal.loop-start-preserved
@@ -32,6 +34,7 @@ loop-start-preserved c =
       low = next.0;
       high = next.1;
       auto = c.first.ensures.auto;
+      ends = c.in_ok-start.ensures.ends;
       kept = λ t a. c.first.ensures.kept t (i.kept t a);
       none = λ t a. skipped_at t c.args.text.now c.args.from c.loop-start.at found i.high (c.in_ok-start.ensures.found t (i.kept t a)) (i.none t a) c.in-Some.start c.in-Some.end c.in-Some.is c.if-start-end.false;
     }
@@ -44,6 +47,7 @@ returns c =
       inside = tt;
       kept = λ t a. c.first.ensures.kept t (i.kept t a);
       auto = c.first.ensures.auto;
+      ends = c.in_ok-start.ensures.ends;
     }
 
 pub loop-start-init : goal.loop-start-init
@@ -51,6 +55,7 @@ loop-start-init c = record {
   low = omega arith;
   high = c.requires.within;
   auto = c.requires.auto;
+  ends = c.requires.ends;
   kept = λ t a. a;
   none = λ t a. none_yet t c.args.text.now c.args.from;
 }

@@ -11,6 +11,7 @@ loop-found-init c = record {
   few = omega arith;
   high = omega arith;
   auto = c.requires.auto;
+  ends = c.requires.ends;
   kept = λ t a. a;
   place = (omega arith, c.requires.order, c.requires.inside);
   left = λ t a f. (None, f, left_start t c.args.by.now c.args.text.now c.args.out.now);
@@ -32,6 +33,7 @@ loop-found-preserved c =
       few = (let few = i.few in omega (arith, few, start, more, at));
       high = (let high = behind_high place in omega (arith, at, high, inside));
       auto = c.next_place.ensures.auto;
+      ends = c.in_ok-found.ensures.ends;
       kept = λ t a. c.next_place.ensures.kept t (i.kept t a);
       place = c.in_ok-found.ensures.inside;
       left = λ t a f.

@@ -1,9 +1,16 @@
 use Rattle.std.proofs.Common.{ℕ, List, Ok, Option, None, ap, refl, subst, sym, ◌∙◌}
 use Rattle.std.proofs.lemmas.Result.{err_from_is_err_and}
+use Rattle.ere_match.specs.Ends.{AreDeadEnds}
 use Rattle.host_format.specs.Substitutions.{IsNextPlace, IsReplaced}
 use Rattle.host_format.specs.declared.growing.Growing.{Growing}
 use Rattle.host_format.proofs.Left.{outcome_made, outcome_stopped}
 use Rattle.host_format.proofs.substitution.substitute.Goals as goal
+
+pub next_place-requires-clause-ends : goal.next_place-requires-clause-ends
+next_place-requires-clause-ends c = c.new-ends.ensures c.as_slice.result.now
+
+pub put_replaced-requires-clause-ends : goal.put_replaced-requires-clause-ends
+put_replaced-requires-clause-ends c = subst (λ (xs : List ℕ). AreDeadEnds c.next_place.new.auto xs c.next_place.new.ends) (c.as_slice.ensures.value ∙ sym c.as_slice-2.ensures.value) c.in_ok-first.ensures.ends
 
 pub returns-in_default-clause-ok : goal.returns-in_default-clause-ok
 returns-in_default-clause-ok c = λ t a.
