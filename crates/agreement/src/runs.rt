@@ -1,7 +1,7 @@
 //! A run over a host that is told by its tables is a run over a host of the table of imports.
 //!
 //! Laws of the definitions, each the contract of a function that does nothing.
-ghost use Rattle.std.specs.Prelude.{ℕ};
+ghost use Rattle.std.specs.Prelude.{ℕ, List};
 ghost use Rattle.sem_primitives.specs.Jobs.{JobForm};
 ghost use Rattle.wasm_model.specs.Links.{IsNew};
 ghost use Rattle.wasm_model.specs.Machines.{Conf};
@@ -9,7 +9,7 @@ ghost use Rattle.wasm_model.specs.Runs.{Did, MachineForm};
 ghost use Rattle.wasm_model.specs.declared.ends.MachineEnd.{MachineEnd};
 ghost use Rattle.wasm_types.specs.Syntax.{ModuleForm};
 ghost use Rattle.wasm_types.specs.Typing.{ModuleOk};
-ghost use Rattle.world_core.specs.WorldState.{Outside, Source};
+ghost use Rattle.world_core.specs.WorldState.{Action, Outside, Source};
 ghost use Rattle.host_imports.specs.Imports.{host_finds};
 ghost use Rattle.host_step.specs.Starts.{state_at_start};
 ghost use Rattle.host_values.specs.Forms.{HostForm};
@@ -18,7 +18,7 @@ ghost use Rattle.host_values.specs.Findings.{ShownFirst};
 ghost use Rattle.host_values.specs.Shown.{Shown};
 ghost use Rattle.sem_scripts.specs.ScriptRun.{Ending, Setting};
 ghost use Rattle.agreement.specs.Modules.Agreement.{Agreement};
-ghost use Rattle.agreement.specs.Runs.ToldRuns.{DoesSo, DoesSoThere, FoundRun, GoesOnThere, ToldRun, told_by};
+ghost use Rattle.agreement.specs.Runs.ToldRuns.{DoesSo, DoesSoThere, FoundRun, GoesOnThere, ToldRun, done_output, told_by};
 
 use world_core::World;
 
@@ -44,26 +44,28 @@ pub fn does_so()
 {}
 
 /// Over any world, what a machine did with a typed module is how the module may end in an environment that others change too, over a host of the table: there
-/// each opening, read and write finds the next of some list. Where memory was wanting, another run begins so.
+/// each opening, read and write finds the next of some list, with the same output. Where memory was wanting, another run begins with what was put out
+/// before the step that wanted it.
 pub fn found<W: World>()
     ensures { (m : ModuleForm) → ModuleOk m → (a : MachineForm) → IsNew host_finds m a
         → (job : JobForm) (input : Source) (outside : Outside)
         → (f : HostForm) → ShownFirst f job input outside
         → (steps : ℕ) (e : MachineEnd) (c : Conf) (g : HostForm)
-        → Did (form_meaning W.is_modelled) a.program steps a.conf (FormState.Told f) e c
-        (FormState.Told g)
-        → FoundRun m job steps e g }
+        → (d : Did (form_meaning W.is_modelled) a.program steps a.conf (FormState.Told f) e c
+        (FormState.Told g))
+        → FoundRun m job steps e g (done_output (form_meaning W.is_modelled) a.program steps a.conf
+        (FormState.Told f) d.0 d.1 c (FormState.Told g) d.3) }
 {}
 
-/// Where a script and the module agree, the script does so there; and where the steps did not suffice, it is not over there within so many turns as they
-/// suffice for, by the bound of the agreement.
+/// Where a script and the module agree, the script does so there, with the same output; and where the steps did not suffice, it is not over there within so many
+/// turns as they suffice for, by the bound of the agreement.
 pub fn does_so_there()
     ensures does { (script : Setting → ℕ → Ending) (m : ModuleForm) → Agreement script m
         → (job : JobForm) (steps : ℕ) (e : MachineEnd) (f : HostForm)
-        → (r : FoundRun m job steps e f)
-        → DoesSoThere script job r.finds (told_by f.fault e) }
+        (output : List Action) → (r : FoundRun m job steps e f output)
+        → DoesSoThere script job r.finds (told_by f.fault e) output }
     ensures bounded { (script : Setting → ℕ → Ending) (m : ModuleForm)
         → (agree : Agreement script m) → (job : JobForm) (steps : ℕ) (f : HostForm)
-        → (r : FoundRun m job steps MachineEnd.OutOfSteps f)
+        (output : List Action) → (r : FoundRun m job steps MachineEnd.OutOfSteps f output)
         → GoesOnThere script job r.finds agree.bound steps }
 {}

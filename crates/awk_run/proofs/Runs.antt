@@ -19,7 +19,7 @@ use Rattle.host_imports.specs.Imports.{host_finds}
 use Rattle.host_values.specs.Forms.{HostForm}
 use Rattle.host_values.specs.FormMeaning.{Told, form_meaning}
 use Rattle.host_values.specs.Findings.{ShownFirst}
-use Rattle.agreement.specs.Runs.ToldRuns.{FoundRun, ToldRun}
+use Rattle.agreement.specs.Runs.ToldRuns.{FoundRun, ToldRun, done_output}
 use Rattle.awk_run.specs.ModuleRun.{run_end, undecoded, IsRefused, IsRunOf, RunAnswers, Answers, IsTyped, Unread}
 use Rattle.run_report.specs.declared.end.Refusal.TheVariants.{Compile, Decode, Invalid, Link}
 use Rattle.run_report.specs.declared.end.RunEnd.{RunEnd}
@@ -37,8 +37,9 @@ module _ (tells : Type 0) (whole : ModuleForm) (job : JobForm) (steps : ℕ) (be
   told kept machine.NoMemory r = inl r
 
   pub did_answers : (a : MachineForm) → IsNew host_finds whole a → (f : HostForm) → ShownFirst f job (before.readers 0) before.outside → (t : MachineEnd) (c : Conf) (g : HostForm)
-      → Did (form_meaning tells) a.program steps a.conf (Told f) t c (Told g) → after.outside ≡ g.shared.outside
-      → (tells → ToldRun whole job (before.readers 0) before.outside steps t g) → FoundRun whole job steps t g
+      (d : Did (form_meaning tells) a.program steps a.conf (Told f) t c (Told g)) → after.outside ≡ g.shared.outside
+      → (tells → ToldRun whole job (before.readers 0) before.outside steps t g)
+      → FoundRun whole job steps t g (done_output (form_meaning tells) a.program steps a.conf (Told f) d.0 d.1 c (Told g) d.3)
       → RunAnswers tells whole job steps before (run_end g.fault t) after
   did_answers a n f h t c g d o over there =
       told g.fault t (record {
@@ -79,8 +80,8 @@ pub typed_answers : (tells : Type 0) (bytes : List ℕ) (job : JobForm) (steps :
 typed_answers tells bytes job steps before after whole (run.Refused (Compile f)) t r = absurd r
 typed_answers tells bytes job steps before after whole (run.Refused (Decode f)) t r = absurd r
 typed_answers tells bytes job steps before after whole (run.Refused (Invalid f)) t r = absurd r
-typed_answers tells bytes job steps before after whole (run.Refused (Link f)) t r = record { whole = whole; read = t.0; typed = t.1; run = r }
-typed_answers tells bytes job steps before after whole run.NoMemory t (inl r) = inl (record { whole = whole; read = t.0; typed = t.1; run = inl r })
+typed_answers tells bytes job steps before after whole (run.Refused (Link f)) t r = (record { whole = whole; read = t.0; typed = t.1; unlinked = r.0 }, r.1)
+typed_answers tells bytes job steps before after whole run.NoMemory t (inl r) = inl (record { whole = whole; read = t.0; typed = t.1; run = r })
 typed_answers tells bytes job steps before after whole run.NoMemory t (inr r) = inr r
 typed_answers tells bytes job steps before after whole (run.Ended n) t r = record { whole = whole; read = t.0; typed = t.1; run = r }
 typed_answers tells bytes job steps before after whole (run.Faulted f) t r = record { whole = whole; read = t.0; typed = t.1; run = r }

@@ -3,8 +3,7 @@ use Rattle.std.proofs.Common.{◌≡◌, inl, inr, ℕ, ◌+◌, List, [], ◌�
 use Rattle.awk_values.specs.declared.fault.Fault.{Fault}
 use Rattle.sem_primitives.specs.InputMeaning.{to_come}
 use Rattle.sem_primitives.specs.Jobs.{Opened, JobForm}
-use Rattle.world_core.specs.WorldState.{Action, Entry, State}
-use Rattle.sem_scripts.specs.MoreTurns.{output_of}
+use Rattle.world_core.specs.WorldState.{Action, State}
 use Rattle.sem_scripts.specs.Kinds.{resolved}
 use Rattle.sem_scripts.specs.ScriptRun.{Ending, resolved_run, run_of, setting_in}
 use Rattle.wasm_types.specs.Syntax.{ModuleForm}
@@ -16,11 +15,11 @@ use Rattle.wasm_model.specs.declared.fault.LinkFault.TheVariants as link
 use Rattle.wasm_model.specs.declared.ends.MachineEnd.{MachineEnd}
 use Rattle.wasm_model.specs.declared.ends.MachineEnd.TheVariants as machine
 use Rattle.module_decoder.proofs.CompleteModule.{one_module}
-use Rattle.agreement.specs.Runs.ToldRuns.{DoesSo, DoesSoThere, GoesOnThere, Says, told_by}
+use Rattle.agreement.specs.Runs.ToldRuns.{DoesSo, Says, told_by}
 use Rattle.agreement.proofs.RunsLemmas.Agreeing.{does_so, does_so_there, goes_on_there}
 use Rattle.script_compiler.specs.Compiled.{IsCompiled, Links}
-use Rattle.awk_run.specs.ModuleRun.{Answers, HasRun, IsRunOf, IsUnlinked, RunAnswers, run_end}
-use Rattle.awk_run.specs.ScriptRuns.{IsScriptRun, ScriptAnswers, told_of}
+use Rattle.awk_run.specs.ModuleRun.{Answers, HasRun, IsRunOf, IsUnlinked, run_end, run_output}
+use Rattle.awk_run.specs.ScriptRuns.{DoesFound, IsScriptRun, ScriptAnswers, told_of}
 use Rattle.run_report.specs.declared.end.Refusal.TheVariants.{Compile, Decode, Invalid, Link}
 use Rattle.run_report.specs.declared.end.RunEnd.{RunEnd}
 use Rattle.run_report.specs.declared.end.RunEnd.TheVariants as run
@@ -39,12 +38,6 @@ says kept (machine.Trapped kind) output ending h = absurd h
 abbrev Does : {bytes v : List ℕ} → IsCompiled bytes v → JobForm → State → RunEnd → State → Type 0
 Does c job before e after = DoesSo (resolved_run (resolved c.script)) job (before.readers 0) before.outside (told_of e) after.outside
 
-abbrev There : {bytes v : List ℕ} → IsCompiled bytes v → JobForm → List Entry → RunEnd → Type 0
-There c job finds e = DoesSoThere (resolved_run (resolved c.script)) job finds (told_of e)
-
-abbrev On : {bytes v : List ℕ} → IsCompiled bytes v → JobForm → List Entry → ℕ → RunEnd → Type 0
-On c job finds steps e = e ≡ run.OutOfSteps → GoesOnThere (resolved_run (resolved c.script)) job finds c.agreement.bound steps
-
 -- a run of the module, as the script's
 did : (tells : Type 0) (bytes v : List ℕ) (c : IsCompiled bytes v) (job : JobForm) (steps : ℕ) (before after : State) (e : RunEnd)
     → IsRunOf tells c.whole job steps before e after → tells → Does c job before e after
@@ -58,18 +51,6 @@ did tells bytes v c job steps before after e r t =
       applied = r.outside ∙ d.applied;
     }
 
--- and in every world, where it finds what some list says
-there : (tells : Type 0) (bytes v : List ℕ) (c : IsCompiled bytes v) (job : JobForm) (steps : ℕ) (before after : State) (e : RunEnd)
-    (r : IsRunOf tells c.whole job steps before e after) → There c job r.there.finds e
-there tells bytes v c job steps before after e r =
-    let d = does_so_there (resolved_run (resolved c.script)) c.whole c.agreement job steps r.told r.left r.there in
-    record {
-      turns = d.turns;
-      output = d.output;
-      says = subst (λ (x : RunEnd). Says (told_of x) d.output (resolved_run (resolved c.script) (setting_in job to_come (Opened r.there.finds)) d.turns)) (sym r.answered)
-          (says r.left.fault r.told d.output _ d.says);
-    }
-
 -- an answer that the steps did not suffice is told of a machine that went on
 ran_out : (kept : Option Fault) (t : MachineEnd) → run_end kept t ≡ run.OutOfSteps → t ≡ machine.OutOfSteps
 ran_out (Some f) (machine.Returned n) q = cc
@@ -79,10 +60,23 @@ ran_out kept machine.OutOfSteps q = refl
 ran_out kept machine.NoMemory q = cc
 ran_out kept (machine.Trapped kind) q = cc
 
-goes_on : (tells : Type 0) (bytes v : List ℕ) (c : IsCompiled bytes v) (job : JobForm) (steps : ℕ) (before after : State) (e : RunEnd)
-    (r : IsRunOf tells c.whole job steps before e after) → On c job r.there.finds steps e
-goes_on tells bytes v c job steps before after e r out =
-    goes_on_there (resolved_run (resolved c.script)) c.whole c.agreement job steps r.told (ran_out r.left.fault r.told (sym r.answered ∙ out)) r.left r.there
+-- and in every world, where it finds what some list says
+there : (tells : Type 0) (bytes v : List ℕ) (c : IsCompiled bytes v) (job : JobForm) (steps : ℕ) (before after : State) (e : RunEnd)
+    (r : IsRunOf tells c.whole job steps before e after) → DoesFound (resolved_run (resolved c.script)) job c.agreement.bound steps e (run_output r)
+there tells bytes v c job steps before after e r =
+    let script = resolved_run (resolved c.script) in
+    let found = r.there in
+    let out = run_output r in
+    let d = does_so_there script c.whole c.agreement job steps r.told r.left out found in
+    record {
+      finds = found.finds;
+      does = record {
+        turns = d.turns;
+        says = subst (λ (x : RunEnd). Says (told_of x) out (script (setting_in job to_come (Opened found.finds)) d.turns)) (sym r.answered)
+            (says r.left.fault r.told out _ d.says);
+      };
+      goes_on = λ ended. goes_on_there script c.whole c.agreement job steps r.told (ran_out r.left.fault r.told (sym r.answered ∙ ended)) r.left out found;
+    }
 
 -- Refusals that a compiled script does not meet.
 
@@ -102,61 +96,30 @@ module _ (tells : Type 0) (bytes v : List ℕ) (job : JobForm) (steps : ℕ) (be
   same : (h : ModuleForm) → IsModule v h → h ≡ c.whole
   same h r = one_module v h c.whole r c.spelled
 
-  -- nothing was done yet
-  unbegun : after ≡ before → Does c job before run.NoMemory after
-  unbegun e = record {
-    turns = 0;
-    output = [];
-    says = (output_of (run_of c.script job (before.readers 0) before.outside 0), refl);
-    applied = ap (λ (s : State). s.outside) e;
-  }
+  -- what the module did, and so the script
+  abbrev AsScript : (e : RunEnd) (whole : ModuleForm) → IsRunOf tells whole job steps before e after → Type 0
+  AsScript e whole r = (tells → Does c job before e after) × DoesFound (resolved_run (resolved c.script)) job c.agreement.bound steps e (run_output r)
 
-  unbegun_there : There c job [] run.NoMemory
-  unbegun_there = record {
-    turns = 0;
-    output = [];
-    says = (output_of (resolved_run (resolved c.script) (setting_in job to_come (Opened [])) 0), refl);
-  }
+  as_script : (e : RunEnd) (whole : ModuleForm) → c.whole ≡ whole → (r : IsRunOf tells whole job steps before e after) → AsScript e whole r
+  as_script e whole is = subst (λ (w : ModuleForm). (r : IsRunOf tells w job steps before e after) → AsScript e w r) is (λ r. (
+    did tells bytes v c job steps before after e r,
+    there tells bytes v c job steps before after e r,
+  ))
 
-  wanting_is_no_end : run.NoMemory ≡ run.OutOfSteps → ⊥
-  wanting_is_no_end q = cc
-
-  module _ (e : RunEnd) (h : HasRun tells v job steps before e after) where
-    ran_run : IsRunOf tells h.whole job steps before e after → IsScriptRun tells bytes job steps before e after
-    ran_run r =
-        let own : IsRunOf tells c.whole job steps before e after = subst (λ (w : ModuleForm). IsRunOf tells w job steps before e after) (same h.whole h.read) r in
-        record {
-          compiled = v;
-          is_compiled = c;
-          run = h;
-          does = did tells bytes v c job steps before after e own;
-          finds = own.there.finds;
-          there = there tells bytes v c job steps before after e own;
-          goes_on = goes_on tells bytes v c job steps before after e own;
-        }
-
-  wanting_run : (h : HasRun tells v job steps before run.NoMemory after) → RunAnswers tells h.whole job steps before run.NoMemory after
-      → IsScriptRun tells bytes job steps before run.NoMemory after
-  wanting_run h (inl r) = ran_run run.NoMemory h r
-  wanting_run h (inr e) = record {
-    compiled = v;
-    is_compiled = c;
-    run = h;
-    does = λ t. unbegun e;
-    finds = [];
-    there = unbegun_there;
-    goes_on = λ q. absurd (wanting_is_no_end q);
-  }
+  ran_run : (e : RunEnd) → HasRun tells v job steps before e after → IsScriptRun tells bytes job steps before e after
+  ran_run e h =
+      let x = as_script e h.whole (sym (same h.whole h.read)) h.run in
+      record { compiled = v; is_compiled = c; ran = h; does = x.0; there = x.1 }
 
   pub script_answers : (e : RunEnd) → Answers tells v job steps before e after → ScriptAnswers tells bytes job steps before e after
-  script_answers (run.Refused (Compile f)) r = absurd r.run
+  script_answers (run.Refused (Compile f)) r = absurd r
   script_answers (run.Refused (Decode f)) r = r.0.1 c.whole c.spelled
   script_answers (run.Refused (Invalid f)) r = r.0.untyped (subst ModuleOk (sym (same r.0.whole r.0.read)) c.typed)
-  script_answers (run.Refused (Link f)) r = links_fully c.whole f c.links (subst (λ (w : ModuleForm). IsUnlinked w f) (same r.whole r.read) r.run.0)
-  script_answers run.NoMemory (inl h) = inl (wanting_run h h.run)
+  script_answers (run.Refused (Link f)) r = links_fully c.whole f c.links (subst (λ (w : ModuleForm). IsUnlinked w f) (same r.0.whole r.0.read) r.0.unlinked)
+  script_answers run.NoMemory (inl h) = inl (ran_run run.NoMemory h)
   script_answers run.NoMemory (inr e) = inr e
-  script_answers (run.Ended n) h = ran_run (run.Ended n) h h.run
-  script_answers (run.Faulted f) h = ran_run (run.Faulted f) h h.run
-  script_answers run.OutOfSteps h = ran_run run.OutOfSteps h h.run
-  script_answers run.Exhausted h = ran_run run.Exhausted h h.run
-  script_answers (run.Trapped k) h = ran_run (run.Trapped k) h h.run
+  script_answers (run.Ended n) h = ran_run (run.Ended n) h
+  script_answers (run.Faulted f) h = ran_run (run.Faulted f) h
+  script_answers run.OutOfSteps h = ran_run run.OutOfSteps h
+  script_answers run.Exhausted h = ran_run run.Exhausted h
+  script_answers (run.Trapped k) h = ran_run (run.Trapped k) h

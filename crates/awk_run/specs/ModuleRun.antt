@@ -25,7 +25,7 @@ use Rattle.host_imports.specs.Imports.{host_finds}
 use Rattle.host_values.specs.Forms.{HostForm}
 use Rattle.host_values.specs.FormMeaning.{Told, form_meaning}
 use Rattle.host_values.specs.Findings.{ShownFirst}
-use Rattle.agreement.specs.Runs.ToldRuns.{FoundRun, ToldRun}
+use Rattle.agreement.specs.Runs.ToldRuns.{FoundRun, ToldRun, done_output}
 use Rattle.run_report.specs.declared.end.Refusal.{Refusal}
 use Rattle.run_report.specs.declared.end.Refusal.TheVariants.{Decode, Invalid, Link}
 use Rattle.run_report.specs.declared.end.RunEnd.{RunEnd}
@@ -67,7 +67,8 @@ IsUnlinked whole cause = (cause ≢ link.NoMemory) × Unlinks host_finds whole c
 
 -- A run of a typed module in a job: from its beginning, over a host that shows the state at the start of the job, to a world that holds what the host
 -- left. Where the world tells what it holds, this is how the module may end, and its output made what the names hold of what they held. In every
--- world it is how the module may end in an environment that others change too, where each opening, read and write finds the next of some list.
+-- world it is how the module may end, with this output, in an environment that others change too, where each opening, read and write finds the next of some list;
+-- where memory was wanting, with what was put out before the step that wanted it.
 pub record IsRunOf (tells : Type 0) (whole : ModuleForm) (job : JobForm) (steps : ℕ) (before : State) (e : RunEnd) (after : State) : Type 0 where
   pub machine : MachineForm
   pub is_new : IsNew host_finds whole machine
@@ -84,25 +85,34 @@ pub record IsRunOf (tells : Type 0) (whole : ModuleForm) (job : JobForm) (steps 
   pub outside : after.outside ≡ left.shared.outside
   pub over_table : tells → ToldRun whole job (before.readers 0) before.outside steps told left
   pub there : FoundRun whole job steps told left
+      (done_output (form_meaning tells) machine.program steps machine.conf (Told start) output run-end conf (Told left) ran)
 
--- what is answered for a typed module; a run that wanted memory may not have begun
-abbrev pub RunAnswers : (tells : Type 0) → ModuleForm → JobForm → ℕ → State → RunEnd → State → Type 0
-RunAnswers tells whole job steps before (run.Refused (Link cause)) after = IsUnlinked whole cause × (after ≡ before)
-RunAnswers tells whole job steps before (run.Refused cause) after = ⊥
-RunAnswers tells whole job steps before run.NoMemory after = IsRunOf tells whole job steps before run.NoMemory after ⊎ (after ≡ before)
-RunAnswers tells whole job steps before e after = IsRunOf tells whole job steps before e after
+-- what it put out; where a step wanted memory, what was put out before that step
+abbrev pub run_output : {tells : Type 0} {whole : ModuleForm} {job : JobForm} {steps : ℕ} {before : State} {e : RunEnd} {after : State}
+    → IsRunOf tells whole job steps before e after → List Action
+run_output {tells = tells} {steps = steps} r =
+    done_output (form_meaning tells) r.machine.program steps r.machine.conf (Told r.start) r.output r.run-end r.conf (Told r.left) r.ran
 
 -- The bytes are a typed module that is run so.
 pub record HasRun (tells : Type 0) (bytes : List ℕ) (job : JobForm) (steps : ℕ) (before : State) (e : RunEnd) (after : State) : Type 0 where
   pub whole : ModuleForm
   pub read : IsModule bytes whole
   pub typed : ModuleOk whole
-  pub run : RunAnswers tells whole job steps before e after
+  pub run : IsRunOf tells whole job steps before e after
+
+-- The bytes are a typed module that does not link.
+pub record HasNoLink (bytes : List ℕ) (cause : LinkFault) : Type 0 where
+  pub whole : ModuleForm
+  pub read : IsModule bytes whole
+  pub typed : ModuleOk whole
+  pub unlinked : IsUnlinked whole cause
 
 -- what an answer says of the bytes and of the world
 abbrev pub Answers : (tells : Type 0) → List ℕ → JobForm → ℕ → State → RunEnd → State → Type 0
 Answers tells bytes job steps before (run.Refused (Decode cause)) after = IsRefused bytes (Decode cause) × (after ≡ before)
 Answers tells bytes job steps before (run.Refused (Invalid cause)) after = IsRefused bytes (Invalid cause) × (after ≡ before)
+Answers tells bytes job steps before (run.Refused (Link cause)) after = HasNoLink bytes cause × (after ≡ before)
+Answers tells bytes job steps before (run.Refused cause) after = ⊥
 Answers tells bytes job steps before run.NoMemory after = HasRun tells bytes job steps before run.NoMemory after ⊎ (after ≡ before)
 Answers tells bytes job steps before e after = HasRun tells bytes job steps before e after
 
@@ -122,3 +132,10 @@ Unread bytes _ = ⊥
 
 abbrev pub IsTyped : List ℕ → ModuleForm → Type 0
 IsTyped bytes m = IsModule bytes m × ModuleOk m
+
+-- what is answered for a typed module; a run that wanted memory may not have begun
+abbrev pub RunAnswers : (tells : Type 0) → ModuleForm → JobForm → ℕ → State → RunEnd → State → Type 0
+RunAnswers tells whole job steps before (run.Refused (Link cause)) after = IsUnlinked whole cause × (after ≡ before)
+RunAnswers tells whole job steps before (run.Refused cause) after = ⊥
+RunAnswers tells whole job steps before run.NoMemory after = IsRunOf tells whole job steps before run.NoMemory after ⊎ (after ≡ before)
+RunAnswers tells whole job steps before e after = IsRunOf tells whole job steps before e after

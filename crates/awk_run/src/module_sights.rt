@@ -1,5 +1,5 @@
 //! Where a module was.
-ghost use Rattle.std.specs.Prelude.{◌≡◌, ◌≤◌, IfOk, IfSome, None, length, map, option_and_then, option_map};
+ghost use Rattle.std.specs.Prelude.{◌≡◌, IfOk, IfSome, None, length, map, option_and_then, option_map};
 ghost use Rattle.awk_run.specs.ModuleSeen.{AreLineSites, IsLineSite, IsModuleSeen, TellsLines, TellsModule, TellsUnlined};
 ghost use Rattle.host_calls.specs.Forms.{host_form};
 ghost use Rattle.host_imports.specs.Imports.{host_types};
@@ -8,6 +8,7 @@ ghost use Rattle.script_lines.specs.Lines.{form_of, line_in, name_in};
 ghost use Rattle.wasm_model.specs.Runs.{Did};
 ghost use Rattle.wasm_model.specs.Typed.{Linked};
 
+use crate::whereabouts::told_of;
 use awk_values::Bytes;
 use host_calls::{Host, Import, Special, Watched};
 use run_report::{CallSite, Whereabouts};
@@ -16,9 +17,6 @@ use sem_primitives::Primitive;
 use std::alloc::{AllocError, Global};
 use wasm_machine::{Machine, MachineEnd, Place};
 use world_core::World;
-
-/// How many sites are told at most: what is at work, and calls that wait.
-const MOST_SITES: usize = 8;
 
 /// Where a module was.
 #[derive(Drop)]
@@ -97,18 +95,6 @@ fn line_sites(
     Ok(sites)
 }
 
-/// Of how many frames it is told where they stand.
-fn most_of(waiting: usize) -> usize
-    ensures within { result ≤ waiting }
-    ensures most { result ≤ 8 }
-{
-    if waiting < MOST_SITES {
-        waiting
-    } else {
-        MOST_SITES
-    }
-}
-
 /// What is told of where a machine stands over a host, by the lines of its module; none where memory is wanting.
 fn lines_seen<W: World>(
     alloc: Global,
@@ -120,7 +106,7 @@ fn lines_seen<W: World>(
         machine.now.conf (host_form W.state host.now)) }
 {
     let waiting = machine.waiting();
-    let count = most_of(waiting);
+    let count = told_of(waiting);
     let Ok(sites) = line_sites(alloc, table, machine, count) else {
         return None;
     };

@@ -122,7 +122,7 @@ fn sites_of(
 }
 
 /// Of how many frames it is told where they stand.
-fn told_of(waiting: usize) -> usize
+pub(crate) fn told_of(waiting: usize) -> usize
     ensures within { result ≤ waiting }
     ensures most { result ≤ 8 }
 {

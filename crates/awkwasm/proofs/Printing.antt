@@ -1,9 +1,11 @@
--- What keeps a text from being printed keeps it from being explained.
+-- What keeps a text from being printed keeps a name from being explained.
+use Rattle.std.specs.Prelude.{List, Option, ℕ}
+use Rattle.std.specs.Borrow.{Bor}
 use Rattle.awkwasm.specs.Done.{IsNotExplained, IsUnwritten}
 use Rattle.run_tasks.specs.declared.task_error.TaskError.{TaskError}
 use Rattle.run_tasks.specs.declared.task_error.TaskError.TheVariants.{File, NoMemory}
 
-pub unprinted : (undone : TaskError) → IsUnwritten undone → IsNotExplained undone
-unprinted (File fault) is = is
-unprinted NoMemory is = tt
-unprinted _ is = absurd is
+pub unprinted : (name : Option (Bor (List ℕ))) (undone : TaskError) → IsUnwritten undone → IsNotExplained name undone
+unprinted name (File fault) is = is
+unprinted name NoMemory is = tt
+unprinted name _ is = absurd is

@@ -1,12 +1,16 @@
 -- What became of what a command line asks for: what each command answers, and the exit status.
-use Rattle.std.specs.Prelude.{◌≡◌, ◌⊎◌, ℕ, Bool, true, false, List, map, Result, Ok, Err}
+use Rattle.std.specs.Prelude.{◌≡◌, ◌⊎◌, ℕ, Bool, true, false, List, map, MatchOption, Option, None, Result, Ok, Err}
+use Rattle.std.specs.Borrow.{Bor}
 use Rattle.command_line.specs.declared.Request.{Request}
 use Rattle.command_line.specs.declared.Request.TheVariants.{Check, Compile, Run, Count, Exec, Imports, Explain}
+use Rattle.host_imports.specs.declared.import.Import.{Import}
 use Rattle.script_compiler.specs.Compiled.{IsCompiled}
 use Rattle.script_lines.specs.Lined.{IsLined}
+use Rattle.run_report.specs.Topics.{named}
 use Rattle.run_report.specs.declared.end.RunEnd.{RunEnd}
 use Rattle.run_report.specs.declared.end.RunEnd.TheVariants.{Ended}
 use Rattle.run_report.specs.declared.report.FileFault.TheVariants.{CannotRead, CannotWrite}
+use Rattle.run_tasks.specs.Calls.{HasImports}
 use Rattle.run_tasks.specs.Runs.{IsUncompiled, IsUnlined, RunsModule, RunsScript, RunsText}
 use Rattle.run_tasks.specs.Tasks.{IsUnreadable, task_code}
 use Rattle.run_tasks.specs.declared.task_error.TaskError.{TaskError}
@@ -14,6 +18,7 @@ use Rattle.run_tasks.specs.declared.task_error.TaskError.TheVariants.{File, NoMe
 use Rattle.host_names.specs.Forms.{pair_of}
 use Rattle.host_names.specs.declared.names.NamedText.{NamedText}
 use Rattle.awkwasm.specs.Environment.{IsSortedByName}
+use Rattle.awkwasm.specs.Explained.{IsExplanation}
 
 -- a run does not begin
 abbrev pub IsUnbegun : TaskError → Type 0
@@ -50,16 +55,21 @@ CompilesSo has_lines bytes e = ((e ≡ Ended 0) × ((compiled : List ℕ) × Com
 abbrev pub Compiles : List ℕ → RunEnd → Type 0
 Compiles bytes e = CompilesSo false bytes e
 
--- why nothing is explained
-abbrev pub IsNotExplained : TaskError → Type 0
-IsNotExplained Unexplained = Unit {0}
-IsNotExplained (File fault) = fault ≡ CannotWrite
-IsNotExplained NoMemory = Unit {0}
-IsNotExplained _ = ⊥
+-- The bytes are a module whose imports are listed, and the answer is status 0; else it is why they are not listed.
+abbrev pub ListsSo : List ℕ → RunEnd → Type 0
+ListsSo bytes e = ((e ≡ Ended 0) × ((imports : List Import) × HasImports bytes imports)) ⊎ IsUnreadable bytes e
 
-abbrev pub IsExplained : Result RunEnd TaskError → Type 0
-IsExplained (Ok e) = e ≡ Ended 0
-IsExplained (Err undone) = IsNotExplained undone
+-- why nothing is explained: no topic is found by the name, or it is not printed
+abbrev pub IsNotExplained : Option (Bor (List ℕ)) → TaskError → Type 0
+IsNotExplained name Unexplained = MatchOption name ⊥ (λ asked. named asked.now ≡ None)
+IsNotExplained name (File fault) = fault ≡ CannotWrite
+IsNotExplained name NoMemory = Unit {0}
+IsNotExplained name _ = ⊥
+
+-- status 0 only where there is something to print
+abbrev pub IsExplained : Option (Bor (List ℕ)) → Result RunEnd TaskError → Type 0
+IsExplained name (Ok e) = (e ≡ Ended 0) × ((text : List ℕ) × IsExplanation name text)
+IsExplained name (Err undone) = IsNotExplained name undone
 
 -- what becomes of a request
 abbrev pub Does : Request → Result RunEnd TaskError → Type 0
@@ -73,9 +83,9 @@ Does (Count task) (Ok e) = (bytes : List ℕ) × (environment : List NamedText) 
 Does (Count task) (Err undone) = IsUnread undone ⊎ IsUnbegun undone
 Does (Exec task) (Ok e) = (bytes : List ℕ) × (environment : List NamedText) × IsSortedByName environment × RunsModule task bytes (map pair_of environment) e
 Does (Exec task) (Err undone) = IsUnread undone ⊎ IsUnbegun undone
-Does (Imports file) (Ok e) = (e ≡ Ended 0) ⊎ ((bytes : List ℕ) × IsUnreadable bytes e)
+Does (Imports file) (Ok e) = (bytes : List ℕ) × ListsSo bytes e
 Does (Imports file) (Err undone) = IsUnread undone ⊎ IsUnwritten undone
-Does (Explain name) done = IsExplained done
+Does (Explain name) done = IsExplained name done
 
 -- The request is carried out so, and this is the exit status of it.
 pub record Exits (request : Request) (code : ℕ) : Type 0 where

@@ -1,6 +1,8 @@
 -- What `explain` prints.
-use Rattle.std.specs.Prelude.{ℕ, ◌≡◌, List, [], ◌∷◌, ◌++◌, codes}
-use Rattle.run_report.specs.Topics.{Shows, topic_name}
+use Rattle.std.specs.Prelude.{ℕ, ◌≡◌, List, [], ◌∷◌, ◌++◌, Option, None, Some, codes}
+use Rattle.std.specs.Borrow.{Bor}
+use Rattle.std.specs.Io.KnownBytes.{Appends}
+use Rattle.run_report.specs.Topics.{Shows, all_topics, named, topic_name}
 use Rattle.run_report.specs.declared.topic.Topic.{Topic}
 use Rattle.awkwasm.specs.Printed.{line}
 
@@ -22,3 +24,14 @@ pub record Explains (topic : Topic) (text : List ℕ) : Type 0 where
   pub advice : List ℕ
   pub shows : Shows topic shown
   pub is : text ≡ explanation_text (topic_name topic) meaning command shown advice
+
+-- A text answers `explain`: without a name, the names of all topics; else what explains the topic that is found by the name.
+abbrev pub IsExplanation : Option (Bor (List ℕ)) → List ℕ → Type 0
+IsExplanation None text = text ≡ topics_text all_topics
+IsExplanation (Some asked) text = (topic : Topic) × (named asked.now ≡ Some topic) × Explains topic text
+
+-- such a text is printed: a writer's bytes grow by it
+pub record PrintsExplanation (name : Option (Bor (List ℕ))) (old new : Option (List ℕ)) : Type 0 where
+  pub text : List ℕ
+  pub answers : IsExplanation name text
+  pub printed : Appends old new text

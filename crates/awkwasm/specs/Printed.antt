@@ -1,8 +1,14 @@
--- What `imports` prints.
-use Rattle.std.specs.Prelude.{ℕ, List, [], ◌∷◌, ◌++◌, codes}
+-- What `imports` prints, and what is told of a task.
+use Rattle.std.specs.Prelude.{ℕ, List, [], ◌∷◌, ◌++◌, Option, Result, Ok, Err, codes}
+use Rattle.std.specs.Io.KnownBytes.{Appends}
 use Rattle.host_imports.specs.Imports.{import_name}
 use Rattle.host_imports.specs.declared.import.Import.{Import}
+use Rattle.run_report.specs.EndTexts.{end_text}
+use Rattle.run_report.specs.declared.end.RunEnd.{RunEnd}
+use Rattle.run_tasks.specs.Calls.{HasImports}
 use Rattle.run_tasks.specs.Powers.{reads_of, writes_of}
+use Rattle.run_tasks.specs.Tasks.{undone_text}
+use Rattle.run_tasks.specs.declared.task_error.TaskError.{TaskError}
 use Rattle.run_tasks.specs.declared.powers.Reads.{Reads}
 use Rattle.run_tasks.specs.declared.powers.Reads.TheVariants as reading
 use Rattle.run_tasks.specs.declared.powers.Writes.{Writes}
@@ -29,3 +35,14 @@ names_text (import ∷ rest) = line (import_name import) ++ names_text rest
 -- the names, an empty line, and what the module may read and write
 abbrev pub imports_text : List Import → List ℕ
 imports_text imports = names_text imports ++ line [] ++ line (reads_text (reads_of imports)) ++ line (writes_text (writes_of imports))
+
+-- the imports of the module are printed: a writer's bytes grow by that text
+pub record PrintsImports (bytes : List ℕ) (old new : Option (List ℕ)) : Type 0 where
+  pub imports : List Import
+  pub has : HasImports bytes imports
+  pub printed : Appends old new (imports_text imports)
+
+-- what is told of a task: the line of how its run ended, empty for a status of its own, or that of why it is not done
+abbrev pub told_text : Result RunEnd TaskError → List ℕ
+told_text (Ok e) = end_text e
+told_text (Err undone) = undone_text undone

@@ -1,26 +1,38 @@
 //! What `check` prints.
-ghost use Rattle.std.specs.Prelude.{◌≡◌, ◌⊎◌, ℕ, List, IfErr, IfOk, true};
-ghost use Rattle.awkwasm.specs.Checked.{has_error, is_error};
+ghost use Rattle.std.specs.Io.KnownBytes.{Appends};
+ghost use Rattle.std.specs.Prelude.{◌≡◌, ◌⊎◌, ℕ, List, IfErr, IfOk, OnOk, true};
+ghost use Rattle.awkwasm.specs.Checked.{AreFoundIn, PrintsFindings, end_name, has_error, is_error, whole_refusal, with_error};
 ghost use Rattle.awkwasm.specs.Done.{Compiles, IsUnread, IsUnwritten};
+ghost use Rattle.script_check.specs.Page.{page_text};
+ghost use Rattle.script_check.specs.Remarks.{view_finding, view_findings};
 
+use crate::output::write_text;
 use crate::tasks::{SCRIPT_LIMIT, file_of};
-use run_report::{FileFault, RunEnd, topic_of};
+use run_report::{RunEnd, topic_of};
 use run_tasks::{TaskError, compiled};
 use script_check::{Finding, Said, Severity, findings_of, page_of};
 use script_code::MAX_SCRIPT_BYTES;
 use std::alloc::{AllocError, Global};
+use std::io::Write;
+
+/// The name in the line of an end; empty where there is no line.
+fn name_of(end: &RunEnd) -> &'static str
+    ensures { result.now ≡ end_name end.now }
+{
+    match topic_of(end) {
+        Some(topic) => topic.name(),
+        None => "",
+    }
+}
 
 /// The finding that a script is refused as a whole.
 fn whole_refusal<'a>(end: &RunEnd) -> Finding<'a>
-    ensures { is_error result ≡ true }
+    ensures said { view_finding result ≡ whole_refusal end.now }
+    ensures grave { is_error result ≡ true }
 {
-    let word = match topic_of(end) {
-        Some(topic) => topic.name(),
-        None => "",
-    };
     let said = Said {
         severity: Severity::Error,
-        word,
+        word: name_of(end),
         name: &[],
         text: "the whole script is refused",
         line: None,
@@ -45,8 +57,10 @@ fn has_error(found: &[Finding<'_>]) -> bool
     found.iter().any(|one| is_error(one))
 }
 
-/// The findings of a script. Of one that is too long only the first bytes are there.
-fn findings<'a>(alloc: Global, script: &'a [u8]) -> Result<Vec<Finding<'a>>, AllocError> {
+/// What is found in a script: nothing in one that is too long, of which only the first bytes are there.
+fn findings<'a>(alloc: Global, script: &'a [u8]) -> Result<Vec<Finding<'a>>, AllocError>
+    ensures { IfOk result (λ found. AreFoundIn script.now (view_findings found.items)) }
+{
     if script.len() > MAX_SCRIPT_BYTES {
         Ok(Vec::new(alloc))
     } else {
@@ -54,48 +68,58 @@ fn findings<'a>(alloc: Global, script: &'a [u8]) -> Result<Vec<Finding<'a>>, All
     }
 }
 
-/// The findings of a script that is refused for this. One of them at least is an error.
+/// What is told of a script that is refused so: what is found in it and, if that has no error, one more.
 fn with_error<'a>(found: Vec<Finding<'a>>, end: &RunEnd) -> Result<Vec<Finding<'a>>, AllocError>
-    ensures { IfOk result (λ told. has_error told.items ≡ true) }
+    ensures grave { IfOk result (λ told. has_error told.items ≡ true) }
+    ensures told { IfOk result
+        (λ told. view_findings told.items ≡ with_error found.entry.items end.now) }
 {
-    let mut found = found;
-    if !has_error(&found) {
-        found.push(whole_refusal(end))?;
+    if has_error(&found) {
+        return Ok(found);
     }
-    Ok(found)
+    let mut told = found;
+    told.push(whole_refusal(end))?;
+    Ok(told)
 }
 
-/// Prints findings of a script.
-fn print_page(
-    rt: &HostRuntime,
+/// Writes findings of a script.
+fn write_page<W: Write>(
+    alloc: Global,
+    to: &mut W,
     name: &str,
     script: &[u8],
     found: &[Finding<'_>],
 ) -> Result<(), TaskError>
-    ensures { IfErr result IsUnwritten }
-{
-    let page = page_of(rt.alloc(), name.as_bytes(), script, found)?;
-    match rt.stdout().write_all(&page) {
-        Ok(()) => Ok(()),
-        Err(_) => Err(TaskError::File(FileFault::CannotWrite)),
-    }
-}
-
-/// Prints what is to be said of a script. The answer is that of its compilation, without the module.
-fn check_bytes(rt: &HostRuntime, name: &str, script: &[u8]) -> Result<RunEnd, TaskError>
-    ensures ok { IfOk result (Compiles script.now) }
+    ensures ok { OnOk result (Appends (W.contents to.old) (W.contents to.new)
+        (page_text name.now script.now (view_findings found.now))) }
     ensures err { IfErr result IsUnwritten }
 {
-    let found = findings(rt.alloc(), script)?;
-    match compiled(rt.alloc(), script) {
+    let page = page_of(alloc, name.as_bytes(), script, found)?;
+    write_text(to, &page)
+}
+
+/// Writes what is to be said of a script. The answer is that of its compilation, without the module.
+fn check_to<W: Write>(
+    alloc: Global,
+    to: &mut W,
+    name: &str,
+    script: &[u8],
+) -> Result<RunEnd, TaskError>
+    ensures ok { IfOk result (Compiles script.now) }
+    ensures page { IfOk result (PrintsFindings name.now script.now (W.contents to.old)
+        (W.contents to.new)) }
+    ensures err { IfErr result IsUnwritten }
+{
+    let found = findings(alloc, script)?;
+    match compiled(alloc, script) {
         Ok(_) => {
-            print_page(rt, name, script, &found)?;
+            write_page(alloc, to, name, script, &found)?;
             Ok(RunEnd::Ended(0))
         }
         Err(RunEnd::NoMemory) => Err(TaskError::NoMemory),
         Err(end) => {
-            let found = with_error(found, &end)?;
-            print_page(rt, name, script, &found)?;
+            let told = with_error(found, &end)?;
+            write_page(alloc, to, name, script, &told)?;
             Ok(end)
         }
     }
@@ -107,5 +131,5 @@ pub(crate) fn check_file(rt: &HostRuntime, script_file: &str) -> Result<RunEnd, 
     ensures err { IfErr result (λ undone. IsUnread undone ⊎ IsUnwritten undone) }
 {
     let script = file_of(rt, script_file, SCRIPT_LIMIT)?;
-    check_bytes(rt, script_file, &script)
+    check_to(rt.alloc(), &mut rt.stdout(), script_file, &script)
 }

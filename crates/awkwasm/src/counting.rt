@@ -1,16 +1,11 @@
 //! What `count` and `run --stats` print.
-ghost use Rattle.std.specs.Prelude.{◌≡◌, ◌⊎◌, List, [], map, IfErr, IfOk, Ok};
-ghost use Rattle.awkwasm.specs.Done.{Does, Exits, IsUnbegun, IsUnread, end_of};
-ghost use Rattle.awkwasm.specs.Environment.{IsSortedByName};
+ghost use Rattle.std.specs.Prelude.{◌⊎◌, ℕ, List, IfErr, IfOk, Ok};
+ghost use Rattle.awkwasm.specs.Done.{Does, Exits, IsUnbegun, IsUnread};
+ghost use Rattle.awkwasm.specs.Sights.{AreLines, ScriptCounted, Tells, text_if};
 ghost use Rattle.command_line.specs.declared.Request.TheVariants.{Count, Run};
-ghost use Rattle.host_names.specs.Forms.{pair_of};
-ghost use Rattle.host_names.specs.declared.names.NamedText.{NamedText};
 ghost use Rattle.run_report.specs.CountTexts.{count_text, stats_text};
-ghost use Rattle.run_tasks.specs.Runs.{RunsText};
-ghost use Rattle.run_tasks.specs.Tasks.{task_code};
 
-use crate::output::tell;
-use crate::tasks::{SCRIPT_LIMIT, file_of, surroundings, tell_task};
+use crate::tasks::{Lines, SCRIPT_LIMIT, file_of, surroundings, tell_lines};
 use command_line::Task;
 use run_report::{RunCounts, RunEnd, count_text, stats_text};
 use run_tasks::{TaskError, script_counted};
@@ -22,85 +17,68 @@ fn run_bytes(
     task: &Task<'_>,
     script: &[u8],
 ) -> Result<(RunEnd, Option<RunCounts>), TaskError>
-    ensures ok { IfOk result (λ r. (environment : List NamedText) × IsSortedByName environment
-        × RunsText task.now script.now (map pair_of environment) r.0) }
+    ensures counted { IfOk result (λ r. ScriptCounted task.now script.now r.0 r.1) }
     ensures err { IfErr result IsUnbegun }
 {
     let around = surroundings(rt)?;
     Ok(script_counted(rt.alloc(), task, script, around))
 }
 
-/// The listing of a script that was run so; nothing for want of memory.
-fn listing_of(alloc: Global, script: &[u8], counts: &RunCounts) -> Vec<u8>
-    ensures { (result.items ≡ []) ⊎ (result.items ≡ count_text script.now counts.now) }
+/// The listing of a script that was run so, if it was counted.
+fn listing_of(alloc: Global, script: &[u8], counts: &Option<RunCounts>) -> Lines
+    ensures { AreLines result (text_if (count_text script.now) counts.now) }
 {
-    match count_text(alloc, script, counts) {
-        Ok(text) => text,
-        Err(_) => Vec::new(alloc),
+    match counts {
+        Some(counts) => count_text(alloc, script, counts),
+        None => Ok(Vec::new(alloc)),
     }
 }
 
-/// What is told of a run's counts; nothing for want of memory.
-fn stats_of(alloc: Global, counts: &RunCounts) -> Vec<u8>
-    ensures { (result.items ≡ []) ⊎ (result.items ≡ stats_text counts.now) }
+/// What is told of what a run took, if it was counted.
+fn stats_of(alloc: Global, counts: &Option<RunCounts>) -> Lines
+    ensures { AreLines result (text_if stats_text counts.now) }
 {
-    match stats_text(alloc, counts) {
-        Ok(text) => text,
-        Err(_) => Vec::new(alloc),
+    match counts {
+        Some(counts) => stats_text(alloc, counts),
+        None => Ok(Vec::new(alloc)),
     }
 }
 
-/// Runs the script in a task's file, and makes its listing, if it was counted.
-fn count_file(rt: &HostRuntime, task: &Task<'_>) -> Result<(RunEnd, Vec<u8>), TaskError>
+/// Runs the script in a task's file, and makes its listing.
+fn count_file(rt: &HostRuntime, task: &Task<'_>) -> Result<(RunEnd, Lines), TaskError>
     ensures ok { IfOk result (λ r. Does (Count task.now) (Ok r.0)) }
+    ensures told { IfOk result (λ r. (script : List ℕ)
+        × Tells (ScriptCounted task.now script r.0) (count_text script) r.1) }
     ensures err { IfErr result (λ undone. IsUnread undone ⊎ IsUnbegun undone) }
 {
     let script = file_of(rt, task.subject, SCRIPT_LIMIT)?;
     let (end, counts) = run_bytes(rt, task, &script)?;
-    let listing = match &counts {
-        Some(counts) => listing_of(rt.alloc(), &script, counts),
-        None => Vec::new(rt.alloc()),
-    };
+    let listing = listing_of(rt.alloc(), &script, &counts);
     Ok((end, listing))
 }
 
-/// Runs the script of a task, and makes the text of what the run took, if it was counted.
-fn run_with_stats(rt: &HostRuntime, task: &Task<'_>) -> Result<(RunEnd, Vec<u8>), TaskError>
+/// Runs the script of a task, and makes the lines that tell what the run took.
+fn run_with_stats(rt: &HostRuntime, task: &Task<'_>) -> Result<(RunEnd, Lines), TaskError>
     ensures ok { IfOk result (λ r. Does (Run task.now) (Ok r.0)) }
+    ensures told { IfOk result (λ r. Tells (ScriptCounted task.now task.now.subject.now r.0)
+        stats_text r.1) }
     ensures err { IfErr result IsUnbegun }
 {
     let (end, counts) = run_bytes(rt, task, task.subject.as_bytes())?;
-    let stats = match &counts {
-        Some(counts) => stats_of(rt.alloc(), counts),
-        None => Vec::new(rt.alloc()),
-    };
+    let stats = stats_of(rt.alloc(), &counts);
     Ok((end, stats))
-}
-
-/// Tells what became of a task, and then what was counted; the answer is the exit status.
-fn tell_counted(rt: &HostRuntime, counted: Result<(RunEnd, Vec<u8>), TaskError>) -> u8
-    ensures { result ≡ task_code (end_of counted) }
-{
-    match counted {
-        Ok((end, text)) => {
-            let status = tell_task(rt, Ok(end));
-            tell(rt, text.as_slice());
-            status
-        }
-        Err(undone) => tell_task(rt, Err(undone)),
-    }
 }
 
 /// Runs the script in a task's file, and lists its lines with how often they were executed, after the line that tells how it ended; the answer is the exit status.
 pub(crate) fn count_and_tell(rt: &HostRuntime, task: &Task<'_>) -> u8
     ensures { Exits (Count task.now) result }
 {
-    tell_counted(rt, count_file(rt, task))
+    tell_lines(rt, count_file(rt, task))
 }
 
 /// Runs the script of a task, and tells how it ended and what the run took; the answer is the exit status.
 pub(crate) fn stats_and_tell(rt: &HostRuntime, task: &Task<'_>) -> u8
     ensures { Exits (Run task.now) result }
 {
-    tell_counted(rt, run_with_stats(rt, task))
+    tell_lines(rt, run_with_stats(rt, task))
 }

@@ -1,11 +1,15 @@
 //! What `explain` prints.
-ghost use Rattle.std.specs.Prelude.{◌≡◌, ◌++◌, IfOk, OnOk, string_bytes};
+ghost use Rattle.std.specs.Prelude.{◌≡◌, ◌++◌, Err, IfErr, IfOk, OnOk, string_bytes};
 ghost use Rattle.run_report.specs.Topics.{all_topics};
-ghost use Rattle.awkwasm.specs.Explained.{Explains, explanation_text, topics_text};
+ghost use Rattle.awkwasm.specs.Done.{IsExplained, IsNotExplained};
+ghost use Rattle.awkwasm.specs.Explained.{Explains, IsExplanation, PrintsExplanation, explanation_text, topics_text};
 ghost use Rattle.awkwasm.specs.Printed.{line};
 
-use run_report::{Explanation, TOPICS, Topic, explain};
+use crate::output::write_text;
+use run_report::{Explanation, RunEnd, TOPICS, Topic, explain, topic_named};
+use run_tasks::TaskError;
 use std::alloc::{AllocError, Global};
+use std::io::Write;
 
 /// Adds a line of two parts.
 fn push_line(text: &mut String, lead: &str, part: &str) -> Result<(), AllocError>
@@ -28,7 +32,7 @@ fn names_of(alloc: Global, topics: &[Topic]) -> Result<String, AllocError>
 }
 
 /// The names that can be explained, a line each.
-pub(crate) fn names_text(alloc: Global) -> Result<String, AllocError>
+fn names_text(alloc: Global) -> Result<String, AllocError>
     ensures { IfOk result (λ text. string_bytes text ≡ topics_text all_topics) }
 {
     names_of(alloc, &TOPICS)
@@ -49,8 +53,38 @@ fn told(alloc: Global, name: &str, explanation: Explanation) -> Result<String, A
 }
 
 /// What a name means, a command that it comes of and what that command says, and what to do.
-pub(crate) fn explanation_text(alloc: Global, topic: Topic) -> Result<String, AllocError>
+fn explanation_text(alloc: Global, topic: Topic) -> Result<String, AllocError>
     ensures { IfOk result (λ text. Explains topic (string_bytes text)) }
 {
     told(alloc, topic.name(), explain(topic))
+}
+
+/// What is asked of `explain`: what a name means, or which names there are.
+fn explained(alloc: Global, name: Option<&str>) -> Result<String, TaskError>
+    ensures text { IfOk result (λ text. IsExplanation name.entry (string_bytes text)) }
+    ensures err { IfErr result (IsNotExplained name.entry) }
+{
+    let Some(name) = name else {
+        return Ok(names_text(alloc)?);
+    };
+    match topic_named(name) {
+        Some(topic) => Ok(explanation_text(alloc, topic)?),
+        None => Err(TaskError::Unexplained),
+    }
+}
+
+/// Writes what is asked of `explain`.
+#[tactic(auto, using(crate::proofs::Printing::unprinted))]
+pub(crate) fn explain_to<W: Write>(
+    alloc: Global,
+    to: &mut W,
+    name: Option<&str>,
+) -> Result<RunEnd, TaskError>
+    ensures text { OnOk result (PrintsExplanation name.entry (W.contents to.old) (W.contents to.new)) }
+    ensures done { IsExplained name.entry result }
+    ensures nothing { result ≡ Err TaskError.Unexplained → to.new ≡ to.old }
+{
+    let text = explained(alloc, name)?;
+    write_text(to, text.as_bytes())?;
+    Ok(RunEnd::Ended(0))
 }

@@ -1,10 +1,16 @@
 //! What `imports` prints.
-ghost use Rattle.std.specs.Prelude.{◌≡◌, ◌++◌, IfOk, OnOk, string_bytes};
-ghost use Rattle.awkwasm.specs.Printed.{imports_text, line, names_text, reads_text, writes_text};
+ghost use Rattle.std.specs.Io.KnownBytes.{Appends};
+ghost use Rattle.std.specs.Prelude.{◌≡◌, ◌≢◌, ◌++◌, IfErr, IfOk, OnOk, string_bytes};
+ghost use Rattle.awkwasm.specs.Done.{IsUnwritten, ListsSo};
+ghost use Rattle.awkwasm.specs.Printed.{PrintsImports, imports_text, line, names_text, reads_text, writes_text};
+ghost use Rattle.run_report.specs.declared.end.RunEnd.TheVariants.{Ended};
 
+use crate::output::write_text;
 use host_imports::Import;
-use run_tasks::{Reads, Writes, reads_of, writes_of};
+use run_report::RunEnd;
+use run_tasks::{Reads, TaskError, Writes, listed, reads_of, writes_of};
 use std::alloc::{AllocError, Global};
+use std::io::Write;
 
 fn reads_text(reads: Reads) -> &'static str
     ensures { result.now ≡ reads_text reads }
@@ -45,7 +51,7 @@ fn names_of(alloc: Global, imports: &[Import]) -> Result<String, AllocError>
 }
 
 /// The names of the imports, a line each, and what follows from them.
-pub(crate) fn imports_text(alloc: Global, imports: &[Import]) -> Result<String, AllocError>
+fn imports_text(alloc: Global, imports: &[Import]) -> Result<String, AllocError>
     ensures { IfOk result (λ text. string_bytes text ≡ imports_text imports.now) }
 {
     let mut text = names_of(alloc, imports)?;
@@ -53,4 +59,35 @@ pub(crate) fn imports_text(alloc: Global, imports: &[Import]) -> Result<String, 
     push_line(&mut text, reads_text(reads_of(imports)))?;
     push_line(&mut text, writes_text(writes_of(imports)))?;
     Ok(text)
+}
+
+/// Writes the names of the imports, and what follows from them.
+fn write_imports<W: Write>(alloc: Global, to: &mut W, imports: &[Import]) -> Result<(), TaskError>
+    ensures ok { OnOk result (Appends (W.contents to.old) (W.contents to.new)
+        (imports_text imports.now)) }
+    ensures err { IfErr result IsUnwritten }
+{
+    let text = imports_text(alloc, imports)?;
+    write_text(to, text.as_bytes())
+}
+
+/// Writes what the module of these bytes imports, and what follows; nothing where that is not listed.
+pub(crate) fn imports_to<W: Write>(
+    alloc: Global,
+    to: &mut W,
+    bytes: &[u8],
+) -> Result<RunEnd, TaskError>
+    ensures ok { IfOk result (ListsSo bytes.now) }
+    ensures text { IfOk result (λ e. e ≡ Ended 0
+        → PrintsImports bytes.now (W.contents to.old) (W.contents to.new)) }
+    ensures nothing { IfOk result (λ e. e ≢ Ended 0 → to.new ≡ to.old) }
+    ensures err { IfErr result IsUnwritten }
+{
+    match listed(alloc, bytes) {
+        Ok(imports) => {
+            write_imports(alloc, to, &imports)?;
+            Ok(RunEnd::Ended(0))
+        }
+        Err(end) => Ok(end),
+    }
 }

@@ -1,13 +1,14 @@
 //! awkwasm: compiles AWK scripts to WebAssembly modules, and runs scripts and modules.
 #![tactic(auto)]
 
-ghost use Rattle.std.specs.Prelude.{◌≡◌, ◌⊎◌, true, IfErr, IfOk};
-ghost use Rattle.clap.specs.Words.{kind_of, takes};
+ghost use Rattle.std.specs.Prelude.{◌≡◌, ◌⊎◌, List, map, string_bytes, true, IfErr, IfOk};
+ghost use Rattle.clap.specs.Words.{Text, kind_of, takes};
 ghost use Rattle.command_line.specs.Line.{line_app, status_of_kind};
 ghost use Rattle.command_line.specs.Spelling.{spelled_line};
 ghost use Rattle.command_line.specs.Request.{texts};
 ghost use Rattle.run_tasks.specs.declared.task_error.TaskError.TheVariants.{NoMemory};
-ghost use Rattle.awkwasm.specs.Lines.{Carries, Refuses};
+ghost use Rattle.awkwasm.specs.Done.{IsUnwritten};
+ghost use Rattle.awkwasm.specs.Lines.{Carries, IsToldApart, IsWordless, Refuses};
 
 mod checking;
 mod compiling;
@@ -20,7 +21,7 @@ mod output;
 mod standard;
 mod tasks;
 
-use crate::output::{print_text, tell};
+use crate::output::{tell, write_text};
 use crate::standard::take_closed;
 use crate::tasks::{carry_out, tell_task};
 use clap::Error;
@@ -29,12 +30,14 @@ use command_line::{
 };
 use run_report::shown;
 use run_tasks::TaskError;
-use std::alloc::AllocError;
+use std::alloc::{AllocError, Global};
 use std::io;
 use std::process::ExitCode;
 
 /// The arguments, the program's name first.
-fn arguments(rt: &HostRuntime) -> Result<Vec<String>, TaskError> {
+fn arguments(rt: &HostRuntime) -> Result<Vec<String>, TaskError>
+    ensures { IfErr result IsWordless }
+{
     match std::env::args(rt) {
         Ok(words) => Ok(words.collect(rt.alloc())?),
         Err(error) if error.kind() == io::ErrorKind::OutOfMemory => Err(TaskError::NoMemory),
@@ -43,8 +46,10 @@ fn arguments(rt: &HostRuntime) -> Result<Vec<String>, TaskError> {
 }
 
 /// The words of the arguments.
-fn words_of<'a>(rt: &HostRuntime, arguments: &'a [String]) -> Result<Vec<&'a str>, AllocError> {
-    let mut words = Vec::new(rt.alloc());
+fn words_of(alloc: Global, arguments: &[String]) -> Result<Vec<&str>, AllocError>
+    ensures { IfOk result (λ words. texts words.items ≡ map string_bytes arguments.now) }
+{
+    let mut words = Vec::new(alloc);
     for argument in arguments {
         words.push(argument.as_str())?;
     }
@@ -53,13 +58,14 @@ fn words_of<'a>(rt: &HostRuntime, arguments: &'a [String]) -> Result<Vec<&'a str
 
 /// Prints the text of a line that asks for nothing: help and the version to the standard output, else what is wrong to the standard error.
 fn tell_refused(rt: &HostRuntime, error: &Error) -> Result<u8, TaskError>
-    ensures { IfOk result (λ code. code ≡ status_of_kind (kind_of error.now)) }
+    ensures ok { IfOk result (λ code. code ≡ status_of_kind (kind_of error.now)) }
+    ensures err { IfErr result IsUnwritten }
 {
     let text = format!(in rt.alloc(); "{error}")?;
     if error.use_stderr() {
         tell(rt, shown(rt.alloc(), text.as_bytes())?.as_slice());
     } else {
-        print_text(rt, text.as_str())?;
+        write_text(&mut rt.stdout(), text.as_bytes())?;
     }
     Ok(exit_status(error))
 }
@@ -70,6 +76,7 @@ fn answer(rt: &HostRuntime, words: &[&str]) -> Result<u8, TaskError>
         (λ code. Carries (texts words.now) code ⊎ Refuses (texts words.now) code) }
     ensures err { IfErr result (λ undone. takes line_app (spelled_line (texts words.now)) ≡ true
         → undone ≡ NoMemory) }
+    ensures cause { IfErr result (IsToldApart (texts words.now)) }
 {
     let line = spelled_line(rt.alloc(), words)?;
     match request_of(rt.alloc(), &line) {
@@ -84,10 +91,28 @@ fn answer(rt: &HostRuntime, words: &[&str]) -> Result<u8, TaskError>
     }
 }
 
-fn status(rt: &HostRuntime) -> Result<u8, TaskError> {
-    let arguments = arguments(rt)?;
-    let words = words_of(rt, &arguments)?;
+/// Does what the arguments ask for; the answer is the exit status.
+fn answer_arguments(rt: &HostRuntime, arguments: &[String]) -> Result<u8, TaskError>
+    ensures ok { IfOk result (λ code. Carries (map string_bytes arguments.now) code
+        ⊎ Refuses (map string_bytes arguments.now) code) }
+    ensures err { IfErr result (λ undone.
+        takes line_app (spelled_line (map string_bytes arguments.now)) ≡ true
+        → undone ≡ NoMemory) }
+    ensures cause { IfErr result (IsToldApart (map string_bytes arguments.now)) }
+{
+    let words = words_of(rt.alloc(), arguments)?;
     answer(rt, &words)
+}
+
+/// Does what the process's arguments ask for; the answer is the exit status.
+fn status(rt: &HostRuntime) -> Result<u8, TaskError>
+    ensures ok { IfOk result (λ code. (words : List Text) × (Carries words code
+        ⊎ Refuses words code)) }
+    ensures err { IfErr result (λ undone. IsWordless undone
+        ⊎ ((words : List Text) × IsToldApart words undone)) }
+{
+    let arguments = arguments(rt)?;
+    answer_arguments(rt, &arguments)
 }
 
 fn main(rt: HostRuntime) -> ExitCode {

@@ -1,12 +1,14 @@
 //! What goes to the standard streams and to a module's file.
-ghost use Rattle.std.specs.Prelude.{IfErr};
+ghost use Rattle.std.specs.Io.KnownBytes.{Appends};
+ghost use Rattle.std.specs.IoError.{error_kind};
+ghost use Rattle.std.specs.Prelude.{◌≡◌, ◌≢◌, IfErr, OnOk};
 ghost use Rattle.awkwasm.specs.Done.{IsUnwritten};
 
 use run_report::FileFault;
 use run_tasks::TaskError;
 use std::alloc::AllocError;
 use std::fs::{File, OpenOptions, Permissions};
-use std::io::{ErrorKind, Print, Write};
+use std::io::{ErrorKind, Write};
 use std::os::unix::fs::MetadataExt;
 use std::{fs, io, process};
 
@@ -19,8 +21,11 @@ pub(crate) fn tell(rt: &HostRuntime, text: &[u8]) {
 }
 
 /// What is told of a file, or of the standard output, that is not written.
-fn unwritten(error: &io::Error) -> TaskError
-    ensures { IsUnwritten result }
+pub(crate) fn unwritten(error: &io::Error) -> TaskError
+    ensures memory { error_kind error.now ≡ ErrorKind.OutOfMemory → result ≡ TaskError.NoMemory }
+    ensures other { error_kind error.now ≢ ErrorKind.OutOfMemory
+        → result ≡ TaskError.File FileFault.CannotWrite }
+    ensures kind { IsUnwritten result }
 {
     match error.kind() {
         ErrorKind::OutOfMemory => TaskError::NoMemory,
@@ -28,11 +33,12 @@ fn unwritten(error: &io::Error) -> TaskError
     }
 }
 
-/// Writes a text to the standard output.
-pub(crate) fn print_text(rt: &HostRuntime, text: &str) -> Result<(), TaskError>
-    ensures { IfErr result IsUnwritten }
+/// Writes the whole of a text.
+pub(crate) fn write_text<W: Write>(to: &mut W, text: &[u8]) -> Result<(), TaskError>
+    ensures ok { OnOk result (Appends (W.contents to.old) (W.contents to.new) text.now) }
+    ensures err { IfErr result IsUnwritten }
 {
-    match print!(rt; "{text}") {
+    match to.write_all(text) {
         Ok(()) => Ok(()),
         Err(error) => Err(unwritten(&error)),
     }

@@ -1,45 +1,43 @@
 //! What the command line asks for, over real files.
-ghost use Rattle.std.specs.Prelude.{◌≡◌, ◌⊎◌, ℕ, List, [], map, IfErr, IfOk, MatchOption, Some, string_bytes};
-ghost use Rattle.awkwasm.specs.Done.{Does, Exits, IsExplained, IsNotExplained, IsUnbegun, IsUnread, IsUnwritten};
+ghost use Rattle.std.specs.Io.KnownBytes.{Appends};
+ghost use Rattle.std.specs.Prelude.{◌≡◌, ◌⊎◌, ◌++◌, ℕ, List, map, IfErr, IfOk, Ok, OnOk};
+ghost use Rattle.awkwasm.specs.Done.{Does, Exits, IsUnbegun, IsUnread, IsUnwritten, ListsSo, end_of};
 ghost use Rattle.awkwasm.specs.Environment.{IsSortedByName};
-ghost use Rattle.awkwasm.specs.Explained.{Explains, topics_text};
+ghost use Rattle.awkwasm.specs.Printed.{told_text};
+ghost use Rattle.awkwasm.specs.Sights.{AreLines, ScriptSeen, Tells, lines_in, text_if};
 ghost use Rattle.command_line.specs.declared.Request.TheVariants.{Run};
 ghost use Rattle.host_names.specs.Forms.{pair_of};
 ghost use Rattle.host_names.specs.declared.names.NamedText.{NamedText};
-ghost use Rattle.run_report.specs.EndTexts.{exit_code};
-ghost use Rattle.run_report.specs.Topics.{all_topics, named};
 ghost use Rattle.run_report.specs.WhereTexts.{where_text};
-ghost use Rattle.run_report.specs.declared.end.RunEnd.TheVariants.{Ended};
-ghost use Rattle.run_report.specs.declared.topic.Topic.{Topic};
 ghost use Rattle.run_tasks.specs.Runs.{RunsModule, RunsScript};
-ghost use Rattle.run_tasks.specs.Tasks.{IsUnreadable, task_code};
+ghost use Rattle.run_tasks.specs.Tasks.{task_code};
 
 use crate::checking::check_file;
 use crate::compiling::compile_file;
 use crate::counting::{count_and_tell, stats_and_tell};
 use crate::environment::environment_of;
-use crate::explanations::{explanation_text, names_text};
-use crate::imports::imports_text;
+use crate::explanations::explain_to;
+use crate::imports::imports_to;
 use crate::module_sight::exec_and_tell;
-use crate::output::{print_text, tell};
+use crate::output::{unwritten, write_text};
 use command_line::{Request, Task};
-use run_report::{
-    FileFault, RunEnd, Whereabouts, no_memory_text, status_of, tell_end, topic_named, where_text,
-};
+use run_report::{FileFault, RunEnd, Whereabouts, no_memory_text, status_of, tell_end, where_text};
 use run_tasks::{
-    Surroundings, TaskError, listed, module_end, script_end, script_seen, undone_status,
-    undone_text,
+    Surroundings, TaskError, module_end, script_end, script_seen, undone_status, undone_text,
 };
 use script_code::MAX_SCRIPT_BYTES;
-use std::alloc::Global;
+use std::alloc::{AllocError, Global};
 use std::hash::RandomState;
-use std::io::{Printer, Read, Stderr, Stdin};
+use std::io::{Printer, Read, Stderr, Stdin, Write};
 use std::rt::Files;
 use std::{fs, io};
 use wasm_types::MAX_MODULE_BYTES;
 
 /// What a run of the program is in.
 pub(crate) type Around<'a> = Surroundings<'a, HostRuntime, Stdin, Printer<'a, HostRuntime>, Stderr>;
+
+/// What is told of a run after the line of its end; an error for want of memory.
+pub(crate) type Lines = Result<Vec<u8>, AllocError>;
 
 /// How many bytes of a script's file are read at most: one past the greatest length of a script.
 pub(crate) const SCRIPT_LIMIT: u64 = MAX_SCRIPT_BYTES as u64 + 1;
@@ -108,8 +106,7 @@ fn run_task_where(
     rt: &HostRuntime,
     task: &Task<'_>,
 ) -> Result<(RunEnd, Option<Whereabouts>), TaskError>
-    ensures ok { IfOk result (λ r. (environment : List NamedText) × IsSortedByName environment
-        × RunsScript task.now (map pair_of environment) r.0) }
+    ensures seen { IfOk result (λ r. ScriptSeen task.now r.0 r.1) }
     ensures err { IfErr result IsUnbegun }
 {
     let around = surroundings(rt)?;
@@ -136,112 +133,117 @@ fn exec_task(rt: &HostRuntime, task: &Task<'_>) -> Result<RunEnd, TaskError>
     exec_bytes(rt, task, &bytes)
 }
 
-/// What is asked of `explain`: what a name means, or which names there are.
-fn explained(alloc: Global, name: Option<&str>) -> Result<String, TaskError>
-    ensures text { IfOk result (λ text. MatchOption name.entry (string_bytes text ≡ topics_text all_topics)
-        (λ asked. (topic : Topic) × (named asked.now ≡ Some topic) × Explains topic (string_bytes text))) }
-    ensures err { IfErr result IsNotExplained }
-{
-    let Some(name) = name else {
-        return Ok(names_text(alloc)?);
-    };
-    match topic_named(name) {
-        Some(topic) => Ok(explanation_text(alloc, topic)?),
-        None => Err(TaskError::Unexplained),
-    }
-}
-
-/// Prints what is asked of `explain`.
-#[tactic(auto, using(crate::proofs::Printing::unprinted))]
-fn explain_task(rt: &HostRuntime, name: Option<&str>) -> Result<RunEnd, TaskError>
-    ensures { IsExplained result }
-{
-    let text = explained(rt.alloc(), name)?;
-    print_text(rt, text.as_str())?;
-    Ok(RunEnd::Ended(0))
-}
-
-/// Prints what a module imports, and what follows.
+/// Prints what the module in a file imports, and what follows.
 fn imports_task(rt: &HostRuntime, file: &str) -> Result<RunEnd, TaskError>
-    ensures ok { IfOk result (λ e. (e ≡ Ended 0) ⊎ ((bytes : List ℕ) × IsUnreadable bytes e)) }
+    ensures ok { IfOk result (λ e. (bytes : List ℕ) × ListsSo bytes e) }
     ensures err { IfErr result (λ undone. IsUnread undone ⊎ IsUnwritten undone) }
 {
     let bytes = file_of(rt, file, MODULE_LIMIT)?;
-    let imports = match listed(rt.alloc(), &bytes) {
-        Ok(imports) => imports,
-        Err(end) => return Ok(end),
-    };
-    let text = imports_text(rt.alloc(), &imports)?;
-    print_text(rt, text.as_str())?;
-    Ok(RunEnd::Ended(0))
+    imports_to(rt.alloc(), &mut rt.stdout(), &bytes)
 }
 
-/// Tells how a run ended; the answer is its exit status.
-fn tell_run(rt: &HostRuntime, end: RunEnd) -> u8
-    ensures { result ≡ exit_code end }
+/// Writes the line that tells what became of a task where that is no status of its own. For want of memory it is constant.
+fn write_told<W: Write>(
+    alloc: Global,
+    to: &mut W,
+    done: &Result<RunEnd, TaskError>,
+) -> io::Result<()>
+    ensures { OnOk result (Appends (W.contents to.old) (W.contents to.new) (told_text done.now)) }
 {
-    if let RunEnd::NoMemory = end {
-        tell(rt, no_memory_text());
-    } else {
-        let _ = tell_end(rt.alloc(), &mut rt.stderr(), &end);
+    match done {
+        Ok(RunEnd::NoMemory) => to.write_all(no_memory_text()),
+        Ok(end) => tell_end(alloc, to, end),
+        Err(undone) => to.write_all(undone_text(undone)),
     }
-    status_of(&end)
 }
 
-/// Tells what became of a task where that is no status of its own; the answer is the exit status.
+/// The exit status of what became of a task.
+fn task_status(done: &Result<RunEnd, TaskError>) -> u8
+    ensures { result ≡ task_code done.now }
+{
+    match done {
+        Ok(end) => status_of(end),
+        Err(undone) => undone_status(undone),
+    }
+}
+
+/// Tells what became of a task where that is no status of its own; the answer is the exit status. That it is not told changes nothing.
 pub(crate) fn tell_task(rt: &HostRuntime, done: Result<RunEnd, TaskError>) -> u8
     ensures { result ≡ task_code done }
 {
-    match done {
-        Ok(end) => tell_run(rt, end),
-        Err(undone) => {
-            tell(rt, undone_text(&undone));
-            undone_status(&undone)
-        }
-    }
+    let _ = write_told(rt.alloc(), &mut rt.stderr(), &done);
+    task_status(&done)
 }
 
-/// What is told of where a script was as its run ended so; nothing for want of memory.
-fn lines_of(alloc: Global, end: &RunEnd, found: &Whereabouts) -> Vec<u8>
-    ensures { (result.items ≡ []) ⊎ (result.items ≡ where_text end.now found.now) }
+/// The lines for which there was memory.
+fn lines_in(lines: &Lines) -> &[u8]
+    ensures { result.now ≡ lines_in lines.now }
 {
-    match where_text(alloc, end, found) {
-        Ok(lines) => lines,
-        Err(_) => Vec::new(alloc),
+    match lines {
+        Ok(lines) => lines.as_slice(),
+        Err(_) => &[],
     }
 }
 
-/// What is told of where a script was, if it was run and that was seen.
-fn where_lines(
+/// Writes what became of a task, and then the lines of its run.
+#[tactic(auto, using(run_report::proofs::Written::both))]
+fn write_lines<W: Write>(
     alloc: Global,
+    to: &mut W,
     done: &Result<RunEnd, TaskError>,
-    found: &Option<Whereabouts>,
-) -> Vec<u8> {
-    match (done, found) {
-        (Ok(end), Some(found)) => lines_of(alloc, end, found),
-        _ => Vec::new(alloc),
+    lines: &Lines,
+) -> Result<(), TaskError>
+    ensures { OnOk result (Appends (W.contents to.old) (W.contents to.new)
+        (told_text done.now ++ lines_in lines.now)) }
+{
+    let told = write_told(alloc, to, done);
+    write_text(to, lines_in(lines))?;
+    match told {
+        Ok(()) => Ok(()),
+        Err(error) => Err(unwritten(&error)),
     }
 }
 
-/// Runs the script of a task, and sees where it was.
-fn seen_run(rt: &HostRuntime, task: &Task<'_>) -> (Result<RunEnd, TaskError>, Option<Whereabouts>)
-    ensures { Does (Run task.now) result.0 }
+/// Tells what became of a task, and then the lines of its run; the answer is the exit status. That they are not told changes nothing.
+pub(crate) fn tell_lines(rt: &HostRuntime, told: Result<(RunEnd, Lines), TaskError>) -> u8
+    ensures { result ≡ task_code (end_of told) }
 {
-    match run_task_where(rt, task) {
-        Ok((end, found)) => (Ok(end), found),
-        Err(undone) => (Err(undone), None),
+    match told {
+        Ok((end, lines)) => {
+            let done = Ok(end);
+            let _ = write_lines(rt.alloc(), &mut rt.stderr(), &done, &lines);
+            task_status(&done)
+        }
+        Err(undone) => tell_task(rt, Err(undone)),
     }
+}
+
+/// The lines that tell where a script was as its run ended so, if that was seen.
+fn where_lines(alloc: Global, end: &RunEnd, found: &Option<Whereabouts>) -> Lines
+    ensures { AreLines result (text_if (where_text end.now) found.now) }
+{
+    match found {
+        Some(found) => where_text(alloc, end, found),
+        None => Ok(Vec::new(alloc)),
+    }
+}
+
+/// Runs the script of a task, and makes the lines that tell where it was.
+fn told_run(rt: &HostRuntime, task: &Task<'_>) -> Result<(RunEnd, Lines), TaskError>
+    ensures ok { IfOk result (λ r. Does (Run task.now) (Ok r.0)) }
+    ensures told { IfOk result (λ r. Tells (ScriptSeen task.now r.0) (where_text r.0) r.1) }
+    ensures err { IfErr result IsUnbegun }
+{
+    let (end, found) = run_task_where(rt, task)?;
+    let lines = where_lines(rt.alloc(), &end, &found);
+    Ok((end, lines))
 }
 
 /// Runs the script of a task, and tells how it ended and where it was; the answer is the exit status.
 fn run_and_tell(rt: &HostRuntime, task: &Task<'_>) -> u8
     ensures { Exits (Run task.now) result }
 {
-    let (done, found) = seen_run(rt, task);
-    let lines = where_lines(rt.alloc(), &done, &found);
-    let status = tell_task(rt, done);
-    tell(rt, lines.as_slice());
-    status
+    tell_lines(rt, told_run(rt, task))
 }
 
 /// Does what a command line asks for, over real files; the answer is the exit status.
@@ -272,7 +274,7 @@ pub(crate) fn carry_out(rt: &HostRuntime, request: &Request) -> u8
         Request::Count(task) => return count_and_tell(rt, task),
         Request::Exec(task) => exec_task(rt, task),
         Request::Imports(file) => imports_task(rt, file),
-        Request::Explain(name) => explain_task(rt, *name),
+        Request::Explain(name) => explain_to(rt.alloc(), &mut rt.stdout(), *name),
     };
     tell_task(rt, done)
 }

@@ -1,14 +1,14 @@
 -- Dead ends.
-use Rattle.std.proofs.Common.{◌≡◌, ℕ, ◌+◌, ◌*◌, ◌<◌, ◌≤◌, ◌⊎◌, inl, inr, Bool, true, false, List, [], ◌∷◌, ◌++◌, length, Option, Some, None, Vec, Global, refl, sym, ap, ◌∙◌, subst, arith, set, get_or}
-use Rattle.std.specs.Prelude.{slice_get, nat_eq, is_none, ◌&&◌}
+use Rattle.std.proofs.Common.{◌≡◌, ℕ, ◌+◌, ◌*◌, ◌<◌, ◌≤◌, ◌⊎◌, inl, inr, Bool, true, false, cond, List, [], ◌∷◌, ◌++◌, length, Option, Some, None, Vec, Global, refl, sym, ap, ◌∙◌, subst, arith, set, get_or}
+use Rattle.std.specs.Prelude.{slice_get, nat_eq, nat_lt, is_none, ◌&&◌}
 use Rattle.std.proofs.Props.{props}
 use Rattle.std.proofs.Math.Logic.{∥∥₁_elim, ∥∥₁_map}
-use Rattle.std.proofs.lemmas.Bool.{cases_eq, cases_lt}
+use Rattle.std.proofs.lemmas.Bool.{cases_eq, cases_lt, ltb-false, ltb-true}
 use Rattle.std.proofs.lemmas.Option.{slice_get_within}
 use Rattle.ere_match.specs.declared.dead_ends.DeadEnds.{DeadEnds}
 use Rattle.ere_match.specs.declared.node.Node.{Node}
 use Rattle.ere_match.specs.declared.row.Row.{Row}
-use Rattle.ere_match.specs.Ends.{AreAllMarked, AreDead, AreTails, IsNoted, IsTail, LeadsNowhere, MarksOnly}
+use Rattle.ere_match.specs.Ends.{AreAllMarked, AreDead, AreTails, IsNoted, IsTail, LeadsNowhere, MarksOnly, raised}
 use Rattle.ere_match.specs.Rows.{Begins, IsMoved, IsRow, cut, last_number, limit_of, threads_of}
 use Rattle.ere_match.specs.Runs.{Runs}
 use Rattle.ere_match.specs.Threads.{Holds, IsAccepted, SetRuns}
@@ -58,12 +58,50 @@ tails_wider all text i n n' on on' row ends le more t = λ place id j m noted ab
 pub dead_tails : (all : List Node) (text : List ℕ) (i n : ℕ) (on : Bool) (row : Row) (ends : DeadEnds) → AreDead all text ends → AreTails all text i n on row ends
 dead_tails all text i n on row ends d = λ place id j m noted above inside run. absurd (d place id j m noted above inside run)
 
-pub off_dead : (all : List Node) (text : List ℕ) (i n : ℕ) (on : Bool) (row : Row) (ends : DeadEnds) → on ≡ false → AreTails all text i n on row ends → AreDead all text ends
-off_dead all text i n on row ends off t = λ place id j m noted above inside run. (let x : false ≡ true = sym off ∙ (t place id j m noted above inside run).0 in absurd cc)
-
 pub nowhere_dead : (all : List Node) (text : List ℕ) (i n : ℕ) (on : Bool) (row : Row) (ends : DeadEnds) → LeadsNowhere all text i row → AreTails all text i n on row ends → AreDead all text ends
 nowhere_dead all text i n on row ends none t = λ place id j m noted above inside run.
     ∥∥₁_elim (t place id j m noted above inside run).2.1 (hlevel props) (λ r. none j r.0 inside r.1)
+
+-- ---- no mark up to a place is believed
+
+above_both : (end place : ℕ) (ends : DeadEnds) → (raised end ends).floor < place → (ends.floor < place) × (end < place)
+above_both end place ends above = by (nat_lt ends.floor end) refl above
+  where
+    by : (b : Bool) → nat_lt ends.floor end ≡ b → cond b end ends.floor < place → (ends.floor < place) × (end < place)
+    by true e h = ((let x = ltb-true ends.floor end e in omega (arith, x, h)), h)
+    by false e h = (h, (let x = ltb-false ends.floor end e in omega (arith, x, h)))
+
+pub above_raised : (end place : ℕ) (ends : DeadEnds) → ends.floor < place → end < place → (raised end ends).floor < place
+above_raised end place ends floor behind = by (nat_lt ends.floor end)
+  where
+    by : (b : Bool) → cond b end ends.floor < place
+    by true = behind
+    by false = floor
+
+pub raised_dead : (all : List Node) (text : List ℕ) (end : ℕ) (ends : DeadEnds) → AreDead all text ends → AreDead all text (raised end ends)
+raised_dead all text end ends d = λ place id j m noted above inside run. d place id j m noted (above_both end place ends above).0 inside run
+
+-- up to the place before which all that is noted was noted
+pub past_dead : (all : List Node) (text : List ℕ) (i n end past : ℕ) (on : Bool) (row : Row) (ends : DeadEnds) → n ≤ past + 1 → end ≤ past → AreTails all text i n on row (raised end ends) → AreDead all text (raised past ends)
+past_dead all text i n end past on row ends short le t = λ place id j m noted above inside run.
+    (let p = above_both past place ends above in
+    let x = t place id j m noted (above_raised end place ends p.0 (omega (arith, p.1, le))) inside run in
+    omega (arith, x.1, p.1, short))
+
+-- the floor is there
+module _ (all : List Node) (text : List ℕ) (end : ℕ) (old new : DeadEnds) (steps : new.step ≡ old.step) (noted : new.marks ≡ old.marks) (higher : old.floor ≤ new.floor) (floor : end ≤ new.floor) where
+  noted_before : (place id : ℕ) → IsNoted new.step new.marks.items place id → IsNoted old.step old.marks.items place id
+  noted_before place id n = subst (λ k. IsNoted k old.marks.items place id) steps (subst (λ (v : Vec Marks Global). IsNoted new.step v.items place id) noted n)
+
+  pub forgotten_tails : (i n : ℕ) (on : Bool) (row : Row) → AreTails all text i n on row (raised end old) → AreTails all text i n on row new
+  forgotten_tails i n on row t = λ place id j m is above inside run.
+      t place id j m (noted_before place id is) (above_raised end place old (omega (arith, above, higher)) (omega (arith, above, floor))) inside run
+
+  pub forgotten_dead : AreDead all text (raised end old) → AreDead all text new
+  forgotten_dead d = λ place id j m is above inside run.
+      d place id j m (noted_before place id is) (above_raised end place old (omega (arith, above, higher)) (omega (arith, above, floor))) inside run
+
+-- ---- a row is looked at
 
 -- a row without threads
 pub empty_nowhere : (all : List Node) (text : List ℕ) (i : ℕ) (row : Row) → IsRow all row → row.count ≡ 0 → LeadsNowhere all text i row

@@ -1,5 +1,5 @@
 -- The places of a search.
-use Rattle.std.proofs.Common.{◌≡◌, ℕ, ◌+◌, ◌<◌, ◌≤◌, Bool, true, false, cond, List, length, Option, Some, None, refl, sym, ap, ◌∙◌, subst, arith, get_or, nat_le}
+use Rattle.std.proofs.Common.{◌≡◌, ℕ, ◌+◌, ◌<◌, ◌≤◌, Bool, true, List, length, Option, Some, None, sym, ap, ◌∙◌, subst, arith, get_or, nat_eq}
 use Rattle.std.specs.Prelude.{slice_get, is_none, ◌&&◌}
 use Rattle.std.proofs.Props.{props}
 use Rattle.std.specs.Option.{is_some}
@@ -9,20 +9,11 @@ use Rattle.ere_match.specs.declared.dead_ends.DeadEnds.{DeadEnds}
 use Rattle.ere_match.specs.declared.node.Node.{Node}
 use Rattle.ere_match.specs.declared.row.Row.{Row}
 use Rattle.ere_match.specs.declared.row.Table.{Table}
-use Rattle.ere_match.specs.Ends.{AreTails, LeadsNowhere}
+use Rattle.ere_match.specs.Ends.{AreDead, AreTails, LeadsNowhere}
 use Rattle.ere_match.specs.Threads.{AreThreads, Holds, IsAccepted, IsBest, better_of}
-use Rattle.ere_match.specs.Rows.{HasMoved, IsRow, IsSearching, IsTable, spread, started, threads_of}
-use Rattle.ere_match.proofs.Ends.{tails_on, tails_wider}
-use Rattle.ere_match.proofs.Searches.{row_in, search_at, search_ends, search_over, search_step}
-
-better_some : (o : Option ℕ) (i : ℕ) (best : Option (ℕ × ℕ)) → is_some best ≡ true → is_some (better_of o i best) ≡ true
-better_some None i best e = e
-better_some (Some s) i None e = refl
-better_some (Some s) i (Some p) e = by (nat_le s p.0)
-  where
-    by : (b : Bool) → is_some (cond b (Some (s, i)) (Some p)) ≡ true
-    by true = refl
-    by false = refl
+use Rattle.ere_match.specs.Rows.{AreEarly, HasMoved, IsLatest, IsRow, IsSearching, IsTable, spread, started, threads_of}
+use Rattle.ere_match.proofs.Ends.{tails_on}
+use Rattle.ere_match.proofs.Searches.{early_on, row_in, search_at, search_ends, search_over, search_step}
 
 accepted_small : (all : List Node) (row : Row) (set : List (Option ℕ)) (n k : ℕ) (o : Option ℕ) → o ≡ Some k → ((id s : ℕ) → Holds set id s → s < row.count) → IsAccepted all set n o → k < row.count
 accepted_small all row set n k None e few a = absurd cc
@@ -36,6 +27,10 @@ inside_small all row k r e = accepted_small all row (threads_of row) (length all
 
 pub ending_small : (all : List Node) (row : Row) (k : ℕ) → IsRow all row → row.at_end ≡ Some k → k < row.count
 ending_small all row k r e = accepted_small all row r.ending (length all) k row.at_end e (λ id s h. (let o = r.is_ending.starts.at id s h in r.few o.0 s o.1)) r.at_end
+
+-- a thread that is accepted is one of the row's
+pub early_inside : (all : List Node) (row : Row) (starts : List ℕ) (start k : ℕ) → IsRow all row → AreEarly row starts start → row.inside ≡ Some k → get_or starts k 0 ≤ start
+early_inside all row starts start k known early e = (let a = subst (IsAccepted all (threads_of row) (length all)) e known.inside in early a.0.0 k a.0.1)
 
 module _ (all : List Node) (text : List ℕ) (entry from i state : ℕ) (best : Option (ℕ × ℕ)) (t : Table) (row : Row) (read : row ≡ get_or t.rows.items state row) (s : IsSearching all text entry from i state best t) where
   pub row_read : slice_get t.rows.items state ≡ Some row
@@ -90,9 +85,6 @@ module _ (all : List Node) (text : List ℕ) (entry from i state : ℕ) (best : 
 
   -- what is noted of dead ends
 
-  pub found_tails : (next : Option (ℕ × ℕ)) (ends : DeadEnds) → next ≡ better_of (started t.starts.items row.inside) i best → ((r : Row) → slice_get t.rows.items state ≡ Some r → AreTails all text i i (is_some best) r ends) → AreTails all text i i (is_some next) row ends
-  found_tails next ends is h = tails_wider all text i i i (is_some best) (is_some next) row ends (omega arith) (λ e. ap is_some is ∙ better_some (started t.starts.items row.inside) i best e) (h row row_read)
-
   pub row_known : IsRow all row
   row_known = (search_at all text entry from i state best t row row_read s).known
 
@@ -104,8 +96,29 @@ module _ (all : List Node) (text : List ℕ) (entry from i state : ℕ) (best : 
       (tails_on all text entry i (get_or text i 0) m.before a.known a.is_first inside (slice_get-get_or text i 0 inside) m.row m.f found ends m.moved h')
 
 -- the same of mere facts
+
+pub read_tails : (all : List Node) (text : List ℕ) (entry from i state : ℕ) (best : Option (ℕ × ℕ)) (t : Table) (row : Row) → row ≡ get_or t.rows.items state row → (ends : DeadEnds) → ∥ IsSearching all text entry from i state best t ∥₁ → ((r : Row) → slice_get t.rows.items state ≡ Some r → AreTails all text i i true r ends) → AreTails all text i i true row ends
+read_tails all text entry from i state best t row read ends s tails = ∥∥₁_elim s (hlevel props) (λ x. tails row (row_read all text entry from i state best t row read x))
+
+pub read_early : (all : List Node) (text : List ℕ) (entry from i state : ℕ) (best : Option (ℕ × ℕ)) (t : Table) (row : Row) → row ≡ get_or t.rows.items state row → (start : ℕ) → ∥ IsSearching all text entry from i state best t ∥₁ → ((r : Row) → slice_get t.rows.items state ≡ Some r → AreEarly r t.starts.items start) → AreEarly row t.starts.items start
+read_early all text entry from i state best t row read start s early = λ id k holds. ∥∥₁_elim s (search props) (λ x. early row (row_read all text entry from i state best t row read x) id k holds)
+
 pub search_tails : (all : List Node) (text : List ℕ) (entry from i state : ℕ) (best : Option (ℕ × ℕ)) (t : Table) (row : Row) → row ≡ get_or t.rows.items state row → (to : ℕ) (found : Bool) (ends : DeadEnds) (new : Table) → i < length text → ∥ HasMoved all entry (get_or text i 0) found (i + 1) t state new to ∥₁ → ∥ IsSearching all text entry from i state best t ∥₁ → AreTails all text i (i + 1) (found && is_none row.inside) row ends → (r : Row) → slice_get new.rows.items to ≡ Some r → AreTails all text (i + 1) (i + 1) found r ends
 search_tails all text entry from i state best t row read to found ends new inside m s h r is = ∥∥₁_elim s (hlevel props) (λ x. ∥∥₁_elim m (hlevel props) (λ y. tails_at all text entry from i state best t row read x to found ends new inside y h r is))
 
 pub search_moves : (all : List Node) (text : List ℕ) (entry from i state : ℕ) (best : Option (ℕ × ℕ)) (t : Table) (row : Row) → row ≡ get_or t.rows.items state row → (to : ℕ) (found : Bool) (next : Option (ℕ × ℕ)) (classes : List ℕ) (new : Table) → from ≤ i → i < length text → next ≡ better_of (started t.starts.items row.inside) i best → found ≡ is_some next → ∥ IsTable all entry classes new ∥₁ → ∥ HasMoved all entry (get_or text i 0) found (i + 1) t state new to ∥₁ → ∥ IsSearching all text entry from i state best t ∥₁ → ∥ IsSearching all text entry from (i + 1) to next new ∥₁
 search_moves all text entry from i state best t row read to found next classes new above inside is has h m s = ∥∥₁_elim s ∥∥₁_prop (λ x. ∥∥₁_map₂ h m (λ y z. step_at all text entry from i state best t row read x to found next classes new above inside is has y z))
+
+pub early_moves : (all : List Node) (text : List ℕ) (entry from i state : ℕ) (best : Option (ℕ × ℕ)) (t : Table) (row : Row) → row ≡ get_or t.rows.items state row → (to start : ℕ) (classes : List ℕ) (new : Table) → IsLatest row t.starts.items row.inside start → ∥ IsTable all entry classes new ∥₁ → ∥ HasMoved all entry (get_or text i 0) true (i + 1) t state new to ∥₁ → ∥ IsSearching all text entry from i state best t ∥₁ → (r : Row) → slice_get new.rows.items to ≡ Some r → AreEarly r new.starts.items start
+early_moves all text entry from i state best t row read to start classes new latest h m s r is = λ id k holds. ∥∥₁_elim s (search props) (λ x. ∥∥₁_elim m (search props) (λ y. ∥∥₁_elim h (search props) (λ z.
+    (let a = search_at all text entry from i state best t y.before y.was x in
+    let same = row_in row y.before (sym (row_read all text entry from i state best t row read x) ∙ y.was) in
+    let early = early_on all text entry from i (get_or text i 0) state to start best classes t new y a (λ n e. inside_small all y.before n a.known e) (subst (λ (q : Row). IsLatest q t.starts.items q.inside start) same latest) z in
+    subst (λ (q : Row). AreEarly q new.starts.items start) (row_in y.row r (sym y.is ∙ is)) early id k holds))))
+
+-- the text ends
+pub ending : (all : List Node) (text : List ℕ) (entry from i state : ℕ) (best : Option (ℕ × ℕ)) (t : Table) (row : Row) → row ≡ get_or t.rows.items state row → (old new : DeadEnds) (on : Bool) → i ≡ length text → ∥ IsSearching all text entry from i state best t ∥₁ → ((r : Row) → slice_get t.rows.items state ≡ Some r → AreTails all text i i on r old) → (IsRow all row → row.first ≡ nat_eq (length text) 0 → AreTails all text (length text) (length text) on row old → AreDead all text new) → AreDead all text new
+ending all text entry from i state best t row read old new on e s tails last = ∥∥₁_elim s (hlevel props) (λ x.
+    (let is = row_read all text entry from i state best t row read x in
+    let a = search_at all text entry from i state best t row is x in
+    last a.known (a.is_first ∙ ap (λ n. nat_eq n 0) e) (subst (λ n. AreTails all text n n on row old) e (tails row is))))

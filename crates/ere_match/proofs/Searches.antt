@@ -8,7 +8,7 @@ use Rattle.ere_match.specs.declared.row.Row.{Row}
 use Rattle.ere_match.specs.declared.row.Table.{Table}
 use Rattle.ere_match.specs.Ends.{LeadsNowhere}
 use Rattle.ere_match.specs.Threads.{AreThreads, Holds, IsAt, IsBest, IsNear, IsOpen, IsSeeded, IsSettled, better_of}
-use Rattle.ere_match.specs.Rows.{Begins, HasBegun, HasMoved, IsIncreasing, IsMade, IsRow, IsSearching, IsSearchingAt, IsTable, cut, last_number, limit_of, spread, started_with, threads_of, with_new}
+use Rattle.ere_match.specs.Rows.{AreEarly, Begins, HasBegun, HasMoved, IsIncreasing, IsLatest, IsMade, IsRow, IsSearching, IsSearchingAt, IsTable, cut, last_number, limit_of, spread, started_with, threads_of, with_new}
 use Rattle.ere_match.proofs.Ranks.{length_cut, length_spread}
 use Rattle.ere_match.proofs.Scans.{best_done, best_start, settled, threads_closed, threads_seed, threads_start, threads_stay, threads_step}
 use Rattle.ere_match.proofs.Spreads.{AreBelow, accepted_spread, closed_cut, closed_spread, closure_spread, cut_holds, down, holds_cut, holds_spread, seeded_spread, spread_holds, spread_same, spread_spread, stepped_spread}
@@ -228,3 +228,26 @@ search_step all text entry from i byte state to found best next classes old new 
             by : (b : Bool) → nat_eq k n ≡ b → cond b at (g k) ≤ at
             by true q = omega arith
             by false q = small k (let x = eqb-false k n q in omega (arith, x, le))
+
+-- ---- no later start is left behind a match
+
+late_none : (all : List Node) (row : Row) (starts : List ℕ) (start : ℕ) → IsIncreasing row.count (λ k. get_or starts k 0) → (o : Option ℕ) → row.inside ≡ o → ((k : ℕ) → o ≡ Some k → k < row.count) → IsLatest row starts o start → (id k : ℕ) → Holds (threads_of row) id k → k ≤ limit_of true row → get_or starts k 0 ≤ start
+late_none all row starts start inc None e small latest id k holds le = latest id k holds
+late_none all row starts start inc (Some c) e small latest id k holds le =
+    let limit = ap (λ o. last_number o row.count) e in
+    elim (cases_lt k c) [
+      | inl less ↦ (let x = inc.up k c less (small c refl) in omega (arith, x, latest))
+      | inr not ↦ (let same : k ≡ c = omega (arith, not, le, limit) in omega (arith, ap (λ n. get_or starts n 0) same, latest))
+    ]
+
+pub early_on : (all : List Node) (text : List ℕ) (entry from i byte state to start : ℕ) (best : Option (ℕ × ℕ)) (classes : List ℕ) (old new : Table) → (m : HasMoved all entry byte true (i + 1) old state new to) → IsSearchingAt all text entry from i best old.starts.items m.before → ((k : ℕ) → m.before.inside ≡ Some k → k < m.before.count) → IsLatest m.before old.starts.items m.before.inside start → IsTable all entry classes new → AreEarly m.row new.starts.items start
+early_on all text entry from i byte state to start best classes old new m a small latest h = λ id k holds.
+    (let below = (h.rows to m.row m.is).is.few id k holds in
+    let begun = m.moved.made.closes.starts.at id (m.f k) (holds_spread m.f (threads_of m.row) id k holds) in
+    let stepped = subst (λ (xs : Set). Holds xs begun.0 (m.f k)) m.moved.made.begins begun.1 in
+    let o = m.moved.steps.only begun.0 (m.f k) stepped in
+    let was = cut_holds (limit_of true m.before) (threads_of m.before) o.0 (m.f k) o.1 in
+    let x = m.shifted k below in
+    let y = with_old (λ n. get_or old.starts.items n 0) m.before.count (i + 1) (m.f k) (a.known.few o.0 (m.f k) was.0) in
+    let z = late_none all m.before old.starts.items start a.increasing m.before.inside refl small latest o.0 (m.f k) was.0 was.1 in
+    omega (arith, x, y, z))

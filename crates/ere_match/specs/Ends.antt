@@ -1,5 +1,5 @@
 -- Dead ends: nodes that are marked at places of a text from which no run ends there.
-use Rattle.std.specs.Prelude.{◌≡◌, ℕ, ◌*◌, ◌<◌, ◌≤◌, ◌⊎◌, Bool, true, false, List, length, slice_get, Some}
+use Rattle.std.specs.Prelude.{◌≡◌, ℕ, ◌*◌, ◌<◌, ◌≤◌, ◌⊎◌, Bool, true, false, List, length, slice_get, if◌then◌else◌, nat_lt, Some}
 use Rattle.std.proofs.Common.{get_or, Vec, Global}
 use Rattle.ere_match.specs.declared.automaton.Auto.{Auto}
 use Rattle.ere_match.specs.declared.dead_ends.DeadEnds.{DeadEnds}
@@ -8,6 +8,9 @@ use Rattle.ere_match.specs.declared.row.Row.{Row}
 use Rattle.ere_match.specs.Rows.{threads_of}
 use Rattle.ere_match.specs.Runs.{Runs}
 use Rattle.ere_match.specs.Threads.{SetRuns}
+
+abbrev pub SpecEnds : Type 0
+SpecEnds = DeadEnds
 
 -- a node is marked at a place, which is a multiple of the step
 pub record IsNoted (step : ℕ) (marks : List (Vec Bool Global)) (place id : ℕ) : Type 0 where
@@ -21,6 +24,10 @@ pub record IsNoted (step : ℕ) (marks : List (Vec Bool Global)) (place id : ℕ
 abbrev pub AreDead : List Node → List ℕ → DeadEnds → Type 0
 AreDead all text ends = (place id j m : ℕ) → IsNoted ends.step ends.marks.items place id → ends.floor < place → j ≤ length text
     → Runs all text j m id place → ⊥
+
+-- the same marks, of which none up to a place is believed
+abbrev pub raised : ℕ → DeadEnds → DeadEnds
+raised end ends = record ends { floor = if nat_lt ends.floor end then end else ends.floor }
 
 -- what searches by this automaton have noted of the text is so
 abbrev pub AreDeadEnds : Auto → List ℕ → DeadEnds → Type 0

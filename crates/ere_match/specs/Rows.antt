@@ -376,3 +376,14 @@ pub record IsLoop (t : Table) (classes : List ℕ) (state byte : ℕ) (m : Move)
 abbrev pub is_soon : Option ℕ → ℕ → ℕ → Bool
 is_soon None at rows = false
 is_soon (Some before) at rows = nat_lt (at - before) (rows * 10)
+
+-- ---- behind a match
+
+-- the row's threads begin at this place or before it
+abbrev pub AreEarly : Row → List ℕ → ℕ → Type 0
+AreEarly row starts start = (id k : ℕ) → Holds (threads_of row) id k → get_or starts k 0 ≤ start
+
+-- those that go on do, where a row accepts this number or none: a later start than the accepted one is given up
+abbrev pub IsLatest : Row → List ℕ → Option ℕ → ℕ → Type 0
+IsLatest row starts None start = AreEarly row starts start
+IsLatest row starts (Some k) start = start ≡ get_or starts k 0

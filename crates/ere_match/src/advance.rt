@@ -109,30 +109,6 @@ fn compute(
     Ok(to)
 }
 
-/// Where the byte leads from a row.
-fn move_by(
-    nodes: &[Node],
-    entry: usize,
-    classes: &[u8; 256],
-    table: &mut Table,
-    state: usize,
-    byte: u8,
-    found: bool,
-) -> Result<Move, AllocError>
-    requires classes { AreClasses nodes.now classes.now }
-    requires table { ∥ IsTable nodes.now entry classes.now table.old ∥₁ }
-    requires state { state < length table.old.rows.items }
-    ensures step { IfOk result
-        (λ to. ∥ IsStepOf nodes.now entry byte found table.old state table.new to ∥₁) }
-    ensures table { ∥ IsTable nodes.now entry classes.now table.new ∥₁ }
-    ensures starts { IsSame table.old.starts.items table.new.starts.items }
-{
-    match table.moves[state].at(found, classes[usize::from(byte)]) {
-        Some(to) => Ok(to),
-        None => compute(nodes, entry, classes, table, state, byte, found),
-    }
-}
-
 /// Leads the starts along a move.
 fn shift(starts: &mut [usize], sources: &[u32], count: usize, fewer: usize, to: Move, at: usize)
     requires count { count < length starts.old }
@@ -243,8 +219,9 @@ pub(crate) fn begin(
     Ok(enter(table, 0, to, from))
 }
 
-/// Goes on by a byte; `at` is the place behind it.
-pub(crate) fn advance(
+/// Goes on by a byte whose move is not known yet.
+#[inline(never)]
+fn advance_anew(
     nodes: &[Node],
     entry: usize,
     classes: &[u8; 256],
@@ -262,6 +239,36 @@ pub(crate) fn advance(
     ensures table { ∥ IsTable nodes.now entry classes.now table.new ∥₁ }
 {
     let count = table.rows[state].count;
-    let to = move_by(nodes, entry, classes, table, state, byte, found)?;
+    let to = compute(nodes, entry, classes, table, state, byte, found)?;
     Ok(enter(table, count, to, at))
+}
+
+/// Goes on by a byte; `at` is the place behind it. It tells the row, and how many rows were given up for it.
+#[inline(always)]
+pub(crate) fn advance(
+    nodes: &[Node],
+    entry: usize,
+    classes: &[u8; 256],
+    table: &mut Table,
+    state: usize,
+    byte: u8,
+    found: bool,
+    at: usize,
+) -> Result<(usize, usize), AllocError>
+    requires classes { AreClasses nodes.now classes.now }
+    requires table { ∥ IsTable nodes.now entry classes.now table.old ∥₁ }
+    requires state { state < length table.old.rows.items }
+    ensures moved { IfOk result
+        (λ to. ∥ HasMoved nodes.now entry byte found at table.old state table.new to.0 ∥₁) }
+    ensures table { ∥ IsTable nodes.now entry classes.now table.new ∥₁ }
+{
+    let count = table.rows[state].count;
+    match table.moves[state].at(found, classes[usize::from(byte)]) {
+        Some(to) => return Ok((enter(table, count, to, at), 0)),
+        None => {}
+    }
+    let rows = table.rows.len();
+    let to = advance_anew(nodes, entry, classes, table, state, byte, found, at)?;
+    let gone = if table.rows.len() < rows { rows } else { 0 };
+    Ok((to, gone))
 }

@@ -1,9 +1,10 @@
 //! How a search, while it has found no match, passes over bytes without a look at the table.
-ghost use Rattle.std.specs.Prelude.{◌≡◌, ◌<◌, ◌≤◌, ℕ, IfOk, IfSome, None, length, true};
+ghost use Rattle.std.specs.Prelude.{◌≡◌, ◌<◌, ◌≤◌, ℕ, IfOk, IfSome, None, Some, length, slice_get, true};
+ghost use Rattle.std.proofs.Common.{get_or};
 ghost use Rattle.ere_match.specs.Leads.{IsLead};
-ghost use Rattle.ere_match.specs.Rows.{AreClasses, IsIdle, IsLoop, IsSearching, IsTable};
+ghost use Rattle.ere_match.specs.Rows.{AreClasses, IsIdle, IsLoop, IsSearching, IsTable, SpecRow};
 
-use crate::advance::{begin, enter};
+use crate::advance::{advance, begin, enter};
 use crate::lead::Lead;
 use crate::node::Node;
 use crate::row::{Move, Table};
@@ -79,6 +80,7 @@ fn pass_over(
     requires table { ∥ IsTable nodes.now entry classes.now table.old ∥₁ }
     requires is_loop { IsLoop table.old classes.now state byte to }
     ensures after { at ≤ result }
+    ensures further { at < length text.now → get_or text.now at 0 ≡ byte → at < result }
     ensures inside { result ≤ length text.now }
     ensures search { (from : ℕ) → from ≤ at
         → ∥ IsSearching nodes.now text.now entry from at state None table.old ∥₁
@@ -96,7 +98,43 @@ fn pass_over(
     text.len()
 }
 
-/// Goes on over bytes that change little: the place and the row.
+/// Goes on from a row that accepts nothing inside a text, over a byte, or over more that lead from the row to itself. It tells
+/// the place, the row, and how many rows were given up for it.
+pub(crate) fn stride(
+    nodes: &[Node],
+    entry: usize,
+    classes: &[u8; 256],
+    table: &mut Table,
+    text: &[u8],
+    at: usize,
+    state: usize,
+) -> Result<(usize, usize, usize), AllocError>
+    requires inside { at < length text.now }
+    requires classes { AreClasses nodes.now classes.now }
+    requires table { ∥ IsTable nodes.now entry classes.now table.old ∥₁ }
+    requires state { state < length table.old.rows.items }
+    requires none { (row : SpecRow) → slice_get table.old.rows.items state ≡ Some row
+        → row.inside ≡ None }
+    ensures after { IfOk result (λ to. at < to.0) }
+    ensures inside { IfOk result (λ to. to.0 ≤ length text.now) }
+    ensures search { (from : ℕ) → from ≤ at
+        → ∥ IsSearching nodes.now text.now entry from at state None table.old ∥₁ → IfOk result
+        (λ to. ∥ IsSearching nodes.now text.now entry from to.0 to.1 None table.new ∥₁) }
+    ensures table { ∥ IsTable nodes.now entry classes.now table.new ∥₁ }
+{
+    let byte = text[at];
+    match loop_of(table, classes, state, byte) {
+        Some(to) => {
+            let place = pass_over(nodes, entry, classes, table, text, at, state, byte, to);
+            return Ok((place, state, 0));
+        }
+        None => {}
+    }
+    let step = advance(nodes, entry, classes, table, state, byte, false, at + 1)?;
+    Ok((at + 1, step.0, step.1))
+}
+
+/// Goes on to where a match can begin, if all threads of the row begin at the place: the place and the row.
 pub(crate) fn hasten(
     nodes: &[Node],
     entry: usize,
@@ -107,9 +145,8 @@ pub(crate) fn hasten(
     at: usize,
     state: usize,
 ) -> Result<(usize, usize), AllocError>
-    requires inside { at < length text.now }
+    requires inside { at ≤ length text.now }
     requires lead { IsLead nodes.now entry lead.now }
-    requires classes { AreClasses nodes.now classes.now }
     requires table { ∥ IsTable nodes.now entry classes.now table.old ∥₁ }
     requires state { state < length table.old.rows.items }
     ensures after { IfOk result (λ to. at ≤ to.0) }
@@ -122,12 +159,5 @@ pub(crate) fn hasten(
     if lead.are_told() && is_idle(table, state, at) {
         return jump(nodes, entry, classes, lead, table, text, at, state);
     }
-    let byte = text[at];
-    match loop_of(table, classes, state, byte) {
-        Some(to) => Ok((
-            pass_over(nodes, entry, classes, table, text, at, state, byte, to),
-            state,
-        )),
-        None => Ok((at, state)),
-    }
+    Ok((at, state))
 }

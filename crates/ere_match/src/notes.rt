@@ -1,7 +1,7 @@
 //! How searches note from where no match ends.
-ghost use Rattle.std.specs.Prelude.{◌≡◌, ◌+◌, ◌<◌, ◌≤◌, ◌&&◌, ◌⊎◌, ℕ, Bool, IfOk, List, OnOk, false, is_none, length, true};
+ghost use Rattle.std.specs.Prelude.{◌≡◌, ◌+◌, ◌<◌, ◌≤◌, ◌⊎◌, ℕ, Bool, IfOk, List, None, OnOk, false, length, true};
 ghost use Rattle.std.proofs.Common.{get_or};
-ghost use Rattle.ere_match.specs.Ends.{AreAllMarked, AreDead, AreDeadEnds, AreTails, IsNoted, LeadsNowhere, MarksOnly};
+ghost use Rattle.ere_match.specs.Ends.{AreAllMarked, AreDead, AreDeadEnds, AreTails, IsNoted, LeadsNowhere, MarksOnly, raised};
 ghost use Rattle.ere_match.specs.Rows.{IsRow, SpecRow};
 ghost use Rattle.ere_match.specs.Threads.{SpecNode};
 
@@ -87,8 +87,12 @@ impl DeadEnds {
 
     /// Believes no mark up to a place any more.
     pub(crate) fn forget(&mut self, at: usize)
-        ensures { (all : List SpecNode) (text : List ℕ) (i : ℕ) (on : Bool) (row : SpecRow)
+        ensures dead { (all : List SpecNode) (text : List ℕ) (i : ℕ) (on : Bool) (row : SpecRow)
             → AreTails all text i at on row self.old → AreDead all text self.new }
+        ensures step { self.new.step ≡ self.old.step }
+        ensures marks { self.new.marks ≡ self.old.marks }
+        ensures higher { self.old.floor ≤ self.new.floor }
+        ensures floor { at ≤ self.new.floor }
     {
         if self.floor < at {
             self.floor = at;
@@ -96,13 +100,14 @@ impl DeadEnds {
     }
 
     /// Marks the nodes of the row's threads, if nodes are marked at the place, and tells whether all were marked before.
+    #[inline(never)]
     fn note(&mut self, row: &Row, at: usize) -> Result<bool, AllocError>
         requires { self.old.floor < at }
-        ensures tails { (all : List SpecNode) (text : List ℕ)
-            → AreTails all text at at true row.now self.old
-            → IfOk result (λ over. AreTails all text at (at + 1) true row.now self.new) }
-        ensures over { (all : List SpecNode) (text : List ℕ)
-            → AreTails all text at at true row.now self.old
+        ensures tails { (all : List SpecNode) (text : List ℕ) (end : ℕ) → end < at
+            → AreTails all text at at true row.now (raised end self.old) → IfOk result
+            (λ over. AreTails all text at (at + 1) true row.now (raised end self.new)) }
+        ensures over { (all : List SpecNode) (text : List ℕ) (end : ℕ) → end < at
+            → AreTails all text at at true row.now (raised end self.old)
             → IfOk result (λ over. over ≡ true → LeadsNowhere all text at row.now) }
     {
         if at % self.step != 0 {
@@ -113,26 +118,23 @@ impl DeadEnds {
         mark_row(&row.ranks, &mut self.marks[number])
     }
 
-    /// Whether the match that was found is the answer, as no thread of the row comes to an end; else notes where they are.
+    /// Whether a match that ended before is the answer, as no thread of the row comes to an end; else notes where they are.
+    /// No mark up to the end of that match is believed, though the floor is raised only when the search is over.
     #[inline(always)]
-    pub(crate) fn is_done(&mut self, found: bool, row: &Row, at: usize) -> Result<bool, AllocError>
-        ensures found { IfOk result (λ over. over ≡ true → found ≡ true) }
-        ensures tails { (all : List SpecNode) (text : List ℕ) → IsRow all row.now
-            → AreTails all text at at found row.now self.old → IfOk result
-            (λ over. AreTails all text at (at + 1) (found && is_none row.now.inside) row.now self.new) }
-        ensures over { (all : List SpecNode) (text : List ℕ) → IsRow all row.now
-            → AreTails all text at at found row.now self.old
+    pub(crate) fn is_done(&mut self, row: &Row, at: usize) -> Result<bool, AllocError>
+        ensures none { IfOk result (λ over. over ≡ true → row.now.inside ≡ None) }
+        ensures tails { (all : List SpecNode) (text : List ℕ) (end : ℕ) → end < at
+            → AreTails all text at at true row.now (raised end self.old) → IfOk result
+            (λ over. AreTails all text at (at + 1) true row.now (raised end self.new)) }
+        ensures over { (all : List SpecNode) (text : List ℕ) (end : ℕ) → end < at
+            → IsRow all row.now → AreTails all text at at true row.now (raised end self.old)
             → IfOk result (λ over. over ≡ true → LeadsNowhere all text at row.now) }
     {
-        if !found {
+        if row.inside.is_some() {
             return Ok(false);
         }
         if row.count == 0 {
             return Ok(true);
-        }
-        if row.inside.is_some() {
-            self.forget(at);
-            return Ok(false);
         }
         if at % BLOCK != 0 || at <= self.floor {
             return Ok(false);

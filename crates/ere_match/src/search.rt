@@ -1,15 +1,15 @@
 //! A search by rows: the threads of all starts at once, as `scan` leads them, with a table of where each byte leads.
-ghost use Rattle.std.specs.Prelude.{◌≡◌, ◌+◌, ◌<◌, ◌≤◌, ◌^◌, ℕ, Bool, List, IfOk, None, Some, length, nat_eq, true};
+ghost use Rattle.std.specs.Prelude.{◌≡◌, ◌+◌, ◌<◌, ◌≤◌, ◌^◌, ℕ, Bool, List, IfOk, None, Some, is_none, length, nat_eq, slice_get, true};
 ghost use Rattle.std.proofs.Common.{get_or};
-ghost use Rattle.ere_match.specs.Ends.{AreDead, AreTails};
+ghost use Rattle.ere_match.specs.Ends.{AreDead, AreTails, SpecEnds, raised};
 ghost use Rattle.ere_match.specs.Leads.{IsLead};
-ghost use Rattle.ere_match.specs.Rows.{AreClasses, IsRow, IsSearching, IsTable, is_soon, started};
+ghost use Rattle.ere_match.specs.Rows.{AreClasses, AreEarly, IsLatest, IsRow, IsSearching, IsTable, SpecRow, is_soon, started};
 ghost use Rattle.ere_match.specs.Threads.{IsBest, SpecNode, better_of};
 
 use crate::advance::{advance, begin};
 use crate::crowd::may_match;
 use crate::dead_ends::DeadEnds;
-use crate::haste::hasten;
+use crate::haste::{hasten, stride};
 use crate::lead::Lead;
 use crate::node::Node;
 use crate::numbers::unload;
@@ -117,6 +117,199 @@ fn last(
     better(start_of(row.at_end, starts), end, best)
 }
 
+/// The match that ends at a place, if the row accepts there, or else the one before: no thread of the row begins behind it.
+#[inline(always)]
+fn longer(row: &Row, starts: &[usize], at: usize, best: (usize, usize)) -> (usize, usize)
+    requires starts { (k : ℕ) → row.now.inside ≡ Some k → k < length starts.now }
+    requires ended { best.1 < at }
+    ensures best { (all : List SpecNode) → IsRow all row.now → AreEarly row.now starts.now best.0
+        → Some result ≡ better_of (started starts.now row.now.inside) at (Some best) }
+    ensures latest { AreEarly row.now starts.now best.0
+        → IsLatest row.now starts.now row.now.inside result.0 }
+    ensures end { result.1 ≤ at }
+    ensures tails { (all : List SpecNode) (text : List ℕ) (ends : SpecEnds)
+        → AreTails all text at (at + 1) true row.now (raised best.1 ends)
+        → AreTails all text at (at + 1) (is_none row.now.inside) row.now (raised result.1 ends) }
+{
+    match row.inside {
+        Some(number) => (starts[number], at),
+        None => best,
+    }
+}
+
+/// Goes on behind a match, where a longer one or one that begins before it may come.
+fn follow(
+    nodes: &[Node],
+    entry: usize,
+    classes: &[u8; 256],
+    table: &mut Table,
+    text: &[u8],
+    from: usize,
+    at: usize,
+    state: usize,
+    best: (usize, usize),
+    emptied: Option<usize>,
+    ends: &mut DeadEnds,
+) -> Result<Option<(usize, usize)>, AllocError>
+    requires begun { from ≤ at }
+    requires inside { at ≤ length text.now }
+    requires ended { best.1 < at }
+    requires classes { AreClasses nodes.now classes.now }
+    requires table { ∥ IsTable nodes.now entry classes.now table.old ∥₁ }
+    requires search { ∥ IsSearching nodes.now text.now entry from at state (Some best)
+        table.old ∥₁ }
+    requires early { (row : SpecRow) → slice_get table.old.rows.items state ≡ Some row
+        → AreEarly row table.old.starts.items best.0 }
+    requires ends { AreDead nodes.now text.now ends.old }
+    ensures best { IfOk result
+        (λ found. ∥ IsBest nodes.now text.now entry from (length text.now + 1) found ∥₁) }
+    ensures table { ∥ IsTable nodes.now entry classes.now table.new ∥₁ }
+    ensures ends { IfOk result (λ found. AreDead nodes.now text.now ends.new) }
+{
+    let mut at = at;
+    let mut state = state;
+    let mut best = best;
+    let mut emptied = emptied;
+    while at < text.len() {
+        let row = &table.rows[state];
+        let done = ends.is_done(row, at)?;
+        if done {
+            ends.forget(best.1);
+            return Ok(Some(best));
+        }
+        best = longer(row, &table.starts, at, best);
+        let step = advance(nodes, entry, classes, table, state, text[at], true, at + 1)?;
+        state = step.0;
+        if step.1 > 0 {
+            if is_soon(emptied, at + 1, step.1) {
+                ends.forget(at + 1);
+                let best = Some(best);
+                return Ok(go_on(
+                    nodes,
+                    entry,
+                    classes,
+                    table,
+                    text,
+                    from,
+                    at + 1,
+                    state,
+                    best,
+                ));
+            }
+            emptied = Some(at + 1);
+        }
+        at += 1;
+    }
+    ends.forget(best.1);
+    Ok(last(
+        &table.rows[state],
+        &table.starts,
+        text.len(),
+        Some(best),
+        ends,
+    ))
+}
+
+/// Goes on behind the first match, with the start of this number.
+fn go_behind(
+    nodes: &[Node],
+    entry: usize,
+    classes: &[u8; 256],
+    table: &mut Table,
+    text: &[u8],
+    from: usize,
+    at: usize,
+    state: usize,
+    number: usize,
+    emptied: Option<usize>,
+    ends: &mut DeadEnds,
+) -> Result<Option<(usize, usize)>, AllocError>
+    requires begun { from ≤ at }
+    requires inside { at < length text.now }
+    requires accepts { (row : SpecRow) → slice_get table.old.rows.items state ≡ Some row
+        → row.inside ≡ Some number }
+    requires classes { AreClasses nodes.now classes.now }
+    requires table { ∥ IsTable nodes.now entry classes.now table.old ∥₁ }
+    requires search { ∥ IsSearching nodes.now text.now entry from at state None table.old ∥₁ }
+    requires ends { AreDead nodes.now text.now ends.old }
+    ensures best { IfOk result
+        (λ found. ∥ IsBest nodes.now text.now entry from (length text.now + 1) found ∥₁) }
+    ensures table { ∥ IsTable nodes.now entry classes.now table.new ∥₁ }
+    ensures ends { IfOk result (λ found. AreDead nodes.now text.now ends.new) }
+{
+    let start = table.starts[number];
+    let to = advance(nodes, entry, classes, table, state, text[at], true, at + 1)?;
+    follow(
+        nodes,
+        entry,
+        classes,
+        table,
+        text,
+        from,
+        at + 1,
+        to.0,
+        (start, at),
+        emptied,
+        ends,
+    )
+}
+
+/// Goes on until a row accepts, and then behind that match.
+fn seek(
+    nodes: &[Node],
+    entry: usize,
+    classes: &[u8; 256],
+    lead: &Lead,
+    table: &mut Table,
+    text: &[u8],
+    from: usize,
+    at: usize,
+    state: usize,
+    ends: &mut DeadEnds,
+) -> Result<Option<(usize, usize)>, AllocError>
+    requires begun { from ≤ at }
+    requires inside { at ≤ length text.now }
+    requires lead { IsLead nodes.now entry lead.now }
+    requires classes { AreClasses nodes.now classes.now }
+    requires table { ∥ IsTable nodes.now entry classes.now table.old ∥₁ }
+    requires search { ∥ IsSearching nodes.now text.now entry from at state None table.old ∥₁ }
+    requires ends { AreDead nodes.now text.now ends.old }
+    ensures best { IfOk result
+        (λ found. ∥ IsBest nodes.now text.now entry from (length text.now + 1) found ∥₁) }
+    ensures table { ∥ IsTable nodes.now entry classes.now table.new ∥₁ }
+    ensures ends { IfOk result (λ found. AreDead nodes.now text.now ends.new) }
+{
+    let mut at = at;
+    let mut state = state;
+    let mut emptied = None;
+    while at < text.len() {
+        let row = &table.rows[state];
+        match row.inside {
+            Some(number) => {
+                return go_behind(
+                    nodes, entry, classes, table, text, from, at, state, number, emptied, ends,
+                );
+            }
+            None => {}
+        }
+        let step = stride(nodes, entry, classes, table, text, at, state)?;
+        at = step.0;
+        state = step.1;
+        if step.2 > 0 {
+            if is_soon(emptied, at, step.2) {
+                return Ok(go_on(nodes, entry, classes, table, text, from, at, state, None));
+            }
+            emptied = Some(at);
+        }
+        if at < text.len() {
+            let next = hasten(nodes, entry, classes, lead, table, text, at, state)?;
+            at = next.0;
+            state = next.1;
+        }
+    }
+    Ok(last(&table.rows[state], &table.starts, text.len(), None, ends))
+}
+
 /// The least start not before a place, and its greatest end, of the runs from the entry. Where the table is emptied again and
 /// again, each time after few bytes, threads go on without it.
 pub(crate) fn search(
@@ -139,33 +332,9 @@ pub(crate) fn search(
     ensures table { ∥ IsTable nodes.now entry classes.now table.new ∥₁ }
     ensures ends { IfOk result (λ found. AreDead nodes.now text.now ends.new) }
 {
-    let mut at = lead.find(text, from);
-    let mut state = begin(nodes, entry, classes, table, at)?;
-    let mut best = None;
-    let mut emptied = None;
-    while at < text.len() {
-        let row = &table.rows[state];
-        best = better(start_of(row.inside, &table.starts), at, best);
-        let found = best.is_some();
-        let done = ends.is_done(found, row, at)?;
-        if done {
-            return Ok(best);
-        }
-        let rows = table.rows.len();
-        state = advance(nodes, entry, classes, table, state, text[at], found, at + 1)?;
-        at += 1;
-        if table.rows.len() < rows {
-            if is_soon(emptied, at, rows) {
-                ends.forget(at);
-                return Ok(go_on(nodes, entry, classes, table, text, from, at, state, best));
-            }
-            emptied = Some(at);
-        }
-        if !found && at < text.len() {
-            let next = hasten(nodes, entry, classes, lead, table, text, at, state)?;
-            at = next.0;
-            state = next.1;
-        }
-    }
-    Ok(last(&table.rows[state], &table.starts, text.len(), best, ends))
+    let at = lead.find(text, from);
+    let state = begin(nodes, entry, classes, table, at)?;
+    seek(
+        nodes, entry, classes, lead, table, text, from, at, state, ends,
+    )
 }

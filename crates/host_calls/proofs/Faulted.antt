@@ -52,10 +52,9 @@ module _ (tells : Type 0) (i : Import) (before : HostForm)
   )
 
   -- and what is found has no such names
-  finds_so : (f : HostForm) → LeadsFinding i before words memory refused f → LeadsFinding i before words memory refused (form_outside o f)
+  finds_so : (f : HostForm) → LeadsFinding i before words memory refused f [] → LeadsFinding i before words memory refused (form_outside o f) []
   finds_so f l = record {
     found = l.found;
-    output = l.output;
     leads = λ later outside so_far s st.
         let x = l.leads later outside so_far s st in record { rest = x.rest; left = x.left; state = x.state; stands = x.stands; step = x.step };
   }

@@ -125,7 +125,7 @@ unmoved f f1 shows e = record {
 stays_on : (f f1 f2 : HostForm) → Stays f f1 → Stays f1 f2 → Stays f f2
 stays_on f f1 f2 x y = record { shows = y.shows; kept = λ fault kept. y.kept fault (x.kept fault kept) }
 
-module _ (o : Option Import) (f f1 : HostForm) (words : List Word) (memory : List ℕ) (a : HostAnswer) (x : FindsSo o f words memory a f1) where
+module _ (o : Option Import) (f f1 : HostForm) (words : List Word) (memory : List ℕ) (a : HostAnswer) (output : List Action) (x : FindsSo o f words memory a f1 output) where
   call_shows : Shows f → Stays f f1
   call_shows shows = record { shows = shown_later; kept = kept_later }
     where
@@ -133,14 +133,14 @@ module _ (o : Option Import) (f f1 : HostForm) (words : List Word) (memory : Lis
       shown_later later =
           let w = shows (x.found ++ later) in
           let y = x.leads w.finds later (found_first f.fault x.found later w.finds w.left) w.outside w.so_far w.state w.shown in
-          record { finds = y.rest; left = y.left; outside = outside_after x.output w.outside; so_far = w.so_far ++ x.output; state = y.to.state; shown = y.to.shown }
+          record { finds = y.rest; left = y.left; outside = outside_after output w.outside; so_far = w.so_far ++ output; state = y.to.state; shown = y.to.shown }
 
       kept_later : (fault : Fault) → f.fault ≡ Some fault → f1.fault ≡ Some fault
       kept_later fault kept =
           let w = shows (x.found ++ []) in
           let y = x.leads w.finds [] (found_first f.fault x.found [] w.finds w.left) w.outside w.so_far w.state w.shown in
           sym (shown_fault _ y.to.state y.to.shown)
-          ∙ call_stays o w.state words memory a y.to.state x.output fault y.to.step (shown_fault _ w.state w.shown ∙ kept)
+          ∙ call_stays o w.state words memory a y.to.state output fault y.to.step (shown_fault _ w.state w.shown ∙ kept)
 
 module _ (tells : Type 0) where
   abbrev M : Meaning FormState Action
@@ -165,7 +165,7 @@ module _ (tells : Type 0) where
   taken_stays (Ends e) f f1 mem output c1 r shows = absurd r
   taken_stays (Asks n ws c) f f1 mem output c1 r shows =
       let called : FormCalled tells (import_at n) f ws mem.bytes (told.Done r.0) f1 output = r.1.1 in
-      call_shows (import_at n) f f1 ws mem.bytes (told.Done r.0) called.finds shows
+      call_shows (import_at n) f f1 ws mem.bytes (told.Done r.0) output called.finds shows
 
   run_stays : (m : ProgramForm) (n : ℕ) (c : Conf) (f : HostForm) (output : List Action) (c1 : Conf) (f1 : HostForm)
       → Steps M m n c (Told f) output c1 (Told f1) → Shows f → Stays f f1

@@ -1,5 +1,6 @@
 pub mod Comes
 pub mod Faulted
+pub mod Gaves
 pub mod KeptFaults
 pub mod Live
 pub mod Moved

@@ -33,7 +33,6 @@ module _ (tells : Type 0) (i : Import) (before f : HostForm) (words : List Word)
         subst (λ m. StepShown (Some i) s words memory a (form_with_output (so_far ++ output) (with_main m f)) output) (same t) (c.step t so_far s h);
     finds = record {
       found = c.finds.found;
-      output = c.finds.output;
       leads = λ finds later is outside so_far s h. let x = c.finds.leads finds later is outside so_far s h in record { rest = x.rest; left = x.left; to = x.to };
     };
   }
@@ -52,12 +51,13 @@ left_with_main (Err (why.Trap k)) m f = refl
 left_with_main (Err why.NoMemory) m f = refl
 
 -- A call that writes: the family tells the main input as it was before.
-pub wrote_comes : (tells : Type 0) (i : Import) (words : List Word) (memory : List ℕ) (before f : HostForm) (old new : MainInput)
+pub wrote_comes : (tells : Type 0) (given : List Action → Type 0) (i : Import) (words : List Word) (memory : List ℕ) (before f : HostForm) (old new : MainInput)
     → (tells → old ≡ new)
-    → (r : Result (Option Word) Refusal) → before.fault ≡ None → (output : List Action) → IsCalled tells i before words memory r (with_main old f) output
-    → ComesTo tells i before words memory r (with_main new f)
-wrote_comes tells i words memory before f old new same r none output calls = (
+    → (r : Result (Option Word) Refusal) → before.fault ≡ None → (output : List Action) → given output → IsCalled tells i before words memory r (with_main old f) output
+    → ComesTo tells given i before words memory r (with_main new f)
+wrote_comes tells given i words memory before f old new same r none output gave calls = (
   output,
+  gave,
   subst (λ z. FormMeans tells (Some i) before words memory (told_as i r) z output) (sym (left_with_main r new f))
       (means_moved tells i before (left_by_call r f) words memory old new same (told_as i r) output
       (subst (λ z. FormMeans tells (Some i) before words memory (told_as i r) z output) (left_with_main r old f)

@@ -20,12 +20,12 @@ pub others_keep : (i : Input) (kinds : ℕ → Kind) (old new : State) → Spare
 others_keep i kinds old new spares k none is = (spares.readers k is, spares.writers k is)
 
 -- a call that writes or closes, over a world whose standard input is open
-module _ (tells : Type 0) (i : Import) (words : List Word) (memory : List ℕ)
+module _ (tells : Type 0) (given : List Action → Type 0) (i : Import) (words : List Word) (memory : List ℕ)
     (input : Input) (kinds : ℕ → Kind) (held : HoldsInput input kinds) (standard : kinds 0 ≡ Reading)
     (old new : State) (keeps : tells → OthersKeep input.files kinds old new) where
   pub files_come : (before f : HostForm) (r : Result (Option Word) Refusal) → before.fault ≡ None
-      → (output : List Action) × IsCalled tells i before words memory r (with_main (main_of input.main old) f) output
-      → ComesTo tells i before words memory r (with_main (main_of input.main new) f)
+      → (output : List Action) × given output × IsCalled tells i before words memory r (with_main (main_of input.main old) f) output
+      → ComesTo tells given i before words memory r (with_main (main_of input.main new) f)
   files_come before f r none calls =
-      wrote_comes tells i words memory before f (main_of input.main old) (main_of input.main new)
-      (λ t. main_stays input kinds held standard old new (keeps t)) r none calls.0 calls.1
+      wrote_comes tells given i words memory before f (main_of input.main old) (main_of input.main new)
+      (λ t. main_stays input kinds held standard old new (keeps t)) r none calls.0 calls.1 calls.2

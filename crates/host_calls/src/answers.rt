@@ -35,6 +35,8 @@ impl<W: World> Host<W> {
         ensures told { result ≡ told_as import outcome }
         ensures kept { host_form W.state self.new
             ≡ left_by_call outcome (host_form W.state self.old) }
+        ensures world { self.new.world ≡ self.old.world }
+        ensures input { self.new.input ≡ self.old.input }
     {
         self.tables.keep(outcome);
         told(import, outcome)
@@ -43,7 +45,9 @@ impl<W: World> Host<W> {
     /// Carries out what a call came to, and tells it.
     #[inline(always)]
     pub(crate) fn settle(&mut self, import: Import, evaluated: Evaluated) -> HostAnswer
-        ensures { Settles W.state import (Ok evaluated) self.old result self.new }
+        ensures settled { Settles W.state import (Ok evaluated) self.old result self.new }
+        ensures world { self.new.world ≡ self.old.world }
+        ensures input { self.new.input ≡ self.old.input }
     {
         let outcome = carry_out(&mut self.tables.handles, evaluated);
         self.tell(import, outcome)
@@ -54,8 +58,8 @@ impl<W: World> Host<W> {
     #[inline(never)]
     fn answer_faulted(&mut self, words: &[Word], import: Import) -> HostAnswer
         requires { IsSome self.old.tables.fault }
-        ensures { (memory : List ℕ) → Means W.is_modelled W.state import self.old words.now memory result
-            self.new }
+        ensures { (memory : List ℕ) → Means W.is_modelled W.state W.did import self.old words.now
+            memory result self.new }
     {
         match import {
             Import::Drop => self.on_drop(words),
@@ -69,7 +73,8 @@ impl<W: World> Host<W> {
     /// loop has one call for all imports. The words come first, so that they stand where each import takes them.
     #[inline(never)]
     pub(crate) fn answer(&mut self, words: &[Word], memory: &[u8], import: Import) -> HostAnswer
-        ensures { Means W.is_modelled W.state import self.old words.now memory.now result self.new }
+        ensures { Means W.is_modelled W.state W.did import self.old words.now memory.now result
+            self.new }
     {
         match import {
             _ if self.tables.fault().is_some() => self.answer_faulted(words, import),

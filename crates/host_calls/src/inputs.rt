@@ -3,7 +3,7 @@ ghost use Rattle.std.specs.Prelude.{◌≡◌, List, ℕ, None};
 ghost use Rattle.sem_primitives.specs.declared.table.Primitive.TheVariants as row;
 ghost use Rattle.host_worlds.specs.Givens.{file_primitive, main_primitive};
 ghost use Rattle.host_imports.specs.declared.import.Import.{Import};
-ghost use Rattle.host_calls.specs.Calls.{ComesTo};
+ghost use Rattle.host_calls.specs.Calls.{ComesTo, Gave};
 ghost use Rattle.host_calls.specs.Forms.{host_form};
 
 use crate::host::Host;
@@ -21,8 +21,9 @@ impl<W: World> Host<W> {
         words: &[Word],
     ) -> Result<Option<Word>, Refusal>
         requires { self.old.tables.fault ≡ None }
-        ensures { (memory : List ℕ) → ComesTo W.is_modelled (Import.OfPrimitive (main_primitive how))
-            (host_form W.state self.old) words.now memory result (host_form W.state self.new) }
+        ensures { (memory : List ℕ) → ComesTo W.is_modelled (Gave W.did self.old self.new)
+            (Import.OfPrimitive (main_primitive how)) (host_form W.state self.old) words.now memory
+            result (host_form W.state self.new) }
     {
         host_worlds::read_main(
             self.alloc,
@@ -42,8 +43,9 @@ impl<W: World> Host<W> {
         words: &[Word],
     ) -> Result<Option<Word>, Refusal>
         requires { self.old.tables.fault ≡ None }
-        ensures { (memory : List ℕ) → ComesTo W.is_modelled (Import.OfPrimitive (file_primitive to))
-            (host_form W.state self.old) words.now memory result (host_form W.state self.new) }
+        ensures { (memory : List ℕ) → ComesTo W.is_modelled (Gave W.did self.old self.new)
+            (Import.OfPrimitive (file_primitive to)) (host_form W.state self.old) words.now memory
+            result (host_form W.state self.new) }
     {
         host_worlds::read_file(
             self.alloc,
@@ -59,8 +61,9 @@ impl<W: World> Host<W> {
     /// Gives up the rest of what the main input reads (`next_file`), where no fault is kept.
     pub(crate) fn next_file(&mut self, words: &[Word]) -> Result<Option<Word>, Refusal>
         requires { self.old.tables.fault ≡ None }
-        ensures { (memory : List ℕ) → ComesTo W.is_modelled (Import.OfPrimitive row.NextFile)
-            (host_form W.state self.old) words.now memory result (host_form W.state self.new) }
+        ensures { (memory : List ℕ) → ComesTo W.is_modelled (Gave W.did self.old self.new)
+            (Import.OfPrimitive row.NextFile) (host_form W.state self.old) words.now memory result
+            (host_form W.state self.new) }
     {
         host_worlds::next_file(&mut self.world, &mut self.input, words)
     }

@@ -17,8 +17,8 @@ impl<W: World> Host<W> {
     #[inline(never)]
     pub(crate) fn on_elem(&mut self, words: &[Word]) -> HostAnswer
         requires { refuses (OfPrimitive row.Elem) self.old.tables.fault ≡ false }
-        ensures { (memory : List ℕ) → Means W.is_modelled W.state (OfPrimitive row.Elem) self.old words.now memory
-            result self.new }
+        ensures { (memory : List ℕ) → Means W.is_modelled W.state W.did (OfPrimitive row.Elem)
+            self.old words.now memory result self.new }
     {
         let outcome = self.tables.elem(words);
         self.tell(Import::OfPrimitive(Primitive::Elem), outcome)
@@ -28,8 +28,8 @@ impl<W: World> Host<W> {
     #[inline(never)]
     pub(crate) fn on_set_elem(&mut self, words: &[Word]) -> HostAnswer
         requires { refuses (OfPrimitive row.SetElem) self.old.tables.fault ≡ false }
-        ensures { (memory : List ℕ) → Means W.is_modelled W.state (OfPrimitive row.SetElem) self.old words.now
-            memory result self.new }
+        ensures { (memory : List ℕ) → Means W.is_modelled W.state W.did (OfPrimitive row.SetElem)
+            self.old words.now memory result self.new }
     {
         let outcome = self.tables.set_elem(words);
         self.tell(Import::OfPrimitive(Primitive::SetElem), outcome)
@@ -39,8 +39,8 @@ impl<W: World> Host<W> {
     #[inline(never)]
     pub(crate) fn on_has(&mut self, words: &[Word]) -> HostAnswer
         requires { refuses (OfPrimitive row.Has) self.old.tables.fault ≡ false }
-        ensures { (memory : List ℕ) → Means W.is_modelled W.state (OfPrimitive row.Has) self.old words.now memory
-            result self.new }
+        ensures { (memory : List ℕ) → Means W.is_modelled W.state W.did (OfPrimitive row.Has)
+            self.old words.now memory result self.new }
     {
         let outcome = self.tables.has(words);
         self.tell(Import::OfPrimitive(Primitive::Has), outcome)
@@ -50,8 +50,8 @@ impl<W: World> Host<W> {
     #[inline(never)]
     pub(crate) fn on_new_array(&mut self, words: &[Word]) -> HostAnswer
         requires { refuses (OfPrimitive row.NewArray) self.old.tables.fault ≡ false }
-        ensures { (memory : List ℕ) → Means W.is_modelled W.state (OfPrimitive row.NewArray) self.old words.now memory
-            result self.new }
+        ensures { (memory : List ℕ) → Means W.is_modelled W.state W.did (OfPrimitive row.NewArray)
+            self.old words.now memory result self.new }
     {
         let outcome = self.tables.new_array(words);
         self.tell(Import::OfPrimitive(Primitive::NewArray), outcome)
@@ -61,8 +61,8 @@ impl<W: World> Host<W> {
     #[inline(never)]
     pub(crate) fn on_delete(&mut self, words: &[Word]) -> HostAnswer
         requires { refuses (OfPrimitive row.Delete) self.old.tables.fault ≡ false }
-        ensures { (memory : List ℕ) → Means W.is_modelled W.state (OfPrimitive row.Delete) self.old words.now memory
-            result self.new }
+        ensures { (memory : List ℕ) → Means W.is_modelled W.state W.did (OfPrimitive row.Delete)
+            self.old words.now memory result self.new }
     {
         let outcome = self.tables.delete(words);
         self.tell(Import::OfPrimitive(Primitive::Delete), outcome)
@@ -72,8 +72,8 @@ impl<W: World> Host<W> {
     #[inline(never)]
     pub(crate) fn on_clear(&mut self, words: &[Word]) -> HostAnswer
         requires { refuses (OfPrimitive row.Clear) self.old.tables.fault ≡ false }
-        ensures { (memory : List ℕ) → Means W.is_modelled W.state (OfPrimitive row.Clear) self.old words.now memory
-            result self.new }
+        ensures { (memory : List ℕ) → Means W.is_modelled W.state W.did (OfPrimitive row.Clear)
+            self.old words.now memory result self.new }
     {
         let outcome = self.tables.clear(words);
         self.tell(Import::OfPrimitive(Primitive::Clear), outcome)
@@ -83,8 +83,8 @@ impl<W: World> Host<W> {
     #[inline(never)]
     pub(crate) fn on_iter(&mut self, words: &[Word]) -> HostAnswer
         requires { refuses (OfPrimitive row.Iter) self.old.tables.fault ≡ false }
-        ensures { (memory : List ℕ) → Means W.is_modelled W.state (OfPrimitive row.Iter) self.old words.now memory
-            result self.new }
+        ensures { (memory : List ℕ) → Means W.is_modelled W.state W.did (OfPrimitive row.Iter)
+            self.old words.now memory result self.new }
     {
         let outcome = self.tables.iter(words);
         self.tell(Import::OfPrimitive(Primitive::Iter), outcome)
@@ -94,8 +94,8 @@ impl<W: World> Host<W> {
     #[inline(never)]
     pub(crate) fn on_iter_next(&mut self, words: &[Word]) -> HostAnswer
         requires { refuses (OfPrimitive row.IterNext) self.old.tables.fault ≡ false }
-        ensures { (memory : List ℕ) → Means W.is_modelled W.state (OfPrimitive row.IterNext) self.old words.now memory
-            result self.new }
+        ensures { (memory : List ℕ) → Means W.is_modelled W.state W.did (OfPrimitive row.IterNext)
+            self.old words.now memory result self.new }
     {
         let outcome = self.tables.iter_next(words);
         self.tell(Import::OfPrimitive(Primitive::IterNext), outcome)
@@ -105,8 +105,8 @@ impl<W: World> Host<W> {
     #[inline(never)]
     pub(crate) fn on_split(&mut self, words: &[Word]) -> HostAnswer
         requires { refuses (OfPrimitive row.Split) self.old.tables.fault ≡ false }
-        ensures { (memory : List ℕ) → Means W.is_modelled W.state (OfPrimitive row.Split) self.old words.now memory
-            result self.new }
+        ensures { (memory : List ℕ) → Means W.is_modelled W.state W.did (OfPrimitive row.Split)
+            self.old words.now memory result self.new }
     {
         let outcome = self.tables.split(words);
         self.tell(Import::OfPrimitive(Primitive::Split), outcome)
@@ -116,8 +116,8 @@ impl<W: World> Host<W> {
     #[inline(never)]
     pub(crate) fn on_iter_free(&mut self, words: &[Word]) -> HostAnswer
         requires { refuses IterFree self.old.tables.fault ≡ false }
-        ensures { (memory : List ℕ) → Means W.is_modelled W.state IterFree self.old words.now memory
-            result self.new }
+        ensures { (memory : List ℕ) → Means W.is_modelled W.state W.did IterFree self.old words.now
+            memory result self.new }
     {
         let outcome = self.tables.iter_free(words);
         self.tell(Import::IterFree, outcome)
@@ -127,8 +127,8 @@ impl<W: World> Host<W> {
     #[inline(never)]
     pub(crate) fn on_free_array(&mut self, words: &[Word]) -> HostAnswer
         requires { refuses FreeArray self.old.tables.fault ≡ false }
-        ensures { (memory : List ℕ) → Means W.is_modelled W.state FreeArray self.old words.now memory
-            result self.new }
+        ensures { (memory : List ℕ) → Means W.is_modelled W.state W.did FreeArray self.old words.now
+            memory result self.new }
     {
         let outcome = self.tables.free_array(words);
         self.tell(Import::FreeArray, outcome)

@@ -22,8 +22,8 @@ impl<W: World> Host<W> {
     #[inline(never)]
     pub(crate) fn on_get_special(&mut self, words: &[Word]) -> HostAnswer
         requires { refuses (OfPrimitive row.GetSpecial) self.old.tables.fault ≡ false }
-        ensures { (memory : List ℕ) → Means W.is_modelled W.state (OfPrimitive row.GetSpecial) self.old words.now
-            memory result self.new }
+        ensures { (memory : List ℕ) → Means W.is_modelled W.state W.did (OfPrimitive row.GetSpecial)
+            self.old words.now memory result self.new }
     {
         let tables = &mut self.tables;
         let import = Import::OfPrimitive(Primitive::GetSpecial);
@@ -37,8 +37,8 @@ impl<W: World> Host<W> {
     #[inline(never)]
     pub(crate) fn on_set_special(&mut self, words: &[Word]) -> HostAnswer
         requires { refuses (OfPrimitive row.SetSpecial) self.old.tables.fault ≡ false }
-        ensures { (memory : List ℕ) → Means W.is_modelled W.state (OfPrimitive row.SetSpecial) self.old words.now
-            memory result self.new }
+        ensures { (memory : List ℕ) → Means W.is_modelled W.state W.did (OfPrimitive row.SetSpecial)
+            self.old words.now memory result self.new }
     {
         let tables = &mut self.tables;
         let import = Import::OfPrimitive(Primitive::SetSpecial);
@@ -52,8 +52,8 @@ impl<W: World> Host<W> {
     #[inline(never)]
     pub(crate) fn on_field(&mut self, words: &[Word]) -> HostAnswer
         requires { refuses (OfPrimitive row.Field) self.old.tables.fault ≡ false }
-        ensures { (memory : List ℕ) → Means W.is_modelled W.state (OfPrimitive row.Field) self.old words.now
-            memory result self.new }
+        ensures { (memory : List ℕ) → Means W.is_modelled W.state W.did (OfPrimitive row.Field)
+            self.old words.now memory result self.new }
     {
         let tables = &mut self.tables;
         let import = Import::OfPrimitive(Primitive::Field);
@@ -67,8 +67,8 @@ impl<W: World> Host<W> {
     #[inline(never)]
     pub(crate) fn on_set_field(&mut self, words: &[Word]) -> HostAnswer
         requires { refuses (OfPrimitive row.SetField) self.old.tables.fault ≡ false }
-        ensures { (memory : List ℕ) → Means W.is_modelled W.state (OfPrimitive row.SetField) self.old words.now
-            memory result self.new }
+        ensures { (memory : List ℕ) → Means W.is_modelled W.state W.did (OfPrimitive row.SetField)
+            self.old words.now memory result self.new }
     {
         let tables = &mut self.tables;
         let import = Import::OfPrimitive(Primitive::SetField);
@@ -82,8 +82,8 @@ impl<W: World> Host<W> {
     #[inline(never)]
     pub(crate) fn on_length(&mut self, words: &[Word]) -> HostAnswer
         requires { refuses (OfPrimitive row.Length) self.old.tables.fault ≡ false }
-        ensures { (memory : List ℕ) → Means W.is_modelled W.state (OfPrimitive row.Length) self.old words.now
-            memory result self.new }
+        ensures { (memory : List ℕ) → Means W.is_modelled W.state W.did (OfPrimitive row.Length)
+            self.old words.now memory result self.new }
     {
         let import = Import::OfPrimitive(Primitive::Length);
         match length(&self.tables.handles, words) {
@@ -96,8 +96,8 @@ impl<W: World> Host<W> {
     #[inline(never)]
     pub(crate) fn on_matches(&mut self, words: &[Word]) -> HostAnswer
         requires { refuses (OfPrimitive row.Matches) self.old.tables.fault ≡ false }
-        ensures { (memory : List ℕ) → Means W.is_modelled W.state (OfPrimitive row.Matches) self.old words.now
-            memory result self.new }
+        ensures { (memory : List ℕ) → Means W.is_modelled W.state W.did (OfPrimitive row.Matches)
+            self.old words.now memory result self.new }
     {
         let tables = &mut self.tables;
         let import = Import::OfPrimitive(Primitive::Matches);
@@ -116,8 +116,8 @@ impl<W: World> Host<W> {
     #[inline(never)]
     pub(crate) fn on_match(&mut self, words: &[Word]) -> HostAnswer
         requires { refuses (OfPrimitive row.Match) self.old.tables.fault ≡ false }
-        ensures { (memory : List ℕ) → Means W.is_modelled W.state (OfPrimitive row.Match) self.old words.now
-            memory result self.new }
+        ensures { (memory : List ℕ) → Means W.is_modelled W.state W.did (OfPrimitive row.Match)
+            self.old words.now memory result self.new }
     {
         let tables = &mut self.tables;
         let import = Import::OfPrimitive(Primitive::Match);
@@ -131,8 +131,8 @@ impl<W: World> Host<W> {
     #[inline(never)]
     pub(crate) fn on_sub(&mut self, words: &[Word]) -> HostAnswer
         requires { refuses (OfPrimitive row.Sub) self.old.tables.fault ≡ false }
-        ensures { (memory : List ℕ) → Means W.is_modelled W.state (OfPrimitive row.Sub) self.old words.now
-            memory result self.new }
+        ensures { (memory : List ℕ) → Means W.is_modelled W.state W.did (OfPrimitive row.Sub)
+            self.old words.now memory result self.new }
     {
         let tables = &mut self.tables;
         let import = Import::OfPrimitive(Primitive::Sub);
@@ -146,8 +146,8 @@ impl<W: World> Host<W> {
     #[inline(never)]
     pub(crate) fn on_sub_result(&mut self, words: &[Word]) -> HostAnswer
         requires { refuses (OfPrimitive row.SubResult) self.old.tables.fault ≡ false }
-        ensures { (memory : List ℕ) → Means W.is_modelled W.state (OfPrimitive row.SubResult) self.old words.now
-            memory result self.new }
+        ensures { (memory : List ℕ) → Means W.is_modelled W.state W.did (OfPrimitive row.SubResult)
+            self.old words.now memory result self.new }
     {
         let tables = &mut self.tables;
         let import = Import::OfPrimitive(Primitive::SubResult);
@@ -161,8 +161,8 @@ impl<W: World> Host<W> {
     #[inline(never)]
     pub(crate) fn on_substr(&mut self, words: &[Word]) -> HostAnswer
         requires { refuses (OfPrimitive row.Substr) self.old.tables.fault ≡ false }
-        ensures { (memory : List ℕ) → Means W.is_modelled W.state (OfPrimitive row.Substr) self.old words.now
-            memory result self.new }
+        ensures { (memory : List ℕ) → Means W.is_modelled W.state W.did (OfPrimitive row.Substr)
+            self.old words.now memory result self.new }
     {
         let import = Import::OfPrimitive(Primitive::Substr);
         match substr_of(self.tables.alloc, &self.tables.handles, words) {
@@ -175,8 +175,8 @@ impl<W: World> Host<W> {
     #[inline(never)]
     pub(crate) fn on_substr_from(&mut self, words: &[Word]) -> HostAnswer
         requires { refuses (OfPrimitive row.SubstrFrom) self.old.tables.fault ≡ false }
-        ensures { (memory : List ℕ) → Means W.is_modelled W.state (OfPrimitive row.SubstrFrom) self.old words.now
-            memory result self.new }
+        ensures { (memory : List ℕ) → Means W.is_modelled W.state W.did (OfPrimitive row.SubstrFrom)
+            self.old words.now memory result self.new }
     {
         let import = Import::OfPrimitive(Primitive::SubstrFrom);
         match substr_from(self.tables.alloc, &self.tables.handles, words) {
@@ -189,8 +189,8 @@ impl<W: World> Host<W> {
     #[inline(never)]
     pub(crate) fn on_index(&mut self, words: &[Word]) -> HostAnswer
         requires { refuses (OfPrimitive row.Index) self.old.tables.fault ≡ false }
-        ensures { (memory : List ℕ) → Means W.is_modelled W.state (OfPrimitive row.Index) self.old words.now
-            memory result self.new }
+        ensures { (memory : List ℕ) → Means W.is_modelled W.state W.did (OfPrimitive row.Index)
+            self.old words.now memory result self.new }
     {
         let import = Import::OfPrimitive(Primitive::Index);
         match index(self.tables.alloc, &self.tables.handles, words) {
@@ -203,8 +203,8 @@ impl<W: World> Host<W> {
     #[inline(never)]
     pub(crate) fn on_lower(&mut self, words: &[Word]) -> HostAnswer
         requires { refuses (OfPrimitive row.Lower) self.old.tables.fault ≡ false }
-        ensures { (memory : List ℕ) → Means W.is_modelled W.state (OfPrimitive row.Lower) self.old words.now
-            memory result self.new }
+        ensures { (memory : List ℕ) → Means W.is_modelled W.state W.did (OfPrimitive row.Lower)
+            self.old words.now memory result self.new }
     {
         let import = Import::OfPrimitive(Primitive::Lower);
         match lower_case(self.tables.alloc, &self.tables.handles, words) {
@@ -217,8 +217,8 @@ impl<W: World> Host<W> {
     #[inline(never)]
     pub(crate) fn on_upper(&mut self, words: &[Word]) -> HostAnswer
         requires { refuses (OfPrimitive row.Upper) self.old.tables.fault ≡ false }
-        ensures { (memory : List ℕ) → Means W.is_modelled W.state (OfPrimitive row.Upper) self.old words.now
-            memory result self.new }
+        ensures { (memory : List ℕ) → Means W.is_modelled W.state W.did (OfPrimitive row.Upper)
+            self.old words.now memory result self.new }
     {
         let import = Import::OfPrimitive(Primitive::Upper);
         match upper_case(self.tables.alloc, &self.tables.handles, words) {
@@ -231,8 +231,8 @@ impl<W: World> Host<W> {
     #[inline(never)]
     pub(crate) fn on_join(&mut self, words: &[Word]) -> HostAnswer
         requires { refuses (OfPrimitive row.Join) self.old.tables.fault ≡ false }
-        ensures { (memory : List ℕ) → Means W.is_modelled W.state (OfPrimitive row.Join) self.old words.now
-            memory result self.new }
+        ensures { (memory : List ℕ) → Means W.is_modelled W.state W.did (OfPrimitive row.Join)
+            self.old words.now memory result self.new }
     {
         let tables = &self.tables;
         let import = Import::OfPrimitive(Primitive::Join);
@@ -246,8 +246,8 @@ impl<W: World> Host<W> {
     #[inline(never)]
     pub(crate) fn on_sprintf(&mut self, words: &[Word]) -> HostAnswer
         requires { refuses (Variadic listing.Sprintf) self.old.tables.fault ≡ false }
-        ensures { (memory : List ℕ) → Means W.is_modelled W.state (Variadic listing.Sprintf) self.old words.now memory
-            result self.new }
+        ensures { (memory : List ℕ) → Means W.is_modelled W.state W.did (Variadic listing.Sprintf)
+            self.old words.now memory result self.new }
     {
         let outcome = self.tables.sprintf(words);
         self.tell(Import::Variadic(VariadicImport::Sprintf), outcome)

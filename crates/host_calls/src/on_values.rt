@@ -20,8 +20,8 @@ impl<W: World> Host<W> {
     #[inline(never)]
     pub(crate) fn on_num(&mut self, words: &[Word]) -> HostAnswer
         requires { refuses (OfPrimitive row.Num) self.old.tables.fault ≡ false }
-        ensures { (memory : List ℕ) → Means W.is_modelled W.state (OfPrimitive row.Num) self.old words.now
-            memory result self.new }
+        ensures { (memory : List ℕ) → Means W.is_modelled W.state W.did (OfPrimitive row.Num)
+            self.old words.now memory result self.new }
     {
         let import = Import::OfPrimitive(Primitive::Num);
         match num(words) {
@@ -34,7 +34,8 @@ impl<W: World> Host<W> {
     #[inline(never)]
     pub(crate) fn on_lit(&mut self, words: &[Word], memory: &[u8]) -> HostAnswer
         requires { refuses (OfPrimitive row.Lit) self.old.tables.fault ≡ false }
-        ensures { Means W.is_modelled W.state (OfPrimitive row.Lit) self.old words.now memory.now result self.new }
+        ensures { Means W.is_modelled W.state W.did (OfPrimitive row.Lit) self.old words.now
+            memory.now result self.new }
     {
         let import = Import::OfPrimitive(Primitive::Lit);
         match lit(self.tables.alloc, &mut self.tables.literals, words, memory) {
@@ -47,8 +48,8 @@ impl<W: World> Host<W> {
     #[inline(never)]
     pub(crate) fn on_uninit(&mut self, words: &[Word]) -> HostAnswer
         requires { refuses (OfPrimitive row.Uninit) self.old.tables.fault ≡ false }
-        ensures { (memory : List ℕ) → Means W.is_modelled W.state (OfPrimitive row.Uninit) self.old words.now
-            memory result self.new }
+        ensures { (memory : List ℕ) → Means W.is_modelled W.state W.did (OfPrimitive row.Uninit)
+            self.old words.now memory result self.new }
     {
         let import = Import::OfPrimitive(Primitive::Uninit);
         match uninit(words) {
@@ -61,8 +62,8 @@ impl<W: World> Host<W> {
     #[inline(never)]
     pub(crate) fn on_dup(&mut self, words: &[Word]) -> HostAnswer
         requires { refuses (OfPrimitive row.Dup) self.old.tables.fault ≡ false }
-        ensures { (memory : List ℕ) → Means W.is_modelled W.state (OfPrimitive row.Dup) self.old words.now
-            memory result self.new }
+        ensures { (memory : List ℕ) → Means W.is_modelled W.state W.did (OfPrimitive row.Dup)
+            self.old words.now memory result self.new }
     {
         let import = Import::OfPrimitive(Primitive::Dup);
         match dup(&self.tables.handles, words) {
@@ -75,8 +76,8 @@ impl<W: World> Host<W> {
     #[inline(never)]
     pub(crate) fn on_to_num(&mut self, words: &[Word]) -> HostAnswer
         requires { refuses (OfPrimitive row.ToNum) self.old.tables.fault ≡ false }
-        ensures { (memory : List ℕ) → Means W.is_modelled W.state (OfPrimitive row.ToNum) self.old words.now
-            memory result self.new }
+        ensures { (memory : List ℕ) → Means W.is_modelled W.state W.did (OfPrimitive row.ToNum)
+            self.old words.now memory result self.new }
     {
         let import = Import::OfPrimitive(Primitive::ToNum);
         match to_num(&self.tables.handles, words) {
@@ -89,8 +90,8 @@ impl<W: World> Host<W> {
     #[inline(never)]
     pub(crate) fn on_int_of(&mut self, words: &[Word]) -> HostAnswer
         requires { refuses (OfPrimitive row.IntOf) self.old.tables.fault ≡ false }
-        ensures { (memory : List ℕ) → Means W.is_modelled W.state (OfPrimitive row.IntOf) self.old words.now
-            memory result self.new }
+        ensures { (memory : List ℕ) → Means W.is_modelled W.state W.did (OfPrimitive row.IntOf)
+            self.old words.now memory result self.new }
     {
         let import = Import::OfPrimitive(Primitive::IntOf);
         match int_of(&self.tables.handles, words) {
@@ -103,8 +104,8 @@ impl<W: World> Host<W> {
     #[inline(never)]
     pub(crate) fn on_truth(&mut self, words: &[Word]) -> HostAnswer
         requires { refuses (OfPrimitive row.Truth) self.old.tables.fault ≡ false }
-        ensures { (memory : List ℕ) → Means W.is_modelled W.state (OfPrimitive row.Truth) self.old words.now
-            memory result self.new }
+        ensures { (memory : List ℕ) → Means W.is_modelled W.state W.did (OfPrimitive row.Truth)
+            self.old words.now memory result self.new }
     {
         let import = Import::OfPrimitive(Primitive::Truth);
         match truth_of(&self.tables.handles, words) {
@@ -117,8 +118,8 @@ impl<W: World> Host<W> {
     #[inline(never)]
     pub(crate) fn on_compare(&mut self, words: &[Word]) -> HostAnswer
         requires { refuses (OfPrimitive row.Compare) self.old.tables.fault ≡ false }
-        ensures { (memory : List ℕ) → Means W.is_modelled W.state (OfPrimitive row.Compare) self.old words.now
-            memory result self.new }
+        ensures { (memory : List ℕ) → Means W.is_modelled W.state W.did (OfPrimitive row.Compare)
+            self.old words.now memory result self.new }
     {
         let import = Import::OfPrimitive(Primitive::Compare);
         match comparison(&self.tables.handles, words) {
@@ -131,8 +132,8 @@ impl<W: World> Host<W> {
     #[inline(never)]
     pub(crate) fn on_concat(&mut self, words: &[Word]) -> HostAnswer
         requires { refuses (OfPrimitive row.Concat) self.old.tables.fault ≡ false }
-        ensures { (memory : List ℕ) → Means W.is_modelled W.state (OfPrimitive row.Concat) self.old words.now
-            memory result self.new }
+        ensures { (memory : List ℕ) → Means W.is_modelled W.state W.did (OfPrimitive row.Concat)
+            self.old words.now memory result self.new }
     {
         let import = Import::OfPrimitive(Primitive::Concat);
         match concat(self.tables.alloc, &self.tables.handles, words) {
@@ -145,8 +146,8 @@ impl<W: World> Host<W> {
     #[inline(never)]
     pub(crate) fn on_pow(&mut self, words: &[Word]) -> HostAnswer
         requires { refuses (OfPrimitive row.Pow) self.old.tables.fault ≡ false }
-        ensures { (memory : List ℕ) → Means W.is_modelled W.state (OfPrimitive row.Pow) self.old words.now
-            memory result self.new }
+        ensures { (memory : List ℕ) → Means W.is_modelled W.state W.did (OfPrimitive row.Pow)
+            self.old words.now memory result self.new }
     {
         let import = Import::OfPrimitive(Primitive::Pow);
         match power(words) {
@@ -159,8 +160,8 @@ impl<W: World> Host<W> {
     #[inline(never)]
     pub(crate) fn on_fail(&mut self, words: &[Word]) -> HostAnswer
         requires { refuses (OfPrimitive row.Fail) self.old.tables.fault ≡ false }
-        ensures { (memory : List ℕ) → Means W.is_modelled W.state (OfPrimitive row.Fail) self.old words.now
-            memory result self.new }
+        ensures { (memory : List ℕ) → Means W.is_modelled W.state W.did (OfPrimitive row.Fail)
+            self.old words.now memory result self.new }
     {
         let import = Import::OfPrimitive(Primitive::Fail);
         match fail(words) {
@@ -173,8 +174,8 @@ impl<W: World> Host<W> {
     #[inline(never)]
     pub(crate) fn on_drop(&mut self, words: &[Word]) -> HostAnswer
         requires { refuses Drop self.old.tables.fault ≡ false }
-        ensures { (memory : List ℕ) → Means W.is_modelled W.state Drop self.old words.now memory result
-            self.new }
+        ensures { (memory : List ℕ) → Means W.is_modelled W.state W.did Drop self.old words.now
+            memory result self.new }
     {
         let outcome = self.tables.release(words);
         self.tell(Import::Drop, outcome)
@@ -184,8 +185,8 @@ impl<W: World> Host<W> {
     #[inline(never)]
     pub(crate) fn on_arg(&mut self, words: &[Word]) -> HostAnswer
         requires { refuses Arg self.old.tables.fault ≡ false }
-        ensures { (memory : List ℕ) → Means W.is_modelled W.state Arg self.old words.now memory result
-            self.new }
+        ensures { (memory : List ℕ) → Means W.is_modelled W.state W.did Arg self.old words.now
+            memory result self.new }
     {
         let outcome = self.tables.arg(words);
         self.tell(Import::Arg, outcome)

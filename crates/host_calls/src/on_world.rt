@@ -19,8 +19,8 @@ impl<W: World> Host<W> {
     #[inline(never)]
     pub(crate) fn on_next_main(&mut self, words: &[Word]) -> HostAnswer
         requires { refuses (OfPrimitive row.NextMain) self.old.tables.fault ≡ false }
-        ensures { (memory : List ℕ) → Means W.is_modelled W.state (OfPrimitive row.NextMain) self.old words.now
-            memory result self.new }
+        ensures { (memory : List ℕ) → Means W.is_modelled W.state W.did (OfPrimitive row.NextMain)
+            self.old words.now memory result self.new }
     {
         let outcome = self.read_main(MainRead::Loop, words);
         self.tell(Import::OfPrimitive(Primitive::NextMain), outcome)
@@ -30,8 +30,8 @@ impl<W: World> Host<W> {
     #[inline(never)]
     pub(crate) fn on_getline(&mut self, words: &[Word]) -> HostAnswer
         requires { refuses (OfPrimitive row.Getline) self.old.tables.fault ≡ false }
-        ensures { (memory : List ℕ) → Means W.is_modelled W.state (OfPrimitive row.Getline) self.old words.now
-            memory result self.new }
+        ensures { (memory : List ℕ) → Means W.is_modelled W.state W.did (OfPrimitive row.Getline)
+            self.old words.now memory result self.new }
     {
         let outcome = self.read_main(MainRead::Getline(ReadInto::Record), words);
         self.tell(Import::OfPrimitive(Primitive::Getline), outcome)
@@ -41,8 +41,8 @@ impl<W: World> Host<W> {
     #[inline(never)]
     pub(crate) fn on_getline_var(&mut self, words: &[Word]) -> HostAnswer
         requires { refuses (OfPrimitive row.GetlineVar) self.old.tables.fault ≡ false }
-        ensures { (memory : List ℕ) → Means W.is_modelled W.state (OfPrimitive row.GetlineVar) self.old words.now
-            memory result self.new }
+        ensures { (memory : List ℕ) → Means W.is_modelled W.state W.did (OfPrimitive row.GetlineVar)
+            self.old words.now memory result self.new }
     {
         let outcome = self.read_main(MainRead::Getline(ReadInto::Variable), words);
         self.tell(Import::OfPrimitive(Primitive::GetlineVar), outcome)
@@ -52,8 +52,8 @@ impl<W: World> Host<W> {
     #[inline(never)]
     pub(crate) fn on_getline_file(&mut self, words: &[Word]) -> HostAnswer
         requires { refuses (OfPrimitive row.GetlineFile) self.old.tables.fault ≡ false }
-        ensures { (memory : List ℕ) → Means W.is_modelled W.state (OfPrimitive row.GetlineFile) self.old words.now
-            memory result self.new }
+        ensures { (memory : List ℕ) → Means W.is_modelled W.state W.did (OfPrimitive
+            row.GetlineFile) self.old words.now memory result self.new }
     {
         let outcome = self.read_file(ReadInto::Record, words);
         self.tell(Import::OfPrimitive(Primitive::GetlineFile), outcome)
@@ -63,8 +63,8 @@ impl<W: World> Host<W> {
     #[inline(never)]
     pub(crate) fn on_getline_var_file(&mut self, words: &[Word]) -> HostAnswer
         requires { refuses (OfPrimitive row.GetlineVarFile) self.old.tables.fault ≡ false }
-        ensures { (memory : List ℕ) → Means W.is_modelled W.state (OfPrimitive row.GetlineVarFile) self.old
-            words.now memory result self.new }
+        ensures { (memory : List ℕ) → Means W.is_modelled W.state W.did (OfPrimitive
+            row.GetlineVarFile) self.old words.now memory result self.new }
     {
         let outcome = self.read_file(ReadInto::Variable, words);
         self.tell(Import::OfPrimitive(Primitive::GetlineVarFile), outcome)
@@ -74,8 +74,8 @@ impl<W: World> Host<W> {
     #[inline(never)]
     pub(crate) fn on_line(&mut self, words: &[Word]) -> HostAnswer
         requires { refuses (OfPrimitive row.Line) self.old.tables.fault ≡ false }
-        ensures { (memory : List ℕ) → Means W.is_modelled W.state (OfPrimitive row.Line) self.old words.now memory
-            result self.new }
+        ensures { (memory : List ℕ) → Means W.is_modelled W.state W.did (OfPrimitive row.Line)
+            self.old words.now memory result self.new }
     {
         let outcome = self.line(words);
         self.tell(Import::OfPrimitive(Primitive::Line), outcome)
@@ -85,8 +85,8 @@ impl<W: World> Host<W> {
     #[inline(never)]
     pub(crate) fn on_start_assign(&mut self, words: &[Word]) -> HostAnswer
         requires { refuses (OfPrimitive row.StartAssign) self.old.tables.fault ≡ false }
-        ensures { (memory : List ℕ) → Means W.is_modelled W.state (OfPrimitive row.StartAssign) self.old words.now
-            memory result self.new }
+        ensures { (memory : List ℕ) → Means W.is_modelled W.state W.did (OfPrimitive
+            row.StartAssign) self.old words.now memory result self.new }
     {
         let outcome = self.start_assign(words);
         self.tell(Import::OfPrimitive(Primitive::StartAssign), outcome)
@@ -96,8 +96,8 @@ impl<W: World> Host<W> {
     #[inline(never)]
     pub(crate) fn on_pending_name(&mut self, words: &[Word]) -> HostAnswer
         requires { refuses (OfPrimitive row.PendingName) self.old.tables.fault ≡ false }
-        ensures { (memory : List ℕ) → Means W.is_modelled W.state (OfPrimitive row.PendingName) self.old words.now
-            memory result self.new }
+        ensures { (memory : List ℕ) → Means W.is_modelled W.state W.did (OfPrimitive
+            row.PendingName) self.old words.now memory result self.new }
     {
         let outcome = self.pending_name(words);
         self.tell(Import::OfPrimitive(Primitive::PendingName), outcome)
@@ -107,8 +107,8 @@ impl<W: World> Host<W> {
     #[inline(never)]
     pub(crate) fn on_pending_value(&mut self, words: &[Word]) -> HostAnswer
         requires { refuses (OfPrimitive row.PendingValue) self.old.tables.fault ≡ false }
-        ensures { (memory : List ℕ) → Means W.is_modelled W.state (OfPrimitive row.PendingValue) self.old words.now
-            memory result self.new }
+        ensures { (memory : List ℕ) → Means W.is_modelled W.state W.did (OfPrimitive
+            row.PendingValue) self.old words.now memory result self.new }
     {
         let outcome = self.pending_value(words);
         self.tell(Import::OfPrimitive(Primitive::PendingValue), outcome)
@@ -118,8 +118,8 @@ impl<W: World> Host<W> {
     #[inline(never)]
     pub(crate) fn on_begin_end(&mut self, words: &[Word]) -> HostAnswer
         requires { refuses (OfPrimitive row.BeginEnd) self.old.tables.fault ≡ false }
-        ensures { (memory : List ℕ) → Means W.is_modelled W.state (OfPrimitive row.BeginEnd) self.old words.now
-            memory result self.new }
+        ensures { (memory : List ℕ) → Means W.is_modelled W.state W.did (OfPrimitive row.BeginEnd)
+            self.old words.now memory result self.new }
     {
         let outcome = self.begin_end(words);
         self.tell(Import::OfPrimitive(Primitive::BeginEnd), outcome)
@@ -129,8 +129,8 @@ impl<W: World> Host<W> {
     #[inline(never)]
     pub(crate) fn on_close(&mut self, words: &[Word]) -> HostAnswer
         requires { refuses (OfPrimitive row.Close) self.old.tables.fault ≡ false }
-        ensures { (memory : List ℕ) → Means W.is_modelled W.state (OfPrimitive row.Close) self.old words.now memory
-            result self.new }
+        ensures { (memory : List ℕ) → Means W.is_modelled W.state W.did (OfPrimitive row.Close)
+            self.old words.now memory result self.new }
     {
         let outcome = self.close(words);
         self.tell(Import::OfPrimitive(Primitive::Close), outcome)
@@ -140,8 +140,8 @@ impl<W: World> Host<W> {
     #[inline(never)]
     pub(crate) fn on_next_file(&mut self, words: &[Word]) -> HostAnswer
         requires { refuses (OfPrimitive row.NextFile) self.old.tables.fault ≡ false }
-        ensures { (memory : List ℕ) → Means W.is_modelled W.state (OfPrimitive row.NextFile) self.old words.now
-            memory result self.new }
+        ensures { (memory : List ℕ) → Means W.is_modelled W.state W.did (OfPrimitive row.NextFile)
+            self.old words.now memory result self.new }
     {
         let outcome = self.next_file(words);
         self.tell(Import::OfPrimitive(Primitive::NextFile), outcome)
@@ -151,8 +151,8 @@ impl<W: World> Host<W> {
     #[inline(never)]
     pub(crate) fn on_flush(&mut self, words: &[Word]) -> HostAnswer
         requires { refuses (OfPrimitive row.Flush) self.old.tables.fault ≡ false }
-        ensures { (memory : List ℕ) → Means W.is_modelled W.state (OfPrimitive row.Flush) self.old words.now memory
-            result self.new }
+        ensures { (memory : List ℕ) → Means W.is_modelled W.state W.did (OfPrimitive row.Flush)
+            self.old words.now memory result self.new }
     {
         let outcome = self.flush(words);
         self.tell(Import::OfPrimitive(Primitive::Flush), outcome)
@@ -162,8 +162,8 @@ impl<W: World> Host<W> {
     #[inline(never)]
     pub(crate) fn on_declare(&mut self, words: &[Word], memory: &[u8]) -> HostAnswer
         requires { refuses (OfPrimitive row.Declare) self.old.tables.fault ≡ false }
-        ensures { Means W.is_modelled W.state (OfPrimitive row.Declare) self.old words.now memory.now result
-            self.new }
+        ensures { Means W.is_modelled W.state W.did (OfPrimitive row.Declare) self.old words.now
+            memory.now result self.new }
     {
         let outcome = self.declare(words, memory);
         self.tell(Import::OfPrimitive(Primitive::Declare), outcome)
@@ -173,8 +173,8 @@ impl<W: World> Host<W> {
     #[inline(never)]
     pub(crate) fn on_print(&mut self, words: &[Word]) -> HostAnswer
         requires { refuses (Variadic listing.Print) self.old.tables.fault ≡ false }
-        ensures { (memory : List ℕ) → Means W.is_modelled W.state (Variadic listing.Print) self.old words.now
-            memory result self.new }
+        ensures { (memory : List ℕ) → Means W.is_modelled W.state W.did (Variadic listing.Print)
+            self.old words.now memory result self.new }
     {
         let outcome = self.print(words);
         self.tell(Import::Variadic(VariadicImport::Print), outcome)
@@ -184,8 +184,8 @@ impl<W: World> Host<W> {
     #[inline(never)]
     pub(crate) fn on_printf(&mut self, words: &[Word]) -> HostAnswer
         requires { refuses (Variadic listing.Printf) self.old.tables.fault ≡ false }
-        ensures { (memory : List ℕ) → Means W.is_modelled W.state (Variadic listing.Printf) self.old words.now
-            memory result self.new }
+        ensures { (memory : List ℕ) → Means W.is_modelled W.state W.did (Variadic listing.Printf)
+            self.old words.now memory result self.new }
     {
         let outcome = self.printf(words);
         self.tell(Import::Variadic(VariadicImport::Printf), outcome)

@@ -1,7 +1,7 @@
 //! Calls that write, and that close and flush files.
 ghost use Rattle.std.specs.Prelude.{◌≡◌, List, ℕ, None};
 ghost use Rattle.sem_primitives.specs.declared.table.Primitive.TheVariants as row;
-ghost use Rattle.host_calls.specs.Calls.{ComesTo};
+ghost use Rattle.host_calls.specs.Calls.{ComesTo, Gave};
 ghost use Rattle.host_calls.specs.Forms.{host_form};
 ghost use Rattle.host_imports.specs.declared.import.Import.{Import};
 ghost use Rattle.host_imports.specs.declared.import.VariadicImport.{VariadicImport};
@@ -16,8 +16,9 @@ impl<W: World> Host<W> {
     /// The last values of the argument list are printed.
     pub(crate) fn print(&mut self, words: &[Word]) -> Result<Option<Word>, Refusal>
         requires { self.old.tables.fault ≡ None }
-        ensures { (memory : List ℕ) → ComesTo W.is_modelled (Import.Variadic VariadicImport.Print)
-            (host_form W.state self.old) words.now memory result (host_form W.state self.new) }
+        ensures { (memory : List ℕ) → ComesTo W.is_modelled (Gave W.did self.old self.new)
+            (Import.Variadic VariadicImport.Print) (host_form W.state self.old) words.now memory
+            result (host_form W.state self.new) }
     {
         print(
             self.alloc,
@@ -33,8 +34,9 @@ impl<W: World> Host<W> {
     /// The last values of the argument list are printed by a format.
     pub(crate) fn printf(&mut self, words: &[Word]) -> Result<Option<Word>, Refusal>
         requires { self.old.tables.fault ≡ None }
-        ensures { (memory : List ℕ) → ComesTo W.is_modelled (Import.Variadic VariadicImport.Printf)
-            (host_form W.state self.old) words.now memory result (host_form W.state self.new) }
+        ensures { (memory : List ℕ) → ComesTo W.is_modelled (Gave W.did self.old self.new)
+            (Import.Variadic VariadicImport.Printf) (host_form W.state self.old) words.now memory
+            result (host_form W.state self.new) }
     {
         printf(
             self.alloc,
@@ -49,8 +51,9 @@ impl<W: World> Host<W> {
     /// The file of a name is closed.
     pub(crate) fn close(&mut self, words: &[Word]) -> Result<Option<Word>, Refusal>
         requires { self.old.tables.fault ≡ None }
-        ensures { (memory : List ℕ) → ComesTo W.is_modelled (Import.OfPrimitive row.Close)
-            (host_form W.state self.old) words.now memory result (host_form W.state self.new) }
+        ensures { (memory : List ℕ) → ComesTo W.is_modelled (Gave W.did self.old self.new)
+            (Import.OfPrimitive row.Close) (host_form W.state self.old) words.now memory result
+            (host_form W.state self.new) }
     {
         close(
             self.alloc,
@@ -64,8 +67,9 @@ impl<W: World> Host<W> {
     /// Whether the file of a name is open for writing: then all that was printed to it is out.
     pub(crate) fn flush(&mut self, words: &[Word]) -> Result<Option<Word>, Refusal>
         requires { self.old.tables.fault ≡ None }
-        ensures { (memory : List ℕ) → ComesTo W.is_modelled (Import.OfPrimitive row.Flush)
-            (host_form W.state self.old) words.now memory result (host_form W.state self.new) }
+        ensures { (memory : List ℕ) → ComesTo W.is_modelled (Gave W.did self.old self.new)
+            (Import.OfPrimitive row.Flush) (host_form W.state self.old) words.now memory result
+            (host_form W.state self.new) }
     {
         flush(
             self.alloc,

@@ -1,5 +1,5 @@
 //! The host's beginning and its end.
-ghost use Rattle.std.specs.Prelude.{◌≡◌, IfErr, IfOk};
+ghost use Rattle.std.specs.Prelude.{◌≡◌, [], IfErr, IfOk};
 ghost use Rattle.std.specs.FinMap as map;
 ghost use Rattle.host_values.specs.Findings.{ShownFirst};
 ghost use Rattle.host_values.specs.Shown.{Shown};
@@ -37,6 +37,7 @@ impl<W: World> Host<W> {
         ensures started { IfOk result (λ host. ShownFirst (host_form W.state host)
             (job_of job.now) ((W.state world).readers 0) (W.state world).outside) }
         ensures world { IfOk result (λ host. host.world ≡ world) }
+        ensures none_open { IfOk result (λ host. host.input.files.writers.items ≡ []) }
         ensures handed_back { IfErr result (λ given. given ≡ world) }
     {
         let Ok(links) = Links::new(alloc) else {

@@ -17,14 +17,13 @@ module _ (tells : Type 0) (import : Option Import) (before f g : HostForm) (word
   step_too : (v : View) (out : List Action) (s : HostState) → StepShown import s words memory a (viewed v f) out → StepShown import s words memory a (viewed v g) out
   step_too v out s x = record { state = x.state; shown = shows_too f g fault kept shares v x.state x.shown; step = x.step }
 
-  finds_too : FindsSo import before words memory a f → FindsSo import before words memory a g
+  finds_too : FindsSo import before words memory a f output → FindsSo import before words memory a g output
   finds_too c = record {
     found = c.found;
-    output = c.output;
     leads = λ finds later is outside so_far s h. let x = c.leads finds later is outside so_far s h in record {
       rest = x.rest;
       left = subst (λ (o : Option Fault). IsFound o [] later x.rest) shares.fault x.left;
-      to = step_too (Finding x.rest (outside_after c.output outside) (so_far ++ c.output)) c.output s x.to;
+      to = step_too (Finding x.rest (outside_after output outside) (so_far ++ output)) output s x.to;
     };
   }
 

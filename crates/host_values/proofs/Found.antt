@@ -18,10 +18,9 @@ module _ (i : Import) (before after-call : HostForm) (words : List Word) (memory
   -- these are found
   pub led_found : (found : List Entry) → ((later : List Entry) (outside : Outside) (so_far : List Action) → (rest : List Entry) × IsFound after-call.fault [] later rest
       × Leads i (form_finding (found ++ later) outside so_far before) words memory a (form_finding rest outside so_far after-call))
-      → LeadsFinding i before words memory a after-call
+      → LeadsFinding i before words memory a after-call []
   led_found found calls = record {
     found = found;
-    output = [];
     leads = λ later outside so_far s st.
         let c = calls later outside so_far in
         let x = c.2 s st in
@@ -36,5 +35,5 @@ module _ (i : Import) (before after-call : HostForm) (words : List Word) (memory
 
   -- nothing is
   pub led_nothing : ((finds : List Entry) (outside : Outside) (so_far : List Action)
-      → Leads i (form_finding finds outside so_far before) words memory a (form_finding finds outside so_far after-call)) → LeadsFinding i before words memory a after-call
+      → Leads i (form_finding finds outside so_far before) words memory a (form_finding finds outside so_far after-call)) → LeadsFinding i before words memory a after-call []
   led_nothing calls = led_found [] (λ later outside so_far. (later, none_left after-call.fault later, calls later outside so_far))

@@ -42,28 +42,28 @@ module _ (tells : Type 0) (i : Import) (words : List Word) (memory : List ℕ) (
     back a s' output = subst (λ (z : HostState). StepIf (Some i) z words memory a s' output) (own_output so_far before s stands_so)
 
   -- what is found there
-  module _ (a : HostAnswer) (after-call : HostForm) (l : LeadsFinding i before words memory a after-call) where
-    found_led : (later : List Entry) (outside : Outside) (so_far : List Action) (s : HostState) → LedFinding i s words memory a after-call l.output later outside so_far
-        → StepFinds (Some i) s words memory a after-call l.output later outside so_far
+  module _ (a : HostAnswer) (after-call : HostForm) (output : List Action) (l : LeadsFinding i before words memory a after-call output) where
+    found_led : (later : List Entry) (outside : Outside) (so_far : List Action) (s : HostState) → LedFinding i s words memory a after-call output later outside so_far
+        → StepFinds (Some i) s words memory a after-call output later outside so_far
     found_led later outside so_far s x = record {
       rest = x.rest;
       left = x.left;
       to = record {
         state = x.state;
-        shown = shown_of (form_finding x.rest (outside_after l.output outside) (so_far ++ l.output) after-call) x.state x.stands;
+        shown = shown_of (form_finding x.rest (outside_after output outside) (so_far ++ output) after-call) x.state x.stands;
         step = x.step;
       };
     }
 
     leads_finds : (finds later : List Entry) → IsFound before.fault l.found later finds → (outside : Outside) (so_far : List Action) (s : HostState)
-        → Shown (form_finding finds outside so_far before) s → StepFinds (Some i) s words memory a after-call l.output later outside so_far
+        → Shown (form_finding finds outside so_far before) s → StepFinds (Some i) s words memory a after-call output later outside so_far
     leads_finds finds later is outside so_far s h =
         let e = subst (λ (o : Option Fault). IsFound o l.found later finds) none is in
         found_led later outside so_far s (l.leads later outside so_far s
         (subst (λ (x : List Entry). Stands (form_finding x outside so_far before) s) e (stands_of (form_finding finds outside so_far before) s none h)))
 
-    finds_led : FindsSo (Some i) before words memory a after-call
-    finds_led = record { found = l.found; output = l.output; leads = leads_finds }
+    finds_led : FindsSo (Some i) before words memory a after-call output
+    finds_led = record { found = l.found; leads = leads_finds }
 
   led : (a : HostAnswer) (after-call : HostForm) (output : List Action) → Typed (Some (import_type i)) a → Leads tells i before words memory a after-call output
       → FormCalled tells (Some i) before words memory a after-call output
@@ -74,7 +74,7 @@ module _ (tells : Type 0) (i : Import) (words : List Word) (memory : List ℕ) (
       shown = shown_of (form_with_output (so_far ++ output) after-call) (with_output (so_far ++ output) x.0) (stands_with (so_far ++ output) after-call x.0 x.1);
       step = back so_far s h a (with_output (so_far ++ output) x.0) output (x.2.step t so_far);
     };
-    finds = finds_led a after-call both.1;
+    finds = finds_led a after-call output both.1;
   }
 
   module _ (after-call : HostForm) (output : List Action) where
@@ -104,9 +104,8 @@ module _ (tells : Type 0) (i : Import) (words : List Word) (memory : List ℕ) (
       step = λ t so_far s h. absurd (unfit (calls.0 (s0 so_far s h) (stands_there so_far s h)).2.typed);
       finds = record {
         found = calls.1.found;
-        output = calls.1.output;
         leads = λ finds later is outside so_far s h.
-            let x = leads_finds (told.Done w) after-call calls.1 finds later is outside so_far s h in
-            absurd (unfit (step_typed (Some i) s words memory (told.Done w) x.to.state calls.1.output x.to.step));
+            let x = leads_finds (told.Done w) after-call output calls.1 finds later is outside so_far s h in
+            absurd (unfit (step_typed (Some i) s words memory (told.Done w) x.to.state output x.to.step));
       };
     }

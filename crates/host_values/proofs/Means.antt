@@ -55,8 +55,8 @@ none_found (Some f) None later finds stays h = absurd (true≢false (sym (stays 
 
 module _ (import : Option Import) (before : HostForm) (words : List Word) (memory : List ℕ) (a : HostAnswer) (after-call : HostForm)
     (moves : Moves import before words memory a after-call) where
-  finds_nothing : FindsSo import before words memory a after-call
-  finds_nothing = record { found = []; output = []; leads = λ finds later is outside so_far s h. by finds later is outside so_far s h (moves (Finding finds outside so_far) s h) } where
+  finds_nothing : FindsSo import before words memory a after-call []
+  finds_nothing = record { found = []; leads = λ finds later is outside so_far s h. by finds later is outside so_far s h (moves (Finding finds outside so_far) s h) } where
     by : (finds later : List Entry) → IsFound before.fault [] later finds → (outside : Outside) (so_far : List Action) (s : HostState)
         → Shown (form_finding finds outside so_far before) s → StepShown import s words memory a (form_finding finds outside so_far after-call) []
         → StepFinds import s words memory a after-call [] later outside so_far

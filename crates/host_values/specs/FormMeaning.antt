@@ -28,21 +28,21 @@ pub record StepFinds (import : Option Import) (s : HostState) (words : List Word
   pub left : IsFound after-call.fault [] later rest
   pub to : StepShown import s words memory a (form_finding rest (outside_after output outside) (so_far ++ output) after-call) output
 
--- What a call finds in an environment that others change too, whatever is found after it: there is a step from every state that is shown then.
-pub record FindsSo (import : Option Import) (before : HostForm) (words : List Word) (memory : List ℕ) (a : HostAnswer) (after-call : HostForm) : Type 0 where
+-- What a call finds in an environment that others change too, whatever is found after it: from every state that is shown then there is a step with this output.
+pub record FindsSo (import : Option Import) (before : HostForm) (words : List Word) (memory : List ℕ) (a : HostAnswer) (after-call : HostForm)
+    (output : List Action) : Type 0 where
   pub found : List Entry
-  pub output : List Action
   pub leads : (finds later : List Entry) → IsFound before.fault found later finds → (outside : Outside) (so_far : List Action) (s : HostState)
       → Shown (form_finding finds outside so_far before) s → StepFinds import s words memory a after-call output later outside so_far
 
--- A call that wants no memory. From every state that is shown before it, a step leads to one that is shown after it, whatever was put out before, where the
--- world tells what it holds; and in every world so it does where something is found.
+-- A call that wants no memory, with this output. From every state that is shown before it, a step leads to one that is shown after it, whatever was put out
+-- before, where the world tells what it holds; and in every world so it does where something is found.
 pub record FormCalled (tells : Type 0) (import : Option Import) (before : HostForm) (words : List Word) (memory : List ℕ) (a : HostAnswer)
     (after-call : HostForm) (output : List Action) : Type 0 where
   pub typed : Typed (type_if_there import) a
   pub step : tells → (so_far : List Action) (s : HostState) → Shown (form_with_output so_far before) s
       → StepShown import s words memory a (form_with_output (so_far ++ output) after-call) output
-  pub finds : FindsSo import before words memory a after-call
+  pub finds : FindsSo import before words memory a after-call output
 
 -- a step by another answer, whose output begins so
 pub record OtherStep (import : Option Import) (s : HostState) (words : List Word) (memory : List ℕ) (output : List Action) : Type 0 where

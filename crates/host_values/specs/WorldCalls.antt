@@ -28,14 +28,14 @@ pub record LedFinding (i : Import) (s : HostState) (words : List Word) (memory :
   pub step : StepOf i s words memory a state output
 
 -- what the call finds there, whatever is found after it
-pub record LeadsFinding (i : Import) (before : HostForm) (words : List Word) (memory : List ℕ) (a : HostAnswer) (after-call : HostForm) : Type 0 where
+pub record LeadsFinding (i : Import) (before : HostForm) (words : List Word) (memory : List ℕ) (a : HostAnswer) (after-call : HostForm)
+    (output : List Action) : Type 0 where
   pub found : List Entry
-  pub output : List Action
   pub leads : (later : List Entry) (outside : Outside) (so_far : List Action) (s : HostState) → Stands (form_finding (found ++ later) outside so_far before) s
       → LedFinding i s words memory a after-call output later outside so_far
 
 abbrev pub Leads : Type 0 → Import → HostForm → List Word → List ℕ → HostAnswer → HostForm → List Action → Type 0
-Leads tells i before words memory a after output = LeadsIn tells i before words memory a after output × LeadsFinding i before words memory a after
+Leads tells i before words memory a after output = LeadsIn tells i before words memory a after output × LeadsFinding i before words memory a after output
 
 -- A call on the tables, with this output. After a fault they are as the call leaves them. Where memory was wanting and the world is modelled, what was
 -- written by then is how the output of another answer begins.

@@ -16,7 +16,8 @@ use Rattle.wasm_model.specs.declared.host.HostAnswer.TheVariants as told
 use Rattle.wasm_store.specs.declared.trap.TrapKind.{TrapKind}
 use Rattle.wasm_store.specs.declared.word.Word.{Word}
 use Rattle.wasm_store.specs.declared.word.Word.TheVariants.{I32}
-use Rattle.world_core.specs.WorldState.{Action, Entry, Outside, Source, State}
+use Rattle.world_core.specs.WorldState.{Action, Entry, Named, Outside, Source, State}
+use Rattle.world_core.specs.Traces.{Targets}
 use Rattle.host_imports.specs.Codes.{stream_code}
 use Rattle.host_step.specs.HostState.{HostState}
 use Rattle.host_step.specs.HostStep.{StepOf, acts, carried}
@@ -33,10 +34,12 @@ use Rattle.host_values.specs.ElementCalls.{Leads}
 use Rattle.host_values.specs.Forms.{HostForm, Past, state_of}
 use Rattle.host_values.proofs.ElementSteps.{acts_of, goes, state_with, traps, unrefused}
 use Rattle.host_streams.specs.Closing.{ClosesBy}
-use Rattle.host_streams.specs.OpenFiles.{names_of, reader_names, readers_beside, readers_in}
+use Rattle.host_streams.specs.Given.{AreNamed, AreTargets}
+use Rattle.host_streams.specs.OpenFiles.{is_writer, names_of, reader_names, readers_beside, readers_in, writers_beside}
 use Rattle.host_streams.specs.Outputs.{IsOf}
 use Rattle.host_streams.specs.Readers.{coming, left}
 use Rattle.host_streams.specs.declared.streams.NamedReader.{NamedReader}
+use Rattle.host_streams.specs.declared.streams.NamedWriter.{NamedWriter}
 use Rattle.host_streams.specs.declared.streams.Streams.{Streams}
 use Rattle.host_values.specs.Findings.{form_finding}
 use Rattle.host_values.specs.WorldCalls.{IsCalled, LeadsIn}
@@ -234,3 +237,19 @@ module _ (tells : Type 0) (f : HostForm) (words : List Word) (memory : List ℕ)
 
     pub close_closes : IsCalled tells (OfPrimitive row.Close) at_first words memory (Ok (Some (closed_code closed))) at_last []
     close_closes = (closes_world, led_nothing (OfPrimitive row.Close) at_first at_last words memory (told.Done (Some (closed_code closed))) closes_there)
+
+-- The streams that stay open go where they went.
+
+named_one : (b : Bool) (w : NamedWriter) (ws : List NamedWriter) (targets : Targets) → targets w.id ≡ Named w.name → AreNamed ws targets → AreNamed (cond b (w ∷ ws) ws) targets
+named_one true w ws targets is are = (is, are)
+named_one false w ws targets is are = are
+
+named_beside : (name : List ℕ) (ws : List NamedWriter) (targets : Targets) → AreNamed ws targets → AreNamed (writers_beside name ws) targets
+named_beside name [] targets are = tt
+named_beside name (w ∷ ws) targets are = named_one (not (is_writer name w)) w (writers_beside name ws) targets are.0 (named_beside name ws targets are.1)
+
+pub targets_beside : (name : List ℕ) (ws ws' : List NamedWriter) (targets : Targets) → ws' ≡ writers_beside name ws → AreTargets ws targets → AreTargets ws' targets
+targets_beside name ws ws' targets is are = record {
+  standard = are.standard;
+  named = subst (λ (left : List NamedWriter). AreNamed left targets) (sym is) (named_beside name ws targets are.named);
+}

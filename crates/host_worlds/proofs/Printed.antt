@@ -8,7 +8,7 @@ use Rattle.sem_primitives.specs.declared.constants.Destination.{Destination}
 use Rattle.wasm_model.specs.declared.host.HostAnswer.TheVariants as told
 use Rattle.wasm_store.specs.declared.trap.TrapKind.{TrapKind}
 use Rattle.wasm_store.specs.declared.word.Word.{Word}
-use Rattle.world_core.specs.WorldState.{Action, State}
+use Rattle.world_core.specs.WorldState.{Action, State, after}
 use Rattle.host_step.specs.HostState.{HostState}
 use Rattle.host_step.specs.HostStep.{StepOf, before_last_of, last_of}
 use Rattle.host_step.specs.Worlds.{Called, with_output}
@@ -19,7 +19,7 @@ use Rattle.host_step.specs.declared.refusal.Refusal.TheVariants as why
 use Rattle.host_values.specs.Forms.{HostForm, state_of}
 use Rattle.host_streams.specs.OpenFiles.{names_of, readers_in}
 use Rattle.host_streams.specs.Outputs.{IsOf, PutsIs}
-use Rattle.host_streams.specs.Puts.{OutputPrefix}
+use Rattle.host_streams.specs.Given.{IsOutput}
 use Rattle.host_streams.specs.declared.streams.Streams.{Streams}
 use Rattle.host_values.specs.Findings.{form_finding}
 use Rattle.host_values.specs.WorldCalls.{IsCalled}
@@ -27,9 +27,9 @@ use Rattle.host_values.proofs.Found.{led_nothing}
 use Rattle.host_worlds.specs.OutputCalls.{PossibleOutcome, answer_of, finding}
 use Rattle.host_worlds.specs.Forms.{printing, shared_with, writing}
 use Rattle.host_worlds.specs.Lists.{listed}
-use Rattle.host_worlds.proofs.Puts.{printf_lists, printf_only, printf_same}
+use Rattle.host_worlds.proofs.Puts.{printf_only, printf_same}
 use Rattle.host_worlds.proofs.Steps.{print_step, print_trap, printf_step, printf_trap}
-use Rattle.host_worlds.proofs.Tables.{begins_at, could_at, puts_so}
+use Rattle.host_worlds.proofs.Tables.{could_at, puts_so}
 use Rattle.host_worlds.proofs.Worlds.{sharing, trap_called}
 
 module _ (tells : Type 0) (f : HostForm) (words : List Word) (memory : List ℕ) (none : f.fault ≡ None) (arguments : List Value) (streams : Streams) (state : State) where
@@ -69,41 +69,41 @@ module _ (tells : Type 0) (f : HostForm) (words : List Word) (memory : List ℕ)
     )),
   )
 
-  module _ (n : ℕ × Destination) (streams' : Streams) (state' : State) (put : Result (Unit {0}) Stop)
-      (kept : streams'.readers ≡ streams.readers) (readers : tells → readers_in streams'.readers.items state' ≡ readers_in streams.readers.items state) where
+  module _ (n : ℕ × Destination) (streams' : Streams) (state' : State) (put : Result (Unit {0}) Stop) (actions : List Action)
+      (kept : streams'.readers ≡ streams.readers) (readers : tells → readers_in streams'.readers.items state' ≡ readers_in streams.readers.items state)
+      (outside : tells → state'.outside ≡ after actions state.outside) where
     abbrev values : List Value
     values = last_of n.0 arguments
 
     pub prints_so : (specials : Specials) → listed 0 arguments words ≡ Ok n
         → (tells → (shared : Shared) → IsOf streams state shared → PutsIs (print_row n.1 values (shared_with specials shared)) put state state' (names_of streams.writers.items) (names_of streams'.writers.items))
-        → PossibleOutcome (λ shared. print_row n.1 values (shared_with specials shared)) streams streams' put
-        → OutputPrefix tells (IsOf streams state) (λ shared. print_row n.1 values (shared_with specials shared)) put state state'
-        → (output : List Action) × IsCalled tells (Variadic Print) (printing arguments specials streams state f) words memory (answer_of put) (printing (before_last_of n.0 arguments) specials streams' state' f) output
-    prints_so specials is told_so could begun =
+        → (tells → (shared : Shared) → IsOf streams state shared → IsOutput actions (print_row n.1 values (shared_with specials shared)) put)
+        → PossibleOutcome (λ shared. print_row n.1 values (shared_with specials shared)) streams streams' put actions
+        → IsCalled tells (Variadic Print) (printing arguments specials streams state f) words memory (answer_of put) (printing (before_last_of n.0 arguments) specials streams' state' f) actions
+    prints_so specials is told_so out could =
         let before : HostForm = printing arguments specials streams state f in
-        puts_so tells (Variadic Print) words memory refl (record f { shared = shared_with specials f.shared }) arguments (before_last_of n.0 arguments) streams streams' state state' (print_row n.1 values)
+        puts_so tells (Variadic Print) words memory refl (record f { shared = shared_with specials f.shared }) arguments (before_last_of n.0 arguments) streams streams' state state' (print_row n.1 values) actions
         (λ p shared. print_step (sharing (state_of before p) shared) words memory n none is)
         (λ shared output. printf_same (Ok (printed shared.inner (operands_of n.1 values))) n.1 (file_name n.1 values) shared output)
         (λ shared. printf_only (Ok (printed shared.inner (operands_of n.1 values))) n.1 (file_name n.1 values) shared)
-        (λ shared. shared_with specials shared ≡ shared) (λ p. refl) (λ p finds outside so_far. refl)
-        (λ p. printf_lists (Ok (printed before.shared.inner (operands_of n.1 values))) n.1 (file_name n.1 values) p.arrays p.iterators before.shared)
+        (λ shared. shared_with specials shared ≡ shared) (λ p. refl) (λ p finds there so_far. refl)
         kept readers put (λ t p. told_so t (state_of before p).shared (record { kept = refl; readers = refl; writers = refl; outside = refl }))
-        (could_at (λ shared. print_row n.1 values (shared_with specials shared)) (print_row n.1 values) (λ shared. shared_with specials shared ≡ shared) streams streams'
+        (λ t p. out t (state_of before p).shared (record { kept = refl; readers = refl; writers = refl; outside = refl })) outside
+        (could_at (λ shared. print_row n.1 values (shared_with specials shared)) (print_row n.1 values) (λ shared. shared_with specials shared ≡ shared) streams streams' actions
         (λ shared fit finds. ap (λ (x : Shared). print_row n.1 values (finding finds x)) fit) put could)
-        (begins_at tells (IsOf streams state) (λ shared. print_row n.1 values (shared_with specials shared)) put state state' before.shared (record { kept = refl; readers = refl; writers = refl; outside = refl }) begun)
 
     pub formats_so : listed 1 arguments words ≡ Ok n
         → (tells → (shared : Shared) → IsOf streams state shared → PutsIs (printf_row n.1 values shared) put state state' (names_of streams.writers.items) (names_of streams'.writers.items))
-        → PossibleOutcome (printf_row n.1 values) streams streams' put → OutputPrefix tells (IsOf streams state) (printf_row n.1 values) put state state'
-        → (output : List Action) × IsCalled tells (Variadic Printf) (writing arguments streams state f) words memory (answer_of put) (writing (before_last_of n.0 arguments) streams' state' f) output
-    formats_so is told_so could begun =
+        → (tells → (shared : Shared) → IsOf streams state shared → IsOutput actions (printf_row n.1 values shared) put)
+        → PossibleOutcome (printf_row n.1 values) streams streams' put actions
+        → IsCalled tells (Variadic Printf) (writing arguments streams state f) words memory (answer_of put) (writing (before_last_of n.0 arguments) streams' state' f) actions
+    formats_so is told_so out could =
         let before : HostForm = writing arguments streams state f in
-        puts_so tells (Variadic Printf) words memory refl f arguments (before_last_of n.0 arguments) streams streams' state state' (printf_row n.1 values)
+        puts_so tells (Variadic Printf) words memory refl f arguments (before_last_of n.0 arguments) streams streams' state state' (printf_row n.1 values) actions
         (λ p shared. printf_step (sharing (state_of before p) shared) words memory n none is)
         (λ shared output. printf_same (formatted_values (operands_of n.1 values)) n.1 (file_name n.1 values) shared output)
         (λ shared. printf_only (formatted_values (operands_of n.1 values)) n.1 (file_name n.1 values) shared)
-        (λ shared. Unit {0}) (λ p. tt) (λ p finds outside so_far. tt)
-        (λ p. printf_lists (formatted_values (operands_of n.1 values)) n.1 (file_name n.1 values) p.arrays p.iterators before.shared)
+        (λ shared. Unit {0}) (λ p. tt) (λ p finds there so_far. tt)
         kept readers put (λ t p. told_so t (state_of before p).shared (record { kept = refl; readers = refl; writers = refl; outside = refl }))
-        (could_at (printf_row n.1 values) (printf_row n.1 values) (λ shared. Unit {0}) streams streams' (λ shared fit finds. refl) put could)
-        (begins_at tells (IsOf streams state) (printf_row n.1 values) put state state' before.shared (record { kept = refl; readers = refl; writers = refl; outside = refl }) begun)
+        (λ t p. out t (state_of before p).shared (record { kept = refl; readers = refl; writers = refl; outside = refl })) outside
+        (could_at (printf_row n.1 values) (printf_row n.1 values) (λ shared. Unit {0}) streams streams' actions (λ shared fit finds. refl) put could)

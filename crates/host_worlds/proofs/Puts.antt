@@ -3,11 +3,10 @@ use Rattle.std.proofs.Common.{◌≡◌, ℕ, Bool, true, false, List, Option, N
 use Rattle.awk_values.specs.declared.fault.Fault.{Fault}
 use Rattle.sem_primitives.specs.Finds.{finds_by, observed_by, seen}
 use Rattle.sem_primitives.specs.OutputMeaning.{has_room, is_writing, kept_open, opened_if, printf_by, put_text, written_by}
-use Rattle.sem_primitives.specs.SharedState.{HostResult, Inner, Pairs, Shared}
+use Rattle.sem_primitives.specs.SharedState.{HostResult, Inner, Shared}
 use Rattle.sem_primitives.specs.declared.constants.Destination.{Destination}
 use Rattle.sem_primitives.specs.declared.constants.Destination.TheVariants.{Standard, Emptied, Appended}
 use Rattle.world_core.specs.WorldState.{Action, Entry, Named}
-use Rattle.host_values.specs.Forms.{Keys, inner_of}
 
 -- with this output so far
 abbrev pub so_far_in : List Action → Shared → Shared
@@ -34,33 +33,6 @@ put_same Appended name text shared output = written_same (is_writing name shared
 pub printf_same : (r : Result (List ℕ) Fault) (to : Destination) (name : List ℕ) (shared : Shared) (output : List Action) → printf_by r to name (so_far_in output shared) ≡ printf_by r to name shared
 printf_same (Ok text) to name shared output = put_same to name text shared output
 printf_same (Err fault) to name shared output = refl
-
--- Arrays and iterators do not count.
-
-abbrev pub lists_in : List Pairs → List Keys → Shared → Shared
-lists_in arrays iterators shared = record shared { inner = inner_of shared.inner arrays iterators }
-
-opened_lists : (room opens : Bool) (name text : List ℕ) (append : Bool) (arrays : List Pairs) (iterators : List Keys) (shared : Shared)
-    → (opened_if room opens name append text (lists_in arrays iterators shared)).added ≡ (opened_if room opens name append text shared).added
-opened_lists false opens name text append arrays iterators shared = refl
-opened_lists true false name text append arrays iterators shared = refl
-opened_lists true true name text append arrays iterators shared = refl
-
-written_lists : (b : Bool) (name text : List ℕ) (append : Bool) (arrays : List Pairs) (iterators : List Keys) (shared : Shared)
-    → (written_by b name append text (lists_in arrays iterators shared)).added ≡ (written_by b name append text shared).added
-written_lists true name text append arrays iterators shared = refl
-written_lists false name text append arrays iterators shared = opened_lists (has_room shared.inner) (seen shared.inner shared.outside (Named name)).opens name text append arrays iterators shared
-
-pub put_lists : (to : Destination) (name text : List ℕ) (arrays : List Pairs) (iterators : List Keys) (shared : Shared)
-    → (put_text to name text (lists_in arrays iterators shared)).added ≡ (put_text to name text shared).added
-put_lists Standard name text arrays iterators shared = refl
-put_lists Emptied name text arrays iterators shared = written_lists (is_writing name shared.inner.writers) name text false arrays iterators shared
-put_lists Appended name text arrays iterators shared = written_lists (is_writing name shared.inner.writers) name text true arrays iterators shared
-
-pub printf_lists : (r : Result (List ℕ) Fault) (to : Destination) (name : List ℕ) (arrays : List Pairs) (iterators : List Keys) (shared : Shared)
-    → (printf_by r to name (lists_in arrays iterators shared)).added ≡ (printf_by r to name shared).added
-printf_lists (Ok text) to name arrays iterators shared = put_lists to name text arrays iterators shared
-printf_lists (Err fault) to name arrays iterators shared = refl
 
 -- Only the files that are open for writing change.
 

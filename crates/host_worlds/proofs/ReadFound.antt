@@ -29,7 +29,7 @@ module _ (i : Import) (is : IsReading i) (before : HostForm) (words : List Word)
 
   -- it traps, and finds nothing
   pub traps_found : (k : TrapKind) → ((finds : List Entry) (o : Outside) (so_far : List Action) (p : Past) → carried i words memory (state_of (there finds o so_far) p) ≡ Err k)
-      → LeadsFinding i before words memory (told.Trap k) before
+      → LeadsFinding i before words memory (told.Trap k) before []
   traps_found k e = led_nothing i before before words memory (told.Trap k) (λ finds o so_far.
       trapped i (there finds o so_far) words memory k (unrefused i before.fault none) (λ p past. e finds o so_far p))
 
@@ -46,7 +46,7 @@ module _ (i : Import) (is : IsReading i) (before : HostForm) (words : List Word)
         → ((later : List Entry) (o : Outside) (so_far : List Action) (p : Past) → IsPast before p
         → (left : Names) × (wanted : Result (Inner × InputAnswer) Fault) × Carries i is (there (found ++ later) o so_far) p words memory none left wanted
         × (inner : Inner) × (wanted ≡ Ok (inner, x)) × (state_with left inner (there (found ++ later) o so_far) ≡ state_of (form_finding later o so_far after-call) p))
-        → LeadsFinding i before words memory (told.Done (Some (I32 (input_code x)))) after-call
+        → LeadsFinding i before words memory (told.Done (Some (I32 (input_code x)))) after-call []
     answers_found kept x says = led_found i before after-call words memory (told.Done (Some (I32 (input_code x)))) found (λ later o so_far. (
       later,
       none_left after-call.fault later,
@@ -68,7 +68,7 @@ module _ (i : Import) (is : IsReading i) (before : HostForm) (words : List Word)
         → (left : Names) × (wanted : Result (Inner × InputAnswer) Fault) × Carries i is (there (found ++ later) o so_far) p words memory none left wanted
         × (wanted ≡ Err fault) × (state_with left (state_of (there (found ++ later) o so_far) p).shared.inner (record (there (found ++ later) o so_far) { fault = Some fault })
         ≡ state_of (form_finding (found ++ later) o so_far after-call) p))
-        → LeadsFinding i before words memory (told.Done (refusal (import_answer i))) after-call
+        → LeadsFinding i before words memory (told.Done (refusal (import_answer i))) after-call []
     faults_found fault kept says = led_found i before after-call words memory (told.Done (refusal (import_answer i))) found (λ later o so_far. (
       found ++ later,
       subst (λ f. IsFound f [] later (found ++ later)) (sym kept) tt,

@@ -1,5 +1,5 @@
 -- From what the code put out, to what its call is on the host's tables.
-use Rattle.std.proofs.Common.{◌≡◌, ℕ, List, [], ◌∷◌, ◌++◌, map, take, Option, Some, None, Result, Ok, Err, refl, sym, ap, subst, ◌∙◌}
+use Rattle.std.proofs.Common.{◌≡◌, ℕ, List, [], ◌∷◌, ◌++◌, map, Option, Some, None, Result, Ok, Err, refl, sym, ap, subst, ◌∙◌}
 use Rattle.std.proofs.lemmas.List.{length-map}
 use Rattle.awk_values.specs.declared.fault.Fault.{Fault}
 use Rattle.awk_values.specs.declared.fault.Stop.{Stop}
@@ -16,7 +16,7 @@ use Rattle.world_core.specs.Calls.{Kind, Reading}
 use Rattle.world_core.specs.WorldState.{Action, Entry, Outside, Source, State, after}
 use Rattle.host_step.specs.Answers.{refusal}
 use Rattle.host_step.specs.HostState.{HostState}
-use Rattle.host_step.specs.HostStep.{StepOf}
+use Rattle.host_step.specs.HostStep.{StepIf, StepOf}
 use Rattle.host_imports.specs.Imports.{import_answer}
 use Rattle.host_step.specs.Worlds.{Called, Wanted, with_output}
 use Rattle.host_imports.specs.declared.import.Import.{Import}
@@ -24,7 +24,8 @@ use Rattle.host_step.specs.declared.refusal.Refusal.TheVariants as why
 use Rattle.host_values.specs.Forms.{HostForm, Past, Stands, state_of}
 use Rattle.host_streams.specs.OpenFiles.{AreOpen, names_of, reader_handle, readers_in}
 use Rattle.host_streams.specs.Outputs.{PutsIs}
-use Rattle.host_streams.specs.Puts.{OutputPrefix, HasDone, Spares}
+use Rattle.host_streams.specs.Given.{IsOutput}
+use Rattle.host_streams.specs.Puts.{HasDone, Spares}
 use Rattle.host_streams.specs.Readers.{coming, left}
 use Rattle.host_streams.specs.declared.streams.NamedReader.{NamedReader}
 use Rattle.host_streams.specs.declared.streams.Streams.{Streams}
@@ -94,26 +95,25 @@ module _ (g : HostForm) (arguments now : List Value) (streams streams' : Streams
         ∙ ap (λ v. there_after (record (with_writers there.shared.inner (names_of streams'.writers.items) (Some rest)) { readers = readers_in v.items coming })
         added (fault_by g.fault r)) (sym kept)
 
--- Something is found where it answers so, over shared states that have these files open and fit.
-abbrev SomeAt : (Shared → Puts) → (Shared → Type 0) → Streams → Streams → Result (Unit {0}) Fault → Type 0
-SomeAt does fits streams streams' answer = (found : List Entry) × (added : List Action) × ((later : List Entry) (shared : Shared) → HasFiles streams shared → fits shared
+-- Something is found where it answers so and puts this out, over shared states that have these files open and fit.
+abbrev SomeAt : (Shared → Puts) → (Shared → Type 0) → Streams → Streams → Result (Unit {0}) Fault → List Action → Type 0
+SomeAt does fits streams streams' answer added = (found : List Entry) × ((later : List Entry) (shared : Shared) → HasFiles streams shared → fits shared
     → PutsFound (does (finding (found ++ later) shared)) streams' answer added (left_by answer found later))
 
-abbrev pub CouldAt : (Shared → Puts) → (Shared → Type 0) → Streams → Streams → Result (Unit {0}) Stop → Type 0
-CouldAt does fits streams streams' (Ok u) = SomeAt does fits streams streams' (Ok tt)
-CouldAt does fits streams streams' (Err (stop.Fault fault)) = SomeAt does fits streams streams' (Err fault)
-CouldAt does fits streams streams' (Err stop.NoMemory) = Unit {0}
+abbrev pub CouldAt : (Shared → Puts) → (Shared → Type 0) → Streams → Streams → Result (Unit {0}) Stop → List Action → Type 0
+CouldAt does fits streams streams' (Ok u) added = SomeAt does fits streams streams' (Ok tt) added
+CouldAt does fits streams streams' (Err (stop.Fault fault)) added = SomeAt does fits streams streams' (Err fault) added
+CouldAt does fits streams streams' (Err stop.NoMemory) added = Unit {0}
 
-module _ (does does' : Shared → Puts) (fits : Shared → Type 0) (streams streams' : Streams)
+module _ (does does' : Shared → Puts) (fits : Shared → Type 0) (streams streams' : Streams) (added : List Action)
     (same : (shared : Shared) → fits shared → (finds : List Entry) → does (finding finds shared) ≡ does' (finding finds shared)) where
-  some_at : (answer : Result (Unit {0}) Fault) → SomeFound does streams streams' answer → SomeAt does' fits streams streams' answer
+  some_at : (answer : Result (Unit {0}) Fault) → SomeFound does streams streams' answer added → SomeAt does' fits streams streams' answer added
   some_at answer some = (
     some.0,
-    some.1,
-    λ later shared is fit. subst (λ (d : Puts). PutsFound d streams' answer some.1 (left_by answer some.0 later)) (same shared fit (some.0 ++ later)) (some.2 later shared is),
+    λ later shared is fit. subst (λ (d : Puts). PutsFound d streams' answer added (left_by answer some.0 later)) (same shared fit (some.0 ++ later)) (some.1 later shared is),
   )
 
-  pub could_at : (put : Result (Unit {0}) Stop) → PossibleOutcome does streams streams' put → CouldAt does' fits streams streams' put
+  pub could_at : (put : Result (Unit {0}) Stop) → PossibleOutcome does streams streams' put added → CouldAt does' fits streams streams' put added
   could_at (Ok u) some = some_at (Ok tt) some
   could_at (Err (stop.Fault fault)) some = some_at (Err fault) some
   could_at (Err stop.NoMemory) some = tt
@@ -124,49 +124,43 @@ left_found None (Ok u) found later = refl
 left_found (Some fault) (Ok u) found later = tt
 left_found kept (Err fault) found later = tt
 
--- so many of its actions were done
-abbrev pub BeginsAt : Type 0 → Puts → Result (Unit {0}) Stop → State → State → Type 0
-BeginsAt tells d (Err stop.NoMemory) state state' = (n : ℕ) × (tells → state'.outside ≡ after (take n d.added) state.outside)
-BeginsAt tells d put state state' = Unit {0}
-
-pub begins_at : (tells : Type 0) (is : Shared → Type 0) (does : Shared → Puts) (put : Result (Unit {0}) Stop) (state state' : State) (shared : Shared) → is shared → OutputPrefix tells is does put state state' → BeginsAt tells (does shared) put state state'
-begins_at tells is does (Ok u) state state' shared i begun = tt
-begins_at tells is does (Err (stop.Fault fault)) state state' shared i begun = tt
-begins_at tells is does (Err stop.NoMemory) state state' shared i begun = (begun.0, λ t. begun.1 t shared i)
+-- the same output, where the world is modelled
+called_as : (tells : Type 0) (import : Option Import) (s : HostState) (words : List Word) (memory : List ℕ) (a : HostAnswer) (s' : HostState) (xs ys : List Action) → (tells → xs ≡ ys)
+    → Called tells import s words memory a s' xs → Called tells import s words memory a s' ys
+called_as tells import s words memory a s' xs ys same c = record {
+  typed = c.typed;
+  step = λ t so_far. subst (λ (out : List Action). StepIf import (with_output so_far s) words memory a (with_output (so_far ++ out) s') out) (same t) (c.step t so_far);
+}
 
 -- an import that puts a text out
 module _ (tells : Type 0) (i : Import) (words : List Word) (memory : List ℕ) (refusing : refusal (import_answer i) ≡ refusal answer.Done)
-    (g : HostForm) (arguments now : List Value) (streams streams' : Streams) (state state' : State) (does : Shared → Puts)
+    (g : HostForm) (arguments now : List Value) (streams streams' : Streams) (state state' : State) (does : Shared → Puts) (actions : List Action)
     (steps : (p : Past) (shared : Shared) → StepOf i (sharing (state_of (writing arguments streams state g) p) shared) words memory (done_by (does shared).answer)
     (after_put (sharing (state_of (writing arguments streams state g) p) shared) (does shared) now) (does shared).added)
     (same : (shared : Shared) (output : List Action) → does (so_far_in output shared) ≡ does shared)
     (only : (shared : Shared) → OnlyWriters shared.inner (does shared))
     (fits : Shared → Type 0) (fit : (p : Past) → fits (state_of (writing arguments streams state g) p).shared)
     (fit_there : (p : Past) (finds : List Entry) (outside : Outside) (so_far : List Action) → fits (state_of (form_finding finds outside so_far (writing arguments streams state g)) p).shared)
-    (alike : (p : Past) → (does (state_of (writing arguments streams state g) p).shared).added ≡ (does (writing arguments streams state g).shared).added)
     (kept : streams'.readers ≡ streams.readers)
     (readers : tells → readers_in streams'.readers.items state' ≡ readers_in streams.readers.items state) where
   abbrev shared_at : Past → Shared
   shared_at p = (state_of (writing arguments streams state g) p).shared
-
-  -- over the form's own shared state
-  abbrev own : Puts
-  own = does (writing arguments streams state g).shared
 
   abbrev form_after : Option Fault → HostForm
   form_after fault = record (writing now streams' state' g) { fault = fault }
 
   leads_so : (r : Result (Unit {0}) Fault) (a : HostAnswer) → a ≡ done_by r
       → (tells → (p : Past) → HasDone (does (shared_at p)) r state state' × (names_of streams'.writers.items ≡ (does (shared_at p)).inner.writers))
-      → SomeAt does fits streams streams' r
-      → LeadsIn tells i (writing arguments streams state g) words memory a (form_after (fault_by g.fault r)) own.added
-  leads_so r a answered done some s st =
+      → (tells → (p : Past) → actions ≡ (does (shared_at p)).added)
+      → SomeAt does fits streams streams' r actions
+      → LeadsIn tells i (writing arguments streams state g) words memory a (form_after (fault_by g.fault r)) actions
+  leads_so r a answered done out some s st =
       let p = st.past in
-      let could = some.2 [] (shared_at p) (record { readers = length-map streams.readers.items _; writers = refl }) (fit p) in (
+      let could = some.1 [] (shared_at p) (record { readers = length-map streams.readers.items _; writers = refl }) (fit p) in (
         state_of (form_after (fault_by g.fault r)) p,
         record { past = p; state = refl; arrays = st.arrays; iterators = st.iterators; first = st.first },
-        subst (λ (t : HostState). Called tells (Some i) t words memory a (state_of (form_after (fault_by g.fault r)) p) own.added) (sym st.state)
-            (subst (λ (out : List Action). Called tells (Some i) (state_of (writing arguments streams state g) p) words memory a (state_of (form_after (fault_by g.fault r)) p) out) (alike p)
+        subst (λ (t : HostState). Called tells (Some i) t words memory a (state_of (form_after (fault_by g.fault r)) p) actions) (sym st.state)
+            (called_as tells (Some i) (state_of (writing arguments streams state g) p) words memory a (state_of (form_after (fault_by g.fault r)) p) (does (shared_at p)).added actions (λ t. sym (out t p))
             (called_found i (state_of (writing arguments streams state g) p) words memory now does (steps p) same tells a (state_of (form_after (fault_by g.fault r)) p) (some.0 ++ [])
             (λ t. (
               answered ∙ ap done_by (sym (done t p).0.answer_is),
@@ -176,56 +170,54 @@ module _ (tells : Type 0) (i : Import) (words : List Word) (memory : List ℕ) (
             (answered ∙ ap done_by (sym could.answer_is)))),
       )
 
-  finds_so : (r : Result (Unit {0}) Fault) (a : HostAnswer) → a ≡ done_by r → SomeAt does fits streams streams' r
-      → LeadsFinding i (writing arguments streams state g) words memory a (form_after (fault_by g.fault r))
-  finds_so r a answered some = record { found = some.0; output = some.1; leads = by } where
+  finds_so : (r : Result (Unit {0}) Fault) (a : HostAnswer) → a ≡ done_by r → SomeAt does fits streams streams' r actions
+      → LeadsFinding i (writing arguments streams state g) words memory a (form_after (fault_by g.fault r)) actions
+  finds_so r a answered some = record { found = some.0; leads = by } where
     by : (more : List Entry) (outside : Outside) (so_far : List Action) (s : HostState) → Stands (form_finding (some.0 ++ more) outside so_far (writing arguments streams state g)) s
-        → LedFinding i s words memory a (form_after (fault_by g.fault r)) some.1 more outside so_far
+        → LedFinding i s words memory a (form_after (fault_by g.fault r)) actions more outside so_far
     by more outside so_far s st =
         let p = st.past in
         let there = state_of (form_finding (some.0 ++ more) outside so_far (writing arguments streams state g)) p in
         let rest = left_by r some.0 more in
-        let last = state_of (form_finding rest (after some.1 outside) (so_far ++ some.1) (form_after (fault_by g.fault r))) p in
+        let last = state_of (form_finding rest (after actions outside) (so_far ++ actions) (form_after (fault_by g.fault r))) p in
         let d = does there.shared in
-        let x = some.2 more there.shared (record { readers = length-map streams.readers.items _; writers = refl })
+        let x = some.1 more there.shared (record { readers = length-map streams.readers.items _; writers = refl })
         (fit_there p (some.0 ++ more) outside so_far) in
-        let state_is = found_after g arguments now streams streams' state state' p (some.0 ++ more) rest outside so_far some.1 d r (finds_by d.answer (Some (some.0 ++ more)))
+        let state_is = found_after g arguments now streams streams' state state' p (some.0 ++ more) rest outside so_far actions d r (finds_by d.answer (Some (some.0 ++ more)))
         (only there.shared) kept x in
         record {
           rest = rest;
           left = left_found g.fault r some.0 more;
           state = last;
           stands = record { past = p; state = refl; arrays = st.arrays; iterators = st.iterators; first = st.first };
-          step = subst (λ (t : HostState). StepOf i t words memory a last some.1) (sym st.state)
+          step = subst (λ (t : HostState). StepOf i t words memory a last actions) (sym st.state)
               (subst (λ (out : List Action). StepOf i there words memory a last out) x.added_is
               (subst (λ (z : HostState). StepOf i there words memory a z d.added) state_is
               (subst (λ (b : HostAnswer). StepOf i there words memory b (after_put there d now) d.added) (sym (answered ∙ ap done_by (sym x.answer_is))) (steps p there.shared))));
         }
 
-  wants_so : (n : ℕ) → (tells → state'.outside ≡ after (take n own.added) state.outside)
-      → IsCalled tells i (writing arguments streams state g) words memory (Err why.NoMemory) (writing now streams' state' g) (take n own.added)
-  wants_so n begun t s st =
-      let p = st.past in (
-        state_of (writing now streams' state' g) p,
+  wants_so : (tells → (p : Past) → IsOutput {A = Unit {0}} actions (does (shared_at p)) (Err stop.NoMemory)) → (tells → state'.outside ≡ after actions state.outside)
+      → IsCalled tells i (writing arguments streams state g) words memory (Err why.NoMemory) (writing now streams' state' g) actions
+  wants_so begun outside t s st =
+      let p = st.past in
+      let b = begun t p in
+      let last = state_of (writing now streams' state' g) p in (
+        last,
         refl,
-        subst (λ (x : HostState). Wanted (Some i) x words memory (state_of (writing now streams' state' g) p) (take n own.added)) (sym st.state)
-            (subst (λ (out : List Action). state'.outside ≡ after (take n out) state.outside → Wanted (Some i) (state_of (writing arguments streams state g) p) words memory (state_of (writing now streams' state' g) p) (take n out)) (alike p)
-            (wanted_part i (state_of (writing arguments streams state g) p) words memory now does (steps p) same (state_of (writing now streams' state' g) p) n) (begun t)),
+        subst (λ (x : HostState). Wanted (Some i) x words memory last actions) (sym st.state)
+            (subst (λ (out : List Action). Wanted (Some i) (state_of (writing arguments streams state g) p) words memory last out) (sym b.1)
+            (wanted_part i (state_of (writing arguments streams state g) p) words memory now does (steps p) same last b.0
+            (outside t ∙ ap (λ (out : List Action). after out state.outside) b.1))),
       )
 
   pub puts_so : (put : Result (Unit {0}) Stop)
       → (tells → (p : Past) → PutsIs (does (shared_at p)) put state state' (names_of streams.writers.items) (names_of streams'.writers.items))
-      → CouldAt does fits streams streams' put → BeginsAt tells own put state state'
-      → (output : List Action) × IsCalled tells i (writing arguments streams state g) words memory (answer_of put) (writing now streams' state' g) output
-  puts_so (Ok u) h some begun = (own.added, (leads_so (Ok tt) (told.Done (Some (I32 0))) refl h some, finds_so (Ok tt) (told.Done (Some (I32 0))) refl some))
-  puts_so (Err (stop.Fault fault)) h some begun = (
-    own.added,
-    (
-      leads_so (Err fault) (told.Done (refusal (import_answer i))) (ap told.Done refusing) h some,
-      finds_so (Err fault) (told.Done (refusal (import_answer i))) (ap told.Done refusing) some,
-    ),
+      → (tells → (p : Past) → IsOutput actions (does (shared_at p)) put) → (tells → state'.outside ≡ after actions state.outside)
+      → CouldAt does fits streams streams' put actions
+      → IsCalled tells i (writing arguments streams state g) words memory (answer_of put) (writing now streams' state' g) actions
+  puts_so (Ok u) h out outside some = (leads_so (Ok tt) (told.Done (Some (I32 0))) refl h out some, finds_so (Ok tt) (told.Done (Some (I32 0))) refl some)
+  puts_so (Err (stop.Fault fault)) h out outside some = (
+    leads_so (Err fault) (told.Done (refusal (import_answer i))) (ap told.Done refusing) h out some,
+    finds_so (Err fault) (told.Done (refusal (import_answer i))) (ap told.Done refusing) some,
   )
-  puts_so (Err stop.NoMemory) h some begun = (
-    take begun.0 own.added,
-    wants_so begun.0 begun.1,
-  )
+  puts_so (Err stop.NoMemory) h out outside some = wants_so out outside

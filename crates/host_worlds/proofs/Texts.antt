@@ -1,5 +1,5 @@
 -- From what became of a text, to what became of the row that has it.
-use Rattle.std.proofs.Common.{◌≡◌, ℕ, List, [], ◌++◌, take, Result, Ok, Err, refl, sym, ap, subst, ◌∙◌}
+use Rattle.std.proofs.Common.{◌≡◌, ℕ, List, [], ◌++◌, Result, Ok, Err, refl, sym, ap, subst, ◌∙◌}
 use Rattle.awk_values.specs.declared.fault.Fault.{Fault}
 use Rattle.awk_values.specs.declared.fault.Stop.{Stop}
 use Rattle.awk_values.specs.declared.fault.Stop.TheVariants as stop
@@ -7,14 +7,16 @@ use Rattle.awk_values.specs.declared.value.Value.{Value}
 use Rattle.sem_primitives.specs.OutputMeaning.{file_name, formatted_values, operands_of, print_row, printed, printf_by, printf_row, put_text}
 use Rattle.sem_primitives.specs.SharedState.{Inner, Shared}
 use Rattle.sem_primitives.specs.declared.constants.Destination.{Destination}
-use Rattle.world_core.specs.WorldState.{State, after}
+use Rattle.world_core.specs.Traces.{Call}
+use Rattle.world_core.specs.WorldState.{Action, State}
 use Rattle.host_format.specs.Outcomes.{IsStopOf}
 use Rattle.host_texts.specs.declared.specials.Specials.{Specials}
-use Rattle.host_streams.specs.Outputs.{IsOf}
-use Rattle.host_streams.specs.Puts.{OutputPrefix}
+use Rattle.host_streams.specs.Given.{IsOutput}
 use Rattle.host_streams.specs.declared.streams.Streams.{Streams}
-use Rattle.host_worlds.specs.OutputCalls.{PossibleOutcome, PutsFound, SomeFound, finding, left_by}
+use Rattle.host_worlds.specs.OutputCalls.{OutputGiven, PossibleOutcome, PutsFound, SomeFound, finding, left_by}
 use Rattle.host_worlds.specs.Forms.{inner_with, shared_with}
+use Rattle.host_streams.proofs.Given.{none_still}
+use Rattle.host_streams.proofs.GivenTexts.{gives_still}
 use Rattle.host_worlds.proofs.Steps.{Puts}
 
 -- A line of print.
@@ -28,29 +30,29 @@ module _ (to : Destination) (values : List Value) (specials : Specials) (line : 
   same_row : (shared shared' : Shared) → put_text to (file_name to values) line shared' ≡ put_text to (file_name to values) (printed (inner_with specials shared.inner) (operands_of to values)) shared'
   same_row shared shared' = ap (λ text. put_text to (file_name to values) text shared') (is-line shared.inner)
 
-  some_line : (streams streams' : Streams) (answer : Result (Unit {0}) Fault) → SomeFound of_line streams streams' answer → SomeFound of_values streams streams' answer
-  some_line streams streams' answer some = (
+  some_line : (streams streams' : Streams) (answer : Result (Unit {0}) Fault) (added : List Action) → SomeFound of_line streams streams' answer added → SomeFound of_values streams streams' answer added
+  some_line streams streams' answer added some = (
     some.0,
-    some.1,
-    λ later shared is. subst (λ (d : Puts). PutsFound d streams' answer some.1 (left_by answer some.0 later))
+    λ later shared is. subst (λ (d : Puts). PutsFound d streams' answer added (left_by answer some.0 later))
         (same_row (finding (some.0 ++ later) shared) (finding (some.0 ++ later) (shared_with specials shared)))
-        (some.2 later (shared_with specials shared) (record { readers = is.readers; writers = is.writers })),
+        (some.1 later (shared_with specials shared) (record { readers = is.readers; writers = is.writers })),
   )
 
-  pub could_line : (streams streams' : Streams) (r : Result (Unit {0}) Stop) → PossibleOutcome of_line streams streams' r → PossibleOutcome of_values streams streams' r
-  could_line streams streams' (Ok u) some = some_line streams streams' (Ok tt) some
-  could_line streams streams' (Err (stop.Fault fault)) some = some_line streams streams' (Err fault) some
-  could_line streams streams' (Err stop.NoMemory) some = tt
+  could_line : (streams streams' : Streams) (r : Result (Unit {0}) Stop) (added : List Action) → PossibleOutcome of_line streams streams' r added → PossibleOutcome of_values streams streams' r added
+  could_line streams streams' (Ok u) added some = some_line streams streams' (Ok tt) added some
+  could_line streams streams' (Err (stop.Fault fault)) added some = some_line streams streams' (Err fault) added some
+  could_line streams streams' (Err stop.NoMemory) added some = tt
 
-  pub begins_line : (tells : Type 0) (streams : Streams) (s t : State) (r : Result (Unit {0}) Stop) → OutputPrefix tells (IsOf streams s) of_line r s t → OutputPrefix tells (IsOf streams s) of_values r s t
-  begins_line tells streams s t (Ok u) begun = tt
-  begins_line tells streams s t (Err (stop.Fault fault)) begun = tt
-  begins_line tells streams s t (Err stop.NoMemory) begun = (
-    begun.0,
-    λ w shared is.
-        begun.1 w (shared_with specials shared) (record { kept = is.kept; readers = is.readers; writers = is.writers; outside = is.outside })
-        ∙ ap (λ (d : Puts). after (take begun.0 d.added) s.outside) (same_row shared (shared_with specials shared)),
-  )
+  pub line_given : {W : Type 0} (tells : Type 0) (did : W → Call → W → Type 0) (old new : W) (streams streams' : Streams) (s t : State) (r : Result (Unit {0}) Stop)
+      → OutputGiven tells did old new streams streams' s t r of_line → OutputGiven tells did old new streams streams' s t r of_values
+  line_given tells did old new streams streams' s t r p = record {
+    actions = p.actions;
+    given = p.given;
+    could = could_line streams streams' r p.actions p.could;
+    told = λ w shared is. subst (λ (d : Puts). IsOutput p.actions d r) (same_row shared (shared_with specials shared))
+        (p.told w (shared_with specials shared) (record { kept = is.kept; readers = is.readers; writers = is.writers; outside = is.outside }));
+    outside = p.outside;
+  }
 
 -- A text of printf.
 
@@ -58,13 +60,13 @@ module _ (to : Destination) (values : List Value) (text : List ℕ) (is : format
   same_text_row : (shared : Shared) → put_text to (file_name to values) text shared ≡ printf_row to values shared
   same_text_row shared = ap (λ r. printf_by r to (file_name to values) shared) (sym is)
 
-  pub begins_text : (tells : Type 0) (streams : Streams) (s t : State) (r : Result (Unit {0}) Stop) → OutputPrefix tells (IsOf streams s) (put_text to (file_name to values) text) r s t → OutputPrefix tells (IsOf streams s) (printf_row to values) r s t
-  begins_text tells streams s t r begun = subst (λ (f : Shared → Puts). OutputPrefix tells (IsOf streams s) f r s t) (λ i shared. same_text_row shared i) begun
+  pub text_given : {W : Type 0} (tells : Type 0) (did : W → Call → W → Type 0) (old new : W) (streams streams' : Streams) (s t : State) (r : Result (Unit {0}) Stop)
+      → OutputGiven tells did old new streams streams' s t r (put_text to (file_name to values) text) → OutputGiven tells did old new streams streams' s t r (printf_row to values)
+  text_given tells did old new streams streams' s t r p = subst (λ (f : Shared → Puts). OutputGiven tells did old new streams streams' s t r f) (λ i shared. same_text_row shared i) p
 
 -- a fault of the format
-pub could_refused : (to : Destination) (values : List Value) (streams : Streams) (why : Stop) → IsStopOf (formatted_values (operands_of to values)) why → PossibleOutcome (printf_row to values) streams streams (Err why)
+could_refused : (to : Destination) (values : List Value) (streams : Streams) (why : Stop) → IsStopOf (formatted_values (operands_of to values)) why → PossibleOutcome (printf_row to values) streams streams (Err why) []
 could_refused to values streams (stop.Fault fault) is = (
-  [],
   [],
   λ later shared has. let there = finding later shared in record {
     answer_is = ap (λ r. (printf_by r to (file_name to values) there).answer) is;
@@ -75,8 +77,16 @@ could_refused to values streams (stop.Fault fault) is = (
 )
 could_refused to values streams stop.NoMemory is = tt
 
--- nothing was put out
-pub none_begun : (tells : Type 0) (is : Shared → Type 0) (does : Shared → Puts) (s : State) (r : Result (Unit {0}) Stop) → OutputPrefix tells is does r s s
-none_begun tells is does s (Ok u) = tt
-none_begun tells is does s (Err (stop.Fault fault)) = tt
-none_begun tells is does s (Err stop.NoMemory) = (0, λ w shared has. refl)
+told_refused : (to : Destination) (values : List Value) (shared : Shared) (why : Stop) → IsStopOf (formatted_values (operands_of to values)) why → IsOutput {A = Unit {0}} [] (printf_row to values shared) (Err why)
+told_refused to values shared (stop.Fault fault) is = sym (ap (λ r. (printf_by r to (file_name to values) shared).added) is)
+told_refused to values shared stop.NoMemory is = (0, refl)
+
+pub refused_given : {W : Type 0} (tells : Type 0) (did : W → Call → W → Type 0) (w : W) (to : Destination) (values : List Value) (streams : Streams) (state : State) (why : Stop) → IsStopOf (formatted_values (operands_of to values)) why
+    → OutputGiven tells did w w streams streams state state (Err why) (printf_row to values)
+refused_given tells did w to values streams state why is = record {
+  actions = [];
+  given = gives_still did w w streams.writers.items (none_still did w);
+  could = could_refused to values streams why is;
+  told = λ t shared has. told_refused to values shared why is;
+  outside = λ t. refl;
+}

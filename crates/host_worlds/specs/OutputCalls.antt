@@ -6,11 +6,13 @@ use Rattle.awk_values.specs.declared.fault.Fault.{Fault}
 use Rattle.awk_values.specs.declared.fault.Fault.TheVariants.{OpenOutput, WriteFailed}
 use Rattle.world_core.specs.Calls.{Kind}
 use Rattle.sem_primitives.specs.SharedState.{HostResult, Shared}
-use Rattle.world_core.specs.WorldState.{Action, Entry, State}
+use Rattle.world_core.specs.WorldState.{Action, Entry, State, after}
+use Rattle.world_core.specs.Traces.{Call}
 use Rattle.wasm_store.specs.declared.word.Word.{Word}
 use Rattle.wasm_store.specs.declared.word.Word.TheVariants.{I32}
 use Rattle.host_step.specs.declared.refusal.Refusal.{Refusal}
 use Rattle.host_step.specs.declared.refusal.Refusal.TheVariants as why
+use Rattle.host_streams.specs.Given.{Gives, IsOutput}
 use Rattle.host_streams.specs.OpenFiles.{HoldsOpen, OthersStay, WritersGo, names_of}
 use Rattle.host_streams.specs.Outputs.{IsOf, PutsIs}
 use Rattle.host_streams.specs.Puts.{Spares}
@@ -68,12 +70,22 @@ pub record PutsFound (d : HostResult (Result (Unit {0}) Fault)) (streams' : Stre
   pub added_is : d.added ≡ added
   pub finds : d.inner.finds ≡ Some rest
 
--- Something is found where the definition answers so, whatever is found later.
-abbrev pub SomeFound : (Shared → HostResult (Result (Unit {0}) Fault)) → Streams → Streams → Result (Unit {0}) Fault → Type 0
-SomeFound does streams streams' answer = (found : List Entry) × (added : List Action) × ((later : List Entry) (shared : Shared) → HasFiles streams shared
+-- Something is found where the definition answers so and puts this out, whatever is found later.
+abbrev pub SomeFound : (Shared → HostResult (Result (Unit {0}) Fault)) → Streams → Streams → Result (Unit {0}) Fault → List Action → Type 0
+SomeFound does streams streams' answer added = (found : List Entry) × ((later : List Entry) (shared : Shared) → HasFiles streams shared
     → PutsFound (does (finding (found ++ later) shared)) streams' answer added (left_by answer found later))
 
-abbrev pub PossibleOutcome : (Shared → HostResult (Result (Unit {0}) Fault)) → Streams → Streams → Result (Unit {0}) Stop → Type 0
-PossibleOutcome does streams streams' (Ok u) = SomeFound does streams streams' (Ok tt)
-PossibleOutcome does streams streams' (Err (stop.Fault f)) = SomeFound does streams streams' (Err f)
-PossibleOutcome does streams streams' (Err stop.NoMemory) = Unit {0}
+abbrev pub PossibleOutcome : (Shared → HostResult (Result (Unit {0}) Fault)) → Streams → Streams → Result (Unit {0}) Stop → List Action → Type 0
+PossibleOutcome does streams streams' (Ok u) added = SomeFound does streams streams' (Ok tt) added
+PossibleOutcome does streams streams' (Err (stop.Fault f)) added = SomeFound does streams streams' (Err f) added
+PossibleOutcome does streams streams' (Err stop.NoMemory) added = Unit {0}
+
+-- A text was put out: the calls that were made of the world are these actions. Unless memory was wanting, the definition puts these out where something is
+-- found. In a modelled world they are what it puts out over what that holds, short of memory the first of it; and they are what was done to that.
+pub record OutputGiven {W : Type 0} (tells : Type 0) (did : W → Call → W → Type 0) (old new : W) (streams streams' : Streams) (before now : State)
+    (r : Result (Unit {0}) Stop) (does : Shared → HostResult (Result (Unit {0}) Fault)) : Type 0 where
+  pub actions : List Action
+  pub given : Gives did old new streams.writers.items streams'.writers.items actions
+  pub could : PossibleOutcome does streams streams' r actions
+  pub told : tells → (shared : Shared) → IsOf streams before shared → IsOutput actions (does shared) r
+  pub outside : tells → now.outside ≡ after actions before.outside

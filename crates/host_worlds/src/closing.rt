@@ -4,6 +4,8 @@ ghost use Rattle.std.specs.FinMap as map;
 ghost use Rattle.sem_primitives.specs.declared.table.Primitive.TheVariants as row;
 ghost use Rattle.host_imports.specs.declared.import.Import.{Import};
 ghost use Rattle.host_values.specs.Forms.{HostForm};
+ghost use Rattle.world_core.specs.Traces.{Targets};
+ghost use Rattle.host_streams.specs.Given.{AreTargets, GivesNone};
 ghost use Rattle.host_streams.specs.OpenFiles.{HoldsOpen, OthersKeep, OthersStay, WritersGo};
 ghost use Rattle.host_values.specs.Calls.{reserved_handle};
 ghost use Rattle.host_values.specs.WorldCalls.{IsCalled};
@@ -49,6 +51,9 @@ pub fn close<W: World>(
     ensures no_others { OthersStay streams.new streams.old (W.kinds world.new) (W.kinds world.old) }
     ensures places { W.is_modelled
         → OthersKeep streams.old (W.kinds world.old) (W.state world.old) (W.state world.new) }
+    ensures gives { GivesNone W.did world.old world.new }
+    ensures left { (targets : Targets) → AreTargets streams.old.writers.items targets
+        → AreTargets streams.new.writers.items targets }
 {
     let (handle, value) = match only_handle(handles, words) {
         Ok(read) => read,

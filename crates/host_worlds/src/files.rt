@@ -6,6 +6,7 @@ ghost use Rattle.awk_values.specs.declared.value.Value.{Value as AnyValue};
 ghost use Rattle.sem_primitives.specs.InputMeaning.{getline_file_by};
 ghost use Rattle.sem_primitives.specs.SharedState.{Inner};
 ghost use Rattle.sem_primitives.specs.declared.answers.InputAnswer.{InputAnswer as AnyAnswer};
+ghost use Rattle.host_streams.specs.Given.{GivesNone};
 ghost use Rattle.host_streams.specs.OpenFiles.{WritersGo};
 ghost use Rattle.host_worlds.specs.Finds.{FindsFile, FindsFileRow};
 ghost use Rattle.host_worlds.specs.Givens.{FileGives, RowGives, file_row};
@@ -43,6 +44,7 @@ fn next<W: World>(
     ensures rest { input.new ≡ with_files input.new.files input.old }
     ensures writers { input.new.files.writers ≡ input.old.files.writers }
     ensures finds { FindsFile name.now texts.now input.old result input.new }
+    ensures gives { GivesNone W.did world.old world.new }
 {
     let rs = value_text(alloc, texts.specials.get(Special::Rs))?;
     input.files.file_next(world, name, rs.as_slice())
@@ -70,6 +72,7 @@ pub(crate) fn read<W: World>(
     ensures writers { input.new.files.writers ≡ input.old.files.writers }
     ensures finds { FindsFileRow to name.now texts.old input.old result
         texts.new input.new }
+    ensures gives { GivesNone W.did world.old world.new }
 {
     match next(alloc, world, texts, input, name) {
         Ok(FileNext::Record(text)) => match keep(alloc, texts, input, text, to) {

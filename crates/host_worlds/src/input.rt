@@ -1,5 +1,5 @@
 //! What these imports read and change, beside texts and the world.
-ghost use Rattle.std.specs.Prelude.{◌≡◌, ℕ};
+ghost use Rattle.std.specs.Prelude.{◌≡◌, [], ℕ};
 ghost use Rattle.world_core.specs.WorldState.{State};
 ghost use Rattle.world_core.specs.Calls.{Kind};
 ghost use Rattle.sem_primitives.specs.SharedState.{Inner};
@@ -29,6 +29,7 @@ impl Input {
     pub fn new(alloc: Global, names: Names) -> Input
         ensures held { (kinds : ℕ → Kind) → HoldsInput result kinds }
         ensures goes { (state : State) → WritersGo result.files.writers.items state }
+        ensures none { result.files.writers.items ≡ [] }
         ensures begins { (state : State) (inner : Inner) → with_input result (Over state) inner
             ≡ input_at_start names state inner }
     {

@@ -4,6 +4,7 @@ ghost use Rattle.std.specs.FinMap as map;
 ghost use Rattle.sem_primitives.specs.declared.table.Primitive.TheVariants as row;
 ghost use Rattle.host_imports.specs.Codes.{input_code};
 ghost use Rattle.host_imports.specs.declared.import.Import.{Import};
+ghost use Rattle.host_streams.specs.Given.{GivesNone};
 ghost use Rattle.host_streams.specs.OpenFiles.{WritersGo};
 ghost use Rattle.host_texts.specs.declared.texts.Texts.{Texts as AnyTexts};
 ghost use Rattle.host_values.specs.Calls.{reserved_handle};
@@ -79,6 +80,7 @@ pub fn read_main<W: World>(
         → IsCalled W.is_modelled (Import.OfPrimitive (main_primitive how)) (over_world texts.old input.old (W.state
         world.old) f) words.now memory result (shown_after result (over_world texts.old input.old
         (W.state world.old) f) (over_world texts.new input.new (W.state world.new) f)) [] }
+    ensures gives { GivesNone W.did world.old world.new }
 {
     if let Err(kind) = expect_end(words) {
         return Err(Refusal::Trap(kind));
@@ -116,6 +118,8 @@ pub fn read_file<W: World>(
         (over_world texts.old input.old (W.state world.old) f)) words.now memory result (shown_after
         result (with_values handles.old (over_world texts.old input.old (W.state world.old) f))
         (with_values handles.new (over_world texts.new input.new (W.state world.new) f))) [] }
+    ensures writers { input.new.files.writers ≡ input.old.files.writers }
+    ensures gives { GivesNone W.did world.old world.new }
 {
     let (handle, value) = match only_handle(handles, words) {
         Ok(read) => read,
@@ -191,6 +195,7 @@ pub fn next_file<W: World>(
     ensures called { (f : HostForm) (memory : List ℕ) (texts : AnyTexts) → f.fault ≡ None → IsCalled
         W.is_modelled (Import.OfPrimitive row.NextFile) (over_world texts input.old (W.state world.old) f)
         words.now memory result (over_world texts input.new (W.state world.new) f) [] }
+    ensures gives { GivesNone W.did world.old world.new }
 {
     if let Err(kind) = expect_end(words) {
         return Err(Refusal::Trap(kind));

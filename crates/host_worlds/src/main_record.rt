@@ -3,6 +3,7 @@ ghost use Rattle.std.specs.Prelude.{◌≡◌, IfErr, Ok, OnOk};
 ghost use Rattle.sem_primitives.specs.InputMeaning.{main_input};
 ghost use Rattle.sem_primitives.specs.SharedState.{Inner};
 ghost use Rattle.host_format.specs.Outcomes.{IsStopOf};
+ghost use Rattle.host_streams.specs.Given.{GivesNone};
 ghost use Rattle.host_streams.specs.OpenFiles.{WritersGo};
 ghost use Rattle.host_worlds.specs.Finds.{FindsGiven, FindsRow};
 ghost use Rattle.host_worlds.specs.Givens.{GivesMain, OffersTexts, RowGives, answer_of, failed_by, is_over, kept_by, main_of_given, main_row};
@@ -39,6 +40,7 @@ fn given<W: World, O: Operands>(
     ensures rest { IsMoved input.old input.new }
     ensures finds { FindsGiven (O.text operands.now) texts.old input.old result
         texts.new input.new }
+    ensures gives { GivesNone W.did world.old world.new }
 {
     'turns: loop {
         match turn(alloc, world, operands, texts, input) {
@@ -172,6 +174,7 @@ pub(crate) fn read<W: World, O: Operands>(
     ensures rest { IsMovedOn input.old input.new }
     ensures finds { FindsRow how (O.text operands.now) texts.old input.old result
         texts.new input.new }
+    ensures gives { GivesNone W.did world.old world.new }
 {
     if is_over(input, how) {
         return Ok(InputAnswer::End);

@@ -3,9 +3,8 @@ ghost use Rattle.std.specs.Prelude.{◌≡◌, ◌≤◌, IfOk, Ok, length};
 ghost use Rattle.sem_primitives.specs.InTurn.{with_name};
 ghost use Rattle.sem_primitives.specs.OutputMeaning.{file_name, last_text, put_text};
 ghost use Rattle.host_streams.specs.OpenFiles.{HoldsOpen, WritersGo};
-ghost use Rattle.host_streams.specs.Outputs.{IsOf};
-ghost use Rattle.host_streams.specs.Puts.{OutputPrefix, PutCounts};
-ghost use Rattle.host_worlds.specs.OutputCalls.{PossibleOutcome, Keeps, PutsAs};
+ghost use Rattle.host_streams.specs.Puts.{PutCounts};
+ghost use Rattle.host_worlds.specs.OutputCalls.{Keeps, OutputGiven, PutsAs};
 
 use awk_values::{Bytes, Stop, Value, to_text};
 use host_streams::{Streams, Target};
@@ -40,10 +39,8 @@ pub(crate) fn put_out<W: World>(
     ensures keeps { Keeps W.is_modelled (W.kinds world.old) (W.kinds world.new) (W.state world.old)
         (W.state world.new) streams.old streams.new }
     ensures count { PutCounts result (W.count world.old) (W.count world.new) }
-    ensures in_any_world { PossibleOutcome (put_text to (file_name to values.now) text.now) streams.old streams.new
-        result }
-    ensures begun { OutputPrefix W.is_modelled (IsOf streams.old (W.state world.old)) (put_text to
-        (file_name to values.now) text.now) result (W.state world.old) (W.state world.new) }
+    ensures given { OutputGiven W.is_modelled W.did world.old world.new streams.old streams.new
+        (W.state world.old) (W.state world.new) result (put_text to (file_name to values.now) text.now) }
     ensures told { W.is_modelled → PutsAs (put_text to (file_name to values.now) text.now) streams.old
         (W.state world.old) result streams.new (W.state world.new) }
 {

@@ -8,10 +8,10 @@ ghost use Rattle.host_imports.specs.declared.import.VariadicImport.{VariadicImpo
 ghost use Rattle.host_values.specs.Forms.{HostForm};
 ghost use Rattle.host_format.specs.Outcomes.{IsStopOf};
 ghost use Rattle.host_streams.specs.OpenFiles.{HoldsOpen, WritersGo};
-ghost use Rattle.host_streams.specs.Outputs.{IsOf};
-ghost use Rattle.host_streams.specs.Puts.{OutputPrefix, PutCounts};
+ghost use Rattle.host_streams.specs.Given.{Gives};
+ghost use Rattle.host_streams.specs.Puts.{PutCounts};
 ghost use Rattle.host_values.specs.WorldCalls.{IsCalled};
-ghost use Rattle.host_worlds.specs.OutputCalls.{PossibleOutcome, CountsFailure, Keeps, PutsAs, answer_of};
+ghost use Rattle.host_worlds.specs.OutputCalls.{CountsFailure, Keeps, OutputGiven, PutsAs, answer_of};
 ghost use Rattle.host_worlds.specs.Forms.{printing, shared_with, writing};
 
 use crate::outlets::put_out;
@@ -55,11 +55,9 @@ fn print_values<W: World>(
     ensures keeps { Keeps W.is_modelled (W.kinds world.old) (W.kinds world.new) (W.state world.old)
         (W.state world.new) streams.old streams.new }
     ensures count { PutCounts result (W.count world.old) (W.count world.new) }
-    ensures in_any_world { PossibleOutcome (λ shared. print_row to values.now (shared_with specials.now shared))
-        streams.old streams.new result }
-    ensures begun { OutputPrefix W.is_modelled (IsOf streams.old (W.state world.old))
-        (λ shared. print_row to values.now (shared_with specials.now shared)) result
-        (W.state world.old) (W.state world.new) }
+    ensures given { OutputGiven W.is_modelled W.did world.old world.new streams.old streams.new
+        (W.state world.old) (W.state world.new) result
+        (λ shared. print_row to values.now (shared_with specials.now shared)) }
     ensures told { W.is_modelled
         → PutsAs (λ shared. print_row to values.now (shared_with specials.now shared)) streams.old
         (W.state world.old) result streams.new (W.state world.new) }
@@ -96,9 +94,8 @@ fn printf_values<W: World>(
     ensures keeps { Keeps W.is_modelled (W.kinds world.old) (W.kinds world.new) (W.state world.old)
         (W.state world.new) streams.old streams.new }
     ensures count { CountsFailure (answer_of result) (W.count world.old) (W.count world.new) }
-    ensures in_any_world { PossibleOutcome (printf_row to values.now) streams.old streams.new result }
-    ensures begun { OutputPrefix W.is_modelled (IsOf streams.old (W.state world.old))
-        (printf_row to values.now) result (W.state world.old) (W.state world.new) }
+    ensures given { OutputGiven W.is_modelled W.did world.old world.new streams.old streams.new
+        (W.state world.old) (W.state world.new) result (printf_row to values.now) }
     ensures told { W.is_modelled → PutsAs (printf_row to values.now) streams.old (W.state world.old)
         result streams.new (W.state world.new) }
 {
@@ -123,10 +120,12 @@ pub fn print<W: World>(
 ) -> Result<Option<Word>, Refusal>
     requires held { HoldsOpen streams.old (W.kinds world.old) }
     requires goes { W.is_modelled → WritersGo streams.old.writers.items (W.state world.old) }
-    ensures step { (f : HostForm) (memory : List ℕ) → f.fault ≡ None → (output : List Action)
-        × IsCalled W.is_modelled (Import.Variadic VariadicImport.Print) (printing arguments.old.items specials.now
+    ensures step { (output : List Action)
+        × Gives W.did world.old world.new streams.old.writers.items streams.new.writers.items output
+        × ((f : HostForm) (memory : List ℕ) → f.fault ≡ None → IsCalled W.is_modelled
+        (Import.Variadic VariadicImport.Print) (printing arguments.old.items specials.now
         streams.old (W.state world.old) f) words.now memory result
-        (printing arguments.new.items specials.now streams.new (W.state world.new) f) output }
+        (printing arguments.new.items specials.now streams.new (W.state world.new) f) output) }
     ensures keeps { Keeps W.is_modelled (W.kinds world.old) (W.kinds world.new) (W.state world.old)
         (W.state world.new) streams.old streams.new }
     ensures count { CountsFailure result (W.count world.old) (W.count world.new) }
@@ -158,10 +157,12 @@ pub fn printf<W: World>(
 ) -> Result<Option<Word>, Refusal>
     requires held { HoldsOpen streams.old (W.kinds world.old) }
     requires goes { W.is_modelled → WritersGo streams.old.writers.items (W.state world.old) }
-    ensures step { (f : HostForm) (memory : List ℕ) → f.fault ≡ None → (output : List Action)
-        × IsCalled W.is_modelled (Import.Variadic VariadicImport.Printf)
+    ensures step { (output : List Action)
+        × Gives W.did world.old world.new streams.old.writers.items streams.new.writers.items output
+        × ((f : HostForm) (memory : List ℕ) → f.fault ≡ None → IsCalled W.is_modelled
+        (Import.Variadic VariadicImport.Printf)
         (writing arguments.old.items streams.old (W.state world.old) f) words.now memory result
-        (writing arguments.new.items streams.new (W.state world.new) f) output }
+        (writing arguments.new.items streams.new (W.state world.new) f) output) }
     ensures keeps { Keeps W.is_modelled (W.kinds world.old) (W.kinds world.new) (W.state world.old)
         (W.state world.new) streams.old streams.new }
     ensures count { CountsFailure result (W.count world.old) (W.count world.new) }

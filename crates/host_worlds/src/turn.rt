@@ -4,6 +4,7 @@ ghost use Rattle.sem_primitives.specs.InputMeaning.{main_input};
 ghost use Rattle.sem_primitives.specs.SharedState.{Inner, with_special};
 ghost use Rattle.sem_primitives.specs.declared.constants.Special.{Special as AnySpecial};
 ghost use Rattle.awk_values.specs.declared.value.Value.{Value as AnyValue};
+ghost use Rattle.host_streams.specs.Given.{GivesNone};
 ghost use Rattle.host_streams.specs.Mains.{AnswerIs};
 ghost use Rattle.host_streams.specs.Passing.{RestsAfter};
 ghost use Rattle.host_streams.specs.OpenFiles.{WritersGo};
@@ -56,6 +57,7 @@ fn next<W: World, O: Operands>(
     ensures rests { RestsAfter result input.new.main.reading input.new.main.found }
     ensures live { AssignLive result input.new.main }
     ensures finds { FindsNext (O.text operands.now) texts.now input.old result input.new }
+    ensures gives { GivesNone W.did world.old world.new }
 {
     let rs = shown_text(texts.specials.get(Special::Rs));
     let argc = texts.specials.get(Special::Argc);
@@ -95,6 +97,7 @@ pub(crate) fn turn<W: World, O: Operands>(
     ensures passes { TurnPasses input.old.main result input.new.main }
     ensures finds { FindsTurn (O.text operands.now) texts.old input.old result
         texts.new input.new }
+    ensures gives { GivesNone W.did world.old world.new }
 {
     match next(world, operands, texts, input) {
         Ok(MainNext::Record(text)) => Ok(Some(Given::Taken(text))),

@@ -304,7 +304,8 @@ fn own_codes(alloc: Global, whole: &mut Module) -> Result<Vec<Code>, AllocError>
     ensures whole { IfOk result (λ v. module_with whole.new v.items ≡ view_module whole.old) }
 {
     let none = shared(alloc, Vec::new(alloc))?;
-    let mut codes = Vec::new(alloc);
+    // (one more is that of the first frame; a list that grows has its elements twice for a while)
+    let mut codes = Vec::with_capacity(alloc, whole.funcs.len().saturating_add(1))?;
     for number in 0..whole.funcs.len() {
         let body = body_of(&mut whole.funcs[number], none.clone()?);
         let code = code_of(alloc, whole, &whole.funcs[number], body)?;

@@ -49,23 +49,24 @@ does_so script m agree job input outside steps e f r =
 
 -- over any world, in an environment that others change too
 pub does_so_there : (script : Setting → ℕ → Ending) (m : ModuleForm) → Agreement script m → (job : JobForm) (steps : ℕ) (e : MachineEnd) (f : HostForm)
-    (r : FoundRun m job steps e f) → DoesSoThere script job r.finds (told_by f.fault e)
-does_so_there script m agree job steps e f r =
-    let d = does script m agree job to_come (Opened r.finds) steps f.fault e r.output r.tells in
-    record { turns = d.0; output = r.output; says = d.1 }
+    (output : List Action) (r : FoundRun m job steps e f output) → DoesSoThere script job r.finds (told_by f.fault e) output
+does_so_there script m agree job steps e f output r =
+    let d = does script m agree job to_come (Opened r.finds) steps f.fault e output r.tells in
+    record { turns = d.0; says = d.1 }
 
 same_ending : (output : List Action) (e : Ending) → Like (GoesOn output) ≡ Like e → e ≡ GoesOn output
 same_ending output e q = cc
 
 -- where its steps did not suffice, the script goes on there
 pub goes_on_there : (script : Setting → ℕ → Ending) (m : ModuleForm) (agree : Agreement script m) (job : JobForm) (steps : ℕ) (e : MachineEnd)
-    → e ≡ machine.OutOfSteps → (f : HostForm) (r : FoundRun m job steps e f) → GoesOnThere script job r.finds agree.bound steps
-goes_on_there script m agree job steps e q f r turns enough over =
+    → e ≡ machine.OutOfSteps → (f : HostForm) (output : List Action) (r : FoundRun m job steps e f output)
+    → GoesOnThere script job r.finds agree.bound steps
+goes_on_there script m agree job steps e q f output r turns enough over =
     let s : Environment = Opened r.finds in
-    let out : ModuleEnding = Like (GoesOn r.output) in
+    let out : ModuleEnding = Like (GoesOn output) in
     let ends : Ending = script (setting_in job to_come s) turns in
-    let t : TellsEnding m job to_come s steps f.fault machine.OutOfSteps r.output =
-    subst (λ (x : MachineEnd). Tells m job to_come s steps f.fault x r.output) q r.tells in
+    let t : TellsEnding m job to_come s steps f.fault machine.OutOfSteps output =
+    subst (λ (x : MachineEnd). Tells m job to_come s steps f.fault x output) q r.tells in
     let x = agree.forward job to_come s turns ends over refl in
-    let same = x.2 steps out (omega (arith, x.1)) (the_ending script m agree job to_come s steps f.fault machine.OutOfSteps r.output out refl t) in
-    subst IsOver (same_ending r.output ends same) over
+    let same = x.2 steps out (omega (arith, x.1)) (the_ending script m agree job to_come s steps f.fault machine.OutOfSteps output out refl t) in
+    subst IsOver (same_ending output ends same) over

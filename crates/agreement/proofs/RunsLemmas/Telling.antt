@@ -36,7 +36,7 @@ use Rattle.agreement.specs.Modules.TableMeaning.{table_meaning}
 use Rattle.agreement.specs.Modules.Agreement.{Like, MayEnd, ModuleEnding, Trapped, ended_with, ending_told, output_in}
 use Rattle.sem_scripts.specs.ScriptRun.{Exhausted, GoesOn}
 use Rattle.sem_scripts.specs.MoreTurns.{output_of}
-use Rattle.agreement.specs.Runs.ToldRuns.{FoundRun, Tells, TellsEnding, ToldRun}
+use Rattle.agreement.specs.Runs.ToldRuns.{FoundRun, Tells, TellsEnding, ToldRun, done_output}
 use Rattle.agreement.proofs.RunsLemmas.Carried.{run_carried}
 use Rattle.agreement.proofs.RunsLemmas.Finding.{finds_more, finds_run, from_start}
 use Rattle.agreement.proofs.RunsLemmas.Following.{ShownAfter, table_follows}
@@ -157,33 +157,35 @@ module _ (m : ModuleForm) (typed : ModuleOk m) (a : MachineForm) (new : IsNew ho
 -- A run over any world, as one in an environment that others change too.
 module _ (m : ModuleForm) (typed : ModuleOk m) (a : MachineForm) (new : IsNew host_finds m a) (job : JobForm) (input : Source) (outside : Outside)
     (tells : Type 0) (f : HostForm) (begins : ShownFirst f job input outside) where
-  wanted_there : (k : ℕ) (out : List Action) (c1 : Conf) (f1 : HostForm) → Ran (form_meaning tells) a.program k a.conf (Told f) out NoMemory c1 (Told f1)
-      → FoundRun m job k machine.NoMemory f1
+  wanted_there : (k : ℕ) (out : List Action) (c1 : Conf) (f1 : HostForm) (r : Ran (form_meaning tells) a.program k a.conf (Told f) out NoMemory c1 (Told f1))
+      → FoundRun m job k machine.NoMemory f1 r.4
   wanted_there k out c1 f1 r =
       let w = finds_more tells a.program k a.conf f out c1 f1 r in
-      let x = from_start f w.0 (λ s o s1. HasMore table_meaning a.program k a.conf s o) job input outside begins w.1 in
-      let h = x.4 in
-      let y = has_ending m typed a new job to_come (Opened x.0) h.0 (x.1 ++ h.2) h.3 h.4 h.5 h.6
-      (safe m typed a new job to_come (Opened x.0) h.0 (x.1 ++ h.2) h.3 h.4 h.5 h.7) h.7 in
-      record { finds = x.0; output = x.1; tells = (h.0, h.1, y.0, h.2, y.1, y.2) }
+      let x = from_start f w.0 (λ s o s1. HasMore table_meaning a.program k a.conf s o) job input outside begins r.4 w.1 in
+      let h = x.3 in
+      let y = has_ending m typed a new job to_come (Opened x.0) h.0 (r.4 ++ h.2) h.3 h.4 h.5 h.6
+      (safe m typed a new job to_come (Opened x.0) h.0 (r.4 ++ h.2) h.3 h.4 h.5 h.7) h.7 in
+      record { finds = x.0; tells = (h.0, h.1, y.0, h.2, y.1, y.2) }
 
   found_there : (k : ℕ) (out : List Action) (r : RunEnd) (c1 : Conf) (f1 : HostForm) → r ≢ NoMemory → Ran (form_meaning tells) a.program k a.conf (Told f) out r c1 (Told f1)
-      → (e : MachineEnd) → told_run r ≡ Some e → e ≢ machine.NoMemory → FoundRun m job k e f1
+      → (e : MachineEnd) → told_run r ≡ Some e → e ≢ machine.NoMemory → FoundRun m job k e f1 out
   found_there k out r c1 f1 ne ran e told other =
-      let x = from_start f f1 (λ s o s1. Ran table_meaning a.program k a.conf s o r c1 s1) job input outside begins (finds_run tells a.program k a.conf f out c1 f1 r ne ran) in
-      record { finds = x.0; output = x.1; tells = tells_ending m typed a new job to_come (Opened x.0) k x.1 r c1 x.2 f1.fault x.3 x.4 e told other }
+      let x = from_start f f1 (λ s o s1. Ran table_meaning a.program k a.conf s o r c1 s1) job input outside begins out (finds_run tells a.program k a.conf f out c1 f1 r ne ran) in
+      record { finds = x.0; tells = tells_ending m typed a new job to_come (Opened x.0) k out r c1 x.1 f1.fault x.2 x.3 e told other }
 
   -- WHAT A MACHINE DID, over any world
-  pub did_find : (k : ℕ) (e : MachineEnd) (c1 : Conf) (f1 : HostForm) → Did (form_meaning tells) a.program k a.conf (Told f) e c1 (Told f1) → FoundRun m job k e f1
+  pub did_find : (k : ℕ) (e : MachineEnd) (c1 : Conf) (f1 : HostForm) (d : Did (form_meaning tells) a.program k a.conf (Told f) e c1 (Told f1))
+      → FoundRun m job k e f1 (done_output (form_meaning tells) a.program k a.conf (Told f) d.0 d.1 c1 (Told f1) d.3)
   did_find k e c1 f1 d = by d.1 d.2 d.3
     where
-      found_so : machine.NoMemory ≡ e → FoundRun m job k machine.NoMemory f1 → FoundRun m job k e f1
-      found_so q x = subst (λ (z : MachineEnd). FoundRun m job k z f1) q x
+      found_so : (out : List Action) → machine.NoMemory ≡ e → FoundRun m job k machine.NoMemory f1 out → FoundRun m job k e f1 out
+      found_so out q x = subst (λ (z : MachineEnd). FoundRun m job k z f1 out) q x
 
       some_same : (x y : MachineEnd) → Some x ≡ Some y → x ≡ y
       some_same x y q = cc
 
-      by : (r : RunEnd) → told_run r ≡ Some e → Ran (form_meaning tells) a.program k a.conf (Told f) d.0 r c1 (Told f1) → FoundRun m job k e f1
-      by NoMemory q ran = found_so (some_same machine.NoMemory e q) (wanted_there k d.0 c1 f1 ran)
+      by : (r : RunEnd) → told_run r ≡ Some e → (ran : Ran (form_meaning tells) a.program k a.conf (Told f) d.0 r c1 (Told f1))
+          → FoundRun m job k e f1 (done_output (form_meaning tells) a.program k a.conf (Told f) d.0 r c1 (Told f1) ran)
+      by NoMemory q ran = found_so ran.4 (some_same machine.NoMemory e q) (wanted_there k d.0 c1 f1 ran)
       by OutOfSteps q ran = found_there k d.0 OutOfSteps c1 f1 (λ z. cc) ran e q (not_wanting OutOfSteps e q (λ z. cc))
       by (Ended x) q ran = found_there k d.0 (Ended x) c1 f1 (λ z. cc) ran e q (not_wanting (Ended x) e q (λ z. cc))

@@ -7,4 +7,4 @@ pub returns-clause-does : goal.returns-clause-does
 returns-clause-does c = Agreeing.does_so_there
 
 pub returns-clause-bounded : goal.returns-clause-bounded
-returns-clause-bounded c = λ script m agree job steps f r. Agreeing.goes_on_there script m agree job steps machine.OutOfSteps refl f r
+returns-clause-bounded c = λ script m agree job steps f output r. Agreeing.goes_on_there script m agree job steps machine.OutOfSteps refl f output r

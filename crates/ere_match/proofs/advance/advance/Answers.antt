@@ -1,18 +1,24 @@
-use Rattle.std.proofs.Common.{arith, refl}
-use Rattle.std.proofs.Math.Logic.{∥∥₁_elim, ∥∥₁_map, ∥∥₁_map₂, ∥∥₁_prop}
-use Rattle.ere_match.proofs.Tables.{enter_step, has_moved, item_is}
+use Rattle.std.proofs.Common.{rules, arith, refl, ap, sym, ◌∙◌, get_or}
+use Rattle.std.proofs.Props.{props}
+use Rattle.std.proofs.Math.Logic.{∥∥₁_elim, ∥∥₁_map}
+use Rattle.ere_match.proofs.Tables.{column_read, enter_step, has_moved, item_is}
 use Rattle.ere_match.proofs.advance.advance.Goals as goal
 
+pub index-requires-2 : goal.index-requires-2
+index-requires-2 c = ∥∥₁_elim c.requires.table (search props) (λ t. omega (arith, t.wide, c.requires.state))
+
 pub enter-requires : goal.enter-requires
-enter-requires c = ∥∥₁_elim c.requires.table ∥∥₁_prop (λ t.
-    (let read = (t.rows c.args.state c.index.result.now (item_is c.args.table.now.rows.items c.args.state c.index.result.now c.requires.state c.index.ensures)).room in
-    ∥∥₁_map₂ c.move_by.ensures.table c.in_ok-to.ensures.step (λ h s.
-    enter_step c.args.nodes.now c.args.entry c.args.byte c.args.state c.index.result.now.count c.args.classes.now c.args.found c.args.table.now c.move_by.new.table c.in_ok-to.to c.index.result.now c.index.ensures refl (omega (arith, read, c.move_by.ensures.starts.longer)) h s)))
+enter-requires c = ∥∥₁_map c.requires.table (λ t.
+    enter_step c.args.nodes.now c.args.entry c.args.byte c.args.state c.index.result.now.count c.args.classes.now c.args.found c.args.table.now c.args.table.now c.in-Some.to c.index.result.now c.index.ensures refl
+    (t.rows c.args.state c.index.result.now (item_is c.args.table.now.rows.items c.args.state c.index.result.now c.requires.state c.index.ensures)).room t
+    (column_read c.args.nodes.now c.args.entry c.args.byte c.args.state (get_or c.args.classes.now c.from.result 0) c.args.classes.now c.args.found c.index-2.result.now c.in-Some.to c.args.table.now t (search rules) (ap (λ i. get_or c.args.classes.now i 0) c.from.ensures)
+    (item_is c.args.table.now.moves.items c.args.state c.index-2.result.now (omega (arith, t.wide, c.requires.state)) c.index-2.ensures) (sym c.at.ensures ∙ c.in-Some.is)))
 
-pub returns-clause-moved : goal.returns-clause-moved
-returns-clause-moved c = ∥∥₁_map₂ c.requires.table c.in_ok-to.ensures.step (λ t s.
-    (let read = (t.rows c.args.state c.index.result.now (item_is c.args.table.now.rows.items c.args.state c.index.result.now c.requires.state c.index.ensures)).room in
-    has_moved c.args.nodes.now c.args.entry c.args.byte c.args.state c.index.result.now.count c.args.at c.enter.result c.args.found c.args.table.now c.move_by.new.table c.enter.new.table c.in_ok-to.to c.index.result.now c.index.ensures refl (λ k less. c.move_by.ensures.starts.at k (omega (arith, less, read))) s c.enter.ensures.entered))
+pub returns-in-Some-clause-moved : goal.returns-in-Some-clause-moved
+returns-in-Some-clause-moved c = ∥∥₁_map c.requires.table (λ t.
+    has_moved c.args.nodes.now c.args.entry c.args.byte c.args.state c.index.result.now.count c.args.at c.enter.result c.args.found c.args.table.now c.args.table.now c.enter.new.table c.in-Some.to c.index.result.now c.index.ensures refl (λ k less. refl)
+    (column_read c.args.nodes.now c.args.entry c.args.byte c.args.state (get_or c.args.classes.now c.from.result 0) c.args.classes.now c.args.found c.index-2.result.now c.in-Some.to c.args.table.now t (search rules) (ap (λ i. get_or c.args.classes.now i 0) c.from.ensures)
+    (item_is c.args.table.now.moves.items c.args.state c.index-2.result.now (omega (arith, t.wide, c.requires.state)) c.index-2.ensures) (sym c.at.ensures ∙ c.in-Some.is)) c.enter.ensures.entered)
 
-pub returns-clause-table : goal.returns-clause-table
-returns-clause-table c = ∥∥₁_map c.move_by.ensures.table (λ t. c.enter.ensures.table c.args.nodes.now c.args.entry c.args.classes.now t)
+pub returns-in-Some-clause-table : goal.returns-in-Some-clause-table
+returns-in-Some-clause-table c = ∥∥₁_map c.requires.table (λ t. c.enter.ensures.table c.args.nodes.now c.args.entry c.args.classes.now t)

@@ -1,4 +1,3 @@
-use Rattle.std.proofs.Common.{arith}
 use Rattle.std.proofs.Props.{props}
 use Rattle.std.proofs.Math.Logic.{∥∥₁_elim}
 use Rattle.ere_match.proofs.Hastes.{starts_there}
@@ -6,6 +5,3 @@ use Rattle.ere_match.proofs.haste.hasten.Goals as goal
 
 pub is_idle-requires-clause-starts : goal.is_idle-requires-clause-starts
 is_idle-requires-clause-starts c = ∥∥₁_elim c.requires.table (search props) (λ t. starts_there c.args.nodes.now c.args.entry c.args.state c.args.classes.now c.args.table.now t c.requires.state)
-
-pub loop_of-requires-clause-wide : goal.loop_of-requires-clause-wide
-loop_of-requires-clause-wide c = ∥∥₁_elim c.requires.table (search props) (λ t. omega (arith, t.wide, c.requires.state))

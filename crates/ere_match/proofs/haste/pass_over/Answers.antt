@@ -1,6 +1,7 @@
-use Rattle.std.proofs.Common.{rules, arith, refl, ap, sym, ◌∙◌, get_or, Vec, Global}
+use Rattle.std.proofs.Common.{rules, arith, refl, ap, sym, ◌∙◌, ◌≡◌, inl, inr, get_or, Vec, Global}
 use Rattle.std.specs.Prelude.{slice_get}
 use Rattle.std.proofs.Math.Logic.{∥∥₁_elim, ∥∥₁_map, ∥∥₁_prop}
+use Rattle.std.proofs.lemmas.Bool.{cases_lt}
 use Rattle.ere_match.specs.Rows.{SpecRow}
 use Rattle.ere_match.proofs.Hastes.{loop_can, loop_kept, loop_on}
 use Rattle.ere_match.proofs.haste.pass_over.Goals as goal
@@ -28,3 +29,11 @@ bounds-text-place c = omega arith
 
 pub overflow_add-place : goal.overflow_add-place
 overflow_add-place c = omega arith
+
+pub returns-then-classes-from-clause-further : goal.returns-then-classes-from-clause-further
+returns-then-classes-from-clause-further c = λ inside here. elim (cases_lt c.args.at c.loop-place.place) [
+  | inl after ↦ after
+  | inr not ↦ absurd (
+      let e : c.loop-place.place ≡ c.args.at = omega (arith, not, c.loop-place.auto.place) in
+      c.if-classes-from.true (ap (λ i. get_or c.args.classes.now i 0) (c.from-in-loop-place.ensures ∙ ap (λ k. get_or c.args.text.now k 0) e ∙ here ∙ sym c.from.ensures)))
+]

@@ -6,7 +6,8 @@ use Rattle.host_values.specs.Calls.{reserved_handle}
 use Rattle.host_values.proofs.ReservedHandle.{reserved_removed}
 use Rattle.host_values.specs.WorldCalls.{IsCalled}
 use Rattle.host_worlds.specs.Forms.{closing}
-use Rattle.host_worlds.proofs.Closings.{close_closes, close_traps, close_wants}
+use Rattle.host_worlds.proofs.Closings.{close_closes, close_traps, close_wants, targets_beside}
+use Rattle.host_streams.proofs.Given.{none_still}
 use Rattle.host_worlds.proofs.closing.close.Goals as goal
 
 pub returns-in-Err-clause-step : goal.returns-in-Err-clause-step
@@ -28,3 +29,18 @@ returns-clause-step g c = λ f memory none.
 
 pub returns-clause-reserved : goal.returns-clause-reserved
 returns-clause-reserved g c free = ap (λ m. map.get m reserved_handle) c.take.ensures.rest ∙ reserved_removed c.args.handles.now _ free
+
+pub returns-in-Err-clause-gives : goal.returns-in-Err-clause-gives
+returns-in-Err-clause-gives g c = none_still g.W.World.did c.args.world.now
+
+pub returns-in_default-clause-gives : goal.returns-in_default-clause-gives
+returns-in_default-clause-gives g c = none_still g.W.World.did c.args.world.now
+
+pub returns-in-Err-clause-left : goal.returns-in-Err-clause-left
+returns-in-Err-clause-left g c = λ targets are. are
+
+pub returns-in_default-clause-left : goal.returns-in_default-clause-left
+returns-in_default-clause-left g c = λ targets are. are
+
+pub returns-clause-left : goal.returns-clause-left
+returns-clause-left g c = λ targets are. targets_beside c.as_slice.result.now _ _ targets c.close-closed.ensures.writers are

@@ -3,6 +3,7 @@ use Rattle.awk_values.specs.Values.{text_of_value}
 use Rattle.sem_primitives.specs.InputMeaning.{getline_file_by, open_or_read, reader_named}
 use Rattle.sem_primitives.specs.Records.{record_separator}
 use Rattle.host_streams.specs.OpenFiles.{has_room, names_of, readers_in}
+use Rattle.host_streams.proofs.Given.{none_still}
 use Rattle.host_worlds.specs.Givens.{FileGives}
 use Rattle.host_worlds.specs.Keeps.{with_files}
 use Rattle.host_worlds.specs.States.{Finding, Over, with_tables}
@@ -39,3 +40,6 @@ returns-clause-finds g c =
           (finds.1 later outside (with_tables c.args.texts.now old (Finding later) inner) (ap record_separator (sym (c.as_slice.ensures ∙ c.in_ok-rs.ensures ∙ ap text_of_value c.get.ensures)))
           (room_found c.args.texts.now old later inner) keep)),
     )
+
+pub returns-in_err-rs-clause-gives : goal.returns-in_err-rs-clause-gives
+returns-in_err-rs-clause-gives g c = none_still g.W.World.did c.args.world.now

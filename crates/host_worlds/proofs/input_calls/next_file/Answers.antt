@@ -3,6 +3,7 @@ use Rattle.host_streams.proofs.Skipped.{skipped_found}
 use Rattle.host_worlds.specs.States.{Over, over_world, with_tables}
 use Rattle.host_worlds.proofs.Apart.{holds_next, tables_next, writers_stay}
 use Rattle.host_worlds.proofs.SkipCalls.{given_as, skip_called, skip_trapped}
+use Rattle.host_streams.proofs.Given.{none_still}
 use Rattle.host_worlds.proofs.input_calls.next_file.Goals as goal
 
 pub returns-in-Err-clause-called : goal.returns-in-Err-clause-called
@@ -29,3 +30,6 @@ returns-clause-called g c = λ f memory texts none.
     (λ inner. skipped_found c.args.input.now.main c.skip.new.self inner c.skip.ensures.nothing c.skip.ensures.ended c.skip.ensures.next
     c.skip.ensures.found c.skip.ensures.standard)
     c.args.words.now (sym c.in_default.ensures)
+
+pub returns-in-Err-clause-gives : goal.returns-in-Err-clause-gives
+returns-in-Err-clause-gives g c = none_still g.W.World.did c.args.world.now

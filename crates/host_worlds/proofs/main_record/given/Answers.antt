@@ -3,6 +3,7 @@ use Rattle.sem_primitives.specs.InputMeaning.{main_input}
 use Rattle.host_worlds.specs.States.{Over, with_tables}
 use Rattle.host_worlds.proofs.MainFound.{found_given, found_on, found_stop}
 use Rattle.host_worlds.proofs.Turns.{moved_on, turn_none, turn_some}
+use Rattle.host_streams.proofs.Given.{none_then}
 use Rattle.host_worlds.proofs.main_record.given.Goals as goal
 
 pub returns-in-Ok-Some-clause-told : goal.returns-in-Ok-Some-clause-told
@@ -24,6 +25,7 @@ turns-preserved g c =
     let before = c.turns.invariant in
     let step = c.in-Ok-None.ensures in
     record {
+      gives = none_then g.W.World.did _ _ _ c.turns.invariant.gives c.in-Ok-None.ensures.gives;
       held = step.held;
       goes = step.goes;
       outside = λ tells. step.outside tells ∙ before.outside tells;
@@ -35,3 +37,9 @@ turns-preserved g c =
           ∙ turn_none _ (g.W.World.state c.turns.world).outside (with_tables c.turn.new.texts c.turn.new.input (Over (g.W.World.state c.turn.new.world)) inner) c.in-Ok-None.field-0-is (step.told tells inner offered)
           ∙ ap (λ x. main_input x (with_tables c.turn.new.texts c.turn.new.input (Over (g.W.World.state c.turn.new.world)) inner)) (before.outside tells);
     }
+
+pub returns-in-Ok-Some-clause-gives : goal.returns-in-Ok-Some-clause-gives
+returns-in-Ok-Some-clause-gives g c = none_then g.W.World.did _ _ _ c.turns.invariant.gives c.in-Ok-Some.ensures.gives
+
+pub returns-in-Err-clause-gives : goal.returns-in-Err-clause-gives
+returns-in-Err-clause-gives g c = none_then g.W.World.did _ _ _ c.turns.invariant.gives c.in-Err.ensures.gives

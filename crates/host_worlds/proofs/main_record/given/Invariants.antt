@@ -1,6 +1,7 @@
 use Rattle.std.proofs.Common.{◌≡◌}
 use Rattle.sem_primitives.specs.InputMeaning.{main_input}
 use Rattle.sem_primitives.specs.SharedState.{Inner}
+use Rattle.host_streams.specs.Given.{GivesNone}
 use Rattle.host_streams.specs.OpenFiles.{WritersGo}
 use Rattle.host_worlds.specs.Givens.{OffersTexts, left_to_open}
 use Rattle.host_worlds.specs.Keeps.{IsMoved}
@@ -15,6 +16,7 @@ invariant-turns g l =
       held : HoldsInput l.input (w.kinds l.world);
       goes : w.is_modelled → WritersGo l.input.files.writers.items (w.state l.world);
       outside : w.is_modelled → (w.state l.world).outside ≡ (w.state l.fn.world).outside;
+      gives : GivesNone w.did l.fn.world l.world;
       rest : IsMoved l.fn.input l.input;
       finds : FoundSoFar (g.O.Operands.text l.operands) l.fn.texts l.fn.input l.texts l.input;
       told : w.is_modelled → (inner : Inner) → OffersTexts (g.O.Operands.text l.operands) inner →

@@ -1,6 +1,7 @@
 use Rattle.std.proofs.Common.{◌++◌, sym}
 use Rattle.host_worlds.specs.States.{Finding, Over, with_tables}
 use Rattle.host_worlds.proofs.Kept.{given_gives, stop_row}
+use Rattle.host_streams.proofs.Given.{none_still}
 use Rattle.host_worlds.proofs.main_record.read.Goals as goal
 
 pub returns-in-Ok-clause-told : goal.returns-in-Ok-clause-told
@@ -31,3 +32,6 @@ returns-in-Err-clause-finds g c =
       λ later outside inner offered.
           stop_row c.args.how outside (with_tables c.args.texts.now c.args.input.now (Finding (finds.0 ++ later)) inner) c.in-Err.stop (with_tables c.given.new.texts c.given.new.input (Finding later) inner) (sym c.if-is_over.ensures) (finds.1 later outside inner offered),
     )
+
+pub returns-then-is_over-clause-gives : goal.returns-then-is_over-clause-gives
+returns-then-is_over-clause-gives g c = none_still g.W.World.did c.args.world.now

@@ -1,10 +1,10 @@
 use Rattle.std.proofs.Common.{◌≤◌, Ok, length, ap, subst, sym, ◌∙◌}
 use Rattle.std.proofs.lemmas.Result.{err_from_is_err_and}
-use Rattle.sem_primitives.specs.OutputMeaning.{formatted_values, printf_row}
+use Rattle.sem_primitives.specs.OutputMeaning.{formatted_values}
 use Rattle.host_format.specs.Outcomes.{IsStopOf}
 use Rattle.host_worlds.proofs.Faults.{stop_counts}
 use Rattle.host_worlds.proofs.Lasts.{some_operand}
-use Rattle.host_worlds.proofs.Texts.{begins_text, could_refused, none_begun}
+use Rattle.host_worlds.proofs.Texts.{refused_given, text_given}
 use Rattle.host_worlds.proofs.printing.printf_values.Goals as goal
 
 pub fill_formatted-requires : goal.fill_formatted-requires
@@ -15,16 +15,13 @@ returns-in_err-fill_formatted-clause-count g c =
     let p = err_from_is_err_and c.from_residual.result c.from_residual.ensures.1 in
     rw (p.1, p.2) (stop_counts c.operands.result.now c.in_err-fill_formatted.field-0.0 (g.W.World.count c.args.world.now) c.in_err-fill_formatted.ensures.err)
 
-pub returns-in_err-fill_formatted-clause-in_any_world : goal.returns-in_err-fill_formatted-clause-in_any_world
-returns-in_err-fill_formatted-clause-in_any_world g c =
+pub returns-in_err-fill_formatted-clause-given : goal.returns-in_err-fill_formatted-clause-given
+returns-in_err-fill_formatted-clause-given g c =
     let p = err_from_is_err_and c.from_residual.result c.from_residual.ensures.1 in
-    rw (p.1, p.2) (could_refused c.args.to c.args.values.now c.args.streams.now c.in_err-fill_formatted.field-0.0 (subst (λ xs. IsStopOf (formatted_values xs) c.in_err-fill_formatted.field-0.0) c.operands.ensures c.in_err-fill_formatted.ensures.err))
+    rw (p.1, p.2) (refused_given g.W.World.is_modelled g.W.World.did c.args.world.now c.args.to c.args.values.now c.args.streams.now (g.W.World.state c.args.world.now) c.in_err-fill_formatted.field-0.0
+    (subst (λ xs. IsStopOf (formatted_values xs) c.in_err-fill_formatted.field-0.0) c.operands.ensures c.in_err-fill_formatted.ensures.err))
 
-pub returns-in_err-fill_formatted-clause-begun : goal.returns-in_err-fill_formatted-clause-begun
-returns-in_err-fill_formatted-clause-begun g c =
-    none_begun g.W.World.is_modelled _ (printf_row c.args.to c.args.values.now) (g.W.World.state c.args.world.now) c.from_residual.result
-
-pub returns-clause-begun : goal.returns-clause-begun
-returns-clause-begun g c =
-    begins_text c.args.to c.args.values.now c.as_slice.result.now (ap formatted_values (sym c.operands.ensures) ∙ c.in_ok-fill_formatted.ensures.ok ∙ ap Ok (sym c.as_slice.ensures.value))
-    g.W.World.is_modelled c.args.streams.now (g.W.World.state c.args.world.now) _ c.put_out.result c.put_out.ensures.begun
+pub returns-clause-given : goal.returns-clause-given
+returns-clause-given g c =
+    text_given c.args.to c.args.values.now c.as_slice.result.now (ap formatted_values (sym c.operands.ensures) ∙ c.in_ok-fill_formatted.ensures.ok ∙ ap Ok (sym c.as_slice.ensures.value))
+    g.W.World.is_modelled g.W.World.did _ _ c.args.streams.now c.put_out.new.streams _ _ c.put_out.result c.put_out.ensures.given

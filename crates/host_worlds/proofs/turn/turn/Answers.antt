@@ -118,6 +118,9 @@ returns-in-Ok-Record-clause-goes g c = c.next.ensures.goes
 pub returns-in-Ok-Record-clause-outside : goal.returns-in-Ok-Record-clause-outside
 returns-in-Ok-Record-clause-outside g c = c.next.ensures.outside
 
+pub returns-in-Ok-Record-clause-gives : goal.returns-in-Ok-Record-clause-gives
+returns-in-Ok-Record-clause-gives g c = c.next.ensures.gives
+
 pub returns-in-Ok-End-clause-held : goal.returns-in-Ok-End-clause-held
 returns-in-Ok-End-clause-held g c = c.next.ensures.held
 
@@ -126,6 +129,9 @@ returns-in-Ok-End-clause-goes g c = c.next.ensures.goes
 
 pub returns-in-Ok-End-clause-outside : goal.returns-in-Ok-End-clause-outside
 returns-in-Ok-End-clause-outside g c = c.next.ensures.outside
+
+pub returns-in-Ok-End-clause-gives : goal.returns-in-Ok-End-clause-gives
+returns-in-Ok-End-clause-gives g c = c.next.ensures.gives
 
 pub returns-in-Ok-Opened-clause-held : goal.returns-in-Ok-Opened-clause-held
 returns-in-Ok-Opened-clause-held g c = c.next.ensures.held
@@ -136,6 +142,9 @@ returns-in-Ok-Opened-clause-goes g c = c.next.ensures.goes
 pub returns-in-Ok-Opened-clause-outside : goal.returns-in-Ok-Opened-clause-outside
 returns-in-Ok-Opened-clause-outside g c = c.next.ensures.outside
 
+pub returns-in-Ok-Opened-clause-gives : goal.returns-in-Ok-Opened-clause-gives
+returns-in-Ok-Opened-clause-gives g c = c.next.ensures.gives
+
 pub returns-in-Ok-true-clause-held : goal.returns-in-Ok-true-clause-held
 returns-in-Ok-true-clause-held g c = record { main = c.next.ensures.held.main; files = c.next.ensures.held.files; apart = c.next.ensures.held.apart }
 
@@ -144,6 +153,9 @@ returns-in-Ok-true-clause-goes g c = c.next.ensures.goes
 
 pub returns-in-Ok-true-clause-outside : goal.returns-in-Ok-true-clause-outside
 returns-in-Ok-true-clause-outside g c = c.next.ensures.outside
+
+pub returns-in-Ok-true-clause-gives : goal.returns-in-Ok-true-clause-gives
+returns-in-Ok-true-clause-gives g c = c.next.ensures.gives
 
 pub returns-in-Ok-false-clause-held : goal.returns-in-Ok-false-clause-held
 returns-in-Ok-false-clause-held g c = record { main = c.next.ensures.held.main; files = c.next.ensures.held.files; apart = c.next.ensures.held.apart }
@@ -154,6 +166,9 @@ returns-in-Ok-false-clause-goes g c = c.next.ensures.goes
 pub returns-in-Ok-false-clause-outside : goal.returns-in-Ok-false-clause-outside
 returns-in-Ok-false-clause-outside g c = c.next.ensures.outside
 
+pub returns-in-Ok-false-clause-gives : goal.returns-in-Ok-false-clause-gives
+returns-in-Ok-false-clause-gives g c = c.next.ensures.gives
+
 pub returns-in-Ok-Assign-clause-held : goal.returns-in-Ok-Assign-clause-held
 returns-in-Ok-Assign-clause-held g c = record { main = c.next.ensures.held.main; files = c.next.ensures.held.files; apart = c.next.ensures.held.apart }
 
@@ -163,6 +178,9 @@ returns-in-Ok-Assign-clause-goes g c = c.next.ensures.goes
 pub returns-in-Ok-Assign-clause-outside : goal.returns-in-Ok-Assign-clause-outside
 returns-in-Ok-Assign-clause-outside g c = c.next.ensures.outside
 
+pub returns-in-Ok-Assign-clause-gives : goal.returns-in-Ok-Assign-clause-gives
+returns-in-Ok-Assign-clause-gives g c = c.next.ensures.gives
+
 pub returns-clause-held : goal.returns-clause-held
 returns-clause-held g c = c.next.ensures.held
 
@@ -171,6 +189,9 @@ returns-clause-goes g c = c.next.ensures.goes
 
 pub returns-clause-outside : goal.returns-clause-outside
 returns-clause-outside g c = c.next.ensures.outside
+
+pub returns-clause-gives : goal.returns-clause-gives
+returns-clause-gives g c = c.next.ensures.gives
 
 pub returns-in-Ok-Record-clause-rest : goal.returns-in-Ok-Record-clause-rest
 returns-in-Ok-Record-clause-rest g c = moved_main c.args.input.now c.next.new.input c.next.ensures.rest

@@ -19,7 +19,7 @@ use Rattle.wasm_machine.proofs.link.own_codes.Goals as goal
 pub loop-number-init : goal.loop-number-init
 loop-number-init c =
     let m = c.args.whole.now in
-    let items = c.new-codes.ensures.items in
+    let items = c.in_ok-codes.ensures.items in
     (subst (All Begins) (sym items) (All-nil Begins), ap (λ (fs : List Laid). length fs) items, refl, ap (module_with m) items ∙ whole_untaken m)
 
 pub loop-number-preserved : goal.loop-number-preserved

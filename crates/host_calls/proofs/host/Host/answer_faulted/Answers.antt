@@ -1,34 +1,36 @@
-use Rattle.std.proofs.Common.{[], rules, subst, sym}
+use Rattle.std.proofs.Common.{[], refl, rules, subst, sym}
 use Rattle.wasm_model.specs.declared.host.HostAnswer.{HostAnswer}
 use Rattle.host_imports.specs.declared.import.Import.TheVariants as import
 use Rattle.host_tables.proofs.Tellings.{refused_means}
-use Rattle.host_calls.specs.Calls.{MeansSome}
+use Rattle.host_calls.specs.Calls.{Gave, MeansSome}
 use Rattle.host_calls.specs.Forms.{host_form}
 use Rattle.host_calls.proofs.Comes.{found, refused_kept}
+use Rattle.host_calls.proofs.Gaves.{gave_none}
 use Rattle.host_calls.proofs.host.Host.answer_faulted.Goals as goal
 
 pub returns-in-Drop : goal.returns-in-Drop
 returns-in-Drop g c memory =
-    found g.W.World.is_modelled c.args.import import.Drop (host_form g.W.World.state c.args.self.now) c.args.words.now memory
+    found g.W.World.is_modelled (Gave g.W.World.did c.args.self.now c.on_drop.new.self) c.args.import import.Drop (host_form g.W.World.state c.args.self.now) c.args.words.now memory
     c.on_drop.result (host_form g.W.World.state c.on_drop.new.self)
     (search rules) (c.on_drop.ensures memory)
 
 pub returns-in-IterFree : goal.returns-in-IterFree
 returns-in-IterFree g c memory =
-    found g.W.World.is_modelled c.args.import import.IterFree (host_form g.W.World.state c.args.self.now) c.args.words.now memory
+    found g.W.World.is_modelled (Gave g.W.World.did c.args.self.now c.on_iter_free.new.self) c.args.import import.IterFree (host_form g.W.World.state c.args.self.now) c.args.words.now memory
     c.on_iter_free.result (host_form g.W.World.state c.on_iter_free.new.self)
     (search rules) (c.on_iter_free.ensures memory)
 
 pub returns-in-FreeArray : goal.returns-in-FreeArray
 returns-in-FreeArray g c memory =
-    found g.W.World.is_modelled c.args.import import.FreeArray (host_form g.W.World.state c.args.self.now) c.args.words.now memory
+    found g.W.World.is_modelled (Gave g.W.World.did c.args.self.now c.on_free_array.new.self) c.args.import import.FreeArray (host_form g.W.World.state c.args.self.now) c.args.words.now memory
     c.on_free_array.result (host_form g.W.World.state c.on_free_array.new.self)
     (search rules) (c.on_free_array.ensures memory)
 
 pub returns-in-OfPrimitive : goal.returns-in-OfPrimitive
 returns-in-OfPrimitive g c memory =
     let before = host_form g.W.World.state c.args.self.now in
-    subst (λ (a : HostAnswer). MeansSome g.W.World.is_modelled c.args.import before c.args.words.now memory a before) (sym c.refused.ensures) (
+    subst (λ (a : HostAnswer). MeansSome g.W.World.is_modelled (Gave g.W.World.did c.args.self.now c.args.self.now) c.args.import before c.args.words.now memory a before) (sym c.refused.ensures) (
       [],
+      gave_none g.W.World.did c.args.self.now c.args.self.now refl refl,
       refused_means g.W.World.is_modelled c.args.import before c.args.words.now memory (refused_kept c.args.import _ (search rules) c.requires),
     )

@@ -3,8 +3,10 @@ use Rattle.sem_primitives.specs.declared.table.Primitive.TheVariants as row
 use Rattle.host_imports.specs.declared.import.Import.TheVariants.{OfPrimitive}
 use Rattle.host_values.specs.Findings.{form_finding}
 use Rattle.host_values.specs.Shown.{form_with_output}
+use Rattle.host_calls.specs.Calls.{Gave}
 use Rattle.host_calls.specs.Forms.{form_in}
 use Rattle.host_calls.proofs.Comes.{plain_comes}
+use Rattle.host_calls.proofs.Gaves.{gave_none}
 use Rattle.host_calls.proofs.host.Host.declare.Goals as goal
 
 pub returns : goal.returns
@@ -13,6 +15,6 @@ returns g c =
     let state = g.W.World.state host.world in
     let before = form_in host.tables host.input state in
     let after = form_in host.tables (record host.input { names = c.declare.new.names }) state in
-    plain_comes g.W.World.is_modelled (OfPrimitive row.Declare) c.args.words.now c.args.memory.now before after c.declare.result c.requires refl
+    plain_comes g.W.World.is_modelled (Gave g.W.World.did host host) (gave_none g.W.World.did host host refl refl) (OfPrimitive row.Declare) c.args.words.now c.args.memory.now before after c.declare.result c.requires refl
     (λ so_far. c.declare.ensures.step (form_with_output so_far before) c.requires)
     (λ finds outside so_far. c.declare.ensures.step (form_finding finds outside so_far before) c.requires)

@@ -1,7 +1,9 @@
 use Rattle.std.proofs.Common.{refl}
 use Rattle.host_imports.specs.declared.import.Import.TheVariants.{Arg}
+use Rattle.host_calls.specs.Calls.{Gave}
 use Rattle.host_calls.specs.Forms.{host_form}
 use Rattle.host_calls.proofs.Comes.{none_kept, plain_told}
+use Rattle.host_calls.proofs.Gaves.{gave_none}
 use Rattle.host_calls.proofs.host.Host.on_arg.Goals as goal
 
 pub arg-outcome-requires : goal.arg-outcome-requires
@@ -10,6 +12,7 @@ arg-outcome-requires g c = none_kept Arg c.args.self.now.tables.fault refl c.req
 pub returns : goal.returns
 returns g c memory =
     let host = c.args.self.now in
-    plain_told g.W.World.is_modelled Arg c.args.words.now memory host.tables c.arg-outcome.new.self host.input (g.W.World.state host.world)
+    plain_told g.W.World.is_modelled (Gave g.W.World.did c.args.self.now c.tell.new.self)
+    (gave_none g.W.World.did c.args.self.now c.tell.new.self c.tell.ensures.world c.tell.ensures.input) Arg c.args.words.now memory host.tables c.arg-outcome.new.self host.input (g.W.World.state host.world)
     c.arg-outcome.result c.tell.result (host_form g.W.World.state c.tell.new.self) c.tell.ensures.told c.tell.ensures.kept
     (none_kept Arg host.tables.fault refl c.requires) (λ f. c.arg-outcome.ensures f memory)

@@ -1,8 +1,10 @@
 use Rattle.std.proofs.Common.{refl}
 use Rattle.sem_primitives.specs.declared.table.Primitive.TheVariants as row
 use Rattle.host_imports.specs.declared.import.Import.TheVariants.{OfPrimitive}
+use Rattle.host_calls.specs.Calls.{Gave}
 use Rattle.host_calls.specs.Forms.{host_form}
 use Rattle.host_calls.proofs.Comes.{none_kept, plain_told}
+use Rattle.host_calls.proofs.Gaves.{gave_none}
 use Rattle.host_calls.proofs.host.Host.on_elem.Goals as goal
 
 pub elem-outcome-requires : goal.elem-outcome-requires
@@ -11,6 +13,7 @@ elem-outcome-requires g c = none_kept (OfPrimitive row.Elem) c.args.self.now.tab
 pub returns : goal.returns
 returns g c memory =
     let host = c.args.self.now in
-    plain_told g.W.World.is_modelled (OfPrimitive row.Elem) c.args.words.now memory host.tables c.elem-outcome.new.self host.input (g.W.World.state host.world)
+    plain_told g.W.World.is_modelled (Gave g.W.World.did c.args.self.now c.tell.new.self)
+    (gave_none g.W.World.did c.args.self.now c.tell.new.self c.tell.ensures.world c.tell.ensures.input) (OfPrimitive row.Elem) c.args.words.now memory host.tables c.elem-outcome.new.self host.input (g.W.World.state host.world)
     c.elem-outcome.result c.tell.result (host_form g.W.World.state c.tell.new.self) c.tell.ensures.told c.tell.ensures.kept
     (none_kept (OfPrimitive row.Elem) host.tables.fault refl c.requires) (λ f. c.elem-outcome.ensures f memory)

@@ -1,8 +1,10 @@
 use Rattle.std.proofs.Common.{refl}
 use Rattle.sem_primitives.specs.declared.table.Primitive.TheVariants as row
 use Rattle.host_imports.specs.declared.import.Import.TheVariants.{OfPrimitive}
+use Rattle.host_calls.specs.Calls.{Gave}
 use Rattle.host_calls.specs.Forms.{host_form}
 use Rattle.host_calls.proofs.Comes.{none_kept, plain_told}
+use Rattle.host_calls.proofs.Gaves.{gave_none}
 use Rattle.host_calls.proofs.host.Host.on_iter_next.Goals as goal
 
 pub iter_next-outcome-requires : goal.iter_next-outcome-requires
@@ -11,6 +13,7 @@ iter_next-outcome-requires g c = none_kept (OfPrimitive row.IterNext) c.args.sel
 pub returns : goal.returns
 returns g c memory =
     let host = c.args.self.now in
-    plain_told g.W.World.is_modelled (OfPrimitive row.IterNext) c.args.words.now memory host.tables c.iter_next-outcome.new.self host.input (g.W.World.state host.world)
+    plain_told g.W.World.is_modelled (Gave g.W.World.did c.args.self.now c.tell.new.self)
+    (gave_none g.W.World.did c.args.self.now c.tell.new.self c.tell.ensures.world c.tell.ensures.input) (OfPrimitive row.IterNext) c.args.words.now memory host.tables c.iter_next-outcome.new.self host.input (g.W.World.state host.world)
     c.iter_next-outcome.result c.tell.result (host_form g.W.World.state c.tell.new.self) c.tell.ensures.told c.tell.ensures.kept
     (none_kept (OfPrimitive row.IterNext) host.tables.fault refl c.requires) (λ f. c.iter_next-outcome.ensures f memory)

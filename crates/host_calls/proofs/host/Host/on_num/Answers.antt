@@ -4,25 +4,29 @@ use Rattle.host_imports.specs.declared.import.Import.TheVariants.{OfPrimitive}
 use Rattle.host_values.specs.ValueEvaluations.{num_evaluation}
 use Rattle.host_values.proofs.ValueRows.{num_comes}
 use Rattle.host_texts.specs.States.{holding}
+use Rattle.host_calls.specs.Calls.{Gave}
 use Rattle.host_calls.specs.Forms.{host_form}
 use Rattle.host_calls.proofs.Comes.{none_kept, settled_means}
+use Rattle.host_calls.proofs.Gaves.{gave_none}
 use Rattle.host_calls.proofs.host.Host.on_num.Goals as goal
 
 pub returns-in-Ok : goal.returns-in-Ok
 returns-in-Ok g c memory =
     let host = c.args.self.now in
     let t = host.tables in
-    settled_means g.W.World.is_modelled (OfPrimitive row.Num) c.args.words.now memory t t.texts host.input (g.W.World.state host.world)
+    settled_means g.W.World.is_modelled (Gave g.W.World.did c.args.self.now c.settle.new.self)
+    (gave_none g.W.World.did c.args.self.now c.settle.new.self c.settle.ensures.world c.settle.ensures.input) (OfPrimitive row.Num) c.args.words.now memory t t.texts host.input (g.W.World.state host.world)
     (Ok c.in-Ok.evaluated) num_evaluation
     (none_kept (OfPrimitive row.Num) t.fault refl c.requires)
     (λ s. num_comes s t.handles c.args.words.now memory) (λ s. c.in-Ok.ensures t.handles (holding t.texts s))
-    c.settle.result (host_form g.W.World.state c.settle.new.self) c.settle.ensures
+    c.settle.result (host_form g.W.World.state c.settle.new.self) c.settle.ensures.settled
 
 pub returns-in-Err : goal.returns-in-Err
 returns-in-Err g c memory =
     let host = c.args.self.now in
     let t = host.tables in
-    settled_means g.W.World.is_modelled (OfPrimitive row.Num) c.args.words.now memory t t.texts host.input (g.W.World.state host.world)
+    settled_means g.W.World.is_modelled (Gave g.W.World.did c.args.self.now c.tell.new.self)
+    (gave_none g.W.World.did c.args.self.now c.tell.new.self c.tell.ensures.world c.tell.ensures.input) (OfPrimitive row.Num) c.args.words.now memory t t.texts host.input (g.W.World.state host.world)
     (Err c.in-Err.refusal) num_evaluation
     (none_kept (OfPrimitive row.Num) t.fault refl c.requires)
     (λ s. num_comes s t.handles c.args.words.now memory) (λ s. c.in-Err.ensures t.handles (holding t.texts s))

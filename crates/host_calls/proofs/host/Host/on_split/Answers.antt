@@ -1,8 +1,10 @@
 use Rattle.std.proofs.Common.{refl}
 use Rattle.sem_primitives.specs.declared.table.Primitive.TheVariants as row
 use Rattle.host_imports.specs.declared.import.Import.TheVariants.{OfPrimitive}
+use Rattle.host_calls.specs.Calls.{Gave}
 use Rattle.host_calls.specs.Forms.{host_form}
 use Rattle.host_calls.proofs.Comes.{none_kept, plain_told}
+use Rattle.host_calls.proofs.Gaves.{gave_none}
 use Rattle.host_calls.proofs.host.Host.on_split.Goals as goal
 
 pub split-outcome-requires : goal.split-outcome-requires
@@ -11,6 +13,7 @@ split-outcome-requires g c = none_kept (OfPrimitive row.Split) c.args.self.now.t
 pub returns : goal.returns
 returns g c memory =
     let host = c.args.self.now in
-    plain_told g.W.World.is_modelled (OfPrimitive row.Split) c.args.words.now memory host.tables c.split-outcome.new.self host.input (g.W.World.state host.world)
+    plain_told g.W.World.is_modelled (Gave g.W.World.did c.args.self.now c.tell.new.self)
+    (gave_none g.W.World.did c.args.self.now c.tell.new.self c.tell.ensures.world c.tell.ensures.input) (OfPrimitive row.Split) c.args.words.now memory host.tables c.split-outcome.new.self host.input (g.W.World.state host.world)
     c.split-outcome.result c.tell.result (host_form g.W.World.state c.tell.new.self) c.tell.ensures.told c.tell.ensures.kept
     (none_kept (OfPrimitive row.Split) host.tables.fault refl c.requires) (λ f. c.split-outcome.ensures f memory)

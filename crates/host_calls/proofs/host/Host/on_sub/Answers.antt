@@ -3,25 +3,29 @@ use Rattle.sem_primitives.specs.declared.table.Primitive.TheVariants as row
 use Rattle.host_imports.specs.declared.import.Import.TheVariants.{OfPrimitive}
 use Rattle.host_texts.specs.Evaluations.{sub_evaluation}
 use Rattle.host_texts.proofs.Rows.{sub_comes}
+use Rattle.host_calls.specs.Calls.{Gave}
 use Rattle.host_calls.specs.Forms.{host_form}
 use Rattle.host_calls.proofs.Comes.{none_kept, settled_means}
+use Rattle.host_calls.proofs.Gaves.{gave_none}
 use Rattle.host_calls.proofs.host.Host.on_sub.Goals as goal
 
 pub returns-in-Ok : goal.returns-in-Ok
 returns-in-Ok g c memory =
     let host = c.args.self.now in
     let t = host.tables in
-    settled_means g.W.World.is_modelled (OfPrimitive row.Sub) c.args.words.now memory t c.sub.new.texts host.input (g.W.World.state host.world)
+    settled_means g.W.World.is_modelled (Gave g.W.World.did c.args.self.now c.settle.new.self)
+    (gave_none g.W.World.did c.args.self.now c.settle.new.self c.settle.ensures.world c.settle.ensures.input) (OfPrimitive row.Sub) c.args.words.now memory t c.sub.new.texts host.input (g.W.World.state host.world)
     (Ok c.in-Ok.evaluated) sub_evaluation
     (none_kept (OfPrimitive row.Sub) t.fault refl c.requires)
     (λ s. sub_comes s t.handles c.args.words.now memory) (c.in-Ok.ensures)
-    c.settle.result (host_form g.W.World.state c.settle.new.self) c.settle.ensures
+    c.settle.result (host_form g.W.World.state c.settle.new.self) c.settle.ensures.settled
 
 pub returns-in-Err : goal.returns-in-Err
 returns-in-Err g c memory =
     let host = c.args.self.now in
     let t = host.tables in
-    settled_means g.W.World.is_modelled (OfPrimitive row.Sub) c.args.words.now memory t c.sub.new.texts host.input (g.W.World.state host.world)
+    settled_means g.W.World.is_modelled (Gave g.W.World.did c.args.self.now c.tell.new.self)
+    (gave_none g.W.World.did c.args.self.now c.tell.new.self c.tell.ensures.world c.tell.ensures.input) (OfPrimitive row.Sub) c.args.words.now memory t c.sub.new.texts host.input (g.W.World.state host.world)
     (Err c.in-Err.refusal) sub_evaluation
     (none_kept (OfPrimitive row.Sub) t.fault refl c.requires)
     (λ s. sub_comes s t.handles c.args.words.now memory) (c.in-Err.ensures)

@@ -20,8 +20,8 @@ returns g c = λ memory.
     let old = g.W.World.state was.world in
     let new = g.W.World.state c.print.new.world in
     let before = host_form g.W.World.state was in
-    files_come g.W.World.is_modelled (Variadic Print) c.args.words.now memory
+    files_come g.W.World.is_modelled _ (Variadic Print) c.args.words.now memory
     was.input (g.W.World.kinds was.world) was.held (g.met.W.World.input was.world) old new
     (λ t. others_keep was.input (g.W.World.kinds was.world) old new (c.print.ensures.keeps.spares t)) before
     (printing c.print.new.arguments.items was.tables.texts.specials c.print.new.streams new before) c.print.result c.requires
-    (c.print.ensures.step before memory c.requires)
+    (c.print.ensures.step.0, c.print.ensures.step.1, c.print.ensures.step.2 before memory c.requires)

@@ -21,8 +21,8 @@ returns g c = λ memory.
     let old = g.W.World.state was.world in
     let new = g.W.World.state c.printf.new.world in
     let before = host_form g.W.World.state was in
-    files_come g.W.World.is_modelled (Variadic Printf) c.args.words.now memory
+    files_come g.W.World.is_modelled _ (Variadic Printf) c.args.words.now memory
     was.input (g.W.World.kinds was.world) was.held (g.met.W.World.input was.world) old new
     (λ t. others_keep was.input (g.W.World.kinds was.world) old new (c.printf.ensures.keeps.spares t)) before
     (writing c.printf.new.arguments.items c.printf.new.streams new before) c.printf.result c.requires
-    (c.printf.ensures.step before memory c.requires)
+    (c.printf.ensures.step.0, c.printf.ensures.step.1, c.printf.ensures.step.2 before memory c.requires)

@@ -3,8 +3,10 @@ use Rattle.sem_primitives.specs.declared.table.Primitive.TheVariants as row
 use Rattle.host_imports.specs.declared.import.Import.TheVariants.{OfPrimitive}
 use Rattle.host_values.specs.Findings.{form_finding}
 use Rattle.host_values.specs.Shown.{form_with_output}
+use Rattle.host_calls.specs.Calls.{Gave}
 use Rattle.host_calls.specs.Forms.{form_in}
 use Rattle.host_calls.proofs.Comes.{left_comes}
+use Rattle.host_calls.proofs.Gaves.{gave_none}
 use Rattle.host_calls.proofs.host.Host.start_assign.Goals as goal
 
 pub returns : goal.returns
@@ -13,7 +15,7 @@ returns g c memory =
     let state = g.W.World.state host.world in
     let before = form_in host.tables host.input state in
     let after = form_in (record host.tables { texts = c.start_assign.new.texts }) (record host.input { names = c.start_assign.new.names }) state in
-    left_comes g.W.World.is_modelled (OfPrimitive row.StartAssign) c.args.words.now memory before after c.start_assign.result c.requires refl
+    left_comes g.W.World.is_modelled (Gave g.W.World.did host host) (gave_none g.W.World.did host host refl refl) (OfPrimitive row.StartAssign) c.args.words.now memory before after c.start_assign.result c.requires refl
     (λ f. record { values = refl; arrays = refl; iterators = refl; fault = refl; outside = refl; output = refl })
     (λ so_far. c.start_assign.ensures.step (form_with_output so_far before) memory c.requires)
     (λ finds outside so_far. c.start_assign.ensures.step (form_finding finds outside so_far before) memory c.requires)

@@ -1,4 +1,4 @@
-use Rattle.std.proofs.Common.{[], Option, refl, subst, sym}
+use Rattle.std.proofs.Common.{ℕ, List, [], Option, Some, refl, subst, sym}
 use Rattle.wasm_model.specs.declared.host.HostAnswer.{HostAnswer}
 use Rattle.wasm_model.specs.declared.host.HostAnswer.TheVariants.{Trap}
 use Rattle.wasm_store.specs.declared.trap.TrapKind.TheVariants.{BadArgument}
@@ -18,3 +18,13 @@ returns-in-None g c =
     (unknown_called g.W.World.is_modelled before words memory) in
     let told = subst (λ (a : HostAnswer). FormMeans g.W.World.is_modelled (import_at c.args.import) before words memory a before []) (sym c.unknown.ensures) means in
     record { means = ([], (refl, told)) }
+
+pub returns-in-Some : goal.returns-in-Some
+returns-in-Some g c =
+    let before = host_form g.W.World.state c.args.self.now in
+    let after = host_form g.W.World.state c.answer.new.self in
+    let words = c.args.args.now in
+    let m = c.answer.ensures in
+    let means = subst (λ (bytes : List ℕ). FormMeans g.W.World.is_modelled (Some c.in-Some.import) before words bytes c.answer.result after m.0) c.bytes.ensures m.2 in
+    let told = subst (λ (i : Option Import). FormMeans g.W.World.is_modelled i before words c.args.memory.now.bytes c.answer.result after m.0) c.in-Some.ensures means in
+    record { means = (m.0, (refl, told)) }
